@@ -1,0 +1,10 @@
+pub mod Limits
+pub mod Operators
+pub mod Names
+pub mod Trees
+pub mod Values
+pub mod Fields
+pub mod Within
+pub mod Stored
+pub mod Expressions
+pub mod Lines

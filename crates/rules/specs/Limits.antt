@@ -1,0 +1,36 @@
+-- The limits of document 01, each in one place.
+use Prim.Native.Nat.{ℕ}
+
+-- [01, Refusal numbers] bytes of a text, fields, bytes of a packet
+abbrev pub textMost : ℕ
+textMost = 16384
+
+abbrev pub fieldsMost : ℕ
+fieldsMost = 64
+
+abbrev pub packetMost : ℕ
+packetMost = 2048
+
+-- [01, The lines of a text] bytes of a label and of a short name
+abbrev pub labelMost : ℕ
+labelMost = 40
+
+abbrev pub shortMost : ℕ
+shortMost = 8
+
+-- [01, Expressions] a number, open parentheses, a tree's depth, the bytes of its stored form
+abbrev pub numberMost : ℕ
+numberMost = 4_294_967_295
+
+abbrev pub openMost : ℕ
+openMost = 12
+
+abbrev pub depthMost : ℕ
+depthMost = 12
+
+abbrev pub storedMost : ℕ
+storedMost = 120
+
+-- [01, Fields] the bits of a fixed field
+abbrev pub fixedMost : ℕ
+fixedMost = 32

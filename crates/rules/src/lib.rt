@@ -1,0 +1,69 @@
+// The words that the rules of document 01 speak in: operators, kinds, faults, and the answers of the entries.
+// What each means is defined in specs/, which cites the sections of 01.
+
+// The two-sided operators.
+pub enum Op {
+    Or,
+    And,
+    Eq,
+    Ne,
+    Lt,
+    Le,
+    Gt,
+    Ge,
+    Add,
+    Sub,
+    Mul,
+}
+
+// What an expression gives: a number, or yes or no.
+pub enum Kind {
+    Number,
+    YesNo,
+}
+
+// Why a field is refused.
+pub enum Fault {
+    BitsMissing,
+    ConstraintFalse,
+    AbsentRead,
+    OutOfRange,
+}
+
+// The answer to a table that is checked.
+pub enum TableAnswer {
+    Good(usize),
+    NotGood,
+}
+
+// The answer to a packet that is read by a table.
+pub enum PacketAnswer {
+    Accepted(usize),
+    NotGood,
+    TooLong,
+    ShortRun,
+    Refused(Fault, usize),
+    LeftOver,
+}
+
+// The answer to a text that is read.
+pub enum TextAnswer {
+    Accepted(usize),
+    TooLong,
+    BadByte,
+    BadLine(usize),
+    TooMany,
+    BadForm(usize),
+    OverLimit(usize),
+    Mismatch(usize),
+    Repeated(usize),
+    BadName(usize),
+    BadRest(usize),
+    NoRoom,
+}
+
+// The answer to a listing that is written.
+pub enum ListingAnswer {
+    Written(usize),
+    NoRoom,
+}
