@@ -1,0 +1,4 @@
+pub mod Limits
+pub mod Written
+pub mod Worked
+pub mod TagText

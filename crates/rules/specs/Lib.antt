@@ -8,3 +8,15 @@ pub mod Within
 pub mod Stored
 pub mod Expressions
 pub mod Lines
+pub mod Frames
+pub mod Spelling
+pub mod Answers
+pub mod Refusals
+pub mod Reading
+pub mod Cover
+pub mod Listing
+pub mod Promises
+pub mod Results
+pub mod Cases
+pub mod Marked
+pub mod Worked

@@ -1,0 +1,95 @@
+-- When a text is refused, by which number and at which place. [01, Refusal numbers]
+-- Each stage speaks of what nothing spells; a later one presumes the earlier ones passed.
+use mathlib.Core.Path.{_≡_}
+use mathlib.Core.Bool.{Bool, true, false, cond}
+use mathlib.Core.List.{List, [], _∷_, _++_}
+use mathlib.Core.Option.{Option, none, some, Option·map}
+use Prim.Native.Nat.{ℕ, zero, suc, _+_, _≤_, _<_}
+use lib.Dec.{eqb}
+use lib.ListN.{length, getD}
+use Rattle.base.specs.Lists.{all, Each, firstBreak, orElse}
+use Rattle.rules.specs.Answers.{Answer, refused}
+use Rattle.rules.specs.Limits.{textMost}
+use Rattle.rules.specs.Names.{isAllowed, lineFeed}
+use Rattle.rules.specs.Fields.{Form}
+use Rattle.rules.specs.Within.{keepsSize, keepsNames, keepsKinds, keepsRest, nameReadable}
+use Rattle.rules.specs.Lines.{SpellsField, Written}
+use Rattle.rules.specs.Frames.{Frame, isFrame, frameText, FrameOf, lineNumber, cells, isOverfull}
+use Rattle.rules.specs.Spelling.{mismatch}
+
+-- ── 3: lines ──
+
+-- the number of LFs
+unfoldable pub lineCount : List ℕ → ℕ
+lineCount [] = 0
+lineCount (b ∷ t) = cond (eqb b lineFeed) (suc (lineCount t)) (lineCount t)
+
+-- the first k lines, each with its LF
+unfoldable pub firstLines : ℕ → List ℕ → List ℕ
+firstLines k [] = []
+firstLines zero (b ∷ t) = []
+firstLines (suc k) (b ∷ t) = b ∷ firstLines (cond (eqb b lineFeed) k (suc k)) t
+
+-- the first k lines begin the text of some frame
+pub record Begins (text : List ℕ) (k : ℕ) : Type 0 where
+  pub frame : Frame
+  pub isFramed : isFrame frame ≡ true
+  pub behind : List ℕ
+  pub isText : frameText frame ≡ firstLines k text ++ behind
+
+-- after k right lines the text ends early, goes on behind its last LF, or has a wrong line
+pub record RightLines (text : List ℕ) (k : ℕ) : Type 0 where
+  pub there : k ≤ lineCount text
+  pub begins : Begins text k
+  pub most : (j : ℕ) → k < j → j ≤ lineCount text → Begins text j → ⊥
+
+-- ── 5: forms ──
+
+-- no form spells the line
+abbrev pub Formless : List ℕ → Type 0
+Formless l = (x : Form) → SpellsField Written x l → ⊥
+
+-- the first line without a form has the index i
+pub record FirstFormless (lines : List (List ℕ)) (i : ℕ) : Type 0 where
+  pub there : i < length lines
+  pub formless : Formless (getD lines i [])
+  pub earlier : (j : ℕ) → j < i → Formless (getD lines j []) → ⊥
+
+-- ── 6 to 10: rules ──
+
+-- the lowest number whose rule some line breaks, at the first such line
+unfoldable pub ruleBroken : Frame → List Form → Option Answer
+ruleBroken f forms =
+    orElse (broken 6 (firstBreak keepsSize [] forms))
+    (orElse (broken 7 (mismatch 0 (cells f) forms))
+    (orElse (broken 8 (firstBreak keepsNames [] forms))
+    (orElse (broken 9 (firstBreak (keepsKinds nameReadable) [] forms))
+    (broken 10 (firstBreak keepsRest [] forms)))))
+  where
+    broken : ℕ → Option ℕ → Option Answer
+    broken number i = Option·map (λ n. refused number (lineNumber f n)) i
+
+-- ── in order ──
+
+-- neither too long nor with a byte that is not allowed
+pub record Plain (text : List ℕ) : Type 0 where
+  pub size : length text ≤ textMost
+  pub bytes : all isAllowed text ≡ true
+
+-- the text of a frame that is not overfull
+pub record Framed (text : List ℕ) (f : Frame) : Type 0 where
+  pub plain : Plain text
+  pub isFrameOf : FrameOf text f
+  pub few : isOverfull f ≡ false
+
+-- 01's number and place for a text that is refused, whatever the output
+pub data Refuses (text : List ℕ) : Answer → Type 0 where
+  long : textMost < length text → Refuses text (refused 1 0)
+  byte : length text ≤ textMost → all isAllowed text ≡ false → Refuses text (refused 2 0)
+  line : {k : ℕ} → Plain text → ((f : Frame) → FrameOf text f → ⊥) → RightLines text k
+    → Refuses text (refused 3 (suc k))
+  many : {f : Frame} → Plain text → FrameOf text f → isOverfull f ≡ true → Refuses text (refused 4 0)
+  form : {f : Frame} {i : ℕ} → Framed text f → FirstFormless (f .lines) i
+    → Refuses text (refused 5 (lineNumber f i))
+  rule : {f : Frame} {a : Answer} (forms : List Form) → Framed text f
+    → Each (SpellsField Written) forms (f .lines) → ruleBroken f forms ≡ some a → Refuses text a
