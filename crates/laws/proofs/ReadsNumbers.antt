@@ -1,0 +1,40 @@
+-- What le2, le4 and a counted list write is read again.
+use mathlib.Core.Path.{_≡_, refl}
+use mathlib.Core.List.{List, [], _∷_, _++_}
+use Prim.Native.Nat.{ℕ, _+_, _*_, _/_, _%_, _<_, _≤_}
+use native.Mathlib.Omega.{arith}
+use lib.ListN.{length, take, drop}
+use lib.Seq.{take-append-seam, drop-append-seam}
+use Rattle.rules.specs.Limits.{numberMost}
+use Rattle.rules.specs.Trees.{le2, le4}
+use Rattle.laws.proofs.Readers.{readTwo, readFour, readCounted}
+
+pub readTwo-le2 : (n : ℕ) (r : List ℕ) → n < 65536 → readTwo (le2 n ++ r) ≡ (n, r)
+unfolding readTwo le2
+readTwo-le2 n r h =
+    let q : n / 256 < 256 = omega arith in
+    let v : n % 256 + 256 * (n / 256 % 256) ≡ n = omega arith in
+    λ i. (v i, r)
+
+pub readFour-le4 : (n : ℕ) (r : List ℕ) → n ≤ numberMost → readFour (le4 n ++ r) ≡ (n, r)
+unfolding readFour le4
+readFour-le4 n r h =
+    let a = n / 256 in
+    let b = n / 256 / 256 in
+    let c = n / 256 / 256 / 256 in
+    let ha : n / 256 < 16777216 = omega arith in
+    let hb : n / 256 / 256 < 65536 = omega arith in
+    let hc : n / 256 / 256 / 256 < 256 = omega arith in
+    let vc : n / 256 / 256 / 256 % 256 ≡ n / 256 / 256 / 256 = omega arith in
+    let vb : n / 256 / 256 % 256 + 256 * (n / 256 / 256 / 256 % 256) ≡ n / 256 / 256 = rw vc (omega arith) in
+    let va : n / 256 % 256 + 256 * (n / 256 / 256 % 256 + 256 * (n / 256 / 256 / 256 % 256)) ≡ n / 256 = rw vb (omega arith) in
+    let v : n % 256 + 256 * (n / 256 % 256 + 256 * (n / 256 / 256 % 256 + 256 * (n / 256 / 256 / 256 % 256))) ≡ n = rw va (omega arith) in
+    λ i. (v i, r)
+
+pub skip-le2 : (n : ℕ) (r : List ℕ) → drop 2 (le2 n ++ r) ≡ r
+unfolding le2
+skip-le2 n r = refl
+
+pub readCounted-counted : (l r : List ℕ) → length l < 65536 → readCounted (le2 (length l) ++ (l ++ r)) ≡ (l, r)
+unfolding readCounted
+readCounted-counted l r h = rw (readTwo-le2 (length l) (l ++ r) h, take-append-seam, drop-append-seam)
