@@ -1,6 +1,6 @@
 -- What holds of the elements of a list when a test holds of all of them, or when no first element breaks a rule.
 use mathlib.Core.Path.{_≡_, refl}
-use mathlib.Core.Bool.{Bool, true, false, cond, _&&_}
+use mathlib.Core.Bool.{Bool, true, false, cond, _&&_, _||_}
 use mathlib.Core.List.{List, [], _∷_, _++_}
 use mathlib.Core.Option.{Option, none, some}
 use Prim.Native.Nat.{ℕ}
@@ -11,6 +11,10 @@ use Rattle.base.specs.Lists.{all, firstBreak}
 pub and-true : (a b : Bool) → a && b ≡ true → (a ≡ true) × (b ≡ true)
 and-true true b h = (refl, h)
 and-true false b h = absurd (let z : _≡_ {A = ℕ} 0 1 = cc in omega arith)
+
+pub or-true : {P : Type 0} (a b : Bool) → (a ≡ true → P) → (b ≡ true → P) → a || b ≡ true → P
+or-true true b f g h = f refl
+or-true false b f g h = g h
 
 module _ {A : Type 0} (p : A → Bool) where
   pub all-cons : (x : A) (l : List A) → all p (x ∷ l) ≡ true → (p x ≡ true) × (all p l ≡ true)

@@ -1,2 +1,4 @@
 pub mod Readers
 pub mod ReadsNumbers
+pub mod ReadsTrees
+pub mod ReadsFields

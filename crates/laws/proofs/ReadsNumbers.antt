@@ -9,16 +9,16 @@ use Rattle.rules.specs.Limits.{numberMost}
 use Rattle.rules.specs.Trees.{le2, le4}
 use Rattle.laws.proofs.Readers.{readTwo, readFour, readCounted}
 
-pub readTwo-le2 : (n : ℕ) (r : List ℕ) → n < 65536 → readTwo (le2 n ++ r) ≡ (n, r)
+pub readTwo-le2 : (n : ℕ) → n < 65536 → (r : List ℕ) → readTwo (le2 n ++ r) ≡ (n, r)
 unfolding readTwo le2
-readTwo-le2 n r h =
+readTwo-le2 n h r =
     let q : n / 256 < 256 = omega arith in
     let v : n % 256 + 256 * (n / 256 % 256) ≡ n = omega arith in
     λ i. (v i, r)
 
-pub readFour-le4 : (n : ℕ) (r : List ℕ) → n ≤ numberMost → readFour (le4 n ++ r) ≡ (n, r)
+pub readFour-le4 : (n : ℕ) → n ≤ numberMost → (r : List ℕ) → readFour (le4 n ++ r) ≡ (n, r)
 unfolding readFour le4
-readFour-le4 n r h =
+readFour-le4 n h r =
     let a = n / 256 in
     let b = n / 256 / 256 in
     let c = n / 256 / 256 / 256 in
@@ -35,6 +35,6 @@ pub skip-le2 : (n : ℕ) (r : List ℕ) → drop 2 (le2 n ++ r) ≡ r
 unfolding le2
 skip-le2 n r = refl
 
-pub readCounted-counted : (l r : List ℕ) → length l < 65536 → readCounted (le2 (length l) ++ (l ++ r)) ≡ (l, r)
+pub readCounted-counted : (l : List ℕ) → length l < 65536 → (r : List ℕ) → readCounted (le2 (length l) ++ (l ++ r)) ≡ (l, r)
 unfolding readCounted
-readCounted-counted l r h = rw (readTwo-le2 (length l) (l ++ r) h, take-append-seam, drop-append-seam)
+readCounted-counted l h r = rw (readTwo-le2 (length l) h, take-append-seam, drop-append-seam)
