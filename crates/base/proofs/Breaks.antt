@@ -21,6 +21,9 @@ module _ {A : Type 0} (p : A → Bool) where
   unfolding all
   all-cons x l h = and-true (p x) (all p l) h
 
+  pub all-one : (x : A) → all p (x ∷ []) ≡ true → p x ≡ true
+  all-one x h = all-cons x [] h .0
+
   pub all-append : (l m : List A) → all p (l ++ m) ≡ true → (all p l ≡ true) × (all p m ≡ true)
   unfolding all
   all-append [] m h = (refl, h)
@@ -37,6 +40,7 @@ module _ {A : Type 0} (keeps : List A → A → Bool) where
     where
       after : Option ℕ
       after = firstBreak keeps (before ++ (x ∷ [])) l
+
       go : (b : Bool) → keeps before x ≡ b → cond b after (some (length before)) ≡ none
           → (keeps before x ≡ true) × (after ≡ none)
       go true e f = (e, f)

@@ -1,5 +1,6 @@
--- Readers of the parts of a stored table: each gives a value and the bytes after it, and any value where nothing is stored.
-use mathlib.Core.Bool.{Bool, cond}
+-- Readers of the parts of a stored table. Each gives the value that is stored and the bytes after it;
+-- what it gives where no such value is stored does not matter.
+use mathlib.Core.Bool.{cond}
 use mathlib.Core.List.{List, [], _∷_}
 use mathlib.Core.Option.{Option, none, some}
 use Prim.Native.Nat.{ℕ, zero, suc, _+_, _*_}
@@ -39,7 +40,10 @@ codeIn [] c = other
 codeIn (o ∷ l) c = cond (eqb c (code o)) (operation o) (codeIn l c)
 
 unfoldable pub codeOf : ℕ → Code
-codeOf c = cond (eqb c numberCode) number (cond (eqb c fieldCode) field (cond (eqb c notCode) opposite (codeIn operators c)))
+codeOf c =
+    cond (eqb c numberCode) number
+    (cond (eqb c fieldCode) field
+    (cond (eqb c notCode) opposite (codeIn operators c)))
 
 -- the bytes after the first; part reads an operand
 unfoldable pub readAfter : Code → Reader (Tree ℕ) → Reader (Tree ℕ)
@@ -73,13 +77,13 @@ unfoldable pub readWidth : ℕ → Reader (Width ℕ)
 readWidth kind s = cond (eqb kind 2) (readFixed s) (cond (eqb kind 3) (readMeasured s) (rest, s))
 
 unfoldable pub fieldFrom : List ℕ → List ℕ → Width ℕ → List ℕ → List ℕ → Field ℕ
-fieldFrom label short width constraint condition = record
-  { label = label
-  ; short = unlessEmpty (λ l. l) short
-  ; width = width
-  ; constraint = unlessEmpty treeOf constraint
-  ; condition = unlessEmpty treeOf condition
-  }
+fieldFrom label short width constraint condition = record {
+  label = label;
+  short = unlessEmpty (λ l. l) short;
+  width = width;
+  constraint = unlessEmpty treeOf constraint;
+  condition = unlessEmpty treeOf condition;
+}
 
 -- a field's record; its length is skipped
 unfoldable pub readField : Reader (Field ℕ)
@@ -98,7 +102,7 @@ readFields (suc n) s = andThen (readField s) (λ f r. andThen (readFields n r) (
 -- the description that a stored table stores; the first record's length and kind, and the last record, are skipped
 unfoldable pub described : List ℕ → Description
 described s =
-    andThen (readTwo (drop 4 s)) (λ row s₁.
+    andThen (readTwo (drop 2 (drop 2 s))) (λ row s₁.
     andThen (readTwo s₁) (λ count s₂.
     andThen (readCounted s₂) (λ name s₃.
     andThen (readFields count s₃) (λ fields r. record { name = name; row = row; fields = fields }))))

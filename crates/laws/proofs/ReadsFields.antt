@@ -1,18 +1,18 @@
 -- What the record of a field stores is read again.
-use mathlib.Core.Path.{_≡_, refl, sym, _∙_, ap}
-use mathlib.Core.Bool.{Bool, true, false, _&&_, _||_, not}
+use mathlib.Core.Path.{_≡_, refl, _∙_, ap}
+use mathlib.Core.Bool.{Bool, true, _&&_, _||_, not}
 use mathlib.Core.List.{List, [], _∷_, _++_, append-assoc}
 use mathlib.Core.Option.{Option, none, some}
-use Prim.Native.Nat.{ℕ, zero, suc, _+_, _<_, _≤_}
+use Prim.Native.Nat.{ℕ, _<_, _≤_}
 use native.Mathlib.Omega.{arith}
 use lib.Dec.{leb, eqb}
-use lib.ListN.{length, drop}
+use lib.ListN.{length}
 use borrow.Author.Tests.{leb-true, eqb-true}
-use Rattle.base.specs.Lists.{all, joined, headIs, lastIs, between, ifAny, listOf, firstBreak}
-use Rattle.base.proofs.Breaks.{and-true, or-true, all-cons, all-append, firstBreak-cons}
+use Rattle.base.specs.Lists.{all, joined, headIs, between, ifAny, listOf, firstBreak}
+use Rattle.base.proofs.Breaks.{and-true, or-true, all-one, all-append, firstBreak-cons}
 use Rattle.rules.specs.Limits.{labelMost, shortMost, fixedMost}
-use Rattle.rules.specs.Names.{isLetter, isWordByte, isLabelByte, noTwoSpaces, isReserved, isLabel, isShort}
-use Rattle.rules.specs.Trees.{Tree, le2, isSmall, isInRange, isNumber}
+use Rattle.rules.specs.Names.{isLetter, isWordByte, isReserved, isLabel, isShort}
+use Rattle.rules.specs.Trees.{Tree, isSmall, isInRange, isNumber}
 use Rattle.rules.specs.Fields.{Width, fixed, measured, rest, Field, widthTrees, trees}
 use Rattle.rules.specs.Within.{isWidth, isFormed, keepsForm, keepsSize}
 use Rattle.rules.specs.Stored.{
@@ -66,9 +66,6 @@ name-stored (some w) h = short-some w h
 
 -- ── trees that may be missing ──
 
-all-one : {A : Type 0} (p : A → Bool) (x : A) → all p (x ∷ []) ≡ true → p x ≡ true
-all-one p x h = all-cons p x [] h .0
-
 maybe-length : (o : Option (Tree ℕ)) → all isSmall (listOf o) ≡ true → length (storedMaybe o) < 65536
 maybe-length none h = omega arith
 maybe-length (some t) h = stored-short t (all-one isSmall t h)
@@ -101,51 +98,62 @@ readWidth-stored (measured u t) h range small r =
     let bound = unit-bound u (and-true (eqb u 1 || eqb u 8) (not (isNumber t)) h .0) in
     let in-range = all-one isInRange t range in
     let is-small = all-one isSmall t small in
-    simp
-      (append-assoc,
+    simp (
+      append-assoc,
       readTwo-le2 u bound,
       readCounted-counted (storedExpression t) (stored-short t is-small),
-      treeOf-stored t in-range is-small)
+      treeOf-stored t in-range is-small,
+    )
 readWidth-stored rest h range small r = refl
 
 -- ── fields ──
 
-pub readField-stored : (f : Field ℕ) (r : List ℕ) → isFormed f ≡ true → all isSmall (trees f) ≡ true
+pub formed-parts : {N : Type 0} (f : Field N) → isFormed f ≡ true
+    → (isLabel (f .label) ≡ true) × (ifAny isShort (f .short) ≡ true) × (isWidth (f .width) ≡ true)
+    × (all isInRange (trees f) ≡ true)
+formed-parts f h =
+    let numbers = all isInRange (trees f) in
+    let e = and-true (isLabel (f .label)) (ifAny isShort (f .short) && (isWidth (f .width) && numbers)) h in
+    let s = and-true (ifAny isShort (f .short)) (isWidth (f .width) && numbers) (e .1) in
+    let w = and-true (isWidth (f .width)) numbers (s .1) in
+    (e .0, s .0, w .0, w .1)
+
+pub readField-stored : (f : Field ℕ) → isFormed f ≡ true → all isSmall (trees f) ≡ true → (r : List ℕ)
     → readField (storedField f ++ r) ≡ (f, r)
 unfolding readField storedField fieldBody fieldFrom
-readField-stored f r formed small =
+readField-stored f formed small r =
     let w = widthTrees (f .width) in
     let c = listOf (f .constraint) in
     let k = listOf (f .condition) in
-    let e₁ = and-true (isLabel (f .label)) (ifAny isShort (f .short) && (isWidth (f .width) && all isInRange (trees f))) formed in
-    let e₂ = and-true (ifAny isShort (f .short)) (isWidth (f .width) && all isInRange (trees f)) (e₁ .1) in
-    let e₃ = and-true (isWidth (f .width)) (all isInRange (trees f)) (e₂ .1) in
-    let range = all-append isInRange w (c ++ k) (e₃ .1) in
+    let e = formed-parts f formed in
+    let range = all-append isInRange w (c ++ k) (e .3) in
     let ranges = all-append isInRange c k (range .1) in
     let size = all-append isSmall w (c ++ k) small in
     let sizes = all-append isSmall c k (size .1) in
-    let label : length (f .label) < 65536 = omega (arith, label-length (f .label) (e₁ .0)) in
-    simp
-      (append-assoc,
+    let label : length (f .label) < 65536 = omega (arith, label-length (f .label) (e .0)) in
+    simp (
+      append-assoc,
       skip-le2,
       readTwo-le2 (kindNumber (f .width)) (kind-bound (f .width)),
       readCounted-counted (f .label) label,
-      readCounted-counted (storedName (f .short)) (name-length (f .short) (e₂ .0)),
-      readWidth-stored (f .width) (e₃ .0) (range .0) (size .0),
+      readCounted-counted (storedName (f .short)) (name-length (f .short) (e .1)),
+      readWidth-stored (f .width) (e .2) (range .0) (size .0),
       readCounted-counted (storedMaybe (f .constraint)) (maybe-length (f .constraint) (sizes .0)),
       readCounted-counted (storedMaybe (f .condition)) (maybe-length (f .condition) (sizes .1)),
-      name-stored (f .short) (e₂ .0),
+      name-stored (f .short) (e .1),
       maybe-stored (f .constraint) (ranges .0) (sizes .0),
-      maybe-stored (f .condition) (ranges .1) (sizes .1))
+      maybe-stored (f .condition) (ranges .1) (sizes .1),
+    )
 
-pub readFields-stored : (before l : List (Field ℕ)) (r : List ℕ) → firstBreak keepsForm before l ≡ none
-    → firstBreak keepsSize before l ≡ none → readFields (length l) (joined storedField l ++ r) ≡ (l, r)
+pub readFields-stored : (before l : List (Field ℕ)) → firstBreak keepsForm before l ≡ none
+    → firstBreak keepsSize before l ≡ none → (r : List ℕ) → readFields (length l) (joined storedField l ++ r) ≡ (l, r)
 unfolding readFields joined
-readFields-stored before [] r formed small = refl
-readFields-stored before (f ∷ l) r formed small =
+readFields-stored before [] formed small r = refl
+readFields-stored before (f ∷ l) formed small r =
     let e = firstBreak-cons keepsForm before f l formed in
     let s = firstBreak-cons keepsSize before f l small in
     rw (
       append-assoc (storedField f) (joined storedField l) r,
-      readField-stored f (joined storedField l ++ r) (e .0) (s .0),
-      readFields-stored (before ++ (f ∷ [])) l r (e .1) (s .1))
+      readField-stored f (e .0) (s .0),
+      readFields-stored (before ++ (f ∷ [])) l (e .1) (s .1),
+    )

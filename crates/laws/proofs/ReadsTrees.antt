@@ -1,29 +1,21 @@
 -- What a tree's stored form stores is read again; how long that form is.
-use mathlib.Core.Path.{_≡_, refl, sym, _∙_, ap}
-use mathlib.Core.Bool.{Bool, true, false}
-use mathlib.Core.List.{List, [], _∷_, _++_, append-assoc, append-nil}
-use mathlib.Core.Option.{Option, none, some}
-use Prim.Native.Nat.{ℕ, zero, suc, _+_, _<_, _≤_, max}
+use mathlib.Core.Path.{_≡_, refl, ap}
+use mathlib.Core.Bool.{true}
+use mathlib.Core.List.{List, [], _++_, append-assoc, append-nil}
+use mathlib.Core.Option.{some}
+use Prim.Native.Nat.{ℕ, zero, suc, _<_, _≤_}
 use native.Mathlib.Omega.{arith}
 use lib.Dec.{leb}
-use lib.ListN.{length, drop, length-append}
+use lib.ListN.{length, length-append}
 use borrow.Author.Tests.{leb-true}
 use Rattle.base.proofs.Breaks.{and-true}
 use Rattle.rules.specs.declared.Op.{Op}
 use Rattle.rules.specs.declared.Op.the-variants.{Or, And, Eq, Ne, Lt, Le, Gt, Ge, Add, Sub, Mul}
-use Rattle.rules.specs.Limits.{numberMost, depthMost, storedMost}
+use Rattle.rules.specs.Limits.{depthMost, storedMost}
 use Rattle.rules.specs.Operators.{operator, operators, code}
 use Rattle.rules.specs.Trees.{Tree, num, read, two, negation, depth, le4, storedTree, storedLength, isSmall, isInRange}
-use Rattle.rules.specs.Stored.{storedExpression, storedMaybe}
-use Rattle.laws.proofs.Readers.{
-  codeOf,
-  codeIn,
-  operation,
-  readAfter,
-  readTree,
-  treeOf,
-  unlessEmpty,
-}
+use Rattle.rules.specs.Stored.{storedExpression}
+use Rattle.laws.proofs.Readers.{codeOf, codeIn, operation, readAfter, readTree, treeOf, unlessEmpty}
 use Rattle.laws.proofs.ReadsNumbers.{readFour-le4}
 
 pub codeOf-code : (o : Op) → codeOf (code o) ≡ operation o
@@ -47,20 +39,21 @@ depth-positive (read i) = omega arith
 depth-positive (two o a b) = omega arith
 depth-positive (negation a) = omega arith
 
-pub readTree-stored : (d : ℕ) (t : Tree ℕ) (r : List ℕ) → depth t ≤ d → isInRange t ≡ true
-    → readTree d (storedExpression t ++ r) ≡ (t, r)
+pub readTree-stored : (d : ℕ) (t : Tree ℕ) → depth t ≤ d → isInRange t ≡ true
+    → (r : List ℕ) → readTree d (storedExpression t ++ r) ≡ (t, r)
 unfolding depth isInRange storedTree readTree readAfter codeOf
-readTree-stored zero t r le h = absurd (omega (arith, depth-positive t))
-readTree-stored (suc d) (num n) r le h = rw (readFour-le4 n (leb-true _ _ h))
-readTree-stored (suc d) (read i) r le h = refl
-readTree-stored (suc d) (two o a b) r le h =
+readTree-stored zero t le h r = absurd (omega (arith, depth-positive t))
+readTree-stored (suc d) (num n) le h r = rw (readFour-le4 n (leb-true _ _ h))
+readTree-stored (suc d) (read i) le h r = refl
+readTree-stored (suc d) (two o a b) le h r =
     let e = and-true (isInRange a) (isInRange b) h in
     rw (
       codeOf-code o,
       append-assoc (storedExpression a) (storedExpression b) r,
-      readTree-stored d a (storedExpression b ++ r) (omega arith) (e .0),
-      readTree-stored d b r (omega arith) (e .1))
-readTree-stored (suc d) (negation a) r le h = rw (readTree-stored d a r (omega arith) h)
+      readTree-stored d a (omega arith) (e .0),
+      readTree-stored d b (omega arith) (e .1),
+    )
+readTree-stored (suc d) (negation a) le h r = rw (readTree-stored d a (omega arith) h)
 
 pub small-bounds : {N : Type 0} (t : Tree N) → isSmall t ≡ true
     → (depth t ≤ depthMost) × (storedLength t ≤ storedMost)
@@ -71,7 +64,7 @@ small-bounds t h =
 pub treeOf-stored : (t : Tree ℕ) → isInRange t ≡ true → isSmall t ≡ true → treeOf (storedExpression t) ≡ t
 unfolding treeOf
 treeOf-stored t h small =
-    let e = readTree-stored depthMost t [] (small-bounds t small .0) h in
+    let e = readTree-stored depthMost t (small-bounds t small .0) h [] in
     rw (append-nil (storedExpression t)) at (ap (λ p. p .0) e)
 
 -- a stored form is never empty
@@ -92,7 +85,8 @@ length-stored f g (two o a b) =
       length-append (storedTree f a) (storedTree f b),
       length-append (storedTree g a) (storedTree g b),
       length-stored f g a,
-      length-stored f g b)
+      length-stored f g b,
+    )
 length-stored f g (negation a) = rw (length-stored f g a)
 
 pub stored-short : (t : Tree ℕ) → isSmall t ≡ true → length (storedExpression t) < 65536
