@@ -1,0 +1,12 @@
+-- Readers       what a stored table stores, read from its bytes
+-- ReadsNumbers  numbers and counted lists are read again
+-- ReadsTrees    stored trees are read again
+-- ReadsFields   the records of fields are read again
+-- Unique        a stored table stores one description
+-- Decidable     whether a table is good is decidable
+pub mod Readers
+pub mod ReadsNumbers
+pub mod ReadsTrees
+pub mod ReadsFields
+pub mod Unique
+pub mod Decidable
