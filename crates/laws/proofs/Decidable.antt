@@ -8,6 +8,7 @@ use native.Mathlib.Decide.{ℕ-discrete, map-dec}
 use Rattle.rules.specs.Fields.{Description}
 use Rattle.rules.specs.Within.{Within}
 use Rattle.rules.specs.Stored.{stored, Good}
+use Rattle.rules.specs.Results.{GoodDecidable}
 use Rattle.laws.proofs.Readers.{described}
 use Rattle.laws.proofs.Unique.{described-stored}
 
@@ -49,7 +50,7 @@ within-decidable d =
 pub described-good : (table : List ℕ) (g : Good table) → g .description ≡ described table
 described-good table g = sym (described-stored (g .description) (g .within)) ∙ ap described (g .isStored)
 
-pub good-decidable : (table : List ℕ) → Dec (Good table)
+pub good-decidable : GoodDecidable
 good-decidable table =
     map-dec
     (λ p. record { description = described table; within = p .0; isStored = p .1 })

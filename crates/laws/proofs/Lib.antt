@@ -4,9 +4,11 @@
 -- ReadsFields   the records of fields are read again
 -- Unique        a stored table stores one description
 -- Decidable     whether a table is good is decidable
+-- Cover         an accepted packet's bits lie in one present field each
 pub mod Readers
 pub mod ReadsNumbers
 pub mod ReadsTrees
 pub mod ReadsFields
 pub mod Unique
 pub mod Decidable
+pub mod Cover

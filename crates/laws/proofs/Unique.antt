@@ -13,6 +13,7 @@ use Rattle.rules.specs.Limits.{fieldsMost}
 use Rattle.rules.specs.Fields.{Description}
 use Rattle.rules.specs.Within.{isRowWidth, Within}
 use Rattle.rules.specs.Stored.{headBody, stored}
+use Rattle.rules.specs.Results.{StoredUnique}
 use Rattle.laws.proofs.Readers.{described}
 use Rattle.laws.proofs.ReadsNumbers.{readTwo-le2, skip-le2, readCounted-counted}
 use Rattle.laws.proofs.ReadsFields.{label-length, readFields-stored}
@@ -41,5 +42,5 @@ described-stored d w =
     )
 
 -- two descriptions within the limits that have one stored table are equal
-pub stored-unique : (d e : Description) → Within d → Within e → stored d ≡ stored e → d ≡ e
+pub stored-unique : StoredUnique
 stored-unique d e v w h = sym (described-stored d v) ∙ ap described h ∙ described-stored e w

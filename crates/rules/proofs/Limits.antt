@@ -66,5 +66,5 @@ within d e = let w = all-true (tests d) e in record {
   names = is-none _ (w .1 .1 .1 .1 .1 .0);
   kinds = is-none _ (w .1 .1 .1 .1 .1 .1 .0);
   rests = is-none _ (w .1 .1 .1 .1 .1 .1 .1 .0);
-  rows = w .1 .1 .1 .1 .1 .1 .1 .1 .0
+  rows = w .1 .1 .1 .1 .1 .1 .1 .1 .0;
 }

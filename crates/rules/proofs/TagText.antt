@@ -50,7 +50,7 @@ frame = record {
   name = bytes "Tag";
   row = 8;
   rows = bitRow (record { bits = 8; before = 7; text = bytes "K"; behind = 7 } ∷ []) ∷ [];
-  lines = bytes "Kind (K): 1 byte; K == 7." ∷ []
+  lines = bytes "Kind (K): 1 byte; K == 7." ∷ [];
 }
 
 kind : Field ℕ
@@ -59,7 +59,7 @@ kind = record {
   short = some (bytes "K");
   width = fixed 8;
   constraint = some (two Eq (read 0) (num 7));
-  condition = none
+  condition = none;
 }
 
 -- `K == 7`
@@ -76,16 +76,21 @@ line = record {
   condition = [];
   remark = [];
   isText = refl;
-  isWidth = (8, 1, refl, record {
-    expression = bytes "1";
-    word = bytes "byte";
-    isText = refl;
-    spelled = numeral 1 tt;
-    unit = byte-word
-  });
+  isWidth = (
+    8,
+    1,
+    refl,
+    record {
+      expression = bytes "1";
+      word = bytes "byte";
+      isText = refl;
+      spelled = numeral 1 tt;
+      unit = byte-word;
+    },
+  );
   isConstraint = (bytes "K == 7", refl, constraint);
   isCondition = refl;
-  isRemark = inl refl
+  isRemark = inl refl;
 }
 
 pub tag-spelled : Spells tagText tag
@@ -97,5 +102,5 @@ tag-spelled = record {
   name = refl;
   row = refl;
   shown = refl;
-  lines = (line, tt)
+  lines = (line, tt);
 }

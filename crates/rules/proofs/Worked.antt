@@ -25,14 +25,31 @@ use Rattle.rules.proofs.Limits.{within}
 
 pub all-worked : AllHold worked
 unfolding digits all any same lastIs sum firstBreak operator isLetter isDigit isSpace isWordByte isLabelByte noTwoSpaces isLabel reserved isReserved isShort depth le4 storedTree isInRange hasKind apply decides evaluate rowsFit bitsAt valueIn readField readFields plain
-all-worked =
-    ((within _ refl, refl),
-    ((within _ refl, refl),
-    ((within _ refl, refl),
-    ((within _ refl, refl),
-    ((within _ refl, refl),
-    ((within _ refl, refl),
-    ((within _ refl, refl),
-    (within _ refl,
-    (within _ refl,
-    tt)))))))))
+all-worked = (
+  (within _ refl, refl),
+  (
+    (within _ refl, refl),
+    (
+      (within _ refl, refl),
+      (
+        (within _ refl, refl),
+        (
+          (within _ refl, refl),
+          (
+            (within _ refl, refl),
+            (
+              (within _ refl, refl),
+              (
+                within _ refl,
+                (
+                  within _ refl,
+                  tt,
+                ),
+              ),
+            ),
+          ),
+        ),
+      ),
+    ),
+  ),
+)

@@ -17,14 +17,14 @@ bladeReport = record {
   name = bytes "Blade Report";
   row = 16;
   fields =
-    named "Version" "V" (fixed 2) (some (two Eq (read 0) (num 1))) none
-    ∷ named "On Loan" "L" (fixed 1) none none
-    ∷ named "Cells" "N" (fixed 5) (some (two Le (read 2) (num 20))) none
-    ∷ unnamed "Blade" (fixed 8) none none
-    ∷ named "Borrower" "Bor" (fixed 16) none (some (two Eq (read 1) (num 1)))
-    ∷ unnamed "Readings" (measured 8 (read 2)) none none
-    ∷ unnamed "Sum" (fixed 16) none none
-    ∷ []
+      named "Version" "V" (fixed 2) (some (two Eq (read 0) (num 1))) none
+      ∷ named "On Loan" "L" (fixed 1) none none
+      ∷ named "Cells" "N" (fixed 5) (some (two Le (read 2) (num 20))) none
+      ∷ unnamed "Blade" (fixed 8) none none
+      ∷ named "Borrower" "Bor" (fixed 16) none (some (two Eq (read 1) (num 1)))
+      ∷ unnamed "Readings" (measured 8 (read 2)) none none
+      ∷ unnamed "Sum" (fixed 16) none none
+      ∷ [];
 }
 
 abbrev pub m1 : List ℕ
@@ -45,7 +45,7 @@ abbrev pub tag : Description
 tag = record {
   name = bytes "Tag";
   row = 8;
-  fields = named "Kind" "K" (fixed 8) (some (two Eq (read 0) (num 7))) none ∷ []
+  fields = named "Kind" "K" (fixed 8) (some (two Eq (read 0) (num 7))) none ∷ [];
 }
 
 abbrev pub tagText : List ℕ

@@ -122,9 +122,9 @@ ListsPacket table packet out r after =
 -- the answer to a text, and the output before and after
 pub data Answers (text out : List ℕ) : Answer → List ℕ → Type 0 where
   accepts : {d : Description} → length text ≤ textMost → Spells text d → length (stored d) ≤ length out
-    → Answers text out (accepted (length (stored d))) (written (stored d) out)
+      → Answers text out (accepted (length (stored d))) (written (stored d) out)
   noRoom : {d : Description} → length text ≤ textMost → Spells text d → length out < length (stored d)
-    → Answers text out (refused 11 0) out
+      → Answers text out (refused 11 0) out
   refuses : {a : Answer} → Refuses text a → Answers text out a out
 
 abbrev pub ReadsText : List ℕ → List ℕ → TextAnswer → List ℕ → Type 0

@@ -87,9 +87,9 @@ pub data Refuses (text : List ℕ) : Answer → Type 0 where
   long : textMost < length text → Refuses text (refused 1 0)
   byte : length text ≤ textMost → all isAllowed text ≡ false → Refuses text (refused 2 0)
   line : {k : ℕ} → Plain text → ((f : Frame) → FrameOf text f → ⊥) → RightLines text k
-    → Refuses text (refused 3 (suc k))
+      → Refuses text (refused 3 (suc k))
   many : {f : Frame} → Plain text → FrameOf text f → isOverfull f ≡ true → Refuses text (refused 4 0)
   form : {f : Frame} {i : ℕ} → Framed text f → FirstFormless (f .lines) i
-    → Refuses text (refused 5 (lineNumber f i))
+      → Refuses text (refused 5 (lineNumber f i))
   rule : {f : Frame} {a : Answer} (forms : List Form) → Framed text f
-    → Each (SpellsField Written) forms (f .lines) → ruleBroken f forms ≡ some a → Refuses text a
+      → Each (SpellsField Written) forms (f .lines) → ruleBroken f forms ≡ some a → Refuses text a

@@ -45,13 +45,13 @@ allKinds = record {
   name = bytes "All Kinds-2";
   row = 32;
   fields =
-    named "Size" "S" (fixed 8) (some (two Lt (read 0) (num 9))) none
-    ∷ unnamed "Mark" (fixed 24) none (some (two Eq (read 0) (num 1)))
-    ∷ unnamed "Octets" (measured 8 (two Add (read 0) (num 1))) none (some (negation (two Eq (read 0) (num 0))))
-    ∷ unnamed "Bits" (measured 1 (read 0)) (some (two Lt (read 0) (num 8))) none
-    ∷ named "Rest" "R" rest none (some (two Eq (read 0) (num 2)))
-    ∷ named "Last" "Z" (fixed 32) (some (two Eq (read 5) (num 0))) none
-    ∷ []
+      named "Size" "S" (fixed 8) (some (two Lt (read 0) (num 9))) none
+      ∷ unnamed "Mark" (fixed 24) none (some (two Eq (read 0) (num 1)))
+      ∷ unnamed "Octets" (measured 8 (two Add (read 0) (num 1))) none (some (negation (two Eq (read 0) (num 0))))
+      ∷ unnamed "Bits" (measured 1 (read 0)) (some (two Lt (read 0) (num 8))) none
+      ∷ named "Rest" "R" rest none (some (two Eq (read 0) (num 2)))
+      ∷ named "Last" "Z" (fixed 32) (some (two Eq (read 5) (num 0))) none
+      ∷ [];
 }
 
 -- n fields of 8 bits, with the labels F0, F1 and so on, counted from i
@@ -62,7 +62,7 @@ plain i (suc n) = record {
   short = none;
   width = fixed 8;
   constraint = none;
-  condition = none
+  condition = none;
 } ∷ plain (suc i) n
 
 abbrev pub worked : List Case
