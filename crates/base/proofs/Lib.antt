@@ -1,1 +1,6 @@
+-- Breaks  what follows where no element breaks a rule
+-- Tables  a rule proved at every number below a bound by one test
+-- Scans   tests over a list, one index after the other
 pub mod Breaks
+pub mod Tables
+pub mod Scans

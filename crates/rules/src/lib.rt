@@ -67,3 +67,8 @@ pub enum ListingAnswer {
     Written(usize),
     NoRoom,
 }
+
+// The limits that the code tests; specs/Limits.antt has them all.
+pub const LABEL_MOST: usize = 40;
+
+pub const SHORT_MOST: usize = 8;

@@ -1,0 +1,3 @@
+pub mod ClassRules
+pub mod Spaces
+pub mod Ends

@@ -1,0 +1,66 @@
+use mathlib.Core.Path.{_≡_, refl, sym, _∙_}
+use Prim.Native.Nat.{ℕ, _+_, _-_, _≤_, _<_}
+use native.Mathlib.Omega.{arith}
+use lib.ListN.{length, drop, getD}
+use denote.Ref.{now}
+use borrow.Author.Tests.{not-true, not-false}
+use Rattle.base.specs.Lists.{all}
+use Rattle.base.proofs.Scans.{all-step, all-end}
+use Rattle.rules.specs.Names.{isNameByte}
+use borrow.Author.Needs.{needs}
+use Rattle.names.proofs.labels.all_bytes.Statement.{statement}
+use Rattle.names.proofs.labels.all_bytes.Tie as tie
+use Rattle.names.proofs.labels.all_bytes.Reads as reads
+use Rattle.names.proofs.labels.all_bytes.Lts as lts
+use Rattle.names.proofs.classes.is_name_byte.Reads as is-name-byte-reads
+
+abbrev Inv-loop : tie.InvT-loop
+Inv-loop w label i₀ i = (i ≤ length w) × (all (isNameByte label) w ≡ all (isNameByte label) (drop i w))
+
+abbrev μ-loop : tie.MeasureT-loop
+μ-loop w label i₀ i = length w - i
+
+loop-holds : tie.Need-loop-holds Inv-loop μ-loop
+loop-holds c = (omega arith, refl)
+
+shared-slice-read-is-name-byte : tie.Need-shared-slice-read-is-name-byte Inv-loop μ-loop
+shared-slice-read-is-name-byte c = search needs
+
+is-name-byte-requires : tie.Need-is-name-byte-requires Inv-loop μ-loop
+is-name-byte-requires c κs = search needs
+
+returns : tie.Need-returns Inv-loop μ-loop
+returns c = 
+    let e = sym (c .before .is-name-byte .ensures) ∙ not-true (c .before .is-name-byte .result) (c .if1 .taken) in
+    sym (c .before .before .before .before .loop .inv .1 ∙ all-step (isNameByte (c .before .before .before .before .before .before .args .label)) (now (c .before .before .before .before .before .before .args .w)) (c .before .before .before .before .loop .i) (omega arith) ∙ rw e)
+
+add-i : tie.Need-add-i Inv-loop μ-loop
+add-i c = search needs
+
+loop-less : tie.Need-loop-less Inv-loop μ-loop
+loop-less c = search needs
+
+loop-again : tie.Need-loop-again Inv-loop μ-loop
+loop-again c = 
+    let e = sym (c .before .is-name-byte .ensures) ∙ not-false (c .before .is-name-byte .result) (c .if1 .left) in
+    (omega arith, c .before .before .before .before .loop .inv .1 ∙ all-step (isNameByte (c .before .before .before .before .before .before .args .label)) (now (c .before .before .before .before .before .before .args .w)) (c .before .before .before .before .loop .i) (omega arith) ∙ rw e)
+
+returns-2 : tie.Need-returns-2 Inv-loop μ-loop
+returns-2 c = 
+    let e : c .before .loop .i ≡ length (now (c .before .before .before .args .w)) = omega arith in
+    sym (c .before .loop .inv .1 ∙ rw e (all-end (isNameByte (c .before .before .before .args .label)) (now (c .before .before .before .args .w))))
+
+pub all-bytes-spec : {M : Type 1} → statement M
+all-bytes-spec =
+    tie.close
+    (tie.spec
+    Inv-loop
+    μ-loop
+    loop-holds
+    shared-slice-read-is-name-byte
+    is-name-byte-requires
+    returns
+    add-i
+    loop-less
+    loop-again
+    returns-2)

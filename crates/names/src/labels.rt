@@ -1,0 +1,86 @@
+// Labels and short names.
+use crate::classes::is_name_byte;
+use crate::classes::is_letter;
+use crate::classes::is_word_byte;
+use crate::words::is_reserved;
+use rules::LABEL_MOST;
+use rules::SHORT_MOST;
+ghost use mathlib.Core.Path.{_≡_};
+ghost use Rattle.base.specs.Lists.{all};
+ghost use Rattle.rules.specs.Names.{isNameByte, noTwoSpaces, hasWordEnds, isLabel, isShort};
+
+// Each byte may stand in a label, or else in a short name.
+fn all_bytes(w: &[u8], label: bool) -> bool
+    ensures { λ r. ⌜ r ≡ all (isNameByte label) (now (w .entry)) ⌝ }
+{
+    let mut i = 0;
+    while i < w.len() {
+        if !is_name_byte(w[i], label) {
+            return false;
+        }
+        i += 1;
+    }
+    true
+}
+
+fn no_two_spaces(w: &[u8]) -> bool
+    ensures { λ r. ⌜ r ≡ noTwoSpaces (now (w .entry)) ⌝ }
+{
+    let mut i = 1;
+    while i < w.len() {
+        if w[i - 1] == b' ' {
+            if w[i] == b' ' {
+                return false;
+            }
+        }
+        i += 1;
+    }
+    true
+}
+
+// A letter or digit at each end.
+fn has_word_ends(w: &[u8]) -> bool
+    ensures { λ r. ⌜ r ≡ hasWordEnds (now (w .entry)) ⌝ }
+{
+    let n = w.len();
+    if n == 0 {
+        return false;
+    }
+    if !is_word_byte(w[0]) {
+        return false;
+    }
+    is_word_byte(w[n - 1])
+}
+
+pub fn is_label(w: &[u8]) -> bool
+    ensures { λ r. ⌜ r ≡ isLabel (now (w .entry)) ⌝ }
+{
+    if LABEL_MOST < w.len() {
+        return false;
+    }
+    if !all_bytes(w, true) {
+        return false;
+    }
+    if !has_word_ends(w) {
+        return false;
+    }
+    no_two_spaces(w)
+}
+
+pub fn is_short(w: &[u8]) -> bool
+    ensures { λ r. ⌜ r ≡ isShort (now (w .entry)) ⌝ }
+{
+    if w.len() == 0 {
+        return false;
+    }
+    if !is_letter(w[0]) {
+        return false;
+    }
+    if SHORT_MOST < w.len() {
+        return false;
+    }
+    if !all_bytes(w, false) {
+        return false;
+    }
+    !is_reserved(w)
+}

@@ -1,0 +1,4 @@
+// Byte classes, words, labels and short names.
+pub mod classes;
+pub mod labels;
+pub mod words;
