@@ -8,3 +8,4 @@ pub mod Within
 pub mod Stored
 pub mod Expressions
 pub mod Lines
+pub mod Reader
