@@ -1,0 +1,95 @@
+-- Laws of tests, of tests over lists, and of equal lists.
+use mathlib.Core.Path.{_≡_, refl, ap, sym, _∙_}
+use mathlib.Core.Bool.{Bool, true, false, cond, _&&_, _||_, not}
+use mathlib.Core.Logic.{_⊎_, inl, inr, _↔_}
+use mathlib.Core.List.{List, [], _∷_, _++_, List·Memᴰ, List·Memᴰ·head, List·Memᴰ·tail}
+use Prim.Native.Nat.{ℕ, zero, suc, _+_, _≤_}
+use native.Mathlib.Omega.{arith}
+use lib.Dec.{leb, eqb}
+use borrow.Author.Tests.{eqb-true, eq-eqb, leb-true, le-leb}
+use Rattle.base.specs.Lists.{all, any, same, headIs, isEmpty, between}
+
+-- ── tests ──
+
+pub and-left : (a b : Bool) → (a && b) ≡ true → a ≡ true
+and-left true b e = refl
+and-left false b e = e
+
+pub and-right : (a b : Bool) → (a && b) ≡ true → b ≡ true
+and-right true b e = e
+and-right false b e = cc
+
+pub and-both : (a b : Bool) → a ≡ true → b ≡ true → (a && b) ≡ true
+and-both a b p q = rw (p, q)
+
+pub or-left : (a b : Bool) → a ≡ true → (a || b) ≡ true
+or-left a b p = rw p
+
+pub or-right : (a b : Bool) → b ≡ true → (a || b) ≡ true
+or-right true b p = refl
+or-right false b p = p
+
+pub or-cases : (a b : Bool) → (a || b) ≡ true → (a ≡ true) ⊎ (b ≡ true)
+or-cases true b e = inl refl
+or-cases false b e = inr e
+
+-- a test does not answer both
+pub not-both : (a : Bool) → a ≡ true → a ≡ false → ⊥
+not-both a p q = let z : _≡_ {A = ℕ} 0 1 = cc in omega arith
+
+-- a test that can't pass fails
+pub fails : (a : Bool) → (a ≡ true → ⊥) → a ≡ false
+fails true f = absurd (f refl)
+fails false f = refl
+
+pub between-true : (l n h : ℕ) → between l n h ≡ true → (l ≤ n) × (n ≤ h)
+between-true l n h e = (leb-true l n (and-left (leb l n) (leb n h) e), leb-true n h (and-right (leb l n) (leb n h) e))
+
+pub true-between : (l n h : ℕ) → l ≤ n → n ≤ h → between l n h ≡ true
+true-between l n h p q = rw (le-leb l n p, le-leb n h q)
+
+-- ── all and any ──
+
+pub all-append : {A : Type 0} (p : A → Bool) (s t : List A) → all p s ≡ true → all p t ≡ true → all p (s ++ t) ≡ true
+unfolding all
+all-append p [] t x y = y
+all-append p (c ∷ s) t x y =
+    and-both (p c) (all p (s ++ t)) (and-left (p c) (all p s) x) (all-append p s t (and-right (p c) (all p s) x) y)
+
+pub all-mem : {A : Type 0} (p : A → Bool) {x : A} {l : List A} → all p l ≡ true → List·Memᴰ x l → p x ≡ true
+unfolding all
+all-mem p h (List·Memᴰ·head {x = y} {xs = l} e) = ap p e ∙ and-left (p y) (all p l) h
+all-mem p h (List·Memᴰ·tail {x = y} {xs = l} m) = all-mem p (and-right (p y) (all p l) h) m
+
+pub any-mem : {A : Type 0} (p : A → Bool) {x : A} {l : List A} → p x ≡ true → List·Memᴰ x l → any p l ≡ true
+unfolding any
+any-mem p h (List·Memᴰ·head {x = y} {xs = l} e) = or-left (p y) (any p l) (ap p (sym e) ∙ h)
+any-mem p h (List·Memᴰ·tail {x = y} {xs = l} m) = or-right (p y) (any p l) (any-mem p h m)
+
+-- a weaker test
+pub all-weaken : {A : Type 0} (p q : A → Bool) → ((x : A) → p x ≡ true → q x ≡ true)
+    → (l : List A) → all p l ≡ true → all q l ≡ true
+unfolding all
+all-weaken p q f [] h = refl
+all-weaken p q f (x ∷ l) h = and-both (q x) (all q l) (f x (and-left (p x) (all p l) h))
+    (all-weaken p q f l (and-right (p x) (all p l) h))
+
+-- ── equal lists ──
+
+pub same-true : (s t : List ℕ) → same s t ≡ true → s ≡ t
+unfolding same
+same-true [] [] e = refl
+same-true [] (y ∷ t) e = cc
+same-true (x ∷ s) [] e = cc
+same-true (x ∷ s) (y ∷ t) e =
+    let p : x ≡ y = eqb-true x y (and-left (eqb x y) (same s t) e) in
+    let q : s ≡ t = same-true s t (and-right (eqb x y) (same s t) e) in
+    cc
+
+pub same-self : (s : List ℕ) → same s s ≡ true
+unfolding same
+same-self [] = refl
+same-self (x ∷ s) = and-both (eqb x x) (same s s) (eq-eqb x x refl) (same-self s)
+
+pub same-exact : (s t : List ℕ) → (same s t ≡ true) ↔ (s ≡ t)
+same-exact s t = (same-true s t, λ e. rw e (same-self t))
