@@ -48,6 +48,14 @@ between-true l n h e = (leb-true l n (and-left (leb l n) (leb n h) e), leb-true 
 pub true-between : (l n h : ℕ) → l ≤ n → n ≤ h → between l n h ≡ true
 true-between l n h p q = rw (le-leb l n p, le-leb n h q)
 
+pub or-false-left : (a b : Bool) → (a || b) ≡ false → a ≡ false
+or-false-left true b e = cc
+or-false-left false b e = refl
+
+pub or-false-right : (a b : Bool) → (a || b) ≡ false → b ≡ false
+or-false-right true b e = cc
+or-false-right false b e = e
+
 -- ── all and any ──
 
 pub all-append : {A : Type 0} (p : A → Bool) (s t : List A) → all p s ≡ true → all p t ≡ true → all p (s ++ t) ≡ true
@@ -73,6 +81,14 @@ unfolding all
 all-weaken p q f [] h = refl
 all-weaken p q f (x ∷ l) h = and-both (q x) (all q l) (f x (and-left (p x) (all p l) h))
     (all-weaken p q f l (and-right (p x) (all p l) h))
+
+-- a first element there is
+pub head-split : (p : ℕ → Bool) (s : List ℕ) → headIs p s ≡ true → (c : ℕ) × (v : List ℕ) × (s ≡ c ∷ v) × (p c ≡ true)
+head-split p [] h = absurd (not-both false h refl)
+head-split p (c ∷ v) h = (c, v, refl, h)
+
+pub any-none : {A : Type 0} (p : A → Bool) {x : A} {l : List A} → any p l ≡ false → List·Memᴰ x l → p x ≡ false
+any-none p {x} {l} h m = fails (p x) (λ e. not-both (any p l) (any-mem p e m) h)
 
 -- ── equal lists ──
 
