@@ -1,1 +1,2 @@
 pub mod OperatorTable
+pub mod ReaderSymbols
