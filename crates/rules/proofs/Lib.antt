@@ -1,3 +1,5 @@
 pub mod OperatorTable
 pub mod ReaderSymbols
 pub mod ReaderWords
+pub mod ReaderComplete
+pub mod ReaderUnique

@@ -22,8 +22,11 @@ unfoldable pub starts : ℕ → Bool
 starts c = isWordByte c || (eqb c 40 || eqb c 33)
 
 -- the text begins so
-unfoldable pub Begins : List ℕ → Type 0
-Begins s = (c : ℕ) × (v : List ℕ) × (s ≡ c ∷ v) × (starts c ≡ true)
+pub record Begins (s : List ℕ) : Type 0 where
+  pub first : ℕ
+  pub others : List ℕ
+  pub isText : s ≡ first ∷ others
+  pub isStart : starts first ≡ true
 
 -- a byte with which no expression begins
 pub not-start : (c d : ℕ) → starts c ≡ true → starts d ≡ false → eqb c d ≡ false
@@ -109,9 +112,10 @@ first-gap o false c v t = first-symbol o c v (or-right (isSpace c) (starts c) t)
 -- an operator in its place is found
 pub operator-found : (g h : Bool) (o : Op) (z : List ℕ) → Begins z
     → operatorAt (gap g ++ (symbol o ++ (gap h ++ z))) ≡ found o z
-unfolding operatorAt skipBehind Begins
+unfolding operatorAt skipBehind
 operator-found g h o z w =
-    rw (w .2, skip-symbol, first-gap o h (w .0) (w .1) (w .3), skip-gap h (w .0) (w .1) (start-no-space (w .0) (w .3)))
+    rw (w .isText, skip-symbol, first-gap o h (w .first) (w .others) (w .isStart),
+    skip-gap h (w .first) (w .others) (start-no-space (w .first) (w .isStart)))
 
 -- ── no operator ──
 
