@@ -3,3 +3,4 @@ pub mod ReaderSymbols
 pub mod ReaderWords
 pub mod ReaderComplete
 pub mod ReaderUnique
+pub mod ReaderSound

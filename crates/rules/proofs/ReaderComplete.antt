@@ -169,6 +169,13 @@ by-two zero k h b o x y s q r le le′ e lt sh sh′ a = absurd (omega arith)
 by-two (suc f) k h b o x y s q r le le′ e lt sh sh′ a =
     (f, omega arith, rw (e, le-leb k (level o) le, le-leb (leftLevel o) h le′, step, a f (omega arith)))
 
+-- and so the tree of the operator stands before the loop
+go-on : {f k i j b : ℕ} (o : Op) (x y : Tree (List ℕ)) (s q r : List ℕ) → j ≤ level o → (w : Reach f k i b x s q)
+    → ((f′ : ℕ) × (length r < f′) × (more (w .fuel) k (w .have) b x q ≡ more f′ k (level o) b (two o x y) r))
+    → Reach f k j b (two o x y) s r
+go-on o x y s q r le w v =
+    record { fuel = v .0; have = level o; enough = v .1; tight = le; reads = w .reads ∙ v .2 }
+
 -- ( and ! in front
 atom-inner : (p : ℕ → List ℕ → Out) (b : ℕ) (t : Tree (List ℕ)) (s r : List ℕ) → p b (s ++ (41 ∷ r)) ≡ got t (41 ∷ r)
     → atom p (suc b) ((40 ∷ (s ++ (41 ∷ []))) ++ r) ≡ got t r
@@ -205,8 +212,7 @@ complete {j} {b} (two-sided {o = o} {x = x} {y = y} {s = s} {u = u} g h l X Y) f
     let bz : Begins z = begins-append r (begins Y) in
     let ih : Reach f k (leftLevel o) b x (s ++ r′) r′ =
           complete X f k r′ (omega (arith, left-ge o)) (left-le o) lt′ (follow-symbol g h o z bz) in
-    let w = by-two (ih .fuel) k (ih .have) b o x y r′ z r (omega arith) (ih .tight) (operator-found g h o z bz) (ih .enough)
-          (behind-length g h o z) (shorter u r (some-length Y))
-          (λ f lt. ended (follow-stop o l st) (complete Y f (rightLevel o) r (le-refl (rightLevel o)) (right-le o) lt
-          (follow-up (omega (arith, right-ge o)) st))) in
-    record { fuel = w .0; have = level o; enough = w .1; tight = l; reads = rw e (ih .reads ∙ w .2) }
+    rw e (go-on {j = j} o x y (s ++ r′) r′ r l ih (by-two (ih .fuel) k (ih .have) b o x y r′ z r (omega arith) (ih .tight) (operator-found g h o z bz) (ih .enough)
+    (behind-length g h o z) (shorter u r (some-length Y))
+    (λ f lt. ended (follow-stop o l st) (complete Y f (rightLevel o) r (le-refl (rightLevel o)) (right-le o) lt
+    (follow-up (omega (arith, right-ge o)) st)))))
