@@ -170,11 +170,16 @@ by-two (suc f) k h b o x y s q r le le′ e lt sh sh′ a =
     (f, omega arith, rw (e, le-leb k (level o) le, le-leb (leftLevel o) h le′, step, a f (omega arith)))
 
 -- and so the tree of the operator stands before the loop
-go-on : {f k i j b : ℕ} (o : Op) (x y : Tree (List ℕ)) (s q r : List ℕ) → j ≤ level o → (w : Reach f k i b x s q)
-    → ((f′ : ℕ) × (length r < f′) × (more (w .fuel) k (w .have) b x q ≡ more f′ k (level o) b (two o x y) r))
-    → Reach f k j b (two o x y) s r
-go-on o x y s q r le w v =
-    record { fuel = v .0; have = level o; enough = v .1; tight = le; reads = w .reads ∙ v .2 }
+go-on : {f k j b : ℕ} (o : Op) (x y : Tree (List ℕ)) (s q z r : List ℕ) → k ≤ j → j ≤ level o
+    → operatorAt q ≡ found o z → length z < length q → length r < length z
+    → ((f : ℕ) → length z < f → expr f (rightLevel o) b z ≡ got y r)
+    → Reach f k (leftLevel o) b x s q → Reach f k j b (two o x y) s r
+go-on {f} {k} {j} {b} o x y s q z r kj le e sh sh′ a w = make
+    (by-two (w .fuel) k (w .have) b o x y q z r (omega arith) (w .tight) e (w .enough) sh sh′ a)
+  where
+    make : ((f′ : ℕ) × (length r < f′) × (more (w .fuel) k (w .have) b x q ≡ more f′ k (level o) b (two o x y) r))
+        → Reach f k j b (two o x y) s r
+    make v = record { fuel = v .0; have = level o; enough = v .1; tight = le; reads = w .reads ∙ v .2 }
 
 -- ( and ! in front
 atom-inner : (p : ℕ → List ℕ → Out) (b : ℕ) (t : Tree (List ℕ)) (s r : List ℕ) → p b (s ++ (41 ∷ r)) ≡ got t (41 ∷ r)
@@ -187,32 +192,66 @@ atom-not : (p : ℕ → List ℕ → Out) (b : ℕ) (t : Tree (List ℕ)) (s r :
 unfolding atom inside close
 atom-not p b t s r e = rw (append-assoc s, e)
 
-pub complete : {j b : ℕ} {t : Tree (List ℕ)} {s : List ℕ} → SpellsAt Written j b t s → (f k : ℕ) (r : List ℕ)
-    → k ≤ j → j ≤ atomLevel → length (s ++ r) < f → Follow j r → Reach f k j b t (s ++ r) r
-complete {j} {b} (number {n = n} {s = s} le e) f k r kj ja lt st =
-    by-word f k j b (num n) s r ja lt (st .ends) (rw e (number-bytes n le)) (some-length (number {k = j} {b = b} le e))
-    (rw e (leaf-number n r le))
-complete {j} {b} (field {a = a} {s = s} h) f k r kj ja lt st =
-    by-word f k j b (read a) s r ja lt (st .ends) (rw (h .0) at (short-bytes a (h .1)))
-    (some-length (field {k = j} {b = b} h)) (rw (← h .0) (leaf-field a r (h .1)))
-complete {j} (negated {b = b} {t = t} {s = s} x) f k r kj ja lt st =
+-- what stands in parentheses is read to the closing one
+abbrev Inner : ℕ → Tree (List ℕ) → List ℕ → List ℕ → Type 0
+Inner b t s r = (f : ℕ) → length (s ++ (41 ∷ r)) < f → Reach f 0 0 b t (s ++ (41 ∷ r)) (41 ∷ r)
+
+by-inner : (f k j b : ℕ) (t : Tree (List ℕ)) (s r : List ℕ) → j ≤ atomLevel → length ((40 ∷ (s ++ (41 ∷ []))) ++ r) < f
+    → Inner b t s r → Reach f k j (suc b) t ((40 ∷ (s ++ (41 ∷ []))) ++ r) r
+by-inner f k j b t s r ja lt ih =
+    by-atom f k j (suc b) t ((40 ∷ (s ++ (41 ∷ []))) ++ r) r ja lt (shorter (40 ∷ (s ++ (41 ∷ []))) r (omega arith))
+    (λ f lt. atom-inner (expr f 0) b t s r (ended (stop-close 0 r) (ih f (inside-length s r f lt))))
+
+by-not : (f k j b : ℕ) (t : Tree (List ℕ)) (s r : List ℕ) → j ≤ atomLevel
+    → length ((33 ∷ 40 ∷ (s ++ (41 ∷ []))) ++ r) < f
+    → Inner b t s r → Reach f k j (suc b) (negation t) ((33 ∷ 40 ∷ (s ++ (41 ∷ []))) ++ r) r
+by-not f k j b t s r ja lt ih =
     by-atom f k j (suc b) (negation t) ((33 ∷ 40 ∷ (s ++ (41 ∷ []))) ++ r) r ja lt
     (shorter (33 ∷ 40 ∷ (s ++ (41 ∷ []))) r (omega arith))
-    (λ f lt. atom-not (expr f 0) b t s r (ended (stop-close 0 r) (complete x f 0 (41 ∷ r) (omega arith) (omega arith)
-    (inside-length s r f (omega arith)) (stop-follow (stop-close 0 r) 0))))
-complete {j} (parentheses {b = b} {t = t} {s = s} x) f k r kj ja lt st =
-    by-atom f k j (suc b) t ((40 ∷ (s ++ (41 ∷ []))) ++ r) r ja lt (shorter (40 ∷ (s ++ (41 ∷ []))) r (omega arith))
-    (λ f lt. atom-inner (expr f 0) b t s r (ended (stop-close 0 r) (complete x f 0 (41 ∷ r) (omega arith) (omega arith)
-    (inside-length s r f lt) (stop-follow (stop-close 0 r) 0))))
-complete {j} {b} (two-sided {o = o} {x = x} {y = y} {s = s} {u = u} g h l X Y) f k r kj ja lt st =
-    let z : List ℕ = u ++ r in
-    let r′ : List ℕ = gap g ++ (symbol o ++ (gap h ++ z)) in
-    let e : (s ++ (gap g ++ (symbol o ++ (gap h ++ u)))) ++ r ≡ s ++ r′ = simp append-assoc in
-    let lt′ : length (s ++ r′) < f = rw e at lt in
-    let bz : Begins z = begins-append r (begins Y) in
-    let ih : Reach f k (leftLevel o) b x (s ++ r′) r′ =
-          complete X f k r′ (omega (arith, left-ge o)) (left-le o) lt′ (follow-symbol g h o z bz) in
-    rw e (go-on {j = j} o x y (s ++ r′) r′ r l ih (by-two (ih .fuel) k (ih .have) b o x y r′ z r (omega arith) (ih .tight) (operator-found g h o z bz) (ih .enough)
-    (behind-length g h o z) (shorter u r (some-length Y))
-    (λ f lt. ended (follow-stop o l st) (complete Y f (rightLevel o) r (le-refl (rightLevel o)) (right-le o) lt
-    (follow-up (omega (arith, right-ge o)) st)))))
+    (λ f lt. atom-not (expr f 0) b t s r (ended (stop-close 0 r) (ih f (inside-length s r f (omega arith)))))
+
+-- the claim of one spelling
+abbrev pub Completes : ℕ → ℕ → Tree (List ℕ) → List ℕ → Type 0
+Completes j b t s =
+    (f k : ℕ) (r : List ℕ) → k ≤ j → j ≤ atomLevel → length (s ++ r) < f → Follow j r → Reach f k j b t (s ++ r) r
+
+inner-of : (b : ℕ) (t : Tree (List ℕ)) (s : List ℕ) → Completes 0 b t s → (r : List ℕ) → Inner b t s r
+inner-of b t s ih r f lt = ih f 0 (41 ∷ r) (omega arith) (omega arith) lt (stop-follow (stop-close 0 r) 0)
+
+complete-two : (j b : ℕ) (o : Op) (x y : Tree (List ℕ)) (s u : List ℕ) (g h : Bool) → j ≤ level o → Begins u
+    → Completes (leftLevel o) b x s → Completes (rightLevel o) b y u
+    → Completes j b (two o x y) (s ++ (gap g ++ (symbol o ++ (gap h ++ u))))
+complete-two j b o x y s u g h l w X Y f k r kj ja lt st =
+    rw e (go-on o x y (s ++ r′) r′ (u ++ r) r kj l (operator-found g h o (u ++ r) bz) (behind-length g h o (u ++ r))
+    (shorter u r (rw (w .isText) (omega arith)))
+    (λ f lt. ended (follow-stop o l st) (Y f (rightLevel o) r (le-refl (rightLevel o)) (right-le o) lt
+    (follow-up (omega (arith, right-ge o)) st)))
+    (X f k r′ (omega (arith, left-ge o)) (left-le o) (rw e at lt) (follow-symbol g h o (u ++ r) bz)))
+  where
+    r′ : List ℕ
+    r′ = gap g ++ (symbol o ++ (gap h ++ (u ++ r)))
+    e : (s ++ (gap g ++ (symbol o ++ (gap h ++ u)))) ++ r ≡ s ++ r′
+    e = simp append-assoc
+    bz : Begins (u ++ r)
+    bz = begins-append r w
+
+complete-number : (j b n : ℕ) (s : List ℕ) → n ≤ numberMost → s ≡ decimal n → 0 < length s → Completes j b (num n) s
+complete-number j b n s le e some f k r kj ja lt st =
+    by-word f k j b (num n) s r ja lt (st .ends) (rw e (number-bytes n le)) some (rw e (leaf-number n r le))
+
+complete-field : (j b : ℕ) (a s : List ℕ) → Written a s → 0 < length s → Completes j b (read a) s
+complete-field j b a s h some f k r kj ja lt st =
+    by-word f k j b (read a) s r ja lt (st .ends) (rw (h .0) at (short-bytes a (h .1))) some
+    (rw (← h .0) (leaf-field a r (h .1)))
+
+-- the reader comes through whatever spells the front of a text
+pub complete : {j b : ℕ} {t : Tree (List ℕ)} {s : List ℕ} → SpellsAt Written j b t s → Completes j b t s
+complete {j} {b} (number {n = n} {s = s} le e) =
+    complete-number j b n s le e (some-length (number {k = j} {b = b} le e))
+complete {j} {b} (field {a = a} {s = s} h) = complete-field j b a s h (some-length (field {k = j} {b = b} h))
+complete {j} (negated {b = b} {t = t} {s = s} x) =
+    λ f k r kj ja lt st. by-not f k j b t s r ja lt (inner-of b t s (complete x) r)
+complete {j} (parentheses {b = b} {t = t} {s = s} x) =
+    λ f k r kj ja lt st. by-inner f k j b t s r ja lt (inner-of b t s (complete x) r)
+complete {j} {b} (two-sided {o = o} {x = x} {y = y} {s = s} {u = u} g h l X Y) =
+    complete-two j b o x y s u g h l (begins Y) (complete X) (complete Y)
