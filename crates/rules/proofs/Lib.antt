@@ -4,3 +4,4 @@ pub mod ReaderWords
 pub mod ReaderComplete
 pub mod ReaderUnique
 pub mod ReaderSound
+pub mod ReaderExact
