@@ -74,6 +74,11 @@ unfolding any
 any-mem p h (List·Memᴰ·head {x = y} {xs = l} e) = or-left (p y) (any p l) (ap p (sym e) ∙ h)
 any-mem p h (List·Memᴰ·tail {x = y} {xs = l} m) = or-right (p y) (any p l) (any-mem p h m)
 
+pub any-fails : {A : Type 0} (p : A → Bool) (l : List A) → ((x : A) → p x ≡ false) → any p l ≡ false
+unfolding any
+any-fails p [] f = refl
+any-fails p (x ∷ l) f = rw (f x) (any-fails p l f)
+
 -- a weaker test
 pub all-weaken : {A : Type 0} (p q : A → Bool) → ((x : A) → p x ≡ true → q x ≡ true)
     → (l : List A) → all p l ≡ true → all q l ≡ true

@@ -9,7 +9,7 @@ use lib.Dec.{leb, ltb, eqb}
 use lib.ListN.{length}
 use borrow.Author.Tests.{ltb-true, ltb-false, leb-true, eqb-true, not-true}
 use Rattle.base.specs.Lists.{all, any, headIs, between}
-use Rattle.base.proofs.Lists.{and-left, and-right, or-cases, or-false-left, or-false-right, not-both, fails, all-mem, any-none, head-split}
+use Rattle.base.proofs.Lists.{and-left, and-right, or-cases, or-false-left, or-false-right, not-both, fails, all-mem, any-none, any-fails, head-split}
 use Rattle.rules.specs.declared.Op.{Op}
 use Rattle.rules.specs.declared.Op.the-variants.{Or, And, Eq, Ne, Lt, Le, Gt, Ge, Add, Sub, Mul}
 use Rattle.rules.specs.Operators.{Grouping, toLeft, toRight, neither, operator, operators, symbol, level, leftLevel, rightLevel, bareLeft, bareRight, atomLevel}
@@ -93,6 +93,28 @@ pub symbol-not : (c : ℕ) → isOperator c ≡ false → (o : Op) → any (eqb 
 unfolding isOperator
 symbol-not c h o =
     any-none (λ p. any (eqb c) (symbol p)) (or-false-right (eqb c 33) (any (λ p. any (eqb c) (symbol p)) operators) h) (listed o)
+
+-- no letter or digit is a byte of an operator
+word-not : (c : ℕ) → isWordByte c ≡ true → (w : List ℕ) → all (λ d. not (isWordByte d)) w ≡ true → any (eqb c) w ≡ false
+unfolding all any
+word-not c h [] e = refl
+word-not c h (d ∷ w) e =
+    rw (fails (eqb c d) (λ q. not-both (isWordByte d) (ap isWordByte (sym (eqb-true c d q)) ∙ h)
+    (not-true (isWordByte d) (and-left (not (isWordByte d)) _ e))))
+    (word-not c h w (and-right (not (isWordByte d)) _ e))
+
+symbol-bytes : (o : Op) → all (λ d. not (isWordByte d)) (symbol o) ≡ true
+unfolding all operators operator isWordByte isLetter isDigit
+symbol-bytes o = each (λ p. all (λ d. not (isWordByte d)) (symbol p)) refl o
+
+not-bang : (c : ℕ) → isWordByte c ≡ true → eqb c 33 ≡ false
+unfolding isWordByte isLetter isDigit
+not-bang c h = fails (eqb c 33) (λ q. not-both (isWordByte c) h (ap isWordByte (eqb-true c 33 q)))
+
+pub word-no-operator : (c : ℕ) → isWordByte c ≡ true → isOperator c ≡ false
+unfolding isOperator
+word-no-operator c h =
+    rw (not-bang c h) (any-fails (λ o. any (eqb c) (symbol o)) operators (λ o. word-not c h (symbol o) (symbol-bytes o)))
 
 -- ── the order of the reader ──
 

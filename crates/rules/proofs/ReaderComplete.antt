@@ -19,7 +19,7 @@ use Rattle.rules.specs.Trees.{Tree, num, read, two, negation}
 use Rattle.rules.specs.Expressions.{gap, SpellsAt, number, field, two-sided, negated, parentheses}
 use Rattle.rules.specs.Lines.{Written}
 use Rattle.rules.specs.Reader.{Out, fail, got, Found, missing, found, operatorAt, leaf, close, inside, atom, step, andThen, expr, more}
-use Rattle.rules.proofs.OperatorTable.{level-lt, left-ge, left-le, right-ge, right-le, right-ends, symbol-first}
+use Rattle.rules.proofs.OperatorTable.{level-lt, left-ge, left-le, right-ge, right-le, right-ends, symbol-first, word-no-operator}
 use Rattle.rules.proofs.ReaderSymbols.{starts, Begins, operator-found, operator-none, operator-none-space, operator-none-end}
 use Rattle.rules.proofs.ReaderWords.{Ends, leaf-number, leaf-field, number-bytes, short-bytes, number-first, short-first, atom-leaf}
 
@@ -65,6 +65,18 @@ stop-space j c r h = stop-none j refl (operator-none-space c r h)
 pub stop-close : (j : ℕ) (r : List ℕ) → Stop j (41 ∷ r)
 unfolding isWordByte isLetter isDigit isSpace isOperator operators operator any
 stop-close j r = stop-byte j 41 r refl refl refl
+
+pub stop-semicolon : (j : ℕ) (r : List ℕ) → Stop j (59 ∷ r)
+unfolding isWordByte isLetter isDigit isSpace isOperator operators operator any
+stop-semicolon j r = stop-byte j 59 r refl refl refl
+
+pub stop-dot : (j : ℕ) (r : List ℕ) → Stop j (46 ∷ r)
+unfolding isWordByte isLetter isDigit isSpace isOperator operators operator any
+stop-dot j r = stop-byte j 46 r refl refl refl
+
+-- a space and a word
+pub stop-word : (j c : ℕ) (r : List ℕ) → isWordByte c ≡ true → Stop j (32 ∷ c ∷ r)
+stop-word j c r h = stop-space j c r (word-no-operator c h)
 
 -- ── how a spelling begins ──
 

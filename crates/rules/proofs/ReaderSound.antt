@@ -18,6 +18,7 @@ use Rattle.rules.specs.Trees.{Tree, num, read, two, negation}
 use Rattle.rules.specs.Expressions.{gap, SpellsAt, number, field, two-sided, negated, parentheses}
 use Rattle.rules.specs.Lines.{Written}
 use Rattle.rules.specs.Reader.{after, Found, missing, found, foundOr, firstOf, order, skip, skipBehind, operatorAt, word, behind, value, isNumberWord, Out, fail, got, andThen, leaf, close, inside, atom, step, expr, more}
+use Rattle.rules.proofs.SpellingLaws.{weaken}
 use Rattle.rules.proofs.OperatorTable.{right-le}
 use Rattle.rules.proofs.ReaderWords.{word-behind, number-sound}
 
@@ -25,14 +26,6 @@ use Rattle.rules.proofs.ReaderWords.{word-behind, number-sound}
 abbrev pub Good : ℕ → ℕ → List ℕ → Out → Type 0
 Good k b s fail = Unit {0}
 Good k b s (got t r) = (u : List ℕ) × (s ≡ u ++ r) × SpellsAt Written k b t u
-
--- where tighter operators may stand, looser ones may too
-pub weaken : {j k b : ℕ} {t : Tree (List ℕ)} {s : List ℕ} → k ≤ j → SpellsAt Written j b t s → SpellsAt Written k b t s
-weaken le (number h d) = number h d
-weaken le (field h) = field h
-weaken le (two-sided g h l x y) = two-sided g h (le-trans le l) x y
-weaken le (negated x) = negated x
-weaken le (parentheses x) = parentheses x
 
 -- ── operators ──
 
