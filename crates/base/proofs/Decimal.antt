@@ -1,5 +1,5 @@
 -- Decimals as a relation, and its laws: `decimal` satisfies it, and each of number and digits decides the other.
-use mathlib.Core.Path.{_≡_, refl, ap, sym, _∙_}
+use mathlib.Core.Path.{_≡_, refl, ap}
 use mathlib.Core.Bool.{Bool, true, false, cond}
 use mathlib.Core.Logic.{_↔_}
 use mathlib.Core.List.{List, [], _∷_, _++_}
@@ -31,6 +31,7 @@ digits-decimal (suc places) n lt = go (ltb n 10) refl (digits-decimal places (n 
   where
     smaller : n / 10 < 10 ^ suc places
     smaller = let e : 10 ^ suc (suc places) ≡ 10 ^ suc places * 10 = pow-suc 10 (suc places) in omega arith
+
     go : (x : Bool) → ltb n 10 ≡ x → Decimal (n / 10) (digits (suc places) (n / 10))
         → Decimal n (cond x (digit n) (digits (suc places) (n / 10) ++ digit (n % 10)))
     go true e ih = one (ltb-true n 10 e)
@@ -98,7 +99,8 @@ decimal-digits (more {d = d} {s = s} p x lt) =
     all-append (λ b. between 48 b 57) s (digit d) (decimal-digits x) (digit-digits d lt)
 
 -- the first digit, which is no 0 where more follow
-pub decimal-first : {n : ℕ} {s : List ℕ} → Decimal n s → (c : ℕ) × (v : List ℕ) × (s ≡ c ∷ v) × (between 48 c 57 ≡ true)
+pub decimal-first : {n : ℕ} {s : List ℕ} → Decimal n s
+    → (c : ℕ) × (v : List ℕ) × (s ≡ c ∷ v) × (between 48 c 57 ≡ true)
 decimal-first (one {d} lt) = (48 + d, [], refl, true-between 48 (48 + d) 57 (omega arith) (omega arith))
 decimal-first (more {d = d} p x lt) =
     let w = decimal-first x in (w .0, w .1 ++ digit d, ap (λ (l : List ℕ). l ++ digit d) (w .2), w .3)
