@@ -64,15 +64,42 @@ all-append p [] t x y = y
 all-append p (c ∷ s) t x y =
     and-both (p c) (all p (s ++ t)) (and-left (p c) (all p s) x) (all-append p s t (and-right (p c) (all p s) x) y)
 
+pub all-front : {A : Type 0} (p : A → Bool) (s t : List A) → all p (s ++ t) ≡ true → all p s ≡ true
+unfolding all
+all-front p [] t h = refl
+all-front p (c ∷ s) t h = and-both (p c) (all p s) (and-left (p c) (all p (s ++ t)) h)
+    (all-front p s t (and-right (p c) (all p (s ++ t)) h))
+
+pub all-back : {A : Type 0} (p : A → Bool) (s t : List A) → all p (s ++ t) ≡ true → all p t ≡ true
+unfolding all
+all-back p [] t h = h
+all-back p (c ∷ s) t h = all-back p s t (and-right (p c) (all p (s ++ t)) h)
+
+-- a test over a list says the same of its members
 pub all-mem : {A : Type 0} (p : A → Bool) {x : A} {l : List A} → all p l ≡ true → List·Memᴰ x l → p x ≡ true
 unfolding all
 all-mem p h (List·Memᴰ·head {x = y} {xs = l} e) = ap p e ∙ and-left (p y) (all p l) h
 all-mem p h (List·Memᴰ·tail {x = y} {xs = l} m) = all-mem p (and-right (p y) (all p l) h) m
 
+pub all-of : {A : Type 0} (p : A → Bool) (l : List A) → ((x : A) → List·Memᴰ x l → p x ≡ true) → all p l ≡ true
+unfolding all
+all-of p [] f = refl
+all-of p (x ∷ l) f = and-both (p x) (all p l) (f x (List·Memᴰ·head refl)) (all-of p l (λ y m. f y (List·Memᴰ·tail m)))
+
 pub any-mem : {A : Type 0} (p : A → Bool) {x : A} {l : List A} → p x ≡ true → List·Memᴰ x l → any p l ≡ true
 unfolding any
 any-mem p h (List·Memᴰ·head {x = y} {xs = l} e) = or-left (p y) (any p l) (ap p (sym e) ∙ h)
 any-mem p h (List·Memᴰ·tail {x = y} {xs = l} m) = or-right (p y) (any p l) (any-mem p h m)
+
+pub any-found : {A : Type 0} (p : A → Bool) (l : List A) → any p l ≡ true → (x : A) × List·Memᴰ x l × (p x ≡ true)
+unfolding any
+any-found p [] h = absurd (not-both false h refl)
+any-found {A} p (x ∷ l) h = go (or-cases (p x) (any p l) h) (any-found p l)
+  where
+    go : (p x ≡ true) ⊎ (any p l ≡ true) → (any p l ≡ true → (y : A) × List·Memᴰ y l × (p y ≡ true))
+        → (y : A) × List·Memᴰ y (x ∷ l) × (p y ≡ true)
+    go (inl e) f = (x, List·Memᴰ·head refl, e)
+    go (inr e) f = let w = f e in (w .0, List·Memᴰ·tail (w .1), w .2)
 
 pub any-fails : {A : Type 0} (p : A → Bool) (l : List A) → ((x : A) → p x ≡ false) → any p l ≡ false
 unfolding any
