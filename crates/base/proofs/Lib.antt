@@ -1,6 +1,10 @@
--- Breaks  what follows where no element breaks a rule
--- Tables  a rule proved at every number below a bound by one test
--- Scans   tests over a list, one index after the other
+-- Lists    laws of tests over lists and of equal lists
+-- Decimal  numbers in decimal
+-- Breaks   what follows where no element breaks a rule
+-- Tables   a rule proved at every number below a bound by one test
+-- Scans    tests over a list, one index after the other
+pub mod Lists
+pub mod Decimal
 pub mod Breaks
 pub mod Tables
 pub mod Scans

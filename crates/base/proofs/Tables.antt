@@ -21,6 +21,7 @@ below-holds p (suc n) e k h = go (eqb k n) refl (λ lt. below-holds p n (w .1) k
   where
     w : (p n ≡ true) × (below p n ≡ true)
     w = and-true (p n) (below p n) e
+
     go : (b : Bool) → eqb k n ≡ b → (k < n → p k ≡ true) → p k ≡ true
     go true q ih = rw (eqb-true k n q) (w .0)
     go false q ih = ih (omega (arith, eqb-false k n q))

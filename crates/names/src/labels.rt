@@ -1,6 +1,6 @@
 // Labels and short names.
-use crate::classes::is_name_byte;
 use crate::classes::is_letter;
+use crate::classes::is_name_byte;
 use crate::classes::is_word_byte;
 use crate::words::is_reserved;
 use rules::LABEL_MOST;

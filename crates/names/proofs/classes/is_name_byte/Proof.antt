@@ -16,17 +16,17 @@ returns : tie.Need-returns
 returns c = sym (name-word (c .before .before .args .label) (c .before .before .args .b) (sym (c .before .is-word-byte .ensures) ∙ c .if1 .taken))
 
 returns-2 : tie.Need-returns-2
-returns-2 c = 
+returns-2 c =
     let n = sym (c .before .before .before .is-word-byte .ensures) ∙ c .before .before .if1 .left in
     rw (name-label (c .before .before .before .before .args .label) (c .before .before .before .before .args .b) n (c .before .if2 .taken), eq-eqb (c .before .before .before .before .args .b) 32 (c .if3 .taken))
 
 returns-3 : tie.Need-returns-3
-returns-3 c = 
+returns-3 c =
     let n = sym (c .before .before .before .is-word-byte .ensures) ∙ c .before .before .if1 .left in
     rw (name-label (c .before .before .before .before .args .label) (c .before .before .before .before .args .b) n (c .before .if2 .taken), ne-eqb (c .before .before .before .before .args .b) 32 (c .if3 .left))
 
 returns-4 : tie.Need-returns-4
-returns-4 c = 
+returns-4 c =
     let n = sym (c .before .before .is-word-byte .ensures) ∙ c .before .if1 .left in
     rw (c .if2 .left, n)
 

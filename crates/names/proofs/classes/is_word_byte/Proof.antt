@@ -14,13 +14,13 @@ class-of-requires : tie.Need-class-of-requires
 class-of-requires c κs = search needs
 
 returns : tie.Need-returns
-returns c = 
+returns c =
     let b : ℕ = c .before .before .args .b in
     let e : classOf b ≡ 1 = sym (c .before .class-of .ensures) ∙ c .if1 .taken in
     rw (← class-word b (c .before .before .fits .b .fits), eq-eqb (classOf b) 1 e)
 
 returns-2 : tie.Need-returns-2
-returns-2 c = 
+returns-2 c =
     let b : ℕ = c .before .before .args .b in
     let n : classOf b ≡ 1 → ⊥ = λ e. c .if1 .left (c .before .class-of .ensures ∙ e) in
     rw (c .before .class-of .ensures, ← class-word b (c .before .before .fits .b .fits), ne-eqb (classOf b) 1 n)

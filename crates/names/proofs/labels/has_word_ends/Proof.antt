@@ -26,7 +26,7 @@ is-word-byte-requires : tie.Need-is-word-byte-requires
 is-word-byte-requires c κs = search needs
 
 returns-2 : tie.Need-returns-2
-returns-2 c = 
+returns-2 c =
     let w = now (c .before .before .before .before .before .args .w) in
     let e = sym (c .before .is-word-byte .ensures) ∙ not-true (c .before .is-word-byte .result) (c .if2 .taken) in
     sym (ends-are w (length w - 1) (omega arith) ∙ rw e)
@@ -41,7 +41,7 @@ is-word-byte-requires-2 : tie.Need-is-word-byte-requires-2
 is-word-byte-requires-2 c κs = search needs
 
 returns-3 : tie.Need-returns-3
-returns-3 c = 
+returns-3 c =
     let w = now (c .before .before .before .before .before .before .before .args .w) in
     let e = sym (c .before .before .before .is-word-byte .ensures) ∙ not-false (c .before .before .before .is-word-byte .result) (c .before .before .if2 .left) in
     sym (ends-are w (length w - 1) (omega arith) ∙ rw (e, ← c .is-word-byte2 .ensures))

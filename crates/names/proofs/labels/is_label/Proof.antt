@@ -21,7 +21,7 @@ all-bytes-requires c κs = search needs
 
 returns-2 : tie.Need-returns-2
 unfolding isLabel
-returns-2 c = 
+returns-2 c =
     let a = sym (c .before .all-bytes .ensures) ∙ not-true (c .before .all-bytes .result) (c .if2 .taken) in
     rw (le-leb (length (now (c .before .before .before .before .args .w))) 40 (c .before .before .if1 .left), a)
 
@@ -30,7 +30,7 @@ has-word-ends-requires c κs = search needs
 
 returns-3 : tie.Need-returns-3
 unfolding isLabel
-returns-3 c = 
+returns-3 c =
     let a = sym (c .before .before .before .all-bytes .ensures) ∙ not-false (c .before .before .before .all-bytes .result) (c .before .before .if2 .left) in
     let e = sym (c .before .has-word-ends .ensures) ∙ not-true (c .before .has-word-ends .result) (c .if3 .taken) in
     rw (le-leb (length (now (c .before .before .before .before .before .before .args .w))) 40 (c .before .before .before .before .if1 .left), a, e)
@@ -40,7 +40,7 @@ no-two-spaces-requires c κs = search needs
 
 returns-4 : tie.Need-returns-4
 unfolding isLabel
-returns-4 c = 
+returns-4 c =
     let a = sym (c .before .before .before .before .all-bytes .ensures) ∙ not-false (c .before .before .before .before .all-bytes .result) (c .before .before .before .if2 .left) in
     let e = sym (c .before .before .has-word-ends .ensures) ∙ not-false (c .before .before .has-word-ends .result) (c .before .if3 .left) in
     rw (le-leb (length (now (c .before .before .before .before .before .before .before .args .w))) 40 (c .before .before .before .before .before .if1 .left), a, e) (c .no-two-spaces .ensures)

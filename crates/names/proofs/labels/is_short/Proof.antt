@@ -23,13 +23,13 @@ is-letter-requires : tie.Need-is-letter-requires
 is-letter-requires c κs = search needs
 
 returns-2 : tie.Need-returns-2
-returns-2 c = 
+returns-2 c =
     let w = now (c .before .before .before .before .before .args .w) in
     let a = sym (c .before .is-letter .ensures) ∙ not-true (c .before .is-letter .result) (c .if2 .taken) in
     sym (short-is w (omega arith) ∙ rw a)
 
 returns-3 : tie.Need-returns-3
-returns-3 c = 
+returns-3 c =
     let w = now (c .before .before .before .before .before .before .args .w) in
     let a = sym (c .before .before .is-letter .ensures) ∙ not-false (c .before .before .is-letter .result) (c .before .if2 .left) in
     sym (short-is w (omega arith) ∙ rw (a, lt-leb (length w) 8 (c .if3 .taken)))
@@ -38,7 +38,7 @@ all-bytes-requires : tie.Need-all-bytes-requires
 all-bytes-requires c κs = search needs
 
 returns-4 : tie.Need-returns-4
-returns-4 c = 
+returns-4 c =
     let w = now (c .before .before .before .before .before .before .before .before .args .w) in
     let a = sym (c .before .before .before .before .is-letter .ensures) ∙ not-false (c .before .before .before .before .is-letter .result) (c .before .before .before .if2 .left) in
     let b = sym (c .before .all-bytes .ensures) ∙ not-true (c .before .all-bytes .result) (c .if4 .taken) in
@@ -48,7 +48,7 @@ is-reserved-requires : tie.Need-is-reserved-requires
 is-reserved-requires c κs = search needs
 
 returns-5 : tie.Need-returns-5
-returns-5 c = 
+returns-5 c =
     let w = now (c .before .before .before .before .before .before .before .before .before .args .w) in
     let a = sym (c .before .before .before .before .before .is-letter .ensures) ∙ not-false (c .before .before .before .before .before .is-letter .result) (c .before .before .before .before .if2 .left) in
     let b = sym (c .before .before .all-bytes .ensures) ∙ not-false (c .before .before .all-bytes .result) (c .before .if4 .left) in

@@ -33,7 +33,7 @@ shared-slice-read-if2 : tie.Need-shared-slice-read-if2 Inv-loop μ-loop
 shared-slice-read-if2 c = search needs
 
 returns : tie.Need-returns Inv-loop μ-loop
-returns c = 
+returns c =
     let w = now (c .before .before .before .before .before .before .args .w) in
     sym (c .before .before .before .before .before .loop .inv .1 ∙ spaces-pair w (c .before .before .before .before .before .loop .i) (omega arith) (omega arith) (c .before .before .if1 .taken) (c .if2 .taken))
 
@@ -44,18 +44,20 @@ loop-less : tie.Need-loop-less Inv-loop μ-loop
 loop-less c = search needs
 
 loop-again : tie.Need-loop-again Inv-loop μ-loop
-loop-again c = 
+loop-again c =
     let w = now (c .before .before .before .before .args .w) in
     let i = c .before .before .before .loop .i in
     let k = c .before .before .before .loop .inv .1 in
-    let e : i + 1 - 1 ≡ i = omega arith in
-    (omega arith, rw e (⊎-elim
-    (λ t. k ∙ spaces-second w i (omega arith) (omega arith) (t .0 .taken) (t .2 .left))
-    (λ t. k ∙ spaces-first w i (omega arith) (omega arith) (t .left))
-    (c .if1 .came)))
+    let e : i + 1 - 1 ≡ i = omega arith in (
+      omega arith,
+      rw e (⊎-elim
+          (λ t. k ∙ spaces-second w i (omega arith) (omega arith) (t .0 .taken) (t .2 .left))
+          (λ t. k ∙ spaces-first w i (omega arith) (omega arith) (t .left))
+          (c .if1 .came)),
+    )
 
 returns-2 : tie.Need-returns-2 Inv-loop μ-loop
-returns-2 c = 
+returns-2 c =
     let w = now (c .before .before .args .w) in
     sym (c .before .loop .inv .1 ∙ spaces-end (drop (c .before .loop .i - 1) w) (rw length-drop (omega arith)))
 
