@@ -1,4 +1,6 @@
 -- Bytes   quoted text as bytes, and numbers in decimal
 -- Lists   tests over lists, equal lists, a list from a rule, the first place
+-- Places  where bytes stand in a list
 pub mod Bytes
 pub mod Lists
+pub mod Places

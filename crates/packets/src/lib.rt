@@ -1,0 +1,2 @@
+// Tables are checked, and packets read by them.
+mod trees;

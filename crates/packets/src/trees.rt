@@ -1,0 +1,1 @@
+// Stored trees, checked and evaluated by functions that call themselves on operands.
