@@ -15,11 +15,11 @@ bytes (c ∷ s) = List._∷_ (code c) (bytes s)
 abbrev pub digit : ℕ → List ℕ
 digit d = List._∷_ (48 + d) List.[]
 
--- the last `places` digits of n, without leading zeros
+-- n in decimal without leading zeros, for n of at most `places` digits
 unfoldable pub digits : ℕ → ℕ → List ℕ
 digits zero n = List.[]
 digits (suc places) n = cond (ltb n 10) (digit n) (digits places (n / 10) ++ digit (n % 10))
 
--- n in decimal without leading zeros, for n of at most 10 digits
+-- 10 digits are enough for each number that 01 writes
 abbrev pub decimal : ℕ → List ℕ
 decimal n = digits 10 n

@@ -35,8 +35,9 @@ use Rattle.rules.specs.Reading.{
   constrained,
   bounded,
 }
-use Rattle.rules.specs.Cover.{Holds, Covers, OnlyOne, InOrder}
+use Rattle.rules.specs.Cover.{LiesIn, Covers, OnlyOne, InOrder}
 use Rattle.rules.specs.Results.{CoverUnique, CoverInOrder}
+use Rattle.laws.proofs.Readings.{accepted-fields}
 
 -- ── one field ──
 
@@ -118,7 +119,8 @@ fields-behind packet entries all place (f ∷ fs) h =
 in-order : (d : Description) (packet : List ℕ) (entries : List Entry) → reading d packet ≡ complete entries
     → InOrder 0 entries (bitTotal packet)
 in-order d packet entries h =
-    let w = fields-behind packet [] entries 0 (d .fields) h in rw (w .joined) (w .ordered)
+    let w = fields-behind packet [] entries 0 (d .fields) (accepted-fields d packet entries h) in
+    rw (w .joined) (w .ordered)
 
 -- ── from the order to sums and bits ──
 
@@ -141,7 +143,7 @@ order-from (e ∷ es) place end bit (suc j) (inr p) h =
     let q = order-from es (place + e .width) end bit j (p .2) h in omega arith
 
 -- what holds of one index behind the first entry, and not of the first, holds of one index
-later : (e : Entry) (es : List Entry) (bit : ℕ) → (Holds bit e → ⊥) → OnlyOne (Covers es bit) → OnlyOne (Covers (e ∷ es) bit)
+later : (e : Entry) (es : List Entry) (bit : ℕ) → (LiesIn bit e → ⊥) → OnlyOne (Covers es bit) → OnlyOne (Covers (e ∷ es) bit)
 later e es bit not-here w = record { index = suc (w .index); has = w .has; only = only }
   where
     only : (j : ℕ) → Covers (e ∷ es) bit j → j ≡ suc (w .index)
@@ -176,11 +178,11 @@ order-only (e ∷ es) place end bit (inr p) ge lt =
         let le : place + e .width ≤ bit = ltb-false _ _ q in
         later e es bit (λ h. let t = h .to in omega arith) (ih le)
 
-pub cover-in-order : CoverInOrder
+pub cover-in-order : (d : Description) (packet : List ℕ) (entries : List Entry) → CoverInOrder d packet entries
 cover-in-order d packet entries h =
     let o = in-order d packet entries h in
     (o, rw zero-add at (order-sum entries 0 (bitTotal packet) o))
 
-pub cover-unique : CoverUnique
+pub cover-unique : (d : Description) (packet : List ℕ) (entries : List Entry) → CoverUnique d packet entries
 cover-unique d packet entries h bit lt =
     order-only entries 0 (bitTotal packet) bit (in-order d packet entries h) (omega arith) lt

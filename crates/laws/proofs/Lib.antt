@@ -4,11 +4,15 @@
 -- ReadsFields   the records of fields are read again
 -- Unique        a stored table stores one description
 -- Decidable     whether a table is good is decidable
+-- Readings      what an accepted packet's entries come from
 -- Cover         an accepted packet's bits lie in one present field each
+-- Conditions    presence goes by conditions, and constraints are kept
 pub mod Readers
 pub mod ReadsNumbers
 pub mod ReadsTrees
 pub mod ReadsFields
 pub mod Unique
 pub mod Decidable
+pub mod Readings
 pub mod Cover
+pub mod Conditions

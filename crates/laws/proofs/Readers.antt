@@ -105,4 +105,4 @@ described s =
     andThen (readTwo (drop 2 (drop 2 s))) (λ row s₁.
     andThen (readTwo s₁) (λ count s₂.
     andThen (readCounted s₂) (λ name s₃.
-    andThen (readFields count s₃) (λ fields r. record { name = name; row = row; fields = fields }))))
+    andThen (readFields count s₃) (λ fields r. record { name = name; rowWidth = row; fields = fields }))))

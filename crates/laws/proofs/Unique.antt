@@ -35,7 +35,7 @@ described-stored d w =
     simp (
       append-assoc,
       skip-le2,
-      readTwo-le2 (d .row) (row-bound (d .row) (w .row)),
+      readTwo-le2 (d .rowWidth) (row-bound (d .rowWidth) (w .row)),
       readTwo-le2 (length (d .fields)) (count-bound (length (d .fields)) (w .count)),
       readCounted-counted (d .name) name,
       readFields-stored [] (d .fields) (w .form) (w .size),

@@ -14,7 +14,7 @@ use Rattle.rules.specs.Within.{
   keepsForm,
   keepsSize,
   keepsNames,
-  keepsKinds,
+  keepsTypes,
   keepsRest,
   indexReadable,
   rowsFit,
@@ -26,14 +26,14 @@ use Rattle.rules.specs.Within.{
 abbrev tests : Description → List Bool
 tests d =
     isLabel (d .name)
-    ∷ isRowWidth (d .row)
+    ∷ isRowWidth (d .rowWidth)
     ∷ between 1 (length (d .fields)) fieldsMost
     ∷ isNone (firstBreak keepsForm [] (d .fields))
     ∷ isNone (firstBreak keepsSize [] (d .fields))
     ∷ isNone (firstBreak keepsNames [] (d .fields))
-    ∷ isNone (firstBreak (keepsKinds indexReadable) [] (d .fields))
+    ∷ isNone (firstBreak (keepsTypes indexReadable) [] (d .fields))
     ∷ isNone (firstBreak keepsRest [] (d .fields))
-    ∷ rowsFit (d .row) 0 (widths (d .fields))
+    ∷ rowsFit (d .rowWidth) 0 (widths (d .fields))
     ∷ []
 
 abbrev allTrue : List Bool → Bool

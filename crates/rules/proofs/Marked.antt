@@ -10,6 +10,7 @@ use Rattle.base.specs.Bytes.{bytes, digits, decimal}
 use Rattle.base.specs.Lists.{all, any, same, lastIs, sum, joined, firstBreak}
 use Rattle.rules.specs.declared.Op.{Op}
 use Rattle.rules.specs.declared.Op.the-variants.{Add, Sub, Mul}
+use Rattle.rules.specs.declared.Fault.the-variants.{OutOfRange}
 use Rattle.rules.specs.Operators.{operator, symbol, level}
 use Rattle.rules.specs.Names.{
   isLetter,
@@ -23,21 +24,21 @@ use Rattle.rules.specs.Names.{
   isReserved,
   isShort,
 }
-use Rattle.rules.specs.Trees.{Tree, num, two, depth, le2, le4, storedTree, isInRange, hasKind}
+use Rattle.rules.specs.Trees.{Tree, num, two, depth, le2, le4, storedTree, isInRange, hasType}
 use Rattle.rules.specs.Values.{apply, decides, evaluate}
 use Rattle.rules.specs.Within.{rowsFit}
 use Rattle.rules.specs.Stored.{stored, storedField, fieldBody, headBody}
 use Rattle.rules.specs.Expressions.{SpellsTree}
 use Rattle.rules.specs.Lines.{Written}
-use Rattle.rules.specs.Reading.{bitsAt, valueIn, readField, readFields}
+use Rattle.rules.specs.Reading.{bitsAt, valueIn, readField, readFields, reading}
 use Rattle.rules.specs.Listing.{entryLines, linesText}
 use Rattle.rules.specs.Answers.{faultNumber}
-use Rattle.rules.specs.Promises.{readingLines, packetLines}
+use Rattle.rules.specs.Promises.{readingAnswer, packetOutcome, readingLines}
 use Rattle.rules.specs.Cases.{AllHold}
 use Rattle.rules.specs.Marked.{marked}
 use Rattle.rules.specs.Limits.{numberMost}
 use Rattle.rules.proofs.Limits.{within}
-use Rattle.rules.proofs.Written.{numeral, operated}
+use Rattle.rules.proofs.Written.{numeral, operated, also}
 use Rattle.rules.proofs.ReaderUnique.{tree-unique}
 use Rattle.rules.proofs.TagText.{tag-spelled}
 
@@ -62,47 +63,21 @@ only : {t : Tree (List ℕ)} {s : List ℕ} → SpellsTree Written t s → (u : 
 only p u q = tree-unique q p
 
 pub all-marked : AllHold marked
-unfolding digits all any same lastIs sum joined firstBreak operator isLetter isDigit isSpace isWordByte isLabelByte noTwoSpaces isLabel reserved isReserved isShort depth le2 le4 storedTree isInRange hasKind apply decides evaluate rowsFit stored storedField fieldBody headBody bitsAt valueIn readField readFields entryLines linesText faultNumber readingLines packetLines
-all-marked = (
-  (within _ refl, refl),
-  (
-    (within _ refl, refl),
-    (
-      (within _ refl, refl),
-      (
-        (within _ refl, refl),
-        (
-          (within _ refl, refl),
-          (
-            (within _ refl, refl),
-            (
-              (within _ refl, refl),
-              (
-                (within _ refl, refl),
-                (
-                  (product-last, only product-last, refl),
-                  (
-                    (left-first, only left-first, refl),
-                    (
-                      (pair 65535 Mul 65537 tt tt, only (pair 65535 Mul 65537 tt tt), refl),
-                      (
-                        (pair 65536 Mul 65536 tt tt, only (pair 65536 Mul 65536 tt tt), refl),
-                        (
-                          (pair 3 Sub 5 tt tt, only (pair 3 Sub 5 tt tt), refl),
-                          (
-                            (tag-spelled, refl),
-                            tt,
-                          ),
-                        ),
-                      ),
-                    ),
-                  ),
-                ),
-              ),
-            ),
-          ),
-        ),
-      ),
-    ),
-  ),
-)
+unfolding digits all any same lastIs sum joined firstBreak operator isLetter isDigit isSpace isWordByte isLabelByte noTwoSpaces isLabel reserved isReserved isShort depth le2 le4 storedTree isInRange hasType apply decides evaluate rowsFit stored storedField fieldBody headBody bitsAt valueIn readField readFields reading entryLines linesText faultNumber readingAnswer packetOutcome readingLines
+all-marked =
+    also (within _ refl, refl)
+    (also (within _ refl, refl)
+    (also (within _ refl, refl)
+    (also (within _ refl, refl)
+    (also (within _ refl, refl)
+    (also (within _ refl, refl)
+    (also (within _ refl, refl)
+    (also (within _ refl, refl)
+    (also ((product-last, only product-last), refl)
+    (also ((left-first, only left-first), refl)
+    (also ((pair 65535 Mul 65537 tt tt, only (pair 65535 Mul 65537 tt tt)), refl)
+    (also ((pair 65536 Mul 65536 tt tt, only (pair 65536 Mul 65536 tt tt)), OutOfRange, refl, refl)
+    (also ((pair 3 Sub 5 tt tt, only (pair 3 Sub 5 tt tt)), OutOfRange, refl, refl)
+    (also tag-spelled
+    (also (within _ refl, refl)
+    tt))))))))))))))

@@ -21,7 +21,7 @@ use Rattle.rules.specs.Names.{
   isReserved,
   isShort,
 }
-use Rattle.rules.specs.Trees.{depth, le4, storedTree, isInRange, hasKind, num, read, two}
+use Rattle.rules.specs.Trees.{depth, le4, storedTree, isInRange, hasType, num, read, two}
 use Rattle.rules.specs.Fields.{Field, fixed}
 use Rattle.rules.specs.Within.{rowsFit}
 use Rattle.rules.specs.Expressions.{SpellsTree, field}
@@ -48,7 +48,7 @@ frame : Frame
 frame = record {
   an = false;
   name = bytes "Tag";
-  row = 8;
+  rowWidth = 8;
   rows = bitRow (record { bits = 8; before = 7; text = bytes "K"; behind = 7 } ∷ []) ∷ [];
   lines = bytes "Kind (K): 1 byte; K == 7." ∷ [];
 }
@@ -94,13 +94,13 @@ line = record {
 }
 
 pub tag-spelled : Spells tagText tag
-unfolding all any same lastIs sum joined tabulate firstBreak operator isLetter isDigit isSpace isWordByte isLabelByte noTwoSpaces isLabel reserved isReserved isShort depth le4 storedTree isInRange hasKind rowsFit tens units border cellText rowLines isFrame headLines frameText cells mismatch frame kind
+unfolding all any same lastIs sum joined tabulate firstBreak operator isLetter isDigit isSpace isWordByte isLabelByte noTwoSpaces isLabel reserved isReserved isShort depth le4 storedTree isInRange hasType rowsFit tens units border cellText rowLines isFrame headLines frameText cells mismatch frame kind
 tag-spelled = record {
   within = within tag refl;
   frame = frame;
   isFrameOf = record { isFramed = refl; isText = refl };
   name = refl;
   row = refl;
-  shown = refl;
+  shown = (refl, tt);
   lines = (line, tt);
 }

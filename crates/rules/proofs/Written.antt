@@ -21,3 +21,7 @@ module _ {N : Type 0} {Names : N → List ℕ → Type 0} where
       → SpellsAt Names (leftLevel o) b x s → SpellsAt Names (rightLevel o) b y u
       → SpellsAt Names k b (two o x y) (s ++ (gap g ++ (symbol o ++ (gap h ++ u))))
   operated {k} s g o h u t p q = two-sided g h (leb→le k (level o) t) p q
+
+-- one more case that holds
+pub also : {A B : Type 0} → A → B → A × B
+also a b = (a, b)

@@ -1,50 +1,73 @@
--- Cases that are proved of the definitions: the four kinds of case, and what it is for one to hold.
+-- Cases that are proved of the definitions: the kinds of case, and what it is for one to hold.
 use mathlib.Core.Path.{_≡_}
 use mathlib.Core.List.{List, [], _∷_}
 use mathlib.Core.Option.{Option, none, some}
 use Prim.Native.Nat.{ℕ}
 use Prim.Native.String.{String}
+use lib.ListN.{replicate}
 use Rattle.base.specs.Bytes.{bytes}
+use Rattle.base.specs.Lists.{joined}
 use Rattle.rules.specs.declared.Fault.{Fault}
 use Rattle.rules.specs.Trees.{Tree}
-use Rattle.rules.specs.Values.{Value, fault, evaluate}
+use Rattle.rules.specs.Values.{Value, value, fault, evaluate}
 use Rattle.rules.specs.Fields.{Width, fixed, Field, Description}
 use Rattle.rules.specs.Within.{Within}
 use Rattle.rules.specs.Stored.{stored}
 use Rattle.rules.specs.Expressions.{SpellsTree}
 use Rattle.rules.specs.Lines.{Written}
 use Rattle.rules.specs.Spelling.{Spells}
-use Rattle.rules.specs.Reading.{Entry, Reading, reading}
-use Rattle.rules.specs.Listing.{linesText}
-use Rattle.rules.specs.Promises.{packetLines}
+use Rattle.rules.specs.Reading.{Entry, numbersOf}
+use Rattle.rules.specs.Answers.{accepted, refused, faultNumber}
+use Rattle.rules.specs.Promises.{Outcome, leaves, written, packetOutcome, listing}
 
 pub data Case : Type 0 where
   -- a description is within the limits
   fits : Description → Case
-  -- and reads a packet so
-  reads : Description → List ℕ → Reading → Case
+  -- and has this outcome for a packet and a run of thirty 9s
+  reads : Description → List ℕ → Outcome → Case
   -- and this is a packet's listing
   prints : Description → List ℕ → List ℕ → Case
   -- a text spells a tree, the only one, and this is its value
-  values : List ℕ → Tree (List ℕ) → Value → Case
-  -- a text spells a description with this stored table
-  spells : List ℕ → Description → List ℕ → Case
+  values : List ℕ → Tree (List ℕ) → ℕ → Case
+  -- or its fault has this number
+  faults : List ℕ → Tree (List ℕ) → ℕ → Case
+  -- a text spells a description
+  spells : List ℕ → Description → Case
+  -- a description is within the limits and has this table
+  stores : Description → List ℕ → Case
+
+abbrev pub lentRun : List ℕ
+lentRun = replicate 30 9
+
+-- s spells t and no other tree
+abbrev pub SpellsOnly : Tree (List ℕ) → List ℕ → Type 0
+SpellsOnly t s = SpellsTree Written t s × ((u : Tree (List ℕ)) → SpellsTree Written u s → u ≡ t)
+
+-- no field may be read
+abbrev pub noFields : List ℕ → Value
+noFields w = fault Fault.AbsentRead
 
 abbrev pub Holds : Case → Type 0
 Holds (fits d) = Within d
-Holds (reads d packet r) = Within d × (reading d packet ≡ r)
-Holds (prints d packet text) = Within d × (linesText (packetLines d packet) ≡ text)
-Holds (values s t v) =
-    SpellsTree Written t s
-    × ((u : Tree (List ℕ)) → SpellsTree Written u s → u ≡ t)
-    × (evaluate (λ w. fault Fault.AbsentRead) t ≡ v)
-Holds (spells text d table) = Spells text d × (stored d ≡ table)
+Holds (reads d packet o) = Within d × (packetOutcome d packet lentRun ≡ o)
+Holds (prints d packet text) = Within d × (listing d packet ≡ text)
+Holds (values s t n) = SpellsOnly t s × (evaluate noFields t ≡ value n)
+Holds (faults s t n) = SpellsOnly t s × (f : Fault) × (evaluate noFields t ≡ fault f) × (faultNumber f ≡ n)
+Holds (spells text d) = Spells text d
+Holds (stores d table) = Within d × (stored d ≡ table)
 
 abbrev pub AllHold : List Case → Type 0
 AllHold [] = Unit {0}
 AllHold (c ∷ cs) = Holds c × AllHold cs
 
--- ── short ways to write a field and an entry ──
+-- ── short ways to write an outcome, a field and an entry ──
+
+-- accepted with a bit total and these entries; or refused, with the run as it was
+abbrev pub readsTo : ℕ → List Entry → Outcome
+readsTo total entries = leaves (accepted total) (written (joined numbersOf entries) lentRun)
+
+abbrev pub refusedBy : ℕ → ℕ → Outcome
+refusedBy number place = leaves (refused number place) lentRun
 
 abbrev pub named : String → String → Width ℕ → Option (Tree ℕ) → Option (Tree ℕ) → Field ℕ
 named l s w c p = record { label = bytes l; short = some (bytes s); width = w; constraint = c; condition = p }
@@ -52,5 +75,5 @@ named l s w c p = record { label = bytes l; short = some (bytes s); width = w; c
 abbrev pub unnamed : String → Width ℕ → Option (Tree ℕ) → Option (Tree ℕ) → Field ℕ
 unnamed l w c p = record { label = bytes l; short = none; width = w; constraint = c; condition = p }
 
-abbrev pub present : ℕ → ℕ → ℕ → Entry
-present o w v = record { present = 1; offset = o; width = w; number = v }
+abbrev pub entry : ℕ → ℕ → ℕ → Entry
+entry o w v = record { present = 1; offset = o; width = w; value = v }

@@ -70,7 +70,7 @@ pub record Frame : Type 0 where
   -- `An` and not `A`
   pub an : Bool
   pub name : List ℕ
-  pub row : ℕ
+  pub rowWidth : ℕ
   pub rows : List Row
   pub lines : List (List ℕ)
 
@@ -84,9 +84,9 @@ isLine l = all (λ b. not (eqb b lineFeed)) l
 unfoldable pub isFrame : Frame → Bool
 isFrame f =
     isLabel (f .name)
-    && (isRowWidth (f .row)
+    && (isRowWidth (f .rowWidth)
     && (not (isEmpty (f .rows))
-    && (all (isRow (f .row)) (f .rows)
+    && (all (isRow (f .rowWidth)) (f .rows)
     && (not (isEmpty (f .lines))
     && all isLine (f .lines)))))
 
@@ -95,10 +95,10 @@ unfoldable pub headLines : Frame → List (List ℕ)
 headLines f =
     (article (f .an) ++ (f .name ++ bytes " is formatted as follows:"))
     ∷ []
-    ∷ tens (f .row)
-    ∷ units (f .row)
-    ∷ border (f .row)
-    ∷ (joined (λ r. rowLines r ++ (border (f .row) ∷ [])) (f .rows) ++ ([] ∷ bytes "where:" ∷ [] ∷ []))
+    ∷ tens (f .rowWidth)
+    ∷ units (f .rowWidth)
+    ∷ border (f .rowWidth)
+    ∷ (joined (λ r. rowLines r ++ (border (f .rowWidth) ∷ [])) (f .rows) ++ ([] ∷ bytes "where:" ∷ [] ∷ []))
 
 abbrev pub ended : List ℕ → List ℕ
 ended l = l ++ (lineFeed ∷ [])

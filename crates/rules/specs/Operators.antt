@@ -1,12 +1,13 @@
--- The one table of the two-sided operators. [01, Expressions] [01, The stored table] [01, Spelling]
+-- The one table of the two-sided operators: how they are written, grouped, stored and typed. What they compute is in Values.
+-- [01, Expressions] [01, The stored table] [01, Spelling]
 use mathlib.Core.List.{List, [], _∷_}
 use Prim.Native.Nat.{ℕ, suc}
 use Prim.Native.String.{String}
 use Rattle.base.specs.Bytes.{bytes}
 use Rattle.rules.specs.declared.Op.{Op}
 use Rattle.rules.specs.declared.Op.the-variants.{Or, And, Eq, Ne, Lt, Le, Gt, Ge, Add, Sub, Mul}
-use Rattle.rules.specs.declared.Kind.{Kind}
-use Rattle.rules.specs.declared.Kind.the-variants.{Number, YesNo}
+use Rattle.rules.specs.declared.ValueType.{ValueType}
+use Rattle.rules.specs.declared.ValueType.the-variants.{Number, YesNo}
 
 -- to which side operators of one level group
 pub data Grouping : Type 0 where
@@ -20,24 +21,24 @@ pub record Operator : Type 0 where
   -- its byte in a stored expression
   pub code : ℕ
   -- the kind of both operands, and the kind of the whole
-  pub takes : Kind
-  pub gives : Kind
+  pub takes : ValueType
+  pub gives : ValueType
 
-abbrev row : String → ℕ → Grouping → ℕ → Kind → Kind → Operator
-row s l g c k m = record { symbol = bytes s; level = l; grouping = g; code = c; takes = k; gives = m }
+abbrev made : String → ℕ → Grouping → ℕ → ValueType → ValueType → Operator
+made s l g c k m = record { symbol = bytes s; level = l; grouping = g; code = c; takes = k; gives = m }
 
 unfoldable pub operator : Op → Operator
-operator Or = row "||" 0 toLeft 0x31 YesNo YesNo
-operator And = row "&&" 1 toLeft 0x30 YesNo YesNo
-operator Eq = row "==" 2 neither 0x20 Number YesNo
-operator Ne = row "!=" 2 neither 0x21 Number YesNo
-operator Lt = row "<" 2 neither 0x22 Number YesNo
-operator Le = row "<=" 2 neither 0x23 Number YesNo
-operator Gt = row ">" 2 neither 0x24 Number YesNo
-operator Ge = row ">=" 2 neither 0x25 Number YesNo
-operator Add = row "+" 3 toLeft 0x10 Number Number
-operator Sub = row "-" 3 toLeft 0x11 Number Number
-operator Mul = row "*" 4 toLeft 0x12 Number Number
+operator Or = made "||" 0 toLeft 0x31 YesNo YesNo
+operator And = made "&&" 1 toLeft 0x30 YesNo YesNo
+operator Eq = made "==" 2 neither 0x20 Number YesNo
+operator Ne = made "!=" 2 neither 0x21 Number YesNo
+operator Lt = made "<" 2 neither 0x22 Number YesNo
+operator Le = made "<=" 2 neither 0x23 Number YesNo
+operator Gt = made ">" 2 neither 0x24 Number YesNo
+operator Ge = made ">=" 2 neither 0x25 Number YesNo
+operator Add = made "+" 3 toLeft 0x10 Number Number
+operator Sub = made "-" 3 toLeft 0x11 Number Number
+operator Mul = made "*" 4 toLeft 0x12 Number Number
 
 unfoldable pub operators : List Op
 operators = Or ∷ And ∷ Eq ∷ Ne ∷ Lt ∷ Le ∷ Gt ∷ Ge ∷ Add ∷ Sub ∷ Mul ∷ []
@@ -51,10 +52,10 @@ level o = operator o .level
 abbrev pub code : Op → ℕ
 code o = operator o .code
 
-abbrev pub takes : Op → Kind
+abbrev pub takes : Op → ValueType
 takes o = operator o .takes
 
-abbrev pub gives : Op → Kind
+abbrev pub gives : Op → ValueType
 gives o = operator o .gives
 
 -- the loosest level that stands bare on the left: the operator's own where it groups to the left, else the next
@@ -74,7 +75,7 @@ leftLevel o = bareLeft (operator o .grouping) (level o)
 abbrev pub rightLevel : Op → ℕ
 rightLevel o = bareRight (operator o .grouping) (level o)
 
--- the level of an atom, tighter than every operator
+-- the level of an atom, one more than the greatest level of an operator
 abbrev pub atomLevel : ℕ
 atomLevel = 5
 

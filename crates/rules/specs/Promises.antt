@@ -1,7 +1,7 @@
 -- What each entry answers and leaves in the buffers that it was lent, for all inputs.
--- Where it matters whether a table is good, the promise holds for either decision; one of them can be had (GoodDecidable).
+-- A promise on a table holds for either decision whether it is good; one of them can be had (Results, GoodDecidable).
 use mathlib.Core.Path.{_≡_}
-use mathlib.Core.Bool.{Bool, true, false, cond}
+use mathlib.Core.Bool.{Bool, true, false, cond, _&&_, not}
 use mathlib.Core.List.{List, [], _∷_, _++_}
 use Prim.Native.Nat.{ℕ, _*_, _≤_, _<_}
 use lib.Dec.{ltb}
@@ -11,7 +11,7 @@ use Rattle.rules.specs.declared.TableAnswer.{TableAnswer}
 use Rattle.rules.specs.declared.PacketAnswer.{PacketAnswer}
 use Rattle.rules.specs.declared.TextAnswer.{TextAnswer}
 use Rattle.rules.specs.declared.ListingAnswer.{ListingAnswer}
-use Rattle.rules.specs.Limits.{textMost, packetMost}
+use Rattle.rules.specs.Limits.{textMost}
 use Rattle.rules.specs.Fields.{Description}
 use Rattle.rules.specs.Stored.{stored, Good}
 use Rattle.rules.specs.Spelling.{Spells}
@@ -30,10 +30,12 @@ use Rattle.rules.specs.Reading.{
   Entry,
   Reading,
   complete,
+  tooLong,
   faulted,
   leftOver,
   Part,
   noPart,
+  isTooLong,
   reading,
   bitTotal,
   numbersOf,
@@ -41,9 +43,7 @@ use Rattle.rules.specs.Reading.{
 }
 use Rattle.rules.specs.Listing.{refusedLine, entryLines, bitsLine, linesText}
 
--- a buffer with w at its start: what lies beyond stays
-abbrev pub written : List ℕ → List ℕ → List ℕ
-written w buffer = w ++ drop (length w) buffer
+-- ── answers with a lent buffer ──
 
 -- an answer, and what the lent buffer holds then
 pub record Outcome : Type 0 where
@@ -53,79 +53,84 @@ pub record Outcome : Type 0 where
 abbrev pub leaves : Answer → List ℕ → Outcome
 leaves a buffer = record { answer = a; buffer = buffer }
 
--- ── checking a table ──
+-- a buffer with w at its start: what lies beyond stays
+abbrev pub written : List ℕ → List ℕ → List ℕ
+written w buffer = w ++ drop (length w) buffer
 
-abbrev pub tableAnswer : {table : List ℕ} → Dec (Good table) → Answer
-tableAnswer {table} (yes good) = accepted (length table)
-tableAnswer (no bad) = refused 21 0
+-- bytes for an output: 11 where it is too short, else their length
+unfoldable pub delivered : List ℕ → List ℕ → Outcome
+delivered w out = cond (ltb (length out) (length w)) (leaves (refused 11 0) out) (leaves (accepted (length w)) (written w out))
+
+-- ── a table, good or not ──
+
+abbrev pub notGood : Answer
+notGood = refused 21 0
+
+-- what its description gives, or else
+abbrev pub byTable : {table : List ℕ} {A : Type 0} → Dec (Good table) → (Description → A) → A → A
+byTable (yes good) a b = a (good .description)
+byTable (no bad) a b = b
 
 abbrev pub ChecksTable : List ℕ → TableAnswer → Type 0
-ChecksTable table r = (good : Dec (Good table)) → ofTable r ≡ tableAnswer good
+ChecksTable table r = (good : Dec (Good table)) → ofTable r ≡ byTable good (λ d. accepted (length table)) notGood
 
 -- ── reading a packet ──
 
-unfoldable pub readingOutcome : Reading → List ℕ → List ℕ → Outcome
-readingOutcome (complete entries) packet run =
-    leaves (accepted (bitTotal packet)) (written (joined numbersOf entries) run)
-readingOutcome (faulted f i) packet run = leaves (refused (faultNumber f) i) run
-readingOutcome leftOver packet run = leaves (refused 28 0) run
+unfoldable pub readingAnswer : Reading → List ℕ → Answer
+readingAnswer (complete entries) packet = accepted (bitTotal packet)
+readingAnswer tooLong packet = refused 22 0
+readingAnswer (faulted f i) packet = refused (faultNumber f) i
+readingAnswer leftOver packet = refused 28 0
 
--- 22, then 23, then the reading
+-- the run of four numbers a field
+abbrev pub runAfter : Reading → List ℕ → List ℕ
+runAfter (complete entries) run = written (joined numbersOf entries) run
+runAfter tooLong run = run
+runAfter (faulted f i) run = run
+runAfter leftOver run = run
+
+-- 22, then 23, then the others
 unfoldable pub packetOutcome : Description → List ℕ → List ℕ → Outcome
 packetOutcome d packet run =
-    cond (ltb packetMost (length packet)) (leaves (refused 22 0) run)
-    (cond (ltb (length run) (4 * length (d .fields))) (leaves (refused 23 0) run)
-    (readingOutcome (reading d packet) packet run))
-
-abbrev pub outcomeBy : {table : List ℕ} → Dec (Good table) → List ℕ → List ℕ → Outcome
-outcomeBy (yes good) packet run = packetOutcome (good .description) packet run
-outcomeBy (no bad) packet run = leaves (refused 21 0) run
+    cond (not (isTooLong packet) && ltb (length run) (4 * length (d .fields))) (leaves (refused 23 0) run)
+    (leaves (readingAnswer (reading d packet) packet) (runAfter (reading d packet) run))
 
 -- the answer r, and the run before and after
 abbrev pub ReadsPacket : List ℕ → List ℕ → List ℕ → PacketAnswer → List ℕ → Type 0
-ReadsPacket table packet run r after = (good : Dec (Good table)) → leaves (ofPacket r) after ≡ outcomeBy good packet run
+ReadsPacket table packet run r after =
+    (good : Dec (Good table)) → leaves (ofPacket r) after ≡ byTable good (λ d. packetOutcome d packet run) (leaves notGood run)
 
--- ── a field's bytes ──
-
-unfoldable pub partBy : {table : List ℕ} → Dec (Good table) → List ℕ → ℕ → Part
-partBy (yes good) packet i = cond (ltb packetMost (length packet)) noPart (partIn (reading (good .description) packet) i)
-partBy (no bad) packet i = noPart
-
--- the part of the packet that is handed back
+-- the part of the packet that is the field of an index
 abbrev pub HandsPart : List ℕ → List ℕ → ℕ → Part → Type 0
-HandsPart table packet i part = (good : Dec (Good table)) → part ≡ partBy good packet i
+HandsPart table packet i part = (good : Dec (Good table)) → part ≡ byTable good (λ d. partIn (reading d packet) i) noPart
 
 -- ── a packet's listing ──
 
+abbrev pub refusal : Answer → List (List ℕ)
+refusal a = refusedLine (a .number) (a .place) ∷ []
+
 unfoldable pub readingLines : Description → Reading → List ℕ → List (List ℕ)
 readingLines d (complete entries) packet = entryLines (d .fields) entries ++ (bitsLine (bitTotal packet) ∷ [])
-readingLines d (faulted f i) packet = refusedLine (faultNumber f) i ∷ []
-readingLines d leftOver packet = refusedLine 28 0 ∷ []
+readingLines d tooLong packet = refusal (readingAnswer tooLong packet)
+readingLines d (faulted f i) packet = refusal (readingAnswer (faulted f i) packet)
+readingLines d leftOver packet = refusal (readingAnswer leftOver packet)
 
-unfoldable pub packetLines : Description → List ℕ → List (List ℕ)
-packetLines d packet = cond (ltb packetMost (length packet)) (refusedLine 22 0 ∷ []) (readingLines d (reading d packet) packet)
-
-abbrev pub linesBy : {table : List ℕ} → Dec (Good table) → List ℕ → List (List ℕ)
-linesBy (yes good) packet = packetLines (good .description) packet
-linesBy (no bad) packet = refusedLine 21 0 ∷ []
-
--- 11 where the output is too short
-unfoldable pub listed : List ℕ → List ℕ → Outcome
-listed text out = cond (ltb (length out) (length text)) (leaves (refused 11 0) out) (leaves (accepted (length text)) (written text out))
+-- 01's listing of a packet
+abbrev pub listing : Description → List ℕ → List ℕ
+listing d packet = linesText (readingLines d (reading d packet) packet)
 
 abbrev pub ListsPacket : List ℕ → List ℕ → List ℕ → ListingAnswer → List ℕ → Type 0
 ListsPacket table packet out r after =
-    (good : Dec (Good table)) → leaves (ofListing r) after ≡ listed (linesText (linesBy good packet)) out
+    (good : Dec (Good table))
+    → leaves (ofListing r) after ≡ delivered (byTable good (λ d. listing d packet) (linesText (refusal notGood))) out
 
 -- ── reading a text ──
 
--- the answer to a text, and the output before and after
-pub data Answers (text out : List ℕ) : Answer → List ℕ → Type 0 where
-  accepts : {d : Description} → length text ≤ textMost → Spells text d → length (stored d) ≤ length out
-      → Answers text out (accepted (length (stored d))) (written (stored d) out)
-  noRoom : {d : Description} → length text ≤ textMost → Spells text d → length out < length (stored d)
-      → Answers text out (refused 11 0) out
-  refuses : {a : Answer} → Refuses text a → Answers text out a out
+-- the outcome for a text and an output
+pub data Answers (text out : List ℕ) : Outcome → Type 0 where
+  spelled : {d : Description} → length text ≤ textMost → Spells text d → Answers text out (delivered (stored d) out)
+  refuses : {a : Answer} → Refuses text a → Answers text out (leaves a out)
 
+-- the answer r, and the output before and after
 abbrev pub ReadsText : List ℕ → List ℕ → TextAnswer → List ℕ → Type 0
-ReadsText text out r after = Answers text out (ofText r) after
+ReadsText text out r after = Answers text out (leaves (ofText r) after)

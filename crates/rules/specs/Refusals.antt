@@ -12,7 +12,7 @@ use Rattle.rules.specs.Answers.{Answer, refused}
 use Rattle.rules.specs.Limits.{textMost}
 use Rattle.rules.specs.Names.{isAllowed, lineFeed}
 use Rattle.rules.specs.Fields.{Form}
-use Rattle.rules.specs.Within.{keepsSize, keepsNames, keepsKinds, keepsRest, nameReadable}
+use Rattle.rules.specs.Within.{keepsSize, keepsNames, keepsTypes, keepsRest, nameReadable}
 use Rattle.rules.specs.Lines.{SpellsField, Written}
 use Rattle.rules.specs.Frames.{Frame, isFrame, frameText, FrameOf, lineNumber, cells, isOverfull}
 use Rattle.rules.specs.Spelling.{mismatch}
@@ -37,7 +37,7 @@ pub record Begins (text : List ℕ) (k : ℕ) : Type 0 where
   pub behind : List ℕ
   pub isText : frameText frame ≡ firstLines k text ++ behind
 
--- after k right lines the text ends early, goes on behind its last LF, or has a wrong line
+-- k is the greatest number of whole lines that begin the text of a frame
 pub record RightLines (text : List ℕ) (k : ℕ) : Type 0 where
   pub there : k ≤ lineCount text
   pub begins : Begins text k
@@ -63,7 +63,7 @@ ruleBroken f forms =
     orElse (broken 6 (firstBreak keepsSize [] forms))
     (orElse (broken 7 (mismatch 0 (cells f) forms))
     (orElse (broken 8 (firstBreak keepsNames [] forms))
-    (orElse (broken 9 (firstBreak (keepsKinds nameReadable) [] forms))
+    (orElse (broken 9 (firstBreak (keepsTypes nameReadable) [] forms))
     (broken 10 (firstBreak keepsRest [] forms)))))
   where
     broken : ℕ → Option ℕ → Option Answer

@@ -39,6 +39,6 @@ pub record Spells (text : List ℕ) (d : Description) : Type 0 where
   pub frame : Frame
   pub isFrameOf : FrameOf text frame
   pub name : frame .name ≡ d .name
-  pub row : frame .row ≡ d .row
-  pub shown : mismatch 0 (cells frame) (d .fields) ≡ none
+  pub row : frame .rowWidth ≡ d .rowWidth
+  pub shown : Each (λ c f. shows c f ≡ true) (cells frame) (d .fields)
   pub lines : Each (SpellsField (NameOf (d .fields))) (d .fields) (frame .lines)

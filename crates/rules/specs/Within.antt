@@ -8,11 +8,11 @@ use Prim.Native.Nat.{ℕ, _+_, _%_}
 use lib.Dec.{leb, eqb}
 use lib.ListN.{length, getElem?}
 use Rattle.base.specs.Lists.{all, any, same, between, isEmpty, isNone, ifAny, firstBreak}
-use Rattle.rules.specs.declared.Kind.{Kind}
-use Rattle.rules.specs.declared.Kind.the-variants.{Number, YesNo}
+use Rattle.rules.specs.declared.ValueType.{ValueType}
+use Rattle.rules.specs.declared.ValueType.the-variants.{Number, YesNo}
 use Rattle.rules.specs.Limits.{fieldsMost, fixedMost}
 use Rattle.rules.specs.Names.{isLabel, isShort}
-use Rattle.rules.specs.Trees.{Tree, isSmall, isInRange, isNumber, hasKind}
+use Rattle.rules.specs.Trees.{Tree, isSmall, isInRange, isNumber, hasType}
 use Rattle.rules.specs.Fields.{
   Width,
   fixed,
@@ -36,7 +36,7 @@ isWidth (fixed n) = between 1 n fixedMost
 isWidth (measured u t) = (eqb u 1 || eqb u 8) && not (isNumber t)
 isWidth rest = true
 
--- names, width and numbers have their form: what 5 refuses otherwise
+-- names, width and numbers have their form
 abbrev pub isFormed : {N : Type 0} → Field N → Bool
 isFormed f = isLabel (f .label) && (ifAny isShort (f .short) && (isWidth (f .width) && all isInRange (trees f)))
 
@@ -61,18 +61,18 @@ module _ {N : Type 0} where
   abbrev pub keepsNames : List (Field N) → Field N → Bool
   keepsNames before f = not (any (clash f) before)
 
-  abbrev pub widthHasKind : (N → Bool) → Width N → Bool
-  widthHasKind may (fixed n) = true
-  widthHasKind may (measured u t) = hasKind may Number t
-  widthHasKind may rest = true
+  abbrev pub widthHasType : (N → Bool) → Width N → Bool
+  widthHasType may (fixed n) = true
+  widthHasType may (measured u t) = hasType may Number t
+  widthHasType may rest = true
 
   -- widths are numbers, constraints and conditions yes or no, and each reads what it may: 9.
   -- readable says what may be read where some fields are listed: those before; for a constraint also its own field
-  abbrev pub keepsKinds : (List (Field N) → N → Bool) → List (Field N) → Field N → Bool
-  keepsKinds readable before f =
-      widthHasKind (readable before) (f .width)
-      && (ifAny (hasKind (readable (before ++ (f ∷ []))) YesNo) (f .constraint)
-      && ifAny (hasKind (readable before) YesNo) (f .condition))
+  abbrev pub keepsTypes : (List (Field N) → N → Bool) → List (Field N) → Field N → Bool
+  keepsTypes readable before f =
+      widthHasType (readable before) (f .width)
+      && (ifAny (hasType (readable (before ++ (f ∷ []))) YesNo) (f .constraint)
+      && ifAny (hasType (readable before) YesNo) (f .condition))
 
   -- at most one rest field; after it only fixed fields without a condition: 10
   abbrev pub keepsRest : List (Field N) → Field N → Bool
@@ -103,11 +103,11 @@ widths l = map (λ f. f .width) l
 -- 01's 'within the limits'
 pub record Within (d : Description) : Type 0 where
   pub name : isLabel (d .name) ≡ true
-  pub row : isRowWidth (d .row) ≡ true
+  pub row : isRowWidth (d .rowWidth) ≡ true
   pub count : between 1 (length (d .fields)) fieldsMost ≡ true
   pub form : firstBreak keepsForm [] (d .fields) ≡ none
   pub size : firstBreak keepsSize [] (d .fields) ≡ none
   pub names : firstBreak keepsNames [] (d .fields) ≡ none
-  pub kinds : firstBreak (keepsKinds indexReadable) [] (d .fields) ≡ none
+  pub kinds : firstBreak (keepsTypes indexReadable) [] (d .fields) ≡ none
   pub rests : firstBreak keepsRest [] (d .fields) ≡ none
-  pub rows : rowsFit (d .row) 0 (widths (d .fields)) ≡ true
+  pub rows : rowsFit (d .rowWidth) 0 (widths (d .fields)) ≡ true

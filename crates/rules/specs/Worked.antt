@@ -5,15 +5,14 @@ use mathlib.Core.Option.{Option, none, some}
 use Prim.Native.Nat.{ℕ, zero, suc}
 use Rattle.base.specs.Bytes.{bytes, decimal}
 use Rattle.rules.specs.declared.Op.the-variants.{Eq, Lt, Add, Sub, And, Or}
-use Rattle.rules.specs.declared.Fault.the-variants.{BitsMissing, AbsentRead, OutOfRange}
 use Rattle.rules.specs.Trees.{Tree, num, read, two, negation}
 use Rattle.rules.specs.Fields.{Field, fixed, measured, rest, Description}
-use Rattle.rules.specs.Reading.{absent, complete, faulted}
-use Rattle.rules.specs.Cases.{Case, fits, reads, named, unnamed, present}
+use Rattle.rules.specs.Reading.{absent}
+use Rattle.rules.specs.Cases.{Case, fits, reads, readsTo, refusedBy, named, unnamed, entry}
 
 -- rows of 8 bits
 abbrev pub page : List (Field ℕ) → Description
-page l = record { name = bytes "Page"; row = 8; fields = l }
+page l = record { name = bytes "Page"; rowWidth = 8; fields = l }
 
 -- `F == 1`, `E == 9`
 abbrev pub isFlagged : Tree ℕ
@@ -36,14 +35,14 @@ withRest = page
     (unnamed "Head" (fixed 8) none none ∷ unnamed "Body" rest none none ∷ unnamed "Sum" (fixed 8) none none ∷ [])
 
 -- `1 - F` bits
-abbrev pub counted : Description
-counted = page (named "Flag" "F" (fixed 8) none none ∷ unnamed "Body" (measured 1 (two Sub (num 1) (read 0))) none none ∷ [])
+abbrev pub measuredPage : Description
+measuredPage = page (named "Flag" "F" (fixed 8) none none ∷ unnamed "Body" (measured 1 (two Sub (num 1) (read 0))) none none ∷ [])
 
 -- every kind of field, with and without short name, constraint and condition
 abbrev pub allKinds : Description
 allKinds = record {
   name = bytes "All Kinds-2";
-  row = 32;
+  rowWidth = 32;
   fields =
       named "Size" "S" (fixed 8) (some (two Lt (read 0) (num 9))) none
       ∷ unnamed "Mark" (fixed 24) none (some (two Eq (read 0) (num 1)))
@@ -55,31 +54,31 @@ allKinds = record {
 }
 
 -- n fields of 8 bits, with the labels F0, F1 and so on, counted from i
-unfoldable pub plain : ℕ → ℕ → List (Field ℕ)
-plain i zero = []
-plain i (suc n) = record {
+unfoldable pub manyFields : ℕ → ℕ → List (Field ℕ)
+manyFields i zero = []
+manyFields i (suc n) = record {
   label = bytes "F" ++ decimal i;
   short = none;
   width = fixed 8;
   constraint = none;
   condition = none;
-} ∷ plain (suc i) n
+} ∷ manyFields (suc i) n
 
 abbrev pub worked : List Case
 worked =
     -- reading an absent field is 26
-    reads (flagged (some isNine)) (0 ∷ 5 ∷ []) (faulted AbsentRead 3)
+    reads (flagged (some isNine)) (0 ∷ 5 ∷ []) (refusedBy 26 3)
     -- an absent field's constraint is not tested
-    ∷ reads (flagged none) (0 ∷ 5 ∷ []) (complete (present 0 8 0 ∷ absent ∷ present 8 8 5 ∷ []))
+    ∷ reads (flagged none) (0 ∷ 5 ∷ []) (readsTo 16 (entry 0 8 0 ∷ absent ∷ entry 8 8 5 ∷ []))
     -- `&&` and `||` skip a side that would fault
-    ∷ reads (flagged (some (two And isFlagged isNine))) (0 ∷ []) (complete (present 0 8 0 ∷ absent ∷ absent ∷ []))
+    ∷ reads (flagged (some (two And isFlagged isNine))) (0 ∷ []) (readsTo 8 (entry 0 8 0 ∷ absent ∷ absent ∷ []))
     ∷ reads (flagged (some (two Or (negation isFlagged) isNine))) (0 ∷ 5 ∷ [])
-    (complete (present 0 8 0 ∷ absent ∷ present 8 8 5 ∷ []))
+    (readsTo 16 (entry 0 8 0 ∷ absent ∷ entry 8 8 5 ∷ []))
     -- the rest field takes what the fixed fields after it leave; below zero is 24 there
-    ∷ reads withRest (1 ∷ 2 ∷ 3 ∷ 4 ∷ []) (complete (present 0 8 1 ∷ present 8 16 0 ∷ present 24 8 4 ∷ []))
-    ∷ reads withRest (1 ∷ []) (faulted BitsMissing 2)
+    ∷ reads withRest (1 ∷ 2 ∷ 3 ∷ 4 ∷ []) (readsTo 32 (entry 0 8 1 ∷ entry 8 16 0 ∷ entry 24 8 4 ∷ []))
+    ∷ reads withRest (1 ∷ []) (refusedBy 24 2)
     -- a width that leaves the range is 27 at its field
-    ∷ reads counted (2 ∷ []) (faulted OutOfRange 2)
+    ∷ reads measuredPage (2 ∷ []) (refusedBy 27 2)
     ∷ fits allKinds
-    ∷ fits (page (plain 0 64))
+    ∷ fits (page (manyFields 0 64))
     ∷ []

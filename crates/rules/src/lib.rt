@@ -17,7 +17,7 @@ pub enum Op {
 }
 
 // What an expression gives: a number, or yes or no.
-pub enum Kind {
+pub enum ValueType {
     Number,
     YesNo,
 }
