@@ -1,2 +1,3 @@
 // Tables are checked, and packets read by them.
+mod records;
 mod trees;

@@ -1,0 +1,68 @@
+-- Where the parts of a field's record stand, by its lengths. This mirrors the code: no public promise rests on this file.
+use mathlib.Core.Path.{_≡_}
+use mathlib.Core.Bool.{Bool, cond}
+use mathlib.Core.List.{List}
+use Prim.Native.Nat.{ℕ, _+_, _-_, _≤_}
+use lib.Dec.{eqb}
+use Rattle.base.specs.Places.{twoAt}
+use Rattle.packets.specs.declared.records.Span.{Span}
+use Rattle.packets.specs.declared.records.WidthParts.{WidthParts}
+use Rattle.packets.specs.declared.records.Parts.{Parts}
+
+-- no good table is longer; the ends of a record's parts, whatever the lengths say, stand no further
+abbrev pub tableMost : ℕ
+tableMost = 32768
+
+abbrev pub placeMost : ℕ
+placeMost = 1_000_000
+
+abbrev pub spanOf : ℕ → ℕ → Span
+spanOf at len = record { at = at; len = len }
+
+abbrev pub ending : Span → ℕ
+ending p = p .at + p .len
+
+-- a length, and the part behind it
+abbrev pub spanAt : List ℕ → ℕ → Span
+spanAt s at = spanOf (at + 2) (twoAt s at)
+
+abbrev pub widthOf : ℕ → Span → ℕ → WidthParts
+widthOf number tree next = record { number = number; tree = tree; next = next }
+
+unfoldable pub widthAt : List ℕ → ℕ → ℕ → WidthParts
+widthAt s kind at =
+    cond (eqb kind 2) (widthOf (twoAt s at) (spanOf at 0) (at + 2))
+    (cond (eqb kind 3) (widthOf (twoAt s at) (spanAt s (at + 2)) (ending (spanAt s (at + 2))))
+    (widthOf 0 (spanOf at 0) at))
+
+-- the parts, one behind the other
+abbrev pub withConstraint : List ℕ → ℕ → Span → Span → WidthParts → Span → Parts
+withConstraint s kind label short w constraint = record {
+  kind = kind;
+  label = label;
+  short = short;
+  number = w .number;
+  tree = w .tree;
+  constraint = constraint;
+  condition = spanAt s (ending constraint);
+  next = ending (spanAt s (ending constraint));
+}
+
+abbrev pub withWidth : List ℕ → ℕ → Span → Span → WidthParts → Parts
+withWidth s kind label short w = withConstraint s kind label short w (spanAt s (w .next))
+
+abbrev pub withShort : List ℕ → ℕ → Span → Span → Parts
+withShort s kind label short = withWidth s kind label short (widthAt s kind (ending short))
+
+unfoldable pub partsAt : List ℕ → ℕ → Parts
+partsAt s at = withShort s (twoAt s (at + 2)) (spanAt s (at + 4)) (spanAt s (ending (spanAt s (at + 4))))
+
+-- what the code is told of its parts besides
+pub record Spans (s : List ℕ) (at : ℕ) (r : Span) : Type 0 where
+  pub is : r ≡ spanAt s at
+  pub from : r .at ≡ at + 2
+  pub small : r .len ≤ 65535
+
+pub record Widths (s : List ℕ) (kind at : ℕ) (r : WidthParts) : Type 0 where
+  pub is : r ≡ widthAt s kind at
+  pub small : r .next ≤ at + 65539
