@@ -7,6 +7,7 @@
 -- Readings      what an accepted packet's entries come from
 -- Cover         an accepted packet's bits lie in one present field each
 -- Conditions    presence goes by conditions, and constraints are kept
+-- PlacesOfNumbers  numbers that stand in two bytes and in four
 pub mod Readers
 pub mod ReadsNumbers
 pub mod ReadsTrees
@@ -16,3 +17,4 @@ pub mod Decidable
 pub mod Readings
 pub mod Cover
 pub mod Conditions
+pub mod PlacesOfNumbers
