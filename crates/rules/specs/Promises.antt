@@ -3,16 +3,18 @@
 use mathlib.Core.Path.{_≡_}
 use mathlib.Core.Bool.{Bool, true, false, cond, _&&_, not}
 use mathlib.Core.List.{List, [], _∷_, _++_}
-use Prim.Native.Nat.{ℕ, _*_, _≤_, _<_}
+use mathlib.Core.Option.{Option, none, some}
+use Prim.Native.Nat.{ℕ, suc, _*_, _≤_}
 use lib.Dec.{ltb}
-use lib.ListN.{length, drop}
-use Rattle.base.specs.Lists.{joined}
+use lib.ListN.{length, drop, getElem?}
+use Rattle.base.specs.Lists.{any, same, joined}
 use Rattle.rules.specs.declared.TableAnswer.{TableAnswer}
 use Rattle.rules.specs.declared.PacketAnswer.{PacketAnswer}
+use Rattle.rules.specs.declared.FieldAnswer.{FieldAnswer}
 use Rattle.rules.specs.declared.TextAnswer.{TextAnswer}
 use Rattle.rules.specs.declared.ListingAnswer.{ListingAnswer}
 use Rattle.rules.specs.Limits.{textMost}
-use Rattle.rules.specs.Fields.{Description}
+use Rattle.rules.specs.Fields.{Field, Description, cellNames}
 use Rattle.rules.specs.Stored.{stored, Good}
 use Rattle.rules.specs.Spelling.{Spells}
 use Rattle.rules.specs.Refusals.{Refuses}
@@ -23,6 +25,7 @@ use Rattle.rules.specs.Answers.{
   faultNumber,
   ofTable,
   ofPacket,
+  ofField,
   ofText,
   ofListing,
 }
@@ -40,6 +43,7 @@ use Rattle.rules.specs.Reading.{
   bitTotal,
   numbersOf,
   partIn,
+  partBytes,
 }
 use Rattle.rules.specs.Listing.{refusedLine, entryLines, bitsLine, linesText}
 
@@ -101,8 +105,32 @@ ReadsPacket table packet run r after =
     (good : Dec (Good table)) → leaves (ofPacket r) after ≡ byTable good (λ d. packetOutcome d packet run) (leaves notGood run)
 
 -- the part of the packet that is the field of an index
-abbrev pub HandsPart : List ℕ → List ℕ → ℕ → Part → Type 0
-HandsPart table packet i part = (good : Dec (Good table)) → part ≡ byTable good (λ d. partIn (reading d packet) i) noPart
+unfoldable pub partBy : {table : List ℕ} → Dec (Good table) → List ℕ → ℕ → Part
+partBy good packet i = byTable good (λ d. partIn (reading d packet) i) noPart
+
+-- the bytes that are handed back, and how far from the packet's start they begin
+pub record HandsPart (table packet : List ℕ) (i : ℕ) (bytes : List ℕ) (start : ℕ) : Type 0 where
+  pub content : (good : Dec (Good table)) → bytes ≡ partBytes packet (partBy good packet i)
+  pub place : (good : Dec (Good table)) → start ≡ partBy good packet i .start
+
+-- ── a table's fields by name ──
+
+-- the index of the first field, counted from i, that has the name as its label or short name
+unfoldable pub firstNamed : List ℕ → ℕ → List (Field ℕ) → Answer
+firstNamed name i [] = refused 30 0
+firstNamed name i (f ∷ fs) = cond (any (same name) (cellNames f)) (accepted i) (firstNamed name (suc i) fs)
+
+abbrev pub FindsField : List ℕ → List ℕ → FieldAnswer → Type 0
+FindsField table name r =
+    (good : Dec (Good table)) → ofField r ≡ byTable good (λ d. firstNamed name 0 (d .fields)) notGood
+
+-- the label of the field of an index: none where there is no such field
+abbrev pub labelIn : Option (Field ℕ) → List ℕ
+labelIn none = []
+labelIn (some f) = f .label
+
+abbrev pub HandsLabel : List ℕ → ℕ → List ℕ → Type 0
+HandsLabel table i bytes = (good : Dec (Good table)) → bytes ≡ byTable good (λ d. labelIn (getElem? (d .fields) i)) []
 
 -- ── a packet's listing ──
 

@@ -62,6 +62,13 @@ pub enum TextAnswer {
     NoRoom,
 }
 
+// The answer to a name that is looked for among a table's fields.
+pub enum FieldAnswer {
+    At(usize),
+    NotGood,
+    Unknown,
+}
+
 // The answer to a listing that is written.
 pub enum ListingAnswer {
     Written(usize),
