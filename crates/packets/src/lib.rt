@@ -1,3 +1,4 @@
 // Tables are checked, and packets read by them.
 mod records;
 mod trees;
+mod writing;
