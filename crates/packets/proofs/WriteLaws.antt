@@ -9,8 +9,11 @@ use lib.Dec.{ltb}
 use lib.ListN.{length, getD, take, drop, set, length-append, length-set}
 use lib.Seq.{take-suc, take-suc-set, drop-cons, set-at, length-take-le}
 use borrow.Author.Tests.{lt-ltb, le-ltb}
-use Rattle.base.specs.Bytes.{digit, digits}
+use Rattle.base.specs.Bytes.{bytes, digit, digits, decimal}
+use Rattle.rules.specs.Reading.{Entry, isPresent}
+use Rattle.rules.specs.Listing.{entryText}
 use Rattle.packets.specs.Writes.{Writes}
+use Rattle.packets.specs.LineTexts.{stateText}
 
 -- one byte more of a word that is written
 pub put-step : (before out word : List ℕ) (at i : ℕ) → take (at + i) out ≡ take at before ++ take i word
@@ -70,10 +73,33 @@ writes-byte before out at next b w p h = record {
 }
 
 -- two writings, one behind the other
-pub writes-join : (a b c : List ℕ) (at mid next : ℕ) (w u : List ℕ) → Writes a at w b mid → Writes b mid u c next
+pub writes-join : {a b c : List ℕ} {at mid next : ℕ} {w u : List ℕ} → Writes a at w b mid → Writes b mid u c next
     → Writes a at (w ++ u) c next
-writes-join a b c at mid next w u p q = record {
+writes-join {a} {b} {c} {at} {mid} {next} {w} {u} p q = record {
   text = rw (q .text, p .text) (append-assoc (take at a) w u);
   end = omega (arith, p .end, q .end, length-append w u);
   kept = q .kept ∙ p .kept;
 }
+
+-- a number with the space before it has at most 11 bytes
+pub number-room : {a b : List ℕ} {at next : ℕ} (n : ℕ) → Writes a at (32 ∷ decimal n) b next → next ≤ at + 11
+number-room n p = omega (arith, p .end, digits-length 10 n)
+
+-- the length of an entry's text, absent or not
+pub state-length : (fixed : Bool) (e : Entry) → length (stateText fixed e) ≤ 33
+unfolding stateText
+state-length fixed e = go (isPresent e) fixed
+  where
+    o : length (decimal (e .offset)) ≤ 10
+    o = digits-length 10 (e .offset)
+
+    w : length (decimal (e .width)) ≤ 10
+    w = digits-length 10 (e .width)
+
+    v : length (decimal (e .value)) ≤ 10
+    v = digits-length 10 (e .value)
+
+    go : (b f : Bool) → length (cond b (entryText f e) (bytes " absent")) ≤ 33
+    go false f = omega arith
+    go true true = simp length-append (omega (arith, o, w, v))
+    go true false = simp length-append (omega (arith, o, w))

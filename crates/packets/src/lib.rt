@@ -1,4 +1,5 @@
 // Tables are checked, and packets read by them.
+mod lines;
 mod records;
 mod trees;
 mod writing;
