@@ -1,5 +1,9 @@
+-- Products   a product of two 32-bit numbers
+-- TreeSteps  one step of checking, skipping and evaluating a stored tree
 -- PartsLaws, RecordLaws   the parts of a record and the field stored there
 -- WriteLaws               writing one byte behind the other
+pub mod Products
+pub mod TreeSteps
 pub mod PartsLaws
 pub mod RecordLaws
 pub mod WriteLaws
