@@ -1,9 +1,11 @@
--- Products   a product of two 32-bit numbers
--- TreeSteps  one step of checking, skipping and evaluating a stored tree
+-- Products                a product of two 32-bit numbers
+-- TreeSteps               one step of checking, skipping and evaluating a stored tree
 -- PartsLaws, RecordLaws   the parts of a record and the field stored there
+-- FieldBounds             sizes of a field within the limits
 -- WriteLaws               writing one byte behind the other
 pub mod Products
 pub mod TreeSteps
 pub mod PartsLaws
 pub mod RecordLaws
+pub mod FieldBounds
 pub mod WriteLaws
