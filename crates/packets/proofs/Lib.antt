@@ -3,9 +3,11 @@
 -- PartsLaws, RecordLaws   the parts of a record and the field stored there
 -- FieldBounds             sizes of a field within the limits
 -- WriteLaws               writing one byte behind the other
+-- LinesWritten            the lines of fields, written one behind the other
 pub mod Products
 pub mod TreeSteps
 pub mod PartsLaws
 pub mod RecordLaws
 pub mod FieldBounds
 pub mod WriteLaws
+pub mod LinesWritten

@@ -1,7 +1,7 @@
 -- The text of a field's line, from the parts of its record and its entry in a run. No public promise rests on this file.
 use mathlib.Core.Bool.{Bool, cond, _||_}
 use mathlib.Core.List.{List, [], _∷_, _++_}
-use Prim.Native.Nat.{ℕ, _+_, _*_, _-_}
+use Prim.Native.Nat.{ℕ, zero, suc, _+_, _*_, _-_}
 use lib.Dec.{ltb, eqb}
 use lib.ListN.{length, getD, take, drop}
 use Rattle.base.specs.Bytes.{bytes}
@@ -10,6 +10,7 @@ use Rattle.rules.specs.Reading.{Entry, isPresent}
 use Rattle.rules.specs.Listing.{entryText}
 use Rattle.packets.specs.declared.records.Span.{Span}
 use Rattle.packets.specs.declared.records.Parts.{Parts}
+use Rattle.packets.specs.Parts.{tableMost, partsAt}
 
 -- the entry of the field of an index
 abbrev pub entryIn : List ℕ → ℕ → Entry
@@ -32,3 +33,10 @@ lineText s p run i =
     cond (isNoLabel s (p .label)) []
     (take (p .label .len) (drop (p .label .at) s)
     ++ (bytes ":" ++ (stateText (eqb (p .kind) 2) (entryIn run i) ++ bytes "\n")))
+
+-- the lines of n fields, counted from i, whose records begin at a place
+unfoldable pub linesFrom : List ℕ → List ℕ → ℕ → ℕ → ℕ → List ℕ
+linesFrom s run i zero place = []
+linesFrom s run i (suc n) place =
+    cond (ltb tableMost place) []
+    (lineText s (partsAt s place) run i ++ linesFrom s run (i + 1) n (partsAt s place .next))

@@ -1,5 +1,6 @@
 // Tables are checked, and packets read by them.
 mod lines;
+mod listing;
 mod records;
 mod trees;
 mod writing;
