@@ -4,6 +4,7 @@
 -- FieldBounds             sizes of a field within the limits
 -- WriteLaws               writing one byte behind the other
 -- LinesWritten            the lines of fields, written one behind the other
+-- LinesStored             for a stored description they are those of the listing
 pub mod Products
 pub mod TreeSteps
 pub mod PartsLaws
@@ -11,3 +12,4 @@ pub mod RecordLaws
 pub mod FieldBounds
 pub mod WriteLaws
 pub mod LinesWritten
+pub mod LinesStored
