@@ -1,4 +1,5 @@
 // Tables are checked, and packets read by them.
+mod answers;
 mod lines;
 mod listing;
 mod records;

@@ -19,7 +19,7 @@ fn put_number(out: &mut [u8], at: usize, number: u32) -> usize
     ensures { λ r. ⌜ Writes (now (out .entry)) at (bytes " " ++ decimal number) (now (out .exit)) r ⌝ }
 {
     let next = put(out, at, b" ");
-    put_digits(out, next, number, 10)
+    put_digits(out, next, number as usize, 10)
 }
 
 // Offset, width and, for a fixed field, value.

@@ -20,7 +20,7 @@ pub(crate) fn put(out: &mut [u8], at: usize, word: &[u8]) -> usize
 }
 
 // Writes a number of at most so many decimal digits.
-pub(crate) fn put_digits(out: &mut [u8], at: usize, number: u32, places: usize) -> usize
+pub(crate) fn put_digits(out: &mut [u8], at: usize, number: usize, places: usize) -> usize
     requires { ⌜ at + places ≤ length (now out) ⌝ }
     ensures { λ r. ⌜ Writes (now (out .entry)) at (digits places number) (now (out .exit)) r ⌝ }
 {
