@@ -1,5 +1,7 @@
 -- Products                a product of two 32-bit numbers
--- TreeSteps               one step of checking, skipping and evaluating a stored tree
+-- TreeSteps, TreeCodes    one step of checking, skipping and evaluating a stored tree
+-- TreeSound, TreeComplete what the check finds is stored, and what is stored is found
+-- TreeValues              a stored tree's value
 -- PartsLaws, RecordLaws   the parts of a record and the field stored there
 -- FieldBounds             sizes of a field within the limits
 -- WriteLaws               writing one byte behind the other
@@ -7,6 +9,10 @@
 -- LinesStored             for a stored description they are those of the listing
 pub mod Products
 pub mod TreeSteps
+pub mod TreeCodes
+pub mod TreeSound
+pub mod TreeComplete
+pub mod TreeValues
 pub mod PartsLaws
 pub mod RecordLaws
 pub mod FieldBounds
