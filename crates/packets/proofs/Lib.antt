@@ -4,6 +4,7 @@
 -- TreeValues              a stored tree's value
 -- PartsLaws, RecordLaws   the parts of a record and the field stored there
 -- FieldBounds             sizes of a field within the limits
+-- TableHead               where the fields of a stored table begin, how many, how long
 -- WriteLaws               writing one byte behind the other
 -- LinesWritten            the lines of fields, written one behind the other
 -- LinesStored             for a stored description they are those of the listing
@@ -16,6 +17,7 @@ pub mod TreeValues
 pub mod PartsLaws
 pub mod RecordLaws
 pub mod FieldBounds
+pub mod TableHead
 pub mod WriteLaws
 pub mod LinesWritten
 pub mod LinesStored
