@@ -38,7 +38,7 @@ use Rattle.rules.specs.Cases.{AllHold}
 use Rattle.rules.specs.Marked.{marked}
 use Rattle.rules.specs.Limits.{numberMost}
 use Rattle.rules.proofs.Limits.{within}
-use Rattle.rules.proofs.Written.{numeral, operated, also}
+use Rattle.rules.proofs.Written.{numeral, operated, _also_}
 use Rattle.rules.proofs.ReaderUnique.{tree-unique}
 use Rattle.rules.proofs.TagText.{tag-spelled}
 
@@ -65,19 +65,19 @@ only p u q = tree-unique q p
 pub all-marked : AllHold marked
 unfolding digits all any same lastIs sum joined firstBreak operator isLetter isDigit isSpace isWordByte isLabelByte noTwoSpaces isLabel reserved isReserved isShort depth le2 le4 storedTree isInRange hasType apply decides evaluate rowsFit stored storedField fieldBody headBody bitsAt valueIn readField readFields reading entryLines linesText faultNumber readingAnswer packetOutcome readingLines
 all-marked =
+    (within _ refl, refl)
     also (within _ refl, refl)
-    (also (within _ refl, refl)
-    (also (within _ refl, refl)
-    (also (within _ refl, refl)
-    (also (within _ refl, refl)
-    (also (within _ refl, refl)
-    (also (within _ refl, refl)
-    (also (within _ refl, refl)
-    (also ((product-last, only product-last), refl)
-    (also ((left-first, only left-first), refl)
-    (also ((pair 65535 Mul 65537 tt tt, only (pair 65535 Mul 65537 tt tt)), refl)
-    (also ((pair 65536 Mul 65536 tt tt, only (pair 65536 Mul 65536 tt tt)), OutOfRange, refl, refl)
-    (also ((pair 3 Sub 5 tt tt, only (pair 3 Sub 5 tt tt)), OutOfRange, refl, refl)
-    (also tag-spelled
-    (also (within _ refl, refl)
-    tt))))))))))))))
+    also (within _ refl, refl)
+    also (within _ refl, refl)
+    also (within _ refl, refl)
+    also (within _ refl, refl)
+    also (within _ refl, refl)
+    also (within _ refl, refl)
+    also ((product-last, only product-last), refl)
+    also ((left-first, only left-first), refl)
+    also ((pair 65535 Mul 65537 tt tt, only (pair 65535 Mul 65537 tt tt)), refl)
+    also ((pair 65536 Mul 65536 tt tt, only (pair 65536 Mul 65536 tt tt)), OutOfRange, refl, refl)
+    also ((pair 3 Sub 5 tt tt, only (pair 3 Sub 5 tt tt)), OutOfRange, refl, refl)
+    also tag-spelled
+    also (within _ refl, refl)
+    also tt

@@ -23,5 +23,6 @@ module _ {N : Type 0} {Names : N → List ℕ → Type 0} where
   operated {k} s g o h u t p q = two-sided g h (leb→le k (level o) t) p q
 
 -- one more case that holds
-pub also : {A B : Type 0} → A → B → A × B
-also a b = (a, b)
+infixr 20 _also_
+pub _also_ : {A B : Type 0} → A → B → A × B
+a also b = (a, b)

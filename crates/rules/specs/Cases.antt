@@ -1,5 +1,6 @@
 -- Cases that are proved of the definitions: the kinds of case, and what it is for one to hold.
 use mathlib.Core.Path.{_≡_}
+use mathlib.Core.Bool.{Bool, true}
 use mathlib.Core.List.{List, [], _∷_}
 use mathlib.Core.Option.{Option, none, some}
 use Prim.Native.Nat.{ℕ}
@@ -10,23 +11,29 @@ use Rattle.base.specs.Lists.{joined}
 use Rattle.rules.specs.declared.Fault.{Fault}
 use Rattle.rules.specs.Trees.{Tree}
 use Rattle.rules.specs.Values.{Value, value, fault, evaluate}
-use Rattle.rules.specs.Fields.{Width, fixed, Field, Description}
+use Rattle.rules.specs.Fields.{Width, fixed, Field, Form, Description}
 use Rattle.rules.specs.Within.{Within}
 use Rattle.rules.specs.Stored.{stored}
 use Rattle.rules.specs.Expressions.{SpellsTree}
 use Rattle.rules.specs.Lines.{Written}
+use Rattle.rules.specs.Frames.{Frame, isFrame}
 use Rattle.rules.specs.Spelling.{Spells}
-use Rattle.rules.specs.Reading.{Entry, numbersOf}
-use Rattle.rules.specs.Answers.{accepted, refused, faultNumber}
+use Rattle.rules.specs.Refusals.{ruleBroken, Refuses}
+use Rattle.rules.specs.Reading.{Entry, Part, numbersOf, reading, partIn}
+use Rattle.rules.specs.Answers.{Answer, accepted, refused, faultNumber}
 use Rattle.rules.specs.Promises.{Outcome, leaves, written, packetOutcome, listing}
 
 pub data Case : Type 0 where
   -- a description is within the limits
   fits : Description → Case
+  -- or not
+  exceeds : Description → Case
   -- and has this outcome for a packet and a run of thirty 9s
   reads : Description → List ℕ → Outcome → Case
   -- and this is a packet's listing
   prints : Description → List ℕ → List ℕ → Case
+  -- and the field of an index is this part of a packet
+  hands : Description → List ℕ → ℕ → Part → Case
   -- a text spells a tree, the only one, and this is its value
   values : List ℕ → Tree (List ℕ) → ℕ → Case
   -- or its fault has this number
@@ -35,6 +42,12 @@ pub data Case : Type 0 where
   spells : List ℕ → Description → Case
   -- a description is within the limits and has this table
   stores : Description → List ℕ → Case
+  -- where the lines of a frame have these forms, a rule is broken with this answer
+  breaks : Frame → List Form → Answer → Case
+  -- or none is
+  keeps : Frame → List Form → Case
+  -- a text is refused with this answer
+  refuses : List ℕ → Answer → Case
 
 abbrev pub lentRun : List ℕ
 lentRun = replicate 30 9
@@ -49,12 +62,17 @@ noFields w = fault Fault.AbsentRead
 
 abbrev pub Holds : Case → Type 0
 Holds (fits d) = Within d
+Holds (exceeds d) = Within d → ⊥
 Holds (reads d packet o) = Within d × (packetOutcome d packet lentRun ≡ o)
 Holds (prints d packet text) = Within d × (listing d packet ≡ text)
+Holds (hands d packet i part) = Within d × (partIn (reading d packet) i ≡ part)
 Holds (values s t n) = SpellsOnly t s × (evaluate noFields t ≡ value n)
 Holds (faults s t n) = SpellsOnly t s × (f : Fault) × (evaluate noFields t ≡ fault f) × (faultNumber f ≡ n)
 Holds (spells text d) = Spells text d
 Holds (stores d table) = Within d × (stored d ≡ table)
+Holds (breaks f forms a) = (isFrame f ≡ true) × (ruleBroken f forms ≡ some a)
+Holds (keeps f forms) = (isFrame f ≡ true) × (ruleBroken f forms ≡ none)
+Holds (refuses text a) = Refuses text a
 
 abbrev pub AllHold : List Case → Type 0
 AllHold [] = Unit {0}
