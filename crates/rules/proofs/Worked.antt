@@ -1,8 +1,12 @@
 -- Each worked case holds: the definitions compute it.
 use mathlib.Core.Path.{_≡_, refl}
+use mathlib.Core.List.{List, []}
+use Prim.Native.Nat.{ℕ, suc}
+use lib.ListN.{length}
 use Rattle.base.specs.Bytes.{digits}
-use Rattle.base.specs.Lists.{all, any, same, lastIs, sum, joined, firstBreak}
-use Rattle.rules.specs.Operators.{operator}
+use Rattle.base.specs.Lists.{all, any, same, lastIs, sum, joined, tabulate, firstBreak}
+use Rattle.rules.specs.Limits.{openMost}
+use Rattle.rules.specs.Operators.{operator, operators}
 use Rattle.rules.specs.Names.{
   isLetter,
   isDigit,
@@ -15,21 +19,67 @@ use Rattle.rules.specs.Names.{
   isReserved,
   isShort,
 }
-use Rattle.rules.specs.Trees.{depth, le4, storedTree, isInRange, hasType}
+use Rattle.rules.specs.Trees.{Tree, depth, le2, le4, storedTree, isInRange, hasType}
 use Rattle.rules.specs.Values.{apply, decides, evaluate}
 use Rattle.rules.specs.Within.{rowsFit}
+use Rattle.rules.specs.Stored.{stored, storedField, fieldBody, headBody}
+use Rattle.rules.specs.Expressions.{SpellsTree}
+use Rattle.rules.specs.Lines.{Written}
+use Rattle.rules.specs.Frames.{tens, units, border, cellText, rowLines, isFrame, headLines, cells}
+use Rattle.rules.specs.Spelling.{mismatch}
+use Rattle.rules.specs.Refusals.{ruleBroken}
 use Rattle.rules.specs.Reading.{bitsAt, valueIn, readField, readFields, reading}
 use Rattle.rules.specs.Listing.{entryLines, linesText}
 use Rattle.rules.specs.Answers.{faultNumber}
 use Rattle.rules.specs.Promises.{readingAnswer, packetOutcome, readingLines}
-use Rattle.rules.specs.Cases.{AllHold}
-use Rattle.rules.specs.Worked.{manyFields, notTimes, andTimes, worked}
+use Rattle.rules.specs.Cases.{SpellsOnly, AllHold}
+use Rattle.rules.specs.Reader.{
+  after,
+  firstOf,
+  insert,
+  longestFirst,
+  order,
+  skip,
+  skipBehind,
+  operatorAt,
+  word,
+  behind,
+  scan,
+  value,
+  isNumeral,
+  isNumberWord,
+  got,
+  andThen,
+  leaf,
+  close,
+  inside,
+  atom,
+  step,
+  expr,
+  more,
+}
+use Rattle.rules.specs.Pages.{manyFields, notTimes, andTimes}
+use Rattle.rules.specs.Worked.{worked}
 use Rattle.rules.proofs.Limits.{within, outside}
 use Rattle.rules.proofs.Written.{_also_}
+use Rattle.rules.proofs.ReaderUnique.{tree-unique}
+use Rattle.rules.proofs.ReaderExact.{exact}
+
+-- what the reader finds in a text is spelled by it, and nothing else is
+found-only : (s : List ℕ) (t : Tree (List ℕ)) → expr (suc (length s)) 0 openMost s ≡ got t [] → SpellsOnly t s
+found-only s t e =
+    let p : SpellsTree Written t s = exact openMost s t .0 e in
+    (p, λ (u : Tree (List ℕ)) q. tree-unique q p)
 
 pub all-worked : AllHold worked
-unfolding digits all any same lastIs sum firstBreak operator isLetter isDigit isSpace isWordByte isLabelByte noTwoSpaces isLabel reserved isReserved isShort depth le4 storedTree isInRange hasType apply decides evaluate rowsFit bitsAt valueIn readField readFields reading joined faultNumber readingAnswer packetOutcome manyFields
-    entryLines linesText readingLines notTimes andTimes
+unfolding digits all any same lastIs sum joined tabulate firstBreak
+    isLetter isDigit isSpace isWordByte isLabelByte noTwoSpaces isLabel reserved isReserved isShort
+    operator depth le2 le4 storedTree isInRange hasType apply decides evaluate rowsFit
+    stored storedField fieldBody headBody bitsAt valueIn readField readFields reading entryLines linesText
+    faultNumber readingAnswer packetOutcome readingLines tens units border cellText rowLines isFrame headLines cells
+    mismatch ruleBroken manyFields notTimes andTimes
+    operators after firstOf insert longestFirst order skip skipBehind operatorAt word behind scan value isNumeral
+    isNumberWord andThen leaf close inside atom step expr more
 all-worked =
     (within _ refl, refl)
     also (within _ refl, refl)
@@ -96,4 +146,48 @@ all-worked =
     also outside _ refl
     also outside _ refl
     also outside _ refl
+    also (within _ refl, refl)
+    also (within _ refl, refl)
+    also (found-only _ _ refl, refl)
+    also (found-only _ _ refl, refl)
+    also (found-only _ _ refl, refl)
+    also (found-only _ _ refl, refl)
+    also (found-only _ _ refl, refl)
+    also (found-only _ _ refl, refl)
+    also (found-only _ _ refl, refl)
+    also (found-only _ _ refl, refl)
+    also (found-only _ _ refl, refl)
+    also (found-only _ _ refl, refl)
+    also (found-only _ _ refl, refl)
+    also (found-only _ _ refl, refl)
+    also (found-only _ _ refl, refl)
+    also (found-only _ _ refl, _, refl, refl)
+    also (found-only _ _ refl, _, refl, refl)
+    also (found-only _ _ refl, _, refl, refl)
+    also (found-only _ _ refl, _, refl, refl)
+    also (found-only _ _ refl, refl)
+    also (refl, refl)
+    also (refl, refl)
+    also (refl, refl)
+    also (refl, refl)
+    also (refl, refl)
+    also (refl, refl)
+    also (refl, refl)
+    also (refl, refl)
+    also (refl, refl)
+    also (refl, refl)
+    also (refl, refl)
+    also (refl, refl)
+    also (refl, refl)
+    also (refl, refl)
+    also (refl, refl)
+    also (refl, refl)
+    also (refl, refl)
+    also (refl, refl)
+    also (refl, refl)
+    also (refl, refl)
+    also (refl, refl)
+    also (refl, refl)
+    also (refl, refl)
+    also (refl, refl)
     also tt

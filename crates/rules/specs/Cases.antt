@@ -87,10 +87,10 @@ readsTo total entries = leaves (accepted total) (written (joined numbersOf entri
 abbrev pub refusedBy : ℕ → ℕ → Outcome
 refusedBy number place = leaves (refused number place) lentRun
 
-abbrev pub named : String → String → Width ℕ → Option (Tree ℕ) → Option (Tree ℕ) → Field ℕ
+abbrev pub named : {N : Type 0} → String → String → Width N → Option (Tree N) → Option (Tree N) → Field N
 named l s w c p = record { label = bytes l; short = some (bytes s); width = w; constraint = c; condition = p }
 
-abbrev pub unnamed : String → Width ℕ → Option (Tree ℕ) → Option (Tree ℕ) → Field ℕ
+abbrev pub unnamed : {N : Type 0} → String → Width N → Option (Tree N) → Option (Tree N) → Field N
 unnamed l w c p = record { label = bytes l; short = none; width = w; constraint = c; condition = p }
 
 abbrev pub entry : ℕ → ℕ → ℕ → Entry

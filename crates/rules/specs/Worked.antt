@@ -1,14 +1,14 @@
 -- Worked cases that M1 to M10 leave open, so that no definition is hollow.
-use mathlib.Core.Bool.{Bool}
 use mathlib.Core.List.{List, [], _∷_, _++_}
 use mathlib.Core.Option.{Option, none, some}
-use Prim.Native.Nat.{ℕ, zero, suc}
+use Prim.Native.Nat.{ℕ}
 use lib.ListN.{replicate}
-use Rattle.base.specs.Bytes.{bytes, decimal}
+use Rattle.base.specs.Bytes.{bytes}
 use Rattle.rules.specs.declared.Op.the-variants.{Or, And, Eq, Ne, Lt, Le, Gt, Ge, Add, Sub, Mul}
 use Rattle.rules.specs.Trees.{Tree, num, read, two, negation}
-use Rattle.rules.specs.Fields.{Width, fixed, measured, rest, Field, Description}
+use Rattle.rules.specs.Fields.{fixed, measured, rest}
 use Rattle.rules.specs.Reading.{absent, noPart}
+use Rattle.rules.specs.Answers.{refused}
 use Rattle.rules.specs.Cases.{
   Case,
   fits,
@@ -17,6 +17,10 @@ use Rattle.rules.specs.Cases.{
   prints,
   hands,
   values,
+  faults,
+  stores,
+  breaks,
+  keeps,
   readsTo,
   refusedBy,
   named,
@@ -24,117 +28,45 @@ use Rattle.rules.specs.Cases.{
   entry,
 }
 use Rattle.rules.specs.Marked.{bladeReport, m1}
-
--- rows of 8 bits
-abbrev pub page : List (Field ℕ) → Description
-page l = record { name = bytes "Page"; rowWidth = 8; fields = l }
-
--- `F == 1`, `E == 9`
-abbrev pub isFlagged : Tree ℕ
-isFlagged = two Eq (read 0) (num 1)
-
-abbrev pub isNine : Tree ℕ
-isNine = two Eq (read 1) (num 9)
-
--- a flag, a field that is present only when the flag is 1 and must then be 9, and a third field
-abbrev pub flagged : Option (Tree ℕ) → Description
-flagged condition = page
-    (named "Flag" "F" (fixed 8) none none
-    ∷ named "Extra" "E" (fixed 8) (some isNine) (some isFlagged)
-    ∷ unnamed "Tail" (fixed 8) none condition
-    ∷ [])
-
--- a rest field between fixed ones
-abbrev pub withRest : Description
-withRest = page
-    (unnamed "Head" (fixed 8) none none ∷ unnamed "Body" rest none none ∷ unnamed "Sum" (fixed 8) none none ∷ [])
-
--- `1 - F` bits
-abbrev pub measuredPage : Description
-measuredPage = page (named "Flag" "F" (fixed 8) none none ∷ unnamed "Body" (measured 1 (two Sub (num 1) (read 0))) none none ∷ [])
-
--- every kind of field, with and without short name, constraint and condition
-abbrev pub allKinds : Description
-allKinds = record {
-  name = bytes "All Kinds-2";
-  rowWidth = 32;
-  fields =
-      named "Size" "S" (fixed 8) (some (two Lt (read 0) (num 9))) none
-      ∷ unnamed "Mark" (fixed 24) none (some (two Eq (read 0) (num 1)))
-      ∷ unnamed "Octets" (measured 8 (two Add (read 0) (num 1))) none (some (negation (two Eq (read 0) (num 0))))
-      ∷ unnamed "Bits" (measured 1 (read 0)) (some (two Lt (read 0) (num 8))) none
-      ∷ named "Rest" "R" rest none (some (two Eq (read 0) (num 2)))
-      ∷ named "Last" "Z" (fixed 32) (some (two Eq (read 5) (num 0))) none
-      ∷ [];
+use Rattle.rules.specs.Pages.{
+  page,
+  isFlagged,
+  isNine,
+  flagged,
+  withRest,
+  measuredPage,
+  allKinds,
+  manyFields,
+  m2,
+  m2Listing,
+  m3,
+  single,
+  called,
+  constrained,
+  conditioned,
+  wide,
+  oneIsOne,
+  notTimes,
+  andTimes,
+  long,
+  compared,
+  onlyFirst,
+  notLast,
+  allKindsTable,
+  allCodes,
+  allCodesTable,
 }
-
--- n fields of 8 bits, with the labels F0, F1 and so on, counted from i
-unfoldable pub manyFields : ℕ → ℕ → List (Field ℕ)
-manyFields i zero = []
-manyFields i (suc n) = record {
-  label = bytes "F" ++ decimal i;
-  short = none;
-  width = fixed 8;
-  constraint = none;
-  condition = none;
-} ∷ manyFields (suc i) n
-
-abbrev pub m2 : List ℕ
-m2 = 0x42 ∷ 0x07 ∷ 0xAA ∷ 0xBB ∷ 0x00 ∷ 0x09 ∷ []
-
-abbrev pub m2Listing : List ℕ
-m2Listing =
-    bytes "Version: 0 2 1\n"
-    ++ (bytes "On Loan: 2 1 0\n"
-    ++ (bytes "Cells: 3 5 2\n"
-    ++ (bytes "Blade: 8 8 7\n"
-    ++ (bytes "Borrower: absent\n"
-    ++ (bytes "Readings: 16 16\n"
-    ++ (bytes "Sum: 32 16 9\n"
-    ++ bytes "bits 48\n"))))))
-
-abbrev pub m3 : List ℕ
-m3 = 0x62 ∷ 0x07 ∷ 0x01 ∷ 0x2C ∷ 0xAA ∷ 0xBB ∷ 0x00 ∷ []
-
--- ── limits ──
-
-abbrev pub single : Field ℕ → Description
-single f = page (f ∷ [])
-
--- 8 bits with this label and short name
-abbrev pub called : List ℕ → Option (List ℕ) → Description
-called l s = single (record { label = l; short = s; width = fixed 8; constraint = none; condition = none })
-
--- 8 bits with this constraint; with this condition; a width
-abbrev pub constrained : Tree ℕ → Description
-constrained t = single (named "Field" "F" (fixed 8) (some t) none)
-
-abbrev pub conditioned : Tree ℕ → Description
-conditioned t = single (named "Field" "F" (fixed 8) none (some t))
-
-abbrev pub wide : ℕ → Width ℕ → Description
-wide w width = record { name = bytes "Page"; rowWidth = w; fields = unnamed "Field" width none none ∷ [] }
-
-module _ {N : Type 0} where
-  -- `1 == 1`: depth 2, 11 bytes
-  abbrev pub oneIsOne : Tree N
-  oneIsOne = two Eq (num 1) (num 1)
-
-  -- under n signs `!`: n deeper, n bytes more
-  unfoldable pub notTimes : ℕ → Tree N → Tree N
-  notTimes zero t = t
-  notTimes (suc n) t = negation (notTimes n t)
-
-  -- n more comparisons: n deeper, 12 bytes more for each
-  unfoldable pub andTimes : ℕ → Tree N → Tree N
-  andTimes zero t = t
-  andTimes (suc n) t = two And oneIsOne (andTimes n t)
-
-  -- depth 11, 119 + n bytes
-  abbrev pub long : ℕ → Tree N
-  long n = two And (notTimes n oneIsOne) (andTimes 8 oneIsOne)
-
--- ── cases ──
+use Rattle.rules.specs.Sheets.{
+  bitsOf,
+  longOf,
+  sheet,
+  plain,
+  requiring,
+  depending,
+  summed,
+  left,
+  isOne,
+}
 
 abbrev pub worked : List Case
 worked =
@@ -218,4 +150,64 @@ worked =
     ∷ exceeds (conditioned (two Eq (read 0) (num 1)))
     ∷ exceeds (constrained (two Eq (read 1) (num 1)))
     ∷ exceeds (single (unnamed "Field" (fixed 8) (some (two Eq (read 0) (num 1))) none))
+    -- tables
+    ∷ stores allKinds allKindsTable
+    ∷ stores allCodes allCodesTable
+    -- comparisons
+    ∷ values (bytes "1 < 2 && !(2 < 2) && !(3 < 2)") (onlyFirst (compared 1 Lt 2) (compared 2 Lt 2) (compared 3 Lt 2)) 1
+    ∷ values (bytes "3 > 2 && !(2 > 2) && !(1 > 2)") (onlyFirst (compared 3 Gt 2) (compared 2 Gt 2) (compared 1 Gt 2)) 1
+    ∷ values (bytes "2 == 2 && !(1 == 2) && !(3 == 2)") (onlyFirst (compared 2 Eq 2) (compared 1 Eq 2) (compared 3 Eq 2)) 1
+    ∷ values (bytes "1 <= 2 && 2 <= 2 && !(3 <= 2)") (notLast (compared 1 Le 2) (compared 2 Le 2) (compared 3 Le 2)) 1
+    ∷ values (bytes "3 >= 2 && 2 >= 2 && !(1 >= 2)") (notLast (compared 3 Ge 2) (compared 2 Ge 2) (compared 1 Ge 2)) 1
+    ∷ values (bytes "1 != 2 && 3 != 2 && !(2 != 2)") (notLast (compared 1 Ne 2) (compared 3 Ne 2) (compared 2 Ne 2)) 1
+    -- `||` is looser than `&&`, `+` than `*`, a comparison than `+`; parentheses
+    ∷ values (bytes "1==1||1==1&&1==2") (two Or (compared 1 Eq 1) (two And (compared 1 Eq 1) (compared 1 Eq 2))) 1
+    ∷ values (bytes "1==2||1==2") (two Or (compared 1 Eq 2) (compared 1 Eq 2)) 0
+    ∷ values (bytes "((2 + 3))*4") (two Mul (two Add (num 2) (num 3)) (num 4)) 20
+    ∷ values (bytes "7-(2-1)") (two Sub (num 7) (two Sub (num 2) (num 1))) 6
+    ∷ values (bytes "1+1 ==2") (two Eq (two Add (num 1) (num 1)) (num 2)) 1
+    -- a side that is skipped, and one that is not; the left operand's fault first
+    ∷ values (bytes "1==1||3-5==0") (two Or (compared 1 Eq 1) (two Eq (compared 3 Sub 5) (num 0))) 1
+    ∷ values (bytes "1==2&&3-5==0") (two And (compared 1 Eq 2) (two Eq (compared 3 Sub 5) (num 0))) 0
+    ∷ faults (bytes "1==1&&3-5==0") (two And (compared 1 Eq 1) (two Eq (compared 3 Sub 5) (num 0))) 27
+    ∷ faults (bytes "3-5+a") (two Add (compared 3 Sub 5) (read (bytes "a"))) 27
+    ∷ faults (bytes "a+(3-5)") (two Add (read (bytes "a")) (compared 3 Sub 5)) 26
+    ∷ faults (bytes "4294967295+1") (compared 4_294_967_295 Add 1) 27
+    ∷ values (bytes "4294967294 + 1") (compared 4_294_967_294 Add 1) 4_294_967_295
+    -- 6: depth, stored form; the first line has the number 9 and 2 for each row
+    ∷ breaks (sheet (bitsOf "A" ∷ []) 1) (requiring "A" (notTimes 11 oneIsOne) ∷ []) (refused 6 11)
+    ∷ breaks (sheet (bitsOf "A" ∷ bitsOf "B" ∷ []) 2) (plain "A" ∷ depending "B" (long 2) ∷ []) (refused 6 14)
+    -- 7: another name, order, width or kind of row; cells that remain; a line without a cell
+    ∷ breaks (sheet (bitsOf "A" ∷ bitsOf "B" ∷ []) 2) (plain "A" ∷ plain "C" ∷ []) (refused 7 14)
+    ∷ breaks (sheet (bitsOf "A" ∷ bitsOf "B" ∷ []) 2) (plain "B" ∷ plain "A" ∷ []) (refused 7 13)
+    ∷ breaks (sheet (bitsOf "A" ∷ []) 1) (unnamed "A" (fixed 4) none none ∷ []) (refused 7 11)
+    ∷ breaks (sheet (bitsOf "A" ∷ []) 1) (left "A" ∷ []) (refused 7 11)
+    ∷ breaks (sheet (bitsOf "A" ∷ []) 1) (summed "A" "X" ∷ []) (refused 7 11)
+    ∷ breaks (sheet (longOf "A" ∷ []) 1) (plain "A" ∷ []) (refused 7 11)
+    ∷ breaks (sheet (bitsOf "A" ∷ bitsOf "B" ∷ []) 1) (plain "A" ∷ []) (refused 7 14)
+    ∷ breaks (sheet (bitsOf "A" ∷ []) 2) (plain "A" ∷ plain "B" ∷ []) (refused 7 12)
+    -- 8: label, short name
+    ∷ breaks (sheet (bitsOf "A" ∷ bitsOf "B" ∷ bitsOf "A" ∷ []) 3) (plain "A" ∷ plain "B" ∷ plain "A" ∷ []) (refused 8 17)
+    ∷ breaks (sheet (longOf "A" ∷ longOf "X" ∷ []) 2) (summed "A" "X" ∷ summed "B" "X" ∷ []) (refused 8 14)
+    -- 9: a name that is unknown, not earlier, not fixed, a label; a condition that reads its own field; wrong type
+    ∷ breaks (sheet (bitsOf "A" ∷ []) 1) (requiring "A" (isOne "X") ∷ []) (refused 9 11)
+    ∷ breaks (sheet (bitsOf "A" ∷ bitsOf "B" ∷ []) 2)
+    (requiring "A" (isOne "X") ∷ named "B" "X" (fixed 8) none none ∷ [])
+    (refused 9 13)
+    ∷ breaks (sheet (longOf "A" ∷ bitsOf "B" ∷ []) 2) (summed "A" "X" ∷ requiring "B" (isOne "X") ∷ []) (refused 9 14)
+    ∷ breaks (sheet (bitsOf "A" ∷ []) 1) (requiring "A" (isOne "A") ∷ []) (refused 9 11)
+    ∷ breaks (sheet (bitsOf "A" ∷ []) 1) (named "A" "X" (fixed 8) none (some (isOne "X")) ∷ []) (refused 9 11)
+    ∷ breaks (sheet (bitsOf "A" ∷ []) 1) (requiring "A" (num 1) ∷ []) (refused 9 11)
+    -- 10: a second rest field, a measured one after it, a condition after it
+    ∷ breaks (sheet (longOf "A" ∷ longOf "B" ∷ []) 2) (left "A" ∷ left "B" ∷ []) (refused 10 14)
+    ∷ breaks (sheet (longOf "A" ∷ longOf "B" ∷ []) 2) (left "A" ∷ summed "B" "X" ∷ []) (refused 10 14)
+    ∷ breaks (sheet (longOf "A" ∷ bitsOf "B" ∷ []) 2) (left "A" ∷ depending "B" oneIsOne ∷ []) (refused 10 14)
+    -- the lower number wins though its line is later
+    ∷ breaks (sheet (bitsOf "A" ∷ bitsOf "B" ∷ bitsOf "B" ∷ []) 3)
+    (requiring "A" (isOne "X") ∷ plain "B" ∷ plain "B" ∷ [])
+    (refused 8 17)
+    ∷ breaks (sheet (bitsOf "A" ∷ bitsOf "C" ∷ []) 2) (requiring "A" (isOne "X") ∷ plain "B" ∷ []) (refused 7 14)
+    -- a short name may be another field's label, and a cell may show either
+    ∷ keeps (sheet (longOf "A" ∷ bitsOf "B" ∷ bitsOf "Y" ∷ []) 3)
+    (left "A" ∷ named "X" "B" (fixed 8) (some (isOne "B")) none ∷ named "Y" "X" (fixed 8) (some (isOne "B")) none ∷ [])
     ∷ []

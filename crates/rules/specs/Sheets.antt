@@ -1,0 +1,51 @@
+-- Frames of 8 bits a row, and forms of their lines, for the worked cases.
+use mathlib.Core.Bool.{Bool, false}
+use mathlib.Core.List.{List, [], _∷_}
+use mathlib.Core.Option.{Option, none, some}
+use Prim.Native.Nat.{ℕ}
+use Prim.Native.String.{String}
+use lib.ListN.{replicate}
+use Rattle.base.specs.Bytes.{bytes}
+use Rattle.rules.specs.declared.Op.the-variants.{Eq, Add}
+use Rattle.rules.specs.Trees.{Tree, num, read, two}
+use Rattle.rules.specs.Fields.{Width, fixed, measured, rest, Form}
+use Rattle.rules.specs.Frames.{Row, bitRow, longRow, Frame}
+use Rattle.rules.specs.Cases.{unnamed, named}
+
+-- a bit row and a long row that show one letter
+abbrev pub bitsOf : String → Row
+bitsOf l = bitRow (record { bits = 8; before = 7; text = bytes l; behind = 7 } ∷ [])
+
+abbrev pub longOf : String → Row
+longOf l = longRow (record { bits = 8; before = 7; text = bytes l; behind = 7 })
+
+-- rows, and n lines
+abbrev pub sheet : List Row → ℕ → Frame
+sheet rows n = record {
+  an = false;
+  name = bytes "Sheet";
+  rowWidth = 8;
+  rows = rows;
+  lines = replicate n (bytes "line");
+}
+
+-- 8 bits; with a constraint; with a condition
+abbrev pub plain : String → Form
+plain l = unnamed l (fixed 8) none none
+
+abbrev pub requiring : String → Tree (List ℕ) → Form
+requiring l t = unnamed l (fixed 8) (some t) none
+
+abbrev pub depending : String → Tree (List ℕ) → Form
+depending l t = unnamed l (fixed 8) none (some t)
+
+-- as many bytes as a sum says; what is left
+abbrev pub summed : String → String → Form
+summed l s = named l s (measured 8 (two Add (num 1) (num 1))) none none
+
+abbrev pub left : String → Form
+left l = unnamed l rest none none
+
+-- `w == 1`
+abbrev pub isOne : String → Tree (List ℕ)
+isOne w = two Eq (read (bytes w)) (num 1)
