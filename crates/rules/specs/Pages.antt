@@ -171,3 +171,82 @@ allCodesTable =
     ∷ 0x01 ∷ 0x01 ∷ 0x00 ∷ 0x00 ∷ 0x00 ∷ 0x32 ∷ 0x30 ∷ 0x24 ∷ 0x02 ∷ 0x00 ∷ 0x01 ∷ 0x01 ∷ 0x00 ∷ 0x00 ∷ 0x00 ∷ 0x25
     ∷ 0x02 ∷ 0x00 ∷ 0x01 ∷ 0x01 ∷ 0x00 ∷ 0x00 ∷ 0x00 ∷ 0x00 ∷ 0x00
     ∷ 0x04 ∷ 0x00 ∷ 0x05 ∷ 0x00 ∷ []
+
+-- ── texts ──
+
+-- the blade report, with rulers and borders
+abbrev pub bladeText : List ℕ
+bladeText =
+    bytes "A Blade Report is formatted as follows:\n"
+    ++ (bytes "\n"
+    ++ (bytes " 0                   1\n"
+    ++ (bytes " 0 1 2 3 4 5 6 7 8 9 0 1 2 3 4 5\n"
+    ++ (bytes "+-+-+-+-+-+-+-+-+-+-+-+-+-+-+-+-+\n"
+    ++ (bytes "| V |L|  Cells  |     Blade     |\n"
+    ++ (bytes "+-+-+-+-+-+-+-+-+-+-+-+-+-+-+-+-+\n"
+    ++ (bytes "|           Borrower            |\n"
+    ++ (bytes "+-+-+-+-+-+-+-+-+-+-+-+-+-+-+-+-+\n"
+    ++ (bytes ":            Readings           :\n"
+    ++ (bytes "+-+-+-+-+-+-+-+-+-+-+-+-+-+-+-+-+\n"
+    ++ (bytes "|             Sum               |\n"
+    ++ (bytes "+-+-+-+-+-+-+-+-+-+-+-+-+-+-+-+-+\n"
+    ++ (bytes "\n"
+    ++ (bytes "where:\n"
+    ++ (bytes "\n"
+    ++ (bytes "Version (V): 2 bits; V == 1.\n"
+    ++ (bytes "On Loan (L): 1 bit.\n"
+    ++ (bytes "Cells (N): 5 bits; N <= 20.\n"
+    ++ (bytes "Blade: 1 byte.\n"
+    ++ (bytes "Borrower (Bor): 2 bytes; present only when L == 1.\n"
+    ++ (bytes "Readings: N bytes.\n"
+    ++ bytes "Sum: 2 bytes.\n")))))))))))))))))))))
+
+-- a text that takes every freedom of spelling
+abbrev pub freeText : List ℕ
+freeText =
+    bytes "An X-25 Frame is formatted as follows:\n"
+    ++ (bytes "\n"
+    ++ (bytes " 0                   1                   2                   3\n"
+    ++ (bytes " 0 1 2 3 4 5 6 7 8 9 0 1 2 3 4 5 6 7 8 9 0 1 2 3 4 5 6 7 8 9 0 1\n"
+    ++ (bytes "+-+-+-+-+-+-+-+-+-+-+-+-+-+-+-+-+-+-+-+-+-+-+-+-+-+-+-+-+-+-+-+-+\n"
+    ++ (bytes "|F|Size         |              K|             Mark              |\n"
+    ++ (bytes "+-+-+-+-+-+-+-+-+-+-+-+-+-+-+-+-+-+-+-+-+-+-+-+-+-+-+-+-+-+-+-+-+\n"
+    ++ (bytes ":                            Octets                             :\n"
+    ++ (bytes "+-+-+-+-+-+-+-+-+-+-+-+-+-+-+-+-+-+-+-+-+-+-+-+-+-+-+-+-+-+-+-+-+\n"
+    ++ (bytes ":                             Bits                              :\n"
+    ++ (bytes "+-+-+-+-+-+-+-+-+-+-+-+-+-+-+-+-+-+-+-+-+-+-+-+-+-+-+-+-+-+-+-+-+\n"
+    ++ (bytes ":                               R                               :\n"
+    ++ (bytes "+-+-+-+-+-+-+-+-+-+-+-+-+-+-+-+-+-+-+-+-+-+-+-+-+-+-+-+-+-+-+-+-+\n"
+    ++ (bytes "|Last                                                           |\n"
+    ++ (bytes "+-+-+-+-+-+-+-+-+-+-+-+-+-+-+-+-+-+-+-+-+-+-+-+-+-+-+-+-+-+-+-+-+\n"
+    ++ (bytes "\n"
+    ++ (bytes "where:\n"
+    ++ (bytes "\n"
+    ++ (bytes "Flag (F): 1 bit.\n"
+    ++ (bytes "Size (S): 7 bits; (S)<100.\n"
+    ++ (bytes "Kind (K): 1 byte; S ==3 && !(F== 1)||K != 0. A remark: (any) signs; 2nd.\n"
+    ++ (bytes "Mark: 2 bytes. \n"
+    ++ (bytes "Octets: ((S +1)* 2) - 1 bytes; present only when F == 1 && S<9||(S>2).\n"
+    ++ (bytes "Bits: S bit.\n"
+    ++ (bytes "Rest (R): variable; F>=0 && S<=127; present only when !((F == 0)).\n"
+    ++ bytes "Last (Z): ((32)) bits; 10-2 - 1 >=Z.\n"))))))))))))))))))))))))
+
+abbrev pub freePage : Description
+freePage = record {
+  name = bytes "X-25 Frame";
+  rowWidth = 32;
+  fields =
+      named "Flag" "F" (fixed 1) none none
+      ∷ named "Size" "S" (fixed 7) (some (two Lt (read 1) (num 100))) none
+      ∷ named "Kind" "K" (fixed 8)
+      (some (two Or (two And (two Eq (read 1) (num 3)) (negation (two Eq (read 0) (num 1)))) (two Ne (read 2) (num 0))))
+      none
+      ∷ unnamed "Mark" (fixed 16) none none
+      ∷ unnamed "Octets" (measured 8 (two Sub (two Mul (two Add (read 1) (num 1)) (num 2)) (num 1))) none
+      (some (two Or (two And (two Eq (read 0) (num 1)) (two Lt (read 1) (num 9))) (two Gt (read 1) (num 2))))
+      ∷ unnamed "Bits" (measured 1 (read 1)) none none
+      ∷ named "Rest" "R" rest (some (two And (two Ge (read 0) (num 0)) (two Le (read 1) (num 127))))
+      (some (negation (two Eq (read 0) (num 0))))
+      ∷ named "Last" "Z" (fixed 32) (some (two Ge (two Sub (two Sub (num 10) (num 2)) (num 1)) (read 7))) none
+      ∷ [];
+}
