@@ -18,5 +18,6 @@ pub mod Written
 pub mod TagText
 pub mod BladeText
 pub mod FreePage
+pub mod Refused
 pub mod Worked
 pub mod Marked

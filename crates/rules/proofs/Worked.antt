@@ -62,6 +62,20 @@ use Rattle.rules.specs.Pages.{manyFields, notTimes, andTimes}
 use Rattle.rules.specs.Worked.{worked}
 use Rattle.rules.proofs.Limits.{within, outside}
 use Rattle.rules.proofs.Written.{_also_}
+use Rattle.rules.proofs.BladeText.{blade-spelled}
+use Rattle.rules.proofs.FreePage.{free-spelled}
+use Rattle.rules.proofs.Refused.{
+  too-long,
+  long-enough,
+  bad-byte,
+  empty-refused,
+  other-article,
+  unended-refused,
+  too-many,
+  not-too-many,
+  empty-line,
+  no-full-stop,
+}
 use Rattle.rules.proofs.ReaderUnique.{tree-unique}
 use Rattle.rules.proofs.ReaderExact.{exact}
 
@@ -190,4 +204,16 @@ all-worked =
     also (refl, refl)
     also (refl, refl)
     also (refl, refl)
+    also blade-spelled
+    also free-spelled
+    also too-long
+    also long-enough
+    also bad-byte
+    also empty-refused
+    also other-article
+    also unended-refused
+    also too-many
+    also not-too-many
+    also empty-line
+    also no-full-stop
     also tt

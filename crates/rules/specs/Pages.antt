@@ -2,7 +2,9 @@
 use mathlib.Core.List.{List, [], _∷_, _++_}
 use mathlib.Core.Option.{Option, none, some}
 use Prim.Native.Nat.{ℕ, zero, suc}
+use lib.ListN.{replicate}
 use Rattle.base.specs.Bytes.{bytes, decimal}
+use Rattle.base.specs.Lists.{joined}
 use Rattle.rules.specs.declared.Op.{Op}
 use Rattle.rules.specs.declared.Op.the-variants.{Or, And, Eq, Ne, Lt, Le, Gt, Ge, Add, Sub, Mul}
 use Rattle.rules.specs.Trees.{Tree, num, read, two, negation}
@@ -250,3 +252,25 @@ freePage = record {
       ∷ named "Last" "Z" (fixed 32) (some (two Ge (two Sub (two Sub (num 10) (num 2)) (num 1)) (read 7))) none
       ∷ [];
 }
+
+-- the Tag text up to its field lines
+abbrev pub tagHead : List ℕ
+tagHead =
+    bytes "A Tag is formatted as follows:\n"
+    ++ (bytes "\n"
+    ++ (bytes " 0\n"
+    ++ (bytes " 0 1 2 3 4 5 6 7\n"
+    ++ (bytes "+-+-+-+-+-+-+-+-+\n"
+    ++ (bytes "|       K       |\n"
+    ++ (bytes "+-+-+-+-+-+-+-+-+\n"
+    ++ (bytes "\n"
+    ++ (bytes "where:\n"
+    ++ bytes "\n"))))))))
+
+-- n lines behind it
+abbrev pub tagLines : ℕ → List ℕ
+tagLines n = tagHead ++ joined bytes (replicate n "Kind (K): 1 byte; K == 7.\n")
+
+-- without the last LF
+abbrev pub tagUnended : List ℕ
+tagUnended = tagHead ++ bytes "Kind (K): 1 byte; K == 7."

@@ -18,9 +18,11 @@ use Rattle.rules.specs.Cases.{
   hands,
   values,
   faults,
+  spells,
   stores,
   breaks,
   keeps,
+  refuses,
   readsTo,
   refusedBy,
   named,
@@ -55,6 +57,12 @@ use Rattle.rules.specs.Pages.{
   allKindsTable,
   allCodes,
   allCodesTable,
+  bladeText,
+  freeText,
+  freePage,
+  tagHead,
+  tagLines,
+  tagUnended,
 }
 use Rattle.rules.specs.Sheets.{
   bitsOf,
@@ -210,4 +218,21 @@ worked =
     -- a short name may be another field's label, and a cell may show either
     ∷ keeps (sheet (longOf "A" ∷ bitsOf "B" ∷ bitsOf "Y" ∷ []) 3)
     (left "A" ∷ named "X" "B" (fixed 8) (some (isOne "B")) none ∷ named "Y" "X" (fixed 8) (some (isOne "B")) none ∷ [])
+    -- texts with and without freedoms
+    ∷ spells bladeText bladeReport
+    ∷ spells freeText freePage
+    -- 1 and its limit, 2
+    ∷ refuses (replicate 16385 10) (refused 1 0)
+    ∷ refuses (replicate 16384 10) (refused 3 1)
+    ∷ refuses (tagLines 1 ++ (0x7F ∷ [])) (refused 2 0)
+    -- 3: no line, a wrong line, no last LF
+    ∷ refuses [] (refused 3 1)
+    ∷ refuses (bytes "The Tag is formatted as follows:\n") (refused 3 1)
+    ∷ refuses tagUnended (refused 3 11)
+    -- 4 and its limit
+    ∷ refuses (tagLines 65) (refused 4 0)
+    ∷ refuses (tagLines 64) (refused 7 12)
+    -- 5: a line that is empty, one without its period
+    ∷ refuses (tagLines 1 ++ bytes "\n") (refused 5 12)
+    ∷ refuses (tagHead ++ bytes "Kind (K): 1 byte; K == 7\n") (refused 5 11)
     ∷ []
