@@ -1,6 +1,7 @@
 -- Each worked case holds: the definitions compute it.
-use mathlib.Core.Path.{_≡_, refl}
-use mathlib.Core.List.{List, []}
+use mathlib.Core.Path.{_≡_, refl, ap, sym, _∙_}
+use mathlib.Core.Bool.{Bool, true, false, false≢true}
+use mathlib.Core.List.{List, [], _∷_}
 use Prim.Native.Nat.{ℕ, suc}
 use lib.ListN.{length}
 use Rattle.base.specs.Bytes.{digits}
@@ -48,6 +49,8 @@ use Rattle.rules.specs.Reader.{
   value,
   isNumeral,
   isNumberWord,
+  Out,
+  fail,
   got,
   andThen,
   leaf,
@@ -76,7 +79,7 @@ use Rattle.rules.proofs.Refused.{
   empty-line,
   no-full-stop,
 }
-use Rattle.rules.proofs.ReaderUnique.{tree-unique}
+use Rattle.rules.proofs.ReaderUnique.{tree-unique, found-whole}
 use Rattle.rules.proofs.ReaderExact.{exact}
 
 -- what the reader finds in a text is spelled by it, and nothing else is
@@ -84,6 +87,16 @@ found-only : (s : List ℕ) (t : Tree (List ℕ)) → expr (suc (length s)) 0 op
 found-only s t e =
     let p : SpellsTree Written t s = exact openMost s t .0 e in
     (p, λ (u : Tree (List ℕ)) q. tree-unique q p)
+
+-- where the reader finds no whole tree, none is spelled
+abbrev isWholeTree : Out → Bool
+isWholeTree fail = false
+isWholeTree (got t []) = true
+isWholeTree (got t (b ∷ r)) = false
+
+none-found : (s : List ℕ) → isWholeTree (expr (suc (length s)) 0 openMost s) ≡ false
+    → (u : Tree (List ℕ)) → SpellsTree Written u s → ⊥
+none-found s e u q = false≢true (sym e ∙ ap isWholeTree (found-whole q))
 
 pub all-worked : AllHold worked
 unfolding digits all any same lastIs sum joined tabulate firstBreak
@@ -123,29 +136,14 @@ all-worked =
     also outside _ refl
     also within _ refl
     also outside _ refl
-    also within _ refl
-    also outside _ refl
-    also within _ refl
-    also outside _ refl
-    also within _ refl
     also outside _ refl
     also outside _ refl
     also within _ refl
     also outside _ refl
-    also outside _ refl
-    also outside _ refl
-    also outside _ refl
-    also outside _ refl
-    also outside _ refl
-    also outside _ refl
-    also outside _ refl
-    also outside _ refl
-    also outside _ refl
     also within _ refl
     also outside _ refl
     also outside _ refl
-    also outside _ refl
-    also outside _ refl
+    also within _ refl
     also outside _ refl
     also outside _ refl
     also within _ refl
@@ -156,7 +154,35 @@ all-worked =
     also outside _ refl
     also outside _ refl
     also outside _ refl
+    also outside _ refl
+    also outside _ refl
+    also outside _ refl
+    also outside _ refl
+    also outside _ refl
+    also outside _ refl
+    also outside _ refl
     also within _ refl
+    also outside _ refl
+    also outside _ refl
+    also outside _ refl
+    also outside _ refl
+    also outside _ refl
+    also outside _ refl
+    also outside _ refl
+    also outside _ refl
+    also outside _ refl
+    also within _ refl
+    also outside _ refl
+    also outside _ refl
+    also outside _ refl
+    also outside _ refl
+    also outside _ refl
+    also outside _ refl
+    also outside _ refl
+    also outside _ refl
+    also outside _ refl
+    also within _ refl
+    also outside _ refl
     also outside _ refl
     also outside _ refl
     also outside _ refl
@@ -173,6 +199,33 @@ all-worked =
     also (found-only _ _ refl, refl)
     also (found-only _ _ refl, refl)
     also (found-only _ _ refl, refl)
+    also (found-only _ _ refl, refl)
+    also (found-only _ _ refl, refl)
+    also (found-only _ _ refl, refl)
+    also (found-only _ _ refl, refl)
+    also none-found _ refl
+    also none-found _ refl
+    also none-found _ refl
+    also none-found _ refl
+    also none-found _ refl
+    also none-found _ refl
+    also none-found _ refl
+    also none-found _ refl
+    also none-found _ refl
+    also none-found _ refl
+    also none-found _ refl
+    also none-found _ refl
+    also none-found _ refl
+    also none-found _ refl
+    also none-found _ refl
+    also none-found _ refl
+    also none-found _ refl
+    also none-found _ refl
+    also none-found _ refl
+    also none-found _ refl
+    also none-found _ refl
+    also none-found _ refl
+    also none-found _ refl
     also (found-only _ _ refl, refl)
     also (found-only _ _ refl, refl)
     also (found-only _ _ refl, _, refl, refl)

@@ -38,6 +38,8 @@ pub data Case : Type 0 where
   values : List ℕ → Tree (List ℕ) → ℕ → Case
   -- or its fault has this number
   faults : List ℕ → Tree (List ℕ) → ℕ → Case
+  -- a text spells no tree
+  unspelled : List ℕ → Case
   -- a text spells a description
   spells : List ℕ → Description → Case
   -- a description is within the limits and has this table
@@ -68,6 +70,7 @@ Holds (prints d packet text) = Within d × (listing d packet ≡ text)
 Holds (hands d packet i part) = Within d × (partIn (reading d packet) i ≡ part)
 Holds (values s t n) = SpellsOnly t s × (evaluate noFields t ≡ value n)
 Holds (faults s t n) = SpellsOnly t s × (f : Fault) × (evaluate noFields t ≡ fault f) × (faultNumber f ≡ n)
+Holds (unspelled s) = (u : Tree (List ℕ)) → SpellsTree Written u s → ⊥
 Holds (spells text d) = Spells text d
 Holds (stores d table) = Within d × (stored d ≡ table)
 Holds (breaks f forms a) = (isFrame f ≡ true) × (ruleBroken f forms ≡ some a)

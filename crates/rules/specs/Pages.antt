@@ -101,6 +101,16 @@ conditioned t = single (named "Field" "F" (fixed 8) none (some t))
 abbrev pub wide : ℕ → Width ℕ → Description
 wide w width = record { name = bytes "Page"; rowWidth = w; fields = unnamed "Field" width none none ∷ [] }
 
+-- between 4 bits and 4 bits
+abbrev pub amid : Width ℕ → Description
+amid width = page
+    (unnamed "Head" (fixed 4) none none ∷ unnamed "Body" width none none ∷ unnamed "Sum" (fixed 4) none none ∷ [])
+
+-- a measured field of the short name B, and a constraint behind it
+abbrev pub afterBody : Tree ℕ → Description
+afterBody t = page
+    (named "Body" "B" (measured 8 (two Add (num 1) (num 1))) none none ∷ unnamed "Sum" (fixed 8) (some t) none ∷ [])
+
 module _ {N : Type 0} where
   -- `1 == 1`: depth 2, 11 bytes
   abbrev pub oneIsOne : Tree N

@@ -18,6 +18,7 @@ use Rattle.rules.specs.Cases.{
   hands,
   values,
   faults,
+  unspelled,
   spells,
   stores,
   breaks,
@@ -47,6 +48,8 @@ use Rattle.rules.specs.Pages.{
   constrained,
   conditioned,
   wide,
+  amid,
+  afterBody,
   oneIsOne,
   notTimes,
   andTimes,
@@ -117,10 +120,13 @@ worked =
     -- depth and stored form of a tree, and its numbers
     ∷ fits (constrained (notTimes 10 oneIsOne))
     ∷ exceeds (constrained (notTimes 11 oneIsOne))
+    ∷ exceeds (constrained (two And oneIsOne (notTimes 10 oneIsOne)))
+    ∷ exceeds (constrained (two And (notTimes 10 oneIsOne) oneIsOne))
     ∷ fits (constrained (long 1))
     ∷ exceeds (constrained (long 2))
     ∷ fits (constrained (two Eq (num 1) (num 4_294_967_295)))
     ∷ exceeds (constrained (two Eq (num 1) (num 4_294_967_296)))
+    ∷ exceeds (constrained (negation (two Eq (num 4_294_967_296) (num 1))))
     -- labels and short names
     ∷ fits (called (replicate 40 97) (some (replicate 8 97)))
     ∷ exceeds (called (replicate 41 97) none)
@@ -135,6 +141,10 @@ worked =
     ∷ exceeds (called (bytes "a") (some (bytes "2a")))
     ∷ exceeds (called (bytes "a") (some (bytes "a b")))
     ∷ exceeds (called (bytes "a") (some (bytes "bit")))
+    ∷ exceeds (called (bytes "a") (some (bytes "bits")))
+    ∷ exceeds (called (bytes "a") (some (bytes "byte")))
+    ∷ exceeds (called (bytes "a") (some (bytes "bytes")))
+    ∷ exceeds (called (bytes "a") (some (bytes "variable")))
     ∷ exceeds (called (bytes "a") (some (bytes "present")))
     -- widths and rows
     ∷ fits (wide 32 (fixed 32))
@@ -142,6 +152,9 @@ worked =
     ∷ exceeds (wide 24 (fixed 24))
     ∷ exceeds (wide 16 (fixed 8))
     ∷ exceeds (wide 8 (fixed 16))
+    ∷ exceeds (amid (fixed 8))
+    ∷ exceeds (amid rest)
+    ∷ exceeds (amid (measured 8 (two Add (num 1) (num 1))))
     ∷ exceeds (wide 8 (fixed 0))
     ∷ exceeds (wide 8 (measured 8 (num 1)))
     ∷ fits (wide 8 (measured 8 (two Add (num 1) (num 1))))
@@ -152,12 +165,15 @@ worked =
     ∷ exceeds (conditioned (num 1))
     ∷ exceeds (constrained (negation (num 1)))
     ∷ exceeds (constrained (two Eq oneIsOne (num 1)))
+    ∷ exceeds (constrained (two Eq (num 1) (negation oneIsOne)))
     ∷ exceeds (constrained (two And (num 1) oneIsOne))
-    -- its own field is read by a constraint and not by a condition; no later one, none without a short name
+    ∷ exceeds (constrained (two Or oneIsOne (read 0)))
+    -- its own field is read by a constraint and not by a condition; no later one, none without a short name, no long one
     ∷ fits (constrained (two Eq (read 0) (num 1)))
     ∷ exceeds (conditioned (two Eq (read 0) (num 1)))
     ∷ exceeds (constrained (two Eq (read 1) (num 1)))
     ∷ exceeds (single (unnamed "Field" (fixed 8) (some (two Eq (read 0) (num 1))) none))
+    ∷ exceeds (afterBody (two Eq (read 0) (num 1)))
     -- tables
     ∷ stores allKinds allKindsTable
     ∷ stores allCodes allCodesTable
@@ -171,9 +187,39 @@ worked =
     -- `||` is looser than `&&`, `+` than `*`, a comparison than `+`; parentheses
     ∷ values (bytes "1==1||1==1&&1==2") (two Or (compared 1 Eq 1) (two And (compared 1 Eq 1) (compared 1 Eq 2))) 1
     ∷ values (bytes "1==2||1==2") (two Or (compared 1 Eq 2) (compared 1 Eq 2)) 0
+    ∷ values (bytes "1==2||1==2||1==1") (two Or (two Or (compared 1 Eq 2) (compared 1 Eq 2)) (compared 1 Eq 1)) 1
+    ∷ values (bytes "2*3*4") (two Mul (two Mul (num 2) (num 3)) (num 4)) 24
+    ∷ values (bytes "3-3") (compared 3 Sub 3) 0
     ∷ values (bytes "((2 + 3))*4") (two Mul (two Add (num 2) (num 3)) (num 4)) 20
     ∷ values (bytes "7-(2-1)") (two Sub (num 7) (two Sub (num 2) (num 1))) 6
     ∷ values (bytes "1+1 ==2") (two Eq (two Add (num 1) (num 1)) (num 2)) 1
+    -- 12 parentheses open at once, and 13
+    ∷ values (bytes "((((((((((((7))))))))))))") (num 7) 7
+    ∷ unspelled (bytes "(((((((((((((7)))))))))))))")
+    ∷ unspelled (bytes "!(((((((((((((1==1)))))))))))))")
+    -- a comparison groups to neither side
+    ∷ unspelled (bytes "1==1==1")
+    ∷ unspelled (bytes "1!=1!=1")
+    ∷ unspelled (bytes "1<1<1")
+    ∷ unspelled (bytes "1<=1<=1")
+    ∷ unspelled (bytes "1>1>1")
+    ∷ unspelled (bytes "1>=1>=1")
+    -- spaces stand singly beside a two-sided operator; numbers and names have their form
+    ∷ unspelled (bytes "1  +1")
+    ∷ unspelled (bytes "1+  1")
+    ∷ unspelled (bytes "( 1)")
+    ∷ unspelled (bytes "! (1==1)")
+    ∷ unspelled (bytes " 1")
+    ∷ unspelled (bytes "1 ")
+    ∷ unspelled (bytes "!a")
+    ∷ unspelled (bytes "()")
+    ∷ unspelled (bytes "1+")
+    ∷ unspelled []
+    ∷ unspelled (bytes "01")
+    ∷ unspelled (bytes "4294967296")
+    ∷ unspelled (bytes "1a")
+    ∷ unspelled (bytes "byte")
+    ∷ unspelled (bytes "abcdefghi")
     -- a side that is skipped, and one that is not; the left operand's fault first
     ∷ values (bytes "1==1||3-5==0") (two Or (compared 1 Eq 1) (two Eq (compared 3 Sub 5) (num 0))) 1
     ∷ values (bytes "1==2&&3-5==0") (two And (compared 1 Eq 2) (two Eq (compared 3 Sub 5) (num 0))) 0
