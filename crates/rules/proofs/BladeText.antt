@@ -73,10 +73,9 @@ frame = record {
 }
 
 pub blade-spelled : Spells bladeText bladeReport
-unfolding digits all any same lastIs sum joined tabulate firstBreak operator
-    isLetter isDigit isSpace isPrintable isWordByte isLabelByte noTwoSpaces isLabel reserved isReserved isShort
-    depth le4 storedTree isInRange hasType rowsFit tens units border cellText rowLines isFrame headLines frameText cells
-    frame
+unfolding digits all any same lastIs sum joined tabulate firstBreak operator isLetter isDigit isSpace
+    isPrintable isWordByte isLabelByte noTwoSpaces isLabel reserved isReserved isShort depth le4 storedTree
+    isInRange hasType rowsFit tens units border cellText rowLines isFrame headLines frameText cells frame
 blade-spelled = record {
   within = within bladeReport refl;
   frame = frame;
@@ -89,15 +88,18 @@ blade-spelled = record {
       (bytes "V == 1", refl, operated (bytes "V") true Eq true (bytes "1") tt (field (_, refl, refl)) (numeral 1 tt))
       refl (inl refl)
       also line-of _ (bytes "1 bit") [] [] [] refl (fixed-as 1 tt bit-word) refl refl (inl refl)
-      also line-of _ (bytes "5 bits") (bytes "; N <= 20") [] [] refl (fixed-as 5 tt bits-word)
-      (bytes "N <= 20", refl, operated (bytes "N") true Le true (bytes "20") tt (field (_, refl, refl)) (numeral 20 tt))
+      also line-of _ (bytes "5 bits") (bytes "; N <= 20") [] [] refl (fixed-as 5 tt bits-word) (
+        bytes "N <= 20",
+        refl,
+        operated (bytes "N") true Le true (bytes "20") tt (field (_, refl, refl)) (numeral 20 tt),
+      )
       refl (inl refl)
       also line-of _ (bytes "1 byte") [] [] [] refl (fixed-as 1 tt byte-word) refl refl (inl refl)
       also line-of _ (bytes "2 bytes") [] (bytes "; present only when L == 1") [] refl (fixed-as 2 tt bytes-word) refl
       (bytes "L == 1", refl, operated (bytes "L") true Eq true (bytes "1") tt (field (_, refl, refl)) (numeral 1 tt))
       (inl refl)
-      also line-of _ (bytes "N bytes") [] [] [] refl (measured-as (bytes "N") (field (_, refl, refl)) bytes-word) refl refl
-      (inl refl)
+      also line-of _ (bytes "N bytes") [] [] [] refl (measured-as (bytes "N") (field (_, refl, refl)) bytes-word)
+      refl refl (inl refl)
       also line-of _ (bytes "2 bytes") [] [] [] refl (fixed-as 2 tt bytes-word) refl refl (inl refl)
       also tt;
 }

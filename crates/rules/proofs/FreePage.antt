@@ -87,7 +87,8 @@ Says t s = SpellsTree (NameOf (freePage .fields)) t s
 
 below-hundred : Says (two Lt (read 1) (num 100)) (bytes "(S)<100")
 unfolding digits operator any same
-below-hundred = operated (bytes "(S)") false Lt false (bytes "100") tt (enclosed (bytes "S") (field (_, refl, refl))) (numeral 100 tt)
+below-hundred = operated (bytes "(S)") false Lt false (bytes "100") tt
+    (enclosed (bytes "S") (field (_, refl, refl))) (numeral 100 tt)
 
 either : Says
     (two Or (two And (two Eq (read 1) (num 3)) (negation (two Eq (read 0) (num 1)))) (two Ne (read 2) (num 0)))
@@ -146,10 +147,9 @@ unfolding digits
 thirty-two = enclosed (bytes "(32)") (enclosed (bytes "32") (numeral 32 tt))
 
 pub free-spelled : Spells freeText freePage
-unfolding digits all any same lastIs sum joined tabulate firstBreak operator
-    isLetter isDigit isSpace isPrintable isWordByte isLabelByte noTwoSpaces isLabel reserved isReserved isShort
-    depth le4 storedTree isInRange hasType rowsFit tens units border cellText rowLines isFrame headLines frameText cells
-    frame
+unfolding digits all any same lastIs sum joined tabulate firstBreak operator isLetter isDigit isSpace
+    isPrintable isWordByte isLabelByte noTwoSpaces isLabel reserved isReserved isShort depth le4 storedTree
+    isInRange hasType rowsFit tens units border cellText rowLines isFrame headLines frameText cells frame
 free-spelled = record {
   within = within freePage refl;
   frame = frame;
@@ -170,8 +170,8 @@ free-spelled = record {
       (measured-as (bytes "((S +1)* 2) - 1") twice bytes-word) refl (_, refl, flagged-or-large) (inl refl)
       also line-of _ (bytes "S bit") [] [] [] refl (measured-as (bytes "S") (field (_, refl, refl)) bit-word) refl refl
       (inl refl)
-      also line-of _ (bytes "variable") (bytes "; F>=0 && S<=127") (bytes "; present only when !((F == 0))") [] refl refl
-      (_, refl, both) (_, refl, not-none) (inl refl)
+      also line-of _ (bytes "variable") (bytes "; F>=0 && S<=127") (bytes "; present only when !((F == 0))") []
+      refl refl (_, refl, both) (_, refl, not-none) (inl refl)
       also line-of _ (bytes "((32)) bits") (bytes "; 10-2 - 1 >=Z") [] [] refl
       (1, 32, refl, measured-as (bytes "((32))") thirty-two bits-word) (_, refl, at-most) refl (inl refl)
       also tt;

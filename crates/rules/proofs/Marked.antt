@@ -1,5 +1,5 @@
--- Each of M1 to M10 holds. What the definitions compute is closed by computation; the readings of M8 and M9 are the only ones
--- since no text spells two trees.
+-- Each of M1 to M10 holds. What the definitions compute is closed by computation; the readings of M8 and M9 are the
+-- only ones since no text spells two trees.
 use mathlib.Core.Path.{_≡_, refl}
 use mathlib.Core.Bool.{Bool, true, false}
 use mathlib.Core.List.{List, [], _∷_, _++_}
@@ -56,14 +56,18 @@ left-first = operated (bytes "7-2") false Sub false (bytes "1") tt
 
 pair : (x : ℕ) (o : Op) (y : ℕ) → T (leb x numberMost) → T (leb y numberMost)
     → SpellsTree Written (two o (num x) (num y)) (decimal x ++ (symbol o ++ decimal y))
-pair x o y p q = operated (decimal x) false o false (decimal y) (le→leb 0 (level o) (omega arith)) (numeral x p) (numeral y q)
+pair x o y p q = operated (decimal x) false o false (decimal y) (le→leb 0 (level o) (omega arith))
+    (numeral x p) (numeral y q)
 
 -- a text that spells a tree spells no other
 only : {t : Tree (List ℕ)} {s : List ℕ} → SpellsTree Written t s → (u : Tree (List ℕ)) → SpellsTree Written u s → u ≡ t
 only p u q = tree-unique q p
 
 pub all-marked : AllHold marked
-unfolding digits all any same lastIs sum joined firstBreak operator isLetter isDigit isSpace isWordByte isLabelByte noTwoSpaces isLabel reserved isReserved isShort depth le2 le4 storedTree isInRange hasType apply decides evaluate rowsFit stored storedField fieldBody headBody bitsAt valueIn readField readFields reading entryLines linesText faultNumber readingAnswer packetOutcome readingLines
+unfolding digits all any same lastIs sum joined firstBreak operator isLetter isDigit isSpace isWordByte
+    isLabelByte noTwoSpaces isLabel reserved isReserved isShort depth le2 le4 storedTree isInRange hasType
+    apply decides evaluate rowsFit stored storedField fieldBody headBody bitsAt valueIn readField readFields
+    reading entryLines linesText faultNumber readingAnswer packetOutcome readingLines
 all-marked =
     (within _ refl, refl)
     also (within _ refl, refl)

@@ -142,8 +142,8 @@ ends-early text k plain bad e begins = line {k = k} plain bad (record {
 
 -- the first line is wrong
 pub wrong-start : (text : List ℕ) → Plain text → begins-a text ≡ false → Refuses text (refused 3 1)
-unfolding isFrame tag-frame isLabel all lastIs sum isWordByte isLabelByte isLetter isDigit isSpace noTwoSpaces firstLines
-    lineCount
+unfolding isFrame tag-frame isLabel all lastIs sum isWordByte isLabelByte isLetter isDigit isSpace noTwoSpaces
+    firstLines lineCount
 wrong-start text plain e = line {k = 0} plain (no-opening text e) (record {
   there = omega arith;
   begins = record {
@@ -169,8 +169,9 @@ pub plain-text : (text : List ℕ) → T (leb (length text) textMost) → all is
 plain-text text t e = record { size = leb→le _ textMost t; bytes = e }
 
 pub unended-refused : Refuses tagUnended (refused 3 11)
-unfolding isFrame tag-frame isLabel all any lastIs sum isWordByte isLabelByte isLetter isDigit isSpace noTwoSpaces
-    isPrintable isAllowed firstLines lineCount joined tabulate tens units border cellText rowLines headLines frameText
+unfolding isFrame tag-frame isLabel all any lastIs sum isWordByte isLabelByte isLetter isDigit isSpace
+    noTwoSpaces isPrintable isAllowed firstLines lineCount joined tabulate tens units border cellText rowLines
+    headLines frameText
 unended-refused = ends-early tagUnended 10 (plain-text tagUnended tt refl) (no-end tagUnended refl) refl (record {
   frame = tag-frame (tag-line ∷ []);
   isFramed = refl;
@@ -204,8 +205,8 @@ tag-form : Form
 tag-form = named "Kind" "K" (fixed 8) (some (two Eq (read (bytes "K")) (num 7))) none
 
 tag-formed : SpellsField Written tag-form tag-line
-unfolding tag-form isLetter isDigit isSpace isWordByte isLabelByte noTwoSpaces isLabel reserved isReserved isShort all any
-    same lastIs isInRange digits operator
+unfolding tag-form isLetter isDigit isSpace isWordByte isLabelByte noTwoSpaces isLabel reserved isReserved
+    isShort all any same lastIs isInRange digits operator
 tag-formed = line-of tag-form (bytes "1 byte") (bytes "; K == 7") [] [] refl (fixed-as 1 tt byte-word)
     (bytes "K == 7", refl, operated (bytes "K") true Eq true (bytes "7") tt (field (refl, refl)) (numeral 7 tt))
     refl (inl refl)
@@ -247,21 +248,23 @@ tag-forms (suc n) = (tag-formed, tag-forms n)
 pub too-many : Refuses (tagLines 65) (refused 4 0)
 unfolding isFrame tag-frame isLabel all lastIs sum isWordByte isLabelByte isLetter isDigit isSpace noTwoSpaces
     isPrintable isAllowed joined tabulate tens units border cellText rowLines headLines frameText cells
-too-many = many {f = tag-frame (replicate 65 tag-line)} (plain-text _ tt refl) (record { isFramed = refl; isText = refl }) refl
+too-many = many {f = tag-frame (replicate 65 tag-line)} (plain-text _ tt refl)
+    (record { isFramed = refl; isText = refl }) refl
 
 -- 64 lines, and one cell
 pub not-too-many : Refuses (tagLines 64) (refused 7 12)
-unfolding isFrame tag-frame tag-form isLabel all any same lastIs sum isWordByte isLabelByte isLetter isDigit isSpace
-    noTwoSpaces isPrintable isAllowed joined tabulate tens units border cellText rowLines headLines frameText cells
-    operator depth le4 storedTree firstBreak mismatch ruleBroken
+unfolding isFrame tag-frame tag-form isLabel all any same lastIs sum isWordByte isLabelByte isLetter isDigit
+    isSpace noTwoSpaces isPrintable isAllowed joined tabulate tens units border cellText rowLines headLines
+    frameText cells operator depth le4 storedTree firstBreak mismatch ruleBroken
 not-too-many = rule {f = tag-frame (replicate 64 tag-line)} (replicate 64 tag-form)
     (record { plain = plain-text _ tt refl; isFrameOf = record { isFramed = refl; isText = refl }; few = refl })
     (tag-forms 64) refl
 
 -- a second line that is empty, and a line without a period
 pub empty-line : Refuses (tagLines 1 ++ bytes "\n") (refused 5 12)
-unfolding isFrame tag-frame isLabel all any lastIs sum isWordByte isLabelByte isLetter isDigit isSpace noTwoSpaces
-    isPrintable isAllowed joined tabulate tens units border cellText rowLines headLines frameText cells
+unfolding isFrame tag-frame isLabel all any lastIs sum isWordByte isLabelByte isLetter isDigit isSpace
+    noTwoSpaces isPrintable isAllowed joined tabulate tens units border cellText rowLines headLines frameText
+    cells
 empty-line = form {f = tag-frame (tag-line ∷ [] ∷ [])} {i = 1}
     (record { plain = plain-text _ tt refl; isFrameOf = record { isFramed = refl; isText = refl }; few = refl })
     (record { there = omega arith; formless = no-period [] refl; earlier = earlier })
@@ -271,8 +274,9 @@ empty-line = form {f = tag-frame (tag-line ∷ [] ∷ [])} {i = 1}
     earlier (suc j) lt bad = omega arith
 
 pub no-full-stop : Refuses (tagHead ++ bytes "Kind (K): 1 byte; K == 7\n") (refused 5 11)
-unfolding isFrame tag-frame isLabel all any lastIs sum isWordByte isLabelByte isLetter isDigit isSpace noTwoSpaces
-    isPrintable isAllowed joined tabulate tens units border cellText rowLines headLines frameText cells
+unfolding isFrame tag-frame isLabel all any lastIs sum isWordByte isLabelByte isLetter isDigit isSpace
+    noTwoSpaces isPrintable isAllowed joined tabulate tens units border cellText rowLines headLines frameText
+    cells
 no-full-stop = form {f = tag-frame (bytes "Kind (K): 1 byte; K == 7" ∷ [])} {i = 0}
     (record { plain = plain-text _ tt refl; isFrameOf = record { isFramed = refl; isText = refl }; few = refl })
     (record { there = omega arith; formless = no-period _ refl; earlier = λ (j : ℕ) lt bad. below lt })

@@ -68,7 +68,8 @@ unfolding operator digits any same kind
 constraint = operated (bytes "K") true Eq true (bytes "7") tt (field (kind, refl, refl)) (numeral 7 tt)
 
 line : SpellsField (NameOf (tag .fields)) kind (bytes "Kind (K): 1 byte; K == 7.")
-unfolding kind isLetter isDigit isSpace isWordByte isLabelByte noTwoSpaces isLabel reserved isReserved isShort all any same lastIs isInRange digits
+unfolding kind isLetter isDigit isSpace isWordByte isLabelByte noTwoSpaces isLabel reserved isReserved isShort
+    all any same lastIs isInRange digits
 line = record {
   formed = refl;
   width = bytes "1 byte";
@@ -94,7 +95,9 @@ line = record {
 }
 
 pub tag-spelled : Spells tagText tag
-unfolding all any same lastIs sum joined tabulate firstBreak operator isLetter isDigit isSpace isWordByte isLabelByte noTwoSpaces isLabel reserved isReserved isShort depth le4 storedTree isInRange hasType rowsFit tens units border cellText rowLines isFrame headLines frameText cells mismatch frame kind
+unfolding all any same lastIs sum joined tabulate firstBreak operator isLetter isDigit isSpace isWordByte
+    isLabelByte noTwoSpaces isLabel reserved isReserved isShort depth le4 storedTree isInRange hasType rowsFit
+    tens units border cellText rowLines isFrame headLines frameText cells mismatch frame kind
 tag-spelled = record {
   within = within tag refl;
   frame = frame;

@@ -21,8 +21,8 @@ module _ {N : Type 0} {Names : N → List ℕ → Type 0} where
   numeral n t = number (leb→le n numberMost t) refl
 
   -- two operands and an operator, with a gap or none on each side
-  pub operated : {k b : ℕ} {x y : Tree N} (s : List ℕ) (g : Bool) (o : Op) (h : Bool) (u : List ℕ) → T (leb k (level o))
-      → SpellsAt Names (leftLevel o) b x s → SpellsAt Names (rightLevel o) b y u
+  pub operated : {k b : ℕ} {x y : Tree N} (s : List ℕ) (g : Bool) (o : Op) (h : Bool) (u : List ℕ)
+      → T (leb k (level o)) → SpellsAt Names (leftLevel o) b x s → SpellsAt Names (rightLevel o) b y u
       → SpellsAt Names k b (two o x y) (s ++ (gap g ++ (symbol o ++ (gap h ++ u))))
   operated {k} s g o h u t p q = two-sided g h (leb→le k (level o) t) p q
 

@@ -37,7 +37,8 @@ withRest = page
 
 -- `1 - F` bits
 abbrev pub measuredPage : Description
-measuredPage = page (named "Flag" "F" (fixed 8) none none ∷ unnamed "Body" (measured 1 (two Sub (num 1) (read 0))) none none ∷ [])
+measuredPage = page
+    (named "Flag" "F" (fixed 8) none none ∷ unnamed "Body" (measured 1 (two Sub (num 1) (read 0))) none none ∷ [])
 
 -- every kind of field, with and without short name, constraint and condition
 abbrev pub allKinds : Description
@@ -136,12 +137,12 @@ module _ {N : Type 0} where
 abbrev pub compared : {N : Type 0} → ℕ → Op → ℕ → Tree N
 compared x o y = two o (num x) (num y)
 
--- `a && !(b) && !(c)` and `a && b && !(c)`
-abbrev pub onlyFirst : {N : Type 0} → Tree N → Tree N → Tree N → Tree N
-onlyFirst a b c = two And (two And a (negation b)) (negation c)
+-- x, y and z compared with 2: `a && !(b) && !(c)` and `a && b && !(c)`
+abbrev pub onlyFirst : {N : Type 0} → Op → ℕ → ℕ → ℕ → Tree N
+onlyFirst o x y z = two And (two And (compared x o 2) (negation (compared y o 2))) (negation (compared z o 2))
 
-abbrev pub notLast : {N : Type 0} → Tree N → Tree N → Tree N → Tree N
-notLast a b c = two And (two And a b) (negation c)
+abbrev pub notLast : {N : Type 0} → Op → ℕ → ℕ → ℕ → Tree N
+notLast o x y z = two And (two And (compared x o 2) (compared y o 2)) (negation (compared z o 2))
 
 -- ── tables ──
 
@@ -169,7 +170,9 @@ abbrev pub allCodes : Description
 allCodes = constrained
     (two Or
     (two And
-    (two And (two Eq (two Sub (two Mul (read 0) (num 66051)) (num 1)) (two Add (read 0) (num 2))) (two Ne (read 0) (num 1)))
+    (two And
+    (two Eq (two Sub (two Mul (read 0) (num 66051)) (num 1)) (two Add (read 0) (num 2)))
+    (two Ne (read 0) (num 1)))
     (two And (two Lt (read 0) (num 1)) (two Le (read 0) (num 1))))
     (negation (two And (two Gt (read 0) (num 1)) (two Ge (read 0) (num 1)))))
 
@@ -251,7 +254,8 @@ freePage = record {
       named "Flag" "F" (fixed 1) none none
       ∷ named "Size" "S" (fixed 7) (some (two Lt (read 1) (num 100))) none
       ∷ named "Kind" "K" (fixed 8)
-      (some (two Or (two And (two Eq (read 1) (num 3)) (negation (two Eq (read 0) (num 1)))) (two Ne (read 2) (num 0))))
+      (some
+      (two Or (two And (two Eq (read 1) (num 3)) (negation (two Eq (read 0) (num 1)))) (two Ne (read 2) (num 0))))
       none
       ∷ unnamed "Mark" (fixed 16) none none
       ∷ unnamed "Octets" (measured 8 (two Sub (two Mul (two Add (read 1) (num 1)) (num 2)) (num 1))) none

@@ -168,7 +168,7 @@ worked =
     ∷ exceeds (constrained (two Eq (num 1) (negation oneIsOne)))
     ∷ exceeds (constrained (two And (num 1) oneIsOne))
     ∷ exceeds (constrained (two Or oneIsOne (read 0)))
-    -- its own field is read by a constraint and not by a condition; no later one, none without a short name, no long one
+    -- a constraint reads its own field, a condition does not; no later, nameless or long field is read
     ∷ fits (constrained (two Eq (read 0) (num 1)))
     ∷ exceeds (conditioned (two Eq (read 0) (num 1)))
     ∷ exceeds (constrained (two Eq (read 1) (num 1)))
@@ -178,12 +178,12 @@ worked =
     ∷ stores allKinds allKindsTable
     ∷ stores allCodes allCodesTable
     -- comparisons
-    ∷ values (bytes "1 < 2 && !(2 < 2) && !(3 < 2)") (onlyFirst (compared 1 Lt 2) (compared 2 Lt 2) (compared 3 Lt 2)) 1
-    ∷ values (bytes "3 > 2 && !(2 > 2) && !(1 > 2)") (onlyFirst (compared 3 Gt 2) (compared 2 Gt 2) (compared 1 Gt 2)) 1
-    ∷ values (bytes "2 == 2 && !(1 == 2) && !(3 == 2)") (onlyFirst (compared 2 Eq 2) (compared 1 Eq 2) (compared 3 Eq 2)) 1
-    ∷ values (bytes "1 <= 2 && 2 <= 2 && !(3 <= 2)") (notLast (compared 1 Le 2) (compared 2 Le 2) (compared 3 Le 2)) 1
-    ∷ values (bytes "3 >= 2 && 2 >= 2 && !(1 >= 2)") (notLast (compared 3 Ge 2) (compared 2 Ge 2) (compared 1 Ge 2)) 1
-    ∷ values (bytes "1 != 2 && 3 != 2 && !(2 != 2)") (notLast (compared 1 Ne 2) (compared 3 Ne 2) (compared 2 Ne 2)) 1
+    ∷ values (bytes "1 < 2 && !(2 < 2) && !(3 < 2)") (onlyFirst Lt 1 2 3) 1
+    ∷ values (bytes "3 > 2 && !(2 > 2) && !(1 > 2)") (onlyFirst Gt 3 2 1) 1
+    ∷ values (bytes "2 == 2 && !(1 == 2) && !(3 == 2)") (onlyFirst Eq 2 1 3) 1
+    ∷ values (bytes "1 <= 2 && 2 <= 2 && !(3 <= 2)") (notLast Le 1 2 3) 1
+    ∷ values (bytes "3 >= 2 && 2 >= 2 && !(1 >= 2)") (notLast Ge 3 2 1) 1
+    ∷ values (bytes "1 != 2 && 3 != 2 && !(2 != 2)") (notLast Ne 1 3 2) 1
     -- `||` is looser than `&&`, `+` than `*`, a comparison than `+`; parentheses
     ∷ values (bytes "1==1||1==1&&1==2") (two Or (compared 1 Eq 1) (two And (compared 1 Eq 1) (compared 1 Eq 2))) 1
     ∷ values (bytes "1==2||1==2") (two Or (compared 1 Eq 2) (compared 1 Eq 2)) 0
@@ -241,7 +241,9 @@ worked =
     ∷ breaks (sheet (bitsOf "A" ∷ bitsOf "B" ∷ []) 1) (plain "A" ∷ []) (refused 7 14)
     ∷ breaks (sheet (bitsOf "A" ∷ []) 2) (plain "A" ∷ plain "B" ∷ []) (refused 7 12)
     -- 8: label, short name
-    ∷ breaks (sheet (bitsOf "A" ∷ bitsOf "B" ∷ bitsOf "A" ∷ []) 3) (plain "A" ∷ plain "B" ∷ plain "A" ∷ []) (refused 8 17)
+    ∷ breaks (sheet (bitsOf "A" ∷ bitsOf "B" ∷ bitsOf "A" ∷ []) 3)
+    (plain "A" ∷ plain "B" ∷ plain "A" ∷ [])
+    (refused 8 17)
     ∷ breaks (sheet (longOf "A" ∷ longOf "X" ∷ []) 2) (summed "A" "X" ∷ summed "B" "X" ∷ []) (refused 8 14)
     -- 9: a name that is unknown, not earlier, not fixed, a label; a condition that reads its own field; wrong type
     ∷ breaks (sheet (bitsOf "A" ∷ []) 1) (requiring "A" (isOne "X") ∷ []) (refused 9 11)
