@@ -1,12 +1,13 @@
 -- Each worked case holds: the definitions compute it.
-use mathlib.Core.Path.{_≡_, refl, ap, sym, _∙_}
+use mathlib.Core.Path.{_≡_, refl, ap, sym, subst, _∙_}
 use mathlib.Core.Bool.{Bool, true, false, false≢true}
 use mathlib.Core.List.{List, [], _∷_}
 use Prim.Native.Nat.{ℕ, suc}
+use lib.Dec.{T, leb, leb→le}
 use lib.ListN.{length}
 use Rattle.base.specs.Bytes.{digits}
 use Rattle.base.specs.Lists.{all, any, same, lastIs, sum, joined, tabulate, firstBreak}
-use Rattle.rules.specs.Limits.{openMost}
+use Rattle.rules.specs.Limits.{textMost, openMost}
 use Rattle.rules.specs.Operators.{operator, operators}
 use Rattle.rules.specs.Names.{
   isLetter,
@@ -22,17 +23,27 @@ use Rattle.rules.specs.Names.{
 }
 use Rattle.rules.specs.Trees.{Tree, depth, le2, le4, storedTree, isInRange, hasType}
 use Rattle.rules.specs.Values.{apply, decides, evaluate}
+use Rattle.rules.specs.Fields.{Description}
 use Rattle.rules.specs.Within.{rowsFit}
 use Rattle.rules.specs.Stored.{stored, storedField, fieldBody, headBody}
 use Rattle.rules.specs.Expressions.{SpellsTree}
 use Rattle.rules.specs.Lines.{Written}
 use Rattle.rules.specs.Frames.{tens, units, border, cellText, rowLines, isFrame, headLines, cells}
-use Rattle.rules.specs.Spelling.{mismatch}
+use Rattle.rules.specs.Spelling.{mismatch, Spells}
 use Rattle.rules.specs.Refusals.{ruleBroken}
 use Rattle.rules.specs.Reading.{bitsAt, valueIn, readField, readFields, reading}
 use Rattle.rules.specs.Listing.{entryLines, linesText}
 use Rattle.rules.specs.Answers.{faultNumber}
-use Rattle.rules.specs.Promises.{readingAnswer, packetOutcome, readingLines}
+use Rattle.rules.specs.Promises.{
+  Outcome,
+  delivered,
+  readingAnswer,
+  packetOutcome,
+  readingLines,
+  Answers,
+  spelled,
+  refuses,
+}
 use Rattle.rules.specs.Cases.{SpellsOnly, AllHold}
 use Rattle.rules.specs.Reader.{
   after,
@@ -62,9 +73,11 @@ use Rattle.rules.specs.Reader.{
   more,
 }
 use Rattle.rules.specs.Pages.{manyFields, notTimes, andTimes}
+use Rattle.rules.specs.Marked.{tag}
 use Rattle.rules.specs.Worked.{worked}
 use Rattle.rules.proofs.Limits.{within, outside}
 use Rattle.rules.proofs.Written.{_also_}
+use Rattle.rules.proofs.TagText.{tag-spelled}
 use Rattle.rules.proofs.BladeText.{blade-spelled}
 use Rattle.rules.proofs.FreePage.{free-spelled}
 use Rattle.rules.proofs.Refused.{
@@ -98,12 +111,17 @@ none-found : (s : List ℕ) → isWholeTree (expr (suc (length s)) 0 openMost s)
     → (u : Tree (List ℕ)) → SpellsTree Written u s → ⊥
 none-found s e u q = false≢true (sym e ∙ ap isWholeTree (found-whole q))
 
+-- what a text that spells a description delivers
+delivers : (text out : List ℕ) (d : Description) (o : Outcome) → T (leb (length text) textMost) → Spells text d
+    → delivered (stored d) out ≡ o → Answers text out o
+delivers text out d o t s e = subst (λ (p : Outcome). Answers text out p) e (spelled (leb→le _ textMost t) s)
+
 pub all-worked : AllHold worked
 unfolding digits all any same lastIs sum joined tabulate firstBreak
     isLetter isDigit isSpace isWordByte isLabelByte noTwoSpaces isLabel reserved isReserved isShort
     operator depth le2 le4 storedTree isInRange hasType apply decides evaluate rowsFit
     stored storedField fieldBody headBody bitsAt valueIn readField readFields reading entryLines linesText
-    faultNumber readingAnswer packetOutcome readingLines tens units border cellText rowLines isFrame headLines cells
+    faultNumber delivered readingAnswer packetOutcome readingLines tens units border cellText rowLines isFrame headLines cells
     mismatch ruleBroken manyFields notTimes andTimes
     operators after firstOf insert longestFirst order skip skipBehind operatorAt word behind scan value isNumeral
     isNumberWord andThen leaf close inside atom step expr more
@@ -259,6 +277,10 @@ all-worked =
     also (refl, refl)
     also blade-spelled
     also free-spelled
+    also delivers _ _ tag _ tt tag-spelled refl
+    also delivers _ _ tag _ tt tag-spelled refl
+    also delivers _ _ tag _ tt tag-spelled refl
+    also refuses empty-refused
     also too-long
     also long-enough
     also bad-byte

@@ -21,7 +21,7 @@ use Rattle.rules.specs.Spelling.{Spells}
 use Rattle.rules.specs.Refusals.{ruleBroken, Refuses}
 use Rattle.rules.specs.Reading.{Entry, Part, numbersOf, reading, partIn}
 use Rattle.rules.specs.Answers.{Answer, accepted, refused, faultNumber}
-use Rattle.rules.specs.Promises.{Outcome, leaves, written, packetOutcome, listing}
+use Rattle.rules.specs.Promises.{Outcome, leaves, written, packetOutcome, listing, Answers}
 
 pub data Case : Type 0 where
   -- a description is within the limits
@@ -50,6 +50,8 @@ pub data Case : Type 0 where
   keeps : Frame → List Form → Case
   -- a text is refused with this answer
   refuses : List ℕ → Answer → Case
+  -- a text has this outcome for an output
+  answers : List ℕ → List ℕ → Outcome → Case
 
 abbrev pub lentRun : List ℕ
 lentRun = replicate 30 9
@@ -76,6 +78,7 @@ Holds (stores d table) = Within d × (stored d ≡ table)
 Holds (breaks f forms a) = (isFrame f ≡ true) × (ruleBroken f forms ≡ some a)
 Holds (keeps f forms) = (isFrame f ≡ true) × (ruleBroken f forms ≡ none)
 Holds (refuses text a) = Refuses text a
+Holds (answers text out o) = Answers text out o
 
 abbrev pub AllHold : List Case → Type 0
 AllHold [] = Unit {0}

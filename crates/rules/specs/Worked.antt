@@ -8,7 +8,8 @@ use Rattle.rules.specs.declared.Op.the-variants.{Or, And, Eq, Ne, Lt, Le
 use Rattle.rules.specs.Trees.{Tree, num, read, two, negation}
 use Rattle.rules.specs.Fields.{fixed, measured, rest}
 use Rattle.rules.specs.Reading.{absent, noPart}
-use Rattle.rules.specs.Answers.{refused}
+use Rattle.rules.specs.Answers.{accepted, refused}
+use Rattle.rules.specs.Promises.{leaves}
 use Rattle.rules.specs.Cases.{
   Case,
   fits,
@@ -24,13 +25,14 @@ use Rattle.rules.specs.Cases.{
   breaks,
   keeps,
   refuses,
+  answers,
   readsTo,
   refusedBy,
   named,
   unnamed,
   entry,
 }
-use Rattle.rules.specs.Marked.{bladeReport, m1}
+use Rattle.rules.specs.Marked.{bladeReport, m1, tagText, tagTable}
 use Rattle.rules.specs.Pages.{
   page,
   isFlagged,
@@ -269,6 +271,11 @@ worked =
     -- texts with and without freedoms
     ∷ spells bladeText bladeReport
     ∷ spells freeText freePage
+    -- the table is written where there is room, what lies beyond it stays; else 11
+    ∷ answers tagText (replicate 50 9) (leaves (accepted 44) (tagTable ++ replicate 6 9))
+    ∷ answers tagText (replicate 44 9) (leaves (accepted 44) tagTable)
+    ∷ answers tagText (replicate 43 9) (leaves (refused 11 0) (replicate 43 9))
+    ∷ answers [] (replicate 50 9) (leaves (refused 3 1) (replicate 50 9))
     -- 1 and its limit, 2
     ∷ refuses (replicate 16385 10) (refused 1 0)
     ∷ refuses (replicate 16384 10) (refused 3 1)
