@@ -4,7 +4,6 @@ use mathlib.Core.Bool.{Bool, true, false}
 use mathlib.Core.Logic.{_⊎_, inl}
 use mathlib.Core.List.{List, [], _∷_}
 use Prim.Native.Nat.{ℕ}
-use Prim.Native.String.{String}
 use Rattle.base.specs.Bytes.{bytes, digits}
 use Rattle.base.specs.Lists.{all, any, same, lastIs, sum, joined, tabulate, firstBreak}
 use Rattle.rules.specs.declared.Op.the-variants.{Eq, Le}
@@ -27,7 +26,6 @@ use Rattle.rules.specs.Within.{rowsFit}
 use Rattle.rules.specs.Expressions.{field}
 use Rattle.rules.specs.Lines.{bit-word, bits-word, byte-word, bytes-word}
 use Rattle.rules.specs.Frames.{
-  Cell,
   bitRow,
   longRow,
   Frame,
@@ -43,12 +41,10 @@ use Rattle.rules.specs.Frames.{
 }
 use Rattle.rules.specs.Spelling.{Spells}
 use Rattle.rules.specs.Marked.{bladeReport}
+use Rattle.rules.specs.Sheets.{cell}
 use Rattle.rules.specs.Pages.{bladeText}
 use Rattle.rules.proofs.Limits.{within}
 use Rattle.rules.proofs.Written.{numeral, operated, measured-as, fixed-as, line-of, _also_}
-
-abbrev cell : ℕ → ℕ → String → ℕ → Cell
-cell bits before text behind = record { bits = bits; before = before; text = bytes text; behind = behind }
 
 frame : Frame
 frame = record {

@@ -67,7 +67,8 @@ use Rattle.rules.specs.Refusals.{
   line,
 }
 use Rattle.rules.specs.Cases.{named}
-use Rattle.rules.specs.Pages.{tagHead, tagLines, tagUnended}
+use Rattle.rules.specs.Pages.{tagHead, tagLines, tagUnended, crowded}
+use Rattle.rules.specs.Sheets.{cell, framed}
 use Rattle.rules.proofs.Written.{numeral, operated, fixed-as, line-of, _also_}
 
 -- ── a frame's text begins with `A` and ends in LF ──
@@ -259,6 +260,23 @@ unfolding isFrame tag-frame tag-form isLabel all any same lastIs sum isWordByte 
 not-too-many = rule {f = tag-frame (replicate 64 tag-line)} (replicate 64 tag-form)
     (record { plain = plain-text _ tt refl; isFrameOf = record { isFramed = refl; isText = refl }; few = refl })
     (tag-forms 64) refl
+
+-- 72 cells, and 64
+crowded-frame : ℕ → Frame
+crowded-frame n = framed "Tag" 8 (replicate n (bitRow (replicate 8 (cell 1 0 "K" 0)))) (tag-line ∷ [])
+
+pub too-many-cells : Refuses (crowded 9) (refused 4 0)
+unfolding isFrame crowded-frame isLabel all lastIs sum isWordByte isLabelByte isLetter isDigit isSpace noTwoSpaces
+    isPrintable isAllowed joined tabulate tens units border cellText rowLines headLines frameText cells
+too-many-cells = many {f = crowded-frame 9} (plain-text _ tt refl) (record { isFramed = refl; isText = refl }) refl
+
+pub not-too-many-cells : Refuses (crowded 8) (refused 7 25)
+unfolding isFrame crowded-frame tag-form isLabel all any same lastIs sum isWordByte isLabelByte isLetter isDigit isSpace
+    noTwoSpaces isPrintable isAllowed joined tabulate tens units border cellText rowLines headLines frameText cells
+    operator depth le4 storedTree firstBreak mismatch ruleBroken
+not-too-many-cells = rule {f = crowded-frame 8} (tag-form ∷ [])
+    (record { plain = plain-text _ tt refl; isFrameOf = record { isFramed = refl; isText = refl }; few = refl })
+    (tag-forms 1) refl
 
 -- a second line that is empty, and a line without a period
 pub empty-line : Refuses (tagLines 1 ++ bytes "\n") (refused 5 12)

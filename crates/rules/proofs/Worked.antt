@@ -89,6 +89,8 @@ use Rattle.rules.proofs.Refused.{
   unended-refused,
   too-many,
   not-too-many,
+  too-many-cells,
+  not-too-many-cells,
   empty-line,
   no-full-stop,
 }
@@ -148,6 +150,10 @@ all-worked =
     also (within _ refl, refl)
     also (within _ refl, refl)
     also (within _ refl, refl)
+    also (within _ refl, refl)
+    also (within _ refl, refl)
+    also (within _ refl, refl)
+    also (within _ refl, refl)
     also within _ refl
     also outside _ refl
     also within _ refl
@@ -251,6 +257,17 @@ all-worked =
     also (found-only _ _ refl, _, refl, refl)
     also (found-only _ _ refl, _, refl, refl)
     also (found-only _ _ refl, refl)
+    also refl
+    also refl
+    also refl
+    also refl
+    also refl
+    also refl
+    also refl
+    also refl
+    also refl
+    also refl
+    also refl
     also (refl, refl)
     also (refl, refl)
     also (refl, refl)
@@ -289,6 +306,8 @@ all-worked =
     also unended-refused
     also too-many
     also not-too-many
+    also too-many-cells
+    also not-too-many-cells
     also empty-line
     also no-full-stop
     also tt

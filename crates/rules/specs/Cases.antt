@@ -1,6 +1,6 @@
 -- Cases that are proved of the definitions: the kinds of case, and what it is for one to hold.
 use mathlib.Core.Path.{_≡_}
-use mathlib.Core.Bool.{Bool, true}
+use mathlib.Core.Bool.{Bool, true, false}
 use mathlib.Core.List.{List, [], _∷_}
 use mathlib.Core.Option.{Option, none, some}
 use Prim.Native.Nat.{ℕ}
@@ -44,6 +44,8 @@ pub data Case : Type 0 where
   spells : List ℕ → Description → Case
   -- a description is within the limits and has this table
   stores : Description → List ℕ → Case
+  -- this is no frame
+  unframed : Frame → Case
   -- where the lines of a frame have these forms, a rule is broken with this answer
   breaks : Frame → List Form → Answer → Case
   -- or none is
@@ -75,6 +77,7 @@ Holds (faults s t n) = SpellsOnly t s × (f : Fault) × (evaluate noFields t ≡
 Holds (unspelled s) = (u : Tree (List ℕ)) → SpellsTree Written u s → ⊥
 Holds (spells text d) = Spells text d
 Holds (stores d table) = Within d × (stored d ≡ table)
+Holds (unframed f) = isFrame f ≡ false
 Holds (breaks f forms a) = (isFrame f ≡ true) × (ruleBroken f forms ≡ some a)
 Holds (keeps f forms) = (isFrame f ≡ true) × (ruleBroken f forms ≡ none)
 Holds (refuses text a) = Refuses text a

@@ -9,25 +9,27 @@ use Rattle.base.specs.Bytes.{bytes}
 use Rattle.rules.specs.declared.Op.the-variants.{Eq, Add}
 use Rattle.rules.specs.Trees.{Tree, num, read, two}
 use Rattle.rules.specs.Fields.{Width, fixed, measured, rest, Form}
-use Rattle.rules.specs.Frames.{Row, bitRow, longRow, Frame}
+use Rattle.rules.specs.Frames.{Cell, Row, bitRow, longRow, Frame}
 use Rattle.rules.specs.Cases.{unnamed, named}
+
+-- some bits that show a text with blanks before and behind it
+abbrev pub cell : ℕ → ℕ → String → ℕ → Cell
+cell bits before text behind = record { bits = bits; before = before; text = bytes text; behind = behind }
 
 -- a bit row and a long row that show one letter
 abbrev pub bitsOf : String → Row
-bitsOf l = bitRow (record { bits = 8; before = 7; text = bytes l; behind = 7 } ∷ [])
+bitsOf l = bitRow (cell 8 7 l 7 ∷ [])
 
 abbrev pub longOf : String → Row
-longOf l = longRow (record { bits = 8; before = 7; text = bytes l; behind = 7 })
+longOf l = longRow (cell 8 7 l 7)
 
--- rows, and n lines
+-- a name, W, rows and lines
+abbrev pub framed : String → ℕ → List Row → List (List ℕ) → Frame
+framed name w rows lines = record { an = false; name = bytes name; rowWidth = w; rows = rows; lines = lines }
+
+-- rows of 8 bits, and n lines
 abbrev pub sheet : List Row → ℕ → Frame
-sheet rows n = record {
-  an = false;
-  name = bytes "Sheet";
-  rowWidth = 8;
-  rows = rows;
-  lines = replicate n (bytes "line");
-}
+sheet rows n = framed "Sheet" 8 rows (replicate n (bytes "line"))
 
 -- 8 bits; with a constraint; with a condition
 abbrev pub plain : String → Form

@@ -8,6 +8,7 @@ use Rattle.rules.specs.declared.Op.the-variants.{Or, And, Eq, Ne, Lt, Le
 use Rattle.rules.specs.Trees.{Tree, num, read, two, negation}
 use Rattle.rules.specs.Fields.{fixed, measured, rest}
 use Rattle.rules.specs.Reading.{absent, noPart}
+use Rattle.rules.specs.Frames.{bitRow, longRow}
 use Rattle.rules.specs.Answers.{accepted, refused}
 use Rattle.rules.specs.Promises.{leaves}
 use Rattle.rules.specs.Cases.{
@@ -22,6 +23,7 @@ use Rattle.rules.specs.Cases.{
   unspelled,
   spells,
   stores,
+  unframed,
   breaks,
   keeps,
   refuses,
@@ -39,6 +41,7 @@ use Rattle.rules.specs.Pages.{
   isNine,
   flagged,
   withRest,
+  uneven,
   measuredPage,
   allKinds,
   manyFields,
@@ -68,10 +71,13 @@ use Rattle.rules.specs.Pages.{
   tagHead,
   tagLines,
   tagUnended,
+  crowded,
 }
 use Rattle.rules.specs.Sheets.{
+  cell,
   bitsOf,
   longOf,
+  framed,
   sheet,
   plain,
   requiring,
@@ -100,6 +106,8 @@ worked =
     ∷ reads (page (manyFields 0 8)) (replicate 8 0) (refusedBy 23 0)
     ∷ reads (page (manyFields 0 8)) (replicate 2049 0) (refusedBy 22 0)
     ∷ reads withRest (replicate 2048 5) (readsTo 16384 (entry 0 8 5 ∷ entry 8 16368 0 ∷ entry 16376 8 5 ∷ []))
+    -- four numbers a field, and what lies beyond them stays
+    ∷ reads (called (bytes "a") none) (5 ∷ []) (leaves (accepted 8) (1 ∷ 0 ∷ 8 ∷ 5 ∷ replicate 26 9))
     -- listings
     ∷ prints bladeReport m2 m2Listing
     ∷ prints bladeReport m3 (bytes "refused 24 at 7\n")
@@ -110,10 +118,13 @@ worked =
     ∷ hands bladeReport m1 5 (record { start = 4; size = 2 })
     ∷ hands bladeReport m1 6 (record { start = 6; size = 2 })
     ∷ hands bladeReport m1 0 noPart
+    ∷ hands uneven (replicate 4 7) 1 noPart
+    ∷ hands uneven (replicate 4 7) 3 noPart
     ∷ hands bladeReport m2 4 noPart
     ∷ hands bladeReport m1 7 noPart
     ∷ hands bladeReport m3 3 noPart
     ∷ hands bladeReport (m1 ++ (0 ∷ [])) 3 noPart
+    ∷ hands withRest (replicate 2049 7) 1 noPart
     -- limits, at their value and one over: fields
     ∷ fits allKinds
     ∷ exceeds (page [])
@@ -230,6 +241,18 @@ worked =
     ∷ faults (bytes "a+(3-5)") (two Add (read (bytes "a")) (compared 3 Sub 5)) 26
     ∷ faults (bytes "4294967295+1") (compared 4_294_967_295 Add 1) 27
     ∷ values (bytes "4294967294 + 1") (compared 4_294_967_294 Add 1) 4_294_967_295
+    -- no frame: NAME, W, rows, lines, the text of a cell and its blanks, the width of a row
+    ∷ unframed (framed "Sheet-" 8 (bitsOf "A" ∷ []) (bytes "line" ∷ []))
+    ∷ unframed (framed "Sheet" 24 (bitRow (cell 24 23 "A" 23 ∷ []) ∷ []) (bytes "line" ∷ []))
+    ∷ unframed (framed "Sheet" 8 [] (bytes "line" ∷ []))
+    ∷ unframed (framed "Sheet" 8 (bitsOf "A" ∷ []) [])
+    ∷ unframed (framed "Sheet" 8 (bitsOf "A" ∷ []) (bytes "line\n" ∷ []))
+    ∷ unframed (framed "Sheet" 8 (bitsOf "-" ∷ []) (bytes "line" ∷ []))
+    ∷ unframed (framed "Sheet" 8 (longOf " " ∷ []) (bytes "line" ∷ []))
+    ∷ unframed (framed "Sheet" 8 (bitRow (cell 8 7 "A" 6 ∷ []) ∷ []) (bytes "line" ∷ []))
+    ∷ unframed (framed "Sheet" 8 (longRow (cell 8 7 "A" 8) ∷ []) (bytes "line" ∷ []))
+    ∷ unframed (framed "Sheet" 8 (bitRow (cell 4 3 "A" 3 ∷ []) ∷ []) (bytes "line" ∷ []))
+    ∷ unframed (framed "Sheet" 8 (longRow (cell 16 15 "A" 15) ∷ []) (bytes "line" ∷ []))
     -- 6: depth, stored form; the first line has the number 9 and 2 for each row
     ∷ breaks (sheet (bitsOf "A" ∷ []) 1) (requiring "A" (notTimes 11 oneIsOne) ∷ []) (refused 6 11)
     ∷ breaks (sheet (bitsOf "A" ∷ bitsOf "B" ∷ []) 2) (plain "A" ∷ depending "B" (long 2) ∷ []) (refused 6 14)
@@ -287,6 +310,8 @@ worked =
     -- 4 and its limit
     ∷ refuses (tagLines 65) (refused 4 0)
     ∷ refuses (tagLines 64) (refused 7 12)
+    ∷ refuses (crowded 9) (refused 4 0)
+    ∷ refuses (crowded 8) (refused 7 25)
     -- 5: a line that is empty, one without its period
     ∷ refuses (tagLines 1 ++ bytes "\n") (refused 5 12)
     ∷ refuses (tagHead ++ bytes "Kind (K): 1 byte; K == 7\n") (refused 5 11)
