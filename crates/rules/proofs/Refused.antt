@@ -115,7 +115,7 @@ no-end text e f w =
 
 -- ── frames of the Tag text ──
 
-tag-frame : List (List ℕ) → Frame
+unfoldable pub tag-frame : List (List ℕ) → Frame
 tag-frame lines = record {
   an = false;
   name = bytes "Tag";
@@ -216,7 +216,7 @@ tag-formed = line-of tag-form (bytes "1 byte") (bytes "; K == 7") [] [] refl (fi
 abbrev has-period : List ℕ → Bool
 has-period s = any (λ b. eqb b 46) s
 
-any-behind : (p : ℕ → Bool) (a b : List ℕ) → any p b ≡ true → any p (a ++ b) ≡ true
+pub any-behind : (p : ℕ → Bool) (a b : List ℕ) → any p b ≡ true → any p (a ++ b) ≡ true
 unfolding any
 any-behind p [] b e = e
 any-behind p (x ∷ a) b e = go (p x) (any-behind p a b e)

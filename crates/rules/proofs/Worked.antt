@@ -94,6 +94,7 @@ use Rattle.rules.proofs.Refused.{
   empty-line,
   no-full-stop,
 }
+use Rattle.rules.proofs.WideLine.{too-wide-line}
 use Rattle.rules.proofs.ReaderUnique.{tree-unique, found-whole}
 use Rattle.rules.proofs.ReaderExact.{exact}
 
@@ -196,6 +197,7 @@ all-worked =
     also outside _ refl
     also outside _ refl
     also within _ refl
+    also outside _ refl
     also outside _ refl
     also outside _ refl
     also outside _ refl
@@ -310,4 +312,5 @@ all-worked =
     also not-too-many-cells
     also empty-line
     also no-full-stop
+    also too-wide-line
     also tt

@@ -172,6 +172,7 @@ worked =
     ∷ exceeds (wide 8 (measured 8 (num 1)))
     ∷ fits (wide 8 (measured 8 (two Add (num 1) (num 1))))
     ∷ exceeds (wide 8 (measured 2 (two Add (num 1) (num 1))))
+    ∷ exceeds (wide 8 (measured 8 (two Add (num 1) (num 4_294_967_296))))
     -- kinds of value
     ∷ exceeds (wide 8 (measured 8 oneIsOne))
     ∷ exceeds (constrained (num 1))
@@ -312,7 +313,8 @@ worked =
     ∷ refuses (tagLines 64) (refused 7 12)
     ∷ refuses (crowded 9) (refused 4 0)
     ∷ refuses (crowded 8) (refused 7 25)
-    -- 5: a line that is empty, one without its period
+    -- 5: a line that is empty, one without its period, one that is too wide
     ∷ refuses (tagLines 1 ++ bytes "\n") (refused 5 12)
     ∷ refuses (tagHead ++ bytes "Kind (K): 1 byte; K == 7\n") (refused 5 11)
+    ∷ refuses (tagHead ++ bytes "Kind: 33 bits.\n") (refused 5 11)
     ∷ []
