@@ -33,7 +33,7 @@ use Rattle.rules.specs.Spelling.{mismatch, Spells}
 use Rattle.rules.specs.Refusals.{ruleBroken}
 use Rattle.rules.specs.Reading.{bitsAt, valueIn, readField, readFields, reading}
 use Rattle.rules.specs.Listing.{entryLines, linesText}
-use Rattle.rules.specs.Answers.{faultNumber}
+use Rattle.rules.specs.Answers.{faultNumber, ofTable, ofPacket, ofText, ofListing}
 use Rattle.rules.specs.Promises.{
   Outcome,
   delivered,
@@ -124,7 +124,7 @@ unfolding digits all any same lastIs sum joined tabulate firstBreak
     isLetter isDigit isSpace isWordByte isLabelByte noTwoSpaces isLabel reserved isReserved isShort
     operator depth le2 le4 storedTree isInRange hasType apply decides evaluate rowsFit
     stored storedField fieldBody headBody bitsAt valueIn readField readFields reading entryLines linesText
-    faultNumber delivered readingAnswer packetOutcome readingLines tens units border cellText rowLines isFrame headLines cells
+    faultNumber ofTable ofPacket ofText ofListing delivered readingAnswer packetOutcome readingLines tens units border cellText rowLines isFrame headLines cells
     mismatch ruleBroken manyFields notTimes andTimes
     operators after firstOf insert longestFirst order skip skipBehind operatorAt word behind scan value isNumeral
     isNumberWord andThen leaf close inside atom step expr more
@@ -313,4 +313,29 @@ all-worked =
     also empty-line
     also no-full-stop
     also too-wide-line
+    also refl
+    also refl
+    also refl
+    also refl
+    also refl
+    also refl
+    also refl
+    also refl
+    also refl
+    also refl
+    also refl
+    also refl
+    also refl
+    also refl
+    also refl
+    also refl
+    also refl
+    also refl
+    also refl
+    also refl
+    also refl
+    also refl
+    also refl
+    also refl
+    also refl
     also tt

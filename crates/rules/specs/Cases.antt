@@ -54,6 +54,8 @@ pub data Case : Type 0 where
   refuses : List ℕ → Answer → Case
   -- a text has this outcome for an output
   answers : List ℕ → List ℕ → Outcome → Case
+  -- an answer of the code is this one of 01
+  stands : Answer → Answer → Case
 
 abbrev pub lentRun : List ℕ
 lentRun = replicate 30 9
@@ -82,6 +84,7 @@ Holds (breaks f forms a) = (isFrame f ≡ true) × (ruleBroken f forms ≡ some 
 Holds (keeps f forms) = (isFrame f ≡ true) × (ruleBroken f forms ≡ none)
 Holds (refuses text a) = Refuses text a
 Holds (answers text out o) = Answers text out o
+Holds (stands a b) = a ≡ b
 
 abbrev pub AllHold : List Case → Type 0
 AllHold [] = Unit {0}

@@ -5,11 +5,16 @@ use Prim.Native.Nat.{ℕ}
 use lib.ListN.{replicate}
 use Rattle.base.specs.Bytes.{bytes}
 use Rattle.rules.specs.declared.Op.the-variants.{Or, And, Eq, Ne, Lt, Le, Gt, Ge, Add, Sub, Mul}
+use Rattle.rules.specs.declared.Fault.{Fault}
+use Rattle.rules.specs.declared.TableAnswer.{TableAnswer}
+use Rattle.rules.specs.declared.PacketAnswer.{PacketAnswer}
+use Rattle.rules.specs.declared.TextAnswer.{TextAnswer}
+use Rattle.rules.specs.declared.ListingAnswer.{ListingAnswer}
 use Rattle.rules.specs.Trees.{Tree, num, read, two, negation}
 use Rattle.rules.specs.Fields.{fixed, measured, rest}
 use Rattle.rules.specs.Reading.{absent, noPart}
 use Rattle.rules.specs.Frames.{bitRow, longRow}
-use Rattle.rules.specs.Answers.{accepted, refused}
+use Rattle.rules.specs.Answers.{accepted, refused, ofTable, ofPacket, ofText, ofListing}
 use Rattle.rules.specs.Promises.{leaves}
 use Rattle.rules.specs.Cases.{
   Case,
@@ -28,6 +33,7 @@ use Rattle.rules.specs.Cases.{
   keeps,
   refuses,
   answers,
+  stands,
   readsTo,
   refusedBy,
   named,
@@ -317,4 +323,30 @@ worked =
     ∷ refuses (tagLines 1 ++ bytes "\n") (refused 5 12)
     ∷ refuses (tagHead ++ bytes "Kind (K): 1 byte; K == 7\n") (refused 5 11)
     ∷ refuses (tagHead ++ bytes "Kind: 33 bits.\n") (refused 5 11)
+    -- 01's numbers for the answers of the code
+    ∷ stands (ofTable (TableAnswer.Good 44)) (accepted 44)
+    ∷ stands (ofTable TableAnswer.NotGood) (refused 21 0)
+    ∷ stands (ofPacket (PacketAnswer.Accepted 64)) (accepted 64)
+    ∷ stands (ofPacket PacketAnswer.NotGood) (refused 21 0)
+    ∷ stands (ofPacket PacketAnswer.TooLong) (refused 22 0)
+    ∷ stands (ofPacket PacketAnswer.ShortRun) (refused 23 0)
+    ∷ stands (ofPacket (PacketAnswer.Refused Fault.BitsMissing 7)) (refused 24 7)
+    ∷ stands (ofPacket (PacketAnswer.Refused Fault.ConstraintFalse 1)) (refused 25 1)
+    ∷ stands (ofPacket (PacketAnswer.Refused Fault.AbsentRead 3)) (refused 26 3)
+    ∷ stands (ofPacket (PacketAnswer.Refused Fault.OutOfRange 2)) (refused 27 2)
+    ∷ stands (ofPacket PacketAnswer.LeftOver) (refused 28 0)
+    ∷ stands (ofText (TextAnswer.Accepted 44)) (accepted 44)
+    ∷ stands (ofText TextAnswer.TooLong) (refused 1 0)
+    ∷ stands (ofText TextAnswer.BadByte) (refused 2 0)
+    ∷ stands (ofText (TextAnswer.BadLine 11)) (refused 3 11)
+    ∷ stands (ofText TextAnswer.TooMany) (refused 4 0)
+    ∷ stands (ofText (TextAnswer.BadForm 11)) (refused 5 11)
+    ∷ stands (ofText (TextAnswer.OverLimit 11)) (refused 6 11)
+    ∷ stands (ofText (TextAnswer.Mismatch 11)) (refused 7 11)
+    ∷ stands (ofText (TextAnswer.Repeated 11)) (refused 8 11)
+    ∷ stands (ofText (TextAnswer.BadName 11)) (refused 9 11)
+    ∷ stands (ofText (TextAnswer.BadRest 11)) (refused 10 11)
+    ∷ stands (ofText TextAnswer.NoRoom) (refused 11 0)
+    ∷ stands (ofListing (ListingAnswer.Written 92)) (accepted 92)
+    ∷ stands (ofListing ListingAnswer.NoRoom) (refused 11 0)
     ∷ []
