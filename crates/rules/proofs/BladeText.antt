@@ -1,9 +1,8 @@
 -- The text of the blade report spells it.
-use mathlib.Core.Path.{_≡_, refl}
-use mathlib.Core.Bool.{Bool, true, false}
-use mathlib.Core.Logic.{_⊎_, inl}
-use mathlib.Core.List.{List, [], _∷_}
-use Prim.Native.Nat.{ℕ}
+use mathlib.Core.Path.{refl}
+use mathlib.Core.Bool.{true, false}
+use mathlib.Core.Logic.{inl}
+use mathlib.Core.List.{[], _∷_}
 use Rattle.base.specs.Bytes.{bytes, digits}
 use Rattle.base.specs.Lists.{all, any, same, lastIs, sum, joined, tabulate, firstBreak}
 use Rattle.rules.specs.declared.Op.the-variants.{Eq, Le}
@@ -21,7 +20,7 @@ use Rattle.rules.specs.Names.{
   isReserved,
   isShort,
 }
-use Rattle.rules.specs.Trees.{depth, le4, storedTree, isInRange, hasType, num, read, two}
+use Rattle.rules.specs.Trees.{depth, le4, storedTree, isInRange, hasType}
 use Rattle.rules.specs.Within.{rowsFit}
 use Rattle.rules.specs.Expressions.{field}
 use Rattle.rules.specs.Lines.{bit-word, bits-word, byte-word, bytes-word}

@@ -1,7 +1,7 @@
 -- Texts that are refused: what a frame's text is like, and what it then cannot be.
 use mathlib.Core.Path.{_≡_, refl, ap, sym, _∙_}
 use mathlib.Core.Bool.{Bool, true, false, _||_, false≢true}
-use mathlib.Core.Logic.{_⊎_, inl}
+use mathlib.Core.Logic.{inl}
 use mathlib.Core.List.{List, [], _∷_, _++_, append-nil, append-assoc}
 use mathlib.Core.Option.{none, some}
 use Prim.Native.Nat.{ℕ, zero, suc, _≤_, _<_}
@@ -9,7 +9,7 @@ use native.Mathlib.Omega.{arith}
 use lib.Dec.{T, leb, leb→le, eqb}
 use lib.ListN.{length, replicate, getD}
 use Rattle.base.specs.Bytes.{bytes, digits}
-use Rattle.base.specs.Lists.{all, any, same, isEmpty, headIs, lastIs, sum, joined, tabulate, firstBreak, Each}
+use Rattle.base.specs.Lists.{all, any, same, headIs, lastIs, sum, joined, tabulate, firstBreak, Each}
 use Rattle.rules.specs.declared.Op.the-variants.{Eq}
 use Rattle.rules.specs.Operators.{operator}
 use Rattle.rules.specs.Answers.{refused}
@@ -28,7 +28,7 @@ use Rattle.rules.specs.Names.{
   isReserved,
   isShort,
 }
-use Rattle.rules.specs.Trees.{num, read, two, depth, le4, storedTree, isInRange, hasType}
+use Rattle.rules.specs.Trees.{num, read, two, depth, le4, storedTree, isInRange}
 use Rattle.rules.specs.Fields.{fixed, Form}
 use Rattle.rules.specs.Expressions.{field}
 use Rattle.rules.specs.Lines.{byte-word, shortText, SpellsField, Written}
@@ -49,27 +49,11 @@ use Rattle.rules.specs.Frames.{
   cells,
 }
 use Rattle.rules.specs.Spelling.{mismatch}
-use Rattle.rules.specs.Refusals.{
-  Formless,
-  FirstFormless,
-  Framed,
-  ruleBroken,
-  many,
-  form,
-  rule,
-  lineCount,
-  firstLines,
-  Begins,
-  Plain,
-  Refuses,
-  long,
-  byte,
-  line,
-}
+use Rattle.rules.specs.Refusals.{Formless, ruleBroken, many, form, rule, lineCount, firstLines, Begins, Plain, Refuses, long, byte, line}
 use Rattle.rules.specs.Cases.{named}
 use Rattle.rules.specs.Pages.{tagHead, tagLines, tagUnended, crowded}
 use Rattle.rules.specs.Sheets.{cell, framed}
-use Rattle.rules.proofs.Written.{numeral, operated, fixed-as, line-of, _also_}
+use Rattle.rules.proofs.Written.{numeral, operated, fixed-as, line-of}
 
 -- ── a frame's text begins with `A` and ends in LF ──
 

@@ -1,8 +1,8 @@
 -- The Tag text spells Tag.
-use mathlib.Core.Path.{_≡_, refl}
-use mathlib.Core.Bool.{Bool, true, false}
-use mathlib.Core.Logic.{_⊎_, inl}
-use mathlib.Core.List.{List, [], _∷_}
+use mathlib.Core.Path.{refl}
+use mathlib.Core.Bool.{true, false}
+use mathlib.Core.Logic.{inl}
+use mathlib.Core.List.{[], _∷_}
 use mathlib.Core.Option.{none, some}
 use Prim.Native.Nat.{ℕ}
 use Rattle.base.specs.Bytes.{bytes, digits}
@@ -25,7 +25,7 @@ use Rattle.rules.specs.Trees.{depth, le4, storedTree, isInRange, hasType
 use Rattle.rules.specs.Fields.{Field, fixed}
 use Rattle.rules.specs.Within.{rowsFit}
 use Rattle.rules.specs.Expressions.{SpellsTree, field}
-use Rattle.rules.specs.Lines.{UnitWord, byte-word, SpellsField}
+use Rattle.rules.specs.Lines.{byte-word, SpellsField}
 use Rattle.rules.specs.Frames.{
   Frame,
   bitRow,

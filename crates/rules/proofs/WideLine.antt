@@ -26,20 +26,9 @@ use Rattle.rules.specs.Names.{
   isShort,
 }
 use Rattle.rules.specs.Trees.{Tree, num, read, two, negation, isInRange, isNumber}
-use Rattle.rules.specs.Fields.{Width, fixed, measured, rest, Form, trees}
-use Rattle.rules.specs.Within.{isWidth, isFormed}
-use Rattle.rules.specs.Lines.{
-  UnitWord,
-  bit-word,
-  bits-word,
-  byte-word,
-  bytes-word,
-  shortText,
-  Measure,
-  SpellsWidth,
-  SpellsField,
-  Written,
-}
+use Rattle.rules.specs.Fields.{Width, fixed, measured, rest, trees}
+use Rattle.rules.specs.Within.{isWidth}
+use Rattle.rules.specs.Lines.{UnitWord, bit-word, bits-word, byte-word, bytes-word, shortText, Measure, SpellsWidth, Written}
 use Rattle.rules.specs.Frames.{
   tens,
   units,

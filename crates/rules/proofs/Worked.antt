@@ -155,6 +155,8 @@ all-worked =
     also (within _ refl, refl)
     also (within _ refl, refl)
     also (within _ refl, refl)
+    also (within _ refl, refl)
+    also (within _ refl, refl)
     also within _ refl
     also outside _ refl
     also within _ refl

@@ -1,14 +1,14 @@
 -- Frames of 8 bits a row, and forms of their lines, for the worked cases.
-use mathlib.Core.Bool.{Bool, false}
+use mathlib.Core.Bool.{false}
 use mathlib.Core.List.{List, [], _∷_}
-use mathlib.Core.Option.{Option, none, some}
+use mathlib.Core.Option.{none, some}
 use Prim.Native.Nat.{ℕ}
 use Prim.Native.String.{String}
 use lib.ListN.{replicate}
 use Rattle.base.specs.Bytes.{bytes}
 use Rattle.rules.specs.declared.Op.the-variants.{Eq, Add}
 use Rattle.rules.specs.Trees.{Tree, num, read, two}
-use Rattle.rules.specs.Fields.{Width, fixed, measured, rest, Form}
+use Rattle.rules.specs.Fields.{fixed, measured, rest, Form}
 use Rattle.rules.specs.Frames.{Cell, Row, bitRow, longRow, Frame}
 use Rattle.rules.specs.Cases.{unnamed, named}
 

@@ -1,7 +1,6 @@
 -- Worked cases that M1 to M10 leave open, so that no definition is hollow.
 use mathlib.Core.List.{List, [], _∷_, _++_}
-use mathlib.Core.Option.{Option, none, some}
-use Prim.Native.Nat.{ℕ}
+use mathlib.Core.Option.{none, some}
 use lib.ListN.{replicate}
 use Rattle.base.specs.Bytes.{bytes}
 use Rattle.rules.specs.declared.Op.the-variants.{Or, And, Eq, Ne, Lt, Le, Gt, Ge, Add, Sub, Mul}
@@ -10,7 +9,7 @@ use Rattle.rules.specs.declared.TableAnswer.{TableAnswer}
 use Rattle.rules.specs.declared.PacketAnswer.{PacketAnswer}
 use Rattle.rules.specs.declared.TextAnswer.{TextAnswer}
 use Rattle.rules.specs.declared.ListingAnswer.{ListingAnswer}
-use Rattle.rules.specs.Trees.{Tree, num, read, two, negation}
+use Rattle.rules.specs.Trees.{num, read, two, negation}
 use Rattle.rules.specs.Fields.{fixed, measured, rest}
 use Rattle.rules.specs.Reading.{absent, noPart}
 use Rattle.rules.specs.Frames.{bitRow, longRow}
@@ -41,44 +40,7 @@ use Rattle.rules.specs.Cases.{
   entry,
 }
 use Rattle.rules.specs.Marked.{bladeReport, m1, tagText, tagTable}
-use Rattle.rules.specs.Pages.{
-  page,
-  isFlagged,
-  isNine,
-  flagged,
-  withRest,
-  uneven,
-  measuredPage,
-  allKinds,
-  manyFields,
-  m2,
-  m2Listing,
-  m3,
-  single,
-  called,
-  constrained,
-  conditioned,
-  wide,
-  amid,
-  afterBody,
-  oneIsOne,
-  notTimes,
-  andTimes,
-  long,
-  compared,
-  onlyFirst,
-  notLast,
-  allKindsTable,
-  allCodes,
-  allCodesTable,
-  bladeText,
-  freeText,
-  freePage,
-  tagHead,
-  tagLines,
-  tagUnended,
-  crowded,
-}
+use Rattle.rules.specs.Pages.{page, isFlagged, isNine, flagged, withRest, uneven, measuredPage, allKinds, manyFields, m2, m2Listing, m3, single, called, constrained, conditioned, wide, amid, afterBody, oneIsOne, notTimes, long, compared, onlyFirst, notLast, allKindsTable, allCodes, allCodesTable, bladeText, freeText, freePage, tagHead, tagLines, tagUnended, crowded}
 use Rattle.rules.specs.Sheets.{
   cell,
   bitsOf,
@@ -108,6 +70,8 @@ worked =
     ∷ reads withRest (1 ∷ []) (refusedBy 24 2)
     -- a width that leaves the range is 27 at its field
     ∷ reads measuredPage (2 ∷ []) (refusedBy 27 2)
+    -- the unit is applied exactly: no fault of range, but 24
+    ∷ reads (wide 8 (measured 8 (compared 4_294_967_295 Mul 1))) [] (refusedBy 24 1)
     -- a run that is too short is 23, a packet that is too long is 22 before it
     ∷ reads (page (manyFields 0 8)) (replicate 8 0) (refusedBy 23 0)
     ∷ reads (page (manyFields 0 8)) (replicate 2049 0) (refusedBy 22 0)
@@ -123,6 +87,7 @@ worked =
     -- the part of a whole field; of one that is not whole, is absent, is beyond the fields; of a refused packet
     ∷ hands bladeReport m1 5 (record { start = 4; size = 2 })
     ∷ hands bladeReport m1 6 (record { start = 6; size = 2 })
+    ∷ hands bladeReport (0x40 ∷ 0x07 ∷ 0x00 ∷ 0x09 ∷ []) 5 (record { start = 2; size = 0 })
     ∷ hands bladeReport m1 0 noPart
     ∷ hands uneven (replicate 4 7) 1 noPart
     ∷ hands uneven (replicate 4 7) 3 noPart
