@@ -161,6 +161,14 @@ all-worked =
     also outside _ refl
     also within _ refl
     also outside _ refl
+    also outside _ refl
+    also outside _ refl
+    also outside _ refl
+    also within _ refl
+    also outside _ refl
+    also outside _ refl
+    also outside _ refl
+    also within _ refl
     also within _ refl
     also outside _ refl
     also outside _ refl

@@ -101,6 +101,15 @@ worked =
     ∷ exceeds (page [])
     ∷ fits (page (manyFields 0 64))
     ∷ exceeds (page (manyFields 0 65))
+    -- NAME; repeated labels and short names; what may stand after a rest field
+    ∷ exceeds (record { name = bytes "Page-"; rowWidth = 8; fields = manyFields 0 1 })
+    ∷ exceeds (page (manyFields 0 1 ++ manyFields 0 1))
+    ∷ exceeds (page (named "A" "X" (fixed 8) none none ∷ named "B" "X" (fixed 8) none none ∷ []))
+    ∷ fits (page (named "A" "X" (fixed 8) none none ∷ named "X" "A" (fixed 8) none none ∷ []))
+    ∷ exceeds (page (unnamed "A" rest none none ∷ unnamed "B" rest none none ∷ []))
+    ∷ exceeds (page (unnamed "A" rest none none ∷ unnamed "B" (measured 8 (compared 1 Add 1)) none none ∷ []))
+    ∷ exceeds (page (unnamed "A" rest none none ∷ unnamed "B" (fixed 8) none (some oneIsOne) ∷ []))
+    ∷ fits (page (unnamed "A" rest none none ∷ unnamed "B" (fixed 8) (some oneIsOne) none ∷ []))
     -- depth and stored form of a tree, and its numbers
     ∷ fits (constrained (notTimes 10 oneIsOne))
     ∷ exceeds (constrained (notTimes 11 oneIsOne))
