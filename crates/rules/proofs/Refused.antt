@@ -28,7 +28,7 @@ use Rattle.rules.specs.Names.{
   isReserved,
   isShort,
 }
-use Rattle.rules.specs.Trees.{num, read, two, depth, le4, storedTree, isInRange}
+use Rattle.rules.specs.Trees.{num, read, two, depth, le4, storedTree, isInRange, hasType}
 use Rattle.rules.specs.Fields.{fixed, Form}
 use Rattle.rules.specs.Expressions.{field}
 use Rattle.rules.specs.Lines.{byte-word, shortText, SpellsField, Written}
@@ -240,7 +240,7 @@ too-many = many {f = tag-frame (replicate 65 tag-line)} (plain-text _ tt refl)
 pub not-too-many : Refuses (tagLines 64) (refused 7 12)
 unfolding isFrame tag-frame tag-form isLabel all any same lastIs sum isWordByte isLabelByte isLetter isDigit
     isSpace noTwoSpaces isPrintable isAllowed joined tabulate tens units border cellText rowLines headLines
-    frameText cells operator depth le4 storedTree firstBreak mismatch ruleBroken
+    frameText cells operator depth le4 storedTree hasType firstBreak mismatch ruleBroken
 not-too-many = rule {f = tag-frame (replicate 64 tag-line)} (replicate 64 tag-form)
     (record { plain = plain-text _ tt refl; isFrameOf = record { isFramed = refl; isText = refl }; few = refl })
     (tag-forms 64) refl
@@ -257,7 +257,7 @@ too-many-cells = many {f = crowded-frame 9} (plain-text _ tt refl) (record { isF
 pub not-too-many-cells : Refuses (crowded 8) (refused 7 25)
 unfolding isFrame crowded-frame tag-form isLabel all any same lastIs sum isWordByte isLabelByte isLetter isDigit isSpace
     noTwoSpaces isPrintable isAllowed joined tabulate tens units border cellText rowLines headLines frameText cells
-    operator depth le4 storedTree firstBreak mismatch ruleBroken
+    operator depth le4 storedTree hasType firstBreak mismatch ruleBroken
 not-too-many-cells = rule {f = crowded-frame 8} (tag-form ∷ [])
     (record { plain = plain-text _ tt refl; isFrameOf = record { isFramed = refl; isText = refl }; few = refl })
     (tag-forms 1) refl
