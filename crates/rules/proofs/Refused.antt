@@ -49,7 +49,21 @@ use Rattle.rules.specs.Frames.{
   cells,
 }
 use Rattle.rules.specs.Spelling.{mismatch}
-use Rattle.rules.specs.Refusals.{Formless, ruleBroken, many, form, rule, lineCount, firstLines, Begins, Plain, Refuses, long, byte, line}
+use Rattle.rules.specs.Refusals.{
+  Formless,
+  ruleBroken,
+  many,
+  form,
+  rule,
+  lineCount,
+  firstLines,
+  Begins,
+  Plain,
+  Refuses,
+  long,
+  byte,
+  line,
+}
 use Rattle.rules.specs.Cases.{named}
 use Rattle.rules.specs.Pages.{tagHead, tagLines, tagUnended, crowded}
 use Rattle.rules.specs.Sheets.{cell, framed}
@@ -250,14 +264,15 @@ crowded-frame : ℕ → Frame
 crowded-frame n = framed "Tag" 8 (replicate n (bitRow (replicate 8 (cell 1 0 "K" 0)))) (tag-line ∷ [])
 
 pub too-many-cells : Refuses (crowded 9) (refused 4 0)
-unfolding isFrame crowded-frame isLabel all lastIs sum isWordByte isLabelByte isLetter isDigit isSpace noTwoSpaces
-    isPrintable isAllowed joined tabulate tens units border cellText rowLines headLines frameText cells
+unfolding isFrame crowded-frame isLabel all lastIs sum isWordByte isLabelByte isLetter isDigit isSpace
+    noTwoSpaces isPrintable isAllowed joined tabulate tens units border cellText rowLines headLines frameText
+    cells
 too-many-cells = many {f = crowded-frame 9} (plain-text _ tt refl) (record { isFramed = refl; isText = refl }) refl
 
 pub not-too-many-cells : Refuses (crowded 8) (refused 7 25)
-unfolding isFrame crowded-frame tag-form isLabel all any same lastIs sum isWordByte isLabelByte isLetter isDigit isSpace
-    noTwoSpaces isPrintable isAllowed joined tabulate tens units border cellText rowLines headLines frameText cells
-    operator depth le4 storedTree hasType firstBreak mismatch ruleBroken
+unfolding isFrame crowded-frame tag-form isLabel all any same lastIs sum isWordByte isLabelByte isLetter
+    isDigit isSpace noTwoSpaces isPrintable isAllowed joined tabulate tens units border cellText rowLines
+    headLines frameText cells operator depth le4 storedTree hasType firstBreak mismatch ruleBroken
 not-too-many-cells = rule {f = crowded-frame 8} (tag-form ∷ [])
     (record { plain = plain-text _ tt refl; isFrameOf = record { isFramed = refl; isText = refl }; few = refl })
     (tag-forms 1) refl

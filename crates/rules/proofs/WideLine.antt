@@ -28,7 +28,17 @@ use Rattle.rules.specs.Names.{
 use Rattle.rules.specs.Trees.{Tree, num, read, two, negation, isInRange, isNumber}
 use Rattle.rules.specs.Fields.{Width, fixed, measured, rest, trees}
 use Rattle.rules.specs.Within.{isWidth}
-use Rattle.rules.specs.Lines.{UnitWord, bit-word, bits-word, byte-word, bytes-word, shortText, Measure, SpellsWidth, Written}
+use Rattle.rules.specs.Lines.{
+  UnitWord,
+  bit-word,
+  bits-word,
+  byte-word,
+  bytes-word,
+  shortText,
+  Measure,
+  SpellsWidth,
+  Written,
+}
 use Rattle.rules.specs.Frames.{
   tens,
   units,
@@ -143,8 +153,9 @@ wide-formless x w =
     (behind-colon (x .label) (x .short) _ (label-bytes (x .label) p) (w .isText))
 
 pub too-wide-line : Refuses (tagHead ++ bytes "Kind: 33 bits.\n") (refused 5 11)
-unfolding isFrame tag-frame isLabel all any lastIs sum isWordByte isLabelByte isLetter isDigit isSpace noTwoSpaces
-    isPrintable isAllowed joined tabulate tens units border cellText rowLines headLines frameText cells
+unfolding isFrame tag-frame isLabel all any lastIs sum isWordByte isLabelByte isLetter isDigit isSpace
+    noTwoSpaces isPrintable isAllowed joined tabulate tens units border cellText rowLines headLines frameText
+    cells
 too-wide-line = form {f = tag-frame (wide-line ∷ [])} {i = 0}
     (record { plain = plain-text _ tt refl; isFrameOf = record { isFramed = refl; isText = refl }; few = refl })
     (record { there = omega arith; formless = wide-formless; earlier = λ (j : ℕ) lt bad. below lt })

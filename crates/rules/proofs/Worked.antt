@@ -120,14 +120,14 @@ delivers : (text out : List ℕ) (d : Description) (o : Outcome) → T (leb (len
 delivers text out d o t s e = subst (λ (p : Outcome). Answers text out p) e (spelled (leb→le _ textMost t) s)
 
 pub all-worked : AllHold worked
-unfolding digits all any same lastIs sum joined tabulate firstBreak
-    isLetter isDigit isSpace isWordByte isLabelByte noTwoSpaces isLabel reserved isReserved isShort
-    operator depth le2 le4 storedTree isInRange hasType apply decides evaluate rowsFit
-    stored storedField fieldBody headBody bitsAt valueIn readField readFields reading entryLines linesText
-    faultNumber ofTable ofPacket ofText ofListing delivered readingAnswer packetOutcome readingLines tens units border cellText rowLines isFrame headLines cells
-    mismatch ruleBroken manyFields notTimes andTimes
-    operators after firstOf insert longestFirst order skip skipBehind operatorAt word behind scan value isNumeral
-    isNumberWord andThen leaf close inside atom step expr more
+unfolding digits all any same lastIs sum joined tabulate firstBreak isLetter isDigit isSpace isWordByte
+    isLabelByte noTwoSpaces isLabel reserved isReserved isShort operator depth le2 le4 storedTree isInRange
+    hasType apply decides evaluate rowsFit stored storedField fieldBody headBody bitsAt valueIn readField
+    readFields reading entryLines linesText faultNumber ofTable ofPacket ofText ofListing delivered
+    readingAnswer packetOutcome readingLines tens units border cellText rowLines isFrame headLines cells
+    mismatch ruleBroken manyFields notTimes andTimes operators after firstOf insert longestFirst order skip
+    skipBehind operatorAt word behind scan value isNumeral isNumberWord andThen leaf close inside atom step
+    expr more
 all-worked =
     (within _ refl, refl)
     also (within _ refl, refl)
