@@ -1,8 +1,8 @@
 -- The Tag text spells Tag.
-use mathlib.Core.Path.{_≡_, refl}
-use mathlib.Core.Bool.{Bool, true, false}
-use mathlib.Core.Logic.{_⊎_, inl}
-use mathlib.Core.List.{List, [], _∷_}
+use mathlib.Core.Path.{refl}
+use mathlib.Core.Bool.{true, false}
+use mathlib.Core.Logic.{inl}
+use mathlib.Core.List.{[], _∷_}
 use mathlib.Core.Option.{none, some}
 use Prim.Native.Nat.{ℕ}
 use Rattle.base.specs.Bytes.{bytes, digits}
@@ -25,7 +25,7 @@ use Rattle.rules.specs.Trees.{depth, le4, storedTree, isInRange, hasType
 use Rattle.rules.specs.Fields.{Field, fixed}
 use Rattle.rules.specs.Within.{rowsFit}
 use Rattle.rules.specs.Expressions.{SpellsTree, field}
-use Rattle.rules.specs.Lines.{UnitWord, byte-word, SpellsField}
+use Rattle.rules.specs.Lines.{byte-word, SpellsField}
 use Rattle.rules.specs.Frames.{
   Frame,
   bitRow,
@@ -68,7 +68,8 @@ unfolding operator digits any same kind
 constraint = operated (bytes "K") true Eq true (bytes "7") tt (field (kind, refl, refl)) (numeral 7 tt)
 
 line : SpellsField (NameOf (tag .fields)) kind (bytes "Kind (K): 1 byte; K == 7.")
-unfolding kind isLetter isDigit isSpace isWordByte isLabelByte noTwoSpaces isLabel reserved isReserved isShort all any same lastIs isInRange digits
+unfolding kind isLetter isDigit isSpace isWordByte isLabelByte noTwoSpaces isLabel reserved isReserved isShort
+    all any same lastIs isInRange digits
 line = record {
   formed = refl;
   width = bytes "1 byte";
@@ -94,7 +95,9 @@ line = record {
 }
 
 pub tag-spelled : Spells tagText tag
-unfolding all any same lastIs sum joined tabulate firstBreak operator isLetter isDigit isSpace isWordByte isLabelByte noTwoSpaces isLabel reserved isReserved isShort depth le4 storedTree isInRange hasType rowsFit tens units border cellText rowLines isFrame headLines frameText cells mismatch frame kind
+unfolding all any same lastIs sum joined tabulate firstBreak operator isLetter isDigit isSpace isWordByte
+    isLabelByte noTwoSpaces isLabel reserved isReserved isShort depth le4 storedTree isInRange hasType rowsFit
+    tens units border cellText rowLines isFrame headLines frameText cells mismatch frame kind
 tag-spelled = record {
   within = within tag refl;
   frame = frame;
