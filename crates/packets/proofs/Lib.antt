@@ -5,6 +5,7 @@
 -- PartsLaws, RecordLaws   the parts of a record and the field stored there
 -- FieldBounds             sizes of a field within the limits
 -- TableHead               where the fields of a stored table begin, how many, how long
+-- LookupSteps             records by index and fields by name
 -- WriteLaws               writing one byte behind the other
 -- LinesWritten            the lines of fields, written one behind the other
 -- LinesStored             for a stored description they are those of the listing
@@ -18,6 +19,7 @@ pub mod PartsLaws
 pub mod RecordLaws
 pub mod FieldBounds
 pub mod TableHead
+pub mod LookupSteps
 pub mod WriteLaws
 pub mod LinesWritten
 pub mod LinesStored

@@ -2,6 +2,7 @@
 mod answers;
 mod lines;
 mod listing;
+mod lookups;
 mod records;
 mod trees;
 mod writing;

@@ -4,9 +4,9 @@ use mathlib.Core.Path.{_≡_}
 use mathlib.Core.Bool.{Bool, true, false, cond, _&&_, not}
 use mathlib.Core.List.{List, [], _∷_, _++_}
 use mathlib.Core.Option.{Option, none, some}
-use Prim.Native.Nat.{ℕ, suc, _*_, _≤_}
+use Prim.Native.Nat.{ℕ, suc, _+_, _*_, _≤_}
 use lib.Dec.{ltb}
-use lib.ListN.{length, drop, getElem?}
+use lib.ListN.{length, take, drop, getElem?}
 use Rattle.base.specs.Lists.{any, same, joined}
 use Rattle.rules.specs.declared.TableAnswer.{TableAnswer}
 use Rattle.rules.specs.declared.PacketAnswer.{PacketAnswer}
@@ -15,7 +15,7 @@ use Rattle.rules.specs.declared.TextAnswer.{TextAnswer}
 use Rattle.rules.specs.declared.ListingAnswer.{ListingAnswer}
 use Rattle.rules.specs.Limits.{textMost}
 use Rattle.rules.specs.Fields.{Field, Description, cellNames}
-use Rattle.rules.specs.Stored.{stored, Good}
+use Rattle.rules.specs.Stored.{recordOf, storedField, headBody, stored, Good}
 use Rattle.rules.specs.Spelling.{Spells}
 use Rattle.rules.specs.Refusals.{Refuses}
 use Rattle.rules.specs.Answers.{
@@ -124,13 +124,21 @@ abbrev pub FindsField : List ℕ → List ℕ → FieldAnswer → Type 0
 FindsField table name r =
     (good : Dec (Good table)) → ofField r ≡ byTable good (λ d. firstNamed name 0 (d .fields)) notGood
 
--- the label of the field of an index: none where there is no such field
-abbrev pub labelIn : Option (Field ℕ) → List ℕ
-labelIn none = []
-labelIn (some f) = f .label
+-- the label of the field of an index, as a part of the table: behind the records before it, and the record's
+-- length, kind and label length; the empty part at the table's start where there is no such field
+abbrev pub labelOf : Description → ℕ → Option (Field ℕ) → Part
+labelOf d i none = noPart
+labelOf d i (some f) = record {
+  start = length (recordOf 1 (headBody d)) + length (joined storedField (take i (d .fields))) + 6;
+  size = length (f .label);
+}
 
-abbrev pub HandsLabel : List ℕ → ℕ → List ℕ → Type 0
-HandsLabel table i bytes = (good : Dec (Good table)) → bytes ≡ byTable good (λ d. labelIn (getElem? (d .fields) i)) []
+unfoldable pub labelBy : {table : List ℕ} → Dec (Good table) → ℕ → Part
+labelBy good i = byTable good (λ d. labelOf d i (getElem? (d .fields) i)) noPart
+
+pub record HandsLabel (table : List ℕ) (i : ℕ) (bytes : List ℕ) (start : ℕ) : Type 0 where
+  pub content : (good : Dec (Good table)) → bytes ≡ partBytes table (labelBy good i)
+  pub place : (good : Dec (Good table)) → start ≡ labelBy good i .start
 
 -- ── a packet's listing ──
 

@@ -1,0 +1,79 @@
+// Fields of a table by index and by name.
+use crate::records::Parts;
+use crate::records::Span;
+use crate::records::parts_at;
+use crate::records::two_at;
+use names::words::same_words;
+use rules::FieldAnswer;
+ghost use mathlib.Core.Path.{_≡_};
+ghost use Prim.Native.Nat.{_≤_};
+ghost use Rattle.base.specs.Places.{twoAt};
+ghost use Rattle.packets.specs.Lookups.{placeFrom, isNamedIn, hasName, findFrom};
+
+const TABLE_MOST: usize = 32768;
+
+// The place behind n records.
+fn place_behind(table: &[u8], n: usize) -> usize
+    ensures { λ r. ⌜ r ≡ placeFrom (now (table .entry)) n (twoAt (now (table .entry)) 0) ⌝ }
+{
+    let mut place = two_at(table, 0);
+    let mut k = 0;
+    while k < n {
+        if TABLE_MOST < place {
+            return place;
+        }
+        let parts = parts_at(table, place);
+        place = parts.next;
+        k += 1;
+    }
+    place
+}
+
+// A part of the table is there, is not empty and is the name.
+fn is_named(table: &[u8], span: Span, name: &[u8]) -> bool
+    ensures { λ r. ⌜ r ≡ isNamedIn (now (table .entry)) span (now (name .entry)) ⌝ }
+{
+    let start = span.at;
+    let len = span.len;
+    if len == 0 {
+        return false;
+    }
+    if table.len() < start {
+        return false;
+    }
+    if table.len() - start < len {
+        return false;
+    }
+    let end = start + len;
+    same_words(name, &table[start..end])
+}
+
+// The record's label or short name is the name.
+fn has_name(table: &[u8], parts: Parts, name: &[u8]) -> bool
+    ensures { λ r. ⌜ r ≡ hasName (now (table .entry)) parts (now (name .entry)) ⌝ }
+{
+    if is_named(table, parts.label, name) {
+        return true;
+    }
+    is_named(table, parts.short, name)
+}
+
+// The first of the n fields whose records begin at a place that has the name.
+fn find_from(table: &[u8], name: &[u8], n: usize, place: usize) -> FieldAnswer
+    ensures { λ r. ⌜ r ≡ findFrom (now (table .entry)) (now (name .entry)) 0 n place ⌝ }
+{
+    let mut begin = place;
+    let mut i = 0;
+    while i < n {
+        if TABLE_MOST < begin {
+            return FieldAnswer::Unknown;
+        }
+        let parts = parts_at(table, begin);
+        if has_name(table, parts, name) {
+            return FieldAnswer::At(i);
+        }
+        begin = parts.next;
+        i += 1;
+    }
+    FieldAnswer::Unknown
+}
