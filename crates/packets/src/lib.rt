@@ -1,3 +1,8 @@
 // Tables are checked, and packets read by them.
+mod bits;
+mod readings;
 mod records;
+mod steps;
+mod tables;
 mod trees;
+mod walks;

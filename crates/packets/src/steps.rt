@@ -88,13 +88,14 @@ fn fixed_bits(p: Parts) -> usize
     0
 }
 
-fn unit_of(number: usize) -> u64
-    ensures { λ r. ⌜ (r ≡ unitOf number) × (r ≤ 8) ⌝ }
+// A number of units: 8 bits, or 1.
+fn scale(unit: usize, n: u32) -> u64
+    ensures { λ r. ⌜ r ≡ unitOf unit * n ⌝ }
 {
-    if number == 8 {
-        return 8;
+    if unit == 8 {
+        return 8 * (n as u64);
     }
-    1
+    n as u64
 }
 
 // The sum of the fixed widths of n records from a place on.
@@ -117,11 +118,10 @@ fn later_bits(table: &[u8], start: usize, n: usize) -> usize
 fn measured_at(table: &[u8], run: &[u32], p: Parts) -> Got
     ensures { λ r. ⌜ r ≡ gotOf (measuredAt (now (table .entry)) (now (run .entry)) p) ⌝ }
 {
-    let unit = unit_of(p.number);
     let tree = Cursor { at: p.tree.at };
     let v = tree.value(table, DEPTH, run);
     match v {
-        Evaluated::Value(n, next) => Got::Value(unit * (n as u64)),
+        Evaluated::Value(n, next) => Got::Value(scale(p.number, n)),
         Evaluated::Stop(f) => Got::Stop(f),
     }
 }

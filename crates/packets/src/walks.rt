@@ -17,7 +17,7 @@ ghost use Rattle.base.specs.Places.{twoAt};
 ghost use Rattle.rules.specs.Reading.{bitTotal};
 ghost use Rattle.packets.specs.Steps.{fieldStep};
 ghost use Rattle.packets.specs.Walks.{
-  putAt, movedOf, keptAt, stepAfter, runWith, Fits, refusedOf, walkAll, walkAnswer, Leaves,
+  putAt, keptAt, stepAfter, runWith, refusedOf, walkAll, walkAnswer, Leaves,
 };
 
 const FIELDS_MOST: usize = 64;
