@@ -1,7 +1,11 @@
 -- PartsLaws, RecordLaws   the parts of a record and the field stored there
 -- BitLaws                 the number that bits make
 -- StepLaws                one field's step
+-- Products   a product of two 32-bit numbers
+-- TreeSteps  one step of checking, skipping and evaluating a stored tree
 pub mod PartsLaws
 pub mod RecordLaws
 pub mod BitLaws
 pub mod StepLaws
+pub mod Products
+pub mod TreeSteps
