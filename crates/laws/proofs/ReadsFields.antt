@@ -43,7 +43,7 @@ pub label-length : (w : List ℕ) → isLabel w ≡ true → length w ≤ labelM
 unfolding isLabel
 label-length w h = leb-true _ _ (and-true (leb (length w) labelMost) _ h .0)
 
-short-length : (w : List ℕ) → isShort w ≡ true → length w ≤ shortMost
+pub short-length : (w : List ℕ) → isShort w ≡ true → length w ≤ shortMost
 unfolding isShort
 short-length w h =
     let e = and-true (headIs isLetter w) (all isWordByte w && (leb (length w) shortMost && not (isReserved w))) h in
@@ -78,11 +78,11 @@ maybe-stored (some t) h small =
 
 -- ── widths ──
 
-unit-bound : (u : ℕ) → eqb u 1 || eqb u 8 ≡ true → u < 65536
+pub unit-bound : (u : ℕ) → eqb u 1 || eqb u 8 ≡ true → u < 65536
 unit-bound u h =
     or-true (eqb u 1) (eqb u 8) (λ e. omega (arith, eqb-true u 1 e)) (λ e. omega (arith, eqb-true u 8 e)) h
 
-fixed-bound : (n : ℕ) → between 1 n fixedMost ≡ true → n < 65536
+pub fixed-bound : (n : ℕ) → between 1 n fixedMost ≡ true → n < 65536
 fixed-bound n h = omega (arith, leb-true n fixedMost (and-true (leb 1 n) (leb n fixedMost) h .1))
 
 kind-bound : (w : Width ℕ) → kindNumber w < 65536

@@ -3,9 +3,13 @@
 -- StepLaws                one field's step
 -- Products   a product of two 32-bit numbers
 -- TreeSteps  one step of checking, skipping and evaluating a stored tree
+-- PartsLaws    the parts of a record and the field stored there
+-- RecordLaws   a field's whole record
+-- FieldBounds  the sizes of a field within the limits
 pub mod PartsLaws
 pub mod RecordLaws
 pub mod BitLaws
 pub mod StepLaws
 pub mod Products
 pub mod TreeSteps
+pub mod FieldBounds
