@@ -26,6 +26,9 @@ gotOf (fault f) = Got.Stop f
 abbrev pub numbersIn : Entry → Numbers
 numbersIn e = record { present = e .present; offset = e .offset; width = e .width; value = e .value }
 
+abbrev pub entryIn : Numbers → Entry
+entryIn e = record { present = e .present; offset = e .offset; width = e .width; value = e .value }
+
 abbrev pub foundOf : Step → Found
 foundOf (step e next) = Found.Field (numbersIn e) next
 foundOf (stop f) = Found.Stop f

@@ -1,0 +1,70 @@
+use borrow.Author.Needs.{needs}
+use Rattle.packets.proofs.readings.part_at.Statement.{statement}
+use Rattle.packets.proofs.readings.part_at.Tie as tie
+use Rattle.packets.proofs.readings.part_at.Reads as reads
+use Rattle.packets.proofs.readings.part_at.Lts as lts
+
+mul-at : tie.Need-mul-at
+mul-at c = search needs
+
+add-offset : tie.Need-add-offset
+add-offset c = search needs
+
+mul-offset : tie.Need-mul-offset
+mul-offset c = search needs
+
+shared-slice-read-offset : tie.Need-shared-slice-read-offset
+shared-slice-read-offset c = search needs
+
+cast-offset : tie.Need-cast-offset
+cast-offset c = search needs
+
+add-width : tie.Need-add-width
+add-width c = search needs
+
+mul-width : tie.Need-mul-width
+mul-width c = search needs
+
+shared-slice-read-width : tie.Need-shared-slice-read-width
+shared-slice-read-width c = search needs
+
+cast-width : tie.Need-cast-width
+cast-width c = search needs
+
+mul-if1 : tie.Need-mul-if1
+mul-if1 c = search needs
+
+shared-slice-read-if1 : tie.Need-shared-slice-read-if1
+shared-slice-read-if1 c = search needs
+
+returns : tie.Need-returns
+returns c = search needs
+
+returns-2 : tie.Need-returns-2
+returns-2 c = search needs
+
+returns-3 : tie.Need-returns-3
+returns-3 c = search needs
+
+returns-4 : tie.Need-returns-4
+returns-4 c = search needs
+
+pub part-at-spec : {M : Type 1} → statement M
+part-at-spec =
+    tie.close
+    (tie.spec
+    mul-at
+    add-offset
+    mul-offset
+    shared-slice-read-offset
+    cast-offset
+    add-width
+    mul-width
+    shared-slice-read-width
+    cast-width
+    mul-if1
+    shared-slice-read-if1
+    returns
+    returns-2
+    returns-3
+    returns-4)

@@ -1,0 +1,21 @@
+use borrow.Author.Needs.{needs}
+use Rattle.packets.proofs.readings.read_run.Statement.{statement}
+use Rattle.packets.proofs.readings.read_run.Tie as tie
+use Rattle.packets.proofs.readings.read_run.Reads as reads
+use Rattle.packets.proofs.readings.read_run.Lts as lts
+use Rattle.packets.proofs.walks.walk_fields.Reads as walk-fields-reads
+
+returns : tie.Need-returns
+returns c = search needs
+
+walk-fields-requires : tie.Need-walk-fields-requires
+walk-fields-requires c κs = search needs
+
+same-length : tie.Need-same-length
+same-length c = search needs
+
+returns-2 : tie.Need-returns-2
+returns-2 c = search needs
+
+pub read-run-spec : {M : Type 1} → statement M
+read-run-spec = tie.close (tie.spec returns walk-fields-requires same-length returns-2)
