@@ -18,6 +18,10 @@ pub mod BitLaws
 pub mod StepLaws
 pub mod WalkLaws
 pub mod RunEntries
+pub mod FieldReads
+pub mod FieldMatches
+pub mod HeadReads
+pub mod WalkReads
 pub mod Products
 pub mod TreeSteps
 pub mod FieldBounds

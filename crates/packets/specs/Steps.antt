@@ -51,12 +51,12 @@ laterBits (suc n) s at = fixedOf (recordAt s at) + laterBits n s (recordAt s at 
 
 -- ── trees ──
 
-abbrev pub valueIn : Evaluated → Value
-valueIn (Evaluated.Value n next) = value n
-valueIn (Evaluated.Stop f) = fault f
+abbrev pub valueOf : Evaluated → Value
+valueOf (Evaluated.Value n next) = value n
+valueOf (Evaluated.Stop f) = fault f
 
 unfoldable pub treeValue : List ℕ → List ℕ → ℕ → Value
-treeValue s run at = valueIn (valueAt 12 s run at)
+treeValue s run at = valueOf (valueAt 12 s run at)
 
 unfoldable pub holdsAt : List ℕ → List ℕ → Span → Value
 holdsAt s run p = cond (eqb (p .len) 0) (value 1) (treeValue s run (p .at))

@@ -77,6 +77,7 @@ pub fn read_packet(table: &[u8], packet: &[u8], run: &mut [u32]) -> PacketAnswer
     let answer = read_run(table, packet, &mut numbers);
     if is_accepted(answer) {
         copy_numbers(run, &numbers, n);
+        return answer;
     }
     answer
 }

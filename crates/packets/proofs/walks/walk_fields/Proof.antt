@@ -1,3 +1,4 @@
+use Rattle.packets.specs.Steps.{fieldStep}
 use mathlib.Core.Path.{_≡_, refl, sym, _∙_}
 use native.Mathlib.Omega.{arith}
 use denote.Ref.{now}
@@ -79,7 +80,7 @@ loop-less : tie.Need-loop-less Inv-loop μ-loop
 loop-less c = search needs
 
 loop-again : tie.Need-loop-again Inv-loop μ-loop
-loop-again c = let h = walk-to (now (c .before .before .before .before .before .before .before .before .before .before .before .before .before .before .before .before .args .table)) (now (c .before .before .before .before .before .before .before .before .before .before .before .before .before .before .before .before .args .packet)) (c .before .before .before .before .before .before .before .before .before .loop .run) (c .before .before .before .before .before .before .before .before .before .before .before .before .two-at .result) (c .before .before .before .before .before .before .before .before .before .loop .i) (c .before .before .before .before .before .before .before .before .before .loop .place) (c .before .before .before .before .before .before .before .before .before .loop .at) (c .before .before .before .before .before .before .before .record-at .result) (c .before .before .before .before .before .one-field .result) (c .before .before .before .before .before .one-field .last .1 .1 .0) (omega arith) (c .before .before .before .before .before .before .before .record-at .ensures) (c .before .before .before .before .before .one-field .ensures .0) _ (c .before .before .before .before .before .one-field .ensures .1) (c .before .moved .given .1) in (omega arith, step-inside (now (c .before .before .before .before .before .before .before .before .before .before .before .before .before .before .before .before .args .table)) (now (c .before .before .before .before .before .before .before .before .before .before .before .before .before .before .before .before .args .packet)) (c .before .before .before .before .before .before .before .before .before .loop .run) (c .before .before .before .before .before .before .before .before .before .loop .i) (c .before .before .before .before .before .before .before .record-at .result) _ (c .before .before .before .before .before .before .before .before .before .loop .place) _ (c .before .before .before .before .before .before .before .before .before .loop .inv .1) (sym (c .before .before .before .before .before .one-field .ensures .0) ∙ c .before .moved .given .1), rw (c .before .before .before .before .before .one-field .ensures .1) (length-with (c .before .before .before .before .before .before .before .before .before .loop .run) (c .before .before .before .before .before .before .before .before .before .loop .i) _) ∙ c .before .before .before .before .before .before .before .before .before .loop .inv .2, c .before .before .before .before .before .before .before .before .before .loop .inv .3 ∙ h)
+loop-again c = let h = walk-to (now (c .before .before .before .before .before .before .before .before .before .before .before .before .before .before .before .before .args .table)) (now (c .before .before .before .before .before .before .before .before .before .before .before .before .before .before .before .before .args .packet)) (c .before .before .before .before .before .before .before .before .before .loop .run) (c .before .before .before .before .before .before .before .before .before .before .before .before .two-at .result) (c .before .before .before .before .before .before .before .before .before .loop .i) (c .before .before .before .before .before .before .before .before .before .loop .place) (c .before .before .before .before .before .before .before .before .before .loop .at) (c .before .before .before .before .before .before .before .record-at .result) (c .before .before .before .before .before .one-field .result) (c .before .before .before .before .before .one-field .last .1 .1 .0) (omega arith) (c .before .before .before .before .before .before .before .record-at .ensures) (c .before .before .before .before .before .one-field .ensures .0) _ (c .before .before .before .before .before .one-field .ensures .1) (c .before .moved .given .1) in (omega arith, step-inside (now (c .before .before .before .before .before .before .before .before .before .before .before .before .before .before .before .before .args .table)) (now (c .before .before .before .before .before .before .before .before .before .before .before .before .before .before .before .before .args .packet)) (c .before .before .before .before .before .before .before .before .before .loop .run) (c .before .before .before .before .before .before .before .before .before .loop .i) (c .before .before .before .before .before .before .before .record-at .result) _ (c .before .before .before .before .before .before .before .before .before .loop .place) _ (c .before .before .before .before .before .before .before .before .before .loop .inv .1) (sym (c .before .before .before .before .before .one-field .ensures .0) ∙ c .before .moved .given .1), rw (c .before .before .before .before .before .one-field .ensures .1) (length-with (c .before .before .before .before .before .before .before .before .before .loop .run) (c .before .before .before .before .before .before .before .before .before .loop .i) (fieldStep (now (c .before .before .before .before .before .before .before .before .before .before .before .before .before .before .before .before .args .table)) (now (c .before .before .before .before .before .before .before .before .before .before .before .before .before .before .before .before .args .packet)) (c .before .before .before .before .before .before .before .before .before .loop .run) (c .before .before .before .before .before .before .before .record-at .result) (c .before .before .before .before .before .before .before .before .before .before .before .before .two-at .result - c .before .before .before .before .before .before .before .before .before .loop .i - 1) (c .before .before .before .before .before .before .before .before .before .loop .place))) ∙ c .before .before .before .before .before .before .before .before .before .loop .inv .2, c .before .before .before .before .before .before .before .before .before .loop .inv .3 ∙ h)
 
 same-length-2 : tie.Need-same-length-2 Inv-loop μ-loop
 same-length-2 c = search needs
