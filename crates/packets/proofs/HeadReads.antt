@@ -93,7 +93,7 @@ head-stands d w s e =
     record {
       count = q₃ .0;
       few = few;
-      end = 0 + length a + length b;
+      end = twoAt s 0 + length b;
       fields = rw start at fields;
       short = omega (arith, fields-length [] (d .fields) (w .form) (w .size));
     }

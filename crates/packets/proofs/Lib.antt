@@ -21,7 +21,10 @@ pub mod RunEntries
 pub mod FieldReads
 pub mod FieldMatches
 pub mod HeadReads
+pub mod CopyLaws
 pub mod WalkReads
+pub mod PacketPromises
+pub mod PartPromises
 pub mod Products
 pub mod TreeSteps
 pub mod FieldBounds

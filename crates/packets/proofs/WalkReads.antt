@@ -160,7 +160,7 @@ walk-reads s packet (f ∷ fs) before entries run place at end counts begins roo
 
 pub walk-all : (d : Description) → Within d → (s packet run : List ℕ) → stored d ≡ s → 256 ≤ length run
     → WalkHolds packet (readFields packet [] 0 (d .fields)) (walkAll s packet run)
-unfolding walkAll
+unfolding walkAll joined
 walk-all d w s packet run e room =
     let h = head-stands d w s e in
     let few : ltb 64 (length (d .fields)) ≡ false = le-ltb 64 (length (d .fields)) (h .few) in

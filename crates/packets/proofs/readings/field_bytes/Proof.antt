@@ -1,3 +1,9 @@
+use mathlib.Core.Path.{_≡_, refl, sym, _∙_}
+use native.Mathlib.Omega.{arith}
+use denote.Ref.{now}
+use Prim.Native.Nat.{_+_, _-_, _*_, _≤_, _<_, _/_}
+use native.Mathlib.Nat.{add-sub-cancel-left}
+use Rattle.packets.proofs.PartPromises.{field-handed}
 use borrow.Author.Needs.{needs}
 use Rattle.packets.proofs.readings.field_bytes.Statement.{statement}
 use Rattle.packets.proofs.readings.field_bytes.Tie as tie
@@ -9,19 +15,19 @@ find-part-requires : tie.Need-find-part-requires
 find-part-requires c κs = search needs
 
 add-end : tie.Need-add-end
-add-end c = search needs
+add-end c = omega (arith, c .before .find-part .ensures .within)
 
 sub-result : tie.Need-sub-result
-sub-result c = search needs
+sub-result c = omega (arith, c .before .find-part .ensures .within)
 
 part-result-start : tie.Need-part-result-start
-part-result-start c = search needs
+part-result-start c = omega (arith, c .before .find-part .ensures .within)
 
 part-result-end : tie.Need-part-result-end
-part-result-end c = search needs
+part-result-end c = omega (arith, c .before .find-part .ensures .within)
 
 returns : tie.Need-returns
-returns c = search needs
+returns c = field-handed (now (c .before .before .before .before .before .args .table)) (now (c .before .before .before .before .before .args .packet)) (c .before .before .before .before .before .args .index) (c .before .before .find-part .result) _ _ _ (c .before .before .find-part .ensures) (simp add-sub-cancel-left) refl
 
 pub field-bytes-spec : {M : Type 1} → statement M
 field-bytes-spec =
