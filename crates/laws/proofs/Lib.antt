@@ -8,6 +8,8 @@
 -- Cover         an accepted packet's bits lie in one present field each
 -- Conditions    presence goes by conditions, and constraints are kept
 -- PlacesOfNumbers  numbers that stand in two bytes and in four
+-- Settled       the promises settle each answer and buffer
+-- RunCover      the entries in the run after an accepted packet cover it
 pub mod Readers
 pub mod ReadsNumbers
 pub mod ReadsTrees
@@ -18,3 +20,5 @@ pub mod Readings
 pub mod Cover
 pub mod Conditions
 pub mod PlacesOfNumbers
+pub mod Settled
+pub mod RunCover

@@ -1,3 +1,8 @@
+-- ClassRules, Spaces, Ends  what the tests of bytes and names need
+-- RepeatLaws                searches for the first repeated thing
+-- PadLaws                   names held as arrays
 pub mod ClassRules
 pub mod Spaces
 pub mod Ends
+pub mod RepeatLaws
+pub mod PadLaws

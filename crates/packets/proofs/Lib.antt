@@ -9,6 +9,8 @@
 -- WriteLaws               writing one byte behind the other
 -- LinesWritten            the lines of fields, written one behind the other
 -- LinesStored             for a stored description they are those of the listing
+-- BitLaws                 the number that bits make
+-- StepLaws, WalkLaws      one field of a packet, and all
 pub mod Products
 pub mod TreeSteps
 pub mod TreeCodes
@@ -23,3 +25,14 @@ pub mod LookupSteps
 pub mod WriteLaws
 pub mod LinesWritten
 pub mod LinesStored
+pub mod BitLaws
+pub mod StepLaws
+pub mod WalkLaws
+pub mod RunEntries
+pub mod FieldReads
+pub mod FieldMatches
+pub mod HeadReads
+pub mod CopyLaws
+pub mod WalkReads
+pub mod PacketPromises
+pub mod PartPromises

@@ -1,0 +1,62 @@
+use mathlib.Core.Path.{_≡_, refl, sym, _∙_, ap}
+use Prim.Native.Nat.{ℕ, _+_, _-_, _≤_, _<_}
+use native.Mathlib.Omega.{arith}
+use native.Mathlib.Numerals.{add-one}
+use lib.ListN.{length, take, getD, set}
+use lib.Seq.{take-all, take-suc-set}
+use denote.Ref.{now}
+use Rattle.names.specs.Repeats.{padTo}
+use Rattle.names.proofs.PadLaws.{pad-set, pad-whole}
+use borrow.Author.Needs.{needs}
+use Rattle.names.proofs.repeats.held_name.Statement.{statement}
+use Rattle.names.proofs.repeats.held_name.Tie as tie
+use Rattle.names.proofs.repeats.held_name.Reads as reads
+use Rattle.names.proofs.repeats.held_name.Lts as lts
+use Rattle.names.proofs.repeats.byte_of.Reads as byte-of-reads
+
+abbrev Inv-loop : tie.InvT-loop
+Inv-loop w name₀ i₀ name i = (i ≤ 8) × (length name ≡ 8) × (take i name ≡ padTo i w)
+
+abbrev μ-loop : tie.MeasureT-loop
+μ-loop w name₀ i₀ name i = 8 - i
+
+loop-holds : tie.Need-loop-holds Inv-loop μ-loop
+unfolding padTo
+loop-holds c = (omega arith, search needs, refl)
+
+byte-of-requires : tie.Need-byte-of-requires Inv-loop μ-loop
+byte-of-requires c κs = search needs
+
+array-write-name : tie.Need-array-write-name Inv-loop μ-loop
+array-write-name c = search needs
+
+add-i : tie.Need-add-i Inv-loop μ-loop
+add-i c = search needs
+
+loop-less : tie.Need-loop-less Inv-loop μ-loop
+loop-less c = omega arith
+
+loop-again : tie.Need-loop-again Inv-loop μ-loop
+loop-again c = 
+    (
+      omega arith,
+      search needs,
+      pad-set (c .before .before .loop .name) (now (c .before .before .before .before .args .w)) (c .before .before .loop .i) _ (omega arith) (c .before .before .loop .inv .2) (c .byte-of .ensures),
+    )
+
+returns : tie.Need-returns Inv-loop μ-loop
+returns c = pad-whole _ _ (c .before .loop .i) (omega arith) (omega arith) (c .before .loop .inv .2)
+
+pub held-name-spec : {M : Type 1} → statement M
+held-name-spec =
+    tie.close
+    (tie.spec
+    Inv-loop
+    μ-loop
+    loop-holds
+    byte-of-requires
+    array-write-name
+    add-i
+    loop-less
+    loop-again
+    returns)

@@ -1,0 +1,40 @@
+use mathlib.Core.Path.{_≡_, refl, sym, _∙_}
+use borrow.Author.Tests.{eq-eqb, ne-eqb}
+use Rattle.names.specs.Repeats.{sameName}
+use borrow.Author.Needs.{needs}
+use Rattle.names.proofs.repeats.same_name.Statement.{statement}
+use Rattle.names.proofs.repeats.same_name.Tie as tie
+use Rattle.names.proofs.repeats.same_name.Reads as reads
+use Rattle.names.proofs.repeats.same_name.Lts as lts
+use Rattle.names.proofs.words.same_words.Reads as same-words-reads
+
+array-read-if1 : tie.Need-array-read-if1
+array-read-if1 c = search needs
+
+returns : tie.Need-returns
+unfolding sameName
+returns c = rw (eq-eqb _ _ (c .if1 .taken))
+
+slice-aggregate-same-words : tie.Need-slice-aggregate-same-words
+slice-aggregate-same-words c = search needs
+
+slice-aggregate-same-words-2 : tie.Need-slice-aggregate-same-words-2
+slice-aggregate-same-words-2 c = search needs
+
+same-words-requires : tie.Need-same-words-requires
+same-words-requires c κs = search needs
+
+returns-2 : tie.Need-returns-2
+unfolding sameName
+returns-2 c = rw (ne-eqb _ _ (c .before .before .before .if1 .left)) (c .same-words .ensures)
+
+pub same-name-spec : {M : Type 1} → statement M
+same-name-spec =
+    tie.close
+    (tie.spec
+    array-read-if1
+    returns
+    slice-aggregate-same-words
+    slice-aggregate-same-words-2
+    same-words-requires
+    returns-2)

@@ -1,0 +1,34 @@
+-- The first of some things that is like an earlier one, and names held as arrays of 8 bytes.
+-- This mirrors the code: no public promise rests on this file.
+use mathlib.Core.Bool.{Bool, cond, _&&_, not}
+use mathlib.Core.List.{List, [], _∷_}
+use Prim.Native.Nat.{ℕ, zero, suc}
+use lib.Dec.{ltb, eqb}
+use lib.ListN.{getD}
+use Rattle.base.specs.Lists.{same}
+
+-- the first of the n indexes from i that passes the test, else i + n
+unfoldable pub firstFrom : (ℕ → Bool) → ℕ → ℕ → ℕ
+firstFrom f i zero = i
+firstFrom f i (suc n) = cond (f i) i (firstFrom f (suc i) n)
+
+-- what stands at j is like something earlier; alike takes the earlier index first
+abbrev pub repeats : (ℕ → ℕ → Bool) → ℕ → Bool
+repeats alike j = ltb (firstFrom (λ i. alike i j) 0 j) j
+
+-- the first index below n whose thing repeats an earlier one, else n
+abbrev pub firstRepeat : (ℕ → ℕ → Bool) → ℕ → ℕ
+firstRepeat alike n = firstFrom (repeats alike) 0 n
+
+-- the first n bytes of a name, with zeros behind its end
+unfoldable pub padTo : ℕ → List ℕ → List ℕ
+padTo zero w = []
+padTo (suc n) [] = 0 ∷ padTo n []
+padTo (suc n) (x ∷ w) = x ∷ padTo n w
+
+-- both are the same name: zeros are none
+unfoldable pub sameName : List ℕ → List ℕ → Bool
+sameName a b = not (eqb (getD a 0 0) 0) && same a b
+
+abbrev pub namesAlike : List (List ℕ) → ℕ → ℕ → Bool
+namesAlike names i j = sameName (getD names i []) (getD names j [])

@@ -1,0 +1,60 @@
+// Short names held by value, and the first of them that repeats an earlier one.
+use crate::words::same_words;
+ghost use mathlib.Core.Path.{_≡_};
+ghost use Prim.Native.Nat.{_≤_};
+ghost use lib.ListN.{getD};
+ghost use Rattle.names.specs.Repeats.{padTo, sameName, namesAlike, firstRepeat};
+
+// A byte, 0 behind the end.
+fn byte_of(w: &[u8], i: usize) -> u8
+    ensures { λ r. ⌜ r ≡ getD (now (w .entry)) i 0 ⌝ }
+{
+    if i < w.len() {
+        return w[i];
+    }
+    0
+}
+
+// The first 8 bytes of a name, with zeros behind its end.
+pub fn held_name(w: &[u8]) -> [u8; 8]
+    ensures { λ r. ⌜ r ≡ padTo 8 (now (w .entry)) ⌝ }
+{
+    let mut name = [0u8; 8];
+    let mut i = 0;
+    while i < 8 {
+        name[i] = byte_of(w, i);
+        i += 1;
+    }
+    name
+}
+
+// Both are the same name; zeros are none.
+pub fn same_name(a: [u8; 8], b: [u8; 8]) -> bool
+    ensures { λ r. ⌜ r ≡ sameName a b ⌝ }
+{
+    if a[0] == 0 {
+        return false;
+    }
+    same_words(&a, &b)
+}
+
+// The first of n names that repeats an earlier one, else n.
+pub fn first_repeat(names: [[u8; 8]; 64], n: usize) -> usize
+    requires { ⌜ n ≤ 64 ⌝ }
+    ensures { λ r. ⌜ r ≡ firstRepeat (namesAlike names) n ⌝ }
+{
+    let mut j = 0;
+    'later: loop {
+        if j >= n {
+            break 'later n;
+        }
+        let mut i = 0;
+        while i < j {
+            if same_name(names[i], names[j]) {
+                break 'later j;
+            }
+            i += 1;
+        }
+        j += 1;
+    }
+}

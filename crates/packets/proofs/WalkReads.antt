@@ -1,0 +1,188 @@
+-- The walk over a stored table's records reads a packet as the description says.
+use mathlib.Core.Path.{_≡_, refl, sym, _∙_, ap}
+use mathlib.Core.Bool.{Bool, true, false, cond}
+use mathlib.Core.List.{List, [], _∷_, _++_}
+use mathlib.Core.Option.{none}
+use Prim.Native.Nat.{ℕ, suc, _+_, _*_, _<_, _≤_}
+use native.Mathlib.Omega.{arith}
+use native.Mathlib.Numerals.{add-one}
+use lib.Dec.{ltb, eqb}
+use lib.ListN.{length, take, length-append}
+use borrow.Author.Tests.{eqb-true, le-ltb, lt-ltb}
+use Rattle.base.specs.Lists.{joined, sum, firstBreak}
+use Rattle.base.specs.Places.{Stands, twoAt}
+use Rattle.base.proofs.Breaks.{firstBreak-cons}
+use Rattle.base.proofs.Places.{stands-left, stands-right}
+use Rattle.rules.specs.declared.Fault.{Fault}
+use Rattle.rules.specs.declared.PacketAnswer.{PacketAnswer}
+use Rattle.rules.specs.Fields.{Field, Description, fixedBits}
+use Rattle.rules.specs.Within.{keepsForm, keepsSize, keepsTypes, indexReadable, isWidth, Within}
+use Rattle.rules.specs.Stored.{storedField, stored}
+use Rattle.rules.specs.Answers.{faultNumber, ofPacket}
+use Rattle.rules.specs.Reading.{
+  Entry,
+  Step,
+  step,
+  stop,
+  Reading,
+  complete,
+  faulted,
+  leftOver,
+  readOn,
+  readField,
+  readFields,
+  reading,
+  bitTotal,
+  numbersOf,
+}
+use Rattle.rules.specs.Promises.{readingAnswer}
+use Rattle.laws.proofs.ReadsFields.{formed-parts}
+use Rattle.packets.specs.declared.records.Parts.{Parts}
+use Rattle.packets.specs.declared.walks.Moved.{Moved}
+use Rattle.packets.specs.Parts.{tableMost, partsAt}
+use Rattle.packets.specs.PartsStand.{PartsStand}
+use Rattle.packets.specs.Steps.{recordAt, laterBits, fieldStep}
+use Rattle.packets.specs.Walks.{
+  stepAfter,
+  runWith,
+  Walk,
+  ended,
+  stopped,
+  tooMany,
+  onMoved,
+  walkFrom,
+  walkAll,
+  walkAnswer,
+  Leaves,
+}
+use Rattle.packets.specs.RunRead.{RunHolds}
+use Rattle.packets.proofs.RecordLaws.{record-parts}
+use Rattle.packets.proofs.FieldBounds.{field-bounds}
+use Rattle.packets.proofs.RunEntries.{Begins}
+use Rattle.packets.proofs.FieldReads.{fixed-part}
+use Rattle.packets.proofs.FieldMatches.{Matches, field-matches}
+use Rattle.packets.proofs.WalkLaws.{length-with}
+use Rattle.packets.proofs.HeadReads.{HeadStands, head-stands}
+
+-- ── records one behind the other ──
+
+-- the record of the first field, and the records behind it
+record First (s : List ℕ) (at end : ℕ) (f : Field ℕ) (fs : List (Field ℕ)) : Type 0 where
+  parts : PartsStand s (recordAt s at) f
+  later : Stands s (recordAt s at .next) (joined storedField fs) end
+
+first-stands : (before : List (Field ℕ)) (f : Field ℕ) (fs : List (Field ℕ)) (s : List ℕ) (at end : ℕ)
+    → firstBreak keepsForm before (f ∷ fs) ≡ none → firstBreak keepsSize before (f ∷ fs) ≡ none
+    → Stands s at (joined storedField (f ∷ fs)) end → end ≤ tableMost → First s at end f fs
+unfolding joined recordAt
+first-stands before f fs s at end form size p le =
+    let e = firstBreak-cons keepsForm before f fs form in
+    let z = firstBreak-cons keepsSize before f fs size in
+    let here = stands-left s at end (storedField f) (joined storedField fs) p in
+    let there = stands-right s at end (storedField f) (joined storedField fs) p in
+    let q = record-parts s at (at + length (storedField f)) f (field-bounds f (e .0) (z .0)) here in
+    let near : ltb tableMost at ≡ false = le-ltb tableMost at (omega (arith, there .end)) in
+    record { parts = rw near (q .0); later = rw (near, q .1) there }
+
+later-sum : (before fs : List (Field ℕ)) (s : List ℕ) (at end : ℕ) → firstBreak keepsForm before fs ≡ none
+    → firstBreak keepsSize before fs ≡ none → Stands s at (joined storedField fs) end → end ≤ tableMost
+    → laterBits (length fs) s at ≡ sum fixedBits fs
+unfolding laterBits sum
+later-sum before [] s at end form size p le = refl
+later-sum before (f ∷ fs) s at end form size p le =
+    let e = firstBreak-cons keepsForm before f fs form in
+    let z = firstBreak-cons keepsSize before f fs size in
+    let q = first-stands before f fs s at end form size p le in
+    let width = q .parts .width in
+    let bits = fixed-part (recordAt s at) (f .width) (q .parts .kind) s (recordAt s at .tree) width (formed-parts f (e .0) .2) in
+    rw (bits, later-sum (before ++ (f ∷ [])) fs s (recordAt s at .next) end (e .1) (z .1) (q .later) le)
+
+-- ── all fields ──
+
+-- a reading, and a walk of the code with the run that it leaves
+pub record WalkHolds (packet : List ℕ) (got : Reading) (w : Walk) : Type 0 where
+  pub answer : ofPacket (walkAnswer packet w) ≡ readingAnswer got packet
+  pub front : (entries : List Entry) → got ≡ complete entries → (after : List ℕ) → Leaves w after → Begins after entries
+
+at-end : (packet : List ℕ) (entries : List Entry) (run : List ℕ) (place : ℕ) → Begins run entries → (x : Bool)
+    → eqb place (bitTotal packet) ≡ x
+    → ofPacket (cond x (PacketAnswer.Accepted place) PacketAnswer.LeftOver)
+      ≡ readingAnswer (cond x (complete entries) leftOver) packet
+unfolding ofPacket readingAnswer
+at-end packet entries run place b true e = rw (eqb-true place (bitTotal packet) e)
+at-end packet entries run place b false e = refl
+
+complete-is : (x : Bool) (entries es : List Entry) → cond x (complete entries) leftOver ≡ complete es → entries ≡ es
+complete-is true entries es e = cc
+complete-is false entries es e = cc
+
+walk-on : (packet after : List ℕ) (entries : List Entry) (go : List Entry → ℕ → Reading) (walk : ℕ → Walk)
+    → ((e : Entry) (next : ℕ) → Begins after (entries ++ (e ∷ [])) → WalkHolds packet (go (entries ++ (e ∷ [])) next) (walk next))
+    → (t : Step) (m : Moved) → Matches entries after t m
+    → WalkHolds packet (readOn entries t go) (onMoved m (length entries + 1) walk)
+unfolding ofPacket readingAnswer walkAnswer
+walk-on packet after entries go walk ih (step e next) (Moved.To m) q = rw (q .0) (ih e next (q .1))
+walk-on packet after entries go walk ih (step e next) (Moved.Stop g) q = absurd q
+walk-on packet after entries go walk ih (stop f) (Moved.To m) q = absurd q
+walk-on packet after entries go walk ih (stop f) (Moved.Stop g) q =
+    record { answer = rw (q, add-one); front = λ es e. let z : _≡_ {A = ℕ} 0 1 = cc in absurd (omega arith) }
+
+pub walk-reads : (s packet : List ℕ) (fs before : List (Field ℕ)) (entries : List Entry) (run : List ℕ) (place at end : ℕ)
+    → length entries ≡ length before → Begins run entries → 4 * (length entries + length fs) ≤ length run
+    → firstBreak keepsForm before fs ≡ none → firstBreak keepsSize before fs ≡ none
+    → firstBreak (keepsTypes indexReadable) before fs ≡ none
+    → Stands s at (joined storedField fs) end → end ≤ tableMost
+    → WalkHolds packet (readFields packet entries place fs) (walkFrom s packet (length fs) (length entries) run place at)
+unfolding walkFrom readFields walkAnswer
+walk-reads s packet [] before entries run place at end counts begins room form size kinds p le = record {
+  answer = at-end packet entries run place begins (eqb place (bitTotal packet)) refl;
+  front = λ es e after q. rw (q, ← complete-is (eqb place (bitTotal packet)) entries es e) begins;
+}
+walk-reads s packet (f ∷ fs) before entries run place at end counts begins room form size kinds p le =
+    let q = first-stands before f fs s at end form size p le in
+    let e = firstBreak-cons keepsForm before f fs form in
+    let z = firstBreak-cons keepsSize before f fs size in
+    let k = firstBreak-cons (keepsTypes indexReadable) before f fs kinds in
+    let r = recordAt s at in
+    let sums = later-sum (before ++ (f ∷ [])) fs s (r .next) end (e .1) (z .1) (q .later) le in
+    let found = fieldStep s packet run r (length fs) place in
+    let after = runWith run (length entries) found in
+    let long : length after ≡ length run = length-with run (length entries) found in
+    walk-on packet after entries (λ more next. readFields packet more next fs)
+    (λ next. walkFrom s packet (length fs) (length entries + 1) after next (r .next))
+    (λ d next b.
+      let n : length (entries ++ (d ∷ [])) ≡ length entries + 1 = length-append entries (d ∷ []) in
+      rw n at (walk-reads s packet fs (before ++ (f ∷ [])) (entries ++ (d ∷ [])) after next (r .next) end
+      (omega (arith, length-append before (f ∷ []))) b (omega arith) (e .1) (z .1) (k .1) (q .later) le))
+    (readField packet entries place (sum fixedBits fs) f) (stepAfter s run (length entries) r found)
+    (field-matches s packet run before entries place f r counts begins (omega arith) (e .0) (z .0) (k .0) (q .parts)
+    (length fs) (sum fixedBits fs) sums)
+
+pub walk-all : (d : Description) → Within d → (s packet run : List ℕ) → stored d ≡ s → 256 ≤ length run
+    → WalkHolds packet (readFields packet [] 0 (d .fields)) (walkAll s packet run)
+unfolding walkAll joined
+walk-all d w s packet run e room =
+    let h = head-stands d w s e in
+    let few : ltb 64 (length (d .fields)) ≡ false = le-ltb 64 (length (d .fields)) (h .few) in
+    rw (h .count, few)
+    (walk-reads s packet (d .fields) [] [] run 0 (twoAt s 0) (h .end) refl refl (omega (arith, h .few)) (w .form) (w .size)
+    (w .kinds) (h .fields) (h .short))
+
+-- ── a packet read into a run ──
+
+module _ (d : Description) (s packet run : List ℕ) (r : PacketAnswer) (after : List ℕ) where
+  pub run-read : Within d → stored d ≡ s → 256 ≤ length run → length packet ≤ 2048
+      → r ≡ walkAnswer packet (walkAll s packet run) → Leaves (walkAll s packet run) after
+      → RunHolds (reading d packet) packet r after
+  unfolding reading
+  run-read w e room le is leaves =
+      let near : ltb 2048 (length packet) ≡ false = le-ltb 2048 (length packet) le in
+      let h = walk-all d w s packet run e room in
+      rw near (record { answer = rw is (h .answer); front = λ es q. h .front es q after leaves })
+
+  pub run-long : 2048 < length packet → r ≡ PacketAnswer.TooLong → RunHolds (reading d packet) packet r after
+  unfolding reading ofPacket readingAnswer
+  run-long lt is =
+      let far : ltb 2048 (length packet) ≡ true = lt-ltb 2048 (length packet) lt in
+      rw far
+      (record { answer = rw is; front = λ es e. let z : _≡_ {A = ℕ} 0 1 = cc in absurd (omega arith) })

@@ -1,0 +1,82 @@
+-- The fields of a packet in order, by a table's records. This mirrors the code of src/walks.rt: no public promise rests on
+-- this file.
+use mathlib.Core.Path.{_≡_}
+use mathlib.Core.Bool.{Bool, true, false, cond}
+use mathlib.Core.List.{List}
+use Prim.Native.Nat.{ℕ, zero, suc, _+_, _*_, _-_, _≤_}
+use lib.Dec.{ltb, eqb}
+use lib.ListN.{set}
+use Rattle.base.specs.Places.{twoAt}
+use Rattle.rules.specs.declared.Fault.{Fault}
+use Rattle.rules.specs.declared.Fault.the-variants.{ConstraintFalse}
+use Rattle.rules.specs.declared.PacketAnswer.{PacketAnswer}
+use Rattle.rules.specs.Values.{Value, value, fault}
+use Rattle.rules.specs.Reading.{Entry, Step, step, stop, bitTotal}
+use Rattle.packets.specs.declared.records.Span.{Span}
+use Rattle.packets.specs.declared.records.Parts.{Parts}
+use Rattle.packets.specs.declared.steps.Numbers.{Numbers}
+use Rattle.packets.specs.declared.walks.Moved.{Moved}
+use Rattle.packets.specs.Steps.{recordAt, holdsAt, fieldStep, numbersIn}
+
+-- ── one field ──
+
+-- four numbers for field i
+unfoldable pub putAt : List ℕ → ℕ → Numbers → List ℕ
+putAt run i e =
+    set (set (set (set run (4 * i) (e .present)) (4 * i + 1) (e .offset)) (4 * i + 2) (e .width)) (4 * i + 3) (e .value)
+
+abbrev pub keptBy : Value → ℕ → Moved
+keptBy (value c) next = cond (eqb c 0) (Moved.Stop ConstraintFalse) (Moved.To next)
+keptBy (fault f) next = Moved.Stop f
+
+unfoldable pub keptAt : List ℕ → List ℕ → Span → ℕ → Moved
+keptAt s run p next = keptBy (holdsAt s run p) next
+
+-- the constraint reads the run that has the field's own numbers
+unfoldable pub stepAfter : List ℕ → List ℕ → ℕ → Parts → Step → Moved
+stepAfter s run i p (step e next) =
+    cond (eqb (e .present) 0) (Moved.To next) (keptAt s (putAt run i (numbersIn e)) (p .constraint) next)
+stepAfter s run i p (stop f) = Moved.Stop f
+
+abbrev pub runWith : List ℕ → ℕ → Step → List ℕ
+runWith run i (step e next) = putAt run i (numbersIn e)
+runWith run i (stop f) = run
+
+-- ── all fields ──
+
+-- the run and the place behind the fields; or a fault, with the field from 1; or more fields than there may be
+pub data Walk : Type 0 where
+  ended : List ℕ → ℕ → Walk
+  stopped : Fault → ℕ → Walk
+  tooMany : Walk
+
+abbrev pub onMoved : Moved → ℕ → (ℕ → Walk) → Walk
+onMoved (Moved.To next) k go = go next
+onMoved (Moved.Stop f) k go = stopped f k
+
+-- n fields from field i on
+unfoldable pub walkFrom : List ℕ → List ℕ → ℕ → ℕ → List ℕ → ℕ → ℕ → Walk
+walkFrom s packet zero i run place at = ended run place
+walkFrom s packet (suc n) i run place at =
+    onMoved (stepAfter s run i (recordAt s at) (fieldStep s packet run (recordAt s at) n place)) (i + 1)
+    (λ next. walkFrom s packet n (i + 1)
+    (runWith run i (fieldStep s packet run (recordAt s at) n place)) next (recordAt s at .next))
+
+unfoldable pub walkAll : List ℕ → List ℕ → List ℕ → Walk
+walkAll s packet run = cond (ltb 64 (twoAt s 6)) tooMany (walkFrom s packet (twoAt s 6) 0 run 0 (twoAt s 0))
+
+unfoldable pub walkAnswer : List ℕ → Walk → PacketAnswer
+walkAnswer packet (ended run place) =
+    cond (eqb place (bitTotal packet)) (PacketAnswer.Accepted place) PacketAnswer.LeftOver
+walkAnswer packet (stopped f k) = PacketAnswer.Refused f k
+walkAnswer packet tooMany = PacketAnswer.NotGood
+
+abbrev pub refusedOf : Moved → ℕ → PacketAnswer
+refusedOf (Moved.Stop f) k = PacketAnswer.Refused f k
+refusedOf (Moved.To next) k = PacketAnswer.LeftOver
+
+-- the run after a walk to the end
+abbrev pub Leaves : Walk → List ℕ → Type 0
+Leaves (ended run place) after = after ≡ run
+Leaves (stopped f k) after = Unit {0}
+Leaves tooMany after = Unit {0}

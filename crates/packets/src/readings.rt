@@ -1,0 +1,134 @@
+// Packets are read by a table: into a run of four numbers a field, and a field's bytes as a part of the packet.
+use crate::records::two_at;
+use crate::tables::check_table;
+use crate::walks::walk_fields;
+use rules::PacketAnswer;
+use rules::TableAnswer;
+ghost use mathlib.Core.Path.{_≡_};
+ghost use mathlib.Core.List.{_++_};
+ghost use Prim.Native.Nat.{_*_, _≤_, _<_};
+ghost use denote.Ref.{ptr};
+ghost use lib.ListN.{length, take, drop};
+ghost use Rattle.rules.specs.Promises.{ReadsPacket};
+ghost use Rattle.packets.specs.RunRead.{ReadsRun};
+ghost use Rattle.packets.specs.FieldParts.{isAccepted, partAt, OnPacket};
+ghost use Rattle.packets.specs.FieldBytes.{HandsField};
+
+const PACKET_MOST: usize = 2048;
+
+// Where a field's bytes lie in the packet.
+pub(crate) struct Bytes {
+    pub start: usize,
+    pub size: usize,
+}
+
+// A packet read into a run by a table that was checked before.
+pub(crate) fn read_run(table: &[u8], packet: &[u8], run: &mut [u32]) -> PacketAnswer
+    requires { ⌜ 256 ≤ length (now run) ⌝ }
+    ensures { λ r. ⌜ ReadsRun (now (table .entry)) (now (packet .entry)) r (now (run .exit)) ⌝ }
+{
+    if PACKET_MOST < packet.len() {
+        return PacketAnswer::TooLong;
+    }
+    walk_fields(table, packet, run)
+}
+
+fn is_accepted(answer: PacketAnswer) -> bool
+    ensures { λ r. ⌜ r ≡ isAccepted answer ⌝ }
+{
+    match answer {
+        PacketAnswer::Accepted(total) => true,
+        PacketAnswer::NotGood => false,
+        PacketAnswer::TooLong => false,
+        PacketAnswer::ShortRun => false,
+        PacketAnswer::Refused(f, i) => false,
+        PacketAnswer::LeftOver => false,
+    }
+}
+
+// The first n numbers of src into dst.
+fn copy_numbers(dst: &mut [u32], src: &[u32], n: usize)
+    requires { ⌜ (n ≤ length (now dst)) × (n ≤ length (now src)) ⌝ }
+    ensures { λ r. ⌜ now (dst .exit) ≡ take n (now (src .entry)) ++ drop n (now (dst .entry)) ⌝ }
+{
+    let mut i = 0;
+    while i < n {
+        dst[i] = src[i];
+        i += 1;
+    }
+}
+
+// A packet read by a table: four numbers a field into the run.
+pub fn read_packet(table: &[u8], packet: &[u8], run: &mut [u32]) -> PacketAnswer
+    ensures { λ r. ⌜ ReadsPacket (now (table .entry)) (now (packet .entry)) (now (run .entry)) r (now (run .exit)) ⌝ }
+{
+    let checked = check_table(table);
+    let TableAnswer::Good(size) = checked else {
+        return PacketAnswer::NotGood;
+    };
+    if PACKET_MOST < packet.len() {
+        return PacketAnswer::TooLong;
+    }
+    let n = 4 * two_at(table, 6);
+    if run.len() < n {
+        return PacketAnswer::ShortRun;
+    }
+    let mut numbers = [0u32; 256];
+    let answer = read_run(table, packet, &mut numbers);
+    if is_accepted(answer) {
+        copy_numbers(run, &numbers, n);
+        return answer;
+    }
+    answer
+}
+
+// The part of the field of an index by its numbers: whole bytes that start on a byte, else the empty part at 0.
+fn part_at(run: &[u32], index: usize) -> Bytes
+    requires { ⌜ (index < 64) × (256 ≤ length (now run)) ⌝ }
+    ensures { λ r. ⌜ r ≡ partAt (now (run .entry)) index ⌝ }
+{
+    let at = 4 * index;
+    let offset = run[at + 1] as usize;
+    let width = run[at + 2] as usize;
+    if run[at] == 1 {
+        if offset % 8 == 0 {
+            if width % 8 == 0 {
+                return Bytes {
+                    start: offset / 8,
+                    size: width / 8,
+                };
+            }
+        }
+    }
+    Bytes { start: 0, size: 0 }
+}
+
+// The part of a packet that is the field of an index.
+fn find_part(table: &[u8], packet: &[u8], index: usize) -> Bytes
+    ensures { λ r. ⌜ OnPacket (now (table .entry)) (now (packet .entry)) index r ⌝ }
+{
+    let none = Bytes { start: 0, size: 0 };
+    let checked = check_table(table);
+    let TableAnswer::Good(size) = checked else {
+        return none;
+    };
+    if two_at(table, 6) <= index {
+        return none;
+    }
+    let mut numbers = [0u32; 256];
+    let answer = read_run(table, packet, &mut numbers);
+    if is_accepted(answer) {
+        return part_at(&numbers, index);
+    }
+    none
+}
+
+// The bytes of the field of an index, as that part of the packet.
+pub fn field_bytes<'a>(table: &[u8], packet: &'a [u8], index: usize) -> &'a [u8]
+    ensures { λ r. ⌜ HandsField (now (table .entry)) (now (packet .entry)) index (now r) (ptr (packet .entry)) (ptr r) ⌝ }
+{
+    let part = find_part(table, packet, index);
+    let start = part.start;
+    let end = start + part.size;
+    &packet[start..end]
+}

@@ -1,0 +1,116 @@
+// The fields of a packet in order: each one's numbers are put into the run, and then its constraint is tested.
+use crate::records::Parts;
+use crate::records::Span;
+use crate::records::two_at;
+use crate::steps::Found;
+use crate::steps::Got;
+use crate::steps::Numbers;
+use crate::steps::field_step;
+use crate::steps::holds_at;
+use crate::steps::record_at;
+use rules::Fault;
+use rules::PacketAnswer;
+ghost use mathlib.Core.Path.{_≡_};
+ghost use Prim.Native.Nat.{_+_, _*_, _≤_, _<_};
+ghost use lib.ListN.{length};
+ghost use Rattle.base.specs.Places.{twoAt};
+ghost use Rattle.rules.specs.Reading.{bitTotal};
+ghost use Rattle.packets.specs.Steps.{fieldStep};
+ghost use Rattle.packets.specs.Walks.{
+  putAt, keptAt, stepAfter, runWith, refusedOf, walkAll, walkAnswer, Leaves,
+};
+
+const FIELDS_MOST: usize = 64;
+
+// The place behind a field, or its fault.
+pub(crate) enum Moved {
+    To(usize),
+    Stop(Fault),
+}
+
+fn put(run: &mut [u32], i: usize, e: Numbers)
+    requires { ⌜ (i < 64) × (4 * i + 4 ≤ length (now run)) ⌝ }
+    ensures { λ r. ⌜ now (run .exit) ≡ putAt (now (run .entry)) i e ⌝ }
+{
+    let at = 4 * i;
+    run[at] = e.present;
+    run[at + 1] = e.offset;
+    run[at + 2] = e.width;
+    run[at + 3] = e.value;
+}
+
+// A present field's constraint.
+fn kept_at(table: &[u8], run: &[u32], tree: Span, next: usize) -> Moved
+    ensures { λ r. ⌜ r ≡ keptAt (now (table .entry)) (now (run .entry)) tree next ⌝ }
+{
+    let held = holds_at(table, run, tree);
+    match held {
+        Got::Value(c) => {
+            if c == 0 {
+                return Moved::Stop(Fault::ConstraintFalse);
+            }
+            Moved::To(next)
+        }
+        Got::Stop(f) => Moved::Stop(f),
+    }
+}
+
+// Field i, with later records behind it.
+fn one_field(table: &[u8], packet: &[u8], run: &mut [u32], i: usize, later: usize, place: usize, p: Parts) -> Moved
+    requires { ⌜ (i < 64) × (4 * i + 4 ≤ length (now run)) ⌝ }
+    requires { ⌜ (later ≤ 64) × (place ≤ bitTotal (now packet)) × (length (now packet) ≤ 2048) ⌝ }
+    ensures { λ r. ⌜ r ≡ stepAfter (now (table .entry)) (now (run .entry)) i p (fieldStep (now (table .entry)) (now (packet .entry)) (now (run .entry)) p later place) ⌝ }
+    ensures { λ r. ⌜ now (run .exit) ≡ runWith (now (run .entry)) i (fieldStep (now (table .entry)) (now (packet .entry)) (now (run .entry)) p later place) ⌝ }
+{
+    let found = field_step(table, packet, run, p, later, place);
+    match found {
+        Found::Field(e, next) => {
+            put(run, i, e);
+            if e.present == 0 {
+                return Moved::To(next);
+            }
+            kept_at(table, run, p.constraint, next)
+        }
+        Found::Stop(f) => Moved::Stop(f),
+    }
+}
+
+// The refusal that a fault is, at field k from 1.
+fn refused(moved: Moved, k: usize) -> PacketAnswer
+    ensures { λ r. ⌜ r ≡ refusedOf moved k ⌝ }
+{
+    match moved {
+        Moved::Stop(f) => PacketAnswer::Refused(f, k),
+        Moved::To(next) => PacketAnswer::LeftOver,
+    }
+}
+
+// All fields of a table, into the front of the run.
+pub(crate) fn walk_fields(table: &[u8], packet: &[u8], run: &mut [u32]) -> PacketAnswer
+    requires { ⌜ (256 ≤ length (now run)) × (length (now packet) ≤ 2048) ⌝ }
+    ensures { λ r. ⌜ r ≡ walkAnswer (now (packet .entry)) (walkAll (now (table .entry)) (now (packet .entry)) (now (run .entry))) ⌝ }
+    ensures { λ r. ⌜ Leaves (walkAll (now (table .entry)) (now (packet .entry)) (now (run .entry))) (now (run .exit)) ⌝ }
+{
+    let n = two_at(table, 6);
+    if FIELDS_MOST < n {
+        return PacketAnswer::NotGood;
+    }
+    let total = 8 * packet.len();
+    let mut at = two_at(table, 0);
+    let mut place = 0;
+    let mut i = 0;
+    while i < n {
+        let p = record_at(table, at);
+        let moved = one_field(table, packet, run, i, n - i - 1, place, p);
+        let Moved::To(next) = moved else {
+            return refused(moved, i + 1);
+        };
+        place = next;
+        at = p.next;
+        i += 1;
+    }
+    if place == total {
+        return PacketAnswer::Accepted(place);
+    }
+    PacketAnswer::LeftOver
+}
