@@ -9,6 +9,8 @@
 -- WriteLaws               writing one byte behind the other
 -- LinesWritten            the lines of fields, written one behind the other
 -- LinesStored             for a stored description they are those of the listing
+-- ListingTexts            the text of a listing
+-- ListingStored           what is written by a table is its description's listing
 -- BitLaws                 the number that bits make
 -- StepLaws, WalkLaws      one field of a packet, and all
 pub mod Products
@@ -36,3 +38,5 @@ pub mod CopyLaws
 pub mod WalkReads
 pub mod PacketPromises
 pub mod PartPromises
+pub mod ListingTexts
+pub mod ListingStored

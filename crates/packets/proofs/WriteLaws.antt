@@ -6,7 +6,7 @@ use Prim.Native.Nat.{ℕ, zero, suc, _+_, _-_, _/_, _%_, _<_, _≤_}
 use native.Mathlib.Numerals.{add-one}
 use native.Mathlib.Omega.{arith}
 use lib.Dec.{ltb}
-use lib.ListN.{length, getD, take, drop, set, length-append, length-set}
+use lib.ListN.{length, getD, take, drop, set, length-append, length-take, length-set}
 use lib.Seq.{take-suc, take-suc-set, drop-cons, set-at, length-take-le}
 use borrow.Author.Tests.{lt-ltb, le-ltb}
 use Rattle.base.specs.Bytes.{bytes, digit, digits, decimal}
@@ -103,3 +103,10 @@ state-length fixed e = go (isPresent e) fixed
     go false f = omega arith
     go true true = simp length-append (omega (arith, o, w, v))
     go true false = simp length-append (omega (arith, o, w))
+
+-- what is written is inside the buffer
+pub writes-inside : {before after : List ℕ} {at next : ℕ} {w : List ℕ} → Writes before at w after next → at ≤ length before
+    → next ≤ length before
+writes-inside {before} {after} {at} {next} {w} p h =
+    let t = ap length (p .text) in
+    omega (arith, t, length-take next after, length-append (take at before) w, length-take at before, p .end, p .kept)

@@ -2,12 +2,12 @@
 mod answers;
 mod bits;
 mod lines;
-mod listing;
-mod lookups;
-mod readings;
+pub mod listing;
+pub mod lookups;
+pub mod readings;
 mod records;
 mod steps;
-mod tables;
+pub mod tables;
 mod trees;
 mod walks;
 mod writing;

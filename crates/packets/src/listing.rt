@@ -1,17 +1,32 @@
 // A packet's listing, written into a lent buffer.
+use crate::answers::number_of;
+use crate::answers::place_of;
+use crate::answers::value_of;
 use crate::lines::put_line;
+use crate::readings::read_run;
 use crate::records::parts_at;
+use crate::records::two_at;
+use crate::tables::check_table;
+use crate::writing::copy_out;
 use crate::writing::put;
 use crate::writing::put_digits;
+use rules::ListingAnswer;
+use rules::TableAnswer;
+ghost use mathlib.Core.Path.{_≡_};
 ghost use Prim.Native.Nat.{_+_, _*_, _≤_};
 ghost use mathlib.Core.List.{_++_};
-ghost use lib.ListN.{length};
+ghost use lib.ListN.{length, take};
 ghost use Rattle.base.specs.Bytes.{bytes};
 ghost use Rattle.rules.specs.Listing.{refusedLine, bitsLine};
 ghost use Rattle.packets.specs.Writes.{Writes};
+ghost use Rattle.rules.specs.Answers.{ofListing};
+ghost use Rattle.rules.specs.Promises.{leaves, delivered, ListsPacket};
 ghost use Rattle.packets.specs.LineTexts.{linesFrom};
+ghost use Rattle.packets.specs.Listings.{ListsStored, ListsInto};
 
 const TABLE_MOST: usize = 32768;
+
+const FIELDS_MOST: usize = 64;
 
 // The lines of the n fields whose records begin at a place.
 pub(crate) fn put_lines(
@@ -60,4 +75,59 @@ fn put_bits(out: &mut [u8], at: usize, total: usize) -> usize
     let word = put(out, at, b"bits ");
     let number = put_digits(out, word, total, 10);
     put(out, number, b"\n")
+}
+
+// A packet's listing by a table that was checked before.
+fn put_listing(out: &mut [u8], table: &[u8], packet: &[u8]) -> usize
+    requires { ⌜ 8192 ≤ length (now out) ⌝ }
+    ensures { λ r. ⌜ ListsStored (now (table .entry)) (now (packet .entry)) (now (out .entry)) (now (out .exit)) r ⌝ }
+{
+    let mut run = [0u32; 256];
+    let answer = read_run(table, packet, &mut run);
+    let number = number_of(answer);
+    if number == 0 {
+        let n = two_at(table, 6);
+        if FIELDS_MOST < n {
+            return 0;
+        }
+        let first = two_at(table, 0);
+        let lines = put_lines(out, 0, table, first, &run, n);
+        let total = value_of(answer);
+        return put_bits(out, lines, total);
+    }
+    let place = place_of(answer);
+    put_refusal(out, number, place)
+}
+
+// A packet's listing by any table.
+fn list_into(out: &mut [u8], table: &[u8], packet: &[u8]) -> usize
+    requires { ⌜ 8192 ≤ length (now out) ⌝ }
+    ensures { λ r. ⌜ ListsInto (now (table .entry)) (now (packet .entry)) (now (out .entry)) (now (out .exit)) r ⌝ }
+{
+    let checked = check_table(table);
+    let TableAnswer::Good(size) = checked else {
+        return put_refusal(out, 21, 0);
+    };
+    put_listing(out, table, packet)
+}
+
+// The first n bytes of a buffer into the output, where there is room.
+fn deliver(out: &mut [u8], from: &[u8], n: usize) -> ListingAnswer
+    requires { ⌜ n ≤ length (now from) ⌝ }
+    ensures { λ r. ⌜ leaves (ofListing r) (now (out .exit)) ≡ delivered (take n (now (from .entry))) (now (out .entry)) ⌝ }
+{
+    if out.len() < n {
+        return ListingAnswer::NoRoom;
+    }
+    copy_out(out, from, n);
+    ListingAnswer::Written(n)
+}
+
+// The listing of a packet by a table, into an output.
+pub fn list_packet(table: &[u8], packet: &[u8], out: &mut [u8]) -> ListingAnswer
+    ensures { λ r. ⌜ ListsPacket (now (table .entry)) (now (packet .entry)) (now (out .entry)) r (now (out .exit)) ⌝ }
+{
+    let mut buffer = [0u8; 8192];
+    let n = list_into(&mut buffer, table, packet);
+    deliver(out, &buffer, n)
 }

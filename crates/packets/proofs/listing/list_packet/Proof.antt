@@ -1,0 +1,44 @@
+use mathlib.Core.Path.{ap}
+use mathlib.Core.List.{List}
+use Prim.Native.Nat.{ℕ}
+use Rattle.rules.specs.Promises.{delivered}
+use mathlib.Core.Path.{_≡_, refl, sym, _∙_}
+use native.Mathlib.Omega.{arith}
+use denote.Ref.{now}
+use lib.ListN.{length, take}
+use borrow.Author.Needs.{needs}
+use Rattle.packets.proofs.listing.list_packet.Statement.{statement}
+use Rattle.packets.proofs.listing.list_packet.Tie as tie
+use Rattle.packets.proofs.listing.list_packet.Reads as reads
+use Rattle.packets.proofs.listing.list_packet.Lts as lts
+use Rattle.packets.proofs.listing.deliver.Reads as deliver-reads
+use Rattle.packets.proofs.listing.list_into.Reads as list-into-reads
+
+slice-aggregate-list-into : tie.Need-slice-aggregate-list-into
+slice-aggregate-list-into c = search needs
+
+list-into-requires : tie.Need-list-into-requires
+list-into-requires c κs = search needs
+
+slice-aggregate-deliver : tie.Need-slice-aggregate-deliver
+slice-aggregate-deliver c = search needs
+
+deliver-requires : tie.Need-deliver-requires
+deliver-requires c κs = search needs
+
+same-length : tie.Need-same-length
+same-length c = search needs
+
+returns : tie.Need-returns
+returns c = λ good. c .before .before .deliver .ensures ∙ ap (λ (w : List ℕ). delivered w (now (c .before .before .before .before .before .before .before .before .before .before .before .args .out))) (c .before .before .before .before .before .before .list-into .ensures .text good .text)
+
+pub list-packet-spec : {M : Type 1} → statement M
+list-packet-spec =
+    tie.close
+    (tie.spec
+    slice-aggregate-list-into
+    list-into-requires
+    slice-aggregate-deliver
+    deliver-requires
+    same-length
+    returns)
