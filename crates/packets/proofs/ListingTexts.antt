@@ -15,7 +15,6 @@ use Rattle.rules.specs.Answers.{faultNumber}
 use Rattle.rules.specs.Promises.{readingAnswer, readingLines, listing}
 use Rattle.laws.proofs.Conditions.{conditions-kept}
 use Rattle.packets.specs.Parts.{tableMost, partsAt}
-use Rattle.packets.specs.Writes.{Writes}
 use Rattle.packets.specs.LineTexts.{lineText, linesFrom}
 use Rattle.packets.proofs.LinesWritten.{line-length}
 
@@ -93,7 +92,3 @@ lines-length s run (suc n) i place = go (ltb tableMost place) (lines-length s ru
     go true h = omega arith
     go false h = rw (length-append (lineText s (partsAt s place) run i) more)
         (omega (arith, line-length s (partsAt s place) run i))
-
-pub lines-room : {before after s run : List ℕ} {at i n place next : ℕ} → Writes before at (linesFrom s run i n place) after next
-    → next ≤ at + 75 * n
-lines-room {s = s} {run = run} {i = i} {n = n} {place = place} p = omega (arith, p .end, lines-length s run n i place)

@@ -39,6 +39,7 @@ pub(crate) fn put_lines(
 ) -> usize
     requires { ⌜ (n ≤ 64) × (at + 75 * n ≤ length (now out)) × (4 * n ≤ length (now run)) ⌝ }
     ensures { λ r. ⌜ Writes (now (out .entry)) at (linesFrom (now (table .entry)) (now (run .entry)) 0 n place) (now (out .exit)) r ⌝ }
+    ensures { λ r. ⌜ r ≤ at + 75 * n ⌝ }
 {
     let mut next = at;
     let mut begin = place;

@@ -25,7 +25,9 @@ same-length : tie.Need-same-length Inv-loop μ-loop
 same-length c = c .before .before .loop .inv .wrote .kept
 
 returns : tie.Need-returns Inv-loop μ-loop
-returns c = lines-stop (c .before .before .loop .inv) (omega arith) (c .if1 .taken)
+returns c =
+    let l = c .before .before .loop .inv in
+    (lines-stop l (omega arith) (c .if1 .taken), omega (arith, l .room, l .inside))
 
 parts-at-requires : tie.Need-parts-at-requires Inv-loop μ-loop
 parts-at-requires c κs = omega arith
@@ -50,7 +52,9 @@ same-length-2 : tie.Need-same-length-2 Inv-loop μ-loop
 same-length-2 c = c .before .loop .inv .wrote .kept
 
 returns-2 : tie.Need-returns-2 Inv-loop μ-loop
-returns-2 c = lines-end (c .before .loop .inv) (omega arith)
+returns-2 c =
+    let l = c .before .loop .inv in
+    (lines-end l (omega arith), omega (arith, l .room, l .inside))
 
 pub put-lines-spec : {M : Type 1} → statement M
 put-lines-spec =

@@ -7,7 +7,6 @@ use lib.ListN.{length, take}
 use Rattle.base.specs.Places.{twoAt}
 use Rattle.packets.proofs.WriteLaws.{writes-join, writes-inside}
 use Rattle.packets.proofs.TableHead.{head-count, count-most}
-use Rattle.packets.proofs.ListingTexts.{lines-room}
 use Rattle.packets.proofs.ListingStored.{listed-accepted, listed-refused}
 use borrow.Author.Needs.{needs}
 use Rattle.packets.proofs.listing.put_listing.Statement.{statement}
@@ -59,7 +58,7 @@ value-of-requires c κs = search needs
 put-bits-requires : tie.Need-put-bits-requires
 put-bits-requires c κs =
     let l = c .before .before .before .before .put-lines .ensures in
-    omega (arith, lines-room l, l .kept)
+    omega (arith, l .1, l .0 .kept)
 
 same-length : tie.Need-same-length
 same-length c = search needs
@@ -68,7 +67,7 @@ returns-2 : tie.Need-returns-2
 returns-2 c =
     let s = now (c .before .before .before .before .before .before .before .before .before .before .before .before .before .before .before .before .before .before .before .before .before .args .table) in
     let packet = now (c .before .before .before .before .before .before .before .before .before .before .before .before .before .before .before .before .before .before .before .before .before .args .packet) in
-    let j = writes-join (c .before .before .before .before .before .before .before .put-lines .ensures) (c .before .before .put-bits .ensures) in
+    let j = writes-join (c .before .before .before .before .before .before .before .put-lines .ensures .0) (c .before .before .put-bits .ensures) in
     let k = rw (c .before .before .before .before .before .before .before .before .before .before .before .before .two-at .ensures .0, c .before .before .before .before .before .before .before .before .before .before .two-at2 .ensures .0, c .before .before .before .before .value-of .ensures) at j in
     record {
       text = λ d w is. rw (← listed-accepted s packet d w is _ _ (c .before .before .before .before .before .before .before .before .before .before .before .before .before .before .before .before .read-run .ensures d w is) (sym (c .before .before .before .before .before .before .before .before .before .before .before .before .before .before .number-of .ensures) ∙ c .before .before .before .before .before .before .before .before .before .before .before .before .before .if1 .taken)) k;
