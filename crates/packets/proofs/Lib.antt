@@ -6,6 +6,7 @@
 -- FieldBounds             sizes of a field within the limits
 -- TableHead               where the fields of a stored table begin, how many, how long
 -- LookupSteps             records by index and fields by name
+-- LookupStored            the same for a stored description
 -- WriteLaws               writing one byte behind the other
 -- LinesWritten            the lines of fields, written one behind the other
 -- LinesStored             for a stored description they are those of the listing
@@ -40,3 +41,4 @@ pub mod PacketPromises
 pub mod PartPromises
 pub mod ListingTexts
 pub mod ListingStored
+pub mod LookupStored
