@@ -1,1 +1,411 @@
 // Stored trees, checked and evaluated by functions that call themselves on operands.
+use rules::Fault;
+use rules::Op;
+use rules::ValueType;
+ghost use mathlib.Core.Path.{_≡_};
+ghost use mathlib.Core.Bool.{cond};
+ghost use Prim.Native.Nat.{_+_, _<_};
+ghost use lib.ListN.{length, getD};
+ghost use lib.Dec.{eqb};
+ghost use Rattle.base.specs.Places.{fourAt};
+ghost use Rattle.rules.specs.Operators.{takes, gives};
+ghost use Rattle.rules.specs.Trees.{sameType};
+ghost use Rattle.rules.specs.Values.{yesNo, inRange, apply, decides};
+ghost use Rattle.packets.specs.StoredTrees.{cursor, codeOf, checkNumber, checkField, checkNot, checkTwo, checkAt, skipOver, skipAt, placed, readNumber, readField, valueAt};
+
+// A place in the bytes of a table.
+pub(crate) struct Cursor {
+    pub at: usize,
+}
+
+// What a tree's first byte says.
+pub(crate) enum Code {
+    Number,
+    Field,
+    Two(Op),
+    Not,
+    Other,
+}
+
+// The kind of a tree with the place past it.
+pub(crate) enum Checked {
+    Tree(ValueType, Cursor),
+    Bad,
+}
+
+// The value of a tree with the place past it, or the fault of evaluating it.
+pub(crate) enum Evaluated {
+    Value(u32, Cursor),
+    Stop(Fault),
+}
+
+fn code_of(c: u8) -> Code
+    ensures { λ r. ⌜ r ≡ codeOf c ⌝ }
+{
+    match c {
+        0x01 => Code::Number,
+        0x02 => Code::Field,
+        0x10 => Code::Two(Op::Add),
+        0x11 => Code::Two(Op::Sub),
+        0x12 => Code::Two(Op::Mul),
+        0x20 => Code::Two(Op::Eq),
+        0x21 => Code::Two(Op::Ne),
+        0x22 => Code::Two(Op::Lt),
+        0x23 => Code::Two(Op::Le),
+        0x24 => Code::Two(Op::Gt),
+        0x25 => Code::Two(Op::Ge),
+        0x30 => Code::Two(Op::And),
+        0x31 => Code::Two(Op::Or),
+        0x32 => Code::Not,
+        _ => Code::Other,
+    }
+}
+
+// What stands at an index, 0 past the end.
+fn byte_at(s: &[u8], i: usize) -> u8
+    ensures { λ r. ⌜ r ≡ getD (now (s .entry)) i 0 ⌝ }
+{
+    if s.len() <= i {
+        return 0;
+    }
+    s[i]
+}
+
+fn number_at(run: &[u32], i: usize) -> u32
+    ensures { λ r. ⌜ r ≡ getD (now (run .entry)) i 0 ⌝ }
+{
+    if run.len() <= i {
+        return 0;
+    }
+    run[i]
+}
+
+// A byte as a wider number.
+fn wide(x: u8) -> u32
+    ensures { λ r. ⌜ (r ≡ x) × (r < 256) ⌝ }
+{
+    x as u32
+}
+
+fn index(x: u8) -> usize
+    ensures { λ r. ⌜ (r ≡ x) × (r < 256) ⌝ }
+{
+    x as usize
+}
+
+// Four bytes, the least first.
+fn four_at(s: &[u8], at: usize) -> u32
+    requires { ⌜ at + 3 < length (now s) ⌝ }
+    ensures { λ r. ⌜ r ≡ fourAt (now (s .entry)) at ⌝ }
+{
+    let low = wide(s[at]) + 256 * wide(s[at + 1]);
+    let high = wide(s[at + 2]) + 256 * wide(s[at + 2 + 1]);
+    low + 65536 * high
+}
+
+fn same_type(a: ValueType, b: ValueType) -> bool
+    ensures { λ r. ⌜ r ≡ sameType a b ⌝ }
+{
+    match a {
+        ValueType::Number => match b {
+            ValueType::Number => true,
+            ValueType::YesNo => false,
+        },
+        ValueType::YesNo => match b {
+            ValueType::Number => false,
+            ValueType::YesNo => true,
+        },
+    }
+}
+
+// The kind of an operator's operands.
+fn operands(op: Op) -> ValueType
+    ensures { λ r. ⌜ r ≡ takes op ⌝ }
+{
+    match op {
+        Op::Or => ValueType::YesNo,
+        Op::And => ValueType::YesNo,
+        Op::Eq => ValueType::Number,
+        Op::Ne => ValueType::Number,
+        Op::Lt => ValueType::Number,
+        Op::Le => ValueType::Number,
+        Op::Gt => ValueType::Number,
+        Op::Ge => ValueType::Number,
+        Op::Add => ValueType::Number,
+        Op::Sub => ValueType::Number,
+        Op::Mul => ValueType::Number,
+    }
+}
+
+// The kind of an operator's value.
+fn result(op: Op) -> ValueType
+    ensures { λ r. ⌜ r ≡ gives op ⌝ }
+{
+    match op {
+        Op::Or => ValueType::YesNo,
+        Op::And => ValueType::YesNo,
+        Op::Eq => ValueType::YesNo,
+        Op::Ne => ValueType::YesNo,
+        Op::Lt => ValueType::YesNo,
+        Op::Le => ValueType::YesNo,
+        Op::Gt => ValueType::YesNo,
+        Op::Ge => ValueType::YesNo,
+        Op::Add => ValueType::Number,
+        Op::Sub => ValueType::Number,
+        Op::Mul => ValueType::Number,
+    }
+}
+
+fn check_not(k: ValueType, next: Cursor) -> Checked
+    ensures { λ r. ⌜ r ≡ checkNot k next ⌝ }
+{
+    match k {
+        ValueType::Number => Checked::Bad,
+        ValueType::YesNo => Checked::Tree(ValueType::YesNo, next),
+    }
+}
+
+fn check_two(op: Op, a: ValueType, b: ValueType, next: Cursor) -> Checked
+    ensures { λ r. ⌜ r ≡ checkTwo op a b next ⌝ }
+{
+    let kind = operands(op);
+    if same_type(a, kind) {
+        if same_type(b, kind) {
+            return Checked::Tree(result(op), next);
+        }
+    }
+    Checked::Bad
+}
+
+fn yes_no(b: bool) -> u32
+    ensures { λ r. ⌜ r ≡ yesNo b ⌝ }
+{
+    if b { 1 } else { 0 }
+}
+
+// The left operand's value settles the whole.
+fn settles(op: Op, x: u32) -> bool
+    ensures { λ r. ⌜ r ≡ decides op x ⌝ }
+{
+    match op {
+        Op::Or => x != 0,
+        Op::And => x == 0,
+        Op::Eq => false,
+        Op::Ne => false,
+        Op::Lt => false,
+        Op::Le => false,
+        Op::Gt => false,
+        Op::Ge => false,
+        Op::Add => false,
+        Op::Sub => false,
+        Op::Mul => false,
+    }
+}
+
+fn in_range(n: u64, next: Cursor) -> Evaluated
+    ensures { λ r. ⌜ r ≡ placed (inRange n) (next .at) ⌝ }
+{
+    if n <= 4294967295 {
+        Evaluated::Value(n as u32, next)
+    } else {
+        Evaluated::Stop(Fault::OutOfRange)
+    }
+}
+
+// Both operands' values under an operator.
+fn combine(op: Op, x: u32, y: u32, next: Cursor) -> Evaluated
+    ensures { λ r. ⌜ r ≡ placed (apply op x y) (next .at) ⌝ }
+{
+    match op {
+        Op::Or => Evaluated::Value(y, next),
+        Op::And => Evaluated::Value(y, next),
+        Op::Eq => Evaluated::Value(yes_no(x == y), next),
+        Op::Ne => Evaluated::Value(yes_no(x != y), next),
+        Op::Lt => Evaluated::Value(yes_no(x < y), next),
+        Op::Le => Evaluated::Value(yes_no(x <= y), next),
+        Op::Gt => Evaluated::Value(yes_no(y < x), next),
+        Op::Ge => Evaluated::Value(yes_no(y <= x), next),
+        Op::Add => in_range((x as u64) + (y as u64), next),
+        Op::Sub => {
+            if y <= x {
+                Evaluated::Value(x - y, next)
+            } else {
+                Evaluated::Stop(Fault::OutOfRange)
+            }
+        }
+        Op::Mul => in_range((x as u64) * (y as u64), next),
+    }
+}
+
+impl Cursor {
+    // The cursor n places on, if as many bytes are there.
+    fn over(self, s: &[u8], n: usize) -> Self
+        requires { ⌜ self .at < length (now s) ⌝ }
+        ensures { λ r. ⌜ r ≡ cursor (skipOver (now (s .entry)) n (self .at)) ⌝ }
+    {
+        let at = self.at;
+        if s.len() - at < n {
+            return self;
+        }
+        Cursor { at: at + n }
+    }
+
+    fn check_number(self, s: &[u8]) -> Checked
+        requires { ⌜ self .at < length (now s) ⌝ }
+        ensures { λ r. ⌜ r ≡ checkNumber (now (s .entry)) (self .at) ⌝ }
+    {
+        let at = self.at;
+        if s.len() - at < 5 {
+            return Checked::Bad;
+        }
+        Checked::Tree(ValueType::Number, Cursor { at: at + 5 })
+    }
+
+    fn check_field(self, s: &[u8], marks: &[u8]) -> Checked
+        requires { ⌜ self .at < length (now s) ⌝ }
+        ensures { λ r. ⌜ r ≡ checkField (now (s .entry)) (now (marks .entry)) (self .at) ⌝ }
+    {
+        let at = self.at;
+        if s.len() - at < 2 {
+            return Checked::Bad;
+        }
+        if byte_at(marks, index(s[at + 1])) == 1 {
+            Checked::Tree(ValueType::Number, Cursor { at: at + 2 })
+        } else {
+            Checked::Bad
+        }
+    }
+
+    // The kind of the stored tree here, of at most the given depth; a field is read where its mark is 1.
+    pub(crate) fn check(self, s: &[u8], depth: usize, marks: &[u8]) -> Checked
+        ensures { λ r. ⌜ r ≡ checkAt depth (now (s .entry)) (now (marks .entry)) (self .at) ⌝ }
+    {
+        if depth == 0 {
+            return Checked::Bad;
+        }
+        let at = self.at;
+        if s.len() <= at {
+            return Checked::Bad;
+        }
+        let c = code_of(s[at]);
+        match c {
+            Code::Number => self.check_number(s),
+            Code::Field => self.check_field(s, marks),
+            Code::Not => {
+                let operand = Cursor { at: at + 1 };
+                let Checked::Tree(kind, next) = operand.check(s, depth - 1, marks) else {
+                    return Checked::Bad;
+                };
+                check_not(kind, next)
+            }
+            Code::Two(op) => {
+                let left = Cursor { at: at + 1 };
+                let Checked::Tree(a, right) = left.check(s, depth - 1, marks) else {
+                    return Checked::Bad;
+                };
+                let Checked::Tree(b, next) = right.check(s, depth - 1, marks) else {
+                    return Checked::Bad;
+                };
+                check_two(op, a, b, next)
+            }
+            Code::Other => Checked::Bad,
+        }
+    }
+
+    // The place past the stored tree here.
+    pub(crate) fn skip(self, s: &[u8], depth: usize) -> Self
+        ensures { λ r. ⌜ r ≡ cursor (skipAt depth (now (s .entry)) (self .at)) ⌝ }
+    {
+        if depth == 0 {
+            return self;
+        }
+        let at = self.at;
+        if s.len() <= at {
+            return self;
+        }
+        let c = code_of(s[at]);
+        match c {
+            Code::Number => self.over(s, 5),
+            Code::Field => self.over(s, 2),
+            Code::Not => {
+                let operand = Cursor { at: at + 1 };
+                operand.skip(s, depth - 1)
+            }
+            Code::Two(_) => {
+                let left = Cursor { at: at + 1 };
+                let right = left.skip(s, depth - 1);
+                right.skip(s, depth - 1)
+            }
+            Code::Other => self,
+        }
+    }
+
+    fn number(self, s: &[u8]) -> Evaluated
+        requires { ⌜ self .at < length (now s) ⌝ }
+        ensures { λ r. ⌜ r ≡ readNumber (now (s .entry)) (self .at) ⌝ }
+    {
+        let at = self.at;
+        if s.len() - at < 5 {
+            return Evaluated::Stop(Fault::OutOfRange);
+        }
+        Evaluated::Value(four_at(s, at + 1), Cursor { at: at + 5 })
+    }
+
+    fn field(self, s: &[u8], run: &[u32]) -> Evaluated
+        requires { ⌜ self .at < length (now s) ⌝ }
+        ensures { λ r. ⌜ r ≡ readField (now (s .entry)) (now (run .entry)) (self .at) ⌝ }
+    {
+        let at = self.at;
+        if s.len() - at < 2 {
+            return Evaluated::Stop(Fault::OutOfRange);
+        }
+        let i = 4 * index(s[at + 1]);
+        if number_at(run, i) == 1 {
+            Evaluated::Value(number_at(run, i + 3), Cursor { at: at + 2 })
+        } else {
+            Evaluated::Stop(Fault::AbsentRead)
+        }
+    }
+
+    // The value of the stored tree here; field i is present if run[4 * i] is 1, and its value is run[4 * i + 3].
+    pub(crate) fn value(self, s: &[u8], depth: usize, run: &[u32]) -> Evaluated
+        ensures { λ r. ⌜ r ≡ valueAt depth (now (s .entry)) (now (run .entry)) (self .at) ⌝ }
+    {
+        if depth == 0 {
+            return Evaluated::Stop(Fault::OutOfRange);
+        }
+        let at = self.at;
+        if s.len() <= at {
+            return Evaluated::Stop(Fault::OutOfRange);
+        }
+        let c = code_of(s[at]);
+        match c {
+            Code::Number => self.number(s),
+            Code::Field => self.field(s, run),
+            Code::Not => {
+                let operand = Cursor { at: at + 1 };
+                let v = operand.value(s, depth - 1, run);
+                let Evaluated::Value(x, next) = v else {
+                    return v;
+                };
+                Evaluated::Value(yes_no(x == 0), next)
+            }
+            Code::Two(op) => {
+                let left = Cursor { at: at + 1 };
+                let v = left.value(s, depth - 1, run);
+                let Evaluated::Value(x, right) = v else {
+                    return v;
+                };
+                if settles(op, x) {
+                    return Evaluated::Value(x, right.skip(s, depth - 1));
+                }
+                let w = right.value(s, depth - 1, run);
+                let Evaluated::Value(y, next) = w else {
+                    return w;
+                };
+                combine(op, x, y, next)
+            }
+            Code::Other => Evaluated::Stop(Fault::OutOfRange),
+        }
+    }
+}

@@ -1,0 +1,20 @@
+use denote.Ref.{now}
+use mathlib.Core.Path.{refl, sym}
+use lib.ListN.{List·getD-eq-default}
+use borrow.Author.Needs.{needs}
+use Rattle.packets.proofs.trees.byte_at.Statement.{statement}
+use Rattle.packets.proofs.trees.byte_at.Tie as tie
+use Rattle.packets.proofs.trees.byte_at.Reads as reads
+use Rattle.packets.proofs.trees.byte_at.Lts as lts
+
+returns : tie.Need-returns
+returns c = sym (List·getD-eq-default (now (c .before .args .s)) 0 (c .if1 .taken))
+
+shared-slice-read-result : tie.Need-shared-slice-read-result
+shared-slice-read-result c = search needs
+
+returns-2 : tie.Need-returns-2
+returns-2 c = refl
+
+pub byte-at-spec : {M : Type 1} → statement M
+byte-at-spec = tie.close (tie.spec returns shared-slice-read-result returns-2)

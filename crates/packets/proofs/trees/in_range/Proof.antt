@@ -1,0 +1,18 @@
+use borrow.Author.Tests.{le-ltb, lt-ltb, le-leb, lt-leb, eq-eqb, ne-eqb}
+use borrow.Author.Needs.{needs}
+use Rattle.packets.proofs.trees.in_range.Statement.{statement}
+use Rattle.packets.proofs.trees.in_range.Tie as tie
+use Rattle.packets.proofs.trees.in_range.Reads as reads
+use Rattle.packets.proofs.trees.in_range.Lts as lts
+
+cast-t5 : tie.Need-cast-t5
+cast-t5 c = search needs
+
+returns : tie.Need-returns
+returns c = rw (le-leb _ _ (c .if1 .taken))
+
+returns-2 : tie.Need-returns-2
+returns-2 c = rw (lt-leb _ _ (c .if1 .left))
+
+pub in-range-spec : {M : Type 1} → statement M
+in-range-spec = tie.close (tie.spec cast-t5 returns returns-2)
