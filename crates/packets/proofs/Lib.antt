@@ -1,14 +1,22 @@
--- PartsLaws                          the parts of a record and the field stored there
--- RecordLaws                         a field's whole record
--- FieldBounds                        the sizes of a field within the limits
--- Products                           a product of two 32-bit numbers
--- TreeSteps                          one step of checking, skipping and evaluating a stored tree
--- FieldSteps, WalkSteps, NameSteps   what the code that checks a table is told at its steps
+-- PartsLaws                         the parts of a record and the field stored there
+-- RecordLaws                        a field's whole record
+-- FieldBounds                       the sizes of a field within the limits
+-- Products                          a product of two 32-bit numbers
+-- TreeSteps                         one step of checking, skipping and evaluating a stored tree
+-- TreeCodes                         the first byte of a stored tree
+-- TreeSound                         what a check finds is a tree of that kind that stands there
+-- TreeComplete                      a tree that stands somewhere is found there, and skipped
+-- TreeValues                        the value of a tree that stands somewhere
+-- FieldSteps, WalkSteps, NameSteps  what the code that checks a table is told at its steps
 pub mod PartsLaws
 pub mod RecordLaws
 pub mod FieldBounds
 pub mod Products
 pub mod TreeSteps
+pub mod TreeCodes
+pub mod TreeSound
+pub mod TreeComplete
+pub mod TreeValues
 pub mod FieldSteps
 pub mod WalkSteps
 pub mod NameSteps

@@ -1,5 +1,5 @@
 -- This file mirrors the code of src/trees.rt, test by test: no public promise rests on it.
-use mathlib.Core.Bool.{Bool, true, false, cond}
+use mathlib.Core.Bool.{Bool, cond}
 use mathlib.Core.List.{List, [], _∷_}
 use Prim.Native.Nat.{ℕ, zero, suc, _+_, _*_, _-_}
 use lib.Dec.{eqb, ltb}
@@ -8,7 +8,6 @@ use Rattle.base.specs.Places.{fourAt}
 use Rattle.rules.specs.declared.Op.{Op}
 use Rattle.rules.specs.declared.ValueType.{ValueType}
 use Rattle.rules.specs.declared.ValueType.the-variants.{Number, YesNo}
-use Rattle.rules.specs.declared.Fault.{Fault}
 use Rattle.rules.specs.declared.Fault.the-variants.{AbsentRead, OutOfRange}
 use Rattle.rules.specs.Operators.{operators, code, takes, gives, numberCode, fieldCode, notCode}
 use Rattle.rules.specs.Trees.{sameType}

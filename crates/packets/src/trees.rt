@@ -3,15 +3,14 @@ use rules::Fault;
 use rules::Op;
 use rules::ValueType;
 ghost use mathlib.Core.Path.{_≡_};
-ghost use mathlib.Core.Bool.{cond};
 ghost use Prim.Native.Nat.{_+_, _<_};
 ghost use lib.ListN.{length, getD};
-ghost use lib.Dec.{eqb};
 ghost use Rattle.base.specs.Places.{fourAt};
 ghost use Rattle.rules.specs.Operators.{takes, gives};
 ghost use Rattle.rules.specs.Trees.{sameType};
 ghost use Rattle.rules.specs.Values.{yesNo, inRange, apply, decides};
-ghost use Rattle.packets.specs.StoredTrees.{cursor, codeOf, checkNumber, checkField, checkNot, checkTwo, checkAt, skipOver, skipAt, placed, readNumber, readField, valueAt};
+ghost use Rattle.packets.specs.StoredTrees.{codeOf, checkNumber, checkField, checkNot, checkTwo, checkAt};
+ghost use Rattle.packets.specs.StoredTrees.{cursor, skipOver, skipAt, placed, readNumber, readField, valueAt};
 
 // A place in the bytes of a table.
 pub(crate) struct Cursor {
@@ -119,7 +118,7 @@ pub(crate) fn same_type(a: ValueType, b: ValueType) -> bool
 }
 
 // The kind of an operator's operands.
-fn operands(op: Op) -> ValueType
+fn operand_type(op: Op) -> ValueType
     ensures { λ r. ⌜ r ≡ takes op ⌝ }
 {
     match op {
@@ -138,7 +137,7 @@ fn operands(op: Op) -> ValueType
 }
 
 // The kind of an operator's value.
-fn result(op: Op) -> ValueType
+fn result_type(op: Op) -> ValueType
     ensures { λ r. ⌜ r ≡ gives op ⌝ }
 {
     match op {
@@ -168,10 +167,10 @@ fn check_not(k: ValueType, next: Cursor) -> Checked
 fn check_two(op: Op, a: ValueType, b: ValueType, next: Cursor) -> Checked
     ensures { λ r. ⌜ r ≡ checkTwo op a b next ⌝ }
 {
-    let kind = operands(op);
+    let kind = operand_type(op);
     if same_type(a, kind) {
         if same_type(b, kind) {
-            return Checked::Tree(result(op), next);
+            return Checked::Tree(result_type(op), next);
         }
     }
     Checked::Bad
@@ -288,19 +287,18 @@ impl Cursor {
             return Checked::Bad;
         }
         let c = code_of(s[at]);
+        let past = Cursor { at: at + 1 };
         match c {
             Code::Number => self.check_number(s),
             Code::Field => self.check_field(s, marks),
             Code::Not => {
-                let operand = Cursor { at: at + 1 };
-                let Checked::Tree(kind, next) = operand.check(s, depth - 1, marks) else {
+                let Checked::Tree(kind, next) = past.check(s, depth - 1, marks) else {
                     return Checked::Bad;
                 };
                 check_not(kind, next)
             }
             Code::Two(op) => {
-                let left = Cursor { at: at + 1 };
-                let Checked::Tree(a, right) = left.check(s, depth - 1, marks) else {
+                let Checked::Tree(a, right) = past.check(s, depth - 1, marks) else {
                     return Checked::Bad;
                 };
                 let Checked::Tree(b, next) = right.check(s, depth - 1, marks) else {
@@ -324,16 +322,13 @@ impl Cursor {
             return self;
         }
         let c = code_of(s[at]);
+        let past = Cursor { at: at + 1 };
         match c {
             Code::Number => self.over(s, 5),
             Code::Field => self.over(s, 2),
-            Code::Not => {
-                let operand = Cursor { at: at + 1 };
-                operand.skip(s, depth - 1)
-            }
+            Code::Not => past.skip(s, depth - 1),
             Code::Two(_) => {
-                let left = Cursor { at: at + 1 };
-                let right = left.skip(s, depth - 1);
+                let right = past.skip(s, depth - 1);
                 right.skip(s, depth - 1)
             }
             Code::Other => self,
@@ -379,20 +374,19 @@ impl Cursor {
             return Evaluated::Stop(Fault::OutOfRange);
         }
         let c = code_of(s[at]);
+        let past = Cursor { at: at + 1 };
         match c {
             Code::Number => self.number(s),
             Code::Field => self.field(s, run),
             Code::Not => {
-                let operand = Cursor { at: at + 1 };
-                let v = operand.value(s, depth - 1, run);
+                let v = past.value(s, depth - 1, run);
                 let Evaluated::Value(x, next) = v else {
                     return v;
                 };
                 Evaluated::Value(yes_no(x == 0), next)
             }
             Code::Two(op) => {
-                let left = Cursor { at: at + 1 };
-                let v = left.value(s, depth - 1, run);
+                let v = past.value(s, depth - 1, run);
                 let Evaluated::Value(x, right) = v else {
                     return v;
                 };

@@ -1,7 +1,6 @@
 use Rattle.rules.specs.Operators.{operator, operators}
 use Rattle.packets.specs.StoredTrees.{codeIn, codeOf}
-use borrow.Author.Tests.{le-ltb, lt-ltb, le-leb, lt-leb, eq-eqb, ne-eqb}
-use borrow.Author.Needs.{needs}
+use borrow.Author.Tests.{ne-eqb}
 use Rattle.packets.proofs.trees.code_of.Statement.{statement}
 use Rattle.packets.proofs.trees.code_of.Tie as tie
 use Rattle.packets.proofs.trees.code_of.Reads as reads

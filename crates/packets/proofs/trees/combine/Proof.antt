@@ -1,6 +1,6 @@
 use Rattle.packets.proofs.Products.{product-fits}
 use Rattle.rules.specs.Values.{apply}
-use borrow.Author.Tests.{le-ltb, lt-ltb, le-leb, lt-leb, eq-eqb, ne-eqb}
+use borrow.Author.Tests.{le-leb, lt-leb}
 use borrow.Author.Needs.{needs}
 use Rattle.packets.proofs.trees.combine.Statement.{statement}
 use Rattle.packets.proofs.trees.combine.Tie as tie

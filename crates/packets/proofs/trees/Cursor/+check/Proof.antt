@@ -2,7 +2,7 @@ use Rattle.packets.proofs.TreeSteps.{check-none, check-past, check-step
 use Rattle.packets.specs.StoredTrees.{checkAt, checkCode}
 use Rattle.packets.specs.declared.trees.Code.{Code}
 use denote.Ref.{now}
-use mathlib.Core.Path.{_≡_, sym, ap}
+use mathlib.Core.Path.{_≡_, sym}
 use borrow.Author.Needs.{needs}
 use Prim.Native.Nat.{ℕ, _<_, _-_}
 use borrow.Fn.Kinds.{In}
@@ -37,7 +37,8 @@ coded : (t : ℕ) (p : check-lts.After-code-of (calls t) (check-at t) check.Post
     → let a = p .before .before .before .before .before .before .args in
     checkAt (a .depth) (now (a .s)) (now (a .marks)) (a .self .at)
     ≡ checkCode k (checkAt (a .depth - 1) (now (a .s)) (now (a .marks))) (now (a .s)) (now (a .marks)) (a .self .at)
-coded t p e = check-step _ _ _ _ (p .before .before .before .if1 .left) (p .before .before .if2 .left) (p .code-of .ensures) e
+coded t p e =
+    check-step _ _ _ _ (p .before .before .before .if1 .left) (p .before .before .if2 .left) (p .code-of .ensures) e
 
 check-returns : (t : ℕ) → check-lts.Need-returns (calls t) (check-at t) check.Post
 check-returns t c = sym (check-none _ _ _ _ (c .if1 .taken))
@@ -50,6 +51,9 @@ check-shared-slice-read-code-of t c = search needs
 
 check-code-of-requires : (t : ℕ) → check-lts.Need-code-of-requires (calls t) (check-at t) check.Post
 check-code-of-requires t c κs = search needs
+
+check-add-t16 : (t : ℕ) → check-lts.Need-add-t16 (calls t) (check-at t) check.Post
+check-add-t16 t c = search needs
 
 check-enum-told : (t : ℕ) → check-lts.Need-enum-told (calls t) (check-at t) check.Post
 check-enum-told t c = search needs
@@ -66,9 +70,6 @@ check-check-field-requires t c κs = search needs
 check-enum-told-3 : (t : ℕ) → check-lts.Need-enum-told-3 (calls t) (check-at t) check.Post
 check-enum-told-3 t c = search needs
 
-check-add-check : (t : ℕ) → check-lts.Need-add-check (calls t) (check-at t) check.Post
-check-add-check t c = search needs
-
 check-sub-check : (t : ℕ) → check-lts.Need-sub-check (calls t) (check-at t) check.Post
 check-sub-check t c = search needs
 
@@ -82,16 +83,19 @@ check-enum-told-4 : (t : ℕ) → check-lts.Need-enum-told-4 (calls t) (check-at
 check-enum-told-4 t c = search needs
 
 check-returns-3 : (t : ℕ) → check-lts.Need-returns-3 (calls t) (check-at t) check.Post
-check-returns-3 t c = rw (coded t (c .before .before .before .before .before) (c .before .before .before .enum-told3 .given .1), ← c .before .before .check .ensures, c .enum-told4 .given .1)
+check-returns-3 t c =
+    let p = c .before .before .before .before .before in
+    rw (
+      coded t p (c .before .before .before .enum-told3 .given .1),
+      ← c .before .before .check .ensures,
+      c .enum-told4 .given .1,
+    )
 
 check-check-not-requires : (t : ℕ) → check-lts.Need-check-not-requires (calls t) (check-at t) check.Post
 check-check-not-requires t c κs = search needs
 
 check-enum-known-c : (t : ℕ) → check-lts.Need-enum-known-c (calls t) (check-at t) check.Post
 check-enum-known-c t c = search needs
-
-check-add-check-2 : (t : ℕ) → check-lts.Need-add-check-2 (calls t) (check-at t) check.Post
-check-add-check-2 t c = search needs
 
 check-sub-check-2 : (t : ℕ) → check-lts.Need-sub-check-2 (calls t) (check-at t) check.Post
 check-sub-check-2 t c = search needs
@@ -106,7 +110,13 @@ check-enum-told-5 : (t : ℕ) → check-lts.Need-enum-told-5 (calls t) (check-at
 check-enum-told-5 t c = search needs
 
 check-returns-4 : (t : ℕ) → check-lts.Need-returns-4 (calls t) (check-at t) check.Post
-check-returns-4 t c = rw (coded t (c .before .before .before .before .before .before) (c .before .before .before .before .c .given .1), ← c .before .before .check2 .ensures, c .enum-told5 .given .1)
+check-returns-4 t c =
+    let p = c .before .before .before .before .before .before in
+    rw (
+      coded t p (c .before .before .before .before .c .given .1),
+      ← c .before .before .check2 .ensures,
+      c .enum-told5 .given .1,
+    )
 
 check-sub-check-3 : (t : ℕ) → check-lts.Need-sub-check-3 (calls t) (check-at t) check.Post
 check-sub-check-3 t c = search needs
@@ -121,13 +131,15 @@ check-enum-told-6 : (t : ℕ) → check-lts.Need-enum-told-6 (calls t) (check-at
 check-enum-told-6 t c = search needs
 
 check-returns-5 : (t : ℕ) → check-lts.Need-returns-5 (calls t) (check-at t) check.Post
-check-returns-5 t c = rw (
-  coded t (c .before .before .before .before .before .before .before .before .before .before) (c .before .before .before .before .before .before .before .before .c .given .1),
-  ← c .before .before .before .before .before .before .check2 .ensures,
-  c .before .before .before .before .a .given .1,
-  ← c .before .before .check3 .ensures,
-  c .enum-told6 .given .1,
-)
+check-returns-5 t c =
+    let p = c .before .before .before .before .before .before .before .before .before .before in
+    rw (
+      coded t p (c .before .before .before .before .before .before .before .before .c .given .1),
+      ← c .before .before .before .before .before .before .check2 .ensures,
+      c .before .before .before .before .a .given .1,
+      ← c .before .before .check3 .ensures,
+      c .enum-told6 .given .1,
+    )
 
 check-check-two-requires : (t : ℕ) → check-lts.Need-check-two-requires (calls t) (check-at t) check.Post
 check-check-two-requires t c κs = search needs
@@ -136,31 +148,41 @@ check-enum-told-7 : (t : ℕ) → check-lts.Need-enum-told-7 (calls t) (check-at
 check-enum-told-7 t c = search needs
 
 check-returns-6 : (t : ℕ) → check-lts.Need-returns-6 (calls t) (check-at t) check.Post
-check-returns-6 t c = rw (coded t (c .before .before .before) (c .before .enum-told .given .1)) (c .check-number .ensures)
+check-returns-6 t c =
+    let p = c .before .before .before in
+    rw (coded t p (c .before .enum-told .given .1)) (c .check-number .ensures)
 
 check-returns-7 : (t : ℕ) → check-lts.Need-returns-7 (calls t) (check-at t) check.Post
-check-returns-7 t c = rw (coded t (c .before .before .before) (c .before .enum-told2 .given .1)) (c .check-field .ensures)
+check-returns-7 t c =
+    let p = c .before .before .before in
+    rw (coded t p (c .before .enum-told2 .given .1)) (c .check-field .ensures)
 
 check-returns-8 : (t : ℕ) → check-lts.Need-returns-8 (calls t) (check-at t) check.Post
-check-returns-8 t c = rw (
-  coded t (c .before .before .before .before .before .before .before) (c .before .before .before .before .before .enum-told3 .given .1),
-  ← c .before .before .before .before .check .ensures,
-  c .before .before .kind .given .1,
-)
+check-returns-8 t c =
+    let p = c .before .before .before .before .before .before .before in
+    rw (
+      coded t p (c .before .before .before .before .before .enum-told3 .given .1),
+      ← c .before .before .before .before .check .ensures,
+      c .before .before .kind .given .1,
+    )
     (c .check-not .ensures)
 
 check-returns-9 : (t : ℕ) → check-lts.Need-returns-9 (calls t) (check-at t) check.Post
-check-returns-9 t c = rw (
-  coded t (c .before .before .before .before .before .before .before .before .before .before .before .before) (c .before .before .before .before .before .before .before .before .before .before .c .given .1),
-  ← c .before .before .before .before .before .before .before .before .check2 .ensures,
-  c .before .before .before .before .before .before .a .given .1,
-  ← c .before .before .before .before .check3 .ensures,
-  c .before .before .b .given .1,
-)
+check-returns-9 t c =
+    let p = c .before .before .before .before .before .before .before .before .before .before .before .before in
+    rw (
+      coded t p (c .before .before .before .before .before .before .before .before .before .before .c .given .1),
+      ← c .before .before .before .before .before .before .before .before .check2 .ensures,
+      c .before .before .before .before .before .before .a .given .1,
+      ← c .before .before .before .before .check3 .ensures,
+      c .before .before .b .given .1,
+    )
     (c .check-two .ensures)
 
 check-returns-10 : (t : ℕ) → check-lts.Need-returns-10 (calls t) (check-at t) check.Post
-check-returns-10 t c = rw (coded t (c .before .before) (c .enum-told7 .given .1))
+check-returns-10 t c =
+    let p = c .before .before in
+    rw (coded t p (c .enum-told7 .given .1))
 
 pub +check-spec : {M : Type 1} → statement M
 +check-spec = close μ-check λ t. check-lts.spec (calls t)
@@ -170,12 +192,12 @@ pub +check-spec : {M : Type 1} → statement M
     (check-returns-2 t)
     (check-shared-slice-read-code-of t)
     (check-code-of-requires t)
+    (check-add-t16 t)
     (check-enum-told t)
     (check-check-number-requires t)
     (check-enum-told-2 t)
     (check-check-field-requires t)
     (check-enum-told-3 t)
-    (check-add-check t)
     (check-sub-check t)
     (check-check-requires t)
     (check-enum-known-kind t)
@@ -183,7 +205,6 @@ pub +check-spec : {M : Type 1} → statement M
     (check-returns-3 t)
     (check-check-not-requires t)
     (check-enum-known-c t)
-    (check-add-check-2 t)
     (check-sub-check-2 t)
     (check-check-requires-2 t)
     (check-enum-known-a t)

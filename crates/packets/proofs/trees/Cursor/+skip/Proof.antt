@@ -1,8 +1,8 @@
 use Rattle.packets.proofs.TreeSteps.{skip-none, skip-past, skip-step}
-use Rattle.packets.specs.StoredTrees.{cursor, skipAt, skipCode}
+use Rattle.packets.specs.StoredTrees.{skipAt, skipCode}
 use Rattle.packets.specs.declared.trees.Code.{Code}
 use denote.Ref.{now}
-use mathlib.Core.Path.{_≡_, sym, ap}
+use mathlib.Core.Path.{_≡_, ap}
 use borrow.Author.Needs.{needs}
 use Prim.Native.Nat.{ℕ, _<_, _-_}
 use borrow.Fn.Kinds.{In}
@@ -34,7 +34,8 @@ coded : (t : ℕ) (p : skip-lts.After-code-of (calls t) (skip-at t) skip.Post) {
     → let a = p .before .before .before .before .before .args in
     skipAt (a .depth) (now (a .s)) (a .self .at)
     ≡ skipCode k (skipAt (a .depth - 1) (now (a .s))) (now (a .s)) (a .self .at)
-coded t p e = skip-step _ _ _ (p .before .before .before .if1 .left) (p .before .before .if2 .left) (p .code-of .ensures) e
+coded t p e =
+    skip-step _ _ _ (p .before .before .before .if1 .left) (p .before .before .if2 .left) (p .code-of .ensures) e
 
 skip-returns : (t : ℕ) → skip-lts.Need-returns (calls t) (skip-at t) skip.Post
 skip-returns t c = rw (skip-none _ _ _ (c .if1 .taken))
@@ -47,6 +48,9 @@ skip-shared-slice-read-code-of t c = search needs
 
 skip-code-of-requires : (t : ℕ) → skip-lts.Need-code-of-requires (calls t) (skip-at t) skip.Post
 skip-code-of-requires t c κs = search needs
+
+skip-add-t9 : (t : ℕ) → skip-lts.Need-add-t9 (calls t) (skip-at t) skip.Post
+skip-add-t9 t c = search needs
 
 skip-enum-told : (t : ℕ) → skip-lts.Need-enum-told (calls t) (skip-at t) skip.Post
 skip-enum-told t c = search needs
@@ -63,9 +67,6 @@ skip-over-requires-2 t c κs = search needs
 skip-enum-told-3 : (t : ℕ) → skip-lts.Need-enum-told-3 (calls t) (skip-at t) skip.Post
 skip-enum-told-3 t c = search needs
 
-skip-add-skip : (t : ℕ) → skip-lts.Need-add-skip (calls t) (skip-at t) skip.Post
-skip-add-skip t c = search needs
-
 skip-sub-skip : (t : ℕ) → skip-lts.Need-sub-skip (calls t) (skip-at t) skip.Post
 skip-sub-skip t c = search needs
 
@@ -74,9 +75,6 @@ skip-skip-requires t c κs = search needs
 
 skip-enum-told-4 : (t : ℕ) → skip-lts.Need-enum-told-4 (calls t) (skip-at t) skip.Post
 skip-enum-told-4 t c = search needs
-
-skip-add-skip-2 : (t : ℕ) → skip-lts.Need-add-skip-2 (calls t) (skip-at t) skip.Post
-skip-add-skip-2 t c = search needs
 
 skip-sub-skip-2 : (t : ℕ) → skip-lts.Need-sub-skip-2 (calls t) (skip-at t) skip.Post
 skip-sub-skip-2 t c = search needs
@@ -94,19 +92,33 @@ skip-enum-told-5 : (t : ℕ) → skip-lts.Need-enum-told-5 (calls t) (skip-at t)
 skip-enum-told-5 t c = search needs
 
 skip-returns-3 : (t : ℕ) → skip-lts.Need-returns-3 (calls t) (skip-at t) skip.Post
-skip-returns-3 t c = rw (coded t (c .before .before .before) (c .before .enum-told .given .1)) (c .over .ensures)
+skip-returns-3 t c =
+    let p = c .before .before .before in
+    rw (coded t p (c .before .enum-told .given .1)) (c .over .ensures)
 
 skip-returns-4 : (t : ℕ) → skip-lts.Need-returns-4 (calls t) (skip-at t) skip.Post
-skip-returns-4 t c = rw (coded t (c .before .before .before) (c .before .enum-told2 .given .1)) (c .over2 .ensures)
+skip-returns-4 t c =
+    let p = c .before .before .before in
+    rw (coded t p (c .before .enum-told2 .given .1)) (c .over2 .ensures)
 
 skip-returns-5 : (t : ℕ) → skip-lts.Need-returns-5 (calls t) (skip-at t) skip.Post
-skip-returns-5 t c = rw (coded t (c .before .before .before) (c .before .enum-told3 .given .1)) (c .skip .ensures)
+skip-returns-5 t c =
+    let p = c .before .before .before in
+    rw (coded t p (c .before .enum-told3 .given .1)) (c .skip .ensures)
 
 skip-returns-6 : (t : ℕ) → skip-lts.Need-returns-6 (calls t) (skip-at t) skip.Post
-skip-returns-6 t c = rw (coded t (c .before .before .before .before) (c .before .before .enum-told4 .given .1), ← ap (λ r. r .at) (c .before .skip2 .ensures)) (c .skip3 .ensures)
+skip-returns-6 t c =
+    let p = c .before .before .before .before in
+    rw (
+      coded t p (c .before .before .enum-told4 .given .1),
+      ← ap (λ r. r .at) (c .before .skip2 .ensures),
+    )
+    (c .skip3 .ensures)
 
 skip-returns-7 : (t : ℕ) → skip-lts.Need-returns-7 (calls t) (skip-at t) skip.Post
-skip-returns-7 t c = rw (coded t (c .before .before) (c .enum-told5 .given .1))
+skip-returns-7 t c =
+    let p = c .before .before in
+    rw (coded t p (c .enum-told5 .given .1))
 
 pub +skip-spec : {M : Type 1} → statement M
 +skip-spec = close μ-skip λ t. skip-lts.spec (calls t)
@@ -116,16 +128,15 @@ pub +skip-spec : {M : Type 1} → statement M
     (skip-returns-2 t)
     (skip-shared-slice-read-code-of t)
     (skip-code-of-requires t)
+    (skip-add-t9 t)
     (skip-enum-told t)
     (skip-over-requires t)
     (skip-enum-told-2 t)
     (skip-over-requires-2 t)
     (skip-enum-told-3 t)
-    (skip-add-skip t)
     (skip-sub-skip t)
     (skip-skip-requires t)
     (skip-enum-told-4 t)
-    (skip-add-skip-2 t)
     (skip-sub-skip-2 t)
     (skip-skip-requires-2 t)
     (skip-sub-skip-3 t)

@@ -2,7 +2,7 @@ use Rattle.packets.proofs.TreeSteps.{value-none, value-past, value-step
 use Rattle.packets.specs.StoredTrees.{skipAt, valueAt, valueCode}
 use Rattle.packets.specs.declared.trees.Code.{Code}
 use denote.Ref.{now}
-use mathlib.Core.Path.{_≡_, sym, ap}
+use mathlib.Core.Path.{_≡_, sym}
 use borrow.Author.Needs.{needs}
 use Prim.Native.Nat.{ℕ, _<_, _-_}
 use borrow.Fn.Kinds.{In}
@@ -40,7 +40,8 @@ coded : (t : ℕ) (p : value-lts.After-code-of (calls t) (value-at t) value.Post
     valueAt (a .depth) (now (a .s)) (now (a .run)) (a .self .at)
     ≡ valueCode k (valueAt (a .depth - 1) (now (a .s)) (now (a .run))) (skipAt (a .depth - 1) (now (a .s)))
     (now (a .s)) (now (a .run)) (a .self .at)
-coded t p e = value-step _ _ _ _ (p .before .before .before .if1 .left) (p .before .before .if2 .left) (p .code-of .ensures) e
+coded t p e =
+    value-step _ _ _ _ (p .before .before .before .if1 .left) (p .before .before .if2 .left) (p .code-of .ensures) e
 
 value-returns : (t : ℕ) → value-lts.Need-returns (calls t) (value-at t) value.Post
 value-returns t c = sym (value-none _ _ _ _ (c .if1 .taken))
@@ -53,6 +54,9 @@ value-shared-slice-read-code-of t c = search needs
 
 value-code-of-requires : (t : ℕ) → value-lts.Need-code-of-requires (calls t) (value-at t) value.Post
 value-code-of-requires t c κs = search needs
+
+value-add-t20 : (t : ℕ) → value-lts.Need-add-t20 (calls t) (value-at t) value.Post
+value-add-t20 t c = search needs
 
 value-enum-told : (t : ℕ) → value-lts.Need-enum-told (calls t) (value-at t) value.Post
 value-enum-told t c = search needs
@@ -69,9 +73,6 @@ value-field-requires t c κs = search needs
 value-enum-told-3 : (t : ℕ) → value-lts.Need-enum-told-3 (calls t) (value-at t) value.Post
 value-enum-told-3 t c = search needs
 
-value-add-value : (t : ℕ) → value-lts.Need-add-value (calls t) (value-at t) value.Post
-value-add-value t c = search needs
-
 value-sub-value : (t : ℕ) → value-lts.Need-sub-value (calls t) (value-at t) value.Post
 value-sub-value t c = search needs
 
@@ -85,16 +86,19 @@ value-enum-told-4 : (t : ℕ) → value-lts.Need-enum-told-4 (calls t) (value-at
 value-enum-told-4 t c = search needs
 
 value-returns-3 : (t : ℕ) → value-lts.Need-returns-3 (calls t) (value-at t) value.Post
-value-returns-3 t c = rw (coded t (c .before .before .before .before .before) (c .before .before .before .enum-told3 .given .1), ← c .before .before .value .ensures, c .enum-told4 .given .1)
+value-returns-3 t c =
+    let p = c .before .before .before .before .before in
+    rw (
+      coded t p (c .before .before .before .enum-told3 .given .1),
+      ← c .before .before .value .ensures,
+      c .enum-told4 .given .1,
+    )
 
 value-yes-no-requires : (t : ℕ) → value-lts.Need-yes-no-requires (calls t) (value-at t) value.Post
 value-yes-no-requires t c κs = search needs
 
 value-enum-known-c : (t : ℕ) → value-lts.Need-enum-known-c (calls t) (value-at t) value.Post
 value-enum-known-c t c = search needs
-
-value-add-value-2 : (t : ℕ) → value-lts.Need-add-value-2 (calls t) (value-at t) value.Post
-value-add-value-2 t c = search needs
 
 value-sub-value-2 : (t : ℕ) → value-lts.Need-sub-value-2 (calls t) (value-at t) value.Post
 value-sub-value-2 t c = search needs
@@ -109,7 +113,13 @@ value-enum-told-5 : (t : ℕ) → value-lts.Need-enum-told-5 (calls t) (value-at
 value-enum-told-5 t c = search needs
 
 value-returns-4 : (t : ℕ) → value-lts.Need-returns-4 (calls t) (value-at t) value.Post
-value-returns-4 t c = rw (coded t (c .before .before .before .before .before .before) (c .before .before .before .before .c .given .1), ← c .before .before .value2 .ensures, c .enum-told5 .given .1)
+value-returns-4 t c =
+    let p = c .before .before .before .before .before .before in
+    rw (
+      coded t p (c .before .before .before .before .c .given .1),
+      ← c .before .before .value2 .ensures,
+      c .enum-told5 .given .1,
+    )
 
 value-settles-requires : (t : ℕ) → value-lts.Need-settles-requires (calls t) (value-at t) value.Post
 value-settles-requires t c κs = search needs
@@ -121,14 +131,16 @@ value-skip-requires : (t : ℕ) → value-lts.Need-skip-requires (calls t) (valu
 value-skip-requires t c κs = search needs
 
 value-returns-5 : (t : ℕ) → value-lts.Need-returns-5 (calls t) (value-at t) value.Post
-value-returns-5 t c = rw (
-  coded t (c .before .before .before .before .before .before .before .before .before .before) (c .before .before .before .before .before .before .before .before .c .given .1),
-  ← c .before .before .before .before .before .before .value2 .ensures,
-  c .before .before .before .before .v2 .given .1,
-  ← c .before .before .settles .ensures,
-  c .before .if3 .taken,
-  c .skip .ensures,
-)
+value-returns-5 t c =
+    let p = c .before .before .before .before .before .before .before .before .before .before in
+    rw (
+      coded t p (c .before .before .before .before .before .before .before .before .c .given .1),
+      ← c .before .before .before .before .before .before .value2 .ensures,
+      c .before .before .before .before .v2 .given .1,
+      ← c .before .before .settles .ensures,
+      c .before .if3 .taken,
+      c .skip .ensures,
+    )
 
 value-sub-value-3 : (t : ℕ) → value-lts.Need-sub-value-3 (calls t) (value-at t) value.Post
 value-sub-value-3 t c = search needs
@@ -143,15 +155,17 @@ value-enum-told-6 : (t : ℕ) → value-lts.Need-enum-told-6 (calls t) (value-at
 value-enum-told-6 t c = search needs
 
 value-returns-6 : (t : ℕ) → value-lts.Need-returns-6 (calls t) (value-at t) value.Post
-value-returns-6 t c = rw (
-  coded t (c .before .before .before .before .before .before .before .before .before .before .before .before) (c .before .before .before .before .before .before .before .before .before .before .c .given .1),
-  ← c .before .before .before .before .before .before .before .before .value2 .ensures,
-  c .before .before .before .before .before .before .v2 .given .1,
-  ← c .before .before .before .before .settles .ensures,
-  c .before .before .before .if3 .left,
-  ← c .before .before .value3 .ensures,
-  c .enum-told6 .given .1,
-)
+value-returns-6 t c =
+    let p = c .before .before .before .before .before .before .before .before .before .before .before .before in
+    rw (
+      coded t p (c .before .before .before .before .before .before .before .before .before .before .c .given .1),
+      ← c .before .before .before .before .before .before .before .before .value2 .ensures,
+      c .before .before .before .before .before .before .v2 .given .1,
+      ← c .before .before .before .before .settles .ensures,
+      c .before .before .before .if3 .left,
+      ← c .before .before .value3 .ensures,
+      c .enum-told6 .given .1,
+    )
 
 value-combine-requires : (t : ℕ) → value-lts.Need-combine-requires (calls t) (value-at t) value.Post
 value-combine-requires t c κs = search needs
@@ -160,33 +174,43 @@ value-enum-told-7 : (t : ℕ) → value-lts.Need-enum-told-7 (calls t) (value-at
 value-enum-told-7 t c = search needs
 
 value-returns-7 : (t : ℕ) → value-lts.Need-returns-7 (calls t) (value-at t) value.Post
-value-returns-7 t c = rw (coded t (c .before .before .before) (c .before .enum-told .given .1)) (c .number .ensures)
+value-returns-7 t c =
+    let p = c .before .before .before in
+    rw (coded t p (c .before .enum-told .given .1)) (c .number .ensures)
 
 value-returns-8 : (t : ℕ) → value-lts.Need-returns-8 (calls t) (value-at t) value.Post
-value-returns-8 t c = rw (coded t (c .before .before .before) (c .before .enum-told2 .given .1)) (c .field .ensures)
+value-returns-8 t c =
+    let p = c .before .before .before in
+    rw (coded t p (c .before .enum-told2 .given .1)) (c .field .ensures)
 
 value-returns-9 : (t : ℕ) → value-lts.Need-returns-9 (calls t) (value-at t) value.Post
-value-returns-9 t c = rw (
-  coded t (c .before .before .before .before .before .before .before) (c .before .before .before .before .before .enum-told3 .given .1),
-  ← c .before .before .before .before .value .ensures,
-  c .before .before .v .given .1,
-  c .yes-no .ensures,
-)
+value-returns-9 t c =
+    let p = c .before .before .before .before .before .before .before in
+    rw (
+      coded t p (c .before .before .before .before .before .enum-told3 .given .1),
+      ← c .before .before .before .before .value .ensures,
+      c .before .before .v .given .1,
+      c .yes-no .ensures,
+    )
 
 value-returns-10 : (t : ℕ) → value-lts.Need-returns-10 (calls t) (value-at t) value.Post
-value-returns-10 t c = rw (
-  coded t (c .before .before .before .before .before .before .before .before .before .before .before .before .before .before) (c .before .before .before .before .before .before .before .before .before .before .before .before .c .given .1),
-  ← c .before .before .before .before .before .before .before .before .before .before .value2 .ensures,
-  c .before .before .before .before .before .before .before .before .v2 .given .1,
-  ← c .before .before .before .before .before .before .settles .ensures,
-  c .before .before .before .before .before .if3 .left,
-  ← c .before .before .before .before .value3 .ensures,
-  c .before .before .w .given .1,
-)
+value-returns-10 t c =
+    let p = c .before .before .before .before .before .before .before .before .before .before .before .before .before .before in
+    rw (
+      coded t p (c .before .before .before .before .before .before .before .before .before .before .before .before .c .given .1),
+      ← c .before .before .before .before .before .before .before .before .before .before .value2 .ensures,
+      c .before .before .before .before .before .before .before .before .v2 .given .1,
+      ← c .before .before .before .before .before .before .settles .ensures,
+      c .before .before .before .before .before .if3 .left,
+      ← c .before .before .before .before .value3 .ensures,
+      c .before .before .w .given .1,
+    )
     (c .combine .ensures)
 
 value-returns-11 : (t : ℕ) → value-lts.Need-returns-11 (calls t) (value-at t) value.Post
-value-returns-11 t c = rw (coded t (c .before .before) (c .enum-told7 .given .1))
+value-returns-11 t c =
+    let p = c .before .before in
+    rw (coded t p (c .enum-told7 .given .1))
 
 pub +value-spec : {M : Type 1} → statement M
 +value-spec = close μ-value λ t. value-lts.spec (calls t)
@@ -196,12 +220,12 @@ pub +value-spec : {M : Type 1} → statement M
     (value-returns-2 t)
     (value-shared-slice-read-code-of t)
     (value-code-of-requires t)
+    (value-add-t20 t)
     (value-enum-told t)
     (value-number-requires t)
     (value-enum-told-2 t)
     (value-field-requires t)
     (value-enum-told-3 t)
-    (value-add-value t)
     (value-sub-value t)
     (value-value-requires t)
     (value-enum-known-v t)
@@ -209,7 +233,6 @@ pub +value-spec : {M : Type 1} → statement M
     (value-returns-3 t)
     (value-yes-no-requires t)
     (value-enum-known-c t)
-    (value-add-value-2 t)
     (value-sub-value-2 t)
     (value-value-requires-2 t)
     (value-enum-known-v-2 t)

@@ -1,4 +1,4 @@
-use borrow.Author.Tests.{le-ltb, lt-ltb, le-leb, lt-leb, eq-eqb, ne-eqb}
+use borrow.Author.Tests.{le-ltb, lt-ltb, eq-eqb, ne-eqb}
 use borrow.Author.Needs.{needs}
 use Rattle.packets.proofs.trees.Cursor.check_field.Statement.{statement}
 use Rattle.packets.proofs.trees.Cursor.check_field.Tie as tie
@@ -29,10 +29,20 @@ add-t13 : tie.Need-add-t13
 add-t13 c = search needs
 
 returns-2 : tie.Need-returns-2
-returns-2 c = rw (le-ltb _ _ (c .before .before .before .before .if1 .left), ← c .before .before .index .ensures .0, ← c .before .byte-at .ensures, eq-eqb _ _ (c .if2 .taken))
+returns-2 c = rw (
+  le-ltb _ _ (c .before .before .before .before .if1 .left),
+  ← c .before .before .index .ensures .0,
+  ← c .before .byte-at .ensures,
+  eq-eqb _ _ (c .if2 .taken),
+)
 
 returns-3 : tie.Need-returns-3
-returns-3 c = rw (le-ltb _ _ (c .before .before .before .before .if1 .left), ← c .before .before .index .ensures .0, ← c .before .byte-at .ensures, ne-eqb _ _ (c .if2 .left))
+returns-3 c = rw (
+  le-ltb _ _ (c .before .before .before .before .if1 .left),
+  ← c .before .before .index .ensures .0,
+  ← c .before .byte-at .ensures,
+  ne-eqb _ _ (c .if2 .left),
+)
 
 pub check-field-spec : {M : Type 1} → statement M
 check-field-spec =

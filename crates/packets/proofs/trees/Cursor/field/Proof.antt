@@ -1,4 +1,4 @@
-use borrow.Author.Tests.{le-ltb, lt-ltb, le-leb, lt-leb, eq-eqb, ne-eqb}
+use borrow.Author.Tests.{le-ltb, lt-ltb, eq-eqb, ne-eqb}
 use borrow.Author.Needs.{needs}
 use Rattle.packets.proofs.trees.Cursor.field.Statement.{statement}
 use Rattle.packets.proofs.trees.Cursor.field.Tie as tie
@@ -47,7 +47,12 @@ returns-2 c = rw (
 )
 
 returns-3 : tie.Need-returns-3
-returns-3 c = rw (le-ltb _ _ (c .before .before .before .before .if1 .left), ← c .before .before .index .ensures .0, ← c .before .number-at .ensures, ne-eqb _ _ (c .if2 .left))
+returns-3 c = rw (
+  le-ltb _ _ (c .before .before .before .before .if1 .left),
+  ← c .before .before .index .ensures .0,
+  ← c .before .number-at .ensures,
+  ne-eqb _ _ (c .if2 .left),
+)
 
 pub field-spec : {M : Type 1} → statement M
 field-spec =

@@ -1,9 +1,9 @@
 use Rattle.rules.specs.Operators.{operator}
 use borrow.Author.Needs.{needs}
-use Rattle.packets.proofs.trees.result.Statement.{statement}
-use Rattle.packets.proofs.trees.result.Tie as tie
-use Rattle.packets.proofs.trees.result.Reads as reads
-use Rattle.packets.proofs.trees.result.Lts as lts
+use Rattle.packets.proofs.trees.result_type.Statement.{statement}
+use Rattle.packets.proofs.trees.result_type.Tie as tie
+use Rattle.packets.proofs.trees.result_type.Reads as reads
+use Rattle.packets.proofs.trees.result_type.Lts as lts
 
 enum-told : tie.Need-enum-told
 enum-told c = search needs
@@ -82,8 +82,8 @@ returns-11 : tie.Need-returns-11
 unfolding operator
 returns-11 c = rw (c .enum-told11 .given .1)
 
-pub result-spec : {M : Type 1} → statement M
-result-spec =
+pub result-type-spec : {M : Type 1} → statement M
+result-type-spec =
     tie.close
     (tie.spec
     enum-told

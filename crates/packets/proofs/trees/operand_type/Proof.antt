@@ -1,9 +1,9 @@
 use Rattle.rules.specs.Operators.{operator}
 use borrow.Author.Needs.{needs}
-use Rattle.packets.proofs.trees.operands.Statement.{statement}
-use Rattle.packets.proofs.trees.operands.Tie as tie
-use Rattle.packets.proofs.trees.operands.Reads as reads
-use Rattle.packets.proofs.trees.operands.Lts as lts
+use Rattle.packets.proofs.trees.operand_type.Statement.{statement}
+use Rattle.packets.proofs.trees.operand_type.Tie as tie
+use Rattle.packets.proofs.trees.operand_type.Reads as reads
+use Rattle.packets.proofs.trees.operand_type.Lts as lts
 
 enum-told : tie.Need-enum-told
 enum-told c = search needs
@@ -82,8 +82,8 @@ returns-11 : tie.Need-returns-11
 unfolding operator
 returns-11 c = rw (c .enum-told11 .given .1)
 
-pub operands-spec : {M : Type 1} → statement M
-operands-spec =
+pub operand-type-spec : {M : Type 1} → statement M
+operand-type-spec =
     tie.close
     (tie.spec
     enum-told
