@@ -8,6 +8,7 @@
 -- TreeComplete                      a tree that stands somewhere is found there, and skipped
 -- TreeValues                        the value of a tree that stands somewhere
 -- FieldSteps, WalkSteps, NameSteps  what the code that checks a table is told at its steps
+-- PartBytes                         the bytes of a part and the trees in it, by the tests
 pub mod PartsLaws
 pub mod RecordLaws
 pub mod FieldBounds
@@ -20,3 +21,6 @@ pub mod TreeValues
 pub mod FieldSteps
 pub mod WalkSteps
 pub mod NameSteps
+pub mod PartBytes
+pub mod FieldParts
+pub mod FieldTests
