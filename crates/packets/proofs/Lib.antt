@@ -24,3 +24,5 @@ pub mod NameSteps
 pub mod PartBytes
 pub mod FieldParts
 pub mod FieldTests
+pub mod FieldOrder
+pub mod WalkLaws
