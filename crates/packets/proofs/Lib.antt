@@ -26,3 +26,4 @@ pub mod FieldParts
 pub mod FieldTests
 pub mod FieldOrder
 pub mod WalkLaws
+pub mod NameLaws
