@@ -27,3 +27,6 @@ pub mod FieldTests
 pub mod FieldOrder
 pub mod WalkLaws
 pub mod NameLaws
+pub mod TableSteps
+pub mod TableParts
+pub mod TableLaws

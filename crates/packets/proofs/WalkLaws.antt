@@ -53,7 +53,7 @@ use Rattle.packets.proofs.FieldOrder.{
 
 -- ── one step ──
 
-past-bad : (next : ℕ) → Bad ≡ Past next → ⊥
+pub past-bad : (next : ℕ) → Bad ≡ Past next → ⊥
 past-bad next e = let z : _≡_ {A = ℕ} 0 1 = cc in omega arith
 
 module _ (w n : ℕ) (marks : List ℕ) (place : ℕ) (ended : Bool) (s : List ℕ) (at next : ℕ) where
