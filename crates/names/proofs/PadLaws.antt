@@ -46,7 +46,7 @@ unfolding isWordByte isLetter isDigit
 word-byte b h =
     or-true (between 65 b 90 || between 97 b 122) (between 48 b 57)
     (λ e. or-true (between 65 b 90) (between 97 b 122)
-      (λ f. omega (arith, between-true 65 b 90 f)) (λ f. omega (arith, between-true 97 b 122 f)) e)
+    (λ f. omega (arith, between-true 65 b 90 f)) (λ f. omega (arith, between-true 97 b 122 f)) e)
     (λ e. omega (arith, between-true 48 b 57 e)) h
 
 pub record Held (w : List ℕ) : Type 0 where

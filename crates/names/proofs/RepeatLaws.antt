@@ -66,8 +66,8 @@ pub repeat-none : (alike : ℕ → ℕ → Bool) (n : ℕ) → ((i j : ℕ) → 
     → firstRepeat alike n ≡ n
 repeat-none alike n h =
     let none : (j : ℕ) → j < n → repeats alike j ≡ false = λ j q.
-        let e = none-passes (λ i. alike i j) 0 j (λ i a b. h i j (omega arith) q) in
-        le-ltb (firstFrom (λ i. alike i j) 0 j) j (omega (arith, e)) in
+    let e = none-passes (λ i. alike i j) 0 j (λ i a b. h i j (omega arith) q) in
+    le-ltb (firstFrom (λ i. alike i j) 0 j) j (omega (arith, e)) in
     let r = none-passes (repeats alike) 0 n (λ j p q. none j (omega arith)) in
     omega (arith, r)
 

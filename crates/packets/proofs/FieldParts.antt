@@ -103,15 +103,17 @@ module _ (s marks : List ℕ) (p : Parts) where
       let n = and-left (not (eqb (getD s (p .tree .at) 0) 1)) (treeTest s marks Number (p .tree)) ok′ in
       let t = q .0 in
       let u : (eqb (p .number) 1 || eqb (p .number) 8) ≡ true = rw e at h in
-      let m : not (isNumber t) ≡ true = rw (← number-byte s (p .tree) t (q .1 .stands)) n in
-      (measured (p .number) t, record {
-        kind = e;
-        stands = (refl, q .1 .stands);
-        formed = and-both (eqb (p .number) 1 || eqb (p .number) 8) (not (isNumber t)) u m;
-        range = one-passes isInRange t (q .1 .range);
-        small = one-passes isSmall t (q .1 .small);
-        typed = q .1 .typed;
-      })
+      let m : not (isNumber t) ≡ true = rw (← number-byte s (p .tree) t (q .1 .stands)) n in (
+        measured (p .number) t,
+        record {
+          kind = e;
+          stands = (refl, q .1 .stands);
+          formed = and-both (eqb (p .number) 1 || eqb (p .number) 8) (not (isNumber t)) u m;
+          range = one-passes isInRange t (q .1 .range);
+          small = one-passes isSmall t (q .1 .small);
+          typed = q .1 .typed;
+        },
+      )
 
   pub width-sound : IsBytes s → between 2 (p .kind) 4 ≡ true → numberTest (p .kind) (p .number) ≡ true
       → widthTest s marks p ≡ true → (w : Width ℕ) × WidthIn s marks p w

@@ -110,8 +110,7 @@ module _ (s marks own : List ℕ) (p : Parts) where
       } in
       let range = lists.all-append isInRange (widthTrees w) (listOf a ++ listOf b) (wi .range)
       (lists.all-append isInRange (listOf a) (listOf b) (maybe-range s own (p .constraint) a ai)
-      (maybe-range s marks (p .condition) b bi)) in
-      (
+      (maybe-range s marks (p .condition) b bi)) in (
         f,
         record {
           kind = wi .kind;
@@ -123,10 +122,10 @@ module _ (s marks own : List ℕ) (p : Parts) where
         },
         record {
           formed = and-both (isLabel (bytesIn s (p .label))) _ label
-          (and-both (ifAny isShort n) _ ns (and-both (isWidth w) _ (wi .formed) range));
+              (and-both (ifAny isShort n) _ ns (and-both (isWidth w) _ (wi .formed) range));
           small = lists.all-append isSmall (widthTrees w) (listOf a ++ listOf b) (wi .small)
-          (lists.all-append isSmall (listOf a) (listOf b) (maybe-small s own (p .constraint) a ai)
-          (maybe-small s marks (p .condition) b bi));
+              (lists.all-append isSmall (listOf a) (listOf b) (maybe-small s own (p .constraint) a ai)
+              (maybe-small s marks (p .condition) b bi));
           width = wi .typed;
           constraint = maybe-typed s own (p .constraint) a ai;
           condition = maybe-typed s marks (p .condition) b bi;
@@ -164,16 +163,15 @@ module _ (s marks own : List ℕ) (p : Parts) where
         small = size .0;
         typed = h .width;
       }) in
-      let l : isLabel (bytesIn s (p .label)) ≡ true = rw (bytes-are s (p .label) (f .label) (st .label)) (e .0) in
-      (
+      let l : isLabel (bytesIn s (p .label)) ≡ true = rw (bytes-are s (p .label) (f .label) (st .label)) (e .0) in (
         and-both (isLabel (bytesIn s (p .label))) _ l
-        (and-both (shortTest s (p .short)) _ (short-complete s (p .short) (f .short) (e .1) (st .short)) (w .0)),
+            (and-both (shortTest s (p .short)) _ (short-complete s (p .short) (f .short) (e .1) (st .short)) (w .0)),
         and-both (widthTest s marks p) _ (w .1)
-        (and-both (maybeTest s own (p .constraint)) _
-        (maybe-complete s own (p .constraint) (f .constraint)
-        (maybe-in s own (p .constraint) (f .constraint) (h .constraint) (ranges .0) (sizes .0) (st .constraint)))
-        (maybe-complete s marks (p .condition) (f .condition)
-        (maybe-in s marks (p .condition) (f .condition) (h .condition) (ranges .1) (sizes .1) (st .condition)))),
+            (and-both (maybeTest s own (p .constraint)) _
+            (maybe-complete s own (p .constraint) (f .constraint)
+            (maybe-in s own (p .constraint) (f .constraint) (h .constraint) (ranges .0) (sizes .0) (st .constraint)))
+            (maybe-complete s marks (p .condition) (f .condition)
+            (maybe-in s marks (p .condition) (f .condition) (h .condition) (ranges .1) (sizes .1) (st .condition)))),
         w .2,
       )
 
@@ -202,10 +200,9 @@ module _ (s marks own : List ℕ) (at : ℕ) where
       let q = record-parts s at next f (field-bounds f (h .formed) (h .small)) st in
       let r = field-complete s marks own p f (q .0) h in
       let n : p .next ≤ length s = omega (arith, q .1, le) in
-      let e : at + twoAt s at ≡ p .next = q .2 ∙ sym (q .1) in
-      (
+      let e : at + twoAt s at ≡ p .next = q .2 ∙ sym (q .1) in (
         and-both (leb (p .next) (length s)) _ (le-leb _ _ n)
-        (and-both (eqb (at + twoAt s at) (p .next)) _ (eq-eqb _ _ e) (r .2)),
+            (and-both (eqb (at + twoAt s at) (p .next)) _ (eq-eqb _ _ e) (r .2)),
         r .0,
         r .1,
         q .0,

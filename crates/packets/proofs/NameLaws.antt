@@ -64,9 +64,9 @@ unfolding firstBreak
 unique-build before [] h = refl
 unique-build before (f ∷ l) h =
     let n : any (clash f) before ≡ false = any-by (clash f) before (λ i lt.
-        let a : Apart (before ++ (f ∷ l)) i (length before) =
-            h i (length before) lt (omega (arith, length-append before (f ∷ l))) in
-        rw (getD-append-seam before f l blank, nth-left before (f ∷ l) i lt) at a) in
+    let a : Apart (before ++ (f ∷ l)) i (length before) =
+    h i (length before) lt (omega (arith, length-append before (f ∷ l))) in
+    rw (getD-append-seam before f l blank, nth-left before (f ∷ l) i lt) at a) in
     let e = append-assoc before (f ∷ []) l in
     rw n (unique-build (before ++ (f ∷ [])) l (rw e h))
 
@@ -79,13 +79,13 @@ unique-parts before (f ∷ l) h i j p q r =
   where
     go : any (clash f) before ≡ false → (b : Bool) → ltb (length before) j ≡ b
         → ((i j : ℕ) → i < j → length (before ++ (f ∷ [])) ≤ j → j < length ((before ++ (f ∷ [])) ++ l)
-          → Apart ((before ++ (f ∷ [])) ++ l) i j)
+        → Apart ((before ++ (f ∷ [])) ++ l) i j)
         → Apart (before ++ (f ∷ l)) i j
     go n true t rec =
         let s = append-assoc before (f ∷ []) l in
         let m = length-append before (f ∷ []) in
         let rec′ : (i j : ℕ) → i < j → length (before ++ (f ∷ [])) ≤ j → j < length (before ++ (f ∷ l))
-            → Apart (before ++ (f ∷ l)) i j = rw s at rec in
+        → Apart (before ++ (f ∷ l)) i j = rw s at rec in
         rec′ i j p (omega (arith, m, ltb-true (length before) j t)) r
     go n false t rec =
         let z : j ≡ length before = omega (arith, ltb-false (length before) j t) in
@@ -191,11 +191,11 @@ module _ (s : List ℕ) (l : List (Field ℕ)) (at next : ℕ) (form : firstBrea
       let n = length l in
       let apart = unique-parts [] l h in
       let a = repeat-none (labelsAlike s places) n (λ i j p q.
-          labels-are i j (omega arith) q
-          ∙ same-turn (nth l j .label) (nth l i .label)
-          (or-false-left (same (nth l j .label) (nth l i .label)) _ (apart i j p (omega arith) q))) in
+      labels-are i j (omega arith) q
+      ∙ same-turn (nth l j .label) (nth l i .label)
+      (or-false-left (same (nth l j .label) (nth l i .label)) _ (apart i j p (omega arith) q))) in
       let b = repeat-none (namesAlike (shortsAt s places)) n (λ i j p q.
-          shorts-are i j (omega arith) q
-          ∙ short-turn (nth l j .short) (nth l i .short)
-          (or-false-right (same (nth l j .label) (nth l i .label)) _ (apart i j p (omega arith) q))) in
+      shorts-are i j (omega arith) q
+      ∙ short-turn (nth l j .short) (nth l i .short)
+      (or-false-right (same (nth l j .label) (nth l i .label)) _ (apart i j p (omega arith) q))) in
       and-both (eqb (firstRepeat (labelsAlike s places) n) n) _ (eq-eqb _ _ a) (eq-eqb _ _ b)

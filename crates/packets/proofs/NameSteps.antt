@@ -82,5 +82,5 @@ module _ (s : List ℕ) (n : ℕ) (places all : List ℕ) where
       → firstRepeat (namesAlike names) n ≡ firstRepeat (namesAlike (shortsAt s all)) n
   all-names names e f =
       let one : (i : ℕ) → i < n → getD names i [] ≡ getD (shortsAt s all) i [] = λ i lt.
-          sym (getD-take n names i [] lt) ∙ ap (λ (l : List (List ℕ)). getD l i []) (f ∙ ap (shortsAt s) e) in
+      sym (getD-take n names i [] lt) ∙ ap (λ (l : List (List ℕ)). getD l i []) (f ∙ ap (shortsAt s) e) in
       repeat-same (namesAlike names) (namesAlike (shortsAt s all)) n (λ i j p q. rw (one i (omega arith), one j q))

@@ -92,14 +92,16 @@ module _ (s marks : List ℕ) (k : ValueType) (p : Span) where
           let b : next .at ≡ ending p = eqb-true (next .at) (ending p) (and-right (sameType j k) (eqb (next .at) (ending p)) f) in
           let q = check-sound 12 s marks (p .at) j next h e in
           let st : In s p (storedExpression (q .0)) = stands-to s (p .at) (next .at) (ending p) _ b (q .4) in
-          let l : storedLength (q .0) ≤ 120 = omega (arith, in-length s p _ st, length-stored (λ i. i) (λ i. 0) (q .0)) in
-          (q .0, record {
-            typed = typed-as marks j k (q .0) a (q .1);
-            range = q .2;
-            small = and-both (leb (depth (q .0)) depthMost) (leb (storedLength (q .0)) storedMost)
-            (le-leb (depth (q .0)) 12 (q .3)) (le-leb (storedLength (q .0)) 120 l);
-            stands = st;
-          })
+          let l : storedLength (q .0) ≤ 120 = omega (arith, in-length s p _ st, length-stored (λ i. i) (λ i. 0) (q .0)) in (
+            q .0,
+            record {
+              typed = typed-as marks j k (q .0) a (q .1);
+              range = q .2;
+              small = and-both (leb (depth (q .0)) depthMost) (leb (storedLength (q .0)) storedMost)
+                  (le-leb (depth (q .0)) 12 (q .3)) (le-leb (storedLength (q .0)) 120 l);
+              stands = st;
+            },
+          )
 
   pub tree-complete : (t : Tree ℕ) → TreeIn s marks k p t → treeTest s marks k p ≡ true
   unfolding treeTest

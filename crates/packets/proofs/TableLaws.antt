@@ -97,14 +97,14 @@ table-complete s g =
     let end : at ≤ length s = omega (arith, last .end) in
     let h = head-found s d from w (omega arith) (stands-left s 0 (length s) head _ st) in
     let walk : walkAt (d .rowWidth) (length l) [] 0 false s from ≡ Past at =
-        walk-complete (d .rowWidth) [] 0 s from at l end (record {
-          stands = fields;
-          form = w .form;
-          size = w .size;
-          kinds = w .kinds;
-          rests = w .rests;
-          rows = w .rows;
-        }) in
+    walk-complete (d .rowWidth) [] 0 s from at l end (record {
+      stands = fields;
+      form = w .form;
+      size = w .size;
+      kinds = w .kinds;
+      rests = w .rests;
+      rows = w .rows;
+    }) in
     let names = names-complete s l from at (w .form) (w .size) fields (w .names) in
     let names′ : namesTest s (twoAt s 6) (10 + twoAt s 8) ≡ true = rw (h .count, ← h .next) names in
     let walk′ : walked s ≡ Past at = rw (h .row, h .count, ← h .next) walk in

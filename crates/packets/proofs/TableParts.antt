@@ -62,7 +62,7 @@ head-stands s d b h row count name =
     let q₂ = front-two s 4 end (d .rowWidth) _ b (omega arith) row q₃ in
     let q₁ = front-two s 2 end 1 _ b (omega arith) (h .kind) q₂ in
     let size : twoAt s 0 ≡ 4 + length (headBody d) =
-        omega (arith, h .size, head-length d, in-length s (spanAt s 8) (d .name) i) in
+    omega (arith, h .size, head-length d, in-length s (spanAt s 8) (d .name) i) in
     front-two s 0 end (4 + length (headBody d)) _ b (omega arith) size q₁
 
 -- what the first record says of the description
@@ -87,11 +87,11 @@ head-found s d end w le st =
     let size : twoAt s 0 ≡ 10 + twoAt s 8 = omega (arith, q₁ .0, hl, in-length s (spanAt s 8) (d .name) (q₅ .0)) in
     record {
       test = and-both (leb (10 + twoAt s 8) (length s)) _ (le-leb (10 + twoAt s 8) (length s) (omega arith))
-      (and-both (eqb (twoAt s 0) (10 + twoAt s 8)) _ (eq-eqb _ _ size)
-      (and-both (eqb (twoAt s 2) 1) _ (eq-eqb _ _ (q₂ .0))
-      (and-both (isRowWidth (twoAt s 4)) _ (rw (q₃ .0) (w .row))
-      (and-both (between 1 (twoAt s 6) 64) _ (rw (q₄ .0) (w .count))
-      (rw (bytes-are s (spanAt s 8) (d .name) (q₅ .0)) (w .name))))));
+          (and-both (eqb (twoAt s 0) (10 + twoAt s 8)) _ (eq-eqb _ _ size)
+          (and-both (eqb (twoAt s 2) 1) _ (eq-eqb _ _ (q₂ .0))
+          (and-both (isRowWidth (twoAt s 4)) _ (rw (q₃ .0) (w .row))
+          (and-both (between 1 (twoAt s 6) 64) _ (rw (q₄ .0) (w .count))
+          (rw (bytes-are s (spanAt s 8) (d .name) (q₅ .0)) (w .name))))));
       row = q₃ .0;
       count = q₄ .0;
       next = next;

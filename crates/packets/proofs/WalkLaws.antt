@@ -89,8 +89,7 @@ module _ (w place : ℕ) (ended : Bool) (s : List ℕ) (at : ℕ) where
       × (orderTest w place ended (partsAt s at) ≡ true)
   unfolding fieldTest
   test-parts h =
-      let r = and-right (boundsTest s at (partsAt s at)) _ h in
-      (
+      let r = and-right (boundsTest s at (partsAt s at)) _ h in (
         and-left (boundsTest s at (partsAt s at)) _ h,
         and-left (formTest s (partsAt s at)) _ r,
         and-right (formTest s (partsAt s at)) _ r,
@@ -159,11 +158,11 @@ module _ (w n place : ℕ) (before : List (Field ℕ)) (s : List ℕ) (at next :
     kinds = break-cons (keepsTypes indexReadable) before f l (keeps-types before f keeps) (h .kinds);
     rests = break-cons keepsRest before f l rests (h .rests);
     rows = rows-step w place f (widths l)
-    ∙ and-both (fitsRow w place (f .width)) _ row (h .rows);
+        ∙ and-both (fitsRow w place (f .width)) _ row (h .rows);
   }
 
   walk-cons : ((b : List (Field ℕ)) (q a : ℕ) → walkAt w n (marksOf b) q (any isRest b) s a ≡ Past next
-        → (l : List (Field ℕ)) × (length l ≡ n) × FieldsIn w b q s a next l)
+      → (l : List (Field ℕ)) × (length l ≡ n) × FieldsIn w b q s a next l)
       → (f : Field ℕ) → PartsStand s (partsAt s at) f
       → Keeps (marksOf before) (marksOf before ++ (markOf (partsAt s at) ∷ [])) f
       → Stands s at (storedField f) (partsAt s at .next)
@@ -176,11 +175,10 @@ module _ (w n place : ℕ) (before : List (Field ℕ)) (s : List ℕ) (at next :
       let short = formed-parts f (keeps .formed) .1 in
       let o : marksOf before ++ (markOf p ∷ []) ≡ marksOf (before ++ (f ∷ [])) = own-marks before f (markOf p) (mark-is s p f ps short) in
       let e : (any isRest before || eqb (p .kind) 4) ≡ any isRest (before ++ (f ∷ [])) =
-          rw (rest-is s p f ps) (sym (any-end isRest before f)) in
+      rw (rest-is s p f ps) (sym (any-end isRest before f)) in
       let k : Keeps (marksOf before) (marksOf (before ++ (f ∷ []))) f = rw o at keeps in
       let b : (fitsRow w place (f .width) && keepsRest before f) ≡ true = sym (order-is s p f before w place ps) ∙ order in
-      let q = rec (before ++ (f ∷ [])) (place + fixedBits f) (p .next) (rw (o, bits-are s p f ps, e) at h) in
-      (
+      let q = rec (before ++ (f ∷ [])) (place + fixedBits f) (p .next) (rw (o, bits-are s p f ps, e) at h) in (
         f ∷ q .0,
         ap suc (q .1),
         fields-cons f (q .0) k (and-left (fitsRow w place (f .width)) _ b) (and-right (fitsRow w place (f .width)) _ b) st (q .2),
@@ -195,15 +193,18 @@ walk-sound w zero before place s at next b h = go (eqb (place % w) 0) refl h
     go : (x : Bool) → eqb (place % w) 0 ≡ x → cond x (Past at) Bad ≡ Past next
         → (l : List (Field ℕ)) × (length l ≡ 0) × FieldsIn w before place s at next l
     go true e f =
-        let m : at ≡ next = cc in
-        ([], refl, record {
-          stands = rw m (stands-none s next);
-          form = refl;
-          size = refl;
-          kinds = refl;
-          rests = refl;
-          rows = e;
-        })
+        let m : at ≡ next = cc in (
+          [],
+          refl,
+          record {
+            stands = rw m (stands-none s next);
+            form = refl;
+            size = refl;
+            kinds = refl;
+            rests = refl;
+            rows = e;
+          },
+        )
     go false e f = absurd (past-bad next f)
 walk-sound w (suc n) before place s at next b h =
     let p = partsAt s at in
@@ -243,10 +244,10 @@ walk-complete w before place s at next (f ∷ l) le h =
     let short = formed-parts f (form .0) .1 in
     let o : marksOf before ++ (markOf p ∷ []) ≡ marksOf (before ++ (f ∷ [])) = own-marks before f (markOf p) (mark-is s p f (c .3) short) in
     let e : (any isRest before || eqb (p .kind) 4) ≡ any isRest (before ++ (f ∷ [])) =
-        rw (rest-is s p f (c .3)) (sym (any-end isRest before f)) in
+    rw (rest-is s p f (c .3)) (sym (any-end isRest before f)) in
     let order : orderTest w place (any isRest before) p ≡ true =
-        order-is s p f before w place (c .3)
-        ∙ and-both (fitsRow w place (f .width)) _ (and-left (fitsRow w place (f .width)) _ rows) (rests .0) in
+    order-is s p f before w place (c .3)
+    ∙ and-both (fitsRow w place (f .width)) _ (and-left (fitsRow w place (f .width)) _ rows) (rests .0) in
     walk-passes w (length l) (marksOf before) place (any isRest before) s at next
     (test-whole w place (any isRest before) s at (c .0) (c .1) order) (rw o (c .2))
     ∙ rw (o, bits-are s p f (c .3), e, c .4)

@@ -53,7 +53,7 @@ loop-less : tie.Need-loop-less Inv-loop μ-loop Inv-later μ-later
 loop-less c = omega arith
 
 loop-again : tie.Need-loop-again Inv-loop μ-loop Inv-later μ-later
-loop-again c = 
+loop-again c =
     let alike = namesAlike (c .before .before .before .before .before .before .before .before .args .t1) in
     let j = c .before .before .before .before .before .before .before .later .j in
     let e = sym (c .before .same-name .ensures) ∙ c .if2 .left in
@@ -66,18 +66,18 @@ later-less : tie.Need-later-less Inv-loop μ-loop Inv-later μ-later
 later-less c = omega arith
 
 later-again : tie.Need-later-again Inv-loop μ-loop Inv-later μ-later
-later-again c = 
+later-again c =
     let alike = namesAlike (c .before .before .before .before .args .t1) in
     let e = repeats-none alike (c .before .loop .i) (c .before .before .before .later .j) (omega arith) (omega arith) (c .before .loop .inv .1) in
     (omega arith, c .before .before .before .later .inv .1 ∙ search-step (repeats alike) (c .before .before .before .later .j) (c .before .before .before .before .args .n) (omega arith) ∙ simp e)
 
 returns : tie.Need-returns Inv-loop μ-loop Inv-later μ-later
-returns c = 
+returns c =
     let e : c .before .later .j ≡ c .before .before .args .n = omega arith in
     sym (c .before .later .inv .1 ∙ rw e (search-end (repeats (namesAlike (c .before .before .args .t1))) (c .before .before .args .n)))
 
 returns-2 : tie.Need-returns-2 Inv-loop μ-loop Inv-later μ-later
-returns-2 c = 
+returns-2 c =
     let alike = namesAlike (c .before .before .before .before .before .before .before .before .args .t1) in
     let same = sym (c .before .same-name .ensures) ∙ c .if2 .taken in
     let e = repeats-found alike (c .before .before .before .before .before .loop .i) (c .before .before .before .before .before .before .before .later .j) (omega arith) (c .before .before .before .before .before .loop .inv .1) same in

@@ -37,12 +37,11 @@ loop-less : tie.Need-loop-less Inv-loop μ-loop
 loop-less c = omega arith
 
 loop-again : tie.Need-loop-again Inv-loop μ-loop
-loop-again c = 
-    (
-      omega arith,
-      search needs,
-      pad-set (c .before .before .loop .name) (now (c .before .before .before .before .args .w)) (c .before .before .loop .i) _ (omega arith) (c .before .before .loop .inv .2) (c .byte-of .ensures),
-    )
+loop-again c = (
+  omega arith,
+  search needs,
+  pad-set (c .before .before .loop .name) (now (c .before .before .before .before .args .w)) (c .before .before .loop .i) _ (omega arith) (c .before .before .loop .inv .2) (c .byte-of .ensures),
+)
 
 returns : tie.Need-returns Inv-loop μ-loop
 returns c = pad-whole _ _ (c .before .loop .i) (omega arith) (omega arith) (c .before .loop .inv .2)

@@ -24,7 +24,7 @@ unfolding fieldTest
 returns c = rw (sym (c .before .is-bounded .ensures) ∙ not-true (c .before .is-bounded .result) (c .if1 .taken))
 
 is-formed-requires : tie.Need-is-formed-requires
-is-formed-requires c κs = 
+is-formed-requires c κs =
     (c .before .before .before .pre .2, inside-of _ _ _ (c .before .before .before .pre .3) (sym (c .before .is-bounded .ensures) ∙ not-false (c .before .is-bounded .result) (c .if1 .left)))
 
 returns-2 : tie.Need-returns-2

@@ -21,21 +21,21 @@ sub-if2 c = let h = mod-lt (c .before .before .args .place) (c .before .before .
 
 returns : tie.Need-returns
 unfolding orderTest
-returns c = 
+returns c =
     let h = mod-lt (c .before .before .before .before .args .place) (c .before .before .before .before .pre) in
     let q : c .before .before .before .before .args .w < c .before .before .before .before .args .place % c .before .before .before .before .args .w + c .before .before .before .before .args .parts .number = omega arith in
     rw (eq-eqb _ _ (c .before .before .if1 .taken), lt-leb _ _ q)
 
 returns-2 : tie.Need-returns-2
 unfolding orderTest
-returns-2 c = 
+returns-2 c =
     let h = mod-lt (c .before .before .before .before .before .before .before .args .place) (c .before .before .before .before .before .before .before .pre) in
     let q : c .before .before .before .before .before .before .before .args .place % c .before .before .before .before .before .before .before .args .w + c .before .before .before .before .before .before .before .args .parts .number ≤ c .before .before .before .before .before .before .before .args .w = omega arith in
     rw (eq-eqb _ _ (c .before .before .before .before .before .if1 .taken), le-leb _ _ q, c .before .before .if3 .taken)
 
 returns-3 : tie.Need-returns-3
 unfolding orderTest
-returns-3 c = 
+returns-3 c =
     let h = mod-lt (c .before .before .before .before .before .args .place) (c .before .before .before .before .before .pre) in
     let q : c .before .before .before .before .before .args .place % c .before .before .before .before .before .args .w + c .before .before .before .before .before .args .parts .number ≤ c .before .before .before .before .before .args .w = omega arith in
     rw (eq-eqb _ _ (c .before .before .before .if1 .taken), le-leb _ _ q, c .if3 .left)

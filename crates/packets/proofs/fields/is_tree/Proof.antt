@@ -29,7 +29,7 @@ enum-told c = search needs
 
 returns-2 : tie.Need-returns-2
 unfolding treeTest
-returns-2 c = 
+returns-2 c =
     let e = sym (c .before .before .check .ensures) ∙ c .enum-told .given .1 in
     rw (le-leb _ _ (c .before .before .before .if1 .left), e)
 
@@ -38,7 +38,7 @@ same-type-requires c κs = search needs
 
 returns-3 : tie.Need-returns-3
 unfolding treeTest
-returns-3 c = 
+returns-3 c =
     let e = sym (c .before .before .before .before .before .check .ensures) ∙ c .before .before .before .found .given .1 in
     rw (le-leb _ _ (c .before .before .before .before .before .before .if1 .left), e, (sym (c .before .same-type .ensures) ∙ not-true (c .before .same-type .result) (c .if2 .taken)))
 
@@ -47,7 +47,7 @@ add-result c = search needs
 
 returns-4 : tie.Need-returns-4
 unfolding treeTest
-returns-4 c = 
+returns-4 c =
     let e = sym (c .before .before .before .before .before .before .before .check .ensures) ∙ c .before .before .before .before .before .found .given .1 in
     rw (le-leb _ _ (c .before .before .before .before .before .before .before .before .if1 .left), e, (sym (c .before .before .before .same-type .ensures) ∙ not-false (c .before .before .before .same-type .result) (c .before .before .if2 .left)))
 

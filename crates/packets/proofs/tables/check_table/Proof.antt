@@ -19,7 +19,7 @@ is-table-requires : tie.Need-is-table-requires
 is-table-requires c κs = search needs
 
 returns : tie.Need-returns
-returns c = 
+returns c =
     accepts (now (c .before .before .before .args .table)) (λ i. omega (arith, c .before .before .shared-slice-known .given i)) (sym (c .before .is-table .ensures) ∙ c .if1 .taken)
 
 returns-2 : tie.Need-returns-2

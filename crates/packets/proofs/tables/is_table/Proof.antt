@@ -48,7 +48,7 @@ slice-aggregate-walk : tie.Need-slice-aggregate-walk
 slice-aggregate-walk c = search needs
 
 walk-requires : tie.Need-walk-requires
-walk-requires c κs = 
+walk-requires c κs =
     let h = (head-is (now (c .before .before .before .before .before .before .before .before .args .table)) (sym (c .before .before .before .before .before .is-head .ensures) ∙ not-false (c .before .before .before .before .before .is-head .result) (c .before .before .before .before .if2 .left))) in
     let r : 0 < c .before .before .before .two-at .result = rw (c .before .before .before .two-at .ensures .0) (row-positive _ (h .row)) in
     let k : c .before .before .two-at2 .result ≤ 64 = rw (c .before .before .two-at2 .ensures .0) (count-most _ (h .count)) in
@@ -63,12 +63,12 @@ enum-told c = search needs
 
 returns-3 : tie.Need-returns-3
 unfolding tableTest
-returns-3 c = 
+returns-3 c =
     let e = (walk-of (now (c .before .before .before .before .before .before .before .before .before .before .before .before .args .table)) (c .before .before .before .before .before .before .before .two-at .ensures .0) (c .before .before .before .before .before .before .two-at2 .ensures .0) (c .before .before .before .before .before .two-at3 .ensures .0) (c .before .before .before .walk .ensures) (c .enum-told .given .1)) in
     rw (le-leb _ _ (c .before .before .before .before .before .before .before .before .before .before .if1 .left), (sym (c .before .before .before .before .before .before .before .before .before .is-head .ensures) ∙ not-false (c .before .before .before .before .before .before .before .before .before .is-head .result) (c .before .before .before .before .before .before .before .before .if2 .left)), e)
 
 is-last-requires : tie.Need-is-last-requires
-is-last-requires c κs = 
+is-last-requires c κs =
     let h = (head-is (now (c .before .before .before .before .before .before .before .before .before .before .before .before .before .args .table)) (sym (c .before .before .before .before .before .before .before .before .before .before .is-head .ensures) ∙ not-false (c .before .before .before .before .before .before .before .before .before .before .is-head .result) (c .before .before .before .before .before .before .before .before .before .if2 .left))) in
     let e = (walk-of (now (c .before .before .before .before .before .before .before .before .before .before .before .before .before .args .table)) (c .before .before .before .before .before .before .before .before .two-at .ensures .0) (c .before .before .before .before .before .before .before .two-at2 .ensures .0) (c .before .before .before .before .before .before .two-at3 .ensures .0) (c .before .before .before .before .walk .ensures) (c .before .at .given .1)) in
     let z = walk-past _ _ _ _ _ _ _ _ (h .end) e in
@@ -76,12 +76,12 @@ is-last-requires c κs =
 
 returns-4 : tie.Need-returns-4
 unfolding tableTest
-returns-4 c = 
+returns-4 c =
     let e = (walk-of (now (c .before .before .before .before .before .before .before .before .before .before .before .before .before .before .before .args .table)) (c .before .before .before .before .before .before .before .before .before .before .two-at .ensures .0) (c .before .before .before .before .before .before .before .before .before .two-at2 .ensures .0) (c .before .before .before .before .before .before .before .before .two-at3 .ensures .0) (c .before .before .before .before .before .before .walk .ensures) (c .before .before .before .at .given .1)) in
     rw (le-leb _ _ (c .before .before .before .before .before .before .before .before .before .before .before .before .before .if1 .left), (sym (c .before .before .before .before .before .before .before .before .before .before .before .before .is-head .ensures) ∙ not-false (c .before .before .before .before .before .before .before .before .before .before .before .before .is-head .result) (c .before .before .before .before .before .before .before .before .before .before .before .if2 .left)), e, (sym (c .before .is-last .ensures) ∙ not-true (c .before .is-last .result) (c .if3 .taken)))
 
 has-unique-names-requires : tie.Need-has-unique-names-requires
-has-unique-names-requires c κs = 
+has-unique-names-requires c κs =
     let h = (head-is (now (c .before .before .before .before .before .before .before .before .before .before .before .before .before .before .before .args .table)) (sym (c .before .before .before .before .before .before .before .before .before .before .before .before .is-head .ensures) ∙ not-false (c .before .before .before .before .before .before .before .before .before .before .before .before .is-head .result) (c .before .before .before .before .before .before .before .before .before .before .before .if2 .left))) in
     let e = (walk-of (now (c .before .before .before .before .before .before .before .before .before .before .before .before .before .before .before .args .table)) (c .before .before .before .before .before .before .before .before .before .before .two-at .ensures .0) (c .before .before .before .before .before .before .before .before .before .two-at2 .ensures .0) (c .before .before .before .before .before .before .before .before .two-at3 .ensures .0) (c .before .before .before .before .before .before .walk .ensures) (c .before .before .before .at .given .1)) in
     let k : c .before .before .before .before .before .before .before .before .before .two-at2 .result ≤ 64 = rw (c .before .before .before .before .before .before .before .before .before .two-at2 .ensures .0) (count-most _ (h .count)) in
@@ -90,7 +90,7 @@ has-unique-names-requires c κs =
 
 returns-5 : tie.Need-returns-5
 unfolding tableTest
-returns-5 c = 
+returns-5 c =
     let e = (walk-of (now (c .before .before .before .before .before .before .before .before .before .before .before .before .before .before .before .before .args .table)) (c .before .before .before .before .before .before .before .before .before .before .before .two-at .ensures .0) (c .before .before .before .before .before .before .before .before .before .before .two-at2 .ensures .0) (c .before .before .before .before .before .before .before .before .before .two-at3 .ensures .0) (c .before .before .before .before .before .before .before .walk .ensures) (c .before .before .before .before .at .given .1)) in
     rw (le-leb _ _ (c .before .before .before .before .before .before .before .before .before .before .before .before .before .before .if1 .left), (sym (c .before .before .before .before .before .before .before .before .before .before .before .before .before .is-head .ensures) ∙ not-false (c .before .before .before .before .before .before .before .before .before .before .before .before .before .is-head .result) (c .before .before .before .before .before .before .before .before .before .before .before .before .if2 .left)), e, (sym (c .before .before .is-last .ensures) ∙ not-false (c .before .before .is-last .result) (c .before .if3 .left)), ← c .before .before .before .before .before .before .before .before .before .before .two-at2 .ensures .0, ← c .before .before .before .before .before .before .before .before .before .two-at3 .ensures .0)
     (c .has-unique-names .ensures)

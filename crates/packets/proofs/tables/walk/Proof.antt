@@ -26,7 +26,7 @@ use Rattle.packets.proofs.fields.mark_of.Reads as mark-of-reads
 use Rattle.packets.proofs.records.parts_at.Reads as parts-at-reads
 
 abbrev Inv-loop : tie.InvT-loop
-Inv-loop s w count from marks₀ at₀ place₀ ended₀ i₀ marks at place ended i = 
+Inv-loop s w count from marks₀ at₀ place₀ ended₀ i₀ marks at place ended i =
     (i ≤ count) × (length marks ≡ length marks₀) × (place ≤ 32 * i) × (at ≤ length s)
     × (walkAt w count [] 0 false s from ≡ walkAt w (count - i) (take i marks) place ended s at)
 
@@ -46,7 +46,7 @@ same-length : tie.Need-same-length Inv-loop μ-loop
 same-length c = search needs
 
 returns : tie.Need-returns Inv-loop μ-loop
-returns c = 
+returns c =
     sym (c .before .before .before .before .loop .inv .4 ∙ walk-field (c .before .before .before .before .before .before .before .args .w) (c .before .before .before .before .before .before .before .args .count) (c .before .before .before .before .loop .i) (take (c .before .before .before .before .loop .i) (c .before .before .before .before .loop .marks)) (c .before .before .before .before .loop .place) (c .before .before .before .before .loop .ended) (now (c .before .before .before .before .before .before .before .args .s)) (c .before .before .before .before .loop .at) (omega arith)
     (rw (c .before .before .parts-at .ensures) at (sym (c .before .is-field .ensures) ∙ not-true (c .before .is-field .result) (c .if1 .taken))))
 
@@ -57,18 +57,17 @@ slice-write-marks : tie.Need-slice-write-marks Inv-loop μ-loop
 slice-write-marks c = search needs
 
 has-trees-requires : tie.Need-has-trees-requires Inv-loop μ-loop
-has-trees-requires c κs = 
-    (
-      lt-length-set (c .before .before .before .before .before .before .loop .marks) (c .before .before .before .before .before .before .loop .i) _ (omega arith),
-      c .before .before .before .before .before .before .before .before .before .pre .3,
-      rw (c .before .before .before .before .parts-at .ensures) (parts-inside _ _ (field-next _ _ _ _ _ _ (rw (c .before .before .before .before .parts-at .ensures) at (sym (c .before .before .before .is-field .ensures) ∙ not-false (c .before .before .before .is-field .result) (c .before .before .if1 .left))))),
-    )
+has-trees-requires c κs = (
+  lt-length-set (c .before .before .before .before .before .before .loop .marks) (c .before .before .before .before .before .before .loop .i) _ (omega arith),
+  c .before .before .before .before .before .before .before .before .before .pre .3,
+  rw (c .before .before .before .before .parts-at .ensures) (parts-inside _ _ (field-next _ _ _ _ _ _ (rw (c .before .before .before .before .parts-at .ensures) at (sym (c .before .before .before .is-field .ensures) ∙ not-false (c .before .before .before .is-field .result) (c .before .before .if1 .left))))),
+)
 
 same-length-2 : tie.Need-same-length-2 Inv-loop μ-loop
 same-length-2 c = search needs
 
 returns-2 : tie.Need-returns-2 Inv-loop μ-loop
-returns-2 c = 
+returns-2 c =
     sym (c .before .before .before .before .before .before .before .before .loop .inv .4 ∙ walk-trees (c .before .before .before .before .before .before .before .before .before .before .before .args .w) (c .before .before .before .before .before .before .before .before .before .before .before .args .count) (c .before .before .before .before .before .before .before .before .loop .i) (take (c .before .before .before .before .before .before .before .before .loop .i) (c .before .before .before .before .before .before .before .before .loop .marks)) (c .before .before .before .before .before .before .before .before .loop .place) (c .before .before .before .before .before .before .before .before .loop .ended) (now (c .before .before .before .before .before .before .before .before .before .before .before .args .s)) (c .before .before .before .before .before .before .before .before .loop .at) (omega arith) (rw (c .before .before .before .before .before .before .parts-at .ensures) at (sym (c .before .before .before .before .before .is-field .ensures) ∙ not-false (c .before .before .before .before .before .is-field .result) (c .before .before .before .before .if1 .left)))
     (own-trees (c .before .before .before .before .before .before .before .before .loop .marks) (c .before .before .before .before .before .before .before .before .loop .i) _ (now (c .before .before .before .before .before .before .before .before .before .before .before .args .s)) (c .before .before .before .before .before .before .parts-at .result) (partsAt (now (c .before .before .before .before .before .before .before .before .before .before .before .args .s)) (c .before .before .before .before .before .before .before .before .loop .at)) (c .before .before .before .before .before .before .parts-at .ensures) (c .before .before .before .mark-of .ensures) (omega arith) (sym (c .before .has-trees .ensures) ∙ not-true (c .before .has-trees .result) (c .if2 .taken))))
 
@@ -76,7 +75,7 @@ bits-of-requires : tie.Need-bits-of-requires Inv-loop μ-loop
 bits-of-requires c κs = search needs
 
 add-place : tie.Need-add-place Inv-loop μ-loop
-add-place c = 
+add-place c =
     let b = bits-small _ _ _ _ _ _ (sym (c .before .before .before .before .before .before .is-field .ensures) ∙ not-false (c .before .before .before .before .before .before .is-field .result) (c .before .before .before .before .before .if1 .left)) in
     let e = c .bits-of .ensures in
     omega arith
@@ -91,16 +90,15 @@ loop-less : tie.Need-loop-less Inv-loop μ-loop
 loop-less c = omega arith
 
 loop-again : tie.Need-loop-again Inv-loop μ-loop
-loop-again c = 
+loop-again c =
     let b = bits-small _ _ _ _ _ _ (sym (c .before .before .before .before .before .before .before .is-field .ensures) ∙ not-false (c .before .before .before .before .before .before .before .is-field .result) (c .before .before .before .before .before .before .if1 .left)) in
-    let e = c .before .bits-of .ensures in
-    (
+    let e = c .before .bits-of .ensures in (
       omega arith,
       search needs,
       omega arith,
       field-next _ _ _ _ _ _ (sym (c .before .before .before .before .before .before .before .is-field .ensures) ∙ not-false (c .before .before .before .before .before .before .before .is-field .result) (c .before .before .before .before .before .before .if1 .left)),
       c .before .before .before .before .before .before .before .before .before .before .loop .inv .4 ∙ walk-on (c .before .before .before .before .before .before .before .before .before .before .before .before .before .args .w) (c .before .before .before .before .before .before .before .before .before .before .before .before .before .args .count) (c .before .before .before .before .before .before .before .before .before .before .loop .i) (take (c .before .before .before .before .before .before .before .before .before .before .loop .i) (c .before .before .before .before .before .before .before .before .before .before .loop .marks)) (c .before .before .before .before .before .before .before .before .before .before .loop .place) (c .before .before .before .before .before .before .before .before .before .before .loop .ended) (now (c .before .before .before .before .before .before .before .before .before .before .before .before .before .args .s)) (c .before .before .before .before .before .before .before .before .before .before .loop .at) (omega arith) (rw (c .before .before .before .before .before .before .before .before .parts-at .ensures) at (sym (c .before .before .before .before .before .before .before .is-field .ensures) ∙ not-false (c .before .before .before .before .before .before .before .is-field .result) (c .before .before .before .before .before .before .if1 .left))) (own-trees (c .before .before .before .before .before .before .before .before .before .before .loop .marks) (c .before .before .before .before .before .before .before .before .before .before .loop .i) _ (now (c .before .before .before .before .before .before .before .before .before .before .before .before .before .args .s)) (c .before .before .before .before .before .before .before .before .parts-at .result) (partsAt (now (c .before .before .before .before .before .before .before .before .before .before .before .before .before .args .s)) (c .before .before .before .before .before .before .before .before .before .before .loop .at)) (c .before .before .before .before .before .before .before .before .parts-at .ensures) (c .before .before .before .before .before .mark-of .ensures) (omega arith) (sym (c .before .before .before .has-trees .ensures) ∙ not-false (c .before .before .before .has-trees .result) (c .before .before .if2 .left)))
-      ∙ rw (take-own (c .before .before .before .before .before .before .before .before .before .before .loop .marks) (c .before .before .before .before .before .before .before .before .before .before .loop .i) _ (omega arith), c .ends-with .ensures, e, c .before .before .before .before .before .mark-of .ensures, c .before .before .before .before .before .before .before .before .parts-at .ensures),
+          ∙ rw (take-own (c .before .before .before .before .before .before .before .before .before .before .loop .marks) (c .before .before .before .before .before .before .before .before .before .before .loop .i) _ (omega arith), c .ends-with .ensures, e, c .before .before .before .before .before .mark-of .ensures, c .before .before .before .before .before .before .before .before .parts-at .ensures),
     )
 
 rem-if3 : tie.Need-rem-if3 Inv-loop μ-loop
@@ -110,14 +108,14 @@ same-length-3 : tie.Need-same-length-3 Inv-loop μ-loop
 same-length-3 c = search needs
 
 returns-3 : tie.Need-returns-3 Inv-loop μ-loop
-returns-3 c = 
+returns-3 c =
     sym (c .before .before .loop .inv .4 ∙ walk-end (c .before .before .before .before .before .args .w) (c .before .before .before .before .before .args .count) (c .before .before .loop .i) (take (c .before .before .loop .i) (c .before .before .loop .marks)) (c .before .before .loop .place) (c .before .before .loop .ended) (now (c .before .before .before .before .before .args .s)) (c .before .before .loop .at) (omega arith) ∙ rw (eq-eqb _ _ (c .if3 .taken)))
 
 same-length-4 : tie.Need-same-length-4 Inv-loop μ-loop
 same-length-4 c = search needs
 
 returns-4 : tie.Need-returns-4 Inv-loop μ-loop
-returns-4 c = 
+returns-4 c =
     sym (c .before .before .loop .inv .4 ∙ walk-end (c .before .before .before .before .before .args .w) (c .before .before .before .before .before .args .count) (c .before .before .loop .i) (take (c .before .before .loop .i) (c .before .before .loop .marks)) (c .before .before .loop .place) (c .before .before .loop .ended) (now (c .before .before .before .before .before .args .s)) (c .before .before .loop .at) (omega arith) ∙ rw (ne-eqb _ _ (c .if3 .left)))
 
 pub walk-spec : {M : Type 1} → statement M

@@ -27,7 +27,7 @@ first-label-requires c κs = (c .before .before .pre .0, c .before .before .pre 
 
 returns : tie.Need-returns
 unfolding namesTest
-returns c = 
+returns c =
     let e = all-labels (now (c .before .before .before .before .args .s)) (c .before .before .before .before .args .count) _ _ (c .before .before .record-places .ensures) in
     rw (← e, ← c .before .first-label .ensures, ne-eqb _ _ (c .if1 .taken))
 
@@ -39,7 +39,7 @@ first-repeat-requires c κs = search needs
 
 returns-2 : tie.Need-returns-2
 unfolding namesTest
-returns-2 c = 
+returns-2 c =
     let e = all-labels (now (c .before .before .before .before .before .before .args .s)) (c .before .before .before .before .before .before .args .count) _ _ (c .before .before .before .before .record-places .ensures) in
     let f = all-names (now (c .before .before .before .before .before .before .args .s)) (c .before .before .before .before .before .before .args .count) _ _ _ (c .before .before .before .before .record-places .ensures) (c .before .short-names .ensures) in
     rw (← e, ← f, ← c .before .before .before .first-label .ensures, eq-eqb _ _ (c .before .before .if1 .left), ← c .first-repeat .ensures)

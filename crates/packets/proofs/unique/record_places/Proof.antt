@@ -17,7 +17,7 @@ use Rattle.packets.proofs.unique.record_places.Lts as lts
 use Rattle.packets.proofs.records.parts_at.Reads as parts-at-reads
 
 abbrev Inv-loop : tie.InvT-loop
-Inv-loop s count from places₀ at₀ i₀ places at i = 
+Inv-loop s count from places₀ at₀ i₀ places at i =
     (i ≤ count) × (length places ≡ 64) × FieldPlaces s (count - i) (placesFrom s (count - i) at)
     × (take i places ++ placesFrom s (count - i) at ≡ placesFrom s count from)
 
@@ -43,13 +43,12 @@ loop-less : tie.Need-loop-less Inv-loop μ-loop
 loop-less c = omega arith
 
 loop-again : tie.Need-loop-again Inv-loop μ-loop
-loop-again c = 
-    (
-      omega arith,
-      search needs,
-      rw (c .parts-at .ensures) (places-rest _ _ (c .before .before .loop .i) _ (omega arith) (c .before .before .loop .inv .2)),
-      rw (c .parts-at .ensures) (places-again _ _ (c .before .before .loop .i) _ (c .before .before .loop .places) _ (omega arith) (omega arith) (c .before .before .loop .inv .3)),
-    )
+loop-again c = (
+  omega arith,
+  search needs,
+  rw (c .parts-at .ensures) (places-rest _ _ (c .before .before .loop .i) _ (omega arith) (c .before .before .loop .inv .2)),
+  rw (c .parts-at .ensures) (places-again _ _ (c .before .before .loop .i) _ (c .before .before .loop .places) _ (omega arith) (omega arith) (c .before .before .loop .inv .3)),
+)
 
 returns : tie.Need-returns Inv-loop μ-loop
 returns c = places-done _ _ (c .before .loop .i) _ (c .before .loop .places) _ (omega arith) (c .before .loop .inv .3)

@@ -47,12 +47,11 @@ loop-less : tie.Need-loop-less Inv-loop μ-loop
 loop-less c = omega arith
 
 loop-again : tie.Need-loop-again Inv-loop μ-loop
-loop-again c = 
-    (
-      omega arith,
-      search needs,
-      shorts-again (now (c .before .before .before .before .args .s)) _ (c .before .before .loop .names) (c .before .before .loop .i) _ (omega arith) (search needs) (c .before .before .loop .inv .2) (c .short-at .ensures),
-    )
+loop-again c = (
+  omega arith,
+  search needs,
+  shorts-again (now (c .before .before .before .before .args .s)) _ (c .before .before .loop .names) (c .before .before .loop .i) _ (omega arith) (search needs) (c .before .before .loop .inv .2) (c .short-at .ensures),
+)
 
 returns : tie.Need-returns Inv-loop μ-loop
 returns c = let e : c .before .loop .i ≡ c .before .before .before .args .count = omega arith in rw e at (c .before .loop .inv .2)
