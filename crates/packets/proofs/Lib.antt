@@ -1,19 +1,18 @@
--- Products                a product of two 32-bit numbers
--- TreeSteps, TreeCodes    one step of checking, skipping and evaluating a stored tree
--- TreeSound, TreeComplete what the check finds is stored, and what is stored is found
--- TreeValues              a stored tree's value
--- PartsLaws, RecordLaws   the parts of a record and the field stored there
--- FieldBounds             sizes of a field within the limits
--- TableHead               where the fields of a stored table begin, how many, how long
--- LookupSteps             records by index and fields by name
--- LookupStored            the same for a stored description
--- WriteLaws               writing one byte behind the other
--- LinesWritten            the lines of fields, written one behind the other
--- LinesStored             for a stored description they are those of the listing
--- ListingTexts            the text of a listing
--- ListingStored           what is written by a table is its description's listing
--- BitLaws                 the number that bits make
--- StepLaws, WalkLaws      one field of a packet, and all
+-- Products                          a product of two 32-bit numbers
+-- TreeSteps, TreeCodes              one step of checking, skipping and evaluating a stored tree
+-- TreeSound, TreeComplete           what the check finds is stored, and what is stored is found
+-- TreeValues                        a stored tree's value
+-- PartsLaws, RecordLaws             the parts of a record and the field stored there
+-- FieldBounds, TableHead            sizes of a field within the limits; a stored table's first record
+-- FieldSteps, WalkSteps, NameSteps, TableSteps   what the code that checks a table is told at its steps
+-- PartBytes, FieldParts, FieldTests, FieldOrder  a field's record: tests and rules
+-- TableWalks, NameLaws, TableParts, TableLaws    all fields, names, the whole table: tests and rules
+-- BitLaws, StepLaws, WalkLaws       bits, one field of a packet, and all
+-- RunEntries, FieldReads, FieldMatches, HeadReads, CopyLaws, WalkReads   what a stored table's walk reads
+-- PacketPromises, PartPromises      from the walk to the promises
+-- WriteLaws, LinesWritten           writing one byte, and one line, behind the other
+-- LinesStored, ListingTexts, ListingStored   what is written by a table is its description's listing
+-- LookupSteps, LookupStored         records by index and fields by name
 pub mod Products
 pub mod TreeSteps
 pub mod TreeCodes
@@ -24,10 +23,18 @@ pub mod PartsLaws
 pub mod RecordLaws
 pub mod FieldBounds
 pub mod TableHead
-pub mod LookupSteps
-pub mod WriteLaws
-pub mod LinesWritten
-pub mod LinesStored
+pub mod FieldSteps
+pub mod WalkSteps
+pub mod NameSteps
+pub mod PartBytes
+pub mod FieldParts
+pub mod FieldTests
+pub mod FieldOrder
+pub mod TableWalks
+pub mod NameLaws
+pub mod TableSteps
+pub mod TableParts
+pub mod TableLaws
 pub mod BitLaws
 pub mod StepLaws
 pub mod WalkLaws
@@ -39,6 +46,10 @@ pub mod CopyLaws
 pub mod WalkReads
 pub mod PacketPromises
 pub mod PartPromises
+pub mod WriteLaws
+pub mod LinesWritten
+pub mod LinesStored
 pub mod ListingTexts
 pub mod ListingStored
+pub mod LookupSteps
 pub mod LookupStored

@@ -39,7 +39,7 @@ named-some s p name x w l =
     let n : p .len ≡ length (x ∷ w) = omega (arith, l .end) in
     let inside = stands-some s (p .at) (ending p) x w l in
     let t : take (p .len) (drop (p .at) s) ≡ x ∷ w
-        = rw (l .text) (take-at (x ∷ w) (drop (ending p) s) (p .len) (sym n)) in
+    = rw (l .text) (take-at (x ∷ w) (drop (ending p) s) (p .len) (sym n)) in
     let z : p .len ≡ 0 → ⊥ = λ e. omega arith in
     rw (
       ne-eqb (p .len) 0 z,
@@ -95,7 +95,7 @@ module _ (s : List ℕ) (end : ℕ) (r : List ℕ) (short : end ≤ tableMost) w
       let kf = firstBreak-cons keepsForm before f fs hf in
       let ks = firstBreak-cons keepsSize before f fs hs in
       let p′ : Stands s place (storedField f ++ (joined storedField fs ++ r)) end
-          = rw (append-assoc (storedField f) (joined storedField fs) r) at p in
+      = rw (append-assoc (storedField f) (joined storedField fs) r) at p in
       let b = field-bounds f (kf .0) (ks .0) in
       let w = record-parts s place (place + length (storedField f)) f b (stands-left s place end _ _ p′) in
       let q = formed-parts f (kf .0) in

@@ -1,6 +1,7 @@
 // Tables are checked, and packets read by them.
 mod answers;
 mod bits;
+mod fields;
 mod lines;
 pub mod listing;
 pub mod lookups;
@@ -9,5 +10,6 @@ mod records;
 mod steps;
 pub mod tables;
 mod trees;
+mod unique;
 mod walks;
 mod writing;
