@@ -1,0 +1,4 @@
+-- Combine     answers of a reader, phrases
+-- LineNames   labels and short names in a field line
+pub mod Combine
+pub mod LineNames
