@@ -1,5 +1,5 @@
 -- Answers of a reader: what holds of each, and what becomes of a phrase, a test and two readers in a row.
-use mathlib.Core.Path.{_≡_, refl, ap, sym, _∙_, subst}
+use mathlib.Core.Path.{_≡_, refl, ap, sym, _∙_}
 use mathlib.Core.Bool.{Bool, true, false, cond, not}
 use mathlib.Core.List.{List, [], _∷_, _++_}
 use mathlib.Core.Option.{Option, none, some}
@@ -18,9 +18,6 @@ Holds P miss = Unit {0}
 Holds P (hit a r) = P a r
 
 module _ {A : Type 0} (P : A → List ℕ → Type 0) where
-  pub holds-at : (g : Got A) → Holds P g → (a : A) (r : List ℕ) → g ≡ hit a r → P a r
-  holds-at g h a r e = subst (λ (x : Got A). Holds P x) e h
-
   pub holds-keep : (b : Bool) (a : A) (r : List ℕ) → (b ≡ true → P a r) → Holds P (keep b a r)
   holds-keep true a r f = f refl
   holds-keep false a r f = tt
@@ -67,10 +64,6 @@ literal-sound w s = go (after w s) (after-sound w s)
 pub literal-finds : (w r : List ℕ) → literal w (w ++ r) ≡ hit tt r
 unfolding literal
 literal-finds w r = rw (after-self w r)
-
-pub begins-self : (w r : List ℕ) → begins w (w ++ r) ≡ true
-unfolding begins
-begins-self w r = rw (after-self w r)
 
 pub begins-split : (w s : List ℕ) → begins w s ≡ true → (z : List ℕ) × (s ≡ w ++ z)
 unfolding begins

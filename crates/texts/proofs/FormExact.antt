@@ -1,9 +1,9 @@
 -- The reader answers a form to a line exactly when the line spells it: no line spells two, and whether one is spelled
 -- can be decided.
-use mathlib.Core.Path.{_≡_, refl, ap, sym, _∙_}
+use mathlib.Core.Path.{_≡_, refl, ap}
 use mathlib.Core.Bool.{Bool, true, false, cond, _&&_}
-use mathlib.Core.Logic.{_⊎_, inl, inr}
-use mathlib.Core.List.{List, [], _∷_, _++_, append-assoc}
+use mathlib.Core.Logic.{inl, inr}
+use mathlib.Core.List.{List, [], _∷_, _++_}
 use mathlib.Core.Option.{Option, none, some}
 use Prim.Native.Nat.{ℕ}
 use lib.Dec.{eqb}
@@ -13,19 +13,18 @@ use Rattle.base.specs.Lists.{all, ifAny, listOf}
 use Rattle.base.proofs.Lists.{and-left, and-right, and-both, not-both, all-append}
 use Rattle.rules.specs.Limits.{numberMost}
 use Rattle.rules.specs.Names.{isPrintable, isLabel, isShort}
-use Rattle.rules.specs.Trees.{Tree, num, isInRange}
-use Rattle.rules.specs.Fields.{Width, fixed, measured, rest, Field, Form, widthTrees, trees}
+use Rattle.rules.specs.Trees.{Tree, isInRange}
+use Rattle.rules.specs.Fields.{Width, fixed, measured, rest, Form, widthTrees, trees}
 use Rattle.rules.specs.Within.{isWidth, isFormed}
-use Rattle.rules.specs.Expressions.{SpellsAt, SpellsTree, number, field, two-sided, negated, parentheses}
-use Rattle.rules.specs.Lines.{shortText, Remark, Measure, SpellsWidth, SpellsMaybe, SpellsField, Written}
-use Rattle.rules.proofs.ReaderComplete.{Stop}
-use Rattle.texts.specs.LineReader.{Got, miss, hit, bind, literal, readLabel, readShort, readWidth}
+use Rattle.rules.specs.Expressions.{SpellsAt, number, field, two-sided, negated, parentheses}
+use Rattle.rules.specs.Lines.{shortText, Remark, SpellsWidth, SpellsMaybe, SpellsField, Written}
+use Rattle.texts.specs.LineReader.{Got, miss, hit, literal, readLabel, readShort, readWidth}
 use Rattle.texts.specs.LineReader.{isConstraint, isCondition, readConstraint, readCondition, readField, isRemark}
 use Rattle.texts.specs.LineReader.{formOf, readForm}
 use Rattle.texts.proofs.Combine.{Holds, holds-bind, literal-sound, literal-finds}
 use Rattle.texts.proofs.LineNames.{label-sound, label-finds, short-sound, short-finds, short-stop}
-use Rattle.texts.proofs.LinePhrases.{Closes, closes-stop, maybe-closes, MaybeFront, maybe-sound, condition-finds}
-use Rattle.texts.proofs.LinePhrases.{no-constraint, constraint-finds}
+use Rattle.texts.proofs.LinePhrases.{Closes, closes-stop, maybe-closes, MaybeFront, maybe-sound}
+use Rattle.texts.proofs.LinePhrases.{condition-finds, no-constraint, constraint-finds}
 use Rattle.texts.proofs.LineWidths.{WidthFront, width-sound, width-finds}
 
 -- ── numbers in range ──
@@ -100,7 +99,8 @@ module _ (s : List ℕ) where
       holds-bind _ (FormFront s) (readShort s₁) _ (short-sound s₁) λ short s₂ h.
       holds-bind _ (FormFront s) (literal (bytes ": ") s₂) _ (literal-sound (bytes ": ") s₂) λ _ s₃ e.
       holds-bind _ (FormFront s) (readWidth s₃) _ (width-sound s₃) λ width s₄ w.
-      holds-bind _ (FormFront s) (readConstraint s₄) _ (maybe-sound (isConstraint s₄) (bytes "; ") s₄) λ constraint s₅ c.
+      holds-bind _ (FormFront s) (readConstraint s₄) _
+      (maybe-sound (isConstraint s₄) (bytes "; ") s₄) λ constraint s₅ c.
       holds-bind _ (FormFront s) (readCondition s₅) _
       (maybe-sound (isCondition s₅) (bytes "; present only when ") s₅) λ condition s₆ d.
       holds-bind _ (FormFront s) (literal (bytes ".") s₆) _ (literal-sound (bytes ".") s₆) λ _ s₇ f.

@@ -1,5 +1,5 @@
 -- Labels and short names in a field line: what the reader finds there.
-use mathlib.Core.Path.{_≡_, refl, ap, sym, _∙_}
+use mathlib.Core.Path.{_≡_, refl, ap}
 use mathlib.Core.Bool.{Bool, true, false, cond, _||_, not}
 use mathlib.Core.Logic.{_⊎_, inl, inr}
 use mathlib.Core.List.{List, [], _∷_, _++_, append-assoc}
@@ -15,10 +15,10 @@ use Rattle.rules.specs.Names.{isLetter, isDigit, isSpace, isWordByte, isLabelBy
 use Rattle.rules.specs.Lines.{shortText}
 use Rattle.rules.specs.Reader.{after, word, behind}
 use Rattle.rules.proofs.ReaderWords.{word-behind, word-is, behind-is, short-bytes}
-use Rattle.texts.specs.LineReader.{Got, miss, hit, bind, keep, literal, begins, labelEnds, labelText}
+use Rattle.texts.specs.LineReader.{hit, bind, keep, literal, begins, labelEnds, labelText}
 use Rattle.texts.specs.LineReader.{labelBehind, readLabel, readName, readShort}
-use Rattle.texts.proofs.Combine.{Holds, holds-keep, holds-cond, holds-bind, literal-sound, literal-finds}
-use Rattle.texts.proofs.Combine.{begins-self, differs}
+use Rattle.texts.proofs.Combine.{Holds, holds-keep, holds-cond, holds-bind, literal-sound}
+use Rattle.texts.proofs.Combine.{differs}
 
 -- ── labels ──
 
@@ -78,7 +78,8 @@ label-behind [] r h (inl (z, e)) = rw e refl
 label-behind [] r h (inr (z, e)) = rw e refl
 label-behind (c ∷ w) r h st =
     let t : all isLabelByte w ≡ true = and-right (isLabelByte c) (all isLabelByte w) h in
-    rw (goes-on c (w ++ r) (and-left (isLabelByte c) (all isLabelByte w) h) (no-paren w r t st)) (label-behind w r t st)
+    rw (goes-on c (w ++ r) (and-left (isLabelByte c) (all isLabelByte w) h) (no-paren w r t st))
+    (label-behind w r t st)
 
 pub label-finds : (w r : List ℕ) → isLabel w ≡ true → LabelStop r → readLabel (w ++ r) ≡ hit w r
 unfolding readLabel

@@ -1,6 +1,6 @@
 -- Constraint and condition of a field line: what the reader finds there.
-use mathlib.Core.Path.{_≡_, refl, ap, sym, _∙_}
-use mathlib.Core.Bool.{Bool, true, false, cond, _&&_, not}
+use mathlib.Core.Path.{_≡_, refl, ap}
+use mathlib.Core.Bool.{Bool, false, not}
 use mathlib.Core.Logic.{_⊎_, inl, inr}
 use mathlib.Core.List.{List, [], _∷_, _++_, append-assoc}
 use mathlib.Core.Option.{Option, none, some}
@@ -8,13 +8,12 @@ use Prim.Native.Nat.{ℕ}
 use Rattle.base.specs.Bytes.{bytes}
 use Rattle.base.specs.Lists.{isNone}
 use Rattle.rules.specs.Trees.{Tree}
-use Rattle.rules.specs.Expressions.{SpellsTree}
 use Rattle.rules.specs.Lines.{SpellsMaybe, Written}
 use Rattle.rules.specs.Reader.{after}
 use Rattle.rules.proofs.ReaderComplete.{Stop, stop-semicolon, stop-dot}
-use Rattle.texts.specs.LineReader.{Got, hit, bind, literal, begins, readTree, readPhrase}
+use Rattle.texts.specs.LineReader.{hit, bind, literal, begins, readTree, readPhrase}
 use Rattle.texts.specs.LineReader.{readMaybe, isCondition, isConstraint, readConstraint, readCondition}
-use Rattle.texts.proofs.Combine.{Holds, holds-cond, holds-bind, literal-sound, literal-finds, begins-self}
+use Rattle.texts.proofs.Combine.{Holds, holds-cond, holds-bind, literal-sound, literal-finds}
 use Rattle.texts.proofs.LineTrees.{TreeFront, tree-sound, tree-finds, barren-not, present-barren}
 
 -- ── what may stand behind ──

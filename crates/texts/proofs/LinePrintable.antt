@@ -1,8 +1,8 @@
 -- A line that spells a field holds only printable bytes.
-use mathlib.Core.Path.{_≡_, refl, ap, sym, _∙_}
+use mathlib.Core.Path.{_≡_, refl}
 use mathlib.Core.Bool.{Bool, true, false, _&&_, _||_}
 use mathlib.Core.Logic.{_⊎_, inl, inr}
-use mathlib.Core.List.{List, [], _∷_, _++_}
+use mathlib.Core.List.{List, _++_}
 use mathlib.Core.Option.{Option, none, some}
 use Prim.Native.Nat.{ℕ, _≤_}
 use native.Mathlib.Omega.{arith}
@@ -16,8 +16,8 @@ use Rattle.rules.specs.Operators.{operator, operators, symbol}
 use Rattle.rules.specs.Names.{isLetter, isDigit, isSpace, isPrintable, isWordByte, isLabelByte, isLabel, isShort}
 use Rattle.rules.specs.Trees.{Tree, isInRange}
 use Rattle.rules.specs.Fields.{Width, fixed, measured, rest, Field, Form, trees}
-use Rattle.rules.specs.Within.{isWidth, isFormed}
-use Rattle.rules.specs.Expressions.{gap, SpellsAt, SpellsTree, number, field, two-sided, negated, parentheses}
+use Rattle.rules.specs.Within.{isWidth}
+use Rattle.rules.specs.Expressions.{gap, SpellsAt, number, field, two-sided, negated, parentheses}
 use Rattle.rules.specs.Lines.{UnitWord, bit-word, bits-word, byte-word, bytes-word, shortText, Remark, Measure}
 use Rattle.rules.specs.Lines.{SpellsWidth, SpellsMaybe, SpellsField, Written}
 use Rattle.rules.proofs.OperatorTable.{each}
@@ -95,59 +95,62 @@ remark-printable r (inl e) = rw e refl
 remark-printable r (inr (z, e, h)) = rw e (joined (bytes " ") z refl h)
 
 -- each name is made of letters and digits
-module _ {N : Type 0} (Names : N → List ℕ → Type 0) (named : (a : N) (s : List ℕ) → Names a s → all isWordByte s ≡ true)
+module _ {N : Type 0} (Names : N → List ℕ → Type 0)
+    (named : (a : N) (s : List ℕ) → Names a s → all isWordByte s ≡ true)
   where
-  pub tree-printable : {k b : ℕ} {t : Tree N} {s : List ℕ} → SpellsAt Names k b t s → all isPrintable s ≡ true
-  unfolding all isPrintable
-  tree-printable (number {n = n} {s = s} le e) = rw e (word-printable (decimal n) (number-bytes n le))
-  tree-printable (field {a = a} {s = s} h) = word-printable s (named a s h)
-  tree-printable (two-sided {o = o} {s = s} {u = u} g h l p q) =
-      joined s (gap g ++ (symbol o ++ (gap h ++ u))) (tree-printable p)
-      (joined (gap g) (symbol o ++ (gap h ++ u)) (gap-printable g)
-      (joined (symbol o) (gap h ++ u) (symbol-printable o) (joined (gap h) u (gap-printable h) (tree-printable q))))
-  tree-printable (negated {s = s} x) =
-      joined (bytes "!(") (s ++ bytes ")") refl (joined s (bytes ")") (tree-printable x) refl)
-  tree-printable (parentheses {s = s} x) =
-      joined (bytes "(") (s ++ bytes ")") refl (joined s (bytes ")") (tree-printable x) refl)
+    pub tree-printable : {k b : ℕ} {t : Tree N} {s : List ℕ} → SpellsAt Names k b t s → all isPrintable s ≡ true
+    unfolding all isPrintable
+    tree-printable (number {n = n} {s = s} le e) = rw e (word-printable (decimal n) (number-bytes n le))
+    tree-printable (field {a = a} {s = s} h) = word-printable s (named a s h)
+    tree-printable (two-sided {o = o} {s = s} {u = u} g h l p q) =
+        joined s (gap g ++ (symbol o ++ (gap h ++ u))) (tree-printable p)
+        (joined (gap g) (symbol o ++ (gap h ++ u)) (gap-printable g)
+        (joined (symbol o) (gap h ++ u) (symbol-printable o) (joined (gap h) u (gap-printable h) (tree-printable q))))
+    tree-printable (negated {s = s} x) =
+        joined (bytes "!(") (s ++ bytes ")") refl (joined s (bytes ")") (tree-printable x) refl)
+    tree-printable (parentheses {s = s} x) =
+        joined (bytes "(") (s ++ bytes ")") refl (joined s (bytes ")") (tree-printable x) refl)
 
-  measure-printable : (u : ℕ) (t : Tree N) (s : List ℕ) → Measure Names u t s → all isPrintable s ≡ true
-  unfolding all isPrintable
-  measure-printable u t s x = rw (x .isText) (joined (x .expression) (bytes " " ++ x .word) (tree-printable (x .spelled))
-      (joined (bytes " ") (x .word) refl (unit-printable (x .unit))))
+    measure-printable : (u : ℕ) (t : Tree N) (s : List ℕ) → Measure Names u t s → all isPrintable s ≡ true
+    unfolding all isPrintable
+    measure-printable u t s x = rw (x .isText)
+        (joined (x .expression) (bytes " " ++ x .word) (tree-printable (x .spelled))
+        (joined (bytes " ") (x .word) refl (unit-printable (x .unit))))
 
-  width-printable : (w : Width N) (s : List ℕ) → SpellsWidth Names w s → all isPrintable s ≡ true
-  unfolding all isPrintable
-  width-printable (fixed n) s x = measure-printable (x .0) _ s (x .3)
-  width-printable (measured u t) s x = measure-printable u t s x
-  width-printable rest s x = rw x refl
+    width-printable : (w : Width N) (s : List ℕ) → SpellsWidth Names w s → all isPrintable s ≡ true
+    unfolding all isPrintable
+    width-printable (fixed n) s x = measure-printable (x .0) _ s (x .3)
+    width-printable (measured u t) s x = measure-printable u t s x
+    width-printable rest s x = rw x refl
 
-  maybe-printable : (phrase : List ℕ) (o : Option (Tree N)) (s : List ℕ) → all isPrintable phrase ≡ true
-      → SpellsMaybe Names phrase o s → all isPrintable s ≡ true
-  unfolding all
-  maybe-printable phrase none s h x = rw x refl
-  maybe-printable phrase (some t) s h x = rw (x .1) (joined phrase (x .0) h (tree-printable (x .2)))
+    maybe-printable : (phrase : List ℕ) (o : Option (Tree N)) (s : List ℕ) → all isPrintable phrase ≡ true
+        → SpellsMaybe Names phrase o s → all isPrintable s ≡ true
+    unfolding all
+    maybe-printable phrase none s h x = rw x refl
+    maybe-printable phrase (some t) s h x = rw (x .1) (joined phrase (x .0) h (tree-printable (x .2)))
 
-  -- a spelled line holds only printable bytes
-  pub line-printable : (f : Field N) (l : List ℕ) → SpellsField Names f l → all isPrintable l ≡ true
-  unfolding all isPrintable
-  line-printable f l p =
-      let h : isLabel (f .label) ≡ true = and-left (isLabel (f .label)) _ (p .formed) in
-      let k : (ifAny isShort (f .short) && (isWidth (f .width) && all isInRange (trees f))) ≡ true =
-      and-right (isLabel (f .label)) _ (p .formed) in
-      let s₄ : List ℕ = bytes "." ++ p .remark in
-      let s₃ : List ℕ = p .condition ++ s₄ in
-      let s₂ : List ℕ = p .constraint ++ s₃ in
-      let s₁ : List ℕ = p .width ++ s₂ in
-      rw (p .isText)
-      (joined (f .label) (shortText (f .short) ++ (bytes ": " ++ s₁)) (label-printable (f .label) h)
-      (joined (shortText (f .short)) (bytes ": " ++ s₁)
-      (short-printable (f .short) (and-left (ifAny isShort (f .short)) _ k))
-      (joined (bytes ": ") s₁ refl
-      (joined (p .width) s₂ (width-printable (f .width) (p .width) (p .isWidth))
-      (joined (p .constraint) s₃ (maybe-printable (bytes "; ") (f .constraint) (p .constraint) refl (p .isConstraint))
-      (joined (p .condition) s₄
-      (maybe-printable (bytes "; present only when ") (f .condition) (p .condition) refl (p .isCondition))
-      (joined (bytes ".") (p .remark) refl (remark-printable (p .remark) (p .isRemark)))))))))
+    -- a spelled line holds only printable bytes
+    pub line-printable : (f : Field N) (l : List ℕ) → SpellsField Names f l → all isPrintable l ≡ true
+    unfolding all isPrintable
+    line-printable f l p =
+        let h : isLabel (f .label) ≡ true = and-left (isLabel (f .label)) _ (p .formed) in
+        let k : (ifAny isShort (f .short) && (isWidth (f .width) && all isInRange (trees f))) ≡ true =
+        and-right (isLabel (f .label)) _ (p .formed) in
+        let s₄ : List ℕ = bytes "." ++ p .remark in
+        let s₃ : List ℕ = p .condition ++ s₄ in
+        let s₂ : List ℕ = p .constraint ++ s₃ in
+        let s₁ : List ℕ = p .width ++ s₂ in
+        rw (p .isText)
+        (joined (f .label) (shortText (f .short) ++ (bytes ": " ++ s₁)) (label-printable (f .label) h)
+        (joined (shortText (f .short)) (bytes ": " ++ s₁)
+        (short-printable (f .short) (and-left (ifAny isShort (f .short)) _ k))
+        (joined (bytes ": ") s₁ refl
+        (joined (p .width) s₂ (width-printable (f .width) (p .width) (p .isWidth))
+        (joined (p .constraint) s₃
+        (maybe-printable (bytes "; ") (f .constraint) (p .constraint) refl (p .isConstraint))
+        (joined (p .condition) s₄
+        (maybe-printable (bytes "; present only when ") (f .condition) (p .condition) refl (p .isCondition))
+        (joined (bytes ".") (p .remark) refl (remark-printable (p .remark) (p .isRemark)))))))))
 
 -- a name that is not yet resolved is made of letters and digits
 pub written-bytes : (w s : List ℕ) → Written w s → all isWordByte s ≡ true

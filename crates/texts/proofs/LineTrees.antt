@@ -1,29 +1,26 @@
 -- Expressions in a field line, by themselves and behind a phrase: what the reader finds there.
-use mathlib.Core.Path.{_≡_, refl, ap, sym, _∙_, subst}
-use mathlib.Core.Bool.{Bool, true, false, cond, _&&_, not}
-use mathlib.Core.List.{List, [], _∷_, _++_, append-assoc}
-use mathlib.Core.Option.{Option, none, some}
-use Prim.Native.Nat.{ℕ, suc, _<_}
+use mathlib.Core.Path.{_≡_, refl, ap, sym, _∙_}
+use mathlib.Core.Bool.{Bool, true, false, _&&_, not}
+use mathlib.Core.List.{List, [], _∷_, _++_}
+use Prim.Native.Nat.{ℕ, suc}
 use native.Mathlib.Omega.{arith}
-use lib.Dec.{leb, eqb}
 use lib.ListN.{length}
 use borrow.Author.Tests.{lt-leb}
 use Rattle.base.specs.Bytes.{bytes}
-use Rattle.base.specs.Lists.{all, any, same, headIs, isNone}
+use Rattle.base.specs.Lists.{all, any, same}
 use Rattle.base.proofs.Lists.{fails}
 use Rattle.rules.specs.Limits.{openMost, shortMost}
 use Rattle.rules.specs.Names.{isLetter, isDigit, isWordByte, isShort, isReserved, reserved}
 use Rattle.rules.specs.Trees.{Tree}
 use Rattle.rules.specs.Expressions.{SpellsTree}
-use Rattle.rules.specs.Lines.{SpellsMaybe, Written}
-use Rattle.rules.specs.Reader.{after, word, behind, isNumeral, isNumberWord, Out, fail, got, andThen, leaf, atom, expr}
-use Rattle.rules.proofs.ReaderComplete.{Stop, stop-semicolon, stop-dot}
+use Rattle.rules.specs.Lines.{Written}
+use Rattle.rules.specs.Reader.{word, isNumeral, isNumberWord, Out, fail, got, andThen, leaf, atom, expr}
+use Rattle.rules.proofs.ReaderComplete.{Stop}
 use Rattle.rules.proofs.ReaderUnique.{found-is}
 use Rattle.rules.proofs.ReaderSound.{Good, sound}
-use Rattle.texts.specs.LineReader.{Got, miss, hit, bind, literal, begins, ofOut, readTree, readPhrase}
-use Rattle.texts.specs.LineReader.{readMaybe, isCondition, isConstraint, readConstraint, readCondition}
-use Rattle.texts.proofs.Combine.{Holds, holds-cond, holds-bind, literal-sound, literal-finds}
-use Rattle.texts.proofs.Combine.{begins-self, begins-split}
+use Rattle.texts.specs.LineReader.{miss, hit, begins, ofOut, readTree}
+use Rattle.texts.proofs.Combine.{Holds}
+use Rattle.texts.proofs.Combine.{begins-split}
 
 -- ── an expression ──
 
@@ -79,6 +76,6 @@ unfolding readTree expr andThen atom leaf word isNumberWord isNumeral isLetter i
 variable-barren z = rw (variable-word (word z))
 
 pub present-barren : (z : List ℕ) → readTree (bytes "present only when " ++ z) ≡ miss
-unfolding readTree expr andThen atom leaf word isNumberWord isNumeral isShort isLetter isDigit isWordByte isReserved reserved
-  all any same
+unfolding readTree expr andThen atom leaf word isNumberWord isNumeral isShort isLetter isDigit isWordByte isReserved
+    reserved all any same
 present-barren z = refl

@@ -1,10 +1,10 @@
 -- Widths in a field line: what the reader finds there.
-use mathlib.Core.Path.{_≡_, refl, ap, sym, _∙_}
-use mathlib.Core.Bool.{Bool, true, false, cond, _&&_, _||_, not}
+use mathlib.Core.Path.{_≡_, refl, ap, _∙_}
+use mathlib.Core.Bool.{Bool, true, false, cond, _||_, not}
 use mathlib.Core.Logic.{_⊎_, inl, inr}
-use mathlib.Core.List.{List, [], _∷_, _++_, append-assoc}
-use mathlib.Core.Option.{Option, none, some}
-use Prim.Native.Nat.{ℕ, _*_}
+use mathlib.Core.List.{List, _∷_, _++_, append-assoc}
+use mathlib.Core.Option.{none, some}
+use Prim.Native.Nat.{ℕ}
 use lib.Dec.{eqb}
 use Rattle.base.specs.Bytes.{bytes}
 use Rattle.base.specs.Lists.{all, same}
@@ -18,10 +18,10 @@ use Rattle.rules.specs.Lines.{UnitWord, bit-word, bits-word, byte-word, bytes-w
 use Rattle.rules.specs.Reader.{after, word, behind}
 use Rattle.rules.proofs.ReaderWords.{Ends, word-behind, word-is, behind-is}
 use Rattle.rules.proofs.ReaderComplete.{Stop, stop-word}
-use Rattle.texts.specs.LineReader.{Got, hit, bind, keep, given, literal, begins, readTree, unitOf, readUnit}
+use Rattle.texts.specs.LineReader.{hit, bind, keep, literal, begins, readTree, unitOf, readUnit}
 use Rattle.texts.specs.LineReader.{widthOf, readMeasure, readWidth}
 use Rattle.texts.proofs.Combine.{Holds, holds-keep, holds-cond, holds-given, holds-bind, literal-sound}
-use Rattle.texts.proofs.Combine.{literal-finds, begins-self}
+use Rattle.texts.proofs.Combine.{literal-finds}
 use Rattle.texts.proofs.LineTrees.{TreeFront, tree-sound, tree-finds, barren-not, variable-barren}
 
 -- ── units ──
@@ -34,7 +34,8 @@ unit-sound w u = first (same w (bytes "bit") || same w (bytes "bits")) refl
     bits u e (inl h) = let q : 1 ≡ u = cc in rw (← q, same-true w (bytes "bit") h) bit-word
     bits u e (inr h) = let q : 1 ≡ u = cc in rw (← q, same-true w (bytes "bits") h) bits-word
 
-    octets : (u : ℕ) → some 8 ≡ some u → (same w (bytes "byte") ≡ true) ⊎ (same w (bytes "bytes") ≡ true) → UnitWord u w
+    octets : (u : ℕ) → some 8 ≡ some u → (same w (bytes "byte") ≡ true) ⊎ (same w (bytes "bytes") ≡ true)
+        → UnitWord u w
     octets u e (inl h) = let q : 8 ≡ u = cc in rw (← q, same-true w (bytes "byte") h) byte-word
     octets u e (inr h) = let q : 8 ≡ u = cc in rw (← q, same-true w (bytes "bytes") h) bytes-word
 
@@ -44,7 +45,8 @@ unit-sound w u = first (same w (bytes "bit") || same w (bytes "bits")) refl
     second false h e = let z : _≡_ {A = Bool} true false = cc in absurd (not-both true refl z)
 
     first : (x : Bool) → (same w (bytes "bit") || same w (bytes "bits")) ≡ x
-        → cond x (some 1) (cond (same w (bytes "byte") || same w (bytes "bytes")) (some 8) none) ≡ some u → UnitWord u w
+        → cond x (some 1) (cond (same w (bytes "byte") || same w (bytes "bytes")) (some 8) none) ≡ some u
+        → UnitWord u w
     first true h e = bits u e (or-cases (same w (bytes "bit")) (same w (bytes "bits")) h)
     first false h e = second (same w (bytes "byte") || same w (bytes "bytes")) refl e
 
