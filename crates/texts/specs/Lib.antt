@@ -1,0 +1,2 @@
+-- LineReader  a reader of one field line
+pub mod LineReader
