@@ -1,0 +1,2 @@
+-- FrameReader   a text into lines, a line into cells, and a frame line by line
+pub mod FrameReader
