@@ -1,6 +1,14 @@
--- SplitLaws    a text is split into its lines, and the lines make up the text
--- RowCells     the characters of a cell, and the cell of them
--- RowReader    the line of a row, and the row of it
+-- SplitLaws      a text is split into its lines, and the lines make up the text
+-- RowCells       the characters of a cell, and the cell of them
+-- RowReader      the line of a row, and the row of it
+-- FrameStates    the lines that a state stands for
+-- FrameTop       the opening line and the rulers
+-- FrameSound     what was read stands in the state
+-- FrameRun       the lines of a frame are read
 pub mod SplitLaws
 pub mod RowCells
 pub mod RowReader
+pub mod FrameStates
+pub mod FrameTop
+pub mod FrameSound
+

@@ -85,7 +85,7 @@ cellText-of s = ap (λ (l : List ℕ). replicate (lead s) 32 ++ l) (right-split 
 lead-pad : (i : ℕ) (w z : List ℕ) → headIs isWordByte w ≡ true → lead (replicate i 32 ++ (w ++ z)) ≡ i
 unfolding lead isSpace
 lead-pad zero [] z h = absurd (not-both false h refl)
-lead-pad zero (c ∷ w) z h = rw (unfold isSpace in word-no-space c h)
+lead-pad zero (c ∷ w) z h = rw (word-no-space c h)
 lead-pad (suc i) w z h = ap suc (lead-pad i w z h)
 
 left-pad : (i : ℕ) (w z : List ℕ) → headIs isWordByte w ≡ true → leftTrim (replicate i 32 ++ (w ++ z)) ≡ w ++ z
@@ -139,7 +139,7 @@ cellOf-text c h = λ i. record { bits = n i; before = b i; text = t i; behind = 
     t = ap rightTrim l ∙ right-pad (c .text) (c .behind) ∙ right-last (c .text) (label-last (c .text) name)
 
     e : length (leftTrim (cellText c)) - length (rightTrim (leftTrim (cellText c))) ≡ c .behind
-    e = omega (arith, ap length l, ap length t, length-append (c .text) (replicate (c .behind) 32), length-replicate (c .behind) 32)
+    e = omega (arith, ap length l, ap length t, length-append (c .text) (replicate (c .behind) 32), length-replicate {A = ℕ} (c .behind) 32)
 
 -- ── bytes that no cell holds ──
 

@@ -68,7 +68,8 @@ long-read w l r (p ∷ []) h = kept w (58 ∷ l) r (longRow (cellOf p)) made
     made : r ≡ [] → rowLine (longRow (cellOf p)) ≡ 58 ∷ l
     made e = ap (λ (m : List ℕ). 58 ∷ m)
         (ap (λ (m : List ℕ). m ++ (58 ∷ [])) (cellText-of p)
-        ∙ sym (append-nil (p ++ (58 ∷ [])) ∙ append-nil ((p ++ (58 ∷ [])) ++ []) )
+        ∙ sym (append-nil (p ++ (58 ∷ [])))
+        ∙ sym (append-nil ((p ++ (58 ∷ [])) ++ []))
         ∙ ap (λ (m : List ℕ). ((p ++ (58 ∷ [])) ++ []) ++ m) (sym e)
         ∙ h)
 long-read w l r (p ∷ q ∷ ps) h = tt
