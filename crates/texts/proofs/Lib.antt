@@ -5,10 +5,12 @@
 -- FrameTop       the opening line and the rulers
 -- FrameSound     what was read stands in the state
 -- FrameRun       the lines of a frame are read
+-- FrameExact     the frame of a text: sound, complete, unique, decidable
 pub mod SplitLaws
 pub mod RowCells
 pub mod RowReader
 pub mod FrameStates
 pub mod FrameTop
 pub mod FrameSound
-
+pub mod FrameRun
+pub mod FrameExact
