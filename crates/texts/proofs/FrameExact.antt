@@ -1,20 +1,18 @@
 -- The frame of a text: what is read is its frame, its frame is read, it has one frame at most, and whether it has one
 -- is decided.
 use mathlib.Core.Path.{_≡_, refl, ap, sym, _∙_}
-use mathlib.Core.Bool.{Bool, true, false, cond, _&&_, not}
-use mathlib.Core.List.{List, [], _∷_, _++_, append-assoc, append-nil}
+use mathlib.Core.Bool.{Bool, true, false, cond}
+use mathlib.Core.List.{List, [], _∷_, _++_, append-nil}
 use mathlib.Core.Option.{Option, none, some}
 use Prim.Native.Nat.{ℕ}
 use native.Mathlib.Omega.{arith}
-use Rattle.base.specs.Bytes.{bytes}
 use Rattle.base.specs.Lists.{all, isEmpty, joined}
-use Rattle.base.proofs.Lists.{and-left, and-right, all-back}
 use Rattle.rules.specs.Names.{lineFeed}
 use Rattle.rules.specs.Frames.{isLine, ended, Frame, frameText, FrameOf, Row}
 use Rattle.texts.specs.FrameReader.{pieces, rest, linesOf, Top, State, begun, named, spaced, ruled, counted, bordered, rowed, closed, headed, filled, onState, run, whole, readFrame}
 use Rattle.texts.proofs.SplitLaws.{split-joined, pieces-are-free, lines-joined, lines-end}
-use Rattle.texts.proofs.FrameStates.{pairs, framed, stateLines, Sane, Reached}
-use Rattle.texts.proofs.FrameSound.{framed-more, run-sound}
+use Rattle.texts.proofs.FrameStates.{stateLines, Sane, Reached}
+use Rattle.texts.proofs.FrameSound.{fields-are-lines, run-sound}
 use Rattle.texts.proofs.FrameRun.{topOf, Kept, frame-kept, kept-frame, frameLines, frameLines-are, lines-are-lines, run-filled}
 
 -- ── sound ──
@@ -32,10 +30,6 @@ filled-found t h rows ls s e j a = go (isEmpty ls) refl
     f : Frame
     f = record { an = h .an; name = h .name; rowWidth = h .rowWidth; rows = rows; lines = ls }
 
-    fields : all isLine (stateLines (filled h rows ls)) ≡ true → all isLine ls ≡ true
-    fields b = all-back isLine (framed h rows ([] ∷ bytes "where:" ∷ [] ∷ [])) ls
-        (rw (← framed-more h rows ([] ∷ bytes "where:" ∷ [] ∷ []) ls) b)
-
     go : (x : Bool) → isEmpty ls ≡ x → Found t (cond x none (some f))
     go true p = tt
     go false p = record {
@@ -44,7 +38,7 @@ filled-found t h rows ls s e j a = go (isEmpty ls) refl
         some-row = s .2;
         rows = s .1;
         some-line = p;
-        lines = fields (rw e a);
+        lines = fields-are-lines h rows ls (rw e a);
       });
       isText = unfold frameText in ap (joined ended) (frameLines-are f ∙ e) ∙ j;
     }

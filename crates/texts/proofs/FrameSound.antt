@@ -6,10 +6,10 @@ use mathlib.Core.Option.{Option, none, some}
 use Prim.Native.Nat.{ℕ}
 use Rattle.base.specs.Bytes.{bytes}
 use Rattle.base.specs.Lists.{all, same, isEmpty, joined}
-use Rattle.base.proofs.Lists.{and-left, and-right, and-both, same-true, all-append}
+use Rattle.base.proofs.Lists.{and-left, and-right, and-both, same-true, all-append, all-back}
 use Rattle.base.proofs.Joined.{joined-append, joined-one}
 use Rattle.rules.specs.Names.{isLabel}
-use Rattle.rules.specs.Frames.{tens, units, border, Row, rowLines, isRow}
+use Rattle.rules.specs.Frames.{tens, units, border, Row, rowLines, isRow, isLine}
 use Rattle.texts.specs.FrameReader.{readRow, readTens, Top, State, begun, named, spaced, ruled, counted, bordered, rowed, closed, headed, filled, onWidth, onRow, rowOrEnd, onSame, step, onState, run}
 use Rattle.texts.proofs.RowReader.{rowLine, rowLines-one, Reads, row-sound}
 use Rattle.texts.proofs.FrameStates.{openingLine, pairs, framed, stateLines, IsTop, AreRows, Sane, Reached}
@@ -37,6 +37,12 @@ framed-row h rows r m =
     ap {B = List (List ℕ)}
         (λ p. openingLine (h .an) (h .name) ∷ [] ∷ tens (h .rowWidth) ∷ units (h .rowWidth) ∷ border (h .rowWidth) ∷ p)
         (pairs-row (h .rowWidth) rows r m)
+
+-- field lines are lines where all are
+pub fields-are-lines : (h : Top) (rows : List Row) (ls : List (List ℕ))
+    → all isLine (stateLines (filled h rows ls)) ≡ true → all isLine ls ≡ true
+fields-are-lines h rows ls a = all-back isLine (framed h rows ([] ∷ bytes "where:" ∷ [] ∷ [])) ls
+    (rw (← framed-more h rows ([] ∷ bytes "where:" ∷ [] ∷ []) ls) a)
 
 -- ── one line ──
 
@@ -75,7 +81,7 @@ row-or-end h rows [] t a = go (isEmpty rows) refl
     go true e = tt
     go false e = ((t, a, e), framed-more h rows [] ([] ∷ []))
 
-more-rows : (h : Top) (rows : List Row) (r : Row) → AreRows h rows → isRow (h .rowWidth) r ≡ true
+pub more-rows : (h : Top) (rows : List Row) (r : Row) → AreRows h rows → isRow (h .rowWidth) r ≡ true
     → AreRows h (rows ++ (r ∷ []))
 unfolding all
 more-rows h rows r a p = all-append (isRow (h .rowWidth)) rows (r ∷ []) a (rw p)

@@ -6,6 +6,8 @@
 -- FrameSound     what was read stands in the state
 -- FrameRun       the lines of a frame are read
 -- FrameExact     the frame of a text: sound, complete, unique, decidable
+-- FrameAhead     the lines of a state begin a frame
+-- FrameRight     how many lines are right: one number for each text
 pub mod SplitLaws
 pub mod RowCells
 pub mod RowReader
@@ -14,3 +16,5 @@ pub mod FrameTop
 pub mod FrameSound
 pub mod FrameRun
 pub mod FrameExact
+pub mod FrameAhead
+pub mod FrameRight
