@@ -21,4 +21,5 @@ module _ {A B : Type 0} (f : A → List B) where
   unfolding joined all
   all-joined p q g [] h = refl
   all-joined p q g (x ∷ l) h =
-      all-append q (f x) (joined f l) (g x (and-left (p x) (all p l) h)) (all-joined p q g l (and-right (p x) (all p l) h))
+      all-append q (f x) (joined f l) (g x (and-left (p x) (all p l) h))
+      (all-joined p q g l (and-right (p x) (all p l) h))

@@ -1,20 +1,20 @@
 -- The lines of a state begin the text of a frame: the lines that miss are added.
-use mathlib.Core.Path.{_≡_, refl, ap, sym, _∙_}
-use mathlib.Core.Bool.{Bool, true, false, _&&_, not}
+use mathlib.Core.Path.{_≡_, refl, ap, _∙_}
+use mathlib.Core.Bool.{Bool, true, false}
 use mathlib.Core.List.{List, [], _∷_, _++_, append-assoc}
 use Prim.Native.Nat.{ℕ, _*_, _-_}
 use Rattle.base.specs.Bytes.{bytes}
-use Rattle.base.specs.Lists.{all, isEmpty, joined, sum, headIs, lastIs}
+use Rattle.base.specs.Lists.{all, isEmpty, joined, sum, lastIs}
 use Rattle.base.proofs.Lists.{all-append}
 use Rattle.rules.specs.Names.{isLabel, isLabelByte, isWordByte, isLetter, isDigit, isSpace, noTwoSpaces}
-use Rattle.rules.specs.Limits.{labelMost}
 use Rattle.rules.specs.Within.{isRowWidth}
-use Rattle.rules.specs.Frames.{tens, units, border, Cell, Row, bitRow, isRow, isLine, Frame}
-use Rattle.texts.specs.FrameReader.{Top, State, begun, named, spaced, ruled, counted, bordered, rowed, closed, headed, filled}
+use Rattle.rules.specs.Frames.{tens, units, border, Row, bitRow, isRow, isLine, Frame}
+use Rattle.texts.specs.FrameReader.{Top, State, begun, named, spaced, ruled, counted, bordered, rowed}
+use Rattle.texts.specs.FrameReader.{closed, headed, filled}
 use Rattle.texts.proofs.RowReader.{rowLine}
-use Rattle.texts.proofs.FrameStates.{openingLine, framed, stateLines, IsTop, AreRows, Sane, width-cases}
+use Rattle.texts.proofs.FrameStates.{stateLines, IsTop, Sane, width-cases}
 use Rattle.texts.proofs.FrameSound.{framed-more, framed-row, more-rows, fields-are-lines}
-use Rattle.texts.proofs.FrameRun.{topOf, Kept, frameLines, frameLines-are}
+use Rattle.texts.proofs.FrameRun.{Kept, frameLines, frameLines-are}
 
 -- a frame whose lines begin with these
 pub record Ahead (ls : List (List ℕ)) : Type 0 where
@@ -73,19 +73,19 @@ closed-ahead : (h : Top) (rows : List Row) → Sane (closed h rows) → Ahead (s
 unfolding all
 closed-ahead h rows s =
     shorter (stateLines (closed h rows)) (bytes "where:" ∷ [] ∷ []) (stateLines (filled h rows []))
-        (framed-more h rows ([] ∷ []) (bytes "where:" ∷ [] ∷ [])) (filled-ahead h rows [] s refl)
+    (framed-more h rows ([] ∷ []) (bytes "where:" ∷ [] ∷ [])) (filled-ahead h rows [] s refl)
 
 headed-ahead : (h : Top) (rows : List Row) → Sane (headed h rows) → Ahead (stateLines (headed h rows))
 unfolding all
 headed-ahead h rows s =
     shorter (stateLines (headed h rows)) ([] ∷ []) (stateLines (filled h rows []))
-        (framed-more h rows ([] ∷ bytes "where:" ∷ []) ([] ∷ [])) (filled-ahead h rows [] s refl)
+    (framed-more h rows ([] ∷ bytes "where:" ∷ []) ([] ∷ [])) (filled-ahead h rows [] s refl)
 
 rowed-ahead : (h : Top) (rows : List Row) (r : Row) → Sane (rowed h rows r) → Ahead (stateLines (rowed h rows r))
 rowed-ahead h rows r s =
     shorter (stateLines (rowed h rows r)) (border (h .rowWidth) ∷ [] ∷ []) (stateLines (closed h (rows ++ (r ∷ []))))
-        (framed-row h rows r ([] ∷ []) ∙ framed-more h rows (rowLine r ∷ []) (border (h .rowWidth) ∷ [] ∷ []))
-        (closed-ahead h (rows ++ (r ∷ [])) (s .0, more-rows h rows r (s .1) (s .2), more rows))
+    (framed-row h rows r ([] ∷ []) ∙ framed-more h rows (rowLine r ∷ []) (border (h .rowWidth) ∷ [] ∷ []))
+    (closed-ahead h (rows ++ (r ∷ [])) (s .0, more-rows h rows r (s .1) (s .2), more rows))
   where
     more : (l : List Row) → isEmpty (l ++ (r ∷ [])) ≡ false
     more [] = refl
@@ -95,20 +95,20 @@ bordered-ahead : (h : Top) (rows : List Row) → Sane (bordered h rows) → Ahea
 bordered-ahead h rows s =
     let r : Row = plainRow (h .rowWidth) in
     shorter (stateLines (bordered h rows)) (rowLine r ∷ []) (stateLines (rowed h rows r))
-        (framed-more h rows [] (rowLine r ∷ []))
-        (rowed-ahead h rows r (s .0, s .1, plain-row (h .rowWidth) (s .0 .1)))
+    (framed-more h rows [] (rowLine r ∷ []))
+    (rowed-ahead h rows r (s .0, s .1, plain-row (h .rowWidth) (s .0 .1)))
 
 ruled-ahead : (h : Top) → IsTop h → Ahead (stateLines (ruled h))
 unfolding all joined
 ruled-ahead h s =
     shorter (stateLines (ruled h)) (units (h .rowWidth) ∷ border (h .rowWidth) ∷ []) (stateLines (bordered h [])) refl
-        (bordered-ahead h [] (s, refl))
+    (bordered-ahead h [] (s, refl))
 
 counted-ahead : (h : Top) → IsTop h → Ahead (stateLines (counted h))
 unfolding all joined
 counted-ahead h s =
     shorter (stateLines (counted h)) (border (h .rowWidth) ∷ []) (stateLines (bordered h [])) refl
-        (bordered-ahead h [] (s, refl))
+    (bordered-ahead h [] (s, refl))
 
 spaced-ahead : (an : Bool) (n : List ℕ) → isLabel n ≡ true → Ahead (stateLines (spaced an n))
 spaced-ahead an n s =
@@ -121,7 +121,7 @@ named-ahead an n s = shorter (stateLines (named an n)) ([] ∷ []) (stateLines (
 pub ahead : (s : State) → Sane s → all isLine (stateLines s) ≡ true → Ahead (stateLines s)
 ahead begun s a =
     shorter [] (stateLines (named false (bytes "x"))) (stateLines (named false (bytes "x"))) refl
-        (named-ahead false (bytes "x") letter)
+    (named-ahead false (bytes "x") letter)
 ahead (named an n) s a = named-ahead an n s
 ahead (spaced an n) s a = spaced-ahead an n s
 ahead (ruled h) s a = ruled-ahead h s

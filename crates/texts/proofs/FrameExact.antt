@@ -9,11 +9,13 @@ use native.Mathlib.Omega.{arith}
 use Rattle.base.specs.Lists.{all, isEmpty, joined}
 use Rattle.rules.specs.Names.{lineFeed}
 use Rattle.rules.specs.Frames.{isLine, ended, Frame, frameText, FrameOf, Row}
-use Rattle.texts.specs.FrameReader.{pieces, rest, linesOf, Top, State, begun, named, spaced, ruled, counted, bordered, rowed, closed, headed, filled, onState, run, whole, readFrame}
+use Rattle.texts.specs.FrameReader.{rest, linesOf, Top, State, begun, named, spaced, ruled, counted}
+use Rattle.texts.specs.FrameReader.{bordered, rowed, closed, headed, filled, onState, run, whole, readFrame}
 use Rattle.texts.proofs.SplitLaws.{split-joined, pieces-are-free, lines-joined, lines-end}
 use Rattle.texts.proofs.FrameStates.{stateLines, Sane, Reached}
 use Rattle.texts.proofs.FrameSound.{fields-are-lines, run-sound}
-use Rattle.texts.proofs.FrameRun.{topOf, Kept, frame-kept, kept-frame, frameLines, frameLines-are, lines-are-lines, run-filled}
+use Rattle.texts.proofs.FrameRun.{topOf, frame-kept, kept-frame, frameLines, frameLines-are}
+use Rattle.texts.proofs.FrameRun.{lines-are-lines, run-filled}
 
 -- ── sound ──
 
@@ -85,7 +87,11 @@ frame-complete t f x =
     let l : linesOf t ≡ frameLines f = ap linesOf (sym (x .isText)) ∙ lines-joined (frameLines f) a in
     let r : rest lineFeed t ≡ [] = ap (rest lineFeed) (sym (x .isText)) ∙ lines-end (frameLines f) a in
     rw (r, l, frameLines-are f, run-filled (topOf f) (f .rows) (f .lines) (k .top) (k .rows) (k .some-row))
-        (whole-filled f (k .some-line))
+    (whole-filled f (k .some-line))
+
+-- where none is read there is none
+pub frame-none : (t : List ℕ) → readFrame t ≡ none → (f : Frame) → FrameOf t f → ⊥
+frame-none t e f x = let p = frame-complete t f x in absurd (let z : _≡_ {A = ℕ} 0 1 = cc in omega arith)
 
 -- ── one frame at most, and decided ──
 
@@ -96,5 +102,5 @@ pub frame-decidable : (t : List ℕ) → Dec ((f : Frame) × FrameOf t f)
 frame-decidable t = go (readFrame t) refl
   where
     go : (o : Option Frame) → readFrame t ≡ o → Dec ((f : Frame) × FrameOf t f)
-    go none e = no (λ x. let p = frame-complete t (x .0) (x .1) in absurd (let z : _≡_ {A = ℕ} 0 1 = cc in omega arith))
+    go none e = no (λ x. frame-none t e (x .0) (x .1))
     go (some f) e = yes (f, frame-sound t f e)

@@ -4,23 +4,25 @@ use mathlib.Core.Path.{_≡_, refl, ap, sym, _∙_}
 use mathlib.Core.Bool.{Bool, true, false}
 use mathlib.Core.List.{List, [], _∷_, _++_}
 use mathlib.Core.Option.{Option, none, some}
-use mathlib.Core.Logic.{_⊎_, inl, inr}
 use Prim.Native.Nat.{ℕ, zero, suc, _≤_, _<_}
 use native.Mathlib.Omega.{arith}
 use lib.Dec.{ltb}
 use lib.ListN.{length, take, drop, take-append-drop}
+use lib.Seq.{take-length}
 use borrow.Author.Tests.{ltb-true, ltb-false}
 use Rattle.base.specs.Lists.{all, joined}
 use Rattle.base.proofs.Lists.{all-front}
 use Rattle.base.proofs.Joined.{joined-append}
 use Rattle.rules.specs.Names.{lineFeed}
-use Rattle.rules.specs.Frames.{isLine, ended, Frame, frameText, FrameOf}
-use Rattle.rules.specs.Refusals.{lineCount, firstLines, Begins, RightLines}
-use Rattle.texts.specs.FrameReader.{linesOf, pieces, State, begun, filled, step, onState, run, rightFrom, rightLines}
-use Rattle.texts.proofs.SplitLaws.{pieces-joined, pieces-are-free, lines-joined, lineCount-lines, firstLines-lines}
-use Rattle.texts.proofs.FrameStates.{stateLines, Sane, Reached}
+use Rattle.rules.specs.Frames.{isLine, ended, Frame, frameText}
+use Rattle.rules.specs.Refusals.{lineCount, Begins, RightLines}
+use Rattle.texts.specs.FrameReader.{linesOf, State, begun, filled, step, onState, run, rightFrom, rightLines}
+use Rattle.texts.proofs.SplitLaws.{pieces-joined, pieces-are-free, lines-joined, lineCount-lines}
+use Rattle.texts.proofs.SplitLaws.{firstLines-lines}
+use Rattle.texts.proofs.FrameStates.{stateLines, Reached}
 use Rattle.texts.proofs.FrameSound.{run-sound}
-use Rattle.texts.proofs.FrameRun.{topOf, frame-kept, kept-frame, frameLines, frameLines-are, lines-are-lines, run-filled}
+use Rattle.texts.proofs.FrameRun.{topOf, frame-kept, kept-frame, frameLines, frameLines-are}
+use Rattle.texts.proofs.FrameRun.{lines-are-lines, run-filled}
 use Rattle.texts.proofs.FrameAhead.{Ahead, ahead}
 
 -- ── the number of lines that are read ──
@@ -61,6 +63,17 @@ right-most (l ∷ ls) s (suc j) lt le = go (step s l) (right-most ls) lt
     go none f h = refl
     go (some q) f h = f q j (omega arith) (omega arith)
 
+-- all of them, where the reader comes to the end
+pub right-all : (ls : List (List ℕ)) (s q : State) → run s ls ≡ some q → rightFrom s ls ≡ length ls
+right-all ls s q e = go (ltb (rightFrom s ls) (length ls)) refl
+  where
+    go : (x : Bool) → ltb (rightFrom s ls) (length ls) ≡ x → rightFrom s ls ≡ length ls
+    go true p =
+        let m = right-most ls s (length ls) (ltb-true (rightFrom s ls) (length ls) p) (omega arith) in
+        let n : run s ls ≡ none = rw (take-length ls) at m in
+        absurd (let z : _≡_ {A = ℕ} 0 1 = cc in omega arith)
+    go false p = let m = ltb-false (rightFrom s ls) (length ls) p in let n = right-there ls s in omega arith
+
 -- ── lines that are read begin a frame, and the other way round ──
 
 run-append : (a b : List (List ℕ)) (s : State) → run s (a ++ b) ≡ onState none (λ q. run q b) (run s a)
@@ -76,9 +89,10 @@ run-append (l ∷ a) b s = go (step s l) (run-append a b)
 take-lines : (k : ℕ) (t : List ℕ) → all isLine (take k (linesOf t)) ≡ true
 take-lines k t =
     all-front isLine (take k (linesOf t)) (drop k (linesOf t))
-        (rw (take-append-drop k (linesOf t)) (pieces-are-free lineFeed t))
+    (rw (take-append-drop k (linesOf t)) (pieces-are-free lineFeed t))
 
-pub run-begins : (t : List ℕ) (k : ℕ) (q : State) → k ≤ lineCount t → run begun (take k (linesOf t)) ≡ some q → Begins t k
+pub run-begins : (t : List ℕ) (k : ℕ) (q : State) → k ≤ lineCount t → run begun (take k (linesOf t)) ≡ some q
+    → Begins t k
 run-begins t k q le e = begin (ahead q (r .0) (rw (r .1) (take-lines k t)))
   where
     r : Reached (take k (linesOf t)) (some q)
@@ -93,7 +107,7 @@ run-begins t k q le e = begin (ahead q (r .0) (rw (r .1) (take-lines k t)))
           (ap (joined ended) (a .isBegun ∙ ap (λ (m : List (List ℕ)). m ++ a .behind) (r .1))
           ∙ joined-append ended (take k (linesOf t)) (a .behind)
           ∙ ap (λ (m : List ℕ). m ++ joined ended (a .behind))
-              (sym (firstLines-lines k t (rw (lineCount-lines t) at le))));
+          (sym (firstLines-lines k t (rw (lineCount-lines t) at le))));
     }
 
 pub begins-run : (t : List ℕ) (k : ℕ) → k ≤ lineCount t → Begins t k → run begun (take k (linesOf t)) ≡ none → ⊥
@@ -103,16 +117,17 @@ begins-run t k le b e =
     let kept = frame-kept f (b .isFramed) in
     let ls : List (List ℕ) = take k (linesOf t) in
     let text : frameText f ≡ joined ended ls ++ b .behind
-          = b .isText ∙ ap (λ (m : List ℕ). m ++ b .behind) (firstLines-lines k t (rw (lineCount-lines t) at le)) in
+    = b .isText ∙ ap (λ (m : List ℕ). m ++ b .behind) (firstLines-lines k t (rw (lineCount-lines t) at le)) in
     let split : frameLines f ≡ ls ++ linesOf (b .behind)
-          = sym (lines-joined (frameLines f) (lines-are-lines f kept))
-              ∙ ap linesOf text
-              ∙ pieces-joined lineFeed ls (b .behind) (take-lines k t) in
+    = sym (lines-joined (frameLines f) (lines-are-lines f kept))
+    ∙ ap linesOf text
+    ∙ pieces-joined lineFeed ls (b .behind) (take-lines k t) in
     let all-read : run begun (frameLines f) ≡ some (filled (topOf f) (f .rows) (f .lines))
-          = ap (run begun) (frameLines-are f) ∙ run-filled (topOf f) (f .rows) (f .lines) (kept .top) (kept .rows) (kept .some-row) in
+    = ap (run begun) (frameLines-are f)
+    ∙ run-filled (topOf f) (f .rows) (f .lines) (kept .top) (kept .rows) (kept .some-row) in
     let none-read : run begun (frameLines f) ≡ none
-          = ap (run begun) split ∙ run-append ls (linesOf (b .behind)) begun
-              ∙ ap (onState none (λ q. run q (linesOf (b .behind)))) e in
+    = ap (run begun) split ∙ run-append ls (linesOf (b .behind)) begun
+    ∙ ap (onState none (λ q. run q (linesOf (b .behind)))) e in
     absurd (let z : _≡_ {A = ℕ} 0 1 = cc in omega arith)
 
 -- whether the first k lines begin a frame is decided
@@ -146,3 +161,7 @@ right-unique t j k x y = go (ltb j k) refl (ltb k j) refl
     go true p b q = absurd (x .most k (ltb-true j k p) (y .there) (y .begins))
     go false p true q = absurd (y .most j (ltb-true k j q) (x .there) (x .begins))
     go false p false q = let c = ltb-false j k p in let d = ltb-false k j q in omega arith
+
+-- the number that the reader counts
+pub right-exact : (t : List ℕ) (k : ℕ) → RightLines t k → k ≡ rightLines t
+right-exact t k x = right-unique t k (rightLines t) x (right-lines t)

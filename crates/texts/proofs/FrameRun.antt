@@ -1,22 +1,25 @@
 -- The lines of a frame are read, one after the other, into a state that holds the frame.
 use mathlib.Core.Path.{_≡_, refl, ap, sym, _∙_}
-use mathlib.Core.Bool.{Bool, true, false, cond, _&&_, not}
+use mathlib.Core.Bool.{Bool, true, false, _&&_, not}
 use mathlib.Core.List.{List, [], _∷_, _++_, append-assoc, append-nil}
-use mathlib.Core.Option.{Option, none, some}
+use mathlib.Core.Option.{some}
 use Prim.Native.Nat.{ℕ}
 use lib.Dec.{eqb}
 use borrow.Author.Tests.{not-true}
 use Rattle.base.specs.Bytes.{bytes}
-use Rattle.base.specs.Lists.{all, same, isEmpty, joined}
-use Rattle.base.proofs.Lists.{and-left, and-right, and-both, same-self, all-append}
+use Rattle.base.specs.Lists.{all, isEmpty, joined}
+use Rattle.base.proofs.Lists.{and-left, and-right, same-self, all-append}
 use Rattle.base.proofs.Joined.{all-joined}
-use Rattle.rules.specs.Names.{isLabel, isLabelByte, isWordByte, isLetter, isDigit, isSpace, lineFeed}
+use Rattle.rules.specs.Names.{isLabel, lineFeed}
 use Rattle.rules.specs.Within.{isRowWidth}
-use Rattle.rules.specs.Frames.{tens, units, border, Row, bitRow, longRow, rowLines, isRow, isLine, Frame, isFrame, headLines, article}
-use Rattle.texts.specs.FrameReader.{closing, Top, State, begun, named, spaced, ruled, counted, bordered, rowed, closed, headed, filled, onWidth, onRow, rowOrEnd, onSame, step, onState, run}
-use Rattle.texts.proofs.RowCells.{label-free}
+use Rattle.rules.specs.Frames.{tens, units, border, Row, bitRow, longRow, rowLines, isRow, isLine, Frame, isFrame}
+use Rattle.rules.specs.Frames.{headLines, article}
+use Rattle.texts.specs.FrameReader.{closing, Top, State, begun, named, spaced, ruled, counted, bordered}
+use Rattle.texts.specs.FrameReader.{rowed, closed, headed, filled, onWidth, onRow, rowOrEnd, onSame, step}
+use Rattle.texts.specs.FrameReader.{run}
+use Rattle.texts.proofs.RowCells.{label-free, feed}
 use Rattle.texts.proofs.RowReader.{rowLine, rowLines-one, row-complete, row-line}
-use Rattle.texts.proofs.FrameStates.{openingLine, pairs, framed, stateLines, IsTop, AreRows, Sane}
+use Rattle.texts.proofs.FrameStates.{openingLine, pairs, stateLines, IsTop, AreRows}
 use Rattle.texts.proofs.FrameTop.{opened-complete, tens-complete, ruler-lines}
 
 -- ── what a frame keeps ──
@@ -64,12 +67,8 @@ pub frameLines-are : (f : Frame) → frameLines f ≡ stateLines (filled (topOf 
 unfolding headLines closing
 frameLines-are f =
     ap {B = List (List ℕ)}
-        (λ p. openingLine (f .an) (f .name) ∷ [] ∷ tens (f .rowWidth) ∷ units (f .rowWidth) ∷ border (f .rowWidth) ∷ p)
-        (append-assoc (pairs (f .rowWidth) (f .rows)) ([] ∷ bytes "where:" ∷ [] ∷ []) (f .lines))
-
-feed : isLabelByte lineFeed ≡ false
-unfolding isLabelByte isWordByte isLetter isDigit isSpace
-feed = refl
+    (λ p. openingLine (f .an) (f .name) ∷ [] ∷ tens (f .rowWidth) ∷ units (f .rowWidth) ∷ border (f .rowWidth) ∷ p)
+    (append-assoc (pairs (f .rowWidth) (f .rows)) ([] ∷ bytes "where:" ∷ [] ∷ []) (f .lines))
 
 article-line : (an : Bool) → isLine (article an) ≡ true
 unfolding all
@@ -83,12 +82,12 @@ closing-line = refl
 opening-line : (an : Bool) (n : List ℕ) → isLabel n ≡ true → isLine (openingLine an n) ≡ true
 opening-line an n h =
     all-append (λ b. not (eqb b lineFeed)) (article an) (n ++ closing) (article-line an)
-        (all-append (λ b. not (eqb b lineFeed)) n closing (label-free lineFeed feed n h) closing-line)
+    (all-append (λ b. not (eqb b lineFeed)) n closing (label-free lineFeed feed n h) closing-line)
 
 pair-lines : (w : ℕ) → isLine (border w) ≡ true → (r : Row) → isRow w r ≡ true
     → all isLine (rowLines r ++ (border w ∷ [])) ≡ true
 unfolding all
-pair-lines w b r h = rw (rowLines-one r) (and-both (isLine (rowLine r)) (isLine (border w) && true) (row-line w r h) (rw b))
+pair-lines w b r h = rw (rowLines-one r) (rw (row-line w r h, b))
 
 -- none of them holds an LF
 pub lines-are-lines : (f : Frame) → Kept f → all isLine (frameLines f) ≡ true
@@ -96,10 +95,10 @@ unfolding all
 lines-are-lines f k =
     let r = ruler-lines (f .rowWidth) (k .top .1) in
     let p : all isLine (pairs (f .rowWidth) (f .rows)) ≡ true
-          = all-joined (λ q. rowLines q ++ (border (f .rowWidth) ∷ [])) (isRow (f .rowWidth)) isLine
-              (pair-lines (f .rowWidth) (r .2)) (f .rows) (k .rows) in
+    = all-joined (λ q. rowLines q ++ (border (f .rowWidth) ∷ [])) (isRow (f .rowWidth)) isLine
+    (pair-lines (f .rowWidth) (r .2)) (f .rows) (k .rows) in
     let q : all isLine (pairs (f .rowWidth) (f .rows) ++ ([] ∷ bytes "where:" ∷ [] ∷ f .lines)) ≡ true
-          = all-append isLine (pairs (f .rowWidth) (f .rows)) ([] ∷ bytes "where:" ∷ [] ∷ f .lines) p (k .lines) in
+    = all-append isLine (pairs (f .rowWidth) (f .rows)) ([] ∷ bytes "where:" ∷ [] ∷ f .lines) p (k .lines) in
     rw (frameLines-are f) (rw (opening-line (f .an) (f .name) (k .top .0), r .0, r .1, r .2) q)
 
 -- ── reading them ──
@@ -127,10 +126,11 @@ run-rows h (r ∷ rows) done m a =
     let p : isRow w r ≡ true = and-left (isRow w r) (all (isRow w) rows) a in
     let i = run-rows h rows (done ++ (r ∷ [])) m (and-right (isRow w r) (all (isRow w) rows) a) in
     rw (rowLines-one r)
-        (run-one (bordered h done) (rowed h done r) (rowLine r) (border w ∷ (pairs w rows ++ m)) (step-row h done r p)
-        ∙ run-one (rowed h done r) (bordered h (done ++ (r ∷ []))) (border w) (pairs w rows ++ m) (on-same (border w) (bordered h (done ++ (r ∷ []))))
-        ∙ i
-        ∙ ap (λ (l : List Row). run (bordered h l) m) (append-assoc done (r ∷ []) rows))
+    (run-one (bordered h done) (rowed h done r) (rowLine r) (border w ∷ (pairs w rows ++ m)) (step-row h done r p)
+    ∙ run-one (rowed h done r) (bordered h (done ++ (r ∷ []))) (border w) (pairs w rows ++ m)
+    (on-same (border w) (bordered h (done ++ (r ∷ []))))
+    ∙ i
+    ∙ ap (λ (l : List Row). run (bordered h l) m) (append-assoc done (r ∷ []) rows))
 
 run-fields : (h : Top) (rows : List Row) (ms ls : List (List ℕ))
     → run (filled h rows ls) ms ≡ some (filled h rows (ls ++ ms))
@@ -156,9 +156,9 @@ run-filled h rows ls t a e =
     let last : List (List ℕ) = [] ∷ bytes "where:" ∷ [] ∷ ls in
     let m1 : List (List ℕ) = pairs w rows ++ last in
     run-one begun (named (h .an) (h .name)) (openingLine (h .an) (h .name)) ([] ∷ tens w ∷ units w ∷ border w ∷ m1)
-        (opened-complete (h .an) (h .name) (t .0))
+    (opened-complete (h .an) (h .name) (t .0))
     ∙ run-one (named (h .an) (h .name)) (spaced (h .an) (h .name)) [] (tens w ∷ units w ∷ border w ∷ m1)
-        (on-same [] (spaced (h .an) (h .name)))
+    (on-same [] (spaced (h .an) (h .name)))
     ∙ run-one (spaced (h .an) (h .name)) (ruled h) (tens w) (units w ∷ border w ∷ m1) (step-tens h t)
     ∙ run-one (ruled h) (counted h) (units w) (border w ∷ m1) (on-same (units w) (counted h))
     ∙ run-one (counted h) (bordered h []) (border w) m1 (on-same (border w) (bordered h []))

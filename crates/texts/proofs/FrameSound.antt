@@ -1,16 +1,18 @@
 -- What was read stands in the state: after each line, the lines so far are those of the state.
 use mathlib.Core.Path.{_≡_, refl, ap, sym, _∙_}
-use mathlib.Core.Bool.{Bool, true, false, cond, _&&_}
+use mathlib.Core.Bool.{Bool, true, false, cond}
 use mathlib.Core.List.{List, [], _∷_, _++_, append-assoc, append-nil}
 use mathlib.Core.Option.{Option, none, some}
 use Prim.Native.Nat.{ℕ}
 use Rattle.base.specs.Bytes.{bytes}
 use Rattle.base.specs.Lists.{all, same, isEmpty, joined}
-use Rattle.base.proofs.Lists.{and-left, and-right, and-both, same-true, all-append, all-back}
+use Rattle.base.proofs.Lists.{same-true, all-append, all-back}
 use Rattle.base.proofs.Joined.{joined-append, joined-one}
 use Rattle.rules.specs.Names.{isLabel}
 use Rattle.rules.specs.Frames.{tens, units, border, Row, rowLines, isRow, isLine}
-use Rattle.texts.specs.FrameReader.{readRow, readTens, Top, State, begun, named, spaced, ruled, counted, bordered, rowed, closed, headed, filled, onWidth, onRow, rowOrEnd, onSame, step, onState, run}
+use Rattle.texts.specs.FrameReader.{readRow, readTens, Top, State, begun, named, spaced, ruled, counted}
+use Rattle.texts.specs.FrameReader.{bordered, rowed, closed, headed, filled, onWidth, onRow, rowOrEnd}
+use Rattle.texts.specs.FrameReader.{onSame, step, onState, run}
 use Rattle.texts.proofs.RowReader.{rowLine, rowLines-one, Reads, row-sound}
 use Rattle.texts.proofs.FrameStates.{openingLine, pairs, framed, stateLines, IsTop, AreRows, Sane, Reached}
 use Rattle.texts.proofs.FrameTop.{opened-sound, Widths, tens-sound}
@@ -20,23 +22,25 @@ use Rattle.texts.proofs.FrameTop.{opened-sound, Widths, tens-sound}
 pub framed-more : (h : Top) (rows : List Row) (m n : List (List ℕ)) → framed h rows (m ++ n) ≡ framed h rows m ++ n
 framed-more h rows m n =
     ap {B = List (List ℕ)}
-        (λ p. openingLine (h .an) (h .name) ∷ [] ∷ tens (h .rowWidth) ∷ units (h .rowWidth) ∷ border (h .rowWidth) ∷ p)
-        (sym (append-assoc (pairs (h .rowWidth) rows) m n))
+    (λ p. openingLine (h .an) (h .name) ∷ [] ∷ tens (h .rowWidth) ∷ units (h .rowWidth) ∷ border (h .rowWidth) ∷ p)
+    (sym (append-assoc (pairs (h .rowWidth) rows) m n))
 
 pub pairs-row : (w : ℕ) (rows : List Row) (r : Row) (m : List (List ℕ))
     → pairs w (rows ++ (r ∷ [])) ++ m ≡ pairs w rows ++ (rowLine r ∷ border w ∷ m)
 pairs-row w rows r m =
-    rw (joined-append (λ q. rowLines q ++ (border w ∷ [])) rows (r ∷ []),
-        joined-one (λ q. rowLines q ++ (border w ∷ [])) r,
-        rowLines-one r)
+    rw (
+      joined-append (λ q. rowLines q ++ (border w ∷ [])) rows (r ∷ []),
+      joined-one (λ q. rowLines q ++ (border w ∷ [])) r,
+      rowLines-one r,
+    )
     (append-assoc (pairs w rows) (rowLine r ∷ border w ∷ []) m)
 
 pub framed-row : (h : Top) (rows : List Row) (r : Row) (m : List (List ℕ))
     → framed h (rows ++ (r ∷ [])) m ≡ framed h rows (rowLine r ∷ border (h .rowWidth) ∷ m)
 framed-row h rows r m =
     ap {B = List (List ℕ)}
-        (λ p. openingLine (h .an) (h .name) ∷ [] ∷ tens (h .rowWidth) ∷ units (h .rowWidth) ∷ border (h .rowWidth) ∷ p)
-        (pairs-row (h .rowWidth) rows r m)
+    (λ p. openingLine (h .an) (h .name) ∷ [] ∷ tens (h .rowWidth) ∷ units (h .rowWidth) ∷ border (h .rowWidth) ∷ p)
+    (pairs-row (h .rowWidth) rows r m)
 
 -- field lines are lines where all are
 pub fields-are-lines : (h : Top) (rows : List Row) (ls : List (List ℕ))
@@ -66,9 +70,10 @@ on-row : (h : Top) (rows : List Row) (l : List ℕ) → IsTop h → AreRows h ro
     → Reads (h .rowWidth) l o → Reached (framed h rows [] ++ (l ∷ [])) (onRow h rows o)
 unfolding onRow
 on-row h rows l t a none p = tt
-on-row h rows l t a (some r) p =
-    ((t, a, p .0),
-     ap (λ (m : List ℕ). framed h rows (m ∷ [])) (p .1) ∙ framed-more h rows [] (l ∷ []))
+on-row h rows l t a (some r) p = (
+  (t, a, p .0),
+  ap (λ (m : List ℕ). framed h rows (m ∷ [])) (p .1) ∙ framed-more h rows [] (l ∷ []),
+)
 
 row-or-end : (h : Top) (rows : List Row) (l : List ℕ) → IsTop h → AreRows h rows
     → Reached (framed h rows [] ++ (l ∷ [])) (rowOrEnd h rows l)
@@ -96,14 +101,14 @@ step-sound (counted t) l h = on-same (border (t .rowWidth)) (bordered t []) l (s
 step-sound (bordered t rows) l h = row-or-end t rows l (h .0) (h .1)
 step-sound (rowed t rows r) l h =
     on-same (border (t .rowWidth)) (bordered t (rows ++ (r ∷ []))) l (stateLines (rowed t rows r))
-        (h .0, more-rows t rows r (h .1) (h .2))
-        (framed-row t rows r [] ∙ framed-more t rows (rowLine r ∷ []) (border (t .rowWidth) ∷ []))
+    (h .0, more-rows t rows r (h .1) (h .2))
+    (framed-row t rows r [] ∙ framed-more t rows (rowLine r ∷ []) (border (t .rowWidth) ∷ []))
 step-sound (closed t rows) l h =
     on-same (bytes "where:") (headed t rows) l (stateLines (closed t rows)) h
-        (framed-more t rows ([] ∷ []) (bytes "where:" ∷ []))
+    (framed-more t rows ([] ∷ []) (bytes "where:" ∷ []))
 step-sound (headed t rows) l h =
     on-same [] (filled t rows []) l (stateLines (headed t rows)) h
-        (framed-more t rows ([] ∷ bytes "where:" ∷ []) ([] ∷ []))
+    (framed-more t rows ([] ∷ bytes "where:" ∷ []) ([] ∷ []))
 step-sound (filled t rows ls) l h =
     (h, framed-more t rows ([] ∷ bytes "where:" ∷ [] ∷ ls) (l ∷ []))
 

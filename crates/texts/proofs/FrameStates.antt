@@ -1,19 +1,19 @@
 -- The lines that a state of the reader stands for, and what it keeps of them.
-use mathlib.Core.Path.{_≡_, refl, ap, sym, _∙_}
+use mathlib.Core.Path.{_≡_, refl}
 use mathlib.Core.Bool.{Bool, true, false}
 use mathlib.Core.List.{List, [], _∷_, _++_}
 use mathlib.Core.Option.{Option, none, some}
 use Prim.Native.Nat.{ℕ}
-use native.Mathlib.Omega.{arith}
 use lib.Dec.{eqb}
 use borrow.Author.Tests.{eqb-true}
 use Rattle.base.specs.Bytes.{bytes}
 use Rattle.base.specs.Lists.{all, isEmpty, joined}
-use Rattle.base.proofs.Lists.{or-cases, not-both}
+use Rattle.base.proofs.Lists.{not-both}
 use Rattle.rules.specs.Names.{isLabel}
 use Rattle.rules.specs.Within.{isRowWidth}
 use Rattle.rules.specs.Frames.{tens, units, border, Row, rowLines, isRow, article}
-use Rattle.texts.specs.FrameReader.{closing, Top, State, begun, named, spaced, ruled, counted, bordered, rowed, closed, headed, filled}
+use Rattle.texts.specs.FrameReader.{closing, Top, State, begun, named, spaced, ruled, counted, bordered}
+use Rattle.texts.specs.FrameReader.{rowed, closed, headed, filled}
 use Rattle.texts.proofs.RowReader.{rowLine}
 
 abbrev pub openingLine : Bool → List ℕ → List ℕ

@@ -3,18 +3,17 @@ use mathlib.Core.Path.{_≡_, refl, ap, sym, _∙_}
 use mathlib.Core.Bool.{Bool, true, false, cond, _&&_}
 use mathlib.Core.List.{List, [], _∷_, _++_}
 use mathlib.Core.Option.{Option, none, some}
-use Prim.Native.Nat.{ℕ, zero, suc, _+_, _-_, _*_, _/_, _%_}
+use Prim.Native.Nat.{ℕ, _-_}
 use native.Mathlib.Omega.{arith}
-use lib.Dec.{eqb}
 use lib.ListN.{length, take, drop, length-append, take-append-drop}
 use lib.Seq.{drop-append-seam}
 use Rattle.base.specs.Bytes.{bytes}
 use Rattle.base.specs.Lists.{all, same, tabulate}
-use Rattle.base.proofs.Lists.{and-left, and-right, and-both, same-true, same-self}
+use Rattle.base.proofs.Lists.{and-left, and-right, same-true, same-self}
 use Rattle.rules.specs.Names.{isLabel}
 use Rattle.rules.specs.Within.{isRowWidth}
 use Rattle.rules.specs.Frames.{tens, units, border, article, isLine}
-use Rattle.texts.specs.FrameReader.{closing, readName, readTens, State, named, onName, opened}
+use Rattle.texts.specs.FrameReader.{closing, readName, readTens, named, onName, opened}
 use Rattle.texts.proofs.FrameStates.{openingLine, Reached, width-cases}
 
 -- ── the NAME ──
@@ -30,9 +29,11 @@ name-sound s = go (length s - length closing)
     kept : (n : ℕ) (x : Bool) → (same (drop n s) closing && isLabel (take n s)) ≡ x
         → Names s (cond x (some (take n s)) none)
     kept n true e =
-        let q : drop n s ≡ closing = same-true (drop n s) closing (and-left (same (drop n s) closing) (isLabel (take n s)) e) in
-        (and-right (same (drop n s) closing) (isLabel (take n s)) e,
-         ap (λ (m : List ℕ). take n s ++ m) (sym q) ∙ take-append-drop n s)
+        let q : drop n s ≡ closing
+        = same-true (drop n s) closing (and-left (same (drop n s) closing) (isLabel (take n s)) e) in (
+          and-right (same (drop n s) closing) (isLabel (take n s)) e,
+          ap (λ (m : List ℕ). take n s ++ m) (sym q) ∙ take-append-drop n s,
+        )
     kept n false e = tt
 
     go : (n : ℕ) → Names s (cond (same (drop n s) closing && isLabel (take n s)) (some (take n s)) none)
@@ -63,7 +64,7 @@ opened-sound l = go (same (take 3 l) (bytes "An ")) refl (same (take 2 l) (bytes
   where
     go : (x : Bool) → same (take 3 l) (bytes "An ") ≡ x → (y : Bool) → same (take 2 l) (bytes "A ") ≡ y
         → Reached (l ∷ [])
-            (cond x (onName true (readName (drop 3 l))) (cond y (onName false (readName (drop 2 l))) none))
+        (cond x (onName true (readName (drop 3 l))) (cond y (onName false (readName (drop 2 l))) none))
     go true p y q = on-name true (drop 3 l) l (readName (drop 3 l))
         (ap (λ (m : List ℕ). m ++ drop 3 l) (sym (same-true (take 3 l) (bytes "An ") p)) ∙ take-append-drop 3 l)
         (name-sound (drop 3 l))
@@ -103,4 +104,4 @@ pub ruler-lines : (w : ℕ) → isRowWidth w ≡ true
 unfolding tens units border tabulate all
 ruler-lines w h =
     width-cases (λ v. (isLine (tens v) ≡ true) × (isLine (units v) ≡ true) × (isLine (border v) ≡ true))
-        (refl, refl, refl) (refl, refl, refl) (refl, refl, refl) w h
+    (refl, refl, refl) (refl, refl, refl) (refl, refl, refl) w h

@@ -1,16 +1,17 @@
 -- A cell is made of its characters: the spaces at both ends are counted, and a label has none there.
-use mathlib.Core.Path.{_≡_, refl, ap, sym, _∙_, subst}
-use mathlib.Core.Bool.{Bool, true, false, cond, _&&_, _||_, not}
-use mathlib.Core.List.{List, [], _∷_, _++_, append-assoc}
-use Prim.Native.Nat.{ℕ, zero, suc, _+_, _*_, _-_, _/_, _≤_}
+use mathlib.Core.Path.{_≡_, refl, ap, sym, _∙_}
+use mathlib.Core.Bool.{Bool, true, false, cond, _&&_, not}
+use mathlib.Core.List.{List, [], _∷_, _++_}
+use Prim.Native.Nat.{ℕ, zero, suc, _+_, _*_, _-_, _/_}
 use native.Mathlib.Omega.{arith}
 use lib.Dec.{leb, eqb}
 use lib.ListN.{length, length-append, replicate, length-replicate}
-use borrow.Author.Tests.{eqb-true, eq-eqb, ne-eqb}
-use Rattle.base.specs.Lists.{all, headIs, lastIs, between}
-use Rattle.base.proofs.Lists.{and-left, and-right, and-both, all-append, all-weaken, not-both}
+use borrow.Author.Tests.{eqb-true, ne-eqb}
+use Rattle.base.specs.Lists.{all, headIs, lastIs}
+use Rattle.base.proofs.Lists.{and-left, and-right, all-append, all-weaken, not-both}
 use Rattle.rules.specs.Limits.{labelMost}
-use Rattle.rules.specs.Names.{isLabel, isLabelByte, isWordByte, isLetter, isDigit, isSpace, hasWordEnds, noTwoSpaces}
+use Rattle.rules.specs.Names.{lineFeed, isLabel, isLabelByte, isWordByte, isLetter, isDigit, isSpace, hasWordEnds}
+use Rattle.rules.specs.Names.{noTwoSpaces}
 use Rattle.rules.specs.Frames.{Cell, cellText, isCell}
 use Rattle.texts.specs.FrameReader.{lead, leftTrim, keepEnd, rightTrim, cellOf}
 use Rattle.texts.proofs.SplitLaws.{isFree}
@@ -21,14 +22,14 @@ pub label-bytes : (w : List ℕ) → isLabel w ≡ true → all isLabelByte w �
 unfolding isLabel
 label-bytes w h =
     and-left (all isLabelByte w) (hasWordEnds w && noTwoSpaces w)
-        (and-right (leb (length w) labelMost) (all isLabelByte w && (hasWordEnds w && noTwoSpaces w)) h)
+    (and-right (leb (length w) labelMost) (all isLabelByte w && (hasWordEnds w && noTwoSpaces w)) h)
 
 label-ends : (w : List ℕ) → isLabel w ≡ true → hasWordEnds w ≡ true
 unfolding isLabel
 label-ends w h =
     and-left (hasWordEnds w) (noTwoSpaces w)
-        (and-right (all isLabelByte w) (hasWordEnds w && noTwoSpaces w)
-            (and-right (leb (length w) labelMost) (all isLabelByte w && (hasWordEnds w && noTwoSpaces w)) h))
+    (and-right (all isLabelByte w) (hasWordEnds w && noTwoSpaces w)
+    (and-right (leb (length w) labelMost) (all isLabelByte w && (hasWordEnds w && noTwoSpaces w)) h))
 
 pub label-head : (w : List ℕ) → isLabel w ≡ true → headIs isWordByte w ≡ true
 label-head w h = and-left (headIs isWordByte w) (lastIs isWordByte w) (label-ends w h)
@@ -70,8 +71,7 @@ right-split : (s : List ℕ) → rightTrim s ++ replicate (length s - length (ri
 right-split s =
     let w = right-some s in
     let n : length (rightTrim s) + w .0 ≡ length s
-          = sym (length-append (rightTrim s) (replicate (w .0) 32) ∙ ap (λ (k : ℕ). length (rightTrim s) + k) (length-replicate (w .0) 32))
-              ∙ ap length (w .1) in
+    = simp (length-append, length-replicate) at (ap length (w .1)) in
     let q : length s - length (rightTrim s) ≡ w .0 = omega arith in
     rw q (w .1)
 
@@ -139,9 +139,21 @@ cellOf-text c h = λ i. record { bits = n i; before = b i; text = t i; behind = 
     t = ap rightTrim l ∙ right-pad (c .text) (c .behind) ∙ right-last (c .text) (label-last (c .text) name)
 
     e : length (leftTrim (cellText c)) - length (rightTrim (leftTrim (cellText c))) ≡ c .behind
-    e = omega (arith, ap length l, ap length t, length-append (c .text) (replicate (c .behind) 32), length-replicate {A = ℕ} (c .behind) 32)
+    e = omega (arith, simp (length-append, length-replicate) at (ap length l), ap length t)
 
--- ── bytes that no cell holds ──
+-- ── bytes that no label and no cell holds ──
+
+pub bar : isLabelByte 124 ≡ false
+unfolding isLabelByte isWordByte isLetter isDigit isSpace
+bar = refl
+
+pub colon : isLabelByte 58 ≡ false
+unfolding isLabelByte isWordByte isLetter isDigit isSpace
+colon = refl
+
+pub feed : isLabelByte lineFeed ≡ false
+unfolding isLabelByte isWordByte isLetter isDigit isSpace
+feed = refl
 
 spaces-free : (e : ℕ) → isLabelByte e ≡ false → (i : ℕ) → isFree e (replicate i 32) ≡ true
 unfolding all isLabelByte isWordByte isLetter isDigit isSpace
@@ -159,8 +171,8 @@ pub cell-free : (e : ℕ) → isLabelByte e ≡ false → (c : Cell) → isCell 
 unfolding cellText
 cell-free e f c h =
     all-append (λ b. not (eqb b e)) (replicate (c .before) 32) (c .text ++ replicate (c .behind) 32)
-        (spaces-free e f (c .before))
-        (all-append (λ b. not (eqb b e)) (c .text) (replicate (c .behind) 32)
-            (label-free e f (c .text)
-                (and-left (isLabel (c .text)) (eqb (c .before + length (c .text) + c .behind + 1) (2 * c .bits)) h))
-            (spaces-free e f (c .behind)))
+    (spaces-free e f (c .before))
+    (all-append (λ b. not (eqb b e)) (c .text) (replicate (c .behind) 32)
+    (label-free e f (c .text)
+    (and-left (isLabel (c .text)) (eqb (c .before + length (c .text) + c .behind + 1) (2 * c .bits)) h))
+    (spaces-free e f (c .behind)))

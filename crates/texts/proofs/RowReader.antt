@@ -1,24 +1,27 @@
 -- The row of a line: what is read is a row of that line, and a row is read from its line.
-use mathlib.Core.Path.{_≡_, refl, ap, sym, _∙_, subst}
+use mathlib.Core.Path.{_≡_, refl, ap, sym, _∙_}
 use mathlib.Core.Bool.{Bool, true, false, cond, _&&_, not}
 use mathlib.Core.List.{List, [], _∷_, _++_, map, append-assoc, append-nil}
 use mathlib.Core.Option.{Option, none, some}
-use Prim.Native.Nat.{ℕ, zero, suc, _≤_}
-use native.Mathlib.Omega.{arith}
+use Prim.Native.Nat.{ℕ}
 use lib.Dec.{eqb}
-use borrow.Author.Tests.{eqb-true, eq-eqb, ne-eqb}
-use Rattle.base.specs.Bytes.{bytes}
-use Rattle.base.specs.Lists.{all, isEmpty, joined, sum, between}
-use Rattle.base.proofs.Lists.{and-left, and-right, and-both, all-append}
-use Rattle.rules.specs.Names.{lineFeed, isLabelByte, isWordByte, isLetter, isDigit, isSpace}
+use borrow.Author.Tests.{eqb-true}
+use Rattle.base.specs.Lists.{all, isEmpty, joined, sum}
+use Rattle.base.proofs.Lists.{and-left, and-right, all-append}
+use Rattle.rules.specs.Names.{isLabelByte}
 use Rattle.rules.specs.Frames.{Cell, cellText, isCell, Row, bitRow, longRow, rowLines, isRow, isLine}
 use Rattle.texts.specs.FrameReader.{pieces, rest, cellOf, keepRow, longOf, readRow}
-use Rattle.texts.proofs.SplitLaws.{isFree, endedBy, pieces-joined, rest-joined, pieces-cons, rest-cons, split-joined}
-use Rattle.texts.proofs.RowCells.{cellText-of, cellOf-text, cell-free}
+use Rattle.texts.proofs.SplitLaws.{isFree, endedBy, pieces-joined, rest-joined, pieces-cons, rest-cons}
+use Rattle.texts.proofs.SplitLaws.{split-joined}
+use Rattle.texts.proofs.RowCells.{cellText-of, cellOf-text, cell-free, bar, colon, feed}
+
+-- the characters of cells, each with a bar behind it
+abbrev pub barred : List Cell → List ℕ
+barred cs = joined (λ c. cellText c ++ (124 ∷ [])) cs
 
 -- the one line of a row
 abbrev pub rowLine : Row → List ℕ
-rowLine (bitRow cs) = 124 ∷ joined (λ c. cellText c ++ (124 ∷ [])) cs
+rowLine (bitRow cs) = 124 ∷ barred cs
 rowLine (longRow c) = 58 ∷ (cellText c ++ (58 ∷ []))
 
 pub rowLines-one : (r : Row) → rowLines r ≡ rowLine r ∷ []
@@ -32,7 +35,7 @@ abbrev pub Reads : ℕ → List ℕ → Option Row → Type 0
 Reads w l none = Unit {0}
 Reads w l (some r) = (isRow w r ≡ true) × (rowLine r ≡ l)
 
-cells-joined : (ps : List (List ℕ)) → joined (λ c. cellText c ++ (124 ∷ [])) (map cellOf ps) ≡ joined (endedBy 124) ps
+cells-joined : (ps : List (List ℕ)) → barred (map cellOf ps) ≡ joined (endedBy 124) ps
 unfolding joined
 cells-joined [] = refl
 cells-joined (p ∷ ps) = rw (cellText-of p, cells-joined ps)
@@ -81,15 +84,15 @@ row-sound w (b ∷ l) = go (eqb b 124) refl (eqb b 58) refl
   where
     go : (x : Bool) → eqb b 124 ≡ x → (y : Bool) → eqb b 58 ≡ y
         → Reads w (b ∷ l)
-            (cond x (keepRow w (rest 124 l) (bitRow (map cellOf (pieces 124 l))))
-            (cond y (longOf w (rest 58 l) (pieces 58 l)) none))
+        (cond x (keepRow w (rest 124 l) (bitRow (map cellOf (pieces 124 l))))
+        (cond y (longOf w (rest 58 l) (pieces 58 l)) none))
     go true e y f = rw (eqb-true b 124 e) (bits-read w l)
     go false e true f = rw (eqb-true b 58 f) (long-read w l (rest 58 l) (pieces 58 l) (split-joined 58 l))
     go false e false f = tt
 
 -- ── a row is read from its line ──
 
-joined-cells : (cs : List Cell) → joined (λ c. cellText c ++ (124 ∷ [])) cs ≡ joined (endedBy 124) (map cellText cs) ++ []
+joined-cells : (cs : List Cell) → barred cs ≡ joined (endedBy 124) (map cellText cs) ++ []
 unfolding joined
 joined-cells [] = refl
 joined-cells (c ∷ cs) =
@@ -100,7 +103,8 @@ cells-free : (e : ℕ) → isLabelByte e ≡ false → (cs : List Cell) → all 
 unfolding all
 cells-free e f [] h = refl
 cells-free e f (c ∷ cs) h =
-    rw (cell-free e f c (and-left (isCell c) (all isCell cs) h)) (cells-free e f cs (and-right (isCell c) (all isCell cs) h))
+    rw (cell-free e f c (and-left (isCell c) (all isCell cs) h))
+    (cells-free e f cs (and-right (isCell c) (all isCell cs) h))
 
 cells-back : (cs : List Cell) → all isCell cs ≡ true → map cellOf (map cellText cs) ≡ cs
 unfolding all
@@ -108,27 +112,17 @@ cells-back [] h = refl
 cells-back (c ∷ cs) h =
     rw (cellOf-text c (and-left (isCell c) (all isCell cs) h), cells-back cs (and-right (isCell c) (all isCell cs) h))
 
-bar : isLabelByte 124 ≡ false
-unfolding isLabelByte isWordByte isLetter isDigit isSpace
-bar = refl
-
-colon : isLabelByte 58 ≡ false
-unfolding isLabelByte isWordByte isLetter isDigit isSpace
-colon = refl
-
-feed : isLabelByte 10 ≡ false
-unfolding isLabelByte isWordByte isLetter isDigit isSpace
-feed = refl
-
 pub row-complete : (w : ℕ) (r : Row) → isRow w r ≡ true → readRow w (rowLine r) ≡ some r
 unfolding readRow keepRow longOf pieces rest
 row-complete w (bitRow cs) h =
     let f : all isCell cs ≡ true = and-left (all isCell cs) (eqb (sum (λ c. c .bits) cs) w) h in
     let g = cells-free 124 bar cs f in
-    let p : pieces 124 (joined (λ c. cellText c ++ (124 ∷ [])) cs) ≡ map cellText cs
-          = ap (pieces 124) (joined-cells cs) ∙ pieces-joined 124 (map cellText cs) [] g ∙ append-nil (map cellText cs) in
-    let q : rest 124 (joined (λ c. cellText c ++ (124 ∷ [])) cs) ≡ []
-          = ap (rest 124) (joined-cells cs) ∙ rest-joined 124 (map cellText cs) [] g in
+    let p : pieces 124 (barred cs) ≡ map cellText cs
+    = ap (pieces 124) (joined-cells cs)
+    ∙ pieces-joined 124 (map cellText cs) [] g
+    ∙ append-nil (map cellText cs) in
+    let q : rest 124 (barred cs) ≡ []
+    = ap (rest 124) (joined-cells cs) ∙ rest-joined 124 (map cellText cs) [] g in
     rw (p, q, cells-back cs f, h)
 row-complete w (longRow c) h =
     let f : isCell c ≡ true = and-left (isCell c) (eqb (c .bits) w) h in
@@ -139,17 +133,18 @@ row-complete w (longRow c) h =
 
 -- ── a row's line is one ──
 
-cells-line : (cs : List Cell) → all isCell cs ≡ true → isLine (joined (λ c. cellText c ++ (124 ∷ [])) cs) ≡ true
+cells-line : (cs : List Cell) → all isCell cs ≡ true → isLine (barred cs) ≡ true
 unfolding all joined
 cells-line [] h = refl
 cells-line (c ∷ cs) h =
-    all-append (λ b. not (eqb b 10)) (cellText c ++ (124 ∷ [])) (joined (λ c. cellText c ++ (124 ∷ [])) cs)
-        (all-append (λ b. not (eqb b 10)) (cellText c) (124 ∷ []) (cell-free 10 feed c (and-left (isCell c) (all isCell cs) h)) refl)
-        (cells-line cs (and-right (isCell c) (all isCell cs) h))
+    all-append (λ b. not (eqb b 10)) (cellText c ++ (124 ∷ [])) (barred cs)
+    (all-append (λ b. not (eqb b 10)) (cellText c) (124 ∷ [])
+    (cell-free 10 feed c (and-left (isCell c) (all isCell cs) h)) refl)
+    (cells-line cs (and-right (isCell c) (all isCell cs) h))
 
 pub row-line : (w : ℕ) (r : Row) → isRow w r ≡ true → isLine (rowLine r) ≡ true
 unfolding all
 row-line w (bitRow cs) h = cells-line cs (and-left (all isCell cs) (eqb (sum (λ c. c .bits) cs) w) h)
 row-line w (longRow c) h =
     all-append (λ b. not (eqb b 10)) (cellText c) (58 ∷ [])
-        (cell-free 10 feed c (and-left (isCell c) (eqb (c .bits) w) h)) refl
+    (cell-free 10 feed c (and-left (isCell c) (eqb (c .bits) w) h)) refl

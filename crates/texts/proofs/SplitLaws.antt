@@ -1,6 +1,6 @@
 -- A text is split into pieces, each ended by one byte, and the pieces make up the text.
 use mathlib.Core.Path.{_≡_, refl, ap, sym, _∙_}
-use mathlib.Core.Bool.{Bool, true, false, cond, _&&_, not}
+use mathlib.Core.Bool.{Bool, true, false, cond, not}
 use mathlib.Core.List.{List, [], _∷_, _++_, append-assoc, append-nil}
 use Prim.Native.Nat.{ℕ, zero, suc, _≤_}
 use native.Mathlib.Omega.{arith}
@@ -8,7 +8,7 @@ use lib.Dec.{eqb}
 use lib.ListN.{length, take}
 use borrow.Author.Tests.{eqb-true, eq-eqb, not-true}
 use Rattle.base.specs.Lists.{all, isEmpty, joined}
-use Rattle.base.proofs.Lists.{and-left, and-right, and-both}
+use Rattle.base.proofs.Lists.{and-left, and-right}
 use Rattle.rules.specs.Names.{lineFeed}
 use Rattle.rules.specs.Frames.{ended, isLine}
 use Rattle.rules.specs.Refusals.{lineCount, firstLines}
@@ -21,33 +21,35 @@ isFree e l = all (λ b. not (eqb b e)) l
 abbrev pub endedBy : ℕ → List ℕ → List ℕ
 endedBy e l = l ++ (e ∷ [])
 
+other : (e b : ℕ) (l : List ℕ) → isFree e (b ∷ l) ≡ true → eqb b e ≡ false
+unfolding all
+other e b l h = not-true (eqb b e) (and-left (not (eqb b e)) (isFree e l) h)
+
+others : (e b : ℕ) (l : List ℕ) → isFree e (b ∷ l) ≡ true → isFree e l ≡ true
+unfolding all
+others e b l h = and-right (not (eqb b e)) (isFree e l) h
+
 -- ── pieces, split back ──
 
 pub pieces-cons : (e : ℕ) (l t : List ℕ) → isFree e l ≡ true → pieces e (l ++ (e ∷ t)) ≡ l ∷ pieces e t
 unfolding pieces onFirst all
 pieces-cons e [] t h = rw (eq-eqb e e refl)
-pieces-cons e (b ∷ l) t h =
-    rw (not-true (eqb b e) (and-left (not (eqb b e)) (isFree e l) h), pieces-cons e l t (and-right (not (eqb b e)) (isFree e l) h))
+pieces-cons e (b ∷ l) t h = rw (other e b l h, pieces-cons e l t (others e b l h))
 
 pub rest-cons : (e : ℕ) (l t : List ℕ) → isFree e l ≡ true → rest e (l ++ (e ∷ t)) ≡ rest e t
 unfolding rest all
 rest-cons e [] t h = rw (eq-eqb e e refl)
-rest-cons e (b ∷ l) t h =
-    let f : isFree e l ≡ true = and-right (not (eqb b e)) (isFree e l) h in
-    rw (not-true (eqb b e) (and-left (not (eqb b e)) (isFree e l) h), pieces-cons e l t f) (rest-cons e l t f)
+rest-cons e (b ∷ l) t h = rw (other e b l h, pieces-cons e l t (others e b l h)) (rest-cons e l t (others e b l h))
 
 pub pieces-free : (e : ℕ) (l : List ℕ) → isFree e l ≡ true → pieces e l ≡ []
 unfolding pieces onFirst all
 pieces-free e [] h = refl
-pieces-free e (b ∷ l) h =
-    rw (not-true (eqb b e) (and-left (not (eqb b e)) (isFree e l) h), pieces-free e l (and-right (not (eqb b e)) (isFree e l) h))
+pieces-free e (b ∷ l) h = rw (other e b l h, pieces-free e l (others e b l h))
 
 pub rest-free : (e : ℕ) (l : List ℕ) → isFree e l ≡ true → rest e l ≡ l
 unfolding rest all
 rest-free e [] h = refl
-rest-free e (b ∷ l) h =
-    let f : isFree e l ≡ true = and-right (not (eqb b e)) (isFree e l) h in
-    rw (not-true (eqb b e) (and-left (not (eqb b e)) (isFree e l) h), pieces-free e l f, rest-free e l f)
+rest-free e (b ∷ l) h = rw (other e b l h, pieces-free e l (others e b l h), rest-free e l (others e b l h))
 
 -- the two groupings of a first piece, its end and what follows
 group : (e : ℕ) (l m t : List ℕ) → ((l ++ (e ∷ [])) ++ m) ++ t ≡ l ++ (e ∷ (m ++ t))
@@ -58,17 +60,21 @@ pub pieces-joined : (e : ℕ) (ls : List (List ℕ)) (t : List ℕ) → all (isF
 unfolding joined all
 pieces-joined e [] t h = refl
 pieces-joined e (l ∷ ls) t h =
-    rw (group e l (joined (endedBy e) ls) t,
-        pieces-cons e l (joined (endedBy e) ls ++ t) (and-left (isFree e l) (all (isFree e) ls) h),
-        pieces-joined e ls t (and-right (isFree e l) (all (isFree e) ls) h))
+    rw (
+      group e l (joined (endedBy e) ls) t,
+      pieces-cons e l (joined (endedBy e) ls ++ t) (and-left (isFree e l) (all (isFree e) ls) h),
+      pieces-joined e ls t (and-right (isFree e l) (all (isFree e) ls) h),
+    )
 
 pub rest-joined : (e : ℕ) (ls : List (List ℕ)) (t : List ℕ) → all (isFree e) ls ≡ true
     → rest e (joined (endedBy e) ls ++ t) ≡ rest e t
 unfolding joined all
 rest-joined e [] t h = refl
 rest-joined e (l ∷ ls) t h =
-    rw (group e l (joined (endedBy e) ls) t,
-        rest-cons e l (joined (endedBy e) ls ++ t) (and-left (isFree e l) (all (isFree e) ls) h))
+    rw (
+      group e l (joined (endedBy e) ls) t,
+      rest-cons e l (joined (endedBy e) ls ++ t) (and-left (isFree e l) (all (isFree e) ls) h),
+    )
     (rest-joined e ls t (and-right (isFree e l) (all (isFree e) ls) h))
 
 -- ── the pieces make up the text ──
@@ -80,7 +86,7 @@ split-joined e (b ∷ t) = go (eqb b e) refl (pieces e t) (split-joined e t)
   where
     go : (x : Bool) → eqb b e ≡ x → (ls : List (List ℕ)) → joined (endedBy e) ls ++ rest e t ≡ t
         → joined (endedBy e) (cond x ([] ∷ ls) (onFirst b ls))
-            ++ cond x (rest e t) (cond (isEmpty ls) (b ∷ rest e t) (rest e t)) ≡ b ∷ t
+        ++ cond x (rest e t) (cond (isEmpty ls) (b ∷ rest e t) (rest e t)) ≡ b ∷ t
     go true p ls h = let q : b ≡ e = eqb-true b e p in cc
     go false p [] h = ap (λ (l : List ℕ). b ∷ l) h
     go false p (l ∷ ls) h = ap (λ (m : List ℕ). b ∷ m) h

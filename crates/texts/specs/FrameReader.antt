@@ -1,8 +1,8 @@
 -- A reader of frames, line by line: it mirrors the code, and no public promise rests on this file.
-use mathlib.Core.Bool.{Bool, true, false, cond, _&&_, not}
+use mathlib.Core.Bool.{Bool, true, false, cond, _&&_}
 use mathlib.Core.List.{List, [], _∷_, _++_, map}
 use mathlib.Core.Option.{Option, none, some}
-use Prim.Native.Nat.{ℕ, zero, suc, _+_, _-_, _/_}
+use Prim.Native.Nat.{ℕ, suc, _+_, _-_, _/_}
 use lib.Dec.{eqb}
 use lib.ListN.{length, take, drop}
 use Rattle.base.specs.Bytes.{bytes}
@@ -87,7 +87,10 @@ readName s =
 
 -- W by the tens ruler
 unfoldable pub readTens : List ℕ → Option ℕ
-readTens l = cond (same l (tens 8)) (some 8) (cond (same l (tens 16)) (some 16) (cond (same l (tens 32)) (some 32) none))
+readTens l =
+    cond (same l (tens 8)) (some 8)
+    (cond (same l (tens 16)) (some 16)
+    (cond (same l (tens 32)) (some 32) none))
 
 -- ── a frame, line by line ──
 
