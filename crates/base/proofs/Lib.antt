@@ -3,10 +3,12 @@
 -- Breaks   what follows where no element breaks a rule
 -- Tables   a rule proved at every number below a bound by one test
 -- Scans    tests over a list, one index after the other
+-- Joined   parts one after the other
 -- Places   where bytes stand: joined, split, the byte in front, the end
 pub mod Lists
 pub mod Decimal
 pub mod Breaks
 pub mod Tables
 pub mod Scans
+pub mod Joined
 pub mod Places

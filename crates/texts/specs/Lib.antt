@@ -1,2 +1,4 @@
 -- LineReader  a reader of one field line
+-- FrameReader   a text into lines, a line into cells, and a frame line by line
 pub mod LineReader
+pub mod FrameReader
