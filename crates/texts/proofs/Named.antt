@@ -5,6 +5,7 @@ use mathlib.Core.List.{List, [], _∷_, _++_}
 use mathlib.Core.Option.{Option, none, some}
 use Prim.Native.Nat.{ℕ, suc, max}
 use lib.ListN.{length}
+use Rattle.base.proofs.Lists.{and-left, and-right}
 use Rattle.rules.specs.declared.Op.{Op}
 use Rattle.rules.specs.declared.ValueType.{ValueType}
 use Rattle.rules.specs.Operators.{gives, takes, code}
@@ -25,6 +26,7 @@ use Rattle.rules.specs.Trees.{
 use Rattle.rules.specs.Names.{isShort}
 use Rattle.rules.specs.Expressions.{SpellsAt, number, field, two-sided, negated, parentheses}
 use Rattle.rules.specs.Lines.{Written}
+use Rattle.texts.specs.Resolving.{renameTree}
 
 -- the tree on the right has at each read field of the left one a name for it, and is the same else
 pub data Named {N : Type 0} (R : N → List ℕ → Type 0) : Tree N → Tree (List ℕ) → Type 0 where
@@ -95,6 +97,9 @@ module _ {N : Type 0} {R : N → List ℕ → Type 0} where
   named-is-number (named-two p q) = refl
   named-is-number (named-negation p) = refl
 
+  pub named-of-number : {n : ℕ} {u : Tree (List ℕ)} → Named R (num n) u → num n ≡ u
+  named-of-number named-number = refl
+
   -- the kinds agree where what may be read does
   pub named-type : (may : N → Bool) (say : List ℕ → Bool) → ((a : N) (w : List ℕ) → R a w → may a ≡ say w)
       → (k : ValueType) {t : Tree N} {u : Tree (List ℕ)} → Named R t u → hasType may k t ≡ hasType say k u
@@ -114,10 +119,20 @@ named-unique f (named-two {o = o} p q) (named-two v w) =
     ap₂ (two o) (named-unique f p v) (named-unique f q w)
 named-unique f (named-negation p) (named-negation v) = ap negation (named-unique f p v)
 
--- ── a tree over names, with each name replaced ──
+-- ── each name replaced ──
 
-unfoldable pub renameTree : {N : Type 0} → (List ℕ → N) → Tree (List ℕ) → Tree N
-renameTree g (num n) = num n
-renameTree g (read w) = read (g w)
-renameTree g (two o x y) = two o (renameTree g x) (renameTree g y)
-renameTree g (negation x) = negation (renameTree g x)
+-- each name that may be read is a name for what replaces it
+pub renamed : {N : Type 0} {R : N → List ℕ → Type 0} (g : List ℕ → N) (say : List ℕ → Bool)
+    → ((w : List ℕ) → say w ≡ true → R (g w) w) → (k : ValueType) (u : Tree (List ℕ)) → hasType say k u ≡ true
+    → Named R (renameTree g u) u
+unfolding hasType renameTree
+renamed g say f k (num n) h = named-number
+renamed g say f k (read w) h = named-field (f w (and-right (sameType k ValueType.Number) (say w) h))
+renamed g say f k (two o x y) h =
+    let both : (hasType say (takes o) x && hasType say (takes o) y) ≡ true =
+    and-right (sameType k (gives o)) (hasType say (takes o) x && hasType say (takes o) y) h in
+    named-two
+    (renamed g say f (takes o) x (and-left (hasType say (takes o) x) (hasType say (takes o) y) both))
+    (renamed g say f (takes o) y (and-right (hasType say (takes o) x) (hasType say (takes o) y) both))
+renamed g say f k (negation x) h =
+    named-negation (renamed g say f ValueType.YesNo x (and-right (sameType k ValueType.YesNo) (hasType say ValueType.YesNo x) h))

@@ -1,0 +1,2 @@
+-- Resolving  names resolved to indexes
+pub mod Resolving
