@@ -1,6 +1,7 @@
 -- Trees over names and trees over what the names stand for: the same spellings, and the same depth, size and kind.
 use mathlib.Core.Path.{_≡_, refl, ap, ap₂, subst}
 use mathlib.Core.Bool.{Bool, true, false, _&&_}
+use mathlib.Core.Logic.{_↔_}
 use mathlib.Core.List.{List, [], _∷_, _++_}
 use mathlib.Core.Option.{Option, none, some}
 use Prim.Native.Nat.{ℕ, suc, max}
@@ -63,6 +64,10 @@ module _ {N : Type 0} {R : N → List ℕ → Type 0} where
   named-spelled (two-sided g h l x y) (named-two p q) = two-sided g h l (named-spelled x p) (named-spelled y q)
   named-spelled (negated x) (named-negation p) = negated (named-spelled x p)
   named-spelled (parentheses x) p = parentheses (named-spelled x p)
+
+  pub named-exact : (short : (a : N) (w : List ℕ) → R a w → isShort w ≡ true) {k b : ℕ} {t : Tree N} {s : List ℕ}
+      → SpellsAt R k b t s ↔ ((u : Tree (List ℕ)) × Named R t u × SpellsAt Written k b u s)
+  named-exact short = (spelled-named short, λ p. named-spelled (p .2) (p .1))
 
   -- ── what agrees ──
 

@@ -1,6 +1,7 @@
 -- Fields and the forms of their lines: the same spellings, and the same names, widths and sizes.
 use mathlib.Core.Path.{_≡_, refl, ap, ap₂, sym, _∙_, subst}
 use mathlib.Core.Bool.{Bool, true, false, _&&_, not}
+use mathlib.Core.Logic.{_↔_}
 use mathlib.Core.List.{List, [], _∷_, _++_}
 use mathlib.Core.Option.{Option, none, some}
 use Prim.Native.Nat.{ℕ}
@@ -235,6 +236,10 @@ module _ {N : Type 0} {R : N → List ℕ → Type 0} where
         (n .condition) (h .isCondition);
     isRemark = h .isRemark;
   }
+
+  pub field-exact : (short : (a : N) (w : List ℕ) → R a w → isShort w ≡ true) (x : Field N) (s : List ℕ)
+      → SpellsField R x s ↔ ((y : Form) × NamedField R x y × SpellsField Written y s)
+  field-exact short x s = (spelled-field short x s, λ p. named-field-spelled x (p .0) s (p .1) (p .2))
 
 -- ── a form stands for one field ──
 
