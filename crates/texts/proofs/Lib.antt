@@ -1,6 +1,9 @@
 -- Named        trees over names
 -- NamedFields  fields over names
--- NamedRules   the same rules kept
+-- NamedRules, NamedKinds  the same rules kept
+-- NamedForms   the forms of a description, and the description of forms
 pub mod Named
 pub mod NamedFields
 pub mod NamedRules
+pub mod NamedKinds
+pub mod NamedForms

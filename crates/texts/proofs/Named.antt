@@ -116,12 +116,11 @@ module _ {N : Type 0} {R : N → List ℕ → Type 0} where
   named-type may say f k (named-negation p) = rw (named-type may say f ValueType.YesNo p)
 
 -- a name stands for one thing, so a tree over names stands for one tree
-pub named-unique : {N : Type 0} {R : N → List ℕ → Type 0} → ((a b : N) (w : List ℕ) → R a w → R b w → a ≡ b)
-    → {t : Tree N} {x : Tree N} {u : Tree (List ℕ)} → Named R t u → Named R x u → t ≡ x
+pub named-unique : {N : Type 0} {R S : N → List ℕ → Type 0} → ((a b : N) (w : List ℕ) → R a w → S b w → a ≡ b)
+    → {t x : Tree N} {u : Tree (List ℕ)} → Named R t u → Named S x u → t ≡ x
 named-unique f named-number named-number = refl
 named-unique f (named-field {a = a} {w = w} r) (named-field {a = b} q) = ap read (f a b w r q)
-named-unique f (named-two {o = o} p q) (named-two v w) =
-    ap₂ (two o) (named-unique f p v) (named-unique f q w)
+named-unique f (named-two {o = o} p q) (named-two v w) = ap₂ (two o) (named-unique f p v) (named-unique f q w)
 named-unique f (named-negation p) (named-negation v) = ap negation (named-unique f p v)
 
 -- ── each name replaced ──

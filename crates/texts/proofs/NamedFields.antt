@@ -243,17 +243,17 @@ module _ {N : Type 0} {R : N → List ℕ → Type 0} where
 
 -- ── a form stands for one field ──
 
-module _ {N : Type 0} {R : N → List ℕ → Type 0} (only : (a b : N) (w : List ℕ) → R a w → R b w → a ≡ b) where
-  unique-width : {w z : Width N} {v : Width (List ℕ)} → NamedWidth R w v → NamedWidth R z v → w ≡ z
+module _ {N : Type 0} {R S : N → List ℕ → Type 0} (only : (a b : N) (w : List ℕ) → R a w → S b w → a ≡ b) where
+  unique-width : {w z : Width N} {v : Width (List ℕ)} → NamedWidth R w v → NamedWidth S z v → w ≡ z
   unique-width named-fixed named-fixed = refl
   unique-width (named-measured {u = u} p) (named-measured q) = ap (measured u) (named-unique only p q)
   unique-width named-rest named-rest = refl
 
-  unique-maybe : {o z : Option (Tree N)} {v : Option (Tree (List ℕ))} → NamedMaybe R o v → NamedMaybe R z v → o ≡ z
+  unique-maybe : {o z : Option (Tree N)} {v : Option (Tree (List ℕ))} → NamedMaybe R o v → NamedMaybe S z v → o ≡ z
   unique-maybe named-none named-none = refl
   unique-maybe (named-some p) (named-some q) = ap {B = Option (Tree N)} some (named-unique only p q)
 
-  pub unique-field : (x z : Field N) (y : Form) → NamedField R x y → NamedField R z y → x ≡ z
+  pub unique-field : (x z : Field N) (y : Form) → NamedField R x y → NamedField S z y → x ≡ z
   unique-field x z y p q = λ i. record {
     label = (p .label ∙ sym (q .label)) i;
     short = (p .short ∙ sym (q .short)) i;
@@ -262,7 +262,7 @@ module _ {N : Type 0} {R : N → List ℕ → Type 0} (only : (a b : N) (w : Lis
     condition = unique-maybe (p .condition) (q .condition) i;
   }
 
-  pub unique-fields : (l m : List (Field N)) (n : List Form) → Each (NamedField R) l n → Each (NamedField R) m n → l ≡ m
+  pub unique-fields : (l m : List (Field N)) (n : List Form) → Each (NamedField R) l n → Each (NamedField S) m n → l ≡ m
   unique-fields [] [] [] p q = refl
   unique-fields [] [] (y ∷ n) p q = absurd p
   unique-fields [] (z ∷ m) [] p q = absurd q
