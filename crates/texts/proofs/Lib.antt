@@ -1,9 +1,12 @@
 -- Named        trees over names
 -- NamedFields  fields over names
 -- NamedRules, NamedKinds  the same rules kept
--- NamedForms   the forms of a description, and the description of forms
+-- NamedForms   the forms of a description settle it
+-- Resolve, ResolveRows  the description of forms
 pub mod Named
 pub mod NamedFields
 pub mod NamedRules
 pub mod NamedKinds
 pub mod NamedForms
+pub mod ResolveRows
+pub mod Resolve
