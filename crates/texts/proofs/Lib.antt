@@ -3,6 +3,7 @@
 -- NamedRules, NamedKinds  the same rules kept
 -- NamedForms   the forms of a description settle it
 -- Resolve, ResolveRows  the description of forms
+-- Answered     exactly one outcome
 pub mod Named
 pub mod NamedFields
 pub mod NamedRules
@@ -10,3 +11,4 @@ pub mod NamedKinds
 pub mod NamedForms
 pub mod ResolveRows
 pub mod Resolve
+pub mod Answered
