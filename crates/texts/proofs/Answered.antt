@@ -37,6 +37,7 @@ use Rattle.rules.specs.Promises.{Outcome, leaves, delivered, Answers, spelled, 
 use Rattle.rules.specs.Results.{SpellingUnique, AnswersTotal, AnswersUnique}
 use Rattle.texts.proofs.NamedForms.{FormsOf, forms-named, description-settled}
 use Rattle.texts.proofs.Resolve.{resolved}
+use Rattle.texts.proofs.AllowedTexts.{spelled-allowed}
 
 -- ── lines without a form ──
 
@@ -97,7 +98,6 @@ module _
     (form-decidable : (l : List ℕ) → Dec ((x : Form) × SpellsField Written x l))
     (right-unique : (t : List ℕ) (j k : ℕ) → RightLines t j → RightLines t k → j ≡ k)
     (right-total : (t : List ℕ) → (k : ℕ) × RightLines t k)
-    (spelled-allowed : (t : List ℕ) (d : Description) → Spells t d → all isAllowed t ≡ true)
     where
   -- ── forms ──
 

@@ -132,6 +132,17 @@ parts a b c d e g h =
     let r = and-true d (e && g) (and-right c (d && (e && g)) (q .1)) in
     (p .0, q .0, r .0, and-left e g (r .1))
 
+-- what a frame keeps
+pub frame-parts : (text : List ℕ) (f : Frame) → FrameOf text f
+    → (isLabel (f .name) ≡ true)
+    × (isRowWidth (f .rowWidth) ≡ true)
+    × (all (isRow (f .rowWidth)) (f .rows) ≡ true)
+    × (not (isEmpty (f .lines)) ≡ true)
+unfolding isFrame
+frame-parts text f h = parts (isLabel (f .name)) (isRowWidth (f .rowWidth)) (not (isEmpty (f .rows)))
+    (all (isRow (f .rowWidth)) (f .rows)) (not (isEmpty (f .lines))) (all isLine (f .lines)) (h .isFramed)
+
+-- the description of the forms
 abbrev pub described : Frame → List Form → Description
 described f forms = record { name = f .name; rowWidth = f .rowWidth; fields = resolve forms }
 
@@ -147,15 +158,6 @@ module _ (text : List ℕ) (f : Frame) (forms : List Form) (frame : FrameOf text
   lines : Each (SpellsField (NameOf (resolve forms))) (resolve forms) (f .lines)
   lines = each-spelled (NameOf (resolve forms)) (resolve forms) forms (f .lines) named spelled
 
-  -- what a frame keeps
-  framed : (isLabel (f .name) ≡ true)
-      × (isRowWidth (f .rowWidth) ≡ true)
-      × (all (isRow (f .rowWidth)) (f .rows) ≡ true)
-      × (not (isEmpty (f .lines)) ≡ true)
-  unfolding isFrame
-  framed = parts (isLabel (f .name)) (isRowWidth (f .rowWidth)) (not (isEmpty (f .rows)))
-      (all (isRow (f .rowWidth)) (f .rows)) (not (isEmpty (f .lines))) (all isLine (f .lines)) (frame .isFramed)
-
   unique : firstBreak keepsNames [] (resolve forms) ≡ none
   unique = same-unique (NameOf (resolve forms)) (resolve forms) forms named ∙ kept .names
 
@@ -163,6 +165,7 @@ module _ (text : List ℕ) (f : Frame) (forms : List Form) (frame : FrameOf text
   unfolding cells
   within =
       let R = NameOf (resolve forms) in
+      let framed = frame-parts text f frame in
       let n = each-length (SpellsField R) (resolve forms) (f .lines) lines in
       let most : length (f .lines) ≤ fieldsMost =
       ltb-false fieldsMost (length (f .lines))
