@@ -1,8 +1,8 @@
--- Laws of all, any and firstBreak over joined lists and related lists.
+-- Laws of all, any and firstBreak over joined and related lists, and of the element of an index.
 use mathlib.Core.Path.{_≡_, refl, ap, sym, _∙_}
-use mathlib.Core.Bool.{Bool, true, false, cond, _&&_, _||_}
+use mathlib.Core.Bool.{Bool, true, false, _&&_}
 use mathlib.Core.List.{List, [], _∷_, _++_, map, append-assoc, append-nil}
-use mathlib.Core.Option.{Option, none, some, Option·none-ne-some, Option·some-injective}
+use mathlib.Core.Option.{none, some, Option·none-ne-some, Option·some-injective}
 use Prim.Native.Nat.{ℕ, zero, suc, _<_}
 use native.Mathlib.Omega.{arith}
 use lib.ListN.{length, getElem?}
@@ -20,15 +20,6 @@ all-joined p (x ∷ s) t = go (p x) (all-joined p s t)
     go : (b : Bool) → all p (s ++ t) ≡ (all p s && all p t) → (b && all p (s ++ t)) ≡ ((b && all p s) && all p t)
     go true e = e
     go false e = refl
-
-pub any-joined : {A : Type 0} (p : A → Bool) (s t : List A) → any p (s ++ t) ≡ (any p s || any p t)
-unfolding any
-any-joined p [] t = refl
-any-joined p (x ∷ s) t = go (p x) (any-joined p s t)
-  where
-    go : (b : Bool) → any p (s ++ t) ≡ (any p s || any p t) → (b || any p (s ++ t)) ≡ ((b || any p s) || any p t)
-    go true e = refl
-    go false e = e
 
 -- ── related lists ──
 
@@ -66,14 +57,17 @@ module _ {A B : Type 0} (R : A → B → Type 0) where
   each-breaks keeps holds before earlier [] (y ∷ m) p h f = absurd h
   each-breaks keeps holds before earlier (x ∷ l) [] p h f = absurd h
   each-breaks keeps holds before earlier (x ∷ l) (y ∷ m) p h f =
-      rw (f before x l earlier y m refl refl p (h .0),
-      each-breaks keeps holds (before ++ (x ∷ [])) (earlier ++ (y ∷ [])) l m
-      (each-joined before earlier p (x ∷ []) (y ∷ []) (h .0, tt)) (h .1)
-      (λ b x′ a e y′ c u v. f b x′ a e y′ c (sym (append-assoc before (x ∷ []) l) ∙ u) (sym (append-assoc earlier (y ∷ []) m) ∙ v)),
-      each-length before earlier p)
+      rw (
+        f before x l earlier y m refl refl p (h .0),
+        each-breaks keeps holds (before ++ (x ∷ [])) (earlier ++ (y ∷ [])) l m
+            (each-joined before earlier p (x ∷ []) (y ∷ []) (h .0, tt)) (h .1)
+            (λ b x′ a e y′ c u v. f b x′ a e y′ c (sym (append-assoc before (x ∷ []) l) ∙ u)
+            (sym (append-assoc earlier (y ∷ []) m) ∙ v)),
+        each-length before earlier p,
+      )
 
 -- where no element breaks a rule, each keeps it
-pub kept-from : {A : Type 0} (keeps : List A → A → Bool) (earlier before : List A) (x : A) (l : List A)
+kept-from : {A : Type 0} (keeps : List A → A → Bool) (earlier before : List A) (x : A) (l : List A)
     → firstBreak keeps earlier (before ++ (x ∷ l)) ≡ none → keeps (earlier ++ before) x ≡ true
 kept-from keeps earlier [] x l h = rw append-nil (firstBreak-cons keeps earlier x l h .0)
 kept-from keeps earlier (y ∷ before) x l h =
@@ -140,11 +134,3 @@ module _ {A B : Type 0} (R : A → B → Type 0) where
   each-left (y ∷ l) [] h i x e = absurd h
   each-left (y ∷ l) (z ∷ m) h zero x e = (z, refl, rw (Option·some-injective y x e) at (h .0))
   each-left (y ∷ l) (z ∷ m) h (suc i) x e = each-left l m (h .1) i x e
-
-  pub each-right : (l : List A) (m : List B) → Each R l m → (i : ℕ) (y : B) → getElem? m i ≡ some y
-      → (x : A) × (getElem? l i ≡ some x) × R x y
-  each-right [] [] h i x e = absurd (Option·none-ne-some x e)
-  each-right [] (z ∷ m) h i x e = absurd h
-  each-right (y ∷ l) [] h i x e = absurd h
-  each-right (y ∷ l) (z ∷ m) h zero x e = (y, refl, rw (Option·some-injective z x e) at (h .0))
-  each-right (y ∷ l) (z ∷ m) h (suc i) x e = each-right l m (h .1) i x e

@@ -1,8 +1,8 @@
 -- The bytes of a field line that spells a field may stand in a line.
 use mathlib.Core.Path.{_≡_, refl}
 use mathlib.Core.Bool.{Bool, true, false, _&&_, _||_}
-use mathlib.Core.Logic.{_⊎_, inl, inr}
-use mathlib.Core.List.{List, [], _∷_, _++_}
+use mathlib.Core.Logic.{inl, inr}
+use mathlib.Core.List.{List, _++_}
 use mathlib.Core.Option.{Option, none, some}
 use Prim.Native.Nat.{ℕ, _≤_}
 use native.Mathlib.Omega.{arith}
@@ -28,8 +28,8 @@ use Rattle.rules.specs.Names.{
   isLabel,
   isShort,
 }
-use Rattle.rules.specs.Trees.{Tree, num, isInRange}
-use Rattle.rules.specs.Fields.{Width, fixed, measured, rest, Field, trees}
+use Rattle.rules.specs.Trees.{Tree, num}
+use Rattle.rules.specs.Fields.{Width, fixed, measured, rest, Field}
 use Rattle.rules.specs.Within.{isWidth}
 use Rattle.rules.specs.Expressions.{SpellsAt, number, field, two-sided, negated, parentheses, gap}
 use Rattle.rules.specs.Lines.{
@@ -47,6 +47,7 @@ use Rattle.rules.specs.Lines.{
 }
 use Rattle.rules.proofs.OperatorTable.{each}
 use Rattle.rules.proofs.ReaderWords.{number-bytes, short-bytes}
+use Rattle.texts.proofs.NamedFields.{formed-names}
 
 -- each byte may stand in a line
 abbrev pub printable : List ℕ → Bool
@@ -158,14 +159,9 @@ module _ {N : Type 0} {R : N → List ℕ → Type 0} (short : (a : N) (w : List
 
   pub field-printable : (x : Field N) (s : List ℕ) → SpellsField R x s → printable s ≡ true
   field-printable x s h =
-      let named : ifAny isShort (x .short) && (isWidth (x .width) && all isInRange (trees x)) ≡ true =
-      and-right (isLabel (x .label)) (ifAny isShort (x .short) && (isWidth (x .width) && all isInRange (trees x)))
-      (h .formed) in
-      let label : printable (x .label) ≡ true =
-      label-is-printable (x .label) (and-left (isLabel (x .label))
-      (ifAny isShort (x .short) && (isWidth (x .width) && all isInRange (trees x))) (h .formed)) in
-      let name : printable (shortText (x .short)) ≡ true =
-      short-printable (x .short) (and-left (ifAny isShort (x .short)) (isWidth (x .width) && all isInRange (trees x)) named) in
+      let names = formed-names x (h .formed) in
+      let label : printable (x .label) ≡ true = label-is-printable (x .label) (names .0) in
+      let name : printable (shortText (x .short)) ≡ true = short-printable (x .short) (names .1) in
       let wide : printable (h .width) ≡ true = width-printable (x .width) (h .width) (h .isWidth) in
       let own : printable (h .constraint) ≡ true =
       maybe-printable (bytes "; ") (phrases .0) (x .constraint) (h .constraint) (h .isConstraint) in

@@ -1,6 +1,6 @@
 -- The bytes of a text that spells a description are allowed.
-use mathlib.Core.Path.{_≡_, refl, sym, subst}
-use mathlib.Core.Bool.{Bool, true, false, cond, _&&_, _||_, not}
+use mathlib.Core.Path.{_≡_, refl}
+use mathlib.Core.Bool.{Bool, true, false, cond, _||_}
 use mathlib.Core.List.{List, [], _∷_, _++_}
 use Prim.Native.Nat.{ℕ, zero, suc, _+_, _*_, _-_, _/_, _%_, _≤_, _<_}
 use native.Mathlib.Omega.{arith}
@@ -8,8 +8,8 @@ use lib.Dec.{eqb}
 use lib.ListN.{length, replicate}
 use borrow.Author.Tests.{eqb-true}
 use Rattle.base.specs.Bytes.{bytes}
-use Rattle.base.specs.Lists.{all, isEmpty, joined, sum, tabulate, Each}
-use Rattle.base.proofs.Lists.{and-left, and-right, and-both, or-left, true-between, all-append, all-weaken}
+use Rattle.base.specs.Lists.{all, joined, sum, tabulate, Each}
+use Rattle.base.proofs.Lists.{and-left, and-both, or-left, true-between, all-append, all-weaken}
 use Rattle.base.proofs.Breaks.{or-true, all-cons}
 use Rattle.rules.specs.Names.{isPrintable, isAllowed, isLabel, isShort, lineFeed}
 use Rattle.rules.specs.Fields.{Field, Description}
@@ -32,8 +32,6 @@ use Rattle.rules.specs.Frames.{
   isRow,
   Frame,
   article,
-  isLine,
-  isFrame,
   headLines,
   ended,
   frameText,
@@ -69,12 +67,14 @@ digit-printable d le = true-between 0x20 (48 + d) 0x7E (omega arith) (omega arit
 tens-printable : (w : ℕ) → w ≤ 32 → printable (tens w) ≡ true
 unfolding tens
 tens-printable w le = made-printable tensAt (20 * ((w - 1) / 10) + 2) 0
-    (λ c lt. either-printable (eqb (c % 20) 1) (48 + c / 20) 32 (digit-printable (c / 20) (omega arith)) space-printable)
+    (λ c lt. either-printable (eqb (c % 20) 1) (48 + c / 20) 32
+    (digit-printable (c / 20) (omega arith)) space-printable)
 
 units-printable : (w : ℕ) → printable (units w) ≡ true
 unfolding units
 units-printable w = made-printable unitsAt (2 * w) 0
-    (λ c lt. either-printable (eqb (c % 2) 0) 32 (48 + c / 2 % 10) space-printable (digit-printable (c / 2 % 10) (omega arith)))
+    (λ c lt. either-printable (eqb (c % 2) 0) 32 (48 + c / 2 % 10) space-printable
+    (digit-printable (c / 2 % 10) (omega arith)))
 
 border-printable : (w : ℕ) → printable (border w) ≡ true
 unfolding border isPrintable
@@ -147,11 +147,15 @@ head-printable text f h =
     printable-both (article (f .an)) (f .name ++ bytes " is formatted as follows:") (article-printable (f .an))
     (printable-both (f .name) (bytes " is formatted as follows:") (label-is-printable (f .name) (p .0)) refl) in
     let rows : all printable (joined (λ r. rowLines r ++ (border (f .rowWidth) ∷ [])) (f .rows)
-        ++ ([] ∷ bytes "where:" ∷ [] ∷ [])) ≡ true =
+    ++ ([] ∷ bytes "where:" ∷ [] ∷ [])) ≡ true =
     all-append printable (joined (λ r. rowLines r ++ (border (f .rowWidth) ∷ [])) (f .rows))
     ([] ∷ bytes "where:" ∷ [] ∷ []) (rows-printable (f .rowWidth) (f .rows) (p .2)) refl in
-    rw (opening, tens-printable (f .rowWidth) (row-width-most (f .rowWidth) (p .1)), units-printable (f .rowWidth),
-    border-printable (f .rowWidth)) rows
+    rw (
+      opening,
+      tens-printable (f .rowWidth) (row-width-most (f .rowWidth) (p .1)),
+      units-printable (f .rowWidth),
+      border-printable (f .rowWidth),
+    ) rows
 
 lines-printable : (R : ℕ → List ℕ → Type 0) (short : (i : ℕ) (w : List ℕ) → R i w → isShort w ≡ true)
     (fields : List (Field ℕ)) (lines : List (List ℕ)) → Each (SpellsField R) fields lines → all printable lines ≡ true
@@ -179,4 +183,5 @@ spelled-allowed text d s =
     rw (s .isFrameOf .isText) at
     (lines-allowed (headLines (s .frame) ++ s .frame .lines)
     (all-append printable (headLines (s .frame)) (s .frame .lines) (head-printable text (s .frame) (s .isFrameOf))
-    (lines-printable (NameOf (d .fields)) (name-short (d .fields) (s .within .form)) (d .fields) (s .frame .lines) (s .lines))))
+    (lines-printable (NameOf (d .fields)) (name-short (d .fields) (s .within .form)) (d .fields) (s .frame .lines)
+    (s .lines))))

@@ -1,11 +1,9 @@
 -- Trees over names and trees over what the names stand for: the same spellings, and the same depth, size and kind.
 use mathlib.Core.Path.{_≡_, refl, ap, ap₂, subst}
-use mathlib.Core.Bool.{Bool, true, false, _&&_}
+use mathlib.Core.Bool.{Bool, true, _&&_}
 use mathlib.Core.Logic.{_↔_}
-use mathlib.Core.List.{List, [], _∷_, _++_}
-use mathlib.Core.Option.{Option, none, some}
+use mathlib.Core.List.{List, _∷_, _++_}
 use Prim.Native.Nat.{ℕ, suc, max}
-use lib.ListN.{length}
 use Rattle.base.proofs.Lists.{and-left, and-right}
 use Rattle.rules.specs.declared.Op.{Op}
 use Rattle.rules.specs.declared.ValueType.{ValueType}
@@ -139,4 +137,5 @@ renamed g say f k (two o x y) h =
     (renamed g say f (takes o) x (and-left (hasType say (takes o) x) (hasType say (takes o) y) both))
     (renamed g say f (takes o) y (and-right (hasType say (takes o) x) (hasType say (takes o) y) both))
 renamed g say f k (negation x) h =
-    named-negation (renamed g say f ValueType.YesNo x (and-right (sameType k ValueType.YesNo) (hasType say ValueType.YesNo x) h))
+    named-negation (renamed g say f ValueType.YesNo x
+    (and-right (sameType k ValueType.YesNo) (hasType say ValueType.YesNo x) h))

@@ -1,16 +1,18 @@
 -- Fields and the forms of their lines: the same spellings, and the same names, widths and sizes.
 use mathlib.Core.Path.{_≡_, refl, ap, ap₂, sym, _∙_, subst}
-use mathlib.Core.Bool.{Bool, true, false, _&&_, not}
+use mathlib.Core.Bool.{Bool, true, _&&_}
 use mathlib.Core.Logic.{_↔_}
 use mathlib.Core.List.{List, [], _∷_, _++_}
 use mathlib.Core.Option.{Option, none, some}
 use Prim.Native.Nat.{ℕ}
 use Rattle.base.specs.Lists.{all, Each, ifAny, isNone, listOf}
 use Rattle.base.specs.Bytes.{bytes}
+use Rattle.base.proofs.Lists.{and-left}
+use Rattle.base.proofs.Breaks.{and-true}
 use Rattle.base.proofs.Lookups.{all-joined}
 use Rattle.rules.specs.declared.ValueType.{ValueType}
-use Rattle.rules.specs.Names.{isShort}
-use Rattle.rules.specs.Trees.{Tree, num, isSmall, isInRange, isNumber, hasType}
+use Rattle.rules.specs.Names.{isLabel, isShort}
+use Rattle.rules.specs.Trees.{Tree, num, isSmall, isInRange}
 use Rattle.rules.specs.Fields.{
   Width,
   fixed,
@@ -18,16 +20,14 @@ use Rattle.rules.specs.Fields.{
   rest,
   Field,
   Form,
-  isFixed,
   isFixedWidth,
-  isRest,
   isRestWidth,
   widthTrees,
   trees,
 }
 use Rattle.rules.specs.Within.{isWidth, isFormed, widthHasType}
-use Rattle.rules.specs.Lines.{Measure, SpellsWidth, SpellsMaybe, SpellsField, Written}
-use Rattle.rules.specs.Expressions.{SpellsAt, number}
+use Rattle.rules.specs.Lines.{SpellsWidth, SpellsMaybe, SpellsField, Written}
+use Rattle.rules.specs.Expressions.{SpellsAt}
 use Rattle.rules.specs.Frames.{Shown}
 use Rattle.rules.specs.Spelling.{isPlaceFor, shows}
 use Rattle.texts.proofs.Named.{
@@ -60,44 +60,68 @@ pub record NamedField {N : Type 0} (R : N → List ℕ → Type 0) (f : Field N)
   pub constraint : NamedMaybe R (f .constraint) (x .constraint)
   pub condition : NamedMaybe R (f .condition) (x .condition)
 
+-- the names of a field that has its form
+pub formed-names : {N : Type 0} (x : Field N) → isFormed x ≡ true
+    → (isLabel (x .label) ≡ true) × (ifAny isShort (x .short) ≡ true)
+formed-names x h =
+    let behind = isWidth (x .width) && all isInRange (trees x) in
+    let p = and-true (isLabel (x .label)) (ifAny isShort (x .short) && behind) h in
+    (p .0, and-left (ifAny isShort (x .short)) behind (p .1))
+
 module _ {N : Type 0} {R : N → List ℕ → Type 0} where
   -- ── spellings of widths and expressions ──
 
   pub spelled-width : (short : (a : N) (w : List ℕ) → R a w → isShort w ≡ true) (w : Width N) (s : List ℕ)
       → SpellsWidth R w s → (v : Width (List ℕ)) × NamedWidth R w v × SpellsWidth Written v s
-  spelled-width short (fixed n) s h =
-      (fixed n, named-fixed, (h .0, h .1, h .2, record {
+  spelled-width short (fixed n) s h = (
+    fixed n,
+    named-fixed,
+    (
+      h .0,
+      h .1,
+      h .2,
+      record {
         expression = h .3 .expression;
         word = h .3 .word;
         isText = h .3 .isText;
         spelled = renumber (h .1) (h .3 .spelled);
         unit = h .3 .unit;
-      }))
+      },
+    ),
+  )
     where
       renumber : (m : ℕ) {k b : ℕ} {s : List ℕ} → SpellsAt R k b (num m) s → SpellsAt Written k b (num m) s
       renumber m {k} {b} {s} x =
           let p = spelled-named short x in
           subst (λ u. SpellsAt Written k b u s) (sym (named-of-number (p .1))) (p .2)
   spelled-width short (measured u t) s h =
-      let p = spelled-named short (h .spelled) in
-      (measured u (p .0), named-measured (p .1), record {
-        expression = h .expression;
-        word = h .word;
-        isText = h .isText;
-        spelled = p .2;
-        unit = h .unit;
-      })
+      let p = spelled-named short (h .spelled) in (
+        measured u (p .0),
+        named-measured (p .1),
+        record {
+          expression = h .expression;
+          word = h .word;
+          isText = h .isText;
+          spelled = p .2;
+          unit = h .unit;
+        },
+      )
   spelled-width short rest s h = (rest, named-rest, h)
 
   pub named-width : (w : Width N) (v : Width (List ℕ)) (s : List ℕ) → NamedWidth R w v → SpellsWidth Written v s
       → SpellsWidth R w s
-  named-width w v s named-fixed h = (h .0, h .1, h .2, record {
-    expression = h .3 .expression;
-    word = h .3 .word;
-    isText = h .3 .isText;
-    spelled = named-spelled (h .3 .spelled) named-number;
-    unit = h .3 .unit;
-  })
+  named-width w v s named-fixed h = (
+    h .0,
+    h .1,
+    h .2,
+    record {
+      expression = h .3 .expression;
+      word = h .3 .word;
+      isText = h .3 .isText;
+      spelled = named-spelled (h .3 .spelled) named-number;
+      unit = h .3 .unit;
+    },
+  )
   named-width w v s (named-measured p) h = record {
     expression = h .expression;
     word = h .word;
@@ -149,7 +173,8 @@ module _ {N : Type 0} {R : N → List ℕ → Type 0} where
   -- a test of trees that says the same of named ones
   module _ (p : Tree N → Bool) (q : Tree (List ℕ) → Bool)
       (f : (t : Tree N) (u : Tree (List ℕ)) → Named R t u → p t ≡ q u) where
-    same-width-trees : {w : Width N} {v : Width (List ℕ)} → NamedWidth R w v → all p (widthTrees w) ≡ all q (widthTrees v)
+    same-width-trees : {w : Width N} {v : Width (List ℕ)} → NamedWidth R w v
+        → all p (widthTrees w) ≡ all q (widthTrees v)
     unfolding all
     same-width-trees named-fixed = refl
     same-width-trees (named-measured {t = t} {v = u} h) = rw (f t u h)
@@ -167,11 +192,15 @@ module _ {N : Type 0} {R : N → List ℕ → Type 0} where
 
     pub same-trees : (x : Field N) (y : Form) → NamedField R x y → all p (trees x) ≡ all q (trees y)
     same-trees x y h =
-        rw (all-joined p (widthTrees (x .width)) (listOf (x .constraint) ++ listOf (x .condition)),
-        all-joined p (listOf (x .constraint)) (listOf (x .condition)),
-        all-joined q (widthTrees (y .width)) (listOf (y .constraint) ++ listOf (y .condition)),
-        all-joined q (listOf (y .constraint)) (listOf (y .condition)),
-        same-width-trees (h .width), same-listed (h .constraint), same-listed (h .condition))
+        rw (
+          all-joined p (widthTrees (x .width)) (listOf (x .constraint) ++ listOf (x .condition)),
+          all-joined p (listOf (x .constraint)) (listOf (x .condition)),
+          all-joined q (widthTrees (y .width)) (listOf (y .constraint) ++ listOf (y .condition)),
+          all-joined q (listOf (y .constraint)) (listOf (y .condition)),
+          same-width-trees (h .width),
+          same-listed (h .constraint),
+          same-listed (h .condition),
+        )
 
   pub same-type-width : (may : N → Bool) (say : List ℕ → Bool) → ((a : N) (w : List ℕ) → R a w → may a ≡ say w)
       → {w : Width N} {v : Width (List ℕ)} → NamedWidth R w v → widthHasType may w ≡ widthHasType say v
@@ -206,19 +235,23 @@ module _ {N : Type 0} {R : N → List ℕ → Type 0} where
           → (y : Form) × NamedField R x y × SpellsField Written y s
       go w c d p q r sw sc sd =
           let y : Form = record { label = x .label; short = x .short; width = w; constraint = c; condition = d } in
-          let n : NamedField R x y = record { label = refl; short = refl; width = p; constraint = q; condition = r } in
-          (y, n, record {
-            formed = sym (same-formed x y n) ∙ h .formed;
-            width = h .width;
-            constraint = h .constraint;
-            condition = h .condition;
-            remark = h .remark;
-            isText = h .isText;
-            isWidth = sw;
-            isConstraint = sc;
-            isCondition = sd;
-            isRemark = h .isRemark;
-          })
+          let n : NamedField R x y =
+          record { label = refl; short = refl; width = p; constraint = q; condition = r } in (
+            y,
+            n,
+            record {
+              formed = sym (same-formed x y n) ∙ h .formed;
+              width = h .width;
+              constraint = h .constraint;
+              condition = h .condition;
+              remark = h .remark;
+              isText = h .isText;
+              isWidth = sw;
+              isConstraint = sc;
+              isCondition = sd;
+              isRemark = h .isRemark;
+            },
+          )
 
   pub named-field-spelled : (x : Field N) (y : Form) (s : List ℕ) → NamedField R x y → SpellsField Written y s
       → SpellsField R x s
@@ -262,7 +295,8 @@ module _ {N : Type 0} {R S : N → List ℕ → Type 0} (only : (a b : N) (w : L
     condition = unique-maybe (p .condition) (q .condition) i;
   }
 
-  pub unique-fields : (l m : List (Field N)) (n : List Form) → Each (NamedField R) l n → Each (NamedField S) m n → l ≡ m
+  pub unique-fields : (l m : List (Field N)) (n : List Form) → Each (NamedField R) l n → Each (NamedField S) m n
+      → l ≡ m
   unique-fields [] [] [] p q = refl
   unique-fields [] [] (y ∷ n) p q = absurd p
   unique-fields [] (z ∷ m) [] p q = absurd q

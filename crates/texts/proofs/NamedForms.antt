@@ -1,22 +1,20 @@
 -- A text that spells a description has a form for each line, the forms keep 6 to 10, and they settle the description.
-use mathlib.Core.Path.{_≡_, refl, ap, sym, _∙_}
-use mathlib.Core.Bool.{Bool, true, false, _||_}
+use mathlib.Core.Path.{_≡_, sym, _∙_}
+use mathlib.Core.Bool.{true, false}
 use mathlib.Core.List.{List, [], _∷_}
-use mathlib.Core.Option.{Option, none, some}
+use mathlib.Core.Option.{none}
 use Prim.Native.Nat.{ℕ, _≤_}
-use native.Mathlib.Omega.{arith}
-use lib.Dec.{ltb}
-use lib.ListN.{length, getElem?}
+use lib.ListN.{length}
 use borrow.Author.Tests.{le-ltb}
-use Rattle.base.specs.Lists.{any, same, Each, firstBreak}
+use Rattle.base.specs.Lists.{same, Each, firstBreak}
 use Rattle.base.proofs.Lists.{between-true}
 use Rattle.base.proofs.Lookups.{each-length, each-left}
 use Rattle.rules.specs.Limits.{fieldsMost}
 use Rattle.rules.specs.Names.{isShort}
-use Rattle.rules.specs.Fields.{Field, Form, Description, readNames}
+use Rattle.rules.specs.Fields.{Field, Form, Description}
 use Rattle.rules.specs.Within.{Within, keepsNames}
 use Rattle.rules.specs.Lines.{SpellsField, Written}
-use Rattle.rules.specs.Frames.{Frame, Shown, cells, isOverfull}
+use Rattle.rules.specs.Frames.{Frame, cells, isOverfull}
 use Rattle.rules.specs.Spelling.{Spells, NameOf, shows}
 use Rattle.rules.specs.Refusals.{ruleBroken}
 use Rattle.texts.proofs.NamedFields.{NamedField, spelled-field, unique-fields}
@@ -79,7 +77,8 @@ pub record FormsOf (d : Description) (f : Frame) : Type 0 where
 
 pub forms-named : (text : List ℕ) (d : Description) (s : Spells text d) → FormsOf d (s .frame)
 forms-named text d s =
-    let p = forms-for (NameOf (d .fields)) (name-short (d .fields) (s .within .form)) (d .fields) (s .frame .lines) (s .lines) in
+    let p = forms-for (NameOf (d .fields)) (name-short (d .fields) (s .within .form)) (d .fields) (s .frame .lines)
+    (s .lines) in
     record {
       forms = p .0;
       named = p .1;
@@ -96,8 +95,8 @@ forms-of text d s = let p = forms-named text d s in (p .forms, p .spelled, p .ke
 -- ── they settle the fields ──
 
 -- a name of a field is the name of its form
-name-of-form : (R : ℕ → List ℕ → Type 0) (fields : List (Field ℕ)) (forms : List Form) → Each (NamedField R) fields forms
-    → (i : ℕ) (w : List ℕ) → NameOf fields i w → NameIn forms i w
+name-of-form : (R : ℕ → List ℕ → Type 0) (fields : List (Field ℕ)) (forms : List Form)
+    → Each (NamedField R) fields forms → (i : ℕ) (w : List ℕ) → NameOf fields i w → NameIn forms i w
 name-of-form R fields forms h i w n =
     let p = each-left (NamedField R) fields forms h i (n .0) (n .1) in
     (p .0, p .1, rw (p .2 .short) at (n .2))

@@ -1,15 +1,15 @@
 -- What may be read, and the kinds of a description's fields and of the forms of its lines. The five rules as one.
-use mathlib.Core.Path.{_≡_, refl, ap, sym, _∙_, subst}
+use mathlib.Core.Path.{_≡_, refl, sym, _∙_}
 use mathlib.Core.Bool.{Bool, true, false, cond, _&&_, _||_, not}
 use mathlib.Core.List.{List, [], _∷_, _++_, append-assoc}
 use mathlib.Core.Option.{Option, none, some, Option·map, map-eq-none-iff, Option·none-ne-some, Option·some-injective}
-use Prim.Native.Nat.{ℕ, suc, _<_}
-use lib.ListN.{length, getElem?}
-use Rattle.base.specs.Lists.{any, same, Each, firstBreak, ifAny, isEmpty, listOf, orElse}
+use Prim.Native.Nat.{ℕ, suc}
+use lib.ListN.{getElem?}
+use Rattle.base.specs.Lists.{any, same, Each, firstBreak, isEmpty, orElse}
 use Rattle.base.proofs.Lists.{and-left, and-right, and-both, not-both}
 use Rattle.base.proofs.Lookups.{each-any, each-breaks, each-joined, test-eq, element-front, element-any}
 use Rattle.rules.specs.declared.ValueType.{ValueType}
-use Rattle.rules.specs.Trees.{Tree, hasType}
+use Rattle.rules.specs.Trees.{hasType}
 use Rattle.rules.specs.Fields.{Field, Form, isFixed, readNames}
 use Rattle.rules.specs.Within.{
   keepsSize,
@@ -27,7 +27,7 @@ use Rattle.rules.specs.Refusals.{ruleBroken}
 use Rattle.texts.specs.Resolving.{firstIndex}
 use Rattle.texts.proofs.Named.{named-type}
 use Rattle.texts.proofs.NamedFields.{NamedField, same-fixed-width, same-if-any, same-type-width}
-use Rattle.texts.proofs.NamedRules.{NameIn, name-unique}
+use Rattle.texts.proofs.NamedRules.{name-unique}
 
 -- the first element that passes a test
 pub any-element : {A : Type 0} (p : A → Bool) (l : List A) → any p l ≡ true
@@ -85,7 +85,8 @@ module _ (before after : List (Field ℕ)) (kept : firstBreak keepsNames [] (bef
       → (i : ℕ) (w : List ℕ) → NameOf (before ++ after) i w → indexReadable before i ≡ nameReadable earlier w
   same-readable R earlier h i w n =
       index-read i w n
-      ∙ each-any (NamedField R) (readBy w) (readBy w) (λ f g m. rw (same-fixed-width (m .width), m .short)) before earlier h
+      ∙ each-any (NamedField R) (readBy w) (readBy w) (λ f g m. rw (same-fixed-width (m .width), m .short))
+      before earlier h
 
 -- ── the kinds ──
 
@@ -110,13 +111,15 @@ same-kinds fields forms kept h =
         let own : (i : ℕ) (w : List ℕ) → R i w → indexReadable (b ++ (x ∷ [])) i ≡ nameReadable (e ++ (y ∷ [])) w =
         may (b ++ (x ∷ [])) a (e ++ (y ∷ [])) (u ∙ sym (append-assoc b (x ∷ []) a))
         (each-joined (NamedField R) b e p (x ∷ []) (y ∷ []) (n, tt)) in
-        rw (same-type-width (indexReadable b) (nameReadable e) f (n .width),
-        same-if-any (hasType (indexReadable (b ++ (x ∷ []))) ValueType.YesNo)
-        (hasType (nameReadable (e ++ (y ∷ []))) ValueType.YesNo)
-        (λ t u m. named-type (indexReadable (b ++ (x ∷ []))) (nameReadable (e ++ (y ∷ []))) own ValueType.YesNo m)
-        (n .constraint),
-        same-if-any (hasType (indexReadable b) ValueType.YesNo) (hasType (nameReadable e) ValueType.YesNo)
-        (λ t u m. named-type (indexReadable b) (nameReadable e) f ValueType.YesNo m) (n .condition))
+        rw (
+          same-type-width (indexReadable b) (nameReadable e) f (n .width),
+          same-if-any (hasType (indexReadable (b ++ (x ∷ []))) ValueType.YesNo)
+              (hasType (nameReadable (e ++ (y ∷ []))) ValueType.YesNo)
+              (λ t u. named-type (indexReadable (b ++ (x ∷ []))) (nameReadable (e ++ (y ∷ []))) own ValueType.YesNo)
+              (n .constraint),
+          same-if-any (hasType (indexReadable b) ValueType.YesNo) (hasType (nameReadable e) ValueType.YesNo)
+              (λ t u. named-type (indexReadable b) (nameReadable e) f ValueType.YesNo) (n .condition),
+        )
 
 -- ── the five rules ──
 

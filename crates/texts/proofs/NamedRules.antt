@@ -1,54 +1,28 @@
 -- A description's fields and the forms of its lines keep the same rules.
-use mathlib.Core.Path.{_≡_, refl, ap, sym, _∙_, subst}
-use mathlib.Core.Bool.{Bool, true, false, cond, _&&_, _||_, not}
-use mathlib.Core.List.{List, [], _∷_, _++_}
-use mathlib.Core.Option.{Option, none, some, Option·none-ne-some, Option·some-injective}
+use mathlib.Core.Path.{_≡_, refl, ap, sym, _∙_}
+use mathlib.Core.Bool.{Bool, true, false, cond, _||_, not}
+use mathlib.Core.List.{List, [], _∷_}
+use mathlib.Core.Option.{Option, none, some, Option·none-ne-some}
 use Prim.Native.Nat.{ℕ, suc, _<_}
 use native.Mathlib.Omega.{arith}
 use native.Mathlib.Decide.{decLt}
 use lib.ListN.{length, getElem?}
-use Rattle.base.specs.Lists.{all, any, same, Each, firstBreak, ifAny, isEmpty, listOf, orElse}
-use Rattle.base.proofs.Lists.{and-left, and-right, and-both, or-right, not-both, same-true, same-self, any-found}
-use Rattle.base.proofs.Lookups.{
-  each-any,
-  each-breaks,
-  each-joined,
-  kept-at,
-  test-eq,
-  element-front,
-  element-below,
-  element-parts,
-  element-any,
-}
-use Rattle.rules.specs.declared.ValueType.{ValueType}
-use Rattle.rules.specs.Names.{isLabel, isShort}
-use Rattle.rules.specs.Trees.{Tree, isInRange, hasType}
-use Rattle.rules.specs.Fields.{Field, Form, isFixed, isRest, readNames, trees}
-use Rattle.rules.specs.Within.{
-  isWidth,
-  sameShort,
-  keepsForm,
-  keepsSize,
-  clash,
-  keepsNames,
-  keepsTypes,
-  keepsRest,
-  isReadable,
-  indexReadable,
-  nameReadable,
-}
+use Rattle.base.specs.Lists.{any, same, Each, firstBreak, listOf}
+use Rattle.base.proofs.Lists.{or-right, not-both, same-true, same-self}
+use Rattle.base.proofs.Lookups.{each-any, each-breaks, kept-at, element-below, element-parts, element-any}
+use Rattle.rules.specs.Names.{isShort}
+use Rattle.rules.specs.Fields.{Field, Form, isRest, readNames}
+use Rattle.rules.specs.Within.{sameShort, keepsForm, keepsSize, clash, keepsNames, keepsRest}
 use Rattle.rules.specs.Frames.{Shown}
 use Rattle.rules.specs.Spelling.{shows, mismatch, NameOf}
-use Rattle.texts.proofs.Named.{named-type}
 use Rattle.texts.proofs.NamedFields.{
   NamedField,
+  formed-names,
   same-small,
   same-shows,
   same-fixed-width,
   same-rest-width,
   same-none,
-  same-if-any,
-  same-type-width,
 }
 
 -- ── the field of a name ──
@@ -105,10 +79,7 @@ module _ {N : Type 0} (fields : List (Field N)) where
       let x = p .0 in
       let s = element-parts fields i x (p .1) in
       let k : keepsForm (s .0) x ≡ true = kept-at keepsForm (s .0) x (s .1) (rw (s .2) at h) in
-      let f : ifAny isShort (x .short) ≡ true =
-      and-left (ifAny isShort (x .short)) (isWidth (x .width) && all isInRange (trees x))
-      (and-right (isLabel (x .label)) (ifAny isShort (x .short) && (isWidth (x .width) && all isInRange (trees x))) k) in
-      rw (listed-is (x .short) w (p .2)) at f
+      rw (listed-is (x .short) w (p .2)) at (formed-names x k .1)
 
 -- ── the rules ──
 
@@ -127,8 +98,11 @@ module _ (R : ℕ → List ℕ → Type 0) where
   pub same-rests : (fields : List (Field ℕ)) (forms : List Form) → Each (NamedField R) fields forms
       → firstBreak keepsRest [] fields ≡ firstBreak keepsRest [] forms
   same-rests fields forms h = each-breaks (NamedField R) keepsRest keepsRest [] [] fields forms tt h
-      (λ b x a e y c u v p n. rw (each-any (NamedField R) isRest isRest (λ f g m. same-rest-width (m .width)) b e p,
-      same-fixed-width (n .width), same-none (n .condition)))
+      (λ b x a e y c u v p n. rw (
+        each-any (NamedField R) isRest isRest (λ f g m. same-rest-width (m .width)) b e p,
+        same-fixed-width (n .width),
+        same-none (n .condition),
+      ))
 
   pub same-mismatch : (i : ℕ) (cs : List Shown) (fields : List (Field ℕ)) (forms : List Form)
       → Each (NamedField R) fields forms → mismatch i cs fields ≡ mismatch i cs forms

@@ -1,15 +1,15 @@
 -- Where the forms of a frame's lines keep 6 to 10, the text spells a description: that of the resolved forms.
-use mathlib.Core.Path.{_≡_, refl, ap, sym, _∙_}
-use mathlib.Core.Bool.{Bool, true, false, _&&_, _||_, not}
+use mathlib.Core.Path.{_≡_, refl, sym, _∙_}
+use mathlib.Core.Bool.{Bool, true, false, _&&_, not}
 use mathlib.Core.List.{List, [], _∷_, _++_, map, append-assoc}
 use mathlib.Core.Option.{Option, none, some, Option·map}
 use Prim.Native.Nat.{ℕ, _≤_}
 use native.Mathlib.Omega.{arith}
 use native.Mathlib.Nat.{zero-mod}
-use lib.Dec.{leb, ltb}
+use lib.Dec.{ltb}
 use lib.ListN.{length, getElem?}
 use borrow.Author.Tests.{ltb-false}
-use Rattle.base.specs.Lists.{all, any, same, between, isEmpty, Each, firstBreak, ifAny}
+use Rattle.base.specs.Lists.{all, any, same, isEmpty, Each, firstBreak, ifAny}
 use Rattle.base.proofs.Lists.{and-left, and-right, not-both, or-false-right, true-between}
 use Rattle.base.proofs.Breaks.{and-true, firstBreak-cons}
 use Rattle.base.proofs.Lookups.{none-breaks, each-left, each-length, element-front, element-any, element-map}
@@ -23,7 +23,7 @@ use Rattle.rules.specs.Lines.{SpellsField, Written}
 use Rattle.rules.specs.Frames.{Frame, FrameOf, isFrame, isRow, isLine, cells, isOverfull}
 use Rattle.rules.specs.Spelling.{Spells, NameOf, shows}
 use Rattle.rules.specs.Refusals.{ruleBroken}
-use Rattle.texts.specs.Resolving.{firstIndex, indexOf, renameTree, renameWidth, renameField, resolve}
+use Rattle.texts.specs.Resolving.{firstIndex, indexOf, renameTree, renameWidth, renameField, resolve, described}
 use Rattle.texts.proofs.Named.{renamed}
 use Rattle.texts.proofs.NamedFields.{
   NamedWidth,
@@ -36,14 +36,7 @@ use Rattle.texts.proofs.NamedFields.{
   NamedField,
   named-field-spelled,
 }
-use Rattle.texts.proofs.NamedRules.{
-  NameIn,
-  same-sizes,
-  same-unique,
-  same-rests,
-  same-mismatch,
-  mismatch-each,
-}
+use Rattle.texts.proofs.NamedRules.{same-sizes, same-unique, same-rests, same-mismatch, mismatch-each}
 use Rattle.texts.proofs.NamedKinds.{any-element, Kept, rules-kept, same-kinds}
 use Rattle.texts.proofs.ResolveRows.{rows-fit}
 
@@ -72,10 +65,11 @@ name-found forms part after e w h =
     let found : any (λ (x : Form). any (same w) (readNames x)) forms ≡ true =
     element-any (λ x. any (same w) (readNames x)) forms i (p .0) there
     (and-right (isFixed (p .0)) (any (same w) (readNames (p .0))) (p .2)) in
-    let q = any-element (λ (x : Form). any (same w) (readNames x)) forms found in
-    (renameField (indexOf forms) (q .0),
+    let q = any-element (λ (x : Form). any (same w) (readNames x)) forms found in (
+      renameField (indexOf forms) (q .0),
       element-map (renameField (indexOf forms)) forms (indexOf forms w) (q .0) (q .1),
-      q .2)
+      q .2,
+    )
 
 module _ (forms : List Form) where
   resolved-rest : (before l : List Form) → forms ≡ before ++ l → firstBreak (keepsTypes nameReadable) before l ≡ none
@@ -89,17 +83,19 @@ module _ (forms : List Form) where
       let both : own && when ≡ true = and-right wide (own && when) (k .0) in
       let e′ : forms ≡ (before ++ (x ∷ [])) ++ l = e ∙ sym (append-assoc before (x ∷ []) l) in
       let earlier = name-found forms before (x ∷ l) e in
-      let here = name-found forms (before ++ (x ∷ [])) l e′ in
-      (record {
-        label = refl;
-        short = refl;
-        width = renamed-width (indexOf forms) (nameReadable before) earlier (x .width)
-            (and-left wide (own && when) (k .0));
-        constraint = renamed-maybe (indexOf forms) (nameReadable (before ++ (x ∷ []))) here (x .constraint)
-            (and-left own when both);
-        condition = renamed-maybe (indexOf forms) (nameReadable before) earlier (x .condition)
-            (and-right own when both);
-      }, resolved-rest (before ++ (x ∷ [])) l e′ (k .1))
+      let here = name-found forms (before ++ (x ∷ [])) l e′ in (
+        record {
+          label = refl;
+          short = refl;
+          width = renamed-width (indexOf forms) (nameReadable before) earlier (x .width)
+              (and-left wide (own && when) (k .0));
+          constraint = renamed-maybe (indexOf forms) (nameReadable (before ++ (x ∷ []))) here (x .constraint)
+              (and-left own when both);
+          condition = renamed-maybe (indexOf forms) (nameReadable before) earlier (x .condition)
+              (and-right own when both);
+        },
+        resolved-rest (before ++ (x ∷ [])) l e′ (k .1),
+      )
 
   pub resolved-named : firstBreak (keepsTypes nameReadable) [] forms ≡ none
       → Each (NamedField (NameOf (resolve forms))) (resolve forms) forms
@@ -141,10 +137,6 @@ pub frame-parts : (text : List ℕ) (f : Frame) → FrameOf text f
 unfolding isFrame
 frame-parts text f h = parts (isLabel (f .name)) (isRowWidth (f .rowWidth)) (not (isEmpty (f .rows)))
     (all (isRow (f .rowWidth)) (f .rows)) (not (isEmpty (f .lines))) (all isLine (f .lines)) (h .isFramed)
-
--- the description of the forms
-abbrev pub described : Frame → List Form → Description
-described f forms = record { name = f .name; rowWidth = f .rowWidth; fields = resolve forms }
 
 module _ (text : List ℕ) (f : Frame) (forms : List Form) (frame : FrameOf text f) (few : isOverfull f ≡ false)
     (spelled : Each (SpellsField Written) forms (f .lines)) (kept : Kept f forms) where
@@ -194,7 +186,12 @@ module _ (text : List ℕ) (f : Frame) (forms : List Form) (frame : FrameOf text
     lines = lines;
   }
 
+pub resolved-spells : (text : List ℕ) (f : Frame) (forms : List Form) → FrameOf text f → isOverfull f ≡ false
+    → Each (SpellsField Written) forms (f .lines) → ruleBroken f forms ≡ none → Spells text (described f forms)
+resolved-spells text f forms frame few spelled kept =
+    resolved-kept text f forms frame few spelled (rules-kept f forms kept)
+
 pub resolved : (text : List ℕ) (f : Frame) (forms : List Form) → FrameOf text f → isOverfull f ≡ false
     → Each (SpellsField Written) forms (f .lines) → ruleBroken f forms ≡ none → (d : Description) × Spells text d
 resolved text f forms frame few spelled kept =
-    (described f forms, resolved-kept text f forms frame few spelled (rules-kept f forms kept))
+    (described f forms, resolved-spells text f forms frame few spelled kept)
