@@ -2,6 +2,7 @@
 -- Decimal  numbers in decimal
 -- Breaks   what follows where no element breaks a rule
 -- Tables   a rule proved at every number below a bound by one test
+-- Lookups  tests and first breaks over joined and related lists
 -- Scans    tests over a list, one index after the other
 -- Joined   parts one after the other
 -- Places   where bytes stand: joined, split, the byte in front, the end
@@ -9,6 +10,7 @@ pub mod Lists
 pub mod Decimal
 pub mod Breaks
 pub mod Tables
+pub mod Lookups
 pub mod Scans
 pub mod Joined
 pub mod Places
