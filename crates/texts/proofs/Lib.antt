@@ -20,7 +20,7 @@
 -- NamedForms               what spells a description has forms that keep 6 to 10 and settle the description
 -- Resolve, ResolveRows     forms that keep 6 to 10 resolve to a description that the text spells
 -- AllowedLines, AllowedTexts   the bytes of a text that spells a description are allowed
--- Answered                 no text spells two descriptions; exactly one outcome for each text and output
+-- Answered, TextResults    no text spells two descriptions; exactly one outcome for each text and output
 pub mod Combine
 pub mod LineNames
 pub mod LineTrees
@@ -48,3 +48,4 @@ pub mod Resolve
 pub mod AllowedLines
 pub mod AllowedTexts
 pub mod Answered
+pub mod TextResults
