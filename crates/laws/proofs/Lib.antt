@@ -8,6 +8,8 @@
 -- Cover         an accepted packet's bits lie in one present field each
 -- Conditions    presence goes by conditions, and constraints are kept
 -- PlacesOfNumbers  numbers that stand in two bytes and in four
+-- RuledOut        the answers of wrong programs (specs/Wrong) are ruled out
+-- RuledOutAlways  what is ruled out for all inputs
 pub mod Readers
 pub mod ReadsNumbers
 pub mod ReadsTrees
@@ -18,3 +20,5 @@ pub mod Readings
 pub mod Cover
 pub mod Conditions
 pub mod PlacesOfNumbers
+pub mod RuledOut
+pub mod RuledOutAlways
