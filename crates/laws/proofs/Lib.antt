@@ -10,6 +10,8 @@
 -- PlacesOfNumbers  numbers that stand in two bytes and in four
 -- Settled       the promises settle each answer and buffer
 -- RunCover      the entries in the run after an accepted packet cover it
+-- RuledOut        the answers of wrong programs (specs/Wrong) are ruled out
+-- RuledOutAlways  what is ruled out for all inputs
 pub mod Readers
 pub mod ReadsNumbers
 pub mod ReadsTrees
@@ -22,3 +24,5 @@ pub mod Conditions
 pub mod PlacesOfNumbers
 pub mod Settled
 pub mod RunCover
+pub mod RuledOut
+pub mod RuledOutAlways

@@ -1,0 +1,2 @@
+-- Wrong  answers of wrong programs, of which the promises are false
+pub mod Wrong

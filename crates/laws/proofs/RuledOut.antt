@@ -1,0 +1,193 @@
+-- What the promises rule out. For the stored table of a description within the limits, a promise allows one answer and
+-- one buffer; of other numbers it is false. Each claim of specs/Wrong has other numbers, by one computation.
+use mathlib.Core.Path.{_≡_, refl, sym, ap, _∙_}
+use mathlib.Core.Bool.{Bool, true, _&&_, not, false≢true}
+use mathlib.Core.List.{List, [], _∷_}
+use Prim.Native.Nat.{ℕ}
+use native.Mathlib.Omega.{arith}
+use lib.ListN.{length, getElem?}
+use Rattle.base.specs.Bytes.{digits}
+use Rattle.base.specs.Lists.{all, any, same, lastIs, sum, joined, firstBreak}
+use Rattle.base.proofs.Lists.{same-self}
+use Rattle.base.proofs.Breaks.{and-true}
+use Rattle.rules.specs.declared.TableAnswer.{TableAnswer}
+use Rattle.rules.specs.declared.PacketAnswer.{PacketAnswer}
+use Rattle.rules.specs.declared.FieldAnswer.{FieldAnswer}
+use Rattle.rules.specs.declared.ListingAnswer.{ListingAnswer}
+use Rattle.rules.specs.Operators.{operator}
+use Rattle.rules.specs.Names.{
+  isLetter,
+  isDigit,
+  isSpace,
+  isWordByte,
+  isLabelByte,
+  noTwoSpaces,
+  isLabel,
+  reserved,
+  isReserved,
+  isShort,
+}
+use Rattle.rules.specs.Trees.{depth, le2, le4, storedTree, isInRange, hasType}
+use Rattle.rules.specs.Values.{apply, decides, evaluate}
+use Rattle.rules.specs.Fields.{Description}
+use Rattle.rules.specs.Within.{rowsFit, Within}
+use Rattle.rules.specs.Stored.{stored, storedField, fieldBody, headBody, Good}
+use Rattle.rules.specs.Reading.{Part, partIn, partBytes, bitsAt, valueIn, readField, readFields, reading}
+use Rattle.rules.specs.Listing.{entryLines, linesText}
+use Rattle.rules.specs.Answers.{Answer, accepted, faultNumber, ofTable, ofPacket, ofField, ofListing}
+use Rattle.rules.specs.Promises.{
+  Outcome,
+  leaves,
+  delivered,
+  ChecksTable,
+  readingAnswer,
+  packetOutcome,
+  ReadsPacket,
+  partBy,
+  HandsPart,
+  firstNamed,
+  FindsField,
+  labelOf,
+  labelBy,
+  HandsLabel,
+  readingLines,
+  listing,
+  ListsPacket,
+}
+use Rattle.rules.specs.Cases.{lentRun}
+use Rattle.rules.proofs.Limits.{isWithin, within}
+use Rattle.laws.specs.Wrong.{
+  Claim,
+  checks,
+  reads,
+  lists,
+  hands,
+  finds,
+  labels,
+  lentOutput,
+  Claimed,
+  AllFalse,
+  wrong,
+}
+
+-- ── all that a promise allows ──
+
+abbrev pub good-stored : (d : Description) → Within d → Good (stored d)
+good-stored d w = record { description = d; within = w; isStored = refl }
+
+pub table-only : (d : Description) (r : TableAnswer) → Within d → ChecksTable (stored d) r
+    → ofTable r ≡ accepted (length (stored d))
+table-only d r w p = p (yes (good-stored d w))
+
+pub outcome-only : (d : Description) (packet run : List ℕ) (r : PacketAnswer) (after : List ℕ) → Within d
+    → ReadsPacket (stored d) packet run r after → leaves (ofPacket r) after ≡ packetOutcome d packet run
+outcome-only d packet run r after w p = p (yes (good-stored d w))
+
+pub listing-only : (d : Description) (packet out : List ℕ) (r : ListingAnswer) (after : List ℕ) → Within d
+    → ListsPacket (stored d) packet out r after → leaves (ofListing r) after ≡ delivered (listing d packet) out
+listing-only d packet out r after w p = p (yes (good-stored d w))
+
+pub part-only : (d : Description) (packet : List ℕ) (i : ℕ) (bytes : List ℕ) (start : ℕ) → Within d
+    → HandsPart (stored d) packet i bytes start
+    → (bytes ≡ partBytes packet (partIn (reading d packet) i)) × (start ≡ partIn (reading d packet) i .start)
+unfolding partBy
+part-only d packet i bytes start w p = (p .content (yes (good-stored d w)), p .place (yes (good-stored d w)))
+
+pub field-only : (d : Description) (name : List ℕ) (r : FieldAnswer) → Within d → FindsField (stored d) name r
+    → ofField r ≡ firstNamed name 0 (d .fields)
+field-only d name r w p = p (yes (good-stored d w))
+
+abbrev labelAt : Description → ℕ → Part
+labelAt d i = labelOf d i (getElem? (d .fields) i)
+
+pub label-only : (d : Description) (i : ℕ) (bytes : List ℕ) (start : ℕ) → Within d
+    → HandsLabel (stored d) i bytes start
+    → (bytes ≡ partBytes (stored d) (labelAt d i)) × (start ≡ labelAt d i .start)
+unfolding labelBy
+label-only d i bytes start w p = (p .content (yes (good-stored d w)), p .place (yes (good-stored d w)))
+
+-- ── of other numbers it is false ──
+
+abbrev answerNumbers : Answer → List ℕ
+answerNumbers a = a .number ∷ a .place ∷ a .value ∷ []
+
+abbrev numbers : Outcome → List ℕ
+numbers o = o .answer .number ∷ o .answer .place ∷ o .answer .value ∷ o .buffer
+
+abbrev partNumbers : List ℕ → Part → List ℕ
+partNumbers packet part = part .start ∷ partBytes packet part
+
+-- what a claim says, and what the definitions give, in numbers
+abbrev claimed : Claim → List ℕ
+claimed (checks d r) = answerNumbers (ofTable r)
+claimed (reads d packet r after) = numbers (leaves (ofPacket r) after)
+claimed (lists d packet r after) = numbers (leaves (ofListing r) after)
+claimed (hands d packet i bytes start) = start ∷ bytes
+claimed (finds d name r) = answerNumbers (ofField r)
+claimed (labels d i bytes start) = start ∷ bytes
+
+abbrev given : Claim → List ℕ
+given (checks d r) = answerNumbers (accepted (length (stored d)))
+given (reads d packet r after) = numbers (packetOutcome d packet lentRun)
+given (lists d packet r after) = numbers (delivered (listing d packet) lentOutput)
+given (hands d packet i bytes start) = partNumbers packet (partIn (reading d packet) i)
+given (finds d name r) = answerNumbers (firstNamed name 0 (d .fields))
+given (labels d i bytes start) = partNumbers (stored d) (labelAt d i)
+
+abbrev about : Claim → Description
+about (checks d r) = d
+about (reads d packet r after) = d
+about (lists d packet r after) = d
+about (hands d packet i bytes start) = d
+about (finds d name r) = d
+about (labels d i bytes start) = d
+
+two-parts : {m n : ℕ} {s t : List ℕ} → (s ≡ t) × (m ≡ n) → m ∷ s ≡ n ∷ t
+two-parts {n = n} {s = s} q = ap (λ (k : ℕ). k ∷ s) (q .1) ∙ ap (λ (l : List ℕ). n ∷ l) (q .0)
+
+pub claim-only : (c : Claim) → Within (about c) → Claimed c → claimed c ≡ given c
+claim-only (checks d r) w p = ap answerNumbers (table-only d r w p)
+claim-only (reads d packet r after) w p = ap numbers (outcome-only d packet lentRun r after w p)
+claim-only (lists d packet r after) w p = ap numbers (listing-only d packet lentOutput r after w p)
+claim-only (hands d packet i bytes start) w p = two-parts (part-only d packet i bytes start w p)
+claim-only (finds d name r) w p = ap answerNumbers (field-only d name r w p)
+claim-only (labels d i bytes start) w p = two-parts (label-only d i bytes start w p)
+
+abbrev isOther : Claim → Bool
+isOther c = isWithin (about c) && not (same (claimed c) (given c))
+
+not-same : (s t : List ℕ) → not (same s t) ≡ true → s ≡ t → ⊥
+not-same s t n e = false≢true (sym (ap not (ap (λ u. same u t) e ∙ same-self t)) ∙ n)
+
+pub ruled-out : (c : Claim) → isOther c ≡ true → Claimed c → ⊥
+ruled-out c h p =
+    let e = and-true (isWithin (about c)) (not (same (claimed c) (given c))) h in
+    not-same (claimed c) (given c) (e .1) (claim-only c (within (about c) (e .0)) p)
+
+all-out : (cs : List Claim) → all isOther cs ≡ true → AllFalse cs
+unfolding all
+all-out [] h = tt
+all-out (c ∷ cs) h = let e = and-true (isOther c) (all isOther cs) h in (ruled-out c (e .0), all-out cs (e .1))
+
+-- each wrong program's answer is ruled out
+pub all-ruled-out : AllFalse wrong
+unfolding digits all any same lastIs sum joined firstBreak operator isLetter isDigit isSpace isWordByte
+    isLabelByte noTwoSpaces isLabel reserved isReserved isShort depth le2 le4 storedTree isInRange hasType
+    apply decides evaluate rowsFit stored storedField fieldBody headBody bitsAt valueIn readField readFields
+    reading entryLines linesText faultNumber ofTable ofPacket ofField ofListing delivered readingAnswer
+    packetOutcome readingLines firstNamed
+all-ruled-out = all-out wrong refl
+
+-- ── a table that is not good ──
+
+-- the table of no bytes
+pub empty-bad : Good [] → ⊥
+unfolding stored le2
+empty-bad g = let z : _≡_ {A = ℕ} 0 1 = cc in omega arith
+
+-- every table accepted
+pub not-every-table : ChecksTable [] (TableAnswer.Good 0) → ⊥
+unfolding ofTable
+not-every-table p =
+    let z : _≡_ {A = ℕ} 0 21 = ap (λ (a : Answer). a .number) (p (no empty-bad)) in
+    omega arith

@@ -1,0 +1,165 @@
+-- Answers of wrong programs: of each, what is claimed is a promise, and it is false (proofs/RuledOut). A program that
+-- keeps the promises is none of these. [01, How the promises are judged] [01, Easy ways to go wrong]
+use mathlib.Core.List.{List, [], _∷_, _++_}
+use mathlib.Core.Option.{none, some}
+use Prim.Native.Nat.{ℕ}
+use lib.ListN.{length, replicate, drop}
+use Rattle.base.specs.Bytes.{bytes}
+use Rattle.base.specs.Lists.{joined}
+use Rattle.rules.specs.declared.Op.the-variants.{Eq}
+use Rattle.rules.specs.declared.Fault.the-variants.{BitsMissing, ConstraintFalse, AbsentRead}
+use Rattle.rules.specs.declared.TableAnswer.{TableAnswer}
+use Rattle.rules.specs.declared.PacketAnswer.{PacketAnswer}
+use Rattle.rules.specs.declared.PacketAnswer.the-variants.{Accepted, Refused, LeftOver}
+use Rattle.rules.specs.declared.FieldAnswer.{FieldAnswer}
+use Rattle.rules.specs.declared.ListingAnswer.{ListingAnswer}
+use Rattle.rules.specs.declared.ListingAnswer.the-variants.{Written}
+use Rattle.rules.specs.Trees.{num, read, two}
+use Rattle.rules.specs.Fields.{fixed, Description}
+use Rattle.rules.specs.Stored.{stored}
+use Rattle.rules.specs.Reading.{Entry, absent, numbersOf}
+use Rattle.rules.specs.Promises.{written, ChecksTable, ReadsPacket, HandsPart, FindsField, HandsLabel, ListsPacket}
+use Rattle.rules.specs.Cases.{lentRun, named, unnamed, entry}
+use Rattle.rules.specs.Marked.{bladeReport, m1, m1Listing}
+use Rattle.rules.specs.Pages.{page, isNine, flagged, m2, m3}
+
+-- ── claims of a description's stored table ──
+
+pub data Claim : Type 0 where
+  -- the answer to the table
+  checks : Description → TableAnswer → Claim
+  -- the answer to a packet, and what a run of thirty 9s holds then
+  reads : Description → List ℕ → PacketAnswer → List ℕ → Claim
+  -- the answer where a packet is listed, and what an output of 120 nines holds then
+  lists : Description → List ℕ → ListingAnswer → List ℕ → Claim
+  -- the bytes of the field of an index, and where in the packet they begin
+  hands : Description → List ℕ → ℕ → List ℕ → ℕ → Claim
+  -- the answer to a name that is looked for
+  finds : Description → List ℕ → FieldAnswer → Claim
+  -- the label of the field of an index, and where in the table it begins
+  labels : Description → ℕ → List ℕ → ℕ → Claim
+
+abbrev pub lentOutput : List ℕ
+lentOutput = replicate 120 9
+
+abbrev pub Claimed : Claim → Type 0
+Claimed (checks d r) = ChecksTable (stored d) r
+Claimed (reads d packet r after) = ReadsPacket (stored d) packet lentRun r after
+Claimed (lists d packet r after) = ListsPacket (stored d) packet lentOutput r after
+Claimed (hands d packet i part start) = HandsPart (stored d) packet i part start
+Claimed (finds d name r) = FindsField (stored d) name r
+Claimed (labels d i label start) = HandsLabel (stored d) i label start
+
+abbrev pub AllFalse : List Claim → Type 0
+AllFalse [] = Unit {0}
+AllFalse (c ∷ cs) = (Claimed c → ⊥) × AllFalse cs
+
+-- ── short ways to write what was left in a buffer ──
+
+abbrev pub runOf : List Entry → List ℕ
+runOf entries = written (joined numbersOf entries) lentRun
+
+abbrev pub outputOf : List ℕ → List ℕ
+outputOf text = written text lentOutput
+
+-- the first six entries of M1, and all
+abbrev pub m1Six : List Entry
+m1Six = entry 0 2 1 ∷ entry 2 1 1 ∷ entry 3 5 2 ∷ entry 8 8 7 ∷ entry 16 16 300 ∷ entry 32 16 0 ∷ []
+
+abbrev pub m1Entries : List Entry
+m1Entries = m1Six ++ (entry 48 16 9 ∷ [])
+
+-- M1's listing without its first line
+abbrev pub m1Rest : List ℕ
+m1Rest = drop 15 m1Listing
+
+-- the third field depends on the first, beside which another stands
+abbrev pub beside : Description
+beside = page
+    (named "Mine" "M" (fixed 8) none none
+    ∷ named "Other" "O" (fixed 8) none none
+    ∷ unnamed "Tail" (fixed 8) none (some (two Eq (read 0) (num 1)))
+    ∷ [])
+
+-- each field has the other's label as its short name
+abbrev pub crossed : Description
+crossed = page (named "A" "X" (fixed 8) none none ∷ named "X" "A" (fixed 8) none none ∷ [])
+
+-- ── the answers ──
+
+abbrev pub wrong : List Claim
+wrong =
+    -- 21 for every table
+    checks bladeReport TableAnswer.NotGood
+    ∷ reads bladeReport m1 PacketAnswer.NotGood lentRun
+    -- another length for a table
+    ∷ checks bladeReport (TableAnswer.Good 0)
+    -- every packet accepted, and nothing written
+    ∷ reads bladeReport m1 (Accepted 64) lentRun
+    ∷ reads bladeReport m3 (Accepted 56) lentRun
+    -- the first field read truly, the rest called absent
+    ∷ reads bladeReport m1 (Accepted 64) (runOf (entry 0 2 1 ∷ replicate 6 absent))
+    -- an invented bit total
+    ∷ reads bladeReport m1 (Accepted 63) (runOf m1Entries)
+    ∷ reads bladeReport m1 (Accepted 0) (runOf m1Entries)
+    -- an absent field read as 0, so that `E == 9` is no and the third field absent; or the fault passed over
+    ∷ reads (flagged (some isNine)) (0 ∷ []) (Accepted 8) (runOf (entry 0 8 0 ∷ absent ∷ absent ∷ []))
+    ∷ reads (flagged (some isNine)) (0 ∷ 5 ∷ []) LeftOver lentRun
+    ∷ reads (flagged (some isNine)) (0 ∷ 5 ∷ []) (Accepted 16) (runOf (entry 0 8 0 ∷ absent ∷ absent ∷ []))
+    ∷ reads (flagged (some isNine)) (0 ∷ 5 ∷ []) (Accepted 16) (runOf (entry 0 8 0 ∷ absent ∷ entry 8 8 5 ∷ []))
+    -- the fault at the absent field, not at the one that reads it
+    ∷ reads (flagged (some isNine)) (0 ∷ 5 ∷ []) (Refused AbsentRead 2) lentRun
+    -- an absent field's constraint tested
+    ∷ reads (flagged none) (0 ∷ 5 ∷ []) (Refused ConstraintFalse 2) lentRun
+    -- Borrower's offset kept while it is absent
+    ∷ reads bladeReport m2 (Accepted 48)
+    (runOf
+    (entry 0 2 1
+    ∷ entry 2 1 0
+    ∷ entry 3 5 2
+    ∷ entry 8 8 7
+    ∷ record { present = 0; offset = 16; width = 0; value = 0 }
+    ∷ entry 16 16 0
+    ∷ entry 32 16 9
+    ∷ []))
+    -- entries written before a refusal
+    ∷ reads bladeReport m3 (Refused BitsMissing 7) (runOf m1Six)
+    -- what lies beyond the entries overwritten
+    ∷ reads bladeReport m1 (Accepted 64) (joined numbersOf m1Entries ++ (0 ∷ 0 ∷ []))
+    -- a neighbour read instead of the field that is named
+    ∷ reads beside (0 ∷ 1 ∷ 7 ∷ []) (Accepted 24) (runOf (entry 0 8 0 ∷ entry 8 8 1 ∷ entry 16 8 7 ∷ []))
+    ∷ reads beside (0 ∷ 1 ∷ []) (Refused BitsMissing 3) lentRun
+    ∷ reads beside (1 ∷ 0 ∷ 7 ∷ []) LeftOver lentRun
+    -- V for L in Borrower's condition; L for N in the width of Readings
+    ∷ reads bladeReport m2 (Refused BitsMissing 7) lentRun
+    ∷ reads bladeReport m1 LeftOver lentRun
+    -- a listing: nothing written; a wrong line; a line left out; 21 for a good table; no refusal printed
+    ∷ lists bladeReport m1 (Written (length m1Listing)) lentOutput
+    ∷ lists bladeReport m1 (Written (length m1Listing)) (outputOf (bytes "Version: 0 2 2\n" ++ m1Rest))
+    ∷ lists bladeReport m1 (Written (length m1Rest)) (outputOf m1Rest)
+    ∷ lists bladeReport m1 (Written 16) (outputOf (bytes "refused 21 at 0\n"))
+    ∷ lists bladeReport m3 (Written 0) lentOutput
+    -- a part: the empty one for Readings; its neighbour's bytes; its own bytes from elsewhere
+    ∷ hands bladeReport m1 5 [] 0
+    ∷ hands bladeReport m1 5 (0x00 ∷ 0x09 ∷ []) 6
+    ∷ hands bladeReport m1 5 (0xAA ∷ 0xBB ∷ []) 0
+    -- a part for a field that has none: of bits, absent, of a refused packet
+    ∷ hands bladeReport m1 0 (0x62 ∷ []) 0
+    ∷ hands bladeReport m2 4 (0xAA ∷ 0xBB ∷ []) 2
+    ∷ hands bladeReport m3 3 (0x07 ∷ []) 1
+    -- a field by name: no name found; labels or short names passed over; indexes from 1; case ignored; a prefix taken
+    ∷ finds bladeReport (bytes "V") FieldAnswer.Unknown
+    ∷ finds bladeReport (bytes "Blade") FieldAnswer.Unknown
+    ∷ finds bladeReport (bytes "Blade") (FieldAnswer.At 4)
+    ∷ finds bladeReport (bytes "v") (FieldAnswer.At 0)
+    ∷ finds bladeReport (bytes "Bla") (FieldAnswer.At 3)
+    -- the later of two fields that have the name; 21 for a good table
+    ∷ finds crossed (bytes "X") (FieldAnswer.At 1)
+    ∷ finds bladeReport (bytes "V") FieldAnswer.NotGood
+    -- a label: the empty part; the short name; the neighbour's; its own bytes from elsewhere; one beyond the fields
+    ∷ labels bladeReport 0 [] 0
+    ∷ labels bladeReport 0 (bytes "V") 37
+    ∷ labels bladeReport 0 (bytes "On Loan") 58
+    ∷ labels bladeReport 0 (bytes "Version") 0
+    ∷ labels bladeReport 7 (bytes "Sum") 186
+    ∷ []
