@@ -88,8 +88,8 @@ module _ (d : Description) (packet run after : List ℕ) (n : ℕ) where
     where
       go : (x : Bool)
           → leaves (ofPacket (PacketAnswer.Accepted n)) after
-            ≡ cond x (leaves (record { number = 23; place = 0; value = 0 }) run)
-              (leaves (readingAnswer (reading d packet) packet) (runAfter (reading d packet) run))
+          ≡ cond x (leaves (record { number = 23; place = 0; value = 0 }) run)
+          (leaves (readingAnswer (reading d packet) packet) (runAfter (reading d packet) run))
           → Covered d packet n after
       go true e = absurd (omega (arith, ap (λ (x : Outcome). x .answer .number) e))
       go false e = completed (reading d packet) refl e
@@ -103,7 +103,7 @@ packet-cover table packet run n after h = go (good-decidable table) (h (good-dec
   where
     go : (x : Dec (Good table))
         → leaves (ofPacket (PacketAnswer.Accepted n)) after
-          ≡ byTable x (λ d. packetOutcome d packet run) (leaves notGood run)
+        ≡ byTable x (λ d. packetOutcome d packet run) (leaves notGood run)
         → (g : Good table) × Covered (g .description) packet n after
     go (yes g) e = (g, outcome (g .description) packet run after n e)
     go (no m) e = absurd (omega (arith, ap (λ (o : Outcome). o .answer .number) e))

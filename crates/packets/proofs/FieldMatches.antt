@@ -53,7 +53,7 @@ kept-matches entries after e next b (value c) = go (eqb c 0)
   where
     go : (x : Bool)
         → Matches entries after (cond x (stop ConstraintFalse) (step e next))
-          (cond x (Moved.Stop ConstraintFalse) (Moved.To next))
+        (cond x (Moved.Stop ConstraintFalse) (Moved.To next))
     go true = refl
     go false = (refl, b)
 kept-matches entries after e next b (fault f) = refl
@@ -61,7 +61,7 @@ kept-matches entries after e next b (fault f) = refl
 module _ (s packet run : List ℕ) (entries : List Entry) (place : ℕ) (f : Field ℕ) (p : Parts)
     (more : (e : Entry) → Begins (putAt run (length entries) (numbersIn e)) (entries ++ (e ∷ [])))
     (own : (e : Entry) → holdsAt s (putAt run (length entries) (numbersIn e)) (p .constraint)
-        ≡ holds (entries ++ (e ∷ [])) (f .constraint)) where
+    ≡ holds (entries ++ (e ∷ [])) (f .constraint)) where
   abbrev Same : Step → Step → Type 0
   Same found said =
       Matches entries (runWith run (length entries) found) said (stepAfter s run (length entries) p found)
@@ -75,7 +75,7 @@ module _ (s packet run : List ℕ) (entries : List Entry) (place : ℕ) (f : Fie
 
       go : (x : Bool)
           → Same (cond x (stop BitsMissing) (step e (place + n)))
-            (cond x (stop BitsMissing) (constrained entries e (place + n) (f .constraint)))
+          (cond x (stop BitsMissing) (constrained entries e (place + n) (f .constraint)))
       go true = refl
       go false =
           rw (own e)
@@ -90,14 +90,14 @@ module _ (s packet run : List ℕ) (entries : List Entry) (place : ℕ) (f : Fie
 
   condition-matches : (v w : Value)
       → Same
-        (andThen v (λ c. cond (eqb c 0) (step absent place) (andThen w (opened packet place (f .width)))))
-        (andThen v (λ c. cond (eqb c 0) (step absent place) (andThen w (bounded packet entries place f))))
+      (andThen v (λ c. cond (eqb c 0) (step absent place) (andThen w (opened packet place (f .width)))))
+      (andThen v (λ c. cond (eqb c 0) (step absent place) (andThen w (bounded packet entries place f))))
   unfolding stepAfter
   condition-matches (value c) w = go (eqb c 0)
     where
       go : (x : Bool)
           → Same (cond x (step absent place) (andThen w (opened packet place (f .width))))
-            (cond x (step absent place) (andThen w (bounded packet entries place f)))
+          (cond x (step absent place) (andThen w (bounded packet entries place f)))
       go true = (refl, more absent)
       go false = width-matches w
   condition-matches (fault g) w = refl
@@ -128,8 +128,8 @@ module _ (s packet run : List ℕ) (before : List (Field ℕ)) (entries : List E
 
   pub field-matches : (later total : ℕ) → laterBits later s (p .next) ≡ total
       → Matches entries (runWith run (length entries) (fieldStep s packet run p later place))
-        (readField packet entries place total f)
-        (stepAfter s run (length entries) p (fieldStep s packet run p later place))
+      (readField packet entries place total f)
+      (stepAfter s run (length entries) p (fieldStep s packet run p later place))
   unfolding fieldStep readField
   field-matches later total sums =
       let k = ifAny (hasType (indexReadable (before ++ (f ∷ []))) YesNo) (f .constraint) in

@@ -71,7 +71,7 @@ entry-inside e n h = go (isWhole e)
   where
     go : (x : Bool)
         → (cond x (record { start = e .offset / 8; size = e .width / 8 }) noPart) .start
-          + (cond x (record { start = e .offset / 8; size = e .width / 8 }) noPart) .size ≤ n
+        + (cond x (record { start = e .offset / 8; size = e .width / 8 }) noPart) .size ≤ n
     go true = omega arith
     go false = omega arith
 
@@ -80,7 +80,7 @@ entry-inside e n h = go (isWhole e)
 nested : (a b c : Bool) (x y : ℕ)
     → cond a (cond b (cond c (bytesOf x y) (bytesOf 0 0)) (bytesOf 0 0)) (bytesOf 0 0)
     ≡ bytesOf ((cond (a && (b && c)) (record { start = x; size = y }) noPart) .start)
-      ((cond (a && (b && c)) (record { start = x; size = y }) noPart) .size)
+    ((cond (a && (b && c)) (record { start = x; size = y }) noPart) .size)
 nested true true true x y = refl
 nested true true false x y = refl
 nested true false c x y = refl

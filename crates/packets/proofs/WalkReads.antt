@@ -107,7 +107,7 @@ pub record WalkHolds (packet : List ℕ) (got : Reading) (w : Walk) : Type 0 whe
 at-end : (packet : List ℕ) (entries : List Entry) (run : List ℕ) (place : ℕ) → Begins run entries → (x : Bool)
     → eqb place (bitTotal packet) ≡ x
     → ofPacket (cond x (PacketAnswer.Accepted place) PacketAnswer.LeftOver)
-      ≡ readingAnswer (cond x (complete entries) leftOver) packet
+    ≡ readingAnswer (cond x (complete entries) leftOver) packet
 unfolding ofPacket readingAnswer
 at-end packet entries run place b true e = rw (eqb-true place (bitTotal packet) e)
 at-end packet entries run place b false e = refl
@@ -151,9 +151,9 @@ walk-reads s packet (f ∷ fs) before entries run place at end counts begins roo
     walk-on packet after entries (λ more next. readFields packet more next fs)
     (λ next. walkFrom s packet (length fs) (length entries + 1) after next (r .next))
     (λ d next b.
-      let n : length (entries ++ (d ∷ [])) ≡ length entries + 1 = length-append entries (d ∷ []) in
-      rw n at (walk-reads s packet fs (before ++ (f ∷ [])) (entries ++ (d ∷ [])) after next (r .next) end
-      (omega (arith, length-append before (f ∷ []))) b (omega arith) (e .1) (z .1) (k .1) (q .later) le))
+    let n : length (entries ++ (d ∷ [])) ≡ length entries + 1 = length-append entries (d ∷ []) in
+    rw n at (walk-reads s packet fs (before ++ (f ∷ [])) (entries ++ (d ∷ [])) after next (r .next) end
+    (omega (arith, length-append before (f ∷ []))) b (omega arith) (e .1) (z .1) (k .1) (q .later) le))
     (readField packet entries place (sum fixedBits fs) f) (stepAfter s run (length entries) r found)
     (field-matches s packet run before entries place f r counts begins (omega arith) (e .0) (z .0) (k .0) (q .parts)
     (length fs) (sum fixedBits fs) sums)

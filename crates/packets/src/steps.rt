@@ -14,8 +14,21 @@ ghost use Prim.Native.Nat.{_+_, _*_, _≤_};
 ghost use lib.ListN.{length};
 ghost use Rattle.rules.specs.Reading.{bitTotal};
 ghost use Rattle.packets.specs.Steps.{
-  treeValue, holdsAt, gotOf, recordAt, fixedOf, unitOf, laterBits, measuredAt, restAt, extentAt, numberOf, foundOf,
-  boundedAt, presentAt, fieldStep,
+  treeValue,
+  holdsAt,
+  gotOf,
+  recordAt,
+  fixedOf,
+  unitOf,
+  laterBits,
+  measuredAt,
+  restAt,
+  extentAt,
+  numberOf,
+  foundOf,
+  boundedAt,
+  presentAt,
+  fieldStep,
 };
 
 // The depth to which trees are evaluated.
@@ -187,7 +200,14 @@ fn bounded_at(packet: &[u8], kind: usize, place: usize, width: u64) -> Found
 }
 
 // A field whose condition is yes.
-fn present_at(table: &[u8], packet: &[u8], run: &[u32], p: Parts, later: usize, place: usize) -> Found
+fn present_at(
+    table: &[u8],
+    packet: &[u8],
+    run: &[u32],
+    p: Parts,
+    later: usize,
+    place: usize,
+) -> Found
     requires { ⌜ (later ≤ 64) × (place ≤ bitTotal (now packet)) × (length (now packet) ≤ 2048) ⌝ }
     ensures { λ r. ⌜ r ≡ foundOf (presentAt (now (table .entry)) (now (packet .entry)) (now (run .entry)) p later place) ⌝ }
 {
@@ -199,7 +219,14 @@ fn present_at(table: &[u8], packet: &[u8], run: &[u32], p: Parts, later: usize, 
 }
 
 // A field up to its constraint.
-pub(crate) fn field_step(table: &[u8], packet: &[u8], run: &[u32], p: Parts, later: usize, place: usize) -> Found
+pub(crate) fn field_step(
+    table: &[u8],
+    packet: &[u8],
+    run: &[u32],
+    p: Parts,
+    later: usize,
+    place: usize,
+) -> Found
     requires { ⌜ (later ≤ 64) × (place ≤ bitTotal (now packet)) × (length (now packet) ≤ 2048) ⌝ }
     ensures { λ r. ⌜ r ≡ foundOf (fieldStep (now (table .entry)) (now (packet .entry)) (now (run .entry)) p later place) ⌝ }
 {

@@ -17,7 +17,14 @@ ghost use Rattle.base.specs.Places.{twoAt};
 ghost use Rattle.rules.specs.Reading.{bitTotal};
 ghost use Rattle.packets.specs.Steps.{fieldStep};
 ghost use Rattle.packets.specs.Walks.{
-  putAt, keptAt, stepAfter, runWith, refusedOf, walkAll, walkAnswer, Leaves,
+  putAt,
+  keptAt,
+  stepAfter,
+  runWith,
+  refusedOf,
+  walkAll,
+  walkAnswer,
+  Leaves,
 };
 
 const FIELDS_MOST: usize = 64;
@@ -56,7 +63,15 @@ fn kept_at(table: &[u8], run: &[u32], tree: Span, next: usize) -> Moved
 }
 
 // Field i, with later records behind it.
-fn one_field(table: &[u8], packet: &[u8], run: &mut [u32], i: usize, later: usize, place: usize, p: Parts) -> Moved
+fn one_field(
+    table: &[u8],
+    packet: &[u8],
+    run: &mut [u32],
+    i: usize,
+    later: usize,
+    place: usize,
+    p: Parts,
+) -> Moved
     requires { ⌜ (i < 64) × (4 * i + 4 ≤ length (now run)) ⌝ }
     requires { ⌜ (later ≤ 64) × (place ≤ bitTotal (now packet)) × (length (now packet) ≤ 2048) ⌝ }
     ensures { λ r. ⌜ r ≡ stepAfter (now (table .entry)) (now (run .entry)) i p (fieldStep (now (table .entry)) (now (packet .entry)) (now (run .entry)) p later place) ⌝ }

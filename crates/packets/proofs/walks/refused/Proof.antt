@@ -1,6 +1,3 @@
-use mathlib.Core.Path.{_≡_, refl, sym, _∙_}
-use native.Mathlib.Omega.{arith}
-use denote.Ref.{now}
 use borrow.Author.Needs.{needs}
 use Rattle.packets.proofs.walks.refused.Statement.{statement}
 use Rattle.packets.proofs.walks.refused.Tie as tie
