@@ -1,4 +1,4 @@
--- What an accepted packet leaves in the run: entries that cover each bit exactly once, and the bit total as the answer.
+-- What an accepted packet leaves in the run: entries that cover each bit exactly once; the answer is the bit total.
 use mathlib.Core.Path.{_≡_, refl, sym, _∙_, ap}
 use mathlib.Core.Bool.{Bool, true, false, cond, _&&_, not}
 use mathlib.Core.List.{List, [], _∷_, _++_}
@@ -25,7 +25,16 @@ use Rattle.rules.specs.Reading.{
   numbersOf,
 }
 use Rattle.rules.specs.Cover.{Covers, OnlyOne, InOrder, Kept}
-use Rattle.rules.specs.Promises.{Outcome, leaves, written, readingAnswer, runAfter, packetOutcome, ReadsPacket, byTable, notGood}
+use Rattle.rules.specs.Promises.{
+  Outcome,
+  leaves,
+  notGood,
+  byTable,
+  readingAnswer,
+  runAfter,
+  packetOutcome,
+  ReadsPacket,
+}
 use Rattle.laws.proofs.Decidable.{good-decidable}
 use Rattle.laws.proofs.Cover.{cover-unique, cover-in-order}
 use Rattle.laws.proofs.Conditions.{conditions-kept}
@@ -42,7 +51,8 @@ unfolding entriesIn joined
 entries-back [] rest = refl
 entries-back (e ∷ es) rest = ap (λ l. e ∷ l) (entries-back es rest)
 
-pub kept-length : (before : List Entry) (fs : List (Field ℕ)) (es : List Entry) → Kept before fs es → length es ≡ length fs
+pub kept-length : (before : List Entry) (fs : List (Field ℕ)) (es : List Entry) → Kept before fs es
+    → length es ≡ length fs
 kept-length before [] [] k = refl
 kept-length before [] (e ∷ es) k = absurd k
 kept-length before (f ∷ fs) [] k = absurd k
@@ -69,7 +79,8 @@ module _ (d : Description) (packet run after : List ℕ) (n : ℕ) where
   unfolding ofPacket readingAnswer
   completed (complete es) h e =
       let k : length es ≡ length (d .fields) = kept-length [] (d .fields) es (conditions-kept d packet es h) in
-      let b : after ≡ joined numbersOf es ++ drop (length (joined numbersOf es)) run = ap (λ (o : Outcome). o .buffer) e in
+      let w = joined numbersOf es in
+      let b : after ≡ w ++ drop (length w) run = ap (λ (o : Outcome). o .buffer) e in
       let back : entriesIn (length (d .fields)) after ≡ es = rw (← k, b) (entries-back es _) in
       let o = cover-in-order d packet es h in
       record {

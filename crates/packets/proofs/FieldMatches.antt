@@ -104,7 +104,8 @@ module _ (s packet run : List ℕ) (entries : List Entry) (place : ℕ) (f : Fie
 
 -- the field behind those before it, where the run begins with their entries
 module _ (s packet run : List ℕ) (before : List (Field ℕ)) (entries : List Entry) (place : ℕ) (f : Field ℕ) (p : Parts)
-    (counts : length entries ≡ length before) (begins : Begins run entries) (room : 4 * length entries + 4 ≤ length run)
+    (counts : length entries ≡ length before) (begins : Begins run entries)
+    (room : 4 * length entries + 4 ≤ length run)
     (formed : isFormed f ≡ true) (small : all isSmall (trees f) ≡ true)
     (typed : keepsTypes indexReadable before f ≡ true) (stands : PartsStand s p f) where
   own-entry : (e : Entry) → holdsAt s (putAt run (length entries) (numbersIn e)) (p .constraint)
@@ -144,7 +145,8 @@ module _ (s packet run : List ℕ) (before : List (Field ℕ)) (entries : List E
       (all-append isInRange (listOf (f .constraint)) (listOf (f .condition)) (ranges .1) .1)
       (all-append isSmall (listOf (f .constraint)) (listOf (f .condition)) (smalls .1) .1)
       (stands .condition) in
-      let w = width-reads s run before entries agrees packet (f .width) p later total place (stands .kind) (stands .width)
+      let w =
+      width-reads s run before entries agrees packet (f .width) p later total place (stands .kind) (stands .width)
       (form .2) (types .0) (ranges .0) (smalls .0) sums in
       rw (e, w)
       (condition-matches s packet run entries place f p (λ d. put-begins run entries d begins room) own-entry

@@ -118,6 +118,7 @@ module _ (s run : List ℕ) (before : List (Field ℕ)) (entries : List Entry)
       rw (fixed-part p (fixed n) kind s (p .tree) stands form, kind, le)
   width-reads packet (measured u t) p later total place kind stands form typed range small sums =
       let unit = unit-is u (and-true (eqb u 1 || eqb u 8) (not (isNumber t)) form .0) in
-      let e = tree-reads Number t (p .tree .at) _ typed (all-one isInRange t range) (all-one isSmall t small) (stands .1) in
+      let e =
+      tree-reads Number t (p .tree .at) _ typed (all-one isInRange t range) (all-one isSmall t small) (stands .1) in
       rw (kind, stands .0, unit, e)
   width-reads packet rest p later total place kind stands form typed range small sums = rw (kind, sums)

@@ -37,7 +37,8 @@ row-below w h =
     or-true (eqb w 8) (eqb w 16 || eqb w 32) (λ e. omega (arith, eqb-true w 8 e))
     (or-true (eqb w 16) (eqb w 32) (λ e. omega (arith, eqb-true w 16 e)) (λ e. omega (arith, eqb-true w 32 e))) h
 
-fields-length : (before fs : List (Field ℕ)) → firstBreak keepsForm before fs ≡ none → firstBreak keepsSize before fs ≡ none
+fields-length : (before fs : List (Field ℕ)) → firstBreak keepsForm before fs ≡ none
+    → firstBreak keepsSize before fs ≡ none
     → length (joined storedField fs) ≤ 424 * length fs
 unfolding joined
 fields-length before [] form size = omega arith
@@ -81,7 +82,8 @@ head-stands d w s e =
     let back = stands-right s 0 (length s) a (b ++ recordOf 5 []) all in
     let q₀ = front-number s 0 2 (0 + length a) (4 + length body) _ (omega arith) (omega arith) front in
     let q₁ = front-number s 2 4 (0 + length a) 1 _ (omega arith) (omega arith) (q₀ .1) in
-    let q₂ = front-number s 4 6 (0 + length a) (d .rowWidth) _ (row-below (d .rowWidth) (w .row)) (omega arith) (q₁ .1) in
+    let row = row-below (d .rowWidth) (w .row) in
+    let q₂ = front-number s 4 6 (0 + length a) (d .rowWidth) _ row (omega arith) (q₁ .1) in
     let q₃ = front-number s 6 8 (0 + length a) n _ (omega arith) (omega arith) (q₂ .1) in
     let k₁ = length-append (le2 (4 + length body)) (le2 1 ++ body) in
     let k₂ = length-append (le2 1) body in

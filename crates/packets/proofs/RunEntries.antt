@@ -45,7 +45,8 @@ run-present run es i b lt =
     let z : 4 * i + 0 ≡ 4 * i = omega arith in
     rw z at (run-number run es i 0 b lt (omega arith))
 
-pub run-value : (run : List ℕ) (es : List Entry) (i : ℕ) → Begins run es → i < length es → valueIn es i ≡ runValue run i
+pub run-value : (run : List ℕ) (es : List Entry) (i : ℕ) → Begins run es → i < length es
+    → valueIn es i ≡ runValue run i
 unfolding valueIn
 run-value run es i b lt =
     rw (run-present run es i b lt, run-number run es i 3 b lt (omega arith))
@@ -57,7 +58,8 @@ unfolding joined
 length-joined [] = refl
 length-joined (e ∷ es) = omega (arith, length-joined es, length-append (numbersOf e) (joined numbersOf es))
 
-pub joined-more : (es : List Entry) (e : Entry) → joined numbersOf (es ++ (e ∷ [])) ≡ joined numbersOf es ++ numbersOf e
+pub joined-more : (es : List Entry) (e : Entry)
+    → joined numbersOf (es ++ (e ∷ [])) ≡ joined numbersOf es ++ numbersOf e
 unfolding joined
 joined-more [] e = refl
 joined-more (d ∷ es) e = rw (joined-more es e, append-assoc (numbersOf d) (joined numbersOf es) (numbersOf e))

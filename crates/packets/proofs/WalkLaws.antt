@@ -89,7 +89,8 @@ inside-either : (total : ℕ) (b : Bool) (s t : Step) → (b ≡ true → Inside
 inside-either total true s t p q = p refl
 inside-either total false s t p q = q refl
 
-bounded-inside : (packet : List ℕ) (kind place width : ℕ) → Inside (bitTotal packet) (boundedAt packet kind place width)
+bounded-inside : (packet : List ℕ) (kind place width : ℕ)
+    → Inside (bitTotal packet) (boundedAt packet kind place width)
 unfolding boundedAt
 bounded-inside packet kind place width =
     inside-either (bitTotal packet) (ltb (bitTotal packet) (place + width)) (stop _)
@@ -117,7 +118,9 @@ after-to : (s run : List ℕ) (i : ℕ) (p : Parts) (e : Entry) (m next : ℕ)
 unfolding stepAfter keptAt
 after-to s run i p e m next = go (eqb (e .present) 0)
   where
-    go : (b : Bool) → cond b (Moved.To m) (keptBy (holdsAt s (putAt run i (numbersIn e)) (p .constraint)) m) ≡ Moved.To next → m ≡ next
+    go : (b : Bool)
+        → cond b (Moved.To m) (keptBy (holdsAt s (putAt run i (numbersIn e)) (p .constraint)) m) ≡ Moved.To next
+        → m ≡ next
     go true h = cc
     go false h = kept-to (holdsAt s (putAt run i (numbersIn e)) (p .constraint)) m next h
 

@@ -93,8 +93,9 @@ later-sum before (f ∷ fs) s at end form size p le =
     let e = firstBreak-cons keepsForm before f fs form in
     let z = firstBreak-cons keepsSize before f fs size in
     let q = first-stands before f fs s at end form size p le in
-    let width = q .parts .width in
-    let bits = fixed-part (recordAt s at) (f .width) (q .parts .kind) s (recordAt s at .tree) width (formed-parts f (e .0) .2) in
+    let r = recordAt s at in
+    let form = formed-parts f (e .0) .2 in
+    let bits = fixed-part r (f .width) (q .parts .kind) s (r .tree) (q .parts .width) form in
     rw (bits, later-sum (before ++ (f ∷ [])) fs s (recordAt s at .next) end (e .1) (z .1) (q .later) le)
 
 -- ── all fields ──
@@ -102,7 +103,8 @@ later-sum before (f ∷ fs) s at end form size p le =
 -- a reading, and a walk of the code with the run that it leaves
 pub record WalkHolds (packet : List ℕ) (got : Reading) (w : Walk) : Type 0 where
   pub answer : ofPacket (walkAnswer packet w) ≡ readingAnswer got packet
-  pub front : (entries : List Entry) → got ≡ complete entries → (after : List ℕ) → Leaves w after → Begins after entries
+  pub front : (entries : List Entry) → got ≡ complete entries → (after : List ℕ) → Leaves w after
+      → Begins after entries
 
 at-end : (packet : List ℕ) (entries : List Entry) (run : List ℕ) (place : ℕ) → Begins run entries → (x : Bool)
     → eqb place (bitTotal packet) ≡ x
@@ -117,7 +119,8 @@ complete-is true entries es e = cc
 complete-is false entries es e = cc
 
 walk-on : (packet after : List ℕ) (entries : List Entry) (go : List Entry → ℕ → Reading) (walk : ℕ → Walk)
-    → ((e : Entry) (next : ℕ) → Begins after (entries ++ (e ∷ [])) → WalkHolds packet (go (entries ++ (e ∷ [])) next) (walk next))
+    → ((e : Entry) (next : ℕ) → Begins after (entries ++ (e ∷ []))
+    → WalkHolds packet (go (entries ++ (e ∷ [])) next) (walk next))
     → (t : Step) (m : Moved) → Matches entries after t m
     → WalkHolds packet (readOn entries t go) (onMoved m (length entries + 1) walk)
 unfolding ofPacket readingAnswer walkAnswer
@@ -127,12 +130,14 @@ walk-on packet after entries go walk ih (stop f) (Moved.To m) q = absurd q
 walk-on packet after entries go walk ih (stop f) (Moved.Stop g) q =
     record { answer = rw (q, add-one); front = λ es e. let z : _≡_ {A = ℕ} 0 1 = cc in absurd (omega arith) }
 
-pub walk-reads : (s packet : List ℕ) (fs before : List (Field ℕ)) (entries : List Entry) (run : List ℕ) (place at end : ℕ)
+pub walk-reads : (s packet : List ℕ) (fs before : List (Field ℕ)) (entries : List Entry) (run : List ℕ)
+    (place at end : ℕ)
     → length entries ≡ length before → Begins run entries → 4 * (length entries + length fs) ≤ length run
     → firstBreak keepsForm before fs ≡ none → firstBreak keepsSize before fs ≡ none
     → firstBreak (keepsTypes indexReadable) before fs ≡ none
     → Stands s at (joined storedField fs) end → end ≤ tableMost
-    → WalkHolds packet (readFields packet entries place fs) (walkFrom s packet (length fs) (length entries) run place at)
+    → WalkHolds packet (readFields packet entries place fs)
+    (walkFrom s packet (length fs) (length entries) run place at)
 unfolding walkFrom readFields walkAnswer
 walk-reads s packet [] before entries run place at end counts begins room form size kinds p le = record {
   answer = at-end packet entries run place begins (eqb place (bitTotal packet)) refl;
@@ -165,8 +170,8 @@ walk-all d w s packet run e room =
     let h = head-stands d w s e in
     let few : ltb 64 (length (d .fields)) ≡ false = le-ltb 64 (length (d .fields)) (h .few) in
     rw (h .count, few)
-    (walk-reads s packet (d .fields) [] [] run 0 (twoAt s 0) (h .end) refl refl (omega (arith, h .few)) (w .form) (w .size)
-    (w .kinds) (h .fields) (h .short))
+    (walk-reads s packet (d .fields) [] [] run 0 (twoAt s 0) (h .end) refl refl (omega (arith, h .few)) (w .form)
+    (w .size) (w .kinds) (h .fields) (h .short))
 
 -- ── a packet read into a run ──
 

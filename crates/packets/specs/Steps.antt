@@ -1,5 +1,4 @@
--- One field of a packet by the parts of its record and the run so far. This mirrors the code of src/steps.rt: no public
--- promise rests on this file.
+-- One field of a packet by its record and the run so far. This mirrors the code: no public promise rests on this file.
 use mathlib.Core.Bool.{Bool, true, false, cond}
 use mathlib.Core.List.{List}
 use Prim.Native.Nat.{ℕ, zero, suc, _+_, _*_, _-_}

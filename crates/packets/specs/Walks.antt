@@ -1,5 +1,4 @@
--- The fields of a packet in order, by a table's records. This mirrors the code of src/walks.rt: no public promise rests on
--- this file.
+-- The fields of a packet in order, by a table's records. This mirrors the code: no public promise rests on this file.
 use mathlib.Core.Path.{_≡_}
 use mathlib.Core.Bool.{Bool, true, false, cond}
 use mathlib.Core.List.{List}
@@ -23,7 +22,8 @@ use Rattle.packets.specs.Steps.{recordAt, holdsAt, fieldStep, numbersIn}
 -- four numbers for field i
 unfoldable pub putAt : List ℕ → ℕ → Numbers → List ℕ
 putAt run i e =
-    set (set (set (set run (4 * i) (e .present)) (4 * i + 1) (e .offset)) (4 * i + 2) (e .width)) (4 * i + 3) (e .value)
+    set (set (set (set run (4 * i) (e .present)) (4 * i + 1) (e .offset)) (4 * i + 2) (e .width))
+    (4 * i + 3) (e .value)
 
 abbrev pub keptBy : Value → ℕ → Moved
 keptBy (value c) next = cond (eqb c 0) (Moved.Stop ConstraintFalse) (Moved.To next)
@@ -80,3 +80,15 @@ abbrev pub Leaves : Walk → List ℕ → Type 0
 Leaves (ended run place) after = after ≡ run
 Leaves (stopped f k) after = Unit {0}
 Leaves tooMany after = Unit {0}
+
+-- ── what the code does ──
+
+-- field i by its record: the answer r, and the run before and after
+abbrev pub Steps : List ℕ → List ℕ → List ℕ → ℕ → ℕ → ℕ → Parts → Moved → List ℕ → Type 0
+Steps s packet run i later place p r after =
+    (r ≡ stepAfter s run i p (fieldStep s packet run p later place))
+    × (after ≡ runWith run i (fieldStep s packet run p later place))
+
+-- all fields: the answer r, and the run before and after
+abbrev pub Walks : List ℕ → List ℕ → List ℕ → PacketAnswer → List ℕ → Type 0
+Walks s packet run r after = (r ≡ walkAnswer packet (walkAll s packet run)) × Leaves (walkAll s packet run) after

@@ -13,19 +13,8 @@ use rules::PacketAnswer;
 ghost use mathlib.Core.Path.{_≡_};
 ghost use Prim.Native.Nat.{_+_, _*_, _≤_, _<_};
 ghost use lib.ListN.{length};
-ghost use Rattle.base.specs.Places.{twoAt};
 ghost use Rattle.rules.specs.Reading.{bitTotal};
-ghost use Rattle.packets.specs.Steps.{fieldStep};
-ghost use Rattle.packets.specs.Walks.{
-  putAt,
-  keptAt,
-  stepAfter,
-  runWith,
-  refusedOf,
-  walkAll,
-  walkAnswer,
-  Leaves,
-};
+ghost use Rattle.packets.specs.Walks.{putAt, keptAt, refusedOf, Steps, Walks};
 
 const FIELDS_MOST: usize = 64;
 
@@ -62,29 +51,28 @@ fn kept_at(table: &[u8], run: &[u32], tree: Span, next: usize) -> Moved
     }
 }
 
-// Field i, with later records behind it.
+// Field i by its record; it starts at a bit, and n records come behind it.
 fn one_field(
-    table: &[u8],
+    s: &[u8],
     packet: &[u8],
     run: &mut [u32],
     i: usize,
-    later: usize,
-    place: usize,
+    n: usize,
+    bit: usize,
     p: Parts,
 ) -> Moved
     requires { ⌜ (i < 64) × (4 * i + 4 ≤ length (now run)) ⌝ }
-    requires { ⌜ (later ≤ 64) × (place ≤ bitTotal (now packet)) × (length (now packet) ≤ 2048) ⌝ }
-    ensures { λ r. ⌜ r ≡ stepAfter (now (table .entry)) (now (run .entry)) i p (fieldStep (now (table .entry)) (now (packet .entry)) (now (run .entry)) p later place) ⌝ }
-    ensures { λ r. ⌜ now (run .exit) ≡ runWith (now (run .entry)) i (fieldStep (now (table .entry)) (now (packet .entry)) (now (run .entry)) p later place) ⌝ }
+    requires { ⌜ (n ≤ 64) × (bit ≤ bitTotal (now packet)) × (length (now packet) ≤ 2048) ⌝ }
+    ensures { λ r. ⌜ Steps (now (s .entry)) (now (packet .entry)) (now (run .entry)) i n bit p r (now (run .exit)) ⌝ }
 {
-    let found = field_step(table, packet, run, p, later, place);
+    let found = field_step(s, packet, run, p, n, bit);
     match found {
         Found::Field(e, next) => {
             put(run, i, e);
             if e.present == 0 {
                 return Moved::To(next);
             }
-            kept_at(table, run, p.constraint, next)
+            kept_at(s, run, p.constraint, next)
         }
         Found::Stop(f) => Moved::Stop(f),
     }
@@ -103,8 +91,7 @@ fn refused(moved: Moved, k: usize) -> PacketAnswer
 // All fields of a table, into the front of the run.
 pub(crate) fn walk_fields(table: &[u8], packet: &[u8], run: &mut [u32]) -> PacketAnswer
     requires { ⌜ (256 ≤ length (now run)) × (length (now packet) ≤ 2048) ⌝ }
-    ensures { λ r. ⌜ r ≡ walkAnswer (now (packet .entry)) (walkAll (now (table .entry)) (now (packet .entry)) (now (run .entry))) ⌝ }
-    ensures { λ r. ⌜ Leaves (walkAll (now (table .entry)) (now (packet .entry)) (now (run .entry))) (now (run .exit)) ⌝ }
+    ensures { λ r. ⌜ Walks (now (table .entry)) (now (packet .entry)) (now (run .entry)) r (now (run .exit)) ⌝ }
 {
     let n = two_at(table, 6);
     if FIELDS_MOST < n {

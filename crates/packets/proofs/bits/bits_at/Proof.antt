@@ -1,10 +1,9 @@
-use mathlib.Core.Path.{_≡_, refl, sym, _∙_}
+use mathlib.Core.Path.{_≡_, refl}
 use native.Mathlib.Omega.{arith}
 use denote.Ref.{now}
-use Prim.Native.Nat.{_+_, _-_, _*_, _≤_, _<_, _/_}
+use Prim.Native.Nat.{_+_, _-_, _≤_}
 use Rattle.rules.specs.Reading.{bitsAt}
 use Rattle.packets.proofs.BitLaws.{bit-lt, bits-step, bits-room}
-use borrow.Author.Needs.{needs}
 use Rattle.packets.proofs.bits.bits_at.Statement.{statement}
 use Rattle.packets.proofs.bits.bits_at.Tie as tie
 use Rattle.packets.proofs.bits.bits_at.Reads as reads
@@ -22,7 +21,10 @@ unfolding bitsAt
 loop-holds c = (omega arith, refl)
 
 mul-v : tie.Need-mul-v Inv-loop μ-loop
-mul-v c = omega (arith, bits-room (now (c .before .before .before .args .packet)) (c .before .before .before .args .place) (c .before .loop .i) (omega arith))
+mul-v c =
+    let a = c .before .before .before .args in
+    let l = c .before .loop in
+    omega (arith, bits-room (now (a .packet)) (a .place) (l .i) (omega arith))
 
 add-bit-at : tie.Need-add-bit-at Inv-loop μ-loop
 add-bit-at c = omega arith
@@ -31,7 +33,11 @@ bit-at-requires : tie.Need-bit-at-requires Inv-loop μ-loop
 bit-at-requires c κs = omega arith
 
 add-v : tie.Need-add-v Inv-loop μ-loop
-add-v c = omega (arith, bits-room (now (c .before .before .before .before .args .packet)) (c .before .before .before .before .args .place) (c .before .before .loop .i) (omega arith), bit-lt (now (c .before .before .before .before .args .packet)) (c .before .before .before .before .args .place + c .before .before .loop .i))
+add-v c =
+    let a = c .before .before .before .before .args in
+    let l = c .before .before .loop in
+    let room = bits-room (now (a .packet)) (a .place) (l .i) (omega arith) in
+    omega (arith, bit-lt (now (a .packet)) (a .place + l .i))
 
 add-i : tie.Need-add-i Inv-loop μ-loop
 add-i c = omega arith
@@ -43,7 +49,11 @@ loop-again : tie.Need-loop-again Inv-loop μ-loop
 loop-again c = (omega arith, rw (c .before .before .loop .inv .1, c .bit-at .ensures, bits-step))
 
 returns : tie.Need-returns Inv-loop μ-loop
-returns c = let e : c .before .loop .i ≡ c .before .before .before .args .n = omega arith in rw e at (c .before .loop .inv .1)
+returns c =
+    let a = c .before .before .before .args in
+    let l = c .before .loop in
+    let e : l .i ≡ a .n = omega arith in
+    rw e at (l .inv .1)
 
 pub bits-at-spec : {M : Type 1} → statement M
 bits-at-spec =

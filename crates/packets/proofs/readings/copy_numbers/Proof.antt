@@ -41,12 +41,11 @@ loop-less c = search needs
 loop-again : tie.Need-loop-again Inv-loop μ-loop
 loop-again c =
     let a = c .before .before .before .args in
-    let l = c .before .before .loop in
-    (
+    let l = c .before .before .loop in (
       omega arith,
       simp length-set (l .inv .1),
       rw (l .inv .2)
-      (copy-more (now (a .src)) (now (a .dst)) (l .i) (omega arith) (omega arith)),
+          (copy-more (now (a .src)) (now (a .dst)) (l .i) (omega arith) (omega arith)),
     )
 
 same-length : tie.Need-same-length Inv-loop μ-loop

@@ -61,9 +61,10 @@ slice-aggregate-part-at c = sym (c .before .before .before .before .read-run .ke
 
 part-at-requires : tie.Need-part-at-requires
 part-at-requires c κs =
-    let a = c .before .before .before .before .before .before .before .before .before .before .before .before .before .before .args in
-    let check-table = c .before .before .before .before .before .before .before .before .before .before .before .check-table in
-    let checked = c .before .before .before .before .before .before .before .before .before .checked in
+    let c₈ = c .before .before .before .before .before .before .before .before in
+    let a = c₈ .before .before .before .before .before .before .args in
+    let check-table = c₈ .before .before .before .check-table in
+    let checked = c₈ .before .checked in
     let two-at = c .before .before .before .before .before .before .before .two-at in
     let table = now (a .table) in
     let good = good-from table (check-table .result) _ (check-table .ensures) (checked .given .1) in
@@ -72,10 +73,11 @@ part-at-requires c κs =
 
 returns-3 : tie.Need-returns-3
 returns-3 c =
-    let a = c .before .before .before .before .before .before .before .before .before .before .before .before .before .before .before .args in
-    let check-table = c .before .before .before .before .before .before .before .before .before .before .before .before .check-table in
-    let checked = c .before .before .before .before .before .before .before .before .before .before .checked in
-    let two-at = c .before .before .before .before .before .before .before .before .two-at in
+    let c₈ = c .before .before .before .before .before .before .before .before in
+    let a = c₈ .before .before .before .before .before .before .before .args in
+    let check-table = c₈ .before .before .before .before .check-table in
+    let checked = c₈ .before .before .checked in
+    let two-at = c₈ .two-at in
     let read-run = c .before .before .before .before .before .read-run in
     let is-accepted = c .before .before .before .is-accepted in
     let if2 = c .before .before .if2 in
@@ -90,9 +92,10 @@ returns-3 c =
 
 returns-4 : tie.Need-returns-4
 returns-4 c =
-    let a = c .before .before .before .before .before .before .before .before .before .before .before .before .before .args in
-    let check-table = c .before .before .before .before .before .before .before .before .before .before .check-table in
-    let checked = c .before .before .before .before .before .before .before .before .checked in
+    let c₈ = c .before .before .before .before .before .before .before .before in
+    let a = c₈ .before .before .before .before .before .args in
+    let check-table = c₈ .before .before .check-table in
+    let checked = c₈ .checked in
     let read-run = c .before .before .before .read-run in
     let is-accepted = c .before .is-accepted in
     let if2 = c .if2 in

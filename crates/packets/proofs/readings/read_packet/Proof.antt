@@ -60,7 +60,8 @@ mul-n c = search needs
 
 returns-3 : tie.Need-returns-3
 returns-3 c =
-    let a = c .before .before .before .before .before .before .before .before .before .before .args in
+    let c₈ = c .before .before .before .before .before .before .before .before in
+    let a = c₈ .before .before .args in
     let check-table = c .before .before .before .before .before .before .check-table in
     let checked = c .before .before .before .before .checked in
     let two-at = c .before .two-at in
@@ -83,10 +84,12 @@ slice-aggregate-copy-numbers c = sym (c .before .before .before .before .before 
 
 copy-numbers-requires : tie.Need-copy-numbers-requires
 copy-numbers-requires c κs =
-    let a = c .before .before .before .before .before .before .before .before .before .before .before .before .before .before .before .before .before .args in
-    let check-table = c .before .before .before .before .before .before .before .before .before .before .before .before .before .check-table in
-    let checked = c .before .before .before .before .before .before .before .before .before .before .before .checked in
-    let two-at = c .before .before .before .before .before .before .before .before .two-at in
+    let c₈ = c .before .before .before .before .before .before .before .before in
+    let c₁₆ = c₈ .before .before .before .before .before .before .before .before in
+    let a = c₁₆ .before .args in
+    let check-table = c₈ .before .before .before .before .before .check-table in
+    let checked = c₈ .before .before .before .checked in
+    let two-at = c₈ .two-at in
     let read-run = c .before .before .before .before .before .read-run in
     let table = now (a .table) in
     let good = good-from table (check-table .result) _ (check-table .ensures) (checked .given .1) in
@@ -98,11 +101,13 @@ same-length c = search needs
 
 returns-4 : tie.Need-returns-4
 returns-4 c =
-    let a = c .before .before .before .before .before .before .before .before .before .before .before .before .before .before .before .before .before .before .before .before .args in
-    let check-table = c .before .before .before .before .before .before .before .before .before .before .before .before .before .before .before .before .check-table in
-    let checked = c .before .before .before .before .before .before .before .before .before .before .before .before .before .before .checked in
-    let two-at = c .before .before .before .before .before .before .before .before .before .before .before .two-at in
-    let read-run = c .before .before .before .before .before .before .before .before .read-run in
+    let c₈ = c .before .before .before .before .before .before .before .before in
+    let c₁₆ = c₈ .before .before .before .before .before .before .before .before in
+    let a = c₁₆ .before .before .before .before .args in
+    let check-table = c₁₆ .check-table in
+    let checked = c₈ .before .before .before .before .before .before .checked in
+    let two-at = c₈ .before .before .before .two-at in
+    let read-run = c₈ .read-run in
     let is-accepted = c .before .before .before .before .before .before .is-accepted in
     let if3 = c .before .before .before .before .before .if3 in
     let copy-numbers = c .before .before .copy-numbers in
@@ -116,9 +121,10 @@ returns-4 c =
 
 returns-5 : tie.Need-returns-5
 returns-5 c =
-    let a = c .before .before .before .before .before .before .before .before .before .before .before .before .before .before .before .args in
-    let check-table = c .before .before .before .before .before .before .before .before .before .before .before .check-table in
-    let checked = c .before .before .before .before .before .before .before .before .before .checked in
+    let c₈ = c .before .before .before .before .before .before .before .before in
+    let a = c₈ .before .before .before .before .before .before .before .args in
+    let check-table = c₈ .before .before .before .check-table in
+    let checked = c₈ .before .checked in
     let two-at = c .before .before .before .before .before .before .two-at in
     let read-run = c .before .before .before .read-run in
     let is-accepted = c .before .is-accepted in

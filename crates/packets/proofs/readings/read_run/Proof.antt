@@ -28,7 +28,8 @@ returns-2 c =
     let walk-fields = c .before .before .walk-fields in
     let w = walk-fields .ensures in
     λ d within stored.
-    run-read d (now (a .table)) (now (a .packet)) (now (a .run)) _ _ within stored (omega arith) (omega arith) (w .0) (w .1)
+    run-read d (now (a .table)) (now (a .packet)) (now (a .run)) _ _ within stored (omega arith) (omega arith) (w .0)
+    (w .1)
 
 pub read-run-spec : {M : Type 1} → statement M
 read-run-spec = tie.close (tie.spec returns walk-fields-requires same-length returns-2)

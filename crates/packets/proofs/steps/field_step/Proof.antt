@@ -38,7 +38,8 @@ enum-known-condition-2 c = search needs
 returns-2 : tie.Need-returns-2
 unfolding fieldStep
 returns-2 c =
-    let a = c .before .before .before .before .before .before .before .before .before .args in
+    let c₈ = c .before .before .before .before .before .before .before .before in
+    let a = c₈ .before .args in
     let holds-at = c .before .before .before .before .before .holds-at in
     let condition = c .before .before .before .condition in
     let if1 = c .before .if1 in

@@ -31,7 +31,7 @@ returns c =
     let extent = c .before .before .extent in
     let bounded-at = c .bounded-at in
     let v =
-    extentAt (now (a .table)) (now (a .packet)) (now (a .run)) (a .p) (a .later) (a .place) in
+    extentAt (now (a .table)) (now (a .packet)) (now (a .run)) (a .p) (a .n) (a .bit) in
     let e = got-value v _ (sym (extent-at .ensures) ∙ extent .given .1) in
     rw e (bounded-at .ensures)
 
@@ -42,7 +42,7 @@ returns-2 c =
     let extent-at = c .before .before .before .extent-at in
     let extent2 = c .before .extent2 in
     let v =
-    extentAt (now (a .table)) (now (a .packet)) (now (a .run)) (a .p) (a .later) (a .place) in
+    extentAt (now (a .table)) (now (a .packet)) (now (a .run)) (a .p) (a .n) (a .bit) in
     let e = got-stop v _ (sym (extent-at .ensures) ∙ extent2 .given .1) in
     rw e
 

@@ -28,13 +28,14 @@ same-length c = search needs
 returns : tie.Need-returns
 unfolding stepAfter
 returns c =
-    let a = c .before .before .before .before .before .before .before .before .before .before .before .before .before .before .args in
-    let field-step = c .before .before .before .before .before .before .before .before .before .field-step in
+    let c₈ = c .before .before .before .before .before .before .before .before in
+    let a = c₈ .before .before .before .before .before .before .args in
+    let field-step = c₈ .before .field-step in
     let found = c .before .before .before .before .before .before .before .found in
     let put = c .before .before .before .before .put in
     let if1 = c .if1 in
     let st =
-    fieldStep (now (a .table)) (now (a .packet)) (now (a .run)) (a .p) (a .later) (a .place) in
+    fieldStep (now (a .s)) (now (a .packet)) (now (a .run)) (a .p) (a .n) (a .bit) in
     let e = found-field st _ _ (sym (field-step .ensures) ∙ found .given .1) in
     (rw (e, eq-eqb _ 0 (if1 .taken)), rw e (put .ensures))
 
@@ -50,14 +51,15 @@ same-length-2 c = search needs
 returns-2 : tie.Need-returns-2
 unfolding stepAfter
 returns-2 c =
-    let a = c .before .before .before .before .before .before .before .before .before .before .before .before .before .before .before .before .args in
-    let field-step = c .before .before .before .before .before .before .before .before .before .before .before .field-step in
-    let found = c .before .before .before .before .before .before .before .before .before .found in
+    let c₈ = c .before .before .before .before .before .before .before .before in
+    let a = c₈ .before .before .before .before .before .before .before .before .args in
+    let field-step = c₈ .before .before .before .field-step in
+    let found = c₈ .before .found in
     let put = c .before .before .before .before .before .before .put in
     let if1 = c .before .before .if1 in
     let kept-at = c .kept-at in
     let st =
-    fieldStep (now (a .table)) (now (a .packet)) (now (a .run)) (a .p) (a .later) (a .place) in
+    fieldStep (now (a .s)) (now (a .packet)) (now (a .run)) (a .p) (a .n) (a .bit) in
     let e = found-field st _ _ (sym (field-step .ensures) ∙ found .given .1) in
     (rw (e, ne-eqb _ 0 (if1 .left), ← put .ensures) (kept-at .ensures), rw e (put .ensures))
 
@@ -71,7 +73,7 @@ returns-3 c =
     let field-step = c .before .before .before .field-step in
     let found2 = c .before .found2 in
     let st =
-    fieldStep (now (a .table)) (now (a .packet)) (now (a .run)) (a .p) (a .later) (a .place) in
+    fieldStep (now (a .s)) (now (a .packet)) (now (a .run)) (a .p) (a .n) (a .bit) in
     let e = found-stop st _ (sym (field-step .ensures) ∙ found2 .given .1) in
     (rw e, rw e)
 

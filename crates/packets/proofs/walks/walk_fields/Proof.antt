@@ -84,10 +84,11 @@ same-length c = search needs
 returns-2 : tie.Need-returns-2 Inv-loop μ-loop
 unfolding walkAnswer
 returns-2 c =
-    let a = c .before .before .before .before .before .before .before .before .before .before .before .before .before .before .before .before .args in
-    let two-at = c .before .before .before .before .before .before .before .before .before .before .before .before .two-at in
-    let l = c .before .before .before .before .before .before .before .before .before .loop in
-    let loop-test = c .before .before .before .before .before .before .before .before .loop-test in
+    let c₈ = c .before .before .before .before .before .before .before .before in
+    let a = c₈ .before .before .before .before .before .before .before .before .args in
+    let two-at = c₈ .before .before .before .before .two-at in
+    let l = c₈ .before .loop in
+    let loop-test = c₈ .loop-test in
     let record-at = c .before .before .before .before .before .before .before .record-at in
     let one-field = c .before .before .before .before .before .one-field in
     let enum-told = c .before .enum-told in
@@ -95,8 +96,9 @@ returns-2 c =
     let told = enum-told .given .1 in
     let h =
     l .inv .3
-    ∙ walk-stop (now (a .table)) (now (a .packet)) (l .run) (two-at .result) (l .i) (l .place) (l .at) (record-at .result)
-    (one-field .result) (one-field .last .1 .1 .0) (loop-test .taken) (record-at .ensures) (one-field .ensures .0) _ told in
+    ∙ walk-stop (now (a .table)) (now (a .packet)) (l .run) (two-at .result) (l .i) (l .place) (l .at)
+    (record-at .result) (one-field .result) (one-field .last .1 .1 .0) (loop-test .taken) (record-at .ensures)
+    (one-field .ensures .0) _ told in
     (rw h (refused .ensures ∙ rw told), rw h tt)
 
 add-i : tie.Need-add-i Inv-loop μ-loop
@@ -107,10 +109,11 @@ loop-less c = search needs
 
 loop-again : tie.Need-loop-again Inv-loop μ-loop
 loop-again c =
-    let a = c .before .before .before .before .before .before .before .before .before .before .before .before .before .before .before .before .args in
-    let two-at = c .before .before .before .before .before .before .before .before .before .before .before .before .two-at in
-    let l = c .before .before .before .before .before .before .before .before .before .loop in
-    let loop-test = c .before .before .before .before .before .before .before .before .loop-test in
+    let c₈ = c .before .before .before .before .before .before .before .before in
+    let a = c₈ .before .before .before .before .before .before .before .before .args in
+    let two-at = c₈ .before .before .before .before .two-at in
+    let l = c₈ .before .loop in
+    let loop-test = c₈ .loop-test in
     let record-at = c .before .before .before .before .before .before .before .record-at in
     let one-field = c .before .before .before .before .before .one-field in
     let moved = c .before .moved in
@@ -136,12 +139,14 @@ same-length-2 c = search needs
 returns-3 : tie.Need-returns-3 Inv-loop μ-loop
 unfolding walkAnswer
 returns-3 c =
-    let a = c .before .before .before .before .before .before .before .before .before .args in
+    let c₈ = c .before .before .before .before .before .before .before .before in
+    let a = c₈ .before .args in
     let two-at = c .before .before .before .before .before .two-at in
     let l = c .before .before .loop in
     let if2 = c .if2 in
     let e : l .i ≡ two-at .result = omega arith in
-    let h = rw e at (l .inv .3) ∙ walk-end (now (a .table)) (now (a .packet)) (l .run) (two-at .result) (l .place) (l .at) in
+    let h =
+    rw e at (l .inv .3) ∙ walk-end (now (a .table)) (now (a .packet)) (l .run) (two-at .result) (l .place) (l .at) in
     (rw (h, eq-eqb _ _ (if2 .taken)), rw h refl)
 
 same-length-3 : tie.Need-same-length-3 Inv-loop μ-loop
@@ -150,12 +155,14 @@ same-length-3 c = search needs
 returns-4 : tie.Need-returns-4 Inv-loop μ-loop
 unfolding walkAnswer
 returns-4 c =
-    let a = c .before .before .before .before .before .before .before .before .before .args in
+    let c₈ = c .before .before .before .before .before .before .before .before in
+    let a = c₈ .before .args in
     let two-at = c .before .before .before .before .before .two-at in
     let l = c .before .before .loop in
     let if2 = c .if2 in
     let e : l .i ≡ two-at .result = omega arith in
-    let h = rw e at (l .inv .3) ∙ walk-end (now (a .table)) (now (a .packet)) (l .run) (two-at .result) (l .place) (l .at) in
+    let h =
+    rw e at (l .inv .3) ∙ walk-end (now (a .table)) (now (a .packet)) (l .run) (two-at .result) (l .place) (l .at) in
     (rw (h, ne-eqb _ _ (if2 .left)), rw h refl)
 
 pub walk-fields-spec : {M : Type 1} → statement M
