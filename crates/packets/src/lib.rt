@@ -1,6 +1,6 @@
 // Tables are checked, and packets read by them.
 mod bits;
-mod readings;
+pub mod readings;
 mod records;
 mod steps;
 mod tables;
