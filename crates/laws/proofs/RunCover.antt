@@ -1,5 +1,5 @@
 -- What an accepted packet leaves in the run: entries that cover each bit exactly once; the answer is the bit total.
-use mathlib.Core.Path.{_≡_, refl, sym, _∙_, ap}
+use mathlib.Core.Path.{_≡_, refl, sym, ap}
 use mathlib.Core.Bool.{Bool, true, false, cond, _&&_, not}
 use mathlib.Core.List.{List, [], _∷_, _++_}
 use Prim.Native.Nat.{ℕ, zero, suc, _*_, _<_}
@@ -11,19 +11,8 @@ use Rattle.rules.specs.declared.Fault.{Fault}
 use Rattle.rules.specs.declared.PacketAnswer.{PacketAnswer}
 use Rattle.rules.specs.Fields.{Field, Description}
 use Rattle.rules.specs.Stored.{Good}
-use Rattle.rules.specs.Answers.{Answer, faultNumber, ofPacket}
-use Rattle.rules.specs.Reading.{
-  Entry,
-  Reading,
-  complete,
-  tooLong,
-  faulted,
-  leftOver,
-  isTooLong,
-  reading,
-  bitTotal,
-  numbersOf,
-}
+use Rattle.rules.specs.Answers.{faultNumber, ofPacket}
+use Rattle.rules.specs.Reading.{Entry, Reading, complete, tooLong, faulted, leftOver, isTooLong, reading, numbersOf}
 use Rattle.rules.specs.Cover.{Covers, OnlyOne, InOrder, Kept}
 use Rattle.rules.specs.Promises.{
   Outcome,

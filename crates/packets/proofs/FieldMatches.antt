@@ -1,5 +1,5 @@
 -- One field of a packet with its constraint: the code's step is the reading's step, and the run has one entry more.
-use mathlib.Core.Path.{_≡_, refl, sym, _∙_}
+use mathlib.Core.Path.{_≡_, refl}
 use mathlib.Core.Bool.{Bool, true, false, cond, _&&_}
 use mathlib.Core.List.{List, [], _∷_, _++_}
 use Prim.Native.Nat.{ℕ, _+_, _*_, _≤_}
@@ -8,12 +8,11 @@ use lib.Dec.{ltb, eqb}
 use lib.ListN.{length, length-append}
 use Rattle.base.specs.Lists.{all, ifAny, listOf}
 use Rattle.base.proofs.Breaks.{and-true, all-append}
-use Rattle.rules.specs.declared.Fault.{Fault}
 use Rattle.rules.specs.declared.Fault.the-variants.{BitsMissing, ConstraintFalse}
 use Rattle.rules.specs.declared.ValueType.the-variants.{YesNo}
 use Rattle.rules.specs.Trees.{isInRange, isSmall, hasType}
 use Rattle.rules.specs.Values.{Value, value, fault}
-use Rattle.rules.specs.Fields.{Width, Field, widthTrees, trees}
+use Rattle.rules.specs.Fields.{Field, widthTrees, trees}
 use Rattle.rules.specs.Within.{isFormed, keepsTypes, widthHasType, indexReadable}
 use Rattle.rules.specs.Reading.{
   Entry,
@@ -34,7 +33,7 @@ use Rattle.laws.proofs.ReadsFields.{formed-parts}
 use Rattle.packets.specs.declared.records.Parts.{Parts}
 use Rattle.packets.specs.declared.walks.Moved.{Moved}
 use Rattle.packets.specs.PartsStand.{PartsStand}
-use Rattle.packets.specs.Steps.{numbersIn, holdsAt, laterBits, presentAt, fieldStep}
+use Rattle.packets.specs.Steps.{numbersIn, holdsAt, laterBits, fieldStep}
 use Rattle.packets.specs.Walks.{putAt, keptBy, keptAt, stepAfter, runWith}
 use Rattle.packets.proofs.RunEntries.{Begins, put-begins, run-agrees}
 use Rattle.packets.proofs.FieldReads.{opened, holds-reads, width-reads}

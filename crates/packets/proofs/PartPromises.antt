@@ -1,8 +1,8 @@
 -- A field's part by its numbers is the part that the reading says, and lies within the packet.
 use mathlib.Core.Path.{_≡_, refl, sym, _∙_, ap}
 use mathlib.Core.Bool.{Bool, true, false, cond, _&&_}
-use mathlib.Core.Logic.{_⊎_, inl, inr}
-use mathlib.Core.List.{List, [], _∷_, _++_}
+use mathlib.Core.Logic.{inl, inr}
+use mathlib.Core.List.{List, [], _∷_}
 use Prim.Native.Nat.{ℕ, zero, suc, _+_, _*_, _/_, _%_, _<_, _≤_}
 use native.Mathlib.Omega.{arith}
 use lib.Dec.{eqb}
@@ -34,7 +34,7 @@ use Rattle.laws.proofs.Decidable.{good-decidable}
 use Rattle.packets.specs.declared.readings.Bytes.{Bytes}
 use Rattle.packets.specs.FieldParts.{isAccepted, bytesOf, partAt, OnPacket}
 use Rattle.packets.specs.FieldBytes.{movedBy, Lends}
-use Rattle.packets.specs.RunRead.{RunHolds, ReadsRun}
+use Rattle.packets.specs.RunRead.{ReadsRun}
 use Rattle.packets.proofs.RunEntries.{Begins, run-present, run-number}
 use Rattle.packets.proofs.PacketPromises.{
   not-good,

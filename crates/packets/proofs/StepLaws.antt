@@ -1,12 +1,12 @@
 -- Laws of the mirror definitions of one field's step.
-use mathlib.Core.Path.{_≡_, refl, sym, _∙_}
+use mathlib.Core.Path.{_≡_}
 use mathlib.Core.List.{List}
-use Prim.Native.Nat.{ℕ, zero, suc, _+_, _-_, _<_, _≤_}
+use Prim.Native.Nat.{ℕ, suc, _+_, _-_, _<_}
 use native.Mathlib.Omega.{arith}
-use native.Mathlib.Nat.{add-assoc, sub-self, add-zero}
+use native.Mathlib.Nat.{sub-self}
 use Rattle.rules.specs.declared.Fault.{Fault}
 use Rattle.rules.specs.Values.{Value, value, fault}
-use Rattle.rules.specs.Reading.{Entry, Step, step, stop}
+use Rattle.rules.specs.Reading.{Step, step, stop}
 use Rattle.packets.specs.declared.steps.Got.{Got}
 use Rattle.packets.specs.declared.steps.Numbers.{Numbers}
 use Rattle.packets.specs.declared.steps.Found.{Found}

@@ -1,8 +1,8 @@
 -- Laws of the walk over a packet's fields: one field of it, and places that stay within the packet.
-use mathlib.Core.Path.{_≡_, refl, sym, _∙_}
+use mathlib.Core.Path.{_≡_, refl}
 use mathlib.Core.Bool.{Bool, true, false, cond}
 use mathlib.Core.List.{List}
-use Prim.Native.Nat.{ℕ, zero, suc, _+_, _-_, _<_, _≤_}
+use Prim.Native.Nat.{ℕ, suc, _+_, _-_, _<_, _≤_}
 use native.Mathlib.Omega.{arith}
 use native.Mathlib.Nat.{sub-self}
 use lib.Dec.{ltb, eqb}
@@ -25,17 +25,7 @@ use Rattle.packets.specs.Steps.{
   fieldStep,
   numbersIn,
 }
-use Rattle.packets.specs.Walks.{
-  putAt,
-  keptBy,
-  keptAt,
-  stepAfter,
-  runWith,
-  Walk,
-  ended,
-  stopped,
-  walkFrom,
-}
+use Rattle.packets.specs.Walks.{putAt, keptBy, keptAt, stepAfter, runWith, ended, stopped, walkFrom}
 
 pub length-put : (run : List ℕ) (i : ℕ) (e : Numbers) → length (putAt run i e) ≡ length run
 unfolding putAt

@@ -1,24 +1,23 @@
 -- The walk over a stored table's records reads a packet as the description says.
-use mathlib.Core.Path.{_≡_, refl, sym, _∙_, ap}
+use mathlib.Core.Path.{_≡_, refl}
 use mathlib.Core.Bool.{Bool, true, false, cond}
 use mathlib.Core.List.{List, [], _∷_, _++_}
 use mathlib.Core.Option.{none}
-use Prim.Native.Nat.{ℕ, suc, _+_, _*_, _<_, _≤_}
+use Prim.Native.Nat.{ℕ, _+_, _*_, _<_, _≤_}
 use native.Mathlib.Omega.{arith}
 use native.Mathlib.Numerals.{add-one}
 use lib.Dec.{ltb, eqb}
-use lib.ListN.{length, take, length-append}
+use lib.ListN.{length, length-append}
 use borrow.Author.Tests.{eqb-true, le-ltb, lt-ltb}
 use Rattle.base.specs.Lists.{joined, sum, firstBreak}
 use Rattle.base.specs.Places.{Stands, twoAt}
 use Rattle.base.proofs.Breaks.{firstBreak-cons}
 use Rattle.base.proofs.Places.{stands-left, stands-right}
-use Rattle.rules.specs.declared.Fault.{Fault}
 use Rattle.rules.specs.declared.PacketAnswer.{PacketAnswer}
 use Rattle.rules.specs.Fields.{Field, Description, fixedBits}
-use Rattle.rules.specs.Within.{keepsForm, keepsSize, keepsTypes, indexReadable, isWidth, Within}
+use Rattle.rules.specs.Within.{keepsForm, keepsSize, keepsTypes, indexReadable, Within}
 use Rattle.rules.specs.Stored.{storedField, stored}
-use Rattle.rules.specs.Answers.{faultNumber, ofPacket}
+use Rattle.rules.specs.Answers.{ofPacket}
 use Rattle.rules.specs.Reading.{
   Entry,
   Step,
@@ -26,35 +25,20 @@ use Rattle.rules.specs.Reading.{
   stop,
   Reading,
   complete,
-  faulted,
   leftOver,
   readOn,
   readField,
   readFields,
   reading,
   bitTotal,
-  numbersOf,
 }
 use Rattle.rules.specs.Promises.{readingAnswer}
 use Rattle.laws.proofs.ReadsFields.{formed-parts}
-use Rattle.packets.specs.declared.records.Parts.{Parts}
 use Rattle.packets.specs.declared.walks.Moved.{Moved}
-use Rattle.packets.specs.Parts.{tableMost, partsAt}
+use Rattle.packets.specs.Parts.{tableMost}
 use Rattle.packets.specs.PartsStand.{PartsStand}
 use Rattle.packets.specs.Steps.{recordAt, laterBits, fieldStep}
-use Rattle.packets.specs.Walks.{
-  stepAfter,
-  runWith,
-  Walk,
-  ended,
-  stopped,
-  tooMany,
-  onMoved,
-  walkFrom,
-  walkAll,
-  walkAnswer,
-  Leaves,
-}
+use Rattle.packets.specs.Walks.{stepAfter, runWith, Walk, onMoved, walkFrom, walkAll, walkAnswer, Leaves}
 use Rattle.packets.specs.RunRead.{RunHolds}
 use Rattle.packets.proofs.RecordLaws.{record-parts}
 use Rattle.packets.proofs.FieldBounds.{field-bounds}
@@ -62,7 +46,7 @@ use Rattle.packets.proofs.RunEntries.{Begins}
 use Rattle.packets.proofs.FieldReads.{fixed-part}
 use Rattle.packets.proofs.FieldMatches.{Matches, field-matches}
 use Rattle.packets.proofs.WalkLaws.{length-with}
-use Rattle.packets.proofs.HeadReads.{HeadStands, head-stands}
+use Rattle.packets.proofs.HeadReads.{head-stands}
 
 -- ── records one behind the other ──
 

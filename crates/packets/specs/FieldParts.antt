@@ -7,7 +7,6 @@ use lib.Dec.{eqb}
 use lib.ListN.{length, getD}
 use Rattle.rules.specs.declared.PacketAnswer.{PacketAnswer}
 use Rattle.rules.specs.Stored.{Good}
-use Rattle.rules.specs.Reading.{Part}
 use Rattle.rules.specs.Promises.{partBy}
 use Rattle.packets.specs.declared.readings.Bytes.{Bytes}
 

@@ -1,8 +1,8 @@
 -- The fields of a packet in order, by a table's records. This mirrors the code: no public promise rests on this file.
 use mathlib.Core.Path.{_≡_}
-use mathlib.Core.Bool.{Bool, true, false, cond}
+use mathlib.Core.Bool.{cond}
 use mathlib.Core.List.{List}
-use Prim.Native.Nat.{ℕ, zero, suc, _+_, _*_, _-_, _≤_}
+use Prim.Native.Nat.{ℕ, zero, suc, _+_, _*_}
 use lib.Dec.{ltb, eqb}
 use lib.ListN.{set}
 use Rattle.base.specs.Places.{twoAt}
@@ -10,7 +10,7 @@ use Rattle.rules.specs.declared.Fault.{Fault}
 use Rattle.rules.specs.declared.Fault.the-variants.{ConstraintFalse}
 use Rattle.rules.specs.declared.PacketAnswer.{PacketAnswer}
 use Rattle.rules.specs.Values.{Value, value, fault}
-use Rattle.rules.specs.Reading.{Entry, Step, step, stop, bitTotal}
+use Rattle.rules.specs.Reading.{Step, step, stop, bitTotal}
 use Rattle.packets.specs.declared.records.Span.{Span}
 use Rattle.packets.specs.declared.records.Parts.{Parts}
 use Rattle.packets.specs.declared.steps.Numbers.{Numbers}
