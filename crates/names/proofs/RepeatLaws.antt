@@ -1,5 +1,5 @@
 -- A search for the first index that passes a test, and what it says when nothing repeats.
-use mathlib.Core.Path.{_≡_, refl, sym, _∙_}
+use mathlib.Core.Path.{_≡_, refl, sym, _∙_, ap}
 use mathlib.Core.Bool.{Bool, true, false, cond}
 use Prim.Native.Nat.{ℕ, zero, suc, _+_, _-_, _≤_, _<_}
 use native.Mathlib.Numerals.{add-one}
@@ -86,3 +86,16 @@ module _ (alike : ℕ → ℕ → Bool) (i j : ℕ) where
   repeats-found p e t =
       let f : firstFrom (λ k. alike k j) 0 j ≡ i = e ∙ search-step (λ k. alike k j) i j p ∙ simp t in
       lt-ltb (firstFrom (λ k. alike k j) 0 j) j (omega (arith, f))
+
+-- ── searches by tests that agree ──
+
+pub search-same : (f g : ℕ → Bool) (i n : ℕ) → ((k : ℕ) → i ≤ k → k < i + n → f k ≡ g k) → firstFrom f i n ≡ firstFrom g i n
+unfolding firstFrom
+search-same f g i zero h = refl
+search-same f g i (suc n) h =
+    rw (h i (omega arith) (omega arith), search-same f g (suc i) n (λ k p q. h k (omega arith) (omega arith)))
+
+pub repeat-same : (a b : ℕ → ℕ → Bool) (n : ℕ) → ((i j : ℕ) → i < j → j < n → a i j ≡ b i j)
+    → firstRepeat a n ≡ firstRepeat b n
+repeat-same a b n h = search-same (repeats a) (repeats b) 0 n (λ j p q.
+    ap (λ (x : ℕ). ltb x j) (search-same (λ i. a i j) (λ i. b i j) 0 j (λ i u v. h i j (omega arith) (omega arith))))

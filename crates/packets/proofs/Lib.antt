@@ -1,34 +1,45 @@
--- PartsLaws, RecordLaws   the parts of a record and the field stored there
--- BitLaws                 the number that bits make
--- StepLaws, WalkLaws      one field of a packet, and all
--- Products   a product of two 32-bit numbers
--- TreeSteps  one step of checking, skipping and evaluating a stored tree
--- PartsLaws    the parts of a record and the field stored there
--- RecordLaws   a field's whole record
--- FieldBounds  the sizes of a field within the limits
--- Products      a product of two 32-bit numbers
--- TreeSteps     one step of checking, skipping and evaluating a stored tree
--- TreeCodes     the first byte of a stored tree
--- TreeSound     what a check finds is a tree of that kind that stands there
--- TreeComplete  a tree that stands somewhere is found there, and skipped
--- TreeValues    the value of a tree that stands somewhere
+-- PartsLaws                         the parts of a record and the field stored there
+-- RecordLaws                        a field's whole record
+-- FieldBounds                       the sizes of a field within the limits
+-- Products                          a product of two 32-bit numbers
+-- TreeSteps                         one step of checking, skipping and evaluating a stored tree
+-- TreeCodes                         the first byte of a stored tree
+-- TreeSound                         what a check finds is a tree of that kind that stands there
+-- TreeComplete                      a tree that stands somewhere is found there, and skipped
+-- TreeValues                        the value of a tree that stands somewhere
+-- FieldSteps, WalkSteps, NameSteps  what the code that checks a table is told at its steps
+-- PartBytes                         the bytes of a part and the trees in it, by the tests
+-- BitLaws                           the number that bits make
+-- StepLaws, WalkLaws                what the code that reads a packet is told at its steps
+-- CopyLaws                          a copy to the front of a list
+-- RunEntries                        a run that begins with the numbers of some entries
+-- FieldReads, FieldMatches          one field of a packet by its record, and its constraint
+-- HeadReads                         what a stored table's first record says
+-- WalkReads                         a stored table's walk reads a packet as the description says
+-- PacketPromises, PartPromises      each answer keeps the promise of its entry
 pub mod PartsLaws
 pub mod RecordLaws
-pub mod BitLaws
-pub mod StepLaws
-pub mod WalkLaws
-pub mod RunEntries
-pub mod FieldReads
-pub mod FieldMatches
-pub mod HeadReads
-pub mod CopyLaws
-pub mod WalkReads
-pub mod PacketPromises
-pub mod PartPromises
+pub mod FieldBounds
 pub mod Products
 pub mod TreeSteps
-pub mod FieldBounds
 pub mod TreeCodes
 pub mod TreeSound
 pub mod TreeComplete
 pub mod TreeValues
+pub mod FieldSteps
+pub mod WalkSteps
+pub mod NameSteps
+pub mod PartBytes
+pub mod FieldParts
+pub mod FieldTests
+pub mod BitLaws
+pub mod StepLaws
+pub mod WalkLaws
+pub mod CopyLaws
+pub mod RunEntries
+pub mod FieldReads
+pub mod FieldMatches
+pub mod HeadReads
+pub mod WalkReads
+pub mod PacketPromises
+pub mod PartPromises

@@ -102,7 +102,7 @@ fn four_at(s: &[u8], at: usize) -> u32
     low + 65536 * high
 }
 
-fn same_type(a: ValueType, b: ValueType) -> bool
+pub(crate) fn same_type(a: ValueType, b: ValueType) -> bool
     ensures { λ r. ⌜ r ≡ sameType a b ⌝ }
 {
     match a {

@@ -1,0 +1,64 @@
+use mathlib.Core.Path.{_≡_, refl, sym, _∙_, ap}
+use mathlib.Core.Bool.{Bool, true, false}
+use Prim.Native.Nat.{ℕ, _+_, _-_, _<_, _≤_, _%_}
+use native.Mathlib.Omega.{arith}
+use lib.ListN.{length, getD, take, drop}
+use denote.Ref.{now}
+use borrow.Author.Tests.{le-ltb, lt-ltb, le-leb, lt-leb, eq-eqb, ne-eqb, not-true, not-false}
+use Rattle.packets.specs.FieldTest.{formTest}
+use borrow.Author.Needs.{needs}
+use Rattle.packets.proofs.fields.is_formed.Statement.{statement}
+use Rattle.packets.proofs.fields.is_formed.Tie as tie
+use Rattle.packets.proofs.fields.is_formed.Reads as reads
+use Rattle.packets.proofs.fields.is_formed.Lts as lts
+use Rattle.names.proofs.labels.is_label.Reads as is-label-reads
+use Rattle.packets.proofs.fields.is_name.Reads as is-name-reads
+use Rattle.packets.proofs.fields.is_number.Reads as is-number-reads
+
+add-end : tie.Need-add-end
+add-end c = search needs
+
+sub-is-label : tie.Need-sub-is-label
+sub-is-label c = search needs
+
+part-is-label-start : tie.Need-part-is-label-start
+part-is-label-start c = search needs
+
+part-is-label-end : tie.Need-part-is-label-end
+part-is-label-end c = search needs
+
+is-label-requires : tie.Need-is-label-requires
+is-label-requires c κs = search needs
+
+returns : tie.Need-returns
+unfolding formTest
+returns c = rw (sym (c .before .is-label .ensures) ∙ not-true (c .before .is-label .result) (c .if1 .taken))
+
+is-name-requires : tie.Need-is-name-requires
+is-name-requires c κs = search needs
+
+returns-2 : tie.Need-returns-2
+unfolding formTest
+returns-2 c = rw ((sym (c .before .before .before .is-label .ensures) ∙ not-false (c .before .before .before .is-label .result) (c .before .before .if1 .left)), (sym (c .before .is-name .ensures) ∙ not-true (c .before .is-name .result) (c .if2 .taken)))
+
+is-number-requires : tie.Need-is-number-requires
+is-number-requires c κs = search needs
+
+returns-3 : tie.Need-returns-3
+unfolding formTest
+returns-3 c = rw ((sym (c .before .before .before .before .is-label .ensures) ∙ not-false (c .before .before .before .before .is-label .result) (c .before .before .before .if1 .left)), (sym (c .before .before .is-name .ensures) ∙ not-false (c .before .before .is-name .result) (c .before .if2 .left))) (c .is-number .ensures)
+
+pub is-formed-spec : {M : Type 1} → statement M
+is-formed-spec =
+    tie.close
+    (tie.spec
+    add-end
+    sub-is-label
+    part-is-label-start
+    part-is-label-end
+    is-label-requires
+    returns
+    is-name-requires
+    returns-2
+    is-number-requires
+    returns-3)

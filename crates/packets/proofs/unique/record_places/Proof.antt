@@ -1,0 +1,70 @@
+use mathlib.Core.Path.{_≡_, refl, sym, _∙_, ap}
+use mathlib.Core.Bool.{Bool, true, false, _||_}
+use mathlib.Core.List.{List, [], _∷_, _++_}
+use Prim.Native.Nat.{ℕ, _+_, _-_, _*_, _<_, _≤_, _%_}
+use native.Mathlib.Omega.{arith}
+use native.Mathlib.Nat.{sub-zero}
+use lib.ListN.{length, getD, take, drop}
+use denote.Ref.{now}
+use borrow.Author.Tests.{le-ltb, lt-ltb, le-leb, lt-leb, eq-eqb, ne-eqb, not-true, not-false}
+use Rattle.packets.specs.NamesTest.{placesFrom, FieldPlaces}
+use Rattle.packets.proofs.NameSteps.{place-first, places-rest, places-again, places-done, shorts-again, all-places, all-names, all-labels}
+use borrow.Author.Needs.{needs}
+use Rattle.packets.proofs.unique.record_places.Statement.{statement}
+use Rattle.packets.proofs.unique.record_places.Tie as tie
+use Rattle.packets.proofs.unique.record_places.Reads as reads
+use Rattle.packets.proofs.unique.record_places.Lts as lts
+use Rattle.packets.proofs.records.parts_at.Reads as parts-at-reads
+
+abbrev Inv-loop : tie.InvT-loop
+Inv-loop s count from places₀ at₀ i₀ places at i = 
+    (i ≤ count) × (length places ≡ 64) × FieldPlaces s (count - i) (placesFrom s (count - i) at)
+    × (take i places ++ placesFrom s (count - i) at ≡ placesFrom s count from)
+
+abbrev μ-loop : tie.MeasureT-loop
+μ-loop s count from places₀ at₀ i₀ places at i = count - i
+
+loop-holds : tie.Need-loop-holds Inv-loop μ-loop
+loop-holds c = (omega arith, search needs, rw sub-zero (c .before .pre .2), rw sub-zero)
+
+mul-places : tie.Need-mul-places Inv-loop μ-loop
+mul-places c = search needs
+
+array-write-places : tie.Need-array-write-places Inv-loop μ-loop
+array-write-places c = search needs
+
+parts-at-requires : tie.Need-parts-at-requires Inv-loop μ-loop
+parts-at-requires c κs = place-first _ _ (c .before .loop .i) _ (omega arith) (c .before .loop .inv .2) .place
+
+add-i : tie.Need-add-i Inv-loop μ-loop
+add-i c = search needs
+
+loop-less : tie.Need-loop-less Inv-loop μ-loop
+loop-less c = omega arith
+
+loop-again : tie.Need-loop-again Inv-loop μ-loop
+loop-again c = 
+    (
+      omega arith,
+      search needs,
+      rw (c .parts-at .ensures) (places-rest _ _ (c .before .before .loop .i) _ (omega arith) (c .before .before .loop .inv .2)),
+      rw (c .parts-at .ensures) (places-again _ _ (c .before .before .loop .i) _ (c .before .before .loop .places) _ (omega arith) (omega arith) (c .before .before .loop .inv .3)),
+    )
+
+returns : tie.Need-returns Inv-loop μ-loop
+returns c = places-done _ _ (c .before .loop .i) _ (c .before .loop .places) _ (omega arith) (c .before .loop .inv .3)
+
+pub record-places-spec : {M : Type 1} → statement M
+record-places-spec =
+    tie.close
+    (tie.spec
+    Inv-loop
+    μ-loop
+    loop-holds
+    mul-places
+    array-write-places
+    parts-at-requires
+    add-i
+    loop-less
+    loop-again
+    returns)

@@ -1,0 +1,41 @@
+-- The test that names are unique. This mirrors the code of src/unique.rt: no public promise rests on this file.
+use mathlib.Core.Bool.{Bool, _&&_}
+use mathlib.Core.List.{List, [], _∷_, map}
+use Prim.Native.Nat.{ℕ, zero, suc, _<_, _≤_}
+use lib.Dec.{eqb}
+use lib.ListN.{getD}
+use Rattle.base.specs.Lists.{same}
+use Rattle.names.specs.Repeats.{padTo, namesAlike, firstRepeat}
+use Rattle.packets.specs.Parts.{tableMost, partsAt}
+use Rattle.packets.specs.FieldTest.{bytesIn, Inside}
+
+-- the places of n records
+unfoldable pub placesFrom : List ℕ → ℕ → ℕ → List ℕ
+placesFrom s zero at = []
+placesFrom s (suc n) at = at ∷ placesFrom s n (partsAt s at .next)
+
+-- a record there lies in the table
+pub record FieldPlace (s : List ℕ) (at : ℕ) : Type 0 where
+  pub place : at ≤ tableMost
+  pub inside : Inside s (partsAt s at)
+
+abbrev pub FieldPlaces : List ℕ → ℕ → List ℕ → Type 0
+FieldPlaces s n places = (i : ℕ) → i < n → FieldPlace s (getD places i 0)
+
+unfoldable pub labelAt : List ℕ → ℕ → List ℕ
+labelAt s at = bytesIn s (partsAt s at .label)
+
+-- a short name as it is held
+unfoldable pub shortAt : List ℕ → ℕ → List ℕ
+shortAt s at = padTo 8 (bytesIn s (partsAt s at .short))
+
+abbrev pub labelsAlike : List ℕ → List ℕ → ℕ → ℕ → Bool
+labelsAlike s places i j = same (labelAt s (getD places i 0)) (labelAt s (getD places j 0))
+
+abbrev pub shortsAt : List ℕ → List ℕ → List (List ℕ)
+shortsAt s places = map (shortAt s) places
+
+unfoldable pub namesTest : List ℕ → ℕ → ℕ → Bool
+namesTest s n at =
+    eqb (firstRepeat (labelsAlike s (placesFrom s n at)) n) n
+    && eqb (firstRepeat (namesAlike (shortsAt s (placesFrom s n at))) n) n

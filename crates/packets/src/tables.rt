@@ -1,0 +1,149 @@
+// Tables are checked.
+use crate::fields::bits_of;
+use crate::fields::ends_with;
+use crate::fields::has_trees;
+use crate::fields::is_field;
+use crate::fields::mark_of;
+use crate::records::parts_at;
+use crate::records::two_at;
+use crate::unique::has_unique_names;
+use names::labels::is_label;
+use rules::TableAnswer;
+ghost use mathlib.Core.Path.{_≡_};
+ghost use mathlib.Core.Bool.{false};
+ghost use mathlib.Core.List.{[]};
+ghost use Prim.Native.Nat.{_<_, _≤_};
+ghost use lib.ListN.{length};
+ghost use Rattle.rules.specs.Within.{isRowWidth};
+ghost use Rattle.rules.specs.Promises.{ChecksTable};
+ghost use Rattle.packets.specs.Parts.{placeMost, tableMost};
+ghost use Rattle.packets.specs.TableTest.{walkAt, headTest, lastTest, tableTest};
+
+// No good table is longer.
+const TABLE_MOST: usize = 32768;
+
+const FIELDS_MOST: usize = 64;
+
+const HEAD: usize = 1;
+
+const LAST: usize = 5;
+
+// The place past all fields.
+pub(crate) enum Walked {
+    Past(usize),
+    Bad,
+}
+
+fn is_row_width(w: usize) -> bool
+    ensures { λ r. ⌜ r ≡ isRowWidth w ⌝ }
+{
+    if w == 8 {
+        return true;
+    }
+    if w == 16 {
+        return true;
+    }
+    w == 32
+}
+
+// The first record.
+fn is_head(s: &[u8]) -> bool
+    ensures { λ r. ⌜ r ≡ headTest (now (s .entry)) ⌝ }
+{
+    let end = 10 + two_at(s, 8);
+    if s.len() < end {
+        return false;
+    }
+    if two_at(s, 0) != end {
+        return false;
+    }
+    if two_at(s, 2) != HEAD {
+        return false;
+    }
+    if !is_row_width(two_at(s, 4)) {
+        return false;
+    }
+    let count = two_at(s, 6);
+    if count < 1 {
+        return false;
+    }
+    if FIELDS_MOST < count {
+        return false;
+    }
+    is_label(&s[10..end])
+}
+
+// The last record, which ends the table.
+fn is_last(s: &[u8], at: usize) -> bool
+    requires { ⌜ at ≤ tableMost ⌝ }
+    ensures { λ r. ⌜ r ≡ lastTest (now (s .entry)) at ⌝ }
+{
+    if s.len() != at + 4 {
+        return false;
+    }
+    if two_at(s, at) != 4 {
+        return false;
+    }
+    two_at(s, at + 2) == LAST
+}
+
+// The fields, one after the other; marks are of those that may be read.
+fn walk(s: &[u8], w: usize, count: usize, from: usize, marks: &mut [u8]) -> Walked
+    requires { ⌜ (0 < w) × (count ≤ 64) × (count ≤ length (now marks)) × (length (now s) ≤ tableMost) × (from ≤ length (now s)) ⌝ }
+    ensures { λ r. ⌜ r ≡ walkAt w count [] 0 false (now (s .entry)) from ⌝ }
+{
+    let mut at = from;
+    let mut place: usize = 0;
+    let mut ended = false;
+    let mut i: usize = 0;
+    while i < count {
+        let parts = parts_at(s, at);
+        if !is_field(s, at, parts, w, place, ended) {
+            return Walked::Bad;
+        }
+        marks[i] = mark_of(parts);
+        if !has_trees(s, parts, marks, i) {
+            return Walked::Bad;
+        }
+        place += bits_of(parts);
+        ended = ends_with(ended, parts);
+        at = parts.next;
+        i += 1;
+    }
+    if place % w == 0 {
+        return Walked::Past(at);
+    }
+    Walked::Bad
+}
+
+fn is_table(table: &[u8]) -> bool
+    ensures { λ r. ⌜ r ≡ tableTest (now (table .entry)) ⌝ }
+{
+    if TABLE_MOST < table.len() {
+        return false;
+    }
+    if !is_head(table) {
+        return false;
+    }
+    let w = two_at(table, 4);
+    let count = two_at(table, 6);
+    let from = 10 + two_at(table, 8);
+    let mut marks = [0u8; 64];
+    let Walked::Past(at) = walk(table, w, count, from, &mut marks) else {
+        return false;
+    };
+    if !is_last(table, at) {
+        return false;
+    }
+    has_unique_names(table, count, from)
+}
+
+// Good, with its length, exactly where the bytes are the stored form of a description within the limits.
+pub fn check_table(table: &[u8]) -> TableAnswer
+    ensures { λ r. ⌜ ChecksTable (now (table .entry)) r ⌝ }
+{
+    if is_table(table) {
+        return TableAnswer::Good(table.len());
+    }
+    TableAnswer::NotGood
+}
