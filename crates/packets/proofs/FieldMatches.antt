@@ -31,28 +31,29 @@ use Rattle.rules.specs.Reading.{
 }
 use Rattle.laws.proofs.ReadsFields.{formed-parts}
 use Rattle.packets.specs.declared.records.Parts.{Parts}
-use Rattle.packets.specs.declared.walks.Moved.{Moved}
 use Rattle.packets.specs.PartsStand.{PartsStand}
 use Rattle.packets.specs.Steps.{numbersIn, holdsAt, laterBits, fieldStep}
-use Rattle.packets.specs.Walks.{putAt, keptBy, keptAt, stepAfter, runWith}
+use Rattle.packets.specs.Walks.{putAt, keptAt, stepAfter, runWith}
 use Rattle.packets.proofs.RunEntries.{Begins, put-begins, run-agrees}
 use Rattle.packets.proofs.FieldReads.{opened, holds-reads, width-reads}
 
 -- a step of the reading behind some entries, and the code's step with the run after it
-abbrev pub Matches : List Entry → List ℕ → Step → Moved → Type 0
-Matches entries after (step e next) (Moved.To m) = (m ≡ next) × Begins after (entries ++ (e ∷ []))
-Matches entries after (step e next) (Moved.Stop g) = ⊥
-Matches entries after (stop f) (Moved.To m) = ⊥
-Matches entries after (stop f) (Moved.Stop g) = f ≡ g
+abbrev pub Matches : List Entry → List ℕ → Step → Step → Type 0
+Matches entries after (step e next) (step d m) = (m ≡ next) × Begins after (entries ++ (e ∷ []))
+Matches entries after (step e next) (stop g) = ⊥
+Matches entries after (stop f) (step d m) = ⊥
+Matches entries after (stop f) (stop g) = f ≡ g
+
+abbrev kept : Value → Entry → ℕ → Step
+kept v e next = andThen v (λ c. cond (eqb c 0) (stop ConstraintFalse) (step e next))
 
 kept-matches : (entries : List Entry) (after : List ℕ) (e : Entry) (next : ℕ) → Begins after (entries ++ (e ∷ []))
-    → (v : Value)
-    → Matches entries after (andThen v (λ c. cond (eqb c 0) (stop ConstraintFalse) (step e next))) (keptBy v next)
+    → (v : Value) → Matches entries after (kept v e next) (kept v e next)
 kept-matches entries after e next b (value c) = go (eqb c 0)
   where
     go : (x : Bool)
         → Matches entries after (cond x (stop ConstraintFalse) (step e next))
-        (cond x (Moved.Stop ConstraintFalse) (Moved.To next))
+        (cond x (stop ConstraintFalse) (step e next))
     go true = refl
     go false = (refl, b)
 kept-matches entries after e next b (fault f) = refl

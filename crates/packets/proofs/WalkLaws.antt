@@ -1,5 +1,5 @@
 -- Laws of the walk over a packet's fields: one field of it, and places that stay within the packet.
-use mathlib.Core.Path.{_≡_, refl}
+use mathlib.Core.Path.{_≡_, refl, sym, _∙_}
 use mathlib.Core.Bool.{Bool, true, false, cond}
 use mathlib.Core.List.{List}
 use Prim.Native.Nat.{ℕ, suc, _+_, _-_, _<_, _≤_}
@@ -11,11 +11,13 @@ use borrow.Author.Tests.{ltb-false}
 use Rattle.rules.specs.declared.Fault.{Fault}
 use Rattle.rules.specs.declared.Fault.the-variants.{ConstraintFalse}
 use Rattle.rules.specs.Values.{Value, value, fault}
-use Rattle.rules.specs.Reading.{Entry, Step, step, stop, andThen, bitTotal}
+use Rattle.rules.specs.Reading.{Step, step, stop, andThen, bitTotal}
 use Rattle.packets.specs.declared.records.Parts.{Parts}
 use Rattle.packets.specs.declared.steps.Numbers.{Numbers}
-use Rattle.packets.specs.declared.walks.Moved.{Moved}
+use Rattle.packets.specs.declared.steps.Found.{Found}
 use Rattle.packets.specs.Steps.{
+  entryIn,
+  foundOf,
   recordAt,
   holdsAt,
   extentAt,
@@ -25,7 +27,8 @@ use Rattle.packets.specs.Steps.{
   fieldStep,
   numbersIn,
 }
-use Rattle.packets.specs.Walks.{putAt, keptBy, keptAt, stepAfter, runWith, ended, stopped, walkFrom}
+use Rattle.packets.specs.Walks.{putAt, keptAt, stepAfter, runWith, ended, stopped, walkFrom}
+use Rattle.packets.proofs.StepLaws.{found-field, found-stop}
 
 pub length-put : (run : List ℕ) (i : ℕ) (e : Numbers) → length (putAt run i e) ≡ length run
 unfolding putAt
@@ -37,27 +40,29 @@ length-with run i (stop f) = refl
 
 -- ── one field ──
 
-module _ (s packet run : List ℕ) (n i place at : ℕ) (p : Parts) (moved : Moved) (after : List ℕ) (lt : i < n)
+module _ (s packet run : List ℕ) (n i place at : ℕ) (p : Parts) (found : Found) (after : List ℕ) (lt : i < n)
     (parts : p ≡ recordAt s at)
-    (goes : moved ≡ stepAfter s run i p (fieldStep s packet run p (n - i - 1) place)) where
-  pub walk-to : (next : ℕ) → after ≡ runWith run i (fieldStep s packet run p (n - i - 1) place) → moved ≡ Moved.To next
+    (goes : found ≡ foundOf (stepAfter s run i p (fieldStep s packet run p (n - i - 1) place))) where
+  here : (t : Step) → stepAfter s run i p (fieldStep s packet run p (n - i - 1) place) ≡ t
+      → stepAfter s run i (recordAt s at) (fieldStep s packet run (recordAt s at) (n - (i + 1)) place) ≡ t
+  here t h = let d : n - i - 1 ≡ n - (i + 1) = omega arith in rw (← parts, ← d) h
+
+  pub walk-to : (e : Numbers) (next : ℕ) → after ≡ runWith run i (fieldStep s packet run p (n - i - 1) place)
+      → found ≡ Found.Field e next
       → walkFrom s packet (n - i) i run place at ≡ walkFrom s packet (n - (i + 1)) (i + 1) after next (p .next)
   unfolding walkFrom
-  walk-to next left to =
-      let e : n - i ≡ suc (n - (i + 1)) = omega arith in
+  walk-to e next left to =
+      let m : n - i ≡ suc (n - (i + 1)) = omega arith in
       let d : n - i - 1 ≡ n - (i + 1) = omega arith in
-      let g : moved ≡ stepAfter s run i (recordAt s at) (fieldStep s packet run (recordAt s at) (n - (i + 1)) place) =
-      rw (← parts, ← d) goes in
-      rw (e, ← g, to, left, d, parts)
+      let t = stepAfter s run i p (fieldStep s packet run p (n - i - 1) place) in
+      rw (m, here (step (entryIn e) next) (found-field t e next (sym goes ∙ to)), left, d, parts)
 
-  pub walk-stop : (f : Fault) → moved ≡ Moved.Stop f → walkFrom s packet (n - i) i run place at ≡ stopped f (i + 1)
+  pub walk-stop : (f : Fault) → found ≡ Found.Stop f → walkFrom s packet (n - i) i run place at ≡ stopped f (i + 1)
   unfolding walkFrom
   walk-stop f to =
-      let e : n - i ≡ suc (n - (i + 1)) = omega arith in
-      let d : n - i - 1 ≡ n - (i + 1) = omega arith in
-      let g : moved ≡ stepAfter s run i (recordAt s at) (fieldStep s packet run (recordAt s at) (n - (i + 1)) place) =
-      rw (← parts, ← d) goes in
-      rw (e, ← g, to)
+      let m : n - i ≡ suc (n - (i + 1)) = omega arith in
+      let t = stepAfter s run i p (fieldStep s packet run p (n - i - 1) place) in
+      rw (m, here (stop f) (found-stop t f (sym goes ∙ to)))
 
 pub walk-end : (s packet run : List ℕ) (n place at : ℕ) → walkFrom s packet (n - n) n run place at ≡ ended run place
 unfolding walkFrom
@@ -95,31 +100,21 @@ field-inside s packet run p later place h =
     inside-both (bitTotal packet) (extentAt s packet run p later place) (boundedAt packet (p .kind) place)
     (bounded-inside packet (p .kind) place)))
 
-kept-to : (v : Value) (m next : ℕ) → keptBy v m ≡ Moved.To next → m ≡ next
-kept-to (value c) m next e = go (eqb c 0) e
-  where
-    go : (b : Bool) → cond b (Moved.Stop ConstraintFalse) (Moved.To m) ≡ Moved.To next → m ≡ next
-    go true e = cc
-    go false e = cc
-kept-to (fault f) m next e = cc
-
-after-to : (s run : List ℕ) (i : ℕ) (p : Parts) (e : Entry) (m next : ℕ)
-    → stepAfter s run i p (step e m) ≡ Moved.To next → m ≡ next
+after-inside : (s run : List ℕ) (i : ℕ) (p : Parts) (total : ℕ) (t : Step) → Inside total t
+    → Inside total (stepAfter s run i p t)
 unfolding stepAfter keptAt
-after-to s run i p e m next = go (eqb (e .present) 0)
-  where
-    go : (b : Bool)
-        → cond b (Moved.To m) (keptBy (holdsAt s (putAt run i (numbersIn e)) (p .constraint)) m) ≡ Moved.To next
-        → m ≡ next
-    go true h = cc
-    go false h = kept-to (holdsAt s (putAt run i (numbersIn e)) (p .constraint)) m next h
+after-inside s run i p total (step e m) q =
+    let own = putAt run i (numbersIn e) in
+    inside-either total (eqb (e .present) 0) (step e m) (keptAt s own (p .constraint) e m) (λ x. q) (λ x.
+    inside-both total (holdsAt s own (p .constraint)) _ (λ c.
+    inside-either total (eqb c 0) (stop ConstraintFalse) (step e m) (λ y. tt) (λ y. q)))
+after-inside s run i p total (stop f) q = tt
 
-pub step-inside : (s packet run : List ℕ) (i : ℕ) (p : Parts) (later place next : ℕ) → place ≤ bitTotal packet
-    → stepAfter s run i p (fieldStep s packet run p later place) ≡ Moved.To next → next ≤ bitTotal packet
-unfolding stepAfter
-step-inside s packet run i p later place next h =
-    go (fieldStep s packet run p later place) (field-inside s packet run p later place h)
-  where
-    go : (t : Step) → Inside (bitTotal packet) t → stepAfter s run i p t ≡ Moved.To next → next ≤ bitTotal packet
-    go (step e m) q g = let k = after-to s run i p e m next g in omega (arith, q)
-    go (stop f) q g = let z : _≡_ {A = ℕ} 0 1 = cc in absurd (omega arith)
+pub step-inside : (s packet run : List ℕ) (i : ℕ) (p : Parts) (later place : ℕ) (found : Found)
+    (e : Numbers) (next : ℕ) → place ≤ bitTotal packet → found ≡ foundOf (stepAfter s run i p (fieldStep s packet run p later place))
+    → found ≡ Found.Field e next → next ≤ bitTotal packet
+step-inside s packet run i p later place found e next h goes to =
+    let st = fieldStep s packet run p later place in
+    let t = stepAfter s run i p st in
+    let q = after-inside s run i p (bitTotal packet) st (field-inside s packet run p later place h) in
+    rw (found-field t e next (sym goes ∙ to)) at q

@@ -34,11 +34,10 @@ use Rattle.rules.specs.Reading.{
 }
 use Rattle.rules.specs.Promises.{readingAnswer}
 use Rattle.laws.proofs.ReadsFields.{formed-parts}
-use Rattle.packets.specs.declared.walks.Moved.{Moved}
 use Rattle.packets.specs.Parts.{tableMost}
 use Rattle.packets.specs.PartsStand.{PartsStand}
 use Rattle.packets.specs.Steps.{recordAt, laterBits, fieldStep}
-use Rattle.packets.specs.Walks.{stepAfter, runWith, Walk, onMoved, walkFrom, walkAll, walkAnswer, Leaves}
+use Rattle.packets.specs.Walks.{stepAfter, runWith, Walk, onStep, walkFrom, walkAll, walkAnswer, Leaves}
 use Rattle.packets.specs.RunRead.{RunHolds}
 use Rattle.packets.proofs.RecordLaws.{record-parts}
 use Rattle.packets.proofs.FieldBounds.{field-bounds}
@@ -105,13 +104,13 @@ complete-is false entries es e = cc
 walk-on : (packet after : List ℕ) (entries : List Entry) (go : List Entry → ℕ → Reading) (walk : ℕ → Walk)
     → ((e : Entry) (next : ℕ) → Begins after (entries ++ (e ∷ []))
     → WalkHolds packet (go (entries ++ (e ∷ [])) next) (walk next))
-    → (t : Step) (m : Moved) → Matches entries after t m
-    → WalkHolds packet (readOn entries t go) (onMoved m (length entries + 1) walk)
+    → (t m : Step) → Matches entries after t m
+    → WalkHolds packet (readOn entries t go) (onStep m (length entries + 1) walk)
 unfolding ofPacket readingAnswer walkAnswer
-walk-on packet after entries go walk ih (step e next) (Moved.To m) q = rw (q .0) (ih e next (q .1))
-walk-on packet after entries go walk ih (step e next) (Moved.Stop g) q = absurd q
-walk-on packet after entries go walk ih (stop f) (Moved.To m) q = absurd q
-walk-on packet after entries go walk ih (stop f) (Moved.Stop g) q =
+walk-on packet after entries go walk ih (step e next) (step d m) q = rw (q .0) (ih e next (q .1))
+walk-on packet after entries go walk ih (step e next) (stop g) q = absurd q
+walk-on packet after entries go walk ih (stop f) (step d m) q = absurd q
+walk-on packet after entries go walk ih (stop f) (stop g) q =
     record { answer = rw (q, add-one); front = λ es e. let z : _≡_ {A = ℕ} 0 1 = cc in absurd (omega arith) }
 
 pub walk-reads : (s packet : List ℕ) (fs before : List (Field ℕ)) (entries : List Entry) (run : List ℕ)

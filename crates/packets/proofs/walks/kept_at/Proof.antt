@@ -1,7 +1,7 @@
-use Rattle.packets.specs.Steps.{holdsAt}
 use mathlib.Core.Path.{sym, _∙_}
 use denote.Ref.{now}
 use borrow.Author.Tests.{eq-eqb, ne-eqb}
+use Rattle.packets.specs.Steps.{holdsAt}
 use Rattle.packets.specs.Walks.{keptAt}
 use Rattle.packets.proofs.StepLaws.{got-value, got-stop}
 use borrow.Author.Needs.{needs}

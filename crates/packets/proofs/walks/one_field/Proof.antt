@@ -1,7 +1,7 @@
-use Rattle.packets.specs.Steps.{fieldStep}
 use mathlib.Core.Path.{sym, _∙_}
 use denote.Ref.{now}
 use borrow.Author.Tests.{eq-eqb, ne-eqb}
+use Rattle.packets.specs.Steps.{fieldStep}
 use Rattle.packets.specs.Walks.{stepAfter}
 use Rattle.packets.proofs.StepLaws.{found-field, found-stop}
 use borrow.Author.Needs.{needs}

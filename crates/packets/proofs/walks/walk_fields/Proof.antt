@@ -1,9 +1,9 @@
-use Rattle.packets.specs.Steps.{fieldStep}
-use mathlib.Core.Path.{_≡_, refl, sym, _∙_}
+use mathlib.Core.Path.{_≡_, refl, _∙_}
 use native.Mathlib.Omega.{arith}
 use denote.Ref.{now}
 use borrow.Author.Tests.{eq-eqb, ne-eqb, lt-ltb, le-ltb}
 use Prim.Native.Nat.{_-_, _≤_}
+use Rattle.packets.specs.Steps.{fieldStep}
 use Rattle.packets.specs.Walks.{walkAll, walkFrom, walkAnswer}
 use native.Mathlib.Nat.{sub-zero}
 use lib.ListN.{length}
@@ -66,8 +66,8 @@ sub-one-field-2 c = search needs
 one-field-requires : tie.Need-one-field-requires Inv-loop μ-loop
 one-field-requires c κs = search needs
 
-enum-known-moved : tie.Need-enum-known-moved Inv-loop μ-loop
-enum-known-moved c = search needs
+enum-known-found : tie.Need-enum-known-found Inv-loop μ-loop
+enum-known-found c = search needs
 
 enum-told : tie.Need-enum-told Inv-loop μ-loop
 enum-told c = search needs
@@ -116,17 +116,17 @@ loop-again c =
     let loop-test = c₈ .loop-test in
     let record-at = c .before .before .before .before .before .before .before .record-at in
     let one-field = c .before .before .before .before .before .one-field in
-    let moved = c .before .moved in
-    let to = moved .given .1 in
+    let found = c .before .found in
+    let to = found .given .1 in
     let later = two-at .result - l .i - 1 in
     let st = fieldStep (now (a .table)) (now (a .packet)) (l .run) (record-at .result) later (l .place) in
     let h =
     walk-to (now (a .table)) (now (a .packet)) (l .run) (two-at .result) (l .i) (l .place) (l .at) (record-at .result)
-    (one-field .result) (one-field .last .1 .1 .0) (loop-test .taken) (record-at .ensures) (one-field .ensures .0) _
-    (one-field .ensures .1) to in
+    (one-field .result) (one-field .last .1 .1 .0) (loop-test .taken) (record-at .ensures) (one-field .ensures .0)
+    _ _ (one-field .ensures .1) to in
     let inside =
-    step-inside (now (a .table)) (now (a .packet)) (l .run) (l .i) (record-at .result) later (l .place) _ (l .inv .1)
-    (sym (one-field .ensures .0) ∙ to) in (
+    step-inside (now (a .table)) (now (a .packet)) (l .run) (l .i) (record-at .result) later (l .place)
+    (one-field .result) _ _ (l .inv .1) (one-field .ensures .0) to in (
       omega arith,
       inside,
       rw (one-field .ensures .1) (length-with (l .run) (l .i) st) ∙ l .inv .2,
@@ -180,7 +180,7 @@ walk-fields-spec =
     sub-one-field
     sub-one-field-2
     one-field-requires
-    enum-known-moved
+    enum-known-found
     enum-told
     add-refused
     refused-requires
