@@ -18,14 +18,14 @@ use Rattle.laws.proofs.Readers.{described}
 use Rattle.laws.proofs.ReadsNumbers.{readTwo-le2, skip-le2, readCounted-counted}
 use Rattle.laws.proofs.ReadsFields.{label-length, readFields-stored}
 
-row-bound : (w : ℕ) → isRowWidth w ≡ true → w < 65536
+pub row-bound : (w : ℕ) → isRowWidth w ≡ true → w < 65536
 row-bound w h =
     or-true (eqb w 8) (eqb w 16 || eqb w 32)
     (λ e. omega (arith, eqb-true w 8 e))
     (or-true (eqb w 16) (eqb w 32) (λ e. omega (arith, eqb-true w 16 e)) (λ e. omega (arith, eqb-true w 32 e)))
     h
 
-count-bound : (n : ℕ) → between 1 n fieldsMost ≡ true → n < 65536
+pub count-bound : (n : ℕ) → between 1 n fieldsMost ≡ true → n < 65536
 count-bound n h = omega (arith, leb-true n fieldsMost (and-true (leb 1 n) (leb n fieldsMost) h .1))
 
 pub described-stored : (d : Description) → Within d → described (stored d) ≡ d

@@ -10,7 +10,7 @@
 -- FieldSteps, WalkSteps, NameSteps  what the code that checks a table is told at its steps
 -- PartBytes                         the bytes of a part and the trees in it, by the tests
 -- BitLaws                           the number that bits make
--- StepLaws, WalkLaws                what the code that reads a packet is told at its steps
+-- StepLaws, PacketWalk              what the code that reads a packet is told at its steps
 -- CopyLaws                          a copy to the front of a list
 -- RunEntries                        a run that begins with the numbers of some entries
 -- FieldReads, FieldMatches          one field of a packet by its record, and its constraint
@@ -32,9 +32,15 @@ pub mod NameSteps
 pub mod PartBytes
 pub mod FieldParts
 pub mod FieldTests
+pub mod FieldOrder
+pub mod WalkLaws
+pub mod NameLaws
+pub mod TableSteps
+pub mod TableParts
+pub mod TableLaws
 pub mod BitLaws
 pub mod StepLaws
-pub mod WalkLaws
+pub mod PacketWalk
 pub mod CopyLaws
 pub mod RunEntries
 pub mod FieldReads

@@ -39,12 +39,12 @@ kind-small rest = omega arith
 
 -- a number in two bytes in front
 module _ (s : List ℕ) (a b n : ℕ) (l : List ℕ) where
-  two-front : n < 65536 → Stands s a (le2 n ++ l) b → (twoAt s a ≡ n) × Stands s (a + 2) l b
+  pub two-front : n < 65536 → Stands s a (le2 n ++ l) b → (twoAt s a ≡ n) × Stands s (a + 2) l b
   two-front h p =
       let e : a + length (le2 n) ≡ a + 2 = rw (length-le2 n) in
       (stands-two s a (a + length (le2 n)) n (stands-left s a b (le2 n) l p) h, rw e at (stands-right s a b (le2 n) l p))
 
-  front-two : IsBytes s → a + 2 ≤ length s → twoAt s a ≡ n → Stands s (a + 2) l b → Stands s a (le2 n ++ l) b
+  pub front-two : IsBytes s → a + 2 ≤ length s → twoAt s a ≡ n → Stands s (a + 2) l b → Stands s a (le2 n ++ l) b
   front-two h le e p = stands-join s a (a + 2) b (le2 n) l (rw e at (two-stands s a h le)) p
 
 -- a counted list in front
@@ -76,7 +76,7 @@ module _ (s : List ℕ) (a b : ℕ) (w : Width ℕ) (r : List ℕ) where
       stands-join s a (widthAt s (kindNumber w) a .next) b (storedWidth w) r (width-build s a _ w h le p refl) q
 
 -- what stands at a place that may be written in another way
-moved : (s : List ℕ) (a m b : ℕ) (l : List ℕ) → a ≡ m → Stands s a l b → Stands s m l b
+pub moved : (s : List ℕ) (a m b : ℕ) (l : List ℕ) → a ≡ m → Stands s a l b → Stands s m l b
 moved s a m b l e p = rw e at p
 
 pub record-parts : (s : List ℕ) (at next : ℕ) (f : Field ℕ) → Bounds f → Stands s at (storedField f) next

@@ -44,7 +44,7 @@ use Rattle.packets.proofs.FieldBounds.{field-bounds}
 use Rattle.packets.proofs.RunEntries.{Begins}
 use Rattle.packets.proofs.FieldReads.{fixed-part}
 use Rattle.packets.proofs.FieldMatches.{Matches, field-matches}
-use Rattle.packets.proofs.WalkLaws.{length-with}
+use Rattle.packets.proofs.PacketWalk.{length-with}
 use Rattle.packets.proofs.HeadReads.{head-stands}
 
 -- ── records one behind the other ──

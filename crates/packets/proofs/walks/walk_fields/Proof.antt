@@ -8,7 +8,7 @@ use Rattle.packets.specs.Walks.{walkAll, walkFrom, walkAnswer}
 use native.Mathlib.Nat.{sub-zero}
 use lib.ListN.{length}
 use Rattle.rules.specs.Reading.{bitTotal}
-use Rattle.packets.proofs.WalkLaws.{length-with, walk-to, walk-stop, walk-end, step-inside}
+use Rattle.packets.proofs.PacketWalk.{length-with, walk-to, walk-stop, walk-end, step-inside}
 use borrow.Author.Needs.{needs}
 use Rattle.packets.proofs.walks.walk_fields.Statement.{statement}
 use Rattle.packets.proofs.walks.walk_fields.Tie as tie
