@@ -1,10 +1,6 @@
-use mathlib.Core.Path.{_≡_, refl, sym, _∙_, ap}
-use mathlib.Core.Bool.{Bool, true, false}
-use Prim.Native.Nat.{ℕ, _+_, _-_, _<_, _≤_, _%_}
+use Prim.Native.Nat.{_+_, _-_, _<_, _≤_, _%_}
 use native.Mathlib.Omega.{arith}
-use lib.ListN.{length, getD, take, drop}
-use denote.Ref.{now}
-use borrow.Author.Tests.{le-ltb, lt-ltb, le-leb, lt-leb, eq-eqb, ne-eqb, not-true, not-false}
+use borrow.Author.Tests.{le-leb, lt-leb, eq-eqb, ne-eqb}
 use native.Mathlib.Nat.{mod-lt}
 use Rattle.packets.specs.FieldTest.{orderTest}
 use borrow.Author.Needs.{needs}
@@ -23,21 +19,35 @@ returns : tie.Need-returns
 unfolding orderTest
 returns c =
     let h = mod-lt (c .before .before .before .before .args .place) (c .before .before .before .before .pre) in
-    let q : c .before .before .before .before .args .w < c .before .before .before .before .args .place % c .before .before .before .before .args .w + c .before .before .before .before .args .parts .number = omega arith in
+    let q : c .before .before .before .before .args .w < c .before .before .before .before .args .place %
+    c .before .before .before .before .args .w + c .before .before .before .before .args .parts .number = omega
+    arith in
     rw (eq-eqb _ _ (c .before .before .if1 .taken), lt-leb _ _ q)
 
 returns-2 : tie.Need-returns-2
 unfolding orderTest
 returns-2 c =
-    let h = mod-lt (c .before .before .before .before .before .before .before .args .place) (c .before .before .before .before .before .before .before .pre) in
-    let q : c .before .before .before .before .before .before .before .args .place % c .before .before .before .before .before .before .before .args .w + c .before .before .before .before .before .before .before .args .parts .number ≤ c .before .before .before .before .before .before .before .args .w = omega arith in
-    rw (eq-eqb _ _ (c .before .before .before .before .before .if1 .taken), le-leb _ _ q, c .before .before .if3 .taken)
+    let h = mod-lt (c .before .before .before .before .before .before .before .args .place)
+    (c .before .before .before .before .before .before .before .pre) in
+    let q : c .before .before .before .before .before .before .before .args .place %
+    c .before .before .before .before .before .before .before .args .w +
+    c .before .before .before .before .before .before .before .args .parts .number ≤
+    c .before .before .before .before .before .before .before .args .w = omega arith in
+    rw (
+      eq-eqb _ _ (c .before .before .before .before .before .if1 .taken),
+      le-leb _ _ q,
+      c .before .before .if3 .taken,
+    )
 
 returns-3 : tie.Need-returns-3
 unfolding orderTest
 returns-3 c =
-    let h = mod-lt (c .before .before .before .before .before .args .place) (c .before .before .before .before .before .pre) in
-    let q : c .before .before .before .before .before .args .place % c .before .before .before .before .before .args .w + c .before .before .before .before .before .args .parts .number ≤ c .before .before .before .before .before .args .w = omega arith in
+    let h = mod-lt (c .before .before .before .before .before .args .place)
+    (c .before .before .before .before .before .pre) in
+    let q : c .before .before .before .before .before .args .place %
+    c .before .before .before .before .before .args .w +
+    c .before .before .before .before .before .args .parts .number ≤
+    c .before .before .before .before .before .args .w = omega arith in
     rw (eq-eqb _ _ (c .before .before .before .if1 .taken), le-leb _ _ q, c .if3 .left)
 
 returns-4 : tie.Need-returns-4
