@@ -1,5 +1,8 @@
 use mathlib.Core.Path.{sym, _∙_}
 use Prim.Native.Nat.{_-_}
+use borrow.Author.Tests.{not-true, not-false}
+use mathlib.Core.Path.{sym, _∙_}
+use Prim.Native.Nat.{_-_}
 use native.Mathlib.Omega.{arith}
 use borrow.Author.Tests.{not-true, not-false}
 use Rattle.packets.specs.FieldTest.{treesTest}
@@ -34,11 +37,10 @@ is-maybe-requires c κs = let z = c .before .before .before .before .before .bef
 returns-2 : tie.Need-returns-2
 unfolding treesTest
 returns-2 c =
-    rw (
-      (sym (c .before .before .before .before .is-measure .ensures) ∙ not-false
-          (c .before .before .before .before .is-measure .result) (c .before .before .before .if1 .left)),
-      (sym (c .before .is-maybe .ensures) ∙ not-true (c .before .is-maybe .result) (c .if2 .taken)),
-    )
+    let width = sym (c .before .before .before .before .is-measure .ensures) ∙ not-false
+    (c .before .before .before .before .is-measure .result) (c .before .before .before .if1 .left) in
+    let no-constraint = sym (c .before .is-maybe .ensures) ∙ not-true (c .before .is-maybe .result) (c .if2 .taken) in
+    rw (width, no-constraint)
 
 slice-aggregate-is-maybe-2 : tie.Need-slice-aggregate-is-maybe-2
 slice-aggregate-is-maybe-2 c = sym (length-take-le _ _ (omega arith))
@@ -51,13 +53,12 @@ is-maybe-requires-2 c κs =
 returns-3 : tie.Need-returns-3
 unfolding treesTest
 returns-3 c =
-    rw (
-      (sym (c .before .before .before .before .before .before .is-measure .ensures) ∙ not-false
-          (c .before .before .before .before .before .before .is-measure .result)
-          (c .before .before .before .before .before .if1 .left)),
-      (sym (c .before .before .before .is-maybe .ensures) ∙ not-false (c .before .before .before .is-maybe .result)
-          (c .before .before .if2 .left)),
-    ) (c .is-maybe2 .ensures)
+    let width = sym (c .before .before .before .before .before .before .is-measure .ensures) ∙ not-false
+    (c .before .before .before .before .before .before .is-measure .result)
+    (c .before .before .before .before .before .if1 .left) in
+    let constraint = sym (c .before .before .before .is-maybe .ensures) ∙ not-false
+    (c .before .before .before .is-maybe .result) (c .before .before .if2 .left) in
+    rw (width, constraint) (c .is-maybe2 .ensures)
 
 pub has-trees-spec : {M : Type 1} → statement M
 has-trees-spec =
