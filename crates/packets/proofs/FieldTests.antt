@@ -1,12 +1,12 @@
 -- The tests of a record hold where it stores a field that keeps its rules, and only there.
-use mathlib.Core.Path.{_≡_, refl, sym, _∙_, ap}
-use mathlib.Core.Bool.{Bool, true, false, cond, _&&_, _||_, not}
-use mathlib.Core.List.{List, [], _∷_, _++_}
+use mathlib.Core.Path.{_≡_, refl, sym, _∙_}
+use mathlib.Core.Bool.{true}
+use mathlib.Core.List.{List, _++_}
 use mathlib.Core.Option.{Option, none, some}
-use Prim.Native.Nat.{ℕ, _+_, _-_, _<_, _≤_}
+use Prim.Native.Nat.{ℕ, _+_, _-_, _≤_}
 use native.Mathlib.Omega.{arith}
 use lib.Dec.{leb, eqb}
-use lib.ListN.{length, getD}
+use lib.ListN.{length}
 use borrow.Author.Tests.{leb-true, le-leb, eqb-true, eq-eqb}
 use Rattle.base.specs.Lists.{all, between, ifAny, listOf}
 use Rattle.base.specs.Places.{Stands, IsBytes, twoAt}
@@ -23,8 +23,8 @@ use Rattle.laws.proofs.ReadsFields.{formed-parts}
 use Rattle.packets.specs.declared.records.Span.{Span}
 use Rattle.packets.specs.declared.records.Parts.{Parts}
 use Rattle.packets.specs.StoredTrees.{marked}
-use Rattle.packets.specs.Parts.{ending, partsAt}
-use Rattle.packets.specs.PartsStand.{In, WidthStands, PartsStand}
+use Rattle.packets.specs.Parts.{partsAt}
+use Rattle.packets.specs.PartsStand.{In, PartsStand}
 use Rattle.packets.specs.FieldTest.{
   bytesIn,
   Inside,
@@ -32,29 +32,14 @@ use Rattle.packets.specs.FieldTest.{
   widthTest,
   treesTest,
   boundsTest,
-  numberTest,
   shortTest,
   formTest,
 }
 use Rattle.packets.proofs.FieldBounds.{field-bounds}
 use Rattle.packets.proofs.RecordLaws.{record-parts, record-build}
-use Rattle.packets.proofs.FieldSteps.{parts-inside, bounds-next}
-use Rattle.packets.proofs.PartBytes.{
-  bytes-stand,
-  bytes-are,
-  TreeIn,
-  MaybeIn,
-  maybe-sound,
-  maybe-complete,
-  maybe-stands,
-}
-use Rattle.packets.proofs.FieldParts.{
-  short-sound,
-  short-complete,
-  WidthIn,
-  width-sound,
-  width-complete,
-}
+use Rattle.packets.proofs.FieldSteps.{parts-inside}
+use Rattle.packets.proofs.PartBytes.{bytes-stand, bytes-are, MaybeIn, maybe-sound, maybe-complete, maybe-stands}
+use Rattle.packets.proofs.FieldParts.{short-sound, short-complete, WidthIn, width-sound, width-complete}
 
 -- what the tests of a record's form and trees say of its field: marks are of what may be read before it, and with it
 pub record Keeps (marks own : List ℕ) (f : Field ℕ) : Type 0 where
@@ -110,8 +95,7 @@ module _ (s marks own : List ℕ) (p : Parts) where
       } in
       let range = lists.all-append isInRange (widthTrees w) (listOf a ++ listOf b) (wi .range)
       (lists.all-append isInRange (listOf a) (listOf b) (maybe-range s own (p .constraint) a ai)
-      (maybe-range s marks (p .condition) b bi)) in
-      (
+      (maybe-range s marks (p .condition) b bi)) in (
         f,
         record {
           kind = wi .kind;
@@ -123,10 +107,10 @@ module _ (s marks own : List ℕ) (p : Parts) where
         },
         record {
           formed = and-both (isLabel (bytesIn s (p .label))) _ label
-          (and-both (ifAny isShort n) _ ns (and-both (isWidth w) _ (wi .formed) range));
+              (and-both (ifAny isShort n) _ ns (and-both (isWidth w) _ (wi .formed) range));
           small = lists.all-append isSmall (widthTrees w) (listOf a ++ listOf b) (wi .small)
-          (lists.all-append isSmall (listOf a) (listOf b) (maybe-small s own (p .constraint) a ai)
-          (maybe-small s marks (p .condition) b bi));
+              (lists.all-append isSmall (listOf a) (listOf b) (maybe-small s own (p .constraint) a ai)
+              (maybe-small s marks (p .condition) b bi));
           width = wi .typed;
           constraint = maybe-typed s own (p .constraint) a ai;
           condition = maybe-typed s marks (p .condition) b bi;
@@ -164,16 +148,15 @@ module _ (s marks own : List ℕ) (p : Parts) where
         small = size .0;
         typed = h .width;
       }) in
-      let l : isLabel (bytesIn s (p .label)) ≡ true = rw (bytes-are s (p .label) (f .label) (st .label)) (e .0) in
-      (
+      let l : isLabel (bytesIn s (p .label)) ≡ true = rw (bytes-are s (p .label) (f .label) (st .label)) (e .0) in (
         and-both (isLabel (bytesIn s (p .label))) _ l
-        (and-both (shortTest s (p .short)) _ (short-complete s (p .short) (f .short) (e .1) (st .short)) (w .0)),
+            (and-both (shortTest s (p .short)) _ (short-complete s (p .short) (f .short) (e .1) (st .short)) (w .0)),
         and-both (widthTest s marks p) _ (w .1)
-        (and-both (maybeTest s own (p .constraint)) _
-        (maybe-complete s own (p .constraint) (f .constraint)
-        (maybe-in s own (p .constraint) (f .constraint) (h .constraint) (ranges .0) (sizes .0) (st .constraint)))
-        (maybe-complete s marks (p .condition) (f .condition)
-        (maybe-in s marks (p .condition) (f .condition) (h .condition) (ranges .1) (sizes .1) (st .condition)))),
+            (and-both (maybeTest s own (p .constraint)) _
+            (maybe-complete s own (p .constraint) (f .constraint)
+            (maybe-in s own (p .constraint) (f .constraint) (h .constraint) (ranges .0) (sizes .0) (st .constraint)))
+            (maybe-complete s marks (p .condition) (f .condition)
+            (maybe-in s marks (p .condition) (f .condition) (h .condition) (ranges .1) (sizes .1) (st .condition)))),
         w .2,
       )
 
@@ -182,7 +165,8 @@ module _ (s marks own : List ℕ) (p : Parts) where
 module _ (s marks own : List ℕ) (at : ℕ) where
   pub record-sound : IsBytes s → boundsTest s at (partsAt s at) ≡ true → formTest s (partsAt s at) ≡ true
       → treesTest s marks own (partsAt s at) ≡ true
-      → (f : Field ℕ) × PartsStand s (partsAt s at) f × Keeps marks own f × Stands s at (storedField f) (partsAt s at .next)
+      → (f : Field ℕ) × PartsStand s (partsAt s at) f × Keeps marks own f × Stands s at (storedField f)
+      (partsAt s at .next)
   unfolding boundsTest
   record-sound b h form tree =
       let p = partsAt s at in
@@ -193,7 +177,8 @@ module _ (s marks own : List ℕ) (at : ℕ) where
       let q = field-sound s marks own p b (parts-inside s at le) k form tree in
       (q .0, q .1, q .2, record-build s at (q .0) b le e (q .1))
 
-  pub record-complete : (f : Field ℕ) (next : ℕ) → Keeps marks own f → Stands s at (storedField f) next → next ≤ length s
+  pub record-complete : (f : Field ℕ) (next : ℕ) → Keeps marks own f → Stands s at (storedField f) next
+      → next ≤ length s
       → (boundsTest s at (partsAt s at) ≡ true) × (formTest s (partsAt s at) ≡ true)
       × (treesTest s marks own (partsAt s at) ≡ true) × PartsStand s (partsAt s at) f × (partsAt s at .next ≡ next)
   unfolding boundsTest
@@ -202,10 +187,9 @@ module _ (s marks own : List ℕ) (at : ℕ) where
       let q = record-parts s at next f (field-bounds f (h .formed) (h .small)) st in
       let r = field-complete s marks own p f (q .0) h in
       let n : p .next ≤ length s = omega (arith, q .1, le) in
-      let e : at + twoAt s at ≡ p .next = q .2 ∙ sym (q .1) in
-      (
+      let e : at + twoAt s at ≡ p .next = q .2 ∙ sym (q .1) in (
         and-both (leb (p .next) (length s)) _ (le-leb _ _ n)
-        (and-both (eqb (at + twoAt s at) (p .next)) _ (eq-eqb _ _ e) (r .2)),
+            (and-both (eqb (at + twoAt s at) (p .next)) _ (eq-eqb _ _ e) (r .2)),
         r .0,
         r .1,
         q .0,

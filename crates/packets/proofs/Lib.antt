@@ -7,8 +7,13 @@
 -- TreeSound                         what a check finds is a tree of that kind that stands there
 -- TreeComplete                      a tree that stands somewhere is found there, and skipped
 -- TreeValues                        the value of a tree that stands somewhere
--- FieldSteps, WalkSteps, NameSteps  what the code that checks a table is told at its steps
+-- FieldSteps, WalkSteps, NameSteps  what the code that tests fields and names is told at its steps
+-- TableSteps                        and the code that checks a whole table
 -- PartBytes                         the bytes of a part and the trees in it, by the tests
+-- FieldParts, FieldTests            a field's record, by the tests
+-- FieldOrder                        marks, rows and the rest field, by the tests
+-- WalkLaws, NameLaws                the fields one after the other, and their names
+-- TableParts, TableLaws             the first and the last record, and the whole table
 -- BitLaws                           the number that bits make
 -- StepLaws, PacketWalk              what the code that reads a packet is told at its steps
 -- CopyLaws                          a copy to the front of a list

@@ -1,5 +1,5 @@
 -- Laws of the walk over a packet's fields: one field of it, and places that stay within the packet.
-use mathlib.Core.Path.{_≡_, refl, sym, _∙_}
+use mathlib.Core.Path.{_≡_, refl}
 use mathlib.Core.Bool.{Bool, true, false, cond}
 use mathlib.Core.List.{List}
 use Prim.Native.Nat.{ℕ, suc, _+_, _-_, _<_, _≤_}
@@ -55,14 +55,14 @@ module _ (s packet run : List ℕ) (n i place at : ℕ) (p : Parts) (found : Fou
       let m : n - i ≡ suc (n - (i + 1)) = omega arith in
       let d : n - i - 1 ≡ n - (i + 1) = omega arith in
       let t = stepAfter s run i p (fieldStep s packet run p (n - i - 1) place) in
-      rw (m, here (step (entryIn e) next) (found-field t e next (sym goes ∙ to)), left, d, parts)
+      rw (m, here (step (entryIn e) next) (found-field found t e next goes to), left, d, parts)
 
   pub walk-stop : (f : Fault) → found ≡ Found.Stop f → walkFrom s packet (n - i) i run place at ≡ stopped f (i + 1)
   unfolding walkFrom
   walk-stop f to =
       let m : n - i ≡ suc (n - (i + 1)) = omega arith in
       let t = stepAfter s run i p (fieldStep s packet run p (n - i - 1) place) in
-      rw (m, here (stop f) (found-stop t f (sym goes ∙ to)))
+      rw (m, here (stop f) (found-stop found t f goes to))
 
 pub walk-end : (s packet run : List ℕ) (n place at : ℕ) → walkFrom s packet (n - n) n run place at ≡ ended run place
 unfolding walkFrom
@@ -117,4 +117,4 @@ step-inside s packet run i p later place found e next h goes to =
     let st = fieldStep s packet run p later place in
     let t = stepAfter s run i p st in
     let q = after-inside s run i p (bitTotal packet) st (field-inside s packet run p later place h) in
-    rw (found-field t e next (sym goes ∙ to)) at q
+    rw (found-field found t e next goes to) at q

@@ -23,21 +23,22 @@ later-end s n sum at = rw sub-self (omega arith)
 
 -- ── answers of the code taken back ──
 
-pub got-value : (v : Value) (n : ℕ) → gotOf v ≡ Got.Value n → v ≡ value n
-got-value (value m) n e = cc
-got-value (fault f) n e = cc
+pub got-value : (r : Got) (v : Value) (n : ℕ) → r ≡ gotOf v → r ≡ Got.Value n → v ≡ value n
+got-value r (value m) n e h = cc
+got-value r (fault f) n e h = cc
 
-pub got-stop : (v : Value) (f : Fault) → gotOf v ≡ Got.Stop f → v ≡ fault f
-got-stop (value m) f e = cc
-got-stop (fault g) f e = cc
+pub got-stop : (r : Got) (v : Value) (f : Fault) → r ≡ gotOf v → r ≡ Got.Stop f → v ≡ fault f
+got-stop r (value m) f e h = cc
+got-stop r (fault g) f e h = cc
 
-pub found-field : (s : Step) (e : Numbers) (next : ℕ) → foundOf s ≡ Found.Field e next → s ≡ step (entryIn e) next
-found-field (step d m) e next h =
+pub found-field : (r : Found) (s : Step) (e : Numbers) (next : ℕ) → r ≡ foundOf s → r ≡ Found.Field e next
+    → s ≡ step (entryIn e) next
+found-field r (step d m) e next h k =
     let p : numbersIn d ≡ e = cc in
     let q : m ≡ next = cc in
     rw (← p, q)
-found-field (stop f) e next h = cc
+found-field r (stop f) e next h k = cc
 
-pub found-stop : (s : Step) (f : Fault) → foundOf s ≡ Found.Stop f → s ≡ stop f
-found-stop (step d m) f h = cc
-found-stop (stop g) f h = cc
+pub found-stop : (r : Found) (s : Step) (f : Fault) → r ≡ foundOf s → r ≡ Found.Stop f → s ≡ stop f
+found-stop r (step d m) f h k = cc
+found-stop r (stop g) f h k = cc

@@ -1,12 +1,12 @@
 -- The first and the last record of a table, where they stand, and how long a table is at most.
-use mathlib.Core.Path.{_≡_, refl, sym, _∙_, ap}
-use mathlib.Core.Bool.{Bool, true, false, _&&_}
+use mathlib.Core.Path.{_≡_, sym, _∙_, ap}
+use mathlib.Core.Bool.{true}
 use mathlib.Core.List.{List, [], _∷_, _++_, append-nil}
 use mathlib.Core.Option.{none}
-use Prim.Native.Nat.{ℕ, suc, _+_, _*_, _<_, _≤_}
+use Prim.Native.Nat.{ℕ, _+_, _*_, _≤_}
 use native.Mathlib.Omega.{arith}
 use lib.Dec.{leb, eqb}
-use lib.ListN.{length, drop, length-append}
+use lib.ListN.{length, length-append}
 use lib.Seq.{drop-length}
 use borrow.Author.Tests.{le-leb, eqb-true, eq-eqb}
 use Rattle.base.specs.Lists.{between, joined, firstBreak}
@@ -15,7 +15,6 @@ use Rattle.base.proofs.Lists.{and-left, and-right, and-both, between-true}
 use Rattle.base.proofs.Places.{stands-none, stands-all}
 use Rattle.base.proofs.Breaks.{firstBreak-cons}
 use Rattle.rules.specs.Limits.{fieldsMost}
-use Rattle.rules.specs.Names.{isLabel}
 use Rattle.rules.specs.Trees.{le2}
 use Rattle.rules.specs.Fields.{Field, Description}
 use Rattle.rules.specs.Within.{isRowWidth, keepsForm, keepsSize, Within}
@@ -23,7 +22,7 @@ use Rattle.rules.specs.Stored.{counted, recordOf, storedField, headBody, stored
 use Rattle.laws.proofs.PlacesOfNumbers.{length-le2}
 use Rattle.laws.proofs.ReadsFields.{label-length}
 use Rattle.laws.proofs.Unique.{row-bound, count-bound}
-use Rattle.packets.specs.Parts.{tableMost, spanAt, ending}
+use Rattle.packets.specs.Parts.{tableMost, spanAt}
 use Rattle.packets.specs.PartsStand.{In}
 use Rattle.packets.specs.FieldTest.{bytesIn}
 use Rattle.packets.specs.TableTest.{headTest, lastTest}
@@ -62,7 +61,7 @@ head-stands s d b h row count name =
     let q₂ = front-two s 4 end (d .rowWidth) _ b (omega arith) row q₃ in
     let q₁ = front-two s 2 end 1 _ b (omega arith) (h .kind) q₂ in
     let size : twoAt s 0 ≡ 4 + length (headBody d) =
-        omega (arith, h .size, head-length d, in-length s (spanAt s 8) (d .name) i) in
+    omega (arith, h .size, head-length d, in-length s (spanAt s 8) (d .name) i) in
     front-two s 0 end (4 + length (headBody d)) _ b (omega arith) size q₁
 
 -- what the first record says of the description
@@ -87,11 +86,11 @@ head-found s d end w le st =
     let size : twoAt s 0 ≡ 10 + twoAt s 8 = omega (arith, q₁ .0, hl, in-length s (spanAt s 8) (d .name) (q₅ .0)) in
     record {
       test = and-both (leb (10 + twoAt s 8) (length s)) _ (le-leb (10 + twoAt s 8) (length s) (omega arith))
-      (and-both (eqb (twoAt s 0) (10 + twoAt s 8)) _ (eq-eqb _ _ size)
-      (and-both (eqb (twoAt s 2) 1) _ (eq-eqb _ _ (q₂ .0))
-      (and-both (isRowWidth (twoAt s 4)) _ (rw (q₃ .0) (w .row))
-      (and-both (between 1 (twoAt s 6) 64) _ (rw (q₄ .0) (w .count))
-      (rw (bytes-are s (spanAt s 8) (d .name) (q₅ .0)) (w .name))))));
+          (and-both (eqb (twoAt s 0) (10 + twoAt s 8)) _ (eq-eqb _ _ size)
+          (and-both (eqb (twoAt s 2) 1) _ (eq-eqb _ _ (q₂ .0))
+          (and-both (isRowWidth (twoAt s 4)) _ (rw (q₃ .0) (w .row))
+          (and-both (between 1 (twoAt s 6) 64) _ (rw (q₄ .0) (w .count))
+          (rw (bytes-are s (spanAt s 8) (d .name) (q₅ .0)) (w .name))))));
       row = q₃ .0;
       count = q₄ .0;
       next = next;
@@ -126,7 +125,8 @@ whole-is s w p = sym (append-nil w) ∙ ap (λ (r : List ℕ). w ++ r) (sym (dro
 pub whole-stands : (s w : List ℕ) → w ≡ s → Stands s 0 w (length s)
 whole-stands s w e = rw e (stands-all s)
 
-fields-length : (before l : List (Field ℕ)) → firstBreak keepsForm before l ≡ none → firstBreak keepsSize before l ≡ none
+fields-length : (before l : List (Field ℕ)) → firstBreak keepsForm before l ≡ none
+    → firstBreak keepsSize before l ≡ none
     → length (joined storedField l) ≤ 424 * length l
 unfolding joined
 fields-length before [] form size = omega arith

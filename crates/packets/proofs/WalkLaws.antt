@@ -1,20 +1,18 @@
 -- The walk over the fields of a table passes where fields that keep their rules are stored, and only there.
 use mathlib.Core.Path.{_≡_, refl, sym, _∙_, ap}
-use mathlib.Core.Bool.{Bool, true, false, cond, _&&_, _||_, not}
-use mathlib.Core.List.{List, [], _∷_, _++_, map}
-use mathlib.Core.Option.{Option, none, some}
-use Prim.Native.Nat.{ℕ, zero, suc, _+_, _%_, _<_, _≤_}
+use mathlib.Core.Bool.{Bool, true, false, cond, _&&_, _||_}
+use mathlib.Core.List.{List, [], _∷_, _++_}
+use mathlib.Core.Option.{none}
+use Prim.Native.Nat.{ℕ, zero, suc, _+_, _%_, _≤_}
 use native.Mathlib.Omega.{arith}
-use lib.Dec.{leb, eqb}
+use lib.Dec.{eqb}
 use lib.ListN.{length}
-use borrow.Author.Tests.{eqb-true, eq-eqb}
 use Rattle.base.specs.Lists.{all, any, ifAny, joined, firstBreak}
 use Rattle.base.specs.Places.{Stands, IsBytes}
-use Rattle.base.proofs.Lists.{and-left, and-right, and-both, not-both}
+use Rattle.base.proofs.Lists.{and-left, and-right, and-both}
 use Rattle.base.proofs.Places.{stands-none, stands-join, stands-left, stands-right}
 use Rattle.base.proofs.Breaks.{firstBreak-cons}
 use Rattle.rules.specs.declared.ValueType.the-variants.{YesNo}
-use Rattle.rules.specs.Names.{isShort}
 use Rattle.rules.specs.Trees.{isSmall, hasType}
 use Rattle.rules.specs.Fields.{Field, isRest, fixedBits, trees}
 use Rattle.rules.specs.Within.{
@@ -74,8 +72,12 @@ module _ (w n : ℕ) (marks : List ℕ) (place : ℕ) (ended : Bool) (s : List �
           → cond b then Bad ≡ Past next
           → (fieldTest w place ended s at (partsAt s at) ≡ true) × (treesTest s marks own (partsAt s at) ≡ true)
           × (then ≡ Past next)
-      go true e f =
-          (and-left (fieldTest w place ended s at (partsAt s at)) _ e, and-right (fieldTest w place ended s at (partsAt s at)) _ e, f)
+      go true e f = (
+        and-left (fieldTest w place ended s at (partsAt s at)) _ e,
+        and-right
+            (fieldTest w place ended s at (partsAt s at)) _ e,
+        f,
+      )
       go false e f = absurd (past-bad next f)
 
   pub walk-passes : fieldTest w place ended s at (partsAt s at) ≡ true → treesTest s marks own (partsAt s at) ≡ true
@@ -89,8 +91,7 @@ module _ (w place : ℕ) (ended : Bool) (s : List ℕ) (at : ℕ) where
       × (orderTest w place ended (partsAt s at) ≡ true)
   unfolding fieldTest
   test-parts h =
-      let r = and-right (boundsTest s at (partsAt s at)) _ h in
-      (
+      let r = and-right (boundsTest s at (partsAt s at)) _ h in (
         and-left (boundsTest s at (partsAt s at)) _ h,
         and-left (formTest s (partsAt s at)) _ r,
         and-right (formTest s (partsAt s at)) _ r,
@@ -159,11 +160,11 @@ module _ (w n place : ℕ) (before : List (Field ℕ)) (s : List ℕ) (at next :
     kinds = break-cons (keepsTypes indexReadable) before f l (keeps-types before f keeps) (h .kinds);
     rests = break-cons keepsRest before f l rests (h .rests);
     rows = rows-step w place f (widths l)
-    ∙ and-both (fitsRow w place (f .width)) _ row (h .rows);
+        ∙ and-both (fitsRow w place (f .width)) _ row (h .rows);
   }
 
   walk-cons : ((b : List (Field ℕ)) (q a : ℕ) → walkAt w n (marksOf b) q (any isRest b) s a ≡ Past next
-        → (l : List (Field ℕ)) × (length l ≡ n) × FieldsIn w b q s a next l)
+      → (l : List (Field ℕ)) × (length l ≡ n) × FieldsIn w b q s a next l)
       → (f : Field ℕ) → PartsStand s (partsAt s at) f
       → Keeps (marksOf before) (marksOf before ++ (markOf (partsAt s at) ∷ [])) f
       → Stands s at (storedField f) (partsAt s at .next)
@@ -174,16 +175,18 @@ module _ (w n place : ℕ) (before : List (Field ℕ)) (s : List ℕ) (at next :
   walk-cons rec f ps keeps st order h =
       let p = partsAt s at in
       let short = formed-parts f (keeps .formed) .1 in
-      let o : marksOf before ++ (markOf p ∷ []) ≡ marksOf (before ++ (f ∷ [])) = own-marks before f (markOf p) (mark-is s p f ps short) in
+      let o : marksOf before ++ (markOf p ∷ []) ≡ marksOf (before ++ (f ∷ [])) = own-marks before f (markOf p)
+      (mark-is s p f ps short) in
       let e : (any isRest before || eqb (p .kind) 4) ≡ any isRest (before ++ (f ∷ [])) =
-          rw (rest-is s p f ps) (sym (any-end isRest before f)) in
+      rw (rest-is s p f ps) (sym (any-end isRest before f)) in
       let k : Keeps (marksOf before) (marksOf (before ++ (f ∷ []))) f = rw o at keeps in
-      let b : (fitsRow w place (f .width) && keepsRest before f) ≡ true = sym (order-is s p f before w place ps) ∙ order in
-      let q = rec (before ++ (f ∷ [])) (place + fixedBits f) (p .next) (rw (o, bits-are s p f ps, e) at h) in
-      (
+      let b : (fitsRow w place (f .width) && keepsRest before f) ≡ true = sym (order-is s p f before w place ps)
+      ∙ order in
+      let q = rec (before ++ (f ∷ [])) (place + fixedBits f) (p .next) (rw (o, bits-are s p f ps, e) at h) in (
         f ∷ q .0,
         ap suc (q .1),
-        fields-cons f (q .0) k (and-left (fitsRow w place (f .width)) _ b) (and-right (fitsRow w place (f .width)) _ b) st (q .2),
+        fields-cons f (q .0) k (and-left (fitsRow w place (f .width)) _ b)
+            (and-right (fitsRow w place (f .width)) _ b) st (q .2),
       )
 
 pub walk-sound : (w n : ℕ) (before : List (Field ℕ)) (place : ℕ) (s : List ℕ) (at next : ℕ) → IsBytes s
@@ -195,15 +198,18 @@ walk-sound w zero before place s at next b h = go (eqb (place % w) 0) refl h
     go : (x : Bool) → eqb (place % w) 0 ≡ x → cond x (Past at) Bad ≡ Past next
         → (l : List (Field ℕ)) × (length l ≡ 0) × FieldsIn w before place s at next l
     go true e f =
-        let m : at ≡ next = cc in
-        ([], refl, record {
-          stands = rw m (stands-none s next);
-          form = refl;
-          size = refl;
-          kinds = refl;
-          rests = refl;
-          rows = e;
-        })
+        let m : at ≡ next = cc in (
+          [],
+          refl,
+          record {
+            stands = rw m (stands-none s next);
+            form = refl;
+            size = refl;
+            kinds = refl;
+            rests = refl;
+            rows = e;
+          },
+        )
     go false e f = absurd (past-bad next f)
 walk-sound w (suc n) before place s at next b h =
     let p = partsAt s at in
@@ -211,7 +217,8 @@ walk-sound w (suc n) before place s at next b h =
     let q = walk-parts w n (marksOf before) place ended s at next h in
     let t = test-parts w place ended s at (q .0) in
     let r = record-sound s (marksOf before) (marksOf before ++ (markOf p ∷ [])) at b (t .0) (t .1) (q .1) in
-    walk-cons w n place before s at next (λ c u a g. walk-sound w n c u s a next b g) (r .0) (r .1) (r .2) (r .3) (t .2) (q .2)
+    walk-cons w n place before s at next (λ c u a g. walk-sound w n c u s a next b g) (r .0) (r .1) (r .2) (r .3)
+    (t .2) (q .2)
 
 -- ── complete ──
 
@@ -226,7 +233,8 @@ pub walk-complete : (w : ℕ) (before : List (Field ℕ)) (place : ℕ) (s : Lis
 unfolding joined
 walk-complete w before place s at next [] le h = end (h .rows) (h .stands .end)
   where
-    end : rowsFit w place [] ≡ true → next ≡ at + 0 → walkAt w 0 (marksOf before) place (any isRest before) s at ≡ Past next
+    end : rowsFit w place [] ≡ true → next ≡ at + 0
+        → walkAt w 0 (marksOf before) place (any isRest before) s at ≡ Past next
     end r e = walk-none w (marksOf before) place (any isRest before) s at next r (omega (arith, e))
 walk-complete w before place s at next (f ∷ l) le h =
     let p = partsAt s at in
@@ -239,14 +247,16 @@ walk-complete w before place s at next (f ∷ l) le h =
     let rests = firstBreak-cons keepsRest before f l (h .rests) in
     let rows = sym (rows-step w place f (widths l)) ∙ h .rows in
     let keeps = types-keep before f (form .0) (size .0) (kinds .0) in
-    let c = record-complete s (marksOf before) (marksOf (before ++ (f ∷ []))) at f mid keeps st (omega (arith, right .end, le)) in
+    let c = record-complete s (marksOf before) (marksOf (before ++ (f ∷ []))) at f mid keeps st
+    (omega (arith, right .end, le)) in
     let short = formed-parts f (form .0) .1 in
-    let o : marksOf before ++ (markOf p ∷ []) ≡ marksOf (before ++ (f ∷ [])) = own-marks before f (markOf p) (mark-is s p f (c .3) short) in
+    let o : marksOf before ++ (markOf p ∷ []) ≡ marksOf (before ++ (f ∷ [])) = own-marks before f (markOf p)
+    (mark-is s p f (c .3) short) in
     let e : (any isRest before || eqb (p .kind) 4) ≡ any isRest (before ++ (f ∷ [])) =
-        rw (rest-is s p f (c .3)) (sym (any-end isRest before f)) in
+    rw (rest-is s p f (c .3)) (sym (any-end isRest before f)) in
     let order : orderTest w place (any isRest before) p ≡ true =
-        order-is s p f before w place (c .3)
-        ∙ and-both (fitsRow w place (f .width)) _ (and-left (fitsRow w place (f .width)) _ rows) (rests .0) in
+    order-is s p f before w place (c .3)
+    ∙ and-both (fitsRow w place (f .width)) _ (and-left (fitsRow w place (f .width)) _ rows) (rests .0) in
     walk-passes w (length l) (marksOf before) place (any isRest before) s at next
     (test-whole w place (any isRest before) s at (c .0) (c .1) order) (rw o (c .2))
     ∙ rw (o, bits-are s p f (c .3), e, c .4)

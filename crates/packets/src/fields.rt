@@ -1,14 +1,14 @@
 // The tests of one field's record.
-use crate::records::byte_at;
-use crate::records::two_at;
-use crate::records::Parts;
-use crate::records::Span;
 use crate::records::FIXED;
 use crate::records::MEASURED;
+use crate::records::Parts;
 use crate::records::REST;
-use crate::trees::same_type;
+use crate::records::Span;
+use crate::records::byte_at;
+use crate::records::two_at;
 use crate::trees::Checked;
 use crate::trees::Cursor;
+use crate::trees::same_type;
 use names::labels::is_label;
 use names::labels::is_short;
 use rules::ValueType;
@@ -19,8 +19,19 @@ ghost use lib.Dec.{eqb};
 ghost use lib.ListN.{length, take};
 ghost use Rattle.packets.specs.Parts.{placeMost, tableMost, ending, partsAt};
 ghost use Rattle.packets.specs.FieldTest.{
-    Inside, treeTest, maybeTest, widthTest, treesTest, boundsTest, numberTest, shortTest, formTest, orderTest,
-    fieldTest, markOf, bitsOf,
+  Inside,
+  treeTest,
+  maybeTest,
+  widthTest,
+  treesTest,
+  boundsTest,
+  numberTest,
+  shortTest,
+  formTest,
+  orderTest,
+  fieldTest,
+  markOf,
+  bitsOf,
 };
 
 // The most bytes of a stored tree, its greatest depth, and the first byte of a number.
@@ -178,7 +189,14 @@ fn is_ordered(w: usize, place: usize, ended: bool, parts: Parts) -> bool
 }
 
 // All but the trees of a field.
-pub(crate) fn is_field(s: &[u8], at: usize, parts: Parts, w: usize, place: usize, ended: bool) -> bool
+pub(crate) fn is_field(
+    s: &[u8],
+    at: usize,
+    parts: Parts,
+    w: usize,
+    place: usize,
+    ended: bool,
+) -> bool
     requires { ⌜ (0 < w) × (at ≤ tableMost) × (length (now s) ≤ tableMost) × (parts ≡ partsAt (now s) at) ⌝ }
     ensures { λ r. ⌜ r ≡ fieldTest w place ended (now (s .entry)) at parts ⌝ }
 {

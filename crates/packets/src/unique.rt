@@ -10,7 +10,14 @@ ghost use Rattle.base.specs.Lists.{same};
 ghost use Rattle.names.specs.Repeats.{firstRepeat};
 ghost use Rattle.packets.specs.Parts.{tableMost};
 ghost use Rattle.packets.specs.NamesTest.{
-    placesFrom, FieldPlace, FieldPlaces, labelAt, shortAt, labelsAlike, shortsAt, namesTest,
+  placesFrom,
+  FieldPlace,
+  FieldPlaces,
+  labelAt,
+  shortAt,
+  labelsAlike,
+  shortsAt,
+  namesTest,
 };
 
 // The places of the first records.

@@ -26,7 +26,7 @@ returns c =
     let condition = c .before .before .condition in
     let if1 = c .if1 in
     let v = holdsAt (now (a .table)) (now (a .run)) (a .p .condition) in
-    let e = got-value v _ (sym (holds-at .ensures) ∙ condition .given .1) in
+    let e = got-value (holds-at .result) v _ (holds-at .ensures) (condition .given .1) in
     rw (e, eq-eqb _ 0 (if1 .taken))
 
 present-at-requires : tie.Need-present-at-requires
@@ -45,7 +45,7 @@ returns-2 c =
     let if1 = c .before .if1 in
     let present-at = c .present-at in
     let v = holdsAt (now (a .table)) (now (a .run)) (a .p .condition) in
-    let e = got-value v _ (sym (holds-at .ensures) ∙ condition .given .1) in
+    let e = got-value (holds-at .result) v _ (holds-at .ensures) (condition .given .1) in
     rw (e, ne-eqb _ 0 (if1 .left)) (present-at .ensures)
 
 returns-3 : tie.Need-returns-3
@@ -55,7 +55,7 @@ returns-3 c =
     let holds-at = c .before .before .before .holds-at in
     let condition2 = c .before .condition2 in
     let v = holdsAt (now (a .table)) (now (a .run)) (a .p .condition) in
-    let e = got-stop v _ (sym (holds-at .ensures) ∙ condition2 .given .1) in
+    let e = got-stop (holds-at .result) v _ (holds-at .ensures) (condition2 .given .1) in
     rw e
 
 pub field-step-spec : {M : Type 1} → statement M

@@ -32,7 +32,7 @@ returns c =
     let bounded-at = c .bounded-at in
     let v =
     extentAt (now (a .table)) (now (a .packet)) (now (a .run)) (a .p) (a .n) (a .bit) in
-    let e = got-value v _ (sym (extent-at .ensures) ∙ extent .given .1) in
+    let e = got-value (extent-at .result) v _ (extent-at .ensures) (extent .given .1) in
     rw e (bounded-at .ensures)
 
 returns-2 : tie.Need-returns-2
@@ -43,7 +43,7 @@ returns-2 c =
     let extent2 = c .before .extent2 in
     let v =
     extentAt (now (a .table)) (now (a .packet)) (now (a .run)) (a .p) (a .n) (a .bit) in
-    let e = got-stop v _ (sym (extent-at .ensures) ∙ extent2 .given .1) in
+    let e = got-stop (extent-at .result) v _ (extent-at .ensures) (extent2 .given .1) in
     rw e
 
 pub present-at-spec : {M : Type 1} → statement M

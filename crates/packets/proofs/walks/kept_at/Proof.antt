@@ -25,7 +25,7 @@ returns c =
     let held = c .before .before .held in
     let if1 = c .if1 in
     let v = holdsAt (now (a .table)) (now (a .run)) (a .tree) in
-    let e = got-value v _ (sym (holds-at .ensures) ∙ held .given .1) in
+    let e = got-value (holds-at .result) v _ (holds-at .ensures) (held .given .1) in
     rw (e, eq-eqb _ 0 (if1 .taken))
 
 enum-known-held-2 : tie.Need-enum-known-held-2
@@ -39,7 +39,7 @@ returns-2 c =
     let held = c .before .before .held in
     let if1 = c .if1 in
     let v = holdsAt (now (a .table)) (now (a .run)) (a .tree) in
-    let e = got-value v _ (sym (holds-at .ensures) ∙ held .given .1) in
+    let e = got-value (holds-at .result) v _ (holds-at .ensures) (held .given .1) in
     rw (e, ne-eqb _ 0 (if1 .left))
 
 returns-3 : tie.Need-returns-3
@@ -49,7 +49,7 @@ returns-3 c =
     let holds-at = c .before .before .before .holds-at in
     let held2 = c .before .held2 in
     let v = holdsAt (now (a .table)) (now (a .run)) (a .tree) in
-    let e = got-stop v _ (sym (holds-at .ensures) ∙ held2 .given .1) in
+    let e = got-stop (holds-at .result) v _ (holds-at .ensures) (held2 .given .1) in
     rw e
 
 pub kept-at-spec : {M : Type 1} → statement M

@@ -36,7 +36,7 @@ returns c =
     let if1 = c .if1 in
     let st =
     fieldStep (now (a .s)) (now (a .packet)) (now (a .run)) (a .p) (a .n) (a .bit) in
-    let e = found-field st _ _ (sym (field-step .ensures) ∙ found .given .1) in
+    let e = found-field (field-step .result) st _ _ (field-step .ensures) (found .given .1) in
     (rw (e, eq-eqb _ 0 (if1 .taken)), rw e (put .ensures))
 
 kept-at-requires : tie.Need-kept-at-requires
@@ -60,7 +60,7 @@ returns-2 c =
     let kept-at = c .kept-at in
     let st =
     fieldStep (now (a .s)) (now (a .packet)) (now (a .run)) (a .p) (a .n) (a .bit) in
-    let e = found-field st _ _ (sym (field-step .ensures) ∙ found .given .1) in
+    let e = found-field (field-step .result) st _ _ (field-step .ensures) (found .given .1) in
     (rw (e, ne-eqb _ 0 (if1 .left), ← put .ensures) (kept-at .ensures), rw e (put .ensures))
 
 same-length-3 : tie.Need-same-length-3
@@ -74,7 +74,7 @@ returns-3 c =
     let found2 = c .before .found2 in
     let st =
     fieldStep (now (a .s)) (now (a .packet)) (now (a .run)) (a .p) (a .n) (a .bit) in
-    let e = found-stop st _ (sym (field-step .ensures) ∙ found2 .given .1) in
+    let e = found-stop (field-step .result) st _ (field-step .ensures) (found2 .given .1) in
     (rw e, rw e)
 
 pub one-field-spec : {M : Type 1} → statement M
