@@ -1,5 +1,4 @@
 use Rattle.packets.specs.Steps.{fieldStep, holdsAt}
-use mathlib.Core.Path.{sym, _∙_}
 use denote.Ref.{now}
 use borrow.Author.Tests.{eq-eqb, ne-eqb}
 use Rattle.packets.specs.Steps.{fieldStep}

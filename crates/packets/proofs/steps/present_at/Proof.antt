@@ -1,5 +1,4 @@
 use Rattle.packets.specs.Steps.{presentAt, extentAt}
-use mathlib.Core.Path.{sym, _∙_}
 use denote.Ref.{now}
 use Rattle.packets.specs.Steps.{presentAt}
 use Rattle.packets.proofs.StepLaws.{got-value, got-stop}
