@@ -1,5 +1,5 @@
--- What an accepted packet leaves in the run: entries that cover each bit exactly once, and the bit total as the answer.
-use mathlib.Core.Path.{_≡_, refl, sym, _∙_, ap}
+-- What an accepted packet leaves in the run: entries that cover each bit exactly once; the answer is the bit total.
+use mathlib.Core.Path.{_≡_, refl, sym, ap}
 use mathlib.Core.Bool.{Bool, true, false, cond, _&&_, not}
 use mathlib.Core.List.{List, [], _∷_, _++_}
 use Prim.Native.Nat.{ℕ, zero, suc, _*_, _<_}
@@ -11,21 +11,19 @@ use Rattle.rules.specs.declared.Fault.{Fault}
 use Rattle.rules.specs.declared.PacketAnswer.{PacketAnswer}
 use Rattle.rules.specs.Fields.{Field, Description}
 use Rattle.rules.specs.Stored.{Good}
-use Rattle.rules.specs.Answers.{Answer, faultNumber, ofPacket}
-use Rattle.rules.specs.Reading.{
-  Entry,
-  Reading,
-  complete,
-  tooLong,
-  faulted,
-  leftOver,
-  isTooLong,
-  reading,
-  bitTotal,
-  numbersOf,
-}
+use Rattle.rules.specs.Answers.{faultNumber, ofPacket}
+use Rattle.rules.specs.Reading.{Entry, Reading, complete, tooLong, faulted, leftOver, isTooLong, reading, numbersOf}
 use Rattle.rules.specs.Cover.{Covers, OnlyOne, InOrder, Kept}
-use Rattle.rules.specs.Promises.{Outcome, leaves, written, readingAnswer, runAfter, packetOutcome, ReadsPacket, byTable, notGood}
+use Rattle.rules.specs.Promises.{
+  Outcome,
+  leaves,
+  notGood,
+  byTable,
+  readingAnswer,
+  runAfter,
+  packetOutcome,
+  ReadsPacket,
+}
 use Rattle.laws.proofs.Decidable.{good-decidable}
 use Rattle.laws.proofs.Cover.{cover-unique, cover-in-order}
 use Rattle.laws.proofs.Conditions.{conditions-kept}
@@ -42,7 +40,8 @@ unfolding entriesIn joined
 entries-back [] rest = refl
 entries-back (e ∷ es) rest = ap (λ l. e ∷ l) (entries-back es rest)
 
-pub kept-length : (before : List Entry) (fs : List (Field ℕ)) (es : List Entry) → Kept before fs es → length es ≡ length fs
+pub kept-length : (before : List Entry) (fs : List (Field ℕ)) (es : List Entry) → Kept before fs es
+    → length es ≡ length fs
 kept-length before [] [] k = refl
 kept-length before [] (e ∷ es) k = absurd k
 kept-length before (f ∷ fs) [] k = absurd k
@@ -69,7 +68,8 @@ module _ (d : Description) (packet run after : List ℕ) (n : ℕ) where
   unfolding ofPacket readingAnswer
   completed (complete es) h e =
       let k : length es ≡ length (d .fields) = kept-length [] (d .fields) es (conditions-kept d packet es h) in
-      let b : after ≡ joined numbersOf es ++ drop (length (joined numbersOf es)) run = ap (λ (o : Outcome). o .buffer) e in
+      let w = joined numbersOf es in
+      let b : after ≡ w ++ drop (length w) run = ap (λ (o : Outcome). o .buffer) e in
       let back : entriesIn (length (d .fields)) after ≡ es = rw (← k, b) (entries-back es _) in
       let o = cover-in-order d packet es h in
       record {

@@ -1,16 +1,16 @@
 -- Names held with zeros behind their ends are the same where the names are.
 use mathlib.Core.Path.{_≡_, refl, sym, _∙_, ap}
-use mathlib.Core.Bool.{Bool, true, false, _&&_, _||_, not}
+use mathlib.Core.Bool.{true, false, _&&_, _||_, not}
 use mathlib.Core.List.{List, [], _∷_, _++_}
 use Prim.Native.Nat.{ℕ, zero, suc, _+_, _≤_, _<_}
 use native.Mathlib.Numerals.{add-one}
 use native.Mathlib.Omega.{arith}
-use lib.Dec.{eqb, leb}
+use lib.Dec.{leb}
 use lib.ListN.{length, take, getD, set}
 use lib.Seq.{take-all, take-suc-set}
-use borrow.Author.Tests.{eq-eqb, ne-eqb, eqb-true, leb-true}
+use borrow.Author.Tests.{ne-eqb, leb-true}
 use Rattle.base.specs.Lists.{all, same, headIs, between}
-use Rattle.base.proofs.Lists.{and-left, and-right, not-both, same-self, between-true, or-cases}
+use Rattle.base.proofs.Lists.{not-both, same-self, between-true}
 use Rattle.base.proofs.Breaks.{and-true, or-true, all-cons}
 use Rattle.rules.specs.Limits.{shortMost}
 use Rattle.rules.specs.Names.{isLetter, isDigit, isWordByte, isReserved, isShort}
@@ -63,7 +63,8 @@ short-held w h =
 
 -- ── the same where the names are ──
 
-pub pad-same : (n : ℕ) (a b : List ℕ) → all isWordByte a ≡ true → all isWordByte b ≡ true → length a ≤ n → length b ≤ n
+pub pad-same : (n : ℕ) (a b : List ℕ) → all isWordByte a ≡ true → all isWordByte b ≡ true → length a ≤ n
+    → length b ≤ n
     → same (padTo n a) (padTo n b) ≡ same a b
 unfolding padTo same
 pad-same zero [] [] p q l m = refl

@@ -1,5 +1,5 @@
 -- A search for the first index that passes a test, and what it says when nothing repeats.
-use mathlib.Core.Path.{_≡_, refl, sym, _∙_, ap}
+use mathlib.Core.Path.{_≡_, refl, _∙_, ap}
 use mathlib.Core.Bool.{Bool, true, false, cond}
 use Prim.Native.Nat.{ℕ, zero, suc, _+_, _-_, _≤_, _<_}
 use native.Mathlib.Numerals.{add-one}
@@ -57,7 +57,8 @@ search-most f i (suc n) = go (f i) (search-most f (suc i) n)
 pub no-repeat : (alike : ℕ → ℕ → Bool) (n : ℕ) → firstRepeat alike n ≡ n
     → (i j : ℕ) → i < j → j < n → alike i j ≡ false
 no-repeat alike n e i j p q =
-    let r : repeats alike j ≡ false = passes-none (repeats alike) 0 n (omega (arith, e)) j (omega arith) (omega arith) in
+    let r : repeats alike j ≡ false = passes-none (repeats alike) 0 n (omega (arith, e)) j (omega arith)
+    (omega arith) in
     let le = ltb-false (firstFrom (λ i. alike i j) 0 j) j r in
     let m : firstFrom (λ i. alike i j) 0 j ≡ 0 + j = omega (arith, le, search-most (λ i. alike i j) 0 j) in
     passes-none (λ i. alike i j) 0 j m i (omega arith) (omega arith)
@@ -89,7 +90,8 @@ module _ (alike : ℕ → ℕ → Bool) (i j : ℕ) where
 
 -- ── searches by tests that agree ──
 
-pub search-same : (f g : ℕ → Bool) (i n : ℕ) → ((k : ℕ) → i ≤ k → k < i + n → f k ≡ g k) → firstFrom f i n ≡ firstFrom g i n
+pub search-same : (f g : ℕ → Bool) (i n : ℕ) → ((k : ℕ) → i ≤ k → k < i + n → f k ≡ g k)
+    → firstFrom f i n ≡ firstFrom g i n
 unfolding firstFrom
 search-same f g i zero h = refl
 search-same f g i (suc n) h =

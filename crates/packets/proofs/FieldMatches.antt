@@ -1,5 +1,5 @@
 -- One field of a packet with its constraint: the code's step is the reading's step, and the run has one entry more.
-use mathlib.Core.Path.{_≡_, refl, sym, _∙_}
+use mathlib.Core.Path.{_≡_, refl}
 use mathlib.Core.Bool.{Bool, true, false, cond, _&&_}
 use mathlib.Core.List.{List, [], _∷_, _++_}
 use Prim.Native.Nat.{ℕ, _+_, _*_, _≤_}
@@ -8,12 +8,11 @@ use lib.Dec.{ltb, eqb}
 use lib.ListN.{length, length-append}
 use Rattle.base.specs.Lists.{all, ifAny, listOf}
 use Rattle.base.proofs.Breaks.{and-true, all-append}
-use Rattle.rules.specs.declared.Fault.{Fault}
 use Rattle.rules.specs.declared.Fault.the-variants.{BitsMissing, ConstraintFalse}
 use Rattle.rules.specs.declared.ValueType.the-variants.{YesNo}
 use Rattle.rules.specs.Trees.{isInRange, isSmall, hasType}
 use Rattle.rules.specs.Values.{Value, value, fault}
-use Rattle.rules.specs.Fields.{Width, Field, widthTrees, trees}
+use Rattle.rules.specs.Fields.{Field, widthTrees, trees}
 use Rattle.rules.specs.Within.{isFormed, keepsTypes, widthHasType, indexReadable}
 use Rattle.rules.specs.Reading.{
   Entry,
@@ -32,28 +31,29 @@ use Rattle.rules.specs.Reading.{
 }
 use Rattle.laws.proofs.ReadsFields.{formed-parts}
 use Rattle.packets.specs.declared.records.Parts.{Parts}
-use Rattle.packets.specs.declared.walks.Moved.{Moved}
 use Rattle.packets.specs.PartsStand.{PartsStand}
-use Rattle.packets.specs.Steps.{numbersIn, holdsAt, laterBits, presentAt, fieldStep}
-use Rattle.packets.specs.Walks.{putAt, keptBy, keptAt, stepAfter, runWith}
+use Rattle.packets.specs.Steps.{numbersIn, holdsAt, laterBits, fieldStep}
+use Rattle.packets.specs.Walks.{putAt, keptAt, stepAfter, runWith}
 use Rattle.packets.proofs.RunEntries.{Begins, put-begins, run-agrees}
 use Rattle.packets.proofs.FieldReads.{opened, holds-reads, width-reads}
 
 -- a step of the reading behind some entries, and the code's step with the run after it
-abbrev pub Matches : List Entry → List ℕ → Step → Moved → Type 0
-Matches entries after (step e next) (Moved.To m) = (m ≡ next) × Begins after (entries ++ (e ∷ []))
-Matches entries after (step e next) (Moved.Stop g) = ⊥
-Matches entries after (stop f) (Moved.To m) = ⊥
-Matches entries after (stop f) (Moved.Stop g) = f ≡ g
+abbrev pub Matches : List Entry → List ℕ → Step → Step → Type 0
+Matches entries after (step e next) (step d m) = (m ≡ next) × Begins after (entries ++ (e ∷ []))
+Matches entries after (step e next) (stop g) = ⊥
+Matches entries after (stop f) (step d m) = ⊥
+Matches entries after (stop f) (stop g) = f ≡ g
+
+abbrev kept : Value → Entry → ℕ → Step
+kept v e next = andThen v (λ c. cond (eqb c 0) (stop ConstraintFalse) (step e next))
 
 kept-matches : (entries : List Entry) (after : List ℕ) (e : Entry) (next : ℕ) → Begins after (entries ++ (e ∷ []))
-    → (v : Value)
-    → Matches entries after (andThen v (λ c. cond (eqb c 0) (stop ConstraintFalse) (step e next))) (keptBy v next)
+    → (v : Value) → Matches entries after (kept v e next) (kept v e next)
 kept-matches entries after e next b (value c) = go (eqb c 0)
   where
     go : (x : Bool)
         → Matches entries after (cond x (stop ConstraintFalse) (step e next))
-        (cond x (Moved.Stop ConstraintFalse) (Moved.To next))
+        (cond x (stop ConstraintFalse) (step e next))
     go true = refl
     go false = (refl, b)
 kept-matches entries after e next b (fault f) = refl
@@ -104,7 +104,8 @@ module _ (s packet run : List ℕ) (entries : List Entry) (place : ℕ) (f : Fie
 
 -- the field behind those before it, where the run begins with their entries
 module _ (s packet run : List ℕ) (before : List (Field ℕ)) (entries : List Entry) (place : ℕ) (f : Field ℕ) (p : Parts)
-    (counts : length entries ≡ length before) (begins : Begins run entries) (room : 4 * length entries + 4 ≤ length run)
+    (counts : length entries ≡ length before) (begins : Begins run entries)
+    (room : 4 * length entries + 4 ≤ length run)
     (formed : isFormed f ≡ true) (small : all isSmall (trees f) ≡ true)
     (typed : keepsTypes indexReadable before f ≡ true) (stands : PartsStand s p f) where
   own-entry : (e : Entry) → holdsAt s (putAt run (length entries) (numbersIn e)) (p .constraint)
@@ -144,7 +145,8 @@ module _ (s packet run : List ℕ) (before : List (Field ℕ)) (entries : List E
       (all-append isInRange (listOf (f .constraint)) (listOf (f .condition)) (ranges .1) .1)
       (all-append isSmall (listOf (f .constraint)) (listOf (f .condition)) (smalls .1) .1)
       (stands .condition) in
-      let w = width-reads s run before entries agrees packet (f .width) p later total place (stands .kind) (stands .width)
+      let w =
+      width-reads s run before entries agrees packet (f .width) p later total place (stands .kind) (stands .width)
       (form .2) (types .0) (ranges .0) (smalls .0) sums in
       rw (e, w)
       (condition-matches s packet run entries place f p (λ d. put-begins run entries d begins room) own-entry

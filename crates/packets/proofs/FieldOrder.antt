@@ -1,19 +1,19 @@
 -- What the parts of a record say of its field to the fields behind it: marks, bits, rows and the rest field.
-use mathlib.Core.Path.{_≡_, refl, sym, _∙_, ap}
+use mathlib.Core.Path.{_≡_, refl, ap}
 use mathlib.Core.Bool.{Bool, true, false, cond, _&&_, _||_, not}
 use mathlib.Core.List.{List, [], _∷_, _++_, map}
 use mathlib.Core.Option.{Option, none, some}
-use Prim.Native.Nat.{ℕ, zero, suc, _+_, _%_, _<_, _≤_}
+use Prim.Native.Nat.{ℕ, zero, suc, _+_, _%_}
 use native.Mathlib.Omega.{arith}
 use native.Mathlib.Nat.{add-zero}
 use lib.Dec.{leb, eqb}
-use lib.ListN.{length, getD, getElem?}
-use borrow.Author.Tests.{eq-eqb, ne-eqb}
+use lib.ListN.{length}
+use borrow.Author.Tests.{ne-eqb}
 use Rattle.base.specs.Lists.{any, isEmpty, isNone, ifAny, listOf}
 use Rattle.base.proofs.Lists.{not-both}
 use Rattle.rules.specs.Names.{isShort}
 use Rattle.rules.specs.Trees.{Tree}
-use Rattle.rules.specs.Fields.{Width, fixed, measured, rest, Field, isFixed, isRest, fixedBits, readNames}
+use Rattle.rules.specs.Fields.{Width, fixed, measured, rest, Field, isRest, fixedBits}
 use Rattle.rules.specs.Within.{keepsRest, isReadable, indexReadable, rowsFit}
 use Rattle.rules.specs.Stored.{kindNumber, storedExpression, storedName, storedMaybe}
 use Rattle.names.proofs.PadLaws.{short-held}
@@ -135,6 +135,7 @@ unfolding any
 any-end p [] x = or-false (p x)
 any-end p (y ∷ l) x = go (p y) (any-end p l x)
   where
-    go : (b : Bool) → any p (l ++ (x ∷ [])) ≡ (any p l || p x) → (b || any p (l ++ (x ∷ []))) ≡ ((b || any p l) || p x)
+    go : (b : Bool) → any p (l ++ (x ∷ [])) ≡ (any p l || p x)
+        → (b || any p (l ++ (x ∷ []))) ≡ ((b || any p l) || p x)
     go true h = refl
     go false h = h

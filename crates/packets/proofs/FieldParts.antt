@@ -1,54 +1,38 @@
 -- A field from the parts of its record: the tests of its names, width and trees, both ways.
-use mathlib.Core.Path.{_≡_, refl, sym, _∙_, ap}
-use mathlib.Core.Bool.{Bool, true, false, cond, _&&_, _||_, not}
-use mathlib.Core.List.{List, [], _∷_, _++_}
+use mathlib.Core.Path.{_≡_, refl}
+use mathlib.Core.Bool.{Bool, true, false, _&&_, _||_, not}
+use mathlib.Core.List.{List, [], _∷_}
 use mathlib.Core.Logic.{_⊎_, inl, inr}
 use mathlib.Core.Option.{Option, none, some}
-use Prim.Native.Nat.{ℕ, _+_, _-_, _<_, _≤_}
+use Prim.Native.Nat.{ℕ, _-_, _≤_}
 use native.Mathlib.Omega.{arith}
-use lib.Dec.{leb, eqb}
+use lib.Dec.{eqb}
 use lib.ListN.{length, getD}
-use borrow.Author.Tests.{eqb-true, eqb-false, eq-eqb, ne-eqb, not-true}
-use Rattle.base.specs.Lists.{all, between, ifAny, listOf}
+use borrow.Author.Tests.{eqb-true, eqb-false, eq-eqb}
+use Rattle.base.specs.Lists.{all, between, ifAny}
 use Rattle.base.specs.Places.{IsBytes}
-use Rattle.base.proofs.Lists.{and-left, and-right, and-both, not-both, or-cases, between-true, true-between, all-front, all-back}
+use Rattle.base.proofs.Lists.{and-left, and-right, and-both, or-cases, between-true}
 use Rattle.base.proofs.Lists as lists
 use Rattle.base.proofs.Breaks.{all-one}
-use Rattle.rules.specs.declared.ValueType.the-variants.{Number, YesNo}
-use Rattle.rules.specs.Names.{isLabel, isShort}
-use Rattle.rules.specs.Trees.{Tree, isSmall, isInRange, isNumber, hasType}
-use Rattle.rules.specs.Fields.{Width, fixed, measured, rest, Field, widthTrees, trees}
-use Rattle.rules.specs.Within.{isWidth, isFormed, widthHasType}
-use Rattle.rules.specs.Stored.{kindNumber, storedExpression, storedName, storedMaybe}
-use Rattle.laws.proofs.ReadsFields.{formed-parts}
+use Rattle.rules.specs.declared.ValueType.the-variants.{Number}
+use Rattle.rules.specs.Names.{isShort}
+use Rattle.rules.specs.Trees.{Tree, isSmall, isInRange, isNumber}
+use Rattle.rules.specs.Fields.{Width, fixed, measured, rest, widthTrees}
+use Rattle.rules.specs.Within.{isWidth, widthHasType}
+use Rattle.rules.specs.Stored.{kindNumber, storedName}
 use Rattle.packets.specs.declared.records.Span.{Span}
 use Rattle.packets.specs.declared.records.Parts.{Parts}
 use Rattle.packets.specs.StoredTrees.{marked}
 use Rattle.packets.specs.Parts.{ending}
-use Rattle.packets.specs.PartsStand.{In, WidthStands, PartsStand}
-use Rattle.packets.specs.FieldTest.{
-  bytesIn,
-  Inside,
-  treeTest,
-  maybeTest,
-  widthTest,
-  treesTest,
-  numberTest,
-  shortTest,
-  formTest,
-}
+use Rattle.packets.specs.PartsStand.{In, WidthStands}
+use Rattle.packets.specs.FieldTest.{bytesIn, treeTest, widthTest, numberTest, shortTest}
 use Rattle.packets.proofs.PartBytes.{
   bytes-stand,
   bytes-are,
   in-length,
   empty-in,
-  TreeIn,
   tree-sound,
   tree-complete,
-  MaybeIn,
-  maybe-sound,
-  maybe-complete,
-  maybe-stands,
   number-byte,
 }
 

@@ -1,13 +1,13 @@
 -- One field of a packet by its record: what the code finds is what the reading of the field says.
-use mathlib.Core.Path.{_≡_, refl, sym, _∙_}
-use mathlib.Core.Bool.{Bool, true, false, cond, _&&_, _||_, not}
-use mathlib.Core.List.{List, [], _∷_, _++_}
+use mathlib.Core.Path.{_≡_, refl, _∙_}
+use mathlib.Core.Bool.{true, false, cond, _||_, not}
+use mathlib.Core.List.{List}
 use mathlib.Core.Option.{Option, none, some}
-use Prim.Native.Nat.{ℕ, _+_, _<_, _≤_}
+use Prim.Native.Nat.{ℕ, _+_, _<_}
 use native.Mathlib.Omega.{arith}
 use lib.Dec.{ltb, leb, eqb}
 use lib.ListN.{length}
-use borrow.Author.Tests.{eq-eqb, ne-eqb, le-leb, leb-true, eqb-true}
+use borrow.Author.Tests.{eq-eqb, ne-eqb, eqb-true}
 use Rattle.base.specs.Lists.{all, ifAny, listOf}
 use Rattle.base.specs.Places.{Stands}
 use Rattle.base.proofs.Breaks.{and-true, or-true, all-one}
@@ -19,18 +19,7 @@ use Rattle.rules.specs.Values.{Value, value, fault, evaluate}
 use Rattle.rules.specs.Fields.{Width, fixed, measured, rest, Field, widthTrees, fixedWidthBits}
 use Rattle.rules.specs.Within.{isWidth, widthHasType, indexReadable}
 use Rattle.rules.specs.Stored.{storedExpression, storedMaybe, kindNumber}
-use Rattle.rules.specs.Reading.{
-  Entry,
-  valueIn,
-  holds,
-  Step,
-  step,
-  stop,
-  andThen,
-  widthAt,
-  entryAt,
-  bitTotal,
-}
+use Rattle.rules.specs.Reading.{Entry, valueIn, holds, Step, step, stop, andThen, widthAt, entryAt, bitTotal}
 use Rattle.laws.proofs.ReadsTrees.{small-bounds}
 use Rattle.packets.specs.declared.records.Span.{Span}
 use Rattle.packets.specs.declared.records.Parts.{Parts}
@@ -118,6 +107,7 @@ module _ (s run : List ℕ) (before : List (Field ℕ)) (entries : List Entry)
       rw (fixed-part p (fixed n) kind s (p .tree) stands form, kind, le)
   width-reads packet (measured u t) p later total place kind stands form typed range small sums =
       let unit = unit-is u (and-true (eqb u 1 || eqb u 8) (not (isNumber t)) form .0) in
-      let e = tree-reads Number t (p .tree .at) _ typed (all-one isInRange t range) (all-one isSmall t small) (stands .1) in
+      let e =
+      tree-reads Number t (p .tree .at) _ typed (all-one isInRange t range) (all-one isSmall t small) (stands .1) in
       rw (kind, stands .0, unit, e)
   width-reads packet rest p later total place kind stands form typed range small sums = rw (kind, sums)

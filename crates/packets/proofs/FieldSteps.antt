@@ -1,6 +1,6 @@
 -- What the code that tests a field's record is told: its parts lie in the table.
-use mathlib.Core.Path.{_≡_, refl}
-use mathlib.Core.Bool.{Bool, true, false, cond, _&&_, _||_}
+use mathlib.Core.Path.{_≡_}
+use mathlib.Core.Bool.{Bool, true, false, cond, _||_}
 use mathlib.Core.List.{List}
 use Prim.Native.Nat.{ℕ, _+_, _≤_}
 use native.Mathlib.Omega.{arith}
@@ -21,7 +21,6 @@ use Rattle.packets.specs.FieldTest.{
   numberTest,
   shortTest,
   formTest,
-  orderTest,
   fieldTest,
   bitsOf,
 }
@@ -63,7 +62,8 @@ pub bounds-next : (s : List ℕ) (at : ℕ) (p : Parts) → boundsTest s at p �
 unfolding boundsTest
 bounds-next s at p h = leb-true _ _ (and-left (leb (p .next) (length s)) _ h)
 
-pub field-next : (w place : ℕ) (ended : Bool) (s : List ℕ) (at : ℕ) (p : Parts) → fieldTest w place ended s at p ≡ true
+pub field-next : (w place : ℕ) (ended : Bool) (s : List ℕ) (at : ℕ) (p : Parts)
+    → fieldTest w place ended s at p ≡ true
     → p .next ≤ length s
 unfolding fieldTest
 field-next w place ended s at p h = bounds-next s at p (and-left (boundsTest s at p) _ h)
@@ -74,7 +74,8 @@ inside-of s at p e h =
     rw e (parts-inside s at n)
 
 -- a fixed field has at most 32 bits
-pub bits-small : (w place : ℕ) (ended : Bool) (s : List ℕ) (at : ℕ) (p : Parts) → fieldTest w place ended s at p ≡ true
+pub bits-small : (w place : ℕ) (ended : Bool) (s : List ℕ) (at : ℕ) (p : Parts)
+    → fieldTest w place ended s at p ≡ true
     → bitsOf p ≤ 32
 unfolding fieldTest formTest numberTest bitsOf
 bits-small w place ended s at p h =
@@ -82,7 +83,8 @@ bits-small w place ended s at p h =
     let n = and-right (shortTest s (p .short)) _ (and-right (isLabel (bytesIn s (p .label))) _ f) in
     go (eqb (p .kind) 2) n
   where
-    go : (b : Bool) → cond b (between 1 (p .number) 32) (cond (eqb (p .kind) 3) (eqb (p .number) 1 || eqb (p .number) 8) true) ≡ true
+    go : (b : Bool) → cond b (between 1 (p .number) 32)
+        (cond (eqb (p .kind) 3) (eqb (p .number) 1 || eqb (p .number) 8) true) ≡ true
         → cond b (p .number) 0 ≤ 32
     go true e = between-true 1 (p .number) 32 e .1
     go false e = omega arith

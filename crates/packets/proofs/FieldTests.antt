@@ -1,12 +1,12 @@
 -- The tests of a record hold where it stores a field that keeps its rules, and only there.
-use mathlib.Core.Path.{_≡_, refl, sym, _∙_, ap}
-use mathlib.Core.Bool.{Bool, true, false, cond, _&&_, _||_, not}
-use mathlib.Core.List.{List, [], _∷_, _++_}
+use mathlib.Core.Path.{_≡_, refl, sym, _∙_}
+use mathlib.Core.Bool.{true}
+use mathlib.Core.List.{List, _++_}
 use mathlib.Core.Option.{Option, none, some}
-use Prim.Native.Nat.{ℕ, _+_, _-_, _<_, _≤_}
+use Prim.Native.Nat.{ℕ, _+_, _-_, _≤_}
 use native.Mathlib.Omega.{arith}
 use lib.Dec.{leb, eqb}
-use lib.ListN.{length, getD}
+use lib.ListN.{length}
 use borrow.Author.Tests.{leb-true, le-leb, eqb-true, eq-eqb}
 use Rattle.base.specs.Lists.{all, between, ifAny, listOf}
 use Rattle.base.specs.Places.{Stands, IsBytes, twoAt}
@@ -23,8 +23,8 @@ use Rattle.laws.proofs.ReadsFields.{formed-parts}
 use Rattle.packets.specs.declared.records.Span.{Span}
 use Rattle.packets.specs.declared.records.Parts.{Parts}
 use Rattle.packets.specs.StoredTrees.{marked}
-use Rattle.packets.specs.Parts.{ending, partsAt}
-use Rattle.packets.specs.PartsStand.{In, WidthStands, PartsStand}
+use Rattle.packets.specs.Parts.{partsAt}
+use Rattle.packets.specs.PartsStand.{In, PartsStand}
 use Rattle.packets.specs.FieldTest.{
   bytesIn,
   Inside,
@@ -32,29 +32,14 @@ use Rattle.packets.specs.FieldTest.{
   widthTest,
   treesTest,
   boundsTest,
-  numberTest,
   shortTest,
   formTest,
 }
 use Rattle.packets.proofs.FieldBounds.{field-bounds}
 use Rattle.packets.proofs.RecordLaws.{record-parts, record-build}
-use Rattle.packets.proofs.FieldSteps.{parts-inside, bounds-next}
-use Rattle.packets.proofs.PartBytes.{
-  bytes-stand,
-  bytes-are,
-  TreeIn,
-  MaybeIn,
-  maybe-sound,
-  maybe-complete,
-  maybe-stands,
-}
-use Rattle.packets.proofs.FieldParts.{
-  short-sound,
-  short-complete,
-  WidthIn,
-  width-sound,
-  width-complete,
-}
+use Rattle.packets.proofs.FieldSteps.{parts-inside}
+use Rattle.packets.proofs.PartBytes.{bytes-stand, bytes-are, MaybeIn, maybe-sound, maybe-complete, maybe-stands}
+use Rattle.packets.proofs.FieldParts.{short-sound, short-complete, WidthIn, width-sound, width-complete}
 
 -- what the tests of a record's form and trees say of its field: marks are of what may be read before it, and with it
 pub record Keeps (marks own : List ℕ) (f : Field ℕ) : Type 0 where
@@ -180,7 +165,8 @@ module _ (s marks own : List ℕ) (p : Parts) where
 module _ (s marks own : List ℕ) (at : ℕ) where
   pub record-sound : IsBytes s → boundsTest s at (partsAt s at) ≡ true → formTest s (partsAt s at) ≡ true
       → treesTest s marks own (partsAt s at) ≡ true
-      → (f : Field ℕ) × PartsStand s (partsAt s at) f × Keeps marks own f × Stands s at (storedField f) (partsAt s at .next)
+      → (f : Field ℕ) × PartsStand s (partsAt s at) f × Keeps marks own f × Stands s at (storedField f)
+      (partsAt s at .next)
   unfolding boundsTest
   record-sound b h form tree =
       let p = partsAt s at in
@@ -191,7 +177,8 @@ module _ (s marks own : List ℕ) (at : ℕ) where
       let q = field-sound s marks own p b (parts-inside s at le) k form tree in
       (q .0, q .1, q .2, record-build s at (q .0) b le e (q .1))
 
-  pub record-complete : (f : Field ℕ) (next : ℕ) → Keeps marks own f → Stands s at (storedField f) next → next ≤ length s
+  pub record-complete : (f : Field ℕ) (next : ℕ) → Keeps marks own f → Stands s at (storedField f) next
+      → next ≤ length s
       → (boundsTest s at (partsAt s at) ≡ true) × (formTest s (partsAt s at) ≡ true)
       × (treesTest s marks own (partsAt s at) ≡ true) × PartsStand s (partsAt s at) f × (partsAt s at .next ≡ next)
   unfolding boundsTest

@@ -6,8 +6,8 @@
 -- FieldBounds, TableHead            sizes of a field within the limits; a stored table's first record
 -- FieldSteps, WalkSteps, NameSteps, TableSteps   what the code that checks a table is told at its steps
 -- PartBytes, FieldParts, FieldTests, FieldOrder  a field's record: tests and rules
--- TableWalks, NameLaws, TableParts, TableLaws    all fields, names, the whole table: tests and rules
--- BitLaws, StepLaws, WalkLaws       bits, one field of a packet, and all
+-- WalkLaws, NameLaws, TableParts, TableLaws    all fields, names, the whole table: tests and rules
+-- BitLaws, StepLaws, PacketWalk     bits, one field of a packet, and all
 -- RunEntries, FieldReads, FieldMatches, HeadReads, CopyLaws, WalkReads   what a stored table's walk reads
 -- PacketPromises, PartPromises      from the walk to the promises
 -- WriteLaws, LinesWritten           writing one byte, and one line, behind the other
@@ -30,14 +30,14 @@ pub mod PartBytes
 pub mod FieldParts
 pub mod FieldTests
 pub mod FieldOrder
-pub mod TableWalks
+pub mod WalkLaws
 pub mod NameLaws
 pub mod TableSteps
 pub mod TableParts
 pub mod TableLaws
 pub mod BitLaws
 pub mod StepLaws
-pub mod WalkLaws
+pub mod PacketWalk
 pub mod RunEntries
 pub mod FieldReads
 pub mod FieldMatches

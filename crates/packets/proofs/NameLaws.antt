@@ -1,7 +1,7 @@
 -- The test that names are unique holds where no field's names clash with an earlier field's, and only there.
 use mathlib.Core.Path.{_≡_, refl, sym, _∙_, ap}
-use mathlib.Core.Bool.{Bool, true, false, cond, _&&_, _||_, not}
-use mathlib.Core.List.{List, [], _∷_, _++_, map, append-assoc}
+use mathlib.Core.Bool.{Bool, true, false}
+use mathlib.Core.List.{List, [], _∷_, _++_, append-assoc}
 use mathlib.Core.Option.{Option, none, some}
 use Prim.Native.Nat.{ℕ, zero, suc, _+_, _<_, _≤_}
 use native.Mathlib.Omega.{arith}
@@ -11,7 +11,17 @@ use lib.Seq.{getD-append-seam}
 use borrow.Author.Tests.{ltb-true, ltb-false, eqb-true, eq-eqb, not-true}
 use Rattle.base.specs.Lists.{any, same, ifAny, joined, firstBreak}
 use Rattle.base.specs.Places.{Stands}
-use Rattle.base.proofs.Lists.{and-left, and-right, and-both, not-both, fails, or-false-left, or-false-right, same-true, same-self}
+use Rattle.base.proofs.Lists.{
+  and-left,
+  and-right,
+  and-both,
+  not-both,
+  fails,
+  or-false-left,
+  or-false-right,
+  same-true,
+  same-self,
+}
 use Rattle.base.proofs.Places.{stands-left, stands-right}
 use Rattle.base.proofs.Breaks.{firstBreak-cons}
 use Rattle.rules.specs.Names.{isShort}
@@ -75,7 +85,8 @@ unique-parts : (before l : List (Field ℕ)) → firstBreak keepsNames before l 
 unique-parts before [] h i j p q r = absurd (omega (arith, length-append before []))
 unique-parts before (f ∷ l) h i j p q r =
     let e = firstBreak-cons keepsNames before f l h in
-    go (not-true (any (clash f) before) (e .0)) (ltb (length before) j) refl (unique-parts (before ++ (f ∷ [])) l (e .1))
+    go (not-true (any (clash f) before) (e .0)) (ltb (length before) j) refl
+    (unique-parts (before ++ (f ∷ [])) l (e .1))
   where
     go : any (clash f) before ≡ false → (b : Bool) → ltb (length before) j ≡ b
         → ((i j : ℕ) → i < j → length (before ++ (f ∷ [])) ≤ j → j < length ((before ++ (f ∷ [])) ++ l)
@@ -115,7 +126,8 @@ parts-nth s before (f ∷ l) form size at next st (suc i) lt =
     let a = firstBreak-cons keepsForm before f l form in
     let b = firstBreak-cons keepsSize before f l size in
     let mid = at + length (storedField f) in
-    let q = record-parts s at mid f (field-bounds f (a .0) (b .0)) (stands-left s at next (storedField f) (joined storedField l) st) in
+    let q = record-parts s at mid f (field-bounds f (a .0) (b .0))
+    (stands-left s at next (storedField f) (joined storedField l) st) in
     let r = stands-right s at next (storedField f) (joined storedField l) st in
     rw (q .1) (parts-nth s (before ++ (f ∷ [])) l (a .1) (b .1) mid next r i (omega arith))
 
@@ -166,20 +178,24 @@ module _ (s : List ℕ) (l : List (Field ℕ)) (at next : ℕ) (form : firstBrea
   short-good : (i : ℕ) → i < length l → ifAny isShort (nth l i .short) ≡ true
   short-good i lt = formed-parts (nth l i) (form-at [] l form i lt) .1
 
-  labels-are : (i j : ℕ) → i < length l → j < length l → labelsAlike s places i j ≡ same (nth l i .label) (nth l j .label)
+  labels-are : (i j : ℕ) → i < length l → j < length l
+      → labelsAlike s places i j ≡ same (nth l i .label) (nth l j .label)
   labels-are i j p q = rw (label-nth i p, label-nth j q)
 
   shorts-are : (i j : ℕ) → i < length l → j < length l
       → namesAlike (shortsAt s places) i j ≡ sameShort (nth l i .short) (nth l j .short)
   shorts-are i j p q =
-      rw (short-nth i p, short-nth j q) (held-short (nth l i .short) (nth l j .short) (short-good i p) (short-good j q))
+      rw (short-nth i p, short-nth j q) (held-short (nth l i .short) (nth l j .short) (short-good i p)
+      (short-good j q))
 
   pub names-sound : namesTest s (length l) at ≡ true → firstBreak keepsNames [] l ≡ none
   unfolding namesTest
   names-sound h =
       let n = length l in
-      let a = no-repeat (labelsAlike s places) n (eqb-true _ _ (and-left (eqb (firstRepeat (labelsAlike s places) n) n) _ h)) in
-      let b = no-repeat (namesAlike (shortsAt s places)) n (eqb-true _ _ (and-right (eqb (firstRepeat (labelsAlike s places) n) n) _ h)) in
+      let a = no-repeat (labelsAlike s places) n
+      (eqb-true _ _ (and-left (eqb (firstRepeat (labelsAlike s places) n) n) _ h)) in
+      let b = no-repeat (namesAlike (shortsAt s places)) n
+      (eqb-true _ _ (and-right (eqb (firstRepeat (labelsAlike s places) n) n) _ h)) in
       unique-build [] l (λ i j p q.
       let x = sym (labels-are i j (omega arith) q) ∙ a i j p q in
       let y = sym (shorts-are i j (omega arith) q) ∙ b i j p q in

@@ -1,8 +1,7 @@
 -- The places of records and the short names there, gathered one after the other.
 use mathlib.Core.Path.{_≡_, refl, sym, _∙_, ap}
-use mathlib.Core.Bool.{Bool, true, false}
 use mathlib.Core.List.{List, [], _∷_, _++_, map, append-assoc, append-nil}
-use Prim.Native.Nat.{ℕ, zero, suc, _+_, _-_, _<_, _≤_}
+use Prim.Native.Nat.{ℕ, suc, _+_, _-_, _<_}
 use native.Mathlib.Omega.{arith}
 use native.Mathlib.Numerals.{add-one}
 use lib.ListN.{length, take, set, getD}
@@ -31,14 +30,16 @@ module _ (s : List ℕ) (n i at : ℕ) where
       let p : FieldPlace s (getD (placesFrom s (n - i) at) (suc k) 0) = h (suc k) (omega arith) in
       rw (places-step lt) at p
 
-  pub places-again : (places all : List ℕ) → i < n → i < length places → take i places ++ placesFrom s (n - i) at ≡ all
+  pub places-again : (places all : List ℕ) → i < n → i < length places
+      → take i places ++ placesFrom s (n - i) at ≡ all
       → take (i + 1) (set places i at) ++ placesFrom s (n - (i + 1)) (partsAt s at .next) ≡ all
   places-again places all lt lp e =
       let next = placesFrom s (n - (i + 1)) (partsAt s at .next) in
       rw (take-own places i at lp, append-assoc (take i places) (at ∷ []) next)
       (rw (places-step lt) at e)
 
-  pub places-done : (places all : List ℕ) → i ≡ n → take i places ++ placesFrom s (n - i) at ≡ all → take n places ≡ all
+  pub places-done : (places all : List ℕ) → i ≡ n → take i places ++ placesFrom s (n - i) at ≡ all
+      → take n places ≡ all
   unfolding placesFrom
   places-done places all e h =
       let m : n - i ≡ 0 = omega arith in
@@ -52,7 +53,8 @@ map-end f [] x = refl
 map-end f (y ∷ l) x = ap (λ m. f y ∷ m) (map-end f l x)
 
 pub shorts-again : (s places : List ℕ) (names : List (List ℕ)) (i : ℕ) (x : List ℕ)
-    → i < length names → i < length places → take i names ≡ shortsAt s (take i places) → x ≡ shortAt s (getD places i 0)
+    → i < length names → i < length places → take i names ≡ shortsAt s (take i places) → x ≡ shortAt s
+    (getD places i 0)
     → take (i + 1) (set names i x) ≡ shortsAt s (take (i + 1) places)
 shorts-again s places names i x lt lp e f =
     rw (

@@ -1,45 +1,27 @@
 -- Each answer that is given for a packet keeps the promise of reading it.
 use mathlib.Core.Path.{_≡_, refl, sym, _∙_, ap}
-use mathlib.Core.Bool.{Bool, true, false, cond, _&&_, not}
-use mathlib.Core.List.{List, [], _∷_, _++_}
-use Prim.Native.Nat.{ℕ, suc, _+_, _*_, _<_, _≤_}
+use mathlib.Core.Bool.{true, false}
+use mathlib.Core.List.{List, [], _++_}
+use Prim.Native.Nat.{ℕ, _*_, _<_, _≤_}
 use native.Mathlib.Omega.{arith}
 use lib.Dec.{ltb}
 use lib.ListN.{length, take, drop}
 use borrow.Author.Tests.{lt-ltb, le-ltb}
-use Rattle.base.specs.Lists.{joined}
 use Rattle.base.specs.Places.{twoAt}
 use Rattle.rules.specs.declared.TableAnswer.{TableAnswer}
 use Rattle.rules.specs.declared.PacketAnswer.{PacketAnswer}
 use Rattle.rules.specs.Fields.{Description}
 use Rattle.rules.specs.Stored.{Good}
 use Rattle.rules.specs.Answers.{Answer, faultNumber, ofTable, ofPacket}
-use Rattle.rules.specs.Reading.{
-  Entry,
-  Reading,
-  complete,
-  tooLong,
-  faulted,
-  leftOver,
-  reading,
-  numbersOf,
-}
-use Rattle.rules.specs.Promises.{
-  Outcome,
-  leaves,
-  readingAnswer,
-  runAfter,
-  packetOutcome,
-  ChecksTable,
-  ReadsPacket,
-}
+use Rattle.rules.specs.Reading.{Entry, Reading, complete, tooLong, faulted, leftOver, reading}
+use Rattle.rules.specs.Promises.{leaves, readingAnswer, runAfter, packetOutcome, ChecksTable, ReadsPacket}
 use Rattle.rules.specs.declared.Fault.{Fault}
 use Rattle.laws.proofs.Decidable.{good-decidable}
 use Rattle.laws.proofs.Conditions.{conditions-kept}
 use Rattle.laws.proofs.RunCover.{kept-length}
 use Rattle.packets.specs.FieldParts.{isAccepted}
-use Rattle.packets.specs.RunRead.{RunHolds, ReadsRun}
-use Rattle.packets.proofs.RunEntries.{Begins, length-joined}
+use Rattle.packets.specs.RunRead.{ReadsRun}
+use Rattle.packets.proofs.RunEntries.{length-joined}
 use Rattle.packets.proofs.HeadReads.{head-stands}
 
 -- ── tables ──

@@ -1,13 +1,13 @@
 -- The bytes of a part, and the trees that are stored in just a part: what the tests say, both ways.
-use mathlib.Core.Path.{_≡_, refl, sym, _∙_, ap}
-use mathlib.Core.Bool.{Bool, true, false, cond, _&&_, _||_, not}
-use mathlib.Core.List.{List, [], _∷_, _++_}
+use mathlib.Core.Path.{_≡_, refl}
+use mathlib.Core.Bool.{true, false}
+use mathlib.Core.List.{List, []}
 use mathlib.Core.Logic.{_⊎_, inl, inr}
 use mathlib.Core.Option.{Option, none, some}
-use Prim.Native.Nat.{ℕ, _+_, _-_, _<_, _≤_}
+use Prim.Native.Nat.{ℕ, _-_, _<_, _≤_}
 use native.Mathlib.Omega.{arith}
 use lib.Dec.{leb, eqb}
-use lib.ListN.{length, getD, take, drop}
+use lib.ListN.{length, getD, drop}
 use lib.Seq.{take-append-seam}
 use borrow.Author.Tests.{leb-true, le-leb, eqb-true, eq-eqb, ne-eqb}
 use Rattle.base.specs.Places.{Stands, IsBytes}
@@ -16,9 +16,9 @@ use Rattle.base.proofs.Lists.{and-left, and-right, and-both, not-both, or-cases
 use Rattle.rules.specs.declared.Op.{Op}
 use Rattle.rules.specs.declared.Op.the-variants.{Or, And, Eq, Ne, Lt, Le, Gt, Ge, Add, Sub, Mul}
 use Rattle.rules.specs.declared.ValueType.{ValueType}
-use Rattle.rules.specs.declared.ValueType.the-variants.{Number, YesNo}
+use Rattle.rules.specs.declared.ValueType.the-variants.{YesNo}
 use Rattle.rules.specs.Limits.{depthMost, storedMost}
-use Rattle.rules.specs.Operators.{operator, code, numberCode, fieldCode, notCode}
+use Rattle.rules.specs.Operators.{operator, code}
 use Rattle.rules.specs.Trees.{
   Tree,
   num,
@@ -33,7 +33,6 @@ use Rattle.rules.specs.Trees.{
   isNumber,
   hasType,
   sameType,
-  le4,
 }
 use Rattle.rules.specs.Stored.{storedExpression, storedMaybe}
 use Rattle.laws.proofs.ReadsTrees.{small-bounds, length-stored}
@@ -82,17 +81,20 @@ module _ (s marks : List ℕ) (k : ValueType) (p : Span) where
   pub tree-sound : IsBytes s → treeTest s marks k p ≡ true → (t : Tree ℕ) × TreeIn s marks k p t
   unfolding treeTest
   tree-sound h ok =
-      go (checkAt 12 s marks (p .at)) refl (and-right (leb (p .len) 120) _ ok) (leb-true (p .len) 120 (and-left (leb (p .len) 120) _ ok))
+      go (checkAt 12 s marks (p .at)) refl (and-right (leb (p .len) 120) _ ok)
+      (leb-true (p .len) 120 (and-left (leb (p .len) 120) _ ok))
     where
       go : (c : Checked) → checkAt 12 s marks (p .at) ≡ c → endsAs k (ending p) c ≡ true → p .len ≤ 120
           → (t : Tree ℕ) × TreeIn s marks k p t
       go Checked.Bad e f le = absurd (not-both false f refl)
       go (Checked.Tree j next) e f le =
           let a : j ≡ k = same-type-true j k (and-left (sameType j k) (eqb (next .at) (ending p)) f) in
-          let b : next .at ≡ ending p = eqb-true (next .at) (ending p) (and-right (sameType j k) (eqb (next .at) (ending p)) f) in
+          let b : next .at ≡ ending p = eqb-true (next .at) (ending p)
+          (and-right (sameType j k) (eqb (next .at) (ending p)) f) in
           let q = check-sound 12 s marks (p .at) j next h e in
           let st : In s p (storedExpression (q .0)) = stands-to s (p .at) (next .at) (ending p) _ b (q .4) in
-          let l : storedLength (q .0) ≤ 120 = omega (arith, in-length s p _ st, length-stored (λ i. i) (λ i. 0) (q .0)) in (
+          let l : storedLength (q .0) ≤ 120 = omega
+          (arith, in-length s p _ st, length-stored (λ i. i) (λ i. 0) (q .0)) in (
             q .0,
             record {
               typed = typed-as marks j k (q .0) a (q .1);
@@ -106,7 +108,8 @@ module _ (s marks : List ℕ) (k : ValueType) (p : Span) where
   pub tree-complete : (t : Tree ℕ) → TreeIn s marks k p t → treeTest s marks k p ≡ true
   unfolding treeTest
   tree-complete t h =
-      let e = check-complete 12 s marks (p .at) t k (ending p) (h .typed) (h .range) (small-bounds t (h .small) .0) (h .stands) in
+      let e = check-complete 12 s marks (p .at) t k (ending p) (h .typed) (h .range) (small-bounds t (h .small) .0)
+      (h .stands) in
       let l : p .len ≤ 120 = omega (arith, in-length s p _ (h .stands), small-length t (h .small)) in
       rw (le-leb (p .len) 120 l, e, same-type-self k, eq-eqb (ending p) (ending p) refl)
 
@@ -165,7 +168,8 @@ code-other Add = refl
 code-other Sub = refl
 code-other Mul = refl
 
-pub number-byte : (s : List ℕ) (p : Span) (t : Tree ℕ) → In s p (storedExpression t) → eqb (getD s (p .at) 0) 1 ≡ isNumber t
+pub number-byte : (s : List ℕ) (p : Span) (t : Tree ℕ) → In s p (storedExpression t)
+    → eqb (getD s (p .at) 0) 1 ≡ isNumber t
 unfolding storedTree
 number-byte s p (num n) h = rw (stands-byte s (p .at) (ending p) _ _ h)
 number-byte s p (read i) h = rw (stands-byte s (p .at) (ending p) _ _ h)

@@ -1,8 +1,8 @@
 -- A field's part by its numbers is the part that the reading says, and lies within the packet.
 use mathlib.Core.Path.{_≡_, refl, sym, _∙_, ap}
 use mathlib.Core.Bool.{Bool, true, false, cond, _&&_}
-use mathlib.Core.Logic.{_⊎_, inl, inr}
-use mathlib.Core.List.{List, [], _∷_, _++_}
+use mathlib.Core.Logic.{inl, inr}
+use mathlib.Core.List.{List, [], _∷_}
 use Prim.Native.Nat.{ℕ, zero, suc, _+_, _*_, _/_, _%_, _<_, _≤_}
 use native.Mathlib.Omega.{arith}
 use lib.Dec.{eqb}
@@ -33,8 +33,8 @@ use Rattle.laws.proofs.Cover.{cover-in-order}
 use Rattle.laws.proofs.Decidable.{good-decidable}
 use Rattle.packets.specs.declared.readings.Bytes.{Bytes}
 use Rattle.packets.specs.FieldParts.{isAccepted, bytesOf, partAt, OnPacket}
-use Rattle.packets.specs.FieldBytes.{movedBy, HandsField}
-use Rattle.packets.specs.RunRead.{RunHolds, ReadsRun}
+use Rattle.packets.specs.FieldBytes.{movedBy, Lends}
+use Rattle.packets.specs.RunRead.{ReadsRun}
 use Rattle.packets.proofs.RunEntries.{Begins, run-present, run-number}
 use Rattle.packets.proofs.PacketPromises.{
   not-good,
@@ -176,14 +176,16 @@ module _ (table packet : List ℕ) (i : ℕ) where
 
 pub field-handed : (table packet : List ℕ) (i : ℕ) (r : Bytes) (bytes : List ℕ) (from at : ℕ × ℕ)
     → OnPacket table packet i r → bytes ≡ take (r .size) (drop (r .start) packet) → at ≡ movedBy (r .start) from
-    → HandsField table packet i bytes from at
+    → Lends table packet i bytes from at
 field-handed table packet i r bytes from at on content place = record {
-  content = λ good. rw (← ap (λ (x : Bytes). x .start) (on .is good), ← ap (λ (x : Bytes). x .size) (on .is good)) content;
+  content = λ good.
+      rw (← ap (λ (x : Bytes). x .start) (on .is good), ← ap (λ (x : Bytes). x .size) (on .is good)) content;
   place = λ good. rw (← ap (λ (x : Bytes). x .start) (on .is good)) place;
 }
 
 -- the promise with its start
-pub hands-part : (table packet : List ℕ) (i : ℕ) (bytes : List ℕ) (from at : ℕ × ℕ) → HandsField table packet i bytes from at
+pub hands-part : (table packet : List ℕ) (i : ℕ) (bytes : List ℕ) (from at : ℕ × ℕ)
+    → Lends table packet i bytes from at
     → (start : ℕ) × HandsPart table packet i bytes start × (at ≡ movedBy start from)
 hands-part table packet i bytes from at h =
     let g = good-decidable table in (
@@ -197,7 +199,8 @@ hands-part table packet i bytes from at h =
 
 -- one part for each input
 pub field-settled : (table packet : List ℕ) (i : ℕ) (bytes others : List ℕ) (from at other : ℕ × ℕ)
-    → HandsField table packet i bytes from at → HandsField table packet i others from other → (bytes ≡ others) × (at ≡ other)
+    → Lends table packet i bytes from at → Lends table packet i others from other
+    → (bytes ≡ others) × (at ≡ other)
 field-settled table packet i bytes others from at other p q =
     let g = good-decidable table in
     (p .content g ∙ sym (q .content g), p .place g ∙ sym (q .place g))

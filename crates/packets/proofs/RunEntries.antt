@@ -1,16 +1,15 @@
 -- A run that begins with the numbers of some entries: what it says of each, and one entry more.
 use mathlib.Core.Path.{_≡_, refl, sym, _∙_, ap}
-use mathlib.Core.Bool.{Bool, true, false, cond}
-use mathlib.Core.List.{List, [], _∷_, _++_, append-assoc, append-nil}
-use mathlib.Core.Option.{Option, none, some}
+use mathlib.Core.Bool.{true}
+use mathlib.Core.List.{List, [], _∷_, _++_, append-assoc}
+use mathlib.Core.Option.{some}
 use Prim.Native.Nat.{ℕ, zero, suc, _+_, _*_, _<_, _≤_}
 use native.Mathlib.Omega.{arith}
-use native.Mathlib.Numerals.{add-one}
-use lib.ListN.{length, getD, take, set, getElem?, length-append, length-set, List·getD-append}
-use lib.Seq.{getD-take, take-suc-set, take-all}
+use lib.ListN.{length, getD, take, set, length-append, length-set, List·getD-append}
+use lib.Seq.{getD-take, take-suc-set}
 use Rattle.base.specs.Lists.{joined}
 use Rattle.rules.specs.Fields.{Field}
-use Rattle.rules.specs.Within.{isReadable, indexReadable}
+use Rattle.rules.specs.Within.{indexReadable}
 use Rattle.rules.specs.Reading.{Entry, absent, valueIn, numbersOf}
 use Rattle.packets.specs.StoredTrees.{runValue}
 use Rattle.packets.specs.Steps.{numbersIn}
@@ -45,7 +44,8 @@ run-present run es i b lt =
     let z : 4 * i + 0 ≡ 4 * i = omega arith in
     rw z at (run-number run es i 0 b lt (omega arith))
 
-pub run-value : (run : List ℕ) (es : List Entry) (i : ℕ) → Begins run es → i < length es → valueIn es i ≡ runValue run i
+pub run-value : (run : List ℕ) (es : List Entry) (i : ℕ) → Begins run es → i < length es
+    → valueIn es i ≡ runValue run i
 unfolding valueIn
 run-value run es i b lt =
     rw (run-present run es i b lt, run-number run es i 3 b lt (omega arith))
@@ -57,7 +57,8 @@ unfolding joined
 length-joined [] = refl
 length-joined (e ∷ es) = omega (arith, length-joined es, length-append (numbersOf e) (joined numbersOf es))
 
-pub joined-more : (es : List Entry) (e : Entry) → joined numbersOf (es ++ (e ∷ [])) ≡ joined numbersOf es ++ numbersOf e
+pub joined-more : (es : List Entry) (e : Entry)
+    → joined numbersOf (es ++ (e ∷ [])) ≡ joined numbersOf es ++ numbersOf e
 unfolding joined
 joined-more [] e = refl
 joined-more (d ∷ es) e = rw (joined-more es e, append-assoc (numbersOf d) (joined numbersOf es) (numbersOf e))

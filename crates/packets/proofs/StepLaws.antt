@@ -1,12 +1,12 @@
 -- Laws of the mirror definitions of one field's step.
-use mathlib.Core.Path.{_≡_, refl, sym, _∙_}
+use mathlib.Core.Path.{_≡_}
 use mathlib.Core.List.{List}
-use Prim.Native.Nat.{ℕ, zero, suc, _+_, _-_, _<_, _≤_}
+use Prim.Native.Nat.{ℕ, suc, _+_, _-_, _<_}
 use native.Mathlib.Omega.{arith}
-use native.Mathlib.Nat.{add-assoc, sub-self, add-zero}
+use native.Mathlib.Nat.{sub-self}
 use Rattle.rules.specs.declared.Fault.{Fault}
 use Rattle.rules.specs.Values.{Value, value, fault}
-use Rattle.rules.specs.Reading.{Entry, Step, step, stop}
+use Rattle.rules.specs.Reading.{Step, step, stop}
 use Rattle.packets.specs.declared.steps.Got.{Got}
 use Rattle.packets.specs.declared.steps.Numbers.{Numbers}
 use Rattle.packets.specs.declared.steps.Found.{Found}
@@ -23,21 +23,22 @@ later-end s n sum at = rw sub-self (omega arith)
 
 -- ── answers of the code taken back ──
 
-pub got-value : (v : Value) (n : ℕ) → gotOf v ≡ Got.Value n → v ≡ value n
-got-value (value m) n e = cc
-got-value (fault f) n e = cc
+pub got-value : (r : Got) (v : Value) (n : ℕ) → r ≡ gotOf v → r ≡ Got.Value n → v ≡ value n
+got-value r (value m) n e h = cc
+got-value r (fault f) n e h = cc
 
-pub got-stop : (v : Value) (f : Fault) → gotOf v ≡ Got.Stop f → v ≡ fault f
-got-stop (value m) f e = cc
-got-stop (fault g) f e = cc
+pub got-stop : (r : Got) (v : Value) (f : Fault) → r ≡ gotOf v → r ≡ Got.Stop f → v ≡ fault f
+got-stop r (value m) f e h = cc
+got-stop r (fault g) f e h = cc
 
-pub found-field : (s : Step) (e : Numbers) (next : ℕ) → foundOf s ≡ Found.Field e next → s ≡ step (entryIn e) next
-found-field (step d m) e next h =
+pub found-field : (r : Found) (s : Step) (e : Numbers) (next : ℕ) → r ≡ foundOf s → r ≡ Found.Field e next
+    → s ≡ step (entryIn e) next
+found-field r (step d m) e next h k =
     let p : numbersIn d ≡ e = cc in
     let q : m ≡ next = cc in
     rw (← p, q)
-found-field (stop f) e next h = cc
+found-field r (stop f) e next h k = cc
 
-pub found-stop : (s : Step) (f : Fault) → foundOf s ≡ Found.Stop f → s ≡ stop f
-found-stop (step d m) f h = cc
-found-stop (stop g) f h = cc
+pub found-stop : (r : Found) (s : Step) (f : Fault) → r ≡ foundOf s → r ≡ Found.Stop f → s ≡ stop f
+found-stop r (step d m) f h k = cc
+found-stop r (stop g) f h k = cc

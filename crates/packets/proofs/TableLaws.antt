@@ -1,19 +1,18 @@
 -- The test of a table holds exactly where the table is good.
-use mathlib.Core.Path.{_≡_, refl, sym, _∙_, ap}
-use mathlib.Core.Bool.{Bool, true, false, _&&_}
-use mathlib.Core.List.{List, [], _∷_, _++_}
-use Prim.Native.Nat.{ℕ, _+_, _<_, _≤_}
+use mathlib.Core.Path.{_≡_, refl, sym}
+use mathlib.Core.Bool.{true, false}
+use mathlib.Core.List.{List, []}
+use Prim.Native.Nat.{ℕ, _+_, _≤_}
 use native.Mathlib.Omega.{arith}
 use lib.Dec.{leb}
 use lib.ListN.{length}
-use borrow.Author.Tests.{leb-true, le-leb}
+use borrow.Author.Tests.{le-leb}
 use Rattle.base.specs.Lists.{any, joined}
-use Rattle.base.specs.Places.{Stands, IsBytes, twoAt}
+use Rattle.base.specs.Places.{IsBytes, twoAt}
 use Rattle.base.proofs.Lists.{and-left, and-right, and-both, not-both}
 use Rattle.base.proofs.Places.{stands-join, stands-left, stands-right}
 use Rattle.rules.specs.declared.TableAnswer.{TableAnswer}
-use Rattle.rules.specs.Fields.{Field, Description, isRest}
-use Rattle.rules.specs.Within.{Within}
+use Rattle.rules.specs.Fields.{Field, Description}
 use Rattle.rules.specs.Stored.{recordOf, storedField, headBody, stored, Good}
 use Rattle.rules.specs.Answers.{ofTable}
 use Rattle.rules.specs.Promises.{ChecksTable}
@@ -23,12 +22,11 @@ use Rattle.packets.specs.Parts.{tableMost, spanAt}
 use Rattle.packets.specs.FieldTest.{bytesIn}
 use Rattle.packets.specs.NamesTest.{namesTest}
 use Rattle.packets.specs.TableTest.{walkAt, headTest, lastTest, afterFields, tableTest}
-use Rattle.packets.proofs.TableWalks.{FieldsIn, walk-sound, walk-complete}
+use Rattle.packets.proofs.WalkLaws.{FieldsIn, walk-sound, walk-complete}
 use Rattle.packets.proofs.NameLaws.{names-sound, names-complete}
 use Rattle.packets.proofs.TableSteps.{HeadIs, head-is}
 use Rattle.packets.proofs.TableParts.{
   head-stands,
-  HeadOf,
   head-found,
   last-stands,
   last-found,
@@ -50,7 +48,8 @@ good-of s at l b h count fields last names =
     let from = 10 + twoAt s 8 in
     let d : Description = record { name = bytesIn s (spanAt s 8); rowWidth = twoAt s 4; fields = l } in
     let head = head-stands s d b h refl (sym count) refl in
-    let tail = stands-join s from at (length s) (joined storedField l) (recordOf 5 []) (fields .stands) (last-stands s at b last) in
+    let tail = stands-join s from at (length s) (joined storedField l) (recordOf 5 []) (fields .stands)
+    (last-stands s at b last) in
     record {
       description = d;
       within = record {
@@ -108,7 +107,8 @@ table-complete s g =
     let names = names-complete s l from at (w .form) (w .size) fields (w .names) in
     let names′ : namesTest s (twoAt s 6) (10 + twoAt s 8) ≡ true = rw (h .count, ← h .next) names in
     let walk′ : walked s ≡ Past at = rw (h .row, h .count, ← h .next) walk in
-    let after : afterFields s (walked s) ≡ true = rw walk′ (and-both (lastTest s at) _ (last-found s at last) names′) in
+    let after : afterFields s (walked s) ≡ true = rw walk′
+    (and-both (lastTest s at) _ (last-found s at last) names′) in
     let most : length s ≤ tableMost = rw (← g .isStored) (table-length d w) in
     and-both (leb (length s) tableMost) _ (le-leb _ _ most) (and-both (headTest s) _ (h .test) after)
 

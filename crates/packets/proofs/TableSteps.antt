@@ -1,11 +1,11 @@
 -- What the code that checks a whole table is told at its steps.
-use mathlib.Core.Path.{_≡_, refl, sym, _∙_}
-use mathlib.Core.Bool.{Bool, true, false, cond, _&&_, _||_}
-use mathlib.Core.List.{List, [], _∷_, _++_}
+use mathlib.Core.Path.{_≡_, sym, _∙_}
+use mathlib.Core.Bool.{Bool, true, false, cond, _||_}
+use mathlib.Core.List.{List, []}
 use Prim.Native.Nat.{ℕ, zero, suc, _+_, _%_, _<_, _≤_}
 use native.Mathlib.Omega.{arith}
 use lib.Dec.{leb, eqb}
-use lib.ListN.{length, getD}
+use lib.ListN.{length}
 use borrow.Author.Tests.{leb-true, eqb-true}
 use Rattle.base.specs.Lists.{between}
 use Rattle.base.specs.Places.{twoAt}
@@ -17,10 +17,10 @@ use Rattle.packets.specs.declared.tables.Walked.{Walked}
 use Rattle.packets.specs.declared.tables.Walked.the-variants.{Past, Bad}
 use Rattle.packets.specs.Parts.{tableMost, spanAt, partsAt}
 use Rattle.packets.specs.FieldTest.{bytesIn}
-use Rattle.packets.specs.NamesTest.{placesFrom, FieldPlace, FieldPlaces}
+use Rattle.packets.specs.NamesTest.{placesFrom, FieldPlaces}
 use Rattle.packets.specs.TableTest.{walkAt, headTest}
 use Rattle.packets.proofs.FieldSteps.{parts-inside, field-next}
-use Rattle.packets.proofs.TableWalks.{past-bad, walk-parts}
+use Rattle.packets.proofs.WalkLaws.{past-bad, walk-parts}
 
 -- ── the first record ──
 
@@ -69,7 +69,8 @@ walk-past w (suc n) marks place ended s at next le h =
     let q = walk-parts w n marks place ended s at next h in
     walk-past w n _ _ _ s (partsAt s at .next) next (field-next w place ended s at (partsAt s at) (q .0)) (q .2)
 
-pub walk-places : (w n : ℕ) (marks : List ℕ) (place : ℕ) (ended : Bool) (s : List ℕ) (at next : ℕ) → length s ≤ tableMost
+pub walk-places : (w n : ℕ) (marks : List ℕ) (place : ℕ) (ended : Bool) (s : List ℕ) (at next : ℕ)
+    → length s ≤ tableMost
     → at ≤ length s → walkAt w n marks place ended s at ≡ Past next → FieldPlaces s n (placesFrom s n at)
 unfolding placesFrom
 walk-places w zero marks place ended s at next short le h i lt = absurd (omega arith)
@@ -81,7 +82,8 @@ walk-places w (suc n) marks place ended s at next short le h zero lt =
     }
 walk-places w (suc n) marks place ended s at next short le h (suc i) lt =
     let q = walk-parts w n marks place ended s at next h in
-    walk-places w n _ _ _ s (partsAt s at .next) next short (field-next w place ended s at (partsAt s at) (q .0)) (q .2) i (omega arith)
+    walk-places w n _ _ _ s (partsAt s at .next) next short (field-next w place ended s at (partsAt s at) (q .0))
+    (q .2) i (omega arith)
 
 pub count-most : (n : ℕ) → between 1 n 64 ≡ true → n ≤ 64
 count-most n h = between-true 1 n 64 h .1

@@ -1,132 +1,270 @@
--- Laws of the walk over a packet's fields: one field of it, and places that stay within the packet.
-use mathlib.Core.Path.{_≡_, refl, sym, _∙_}
-use mathlib.Core.Bool.{Bool, true, false, cond}
-use mathlib.Core.List.{List}
-use Prim.Native.Nat.{ℕ, zero, suc, _+_, _-_, _<_, _≤_}
+-- The walk over the fields of a table passes where fields that keep their rules are stored, and only there.
+use mathlib.Core.Path.{_≡_, refl, sym, _∙_, ap}
+use mathlib.Core.Bool.{Bool, true, false, cond, _&&_, _||_}
+use mathlib.Core.List.{List, [], _∷_, _++_}
+use mathlib.Core.Option.{none}
+use Prim.Native.Nat.{ℕ, zero, suc, _+_, _%_, _≤_}
 use native.Mathlib.Omega.{arith}
-use native.Mathlib.Nat.{sub-self}
-use lib.Dec.{ltb, eqb}
-use lib.ListN.{length, length-set}
-use borrow.Author.Tests.{ltb-false}
-use Rattle.rules.specs.declared.Fault.{Fault}
-use Rattle.rules.specs.declared.Fault.the-variants.{ConstraintFalse}
-use Rattle.rules.specs.Values.{Value, value, fault}
-use Rattle.rules.specs.Reading.{Entry, Step, step, stop, andThen, bitTotal}
-use Rattle.packets.specs.declared.records.Parts.{Parts}
-use Rattle.packets.specs.declared.steps.Numbers.{Numbers}
-use Rattle.packets.specs.declared.walks.Moved.{Moved}
-use Rattle.packets.specs.Steps.{
-  recordAt,
-  holdsAt,
-  extentAt,
-  presentEntry,
-  boundedAt,
-  presentAt,
-  fieldStep,
-  numbersIn,
+use lib.Dec.{eqb}
+use lib.ListN.{length}
+use Rattle.base.specs.Lists.{all, any, ifAny, joined, firstBreak}
+use Rattle.base.specs.Places.{Stands, IsBytes}
+use Rattle.base.proofs.Lists.{and-left, and-right, and-both}
+use Rattle.base.proofs.Places.{stands-none, stands-join, stands-left, stands-right}
+use Rattle.base.proofs.Breaks.{firstBreak-cons}
+use Rattle.rules.specs.declared.ValueType.the-variants.{YesNo}
+use Rattle.rules.specs.Trees.{isSmall, hasType}
+use Rattle.rules.specs.Fields.{Field, isRest, fixedBits, trees}
+use Rattle.rules.specs.Within.{
+  isFormed,
+  keepsForm,
+  keepsSize,
+  keepsTypes,
+  keepsRest,
+  widthHasType,
+  indexReadable,
+  rowsFit,
+  widths,
 }
-use Rattle.packets.specs.Walks.{
-  putAt,
-  keptBy,
-  keptAt,
-  stepAfter,
-  runWith,
-  Walk,
-  ended,
-  stopped,
-  walkFrom,
+use Rattle.rules.specs.Stored.{storedField}
+use Rattle.laws.proofs.ReadsFields.{formed-parts}
+use Rattle.packets.specs.declared.tables.Walked.{Walked}
+use Rattle.packets.specs.declared.tables.Walked.the-variants.{Past, Bad}
+use Rattle.packets.specs.Parts.{partsAt}
+use Rattle.packets.specs.PartsStand.{PartsStand}
+use Rattle.packets.specs.FieldTest.{treesTest, boundsTest, formTest, orderTest, fieldTest, markOf, bitsOf}
+use Rattle.packets.specs.TableTest.{walkAt}
+use Rattle.packets.proofs.FieldTests.{Keeps, record-sound, record-complete}
+use Rattle.packets.proofs.FieldOrder.{
+  mark,
+  marksOf,
+  marked-readable,
+  marks-end,
+  mark-is,
+  bits-are,
+  rest-is,
+  fitsRow,
+  rows-step,
+  order-is,
+  any-end,
 }
 
-pub length-put : (run : List ℕ) (i : ℕ) (e : Numbers) → length (putAt run i e) ≡ length run
-unfolding putAt
-length-put run i e = simp length-set
+-- ── one step ──
 
-pub length-with : (run : List ℕ) (i : ℕ) (s : Step) → length (runWith run i s) ≡ length run
-length-with run i (step e next) = length-put run i _
-length-with run i (stop f) = refl
+pub past-bad : (next : ℕ) → Bad ≡ Past next → ⊥
+past-bad next e = let z : _≡_ {A = ℕ} 0 1 = cc in omega arith
 
--- ── one field ──
+module _ (w n : ℕ) (marks : List ℕ) (place : ℕ) (ended : Bool) (s : List ℕ) (at next : ℕ) where
+  abbrev own : List ℕ
+  own = marks ++ (markOf (partsAt s at) ∷ [])
 
-module _ (s packet run : List ℕ) (n i place at : ℕ) (p : Parts) (moved : Moved) (after : List ℕ) (lt : i < n)
-    (parts : p ≡ recordAt s at)
-    (goes : moved ≡ stepAfter s run i p (fieldStep s packet run p (n - i - 1) place)) where
-  pub walk-to : (next : ℕ) → after ≡ runWith run i (fieldStep s packet run p (n - i - 1) place) → moved ≡ Moved.To next
-      → walkFrom s packet (n - i) i run place at ≡ walkFrom s packet (n - (i + 1)) (i + 1) after next (p .next)
-  unfolding walkFrom
-  walk-to next left to =
-      let e : n - i ≡ suc (n - (i + 1)) = omega arith in
-      let d : n - i - 1 ≡ n - (i + 1) = omega arith in
-      let g : moved ≡ stepAfter s run i (recordAt s at) (fieldStep s packet run (recordAt s at) (n - (i + 1)) place) =
-      rw (← parts, ← d) goes in
-      rw (e, ← g, to, left, d, parts)
+  abbrev then : Walked
+  then =
+      walkAt w n own (place + bitsOf (partsAt s at)) (ended || eqb (partsAt s at .kind) 4) s (partsAt s at .next)
 
-  pub walk-stop : (f : Fault) → moved ≡ Moved.Stop f → walkFrom s packet (n - i) i run place at ≡ stopped f (i + 1)
-  unfolding walkFrom
-  walk-stop f to =
-      let e : n - i ≡ suc (n - (i + 1)) = omega arith in
-      let d : n - i - 1 ≡ n - (i + 1) = omega arith in
-      let g : moved ≡ stepAfter s run i (recordAt s at) (fieldStep s packet run (recordAt s at) (n - (i + 1)) place) =
-      rw (← parts, ← d) goes in
-      rw (e, ← g, to)
+  pub walk-parts : walkAt w (suc n) marks place ended s at ≡ Past next
+      → (fieldTest w place ended s at (partsAt s at) ≡ true) × (treesTest s marks own (partsAt s at) ≡ true)
+      × (then ≡ Past next)
+  unfolding walkAt
+  walk-parts h = go (fieldTest w place ended s at (partsAt s at) && treesTest s marks own (partsAt s at)) refl h
+    where
+      go : (b : Bool) → (fieldTest w place ended s at (partsAt s at) && treesTest s marks own (partsAt s at)) ≡ b
+          → cond b then Bad ≡ Past next
+          → (fieldTest w place ended s at (partsAt s at) ≡ true) × (treesTest s marks own (partsAt s at) ≡ true)
+          × (then ≡ Past next)
+      go true e f = (
+        and-left (fieldTest w place ended s at (partsAt s at)) _ e,
+        and-right
+            (fieldTest w place ended s at (partsAt s at)) _ e,
+        f,
+      )
+      go false e f = absurd (past-bad next f)
 
-pub walk-end : (s packet run : List ℕ) (n place at : ℕ) → walkFrom s packet (n - n) n run place at ≡ ended run place
-unfolding walkFrom
-walk-end s packet run n place at = rw sub-self
+  pub walk-passes : fieldTest w place ended s at (partsAt s at) ≡ true → treesTest s marks own (partsAt s at) ≡ true
+      → walkAt w (suc n) marks place ended s at ≡ then
+  unfolding walkAt
+  walk-passes e f = rw (e, f)
 
--- ── places ──
+module _ (w place : ℕ) (ended : Bool) (s : List ℕ) (at : ℕ) where
+  test-parts : fieldTest w place ended s at (partsAt s at) ≡ true
+      → (boundsTest s at (partsAt s at) ≡ true) × (formTest s (partsAt s at) ≡ true)
+      × (orderTest w place ended (partsAt s at) ≡ true)
+  unfolding fieldTest
+  test-parts h =
+      let r = and-right (boundsTest s at (partsAt s at)) _ h in (
+        and-left (boundsTest s at (partsAt s at)) _ h,
+        and-left (formTest s (partsAt s at)) _ r,
+        and-right (formTest s (partsAt s at)) _ r,
+      )
 
--- the place behind a step lies within the packet
-abbrev Inside : ℕ → Step → Type 0
-Inside total (step e next) = next ≤ total
-Inside total (stop f) = Unit {0}
+  test-whole : boundsTest s at (partsAt s at) ≡ true → formTest s (partsAt s at) ≡ true
+      → orderTest w place ended (partsAt s at) ≡ true → fieldTest w place ended s at (partsAt s at) ≡ true
+  unfolding fieldTest
+  test-whole a b c = rw (a, b) c
 
-inside-both : (total : ℕ) (v : Value) (go : ℕ → Step) → ((n : ℕ) → Inside total (go n)) → Inside total (andThen v go)
-inside-both total (value n) go h = h n
-inside-both total (fault f) go h = tt
+-- ── the fields from a place on, behind some fields ──
 
-inside-either : (total : ℕ) (b : Bool) (s t : Step) → (b ≡ true → Inside total s) → (b ≡ false → Inside total t)
-    → Inside total (cond b s t)
-inside-either total true s t p q = p refl
-inside-either total false s t p q = q refl
+pub record FieldsIn (w : ℕ) (before : List (Field ℕ)) (place : ℕ) (s : List ℕ) (at next : ℕ) (l : List (Field ℕ))
+    : Type 0 where
+  pub stands : Stands s at (joined storedField l) next
+  pub form : firstBreak keepsForm before l ≡ none
+  pub size : firstBreak keepsSize before l ≡ none
+  pub kinds : firstBreak (keepsTypes indexReadable) before l ≡ none
+  pub rests : firstBreak keepsRest before l ≡ none
+  pub rows : rowsFit w place (widths l) ≡ true
 
-bounded-inside : (packet : List ℕ) (kind place width : ℕ) → Inside (bitTotal packet) (boundedAt packet kind place width)
-unfolding boundedAt
-bounded-inside packet kind place width =
-    inside-either (bitTotal packet) (ltb (bitTotal packet) (place + width)) (stop _)
-    (step (presentEntry packet kind place width) (place + width)) (λ e. tt) (λ e. ltb-false _ _ e)
+break-cons : (keeps : List (Field ℕ) → Field ℕ → Bool) (before : List (Field ℕ)) (f : Field ℕ) (l : List (Field ℕ))
+    → keeps before f ≡ true → firstBreak keeps (before ++ (f ∷ [])) l ≡ none → firstBreak keeps before (f ∷ l) ≡ none
+unfolding firstBreak
+break-cons keeps before f l e h = rw e h
 
-field-inside : (s packet run : List ℕ) (p : Parts) (later place : ℕ) → place ≤ bitTotal packet
-    → Inside (bitTotal packet) (fieldStep s packet run p later place)
-unfolding fieldStep presentAt
-field-inside s packet run p later place h =
-    inside-both (bitTotal packet) (holdsAt s run (p .condition)) _ (λ c.
-    inside-either (bitTotal packet) (eqb c 0) (step _ place) (presentAt s packet run p later place) (λ e. h) (λ e.
-    inside-both (bitTotal packet) (extentAt s packet run p later place) (boundedAt packet (p .kind) place)
-    (bounded-inside packet (p .kind) place)))
+-- the rules of a field by the marks are those by the fields
+module _ (before : List (Field ℕ)) (f : Field ℕ) where
+  keeps-types : Keeps (marksOf before) (marksOf (before ++ (f ∷ []))) f → keepsTypes indexReadable before f ≡ true
+  keeps-types h =
+      and-both (widthHasType (indexReadable before) (f .width)) _
+      (rw (marked-readable before) at (h .width))
+      (and-both (ifAny (hasType (indexReadable (before ++ (f ∷ []))) YesNo) (f .constraint)) _
+      (rw (marked-readable (before ++ (f ∷ []))) at (h .constraint))
+      (rw (marked-readable before) at (h .condition)))
 
-kept-to : (v : Value) (m next : ℕ) → keptBy v m ≡ Moved.To next → m ≡ next
-kept-to (value c) m next e = go (eqb c 0) e
+  types-keep : isFormed f ≡ true → all isSmall (trees f) ≡ true → keepsTypes indexReadable before f ≡ true
+      → Keeps (marksOf before) (marksOf (before ++ (f ∷ []))) f
+  types-keep formed small h =
+      let r = and-right (widthHasType (indexReadable before) (f .width)) _ h in
+      let c = ifAny (hasType (indexReadable (before ++ (f ∷ []))) YesNo) (f .constraint) in
+      record {
+        formed = formed;
+        small = small;
+        width = rw (marked-readable before) (and-left (widthHasType (indexReadable before) (f .width)) _ h);
+        constraint = rw (marked-readable (before ++ (f ∷ []))) (and-left c _ r);
+        condition = rw (marked-readable before) (and-right c _ r);
+      }
+
+  own-marks : (x : ℕ) → x ≡ mark f → marksOf before ++ (x ∷ []) ≡ marksOf (before ++ (f ∷ []))
+  own-marks x e = rw e (sym (marks-end before f))
+
+-- ── sound ──
+
+module _ (w n place : ℕ) (before : List (Field ℕ)) (s : List ℕ) (at next : ℕ) where
+  fields-cons : (f : Field ℕ) (l : List (Field ℕ))
+      → Keeps (marksOf before) (marksOf (before ++ (f ∷ []))) f → fitsRow w place (f .width) ≡ true
+      → keepsRest before f ≡ true → Stands s at (storedField f) (partsAt s at .next)
+      → FieldsIn w (before ++ (f ∷ [])) (place + fixedBits f) s (partsAt s at .next) next l
+      → FieldsIn w before place s at next (f ∷ l)
+  unfolding joined
+  fields-cons f l keeps row rests st h = record {
+    stands = stands-join s at (partsAt s at .next) next (storedField f) (joined storedField l) st (h .stands);
+    form = break-cons keepsForm before f l (keeps .formed) (h .form);
+    size = break-cons keepsSize before f l (keeps .small) (h .size);
+    kinds = break-cons (keepsTypes indexReadable) before f l (keeps-types before f keeps) (h .kinds);
+    rests = break-cons keepsRest before f l rests (h .rests);
+    rows = rows-step w place f (widths l)
+        ∙ and-both (fitsRow w place (f .width)) _ row (h .rows);
+  }
+
+  walk-cons : ((b : List (Field ℕ)) (q a : ℕ) → walkAt w n (marksOf b) q (any isRest b) s a ≡ Past next
+      → (l : List (Field ℕ)) × (length l ≡ n) × FieldsIn w b q s a next l)
+      → (f : Field ℕ) → PartsStand s (partsAt s at) f
+      → Keeps (marksOf before) (marksOf before ++ (markOf (partsAt s at) ∷ [])) f
+      → Stands s at (storedField f) (partsAt s at .next)
+      → orderTest w place (any isRest before) (partsAt s at) ≡ true
+      → walkAt w n (marksOf before ++ (markOf (partsAt s at) ∷ [])) (place + bitsOf (partsAt s at))
+      (any isRest before || eqb (partsAt s at .kind) 4) s (partsAt s at .next) ≡ Past next
+      → (l : List (Field ℕ)) × (length l ≡ suc n) × FieldsIn w before place s at next l
+  walk-cons rec f ps keeps st order h =
+      let p = partsAt s at in
+      let short = formed-parts f (keeps .formed) .1 in
+      let o : marksOf before ++ (markOf p ∷ []) ≡ marksOf (before ++ (f ∷ [])) = own-marks before f (markOf p)
+      (mark-is s p f ps short) in
+      let e : (any isRest before || eqb (p .kind) 4) ≡ any isRest (before ++ (f ∷ [])) =
+      rw (rest-is s p f ps) (sym (any-end isRest before f)) in
+      let k : Keeps (marksOf before) (marksOf (before ++ (f ∷ []))) f = rw o at keeps in
+      let b : (fitsRow w place (f .width) && keepsRest before f) ≡ true = sym (order-is s p f before w place ps)
+      ∙ order in
+      let q = rec (before ++ (f ∷ [])) (place + fixedBits f) (p .next) (rw (o, bits-are s p f ps, e) at h) in (
+        f ∷ q .0,
+        ap suc (q .1),
+        fields-cons f (q .0) k (and-left (fitsRow w place (f .width)) _ b)
+            (and-right (fitsRow w place (f .width)) _ b) st (q .2),
+      )
+
+pub walk-sound : (w n : ℕ) (before : List (Field ℕ)) (place : ℕ) (s : List ℕ) (at next : ℕ) → IsBytes s
+    → walkAt w n (marksOf before) place (any isRest before) s at ≡ Past next
+    → (l : List (Field ℕ)) × (length l ≡ n) × FieldsIn w before place s at next l
+unfolding walkAt firstBreak joined rowsFit
+walk-sound w zero before place s at next b h = go (eqb (place % w) 0) refl h
   where
-    go : (b : Bool) → cond b (Moved.Stop ConstraintFalse) (Moved.To m) ≡ Moved.To next → m ≡ next
-    go true e = cc
-    go false e = cc
-kept-to (fault f) m next e = cc
+    go : (x : Bool) → eqb (place % w) 0 ≡ x → cond x (Past at) Bad ≡ Past next
+        → (l : List (Field ℕ)) × (length l ≡ 0) × FieldsIn w before place s at next l
+    go true e f =
+        let m : at ≡ next = cc in (
+          [],
+          refl,
+          record {
+            stands = rw m (stands-none s next);
+            form = refl;
+            size = refl;
+            kinds = refl;
+            rests = refl;
+            rows = e;
+          },
+        )
+    go false e f = absurd (past-bad next f)
+walk-sound w (suc n) before place s at next b h =
+    let p = partsAt s at in
+    let ended = any isRest before in
+    let q = walk-parts w n (marksOf before) place ended s at next h in
+    let t = test-parts w place ended s at (q .0) in
+    let r = record-sound s (marksOf before) (marksOf before ++ (markOf p ∷ [])) at b (t .0) (t .1) (q .1) in
+    walk-cons w n place before s at next (λ c u a g. walk-sound w n c u s a next b g) (r .0) (r .1) (r .2) (r .3)
+    (t .2) (q .2)
 
-after-to : (s run : List ℕ) (i : ℕ) (p : Parts) (e : Entry) (m next : ℕ)
-    → stepAfter s run i p (step e m) ≡ Moved.To next → m ≡ next
-unfolding stepAfter keptAt
-after-to s run i p e m next = go (eqb (e .present) 0)
-  where
-    go : (b : Bool) → cond b (Moved.To m) (keptBy (holdsAt s (putAt run i (numbersIn e)) (p .constraint)) m) ≡ Moved.To next → m ≡ next
-    go true h = cc
-    go false h = kept-to (holdsAt s (putAt run i (numbersIn e)) (p .constraint)) m next h
+-- ── complete ──
 
-pub step-inside : (s packet run : List ℕ) (i : ℕ) (p : Parts) (later place next : ℕ) → place ≤ bitTotal packet
-    → stepAfter s run i p (fieldStep s packet run p later place) ≡ Moved.To next → next ≤ bitTotal packet
-unfolding stepAfter
-step-inside s packet run i p later place next h =
-    go (fieldStep s packet run p later place) (field-inside s packet run p later place h)
+walk-none : (w : ℕ) (marks : List ℕ) (place : ℕ) (ended : Bool) (s : List ℕ) (at next : ℕ) → rowsFit w place [] ≡ true
+    → next ≡ at → walkAt w 0 marks place ended s at ≡ Past next
+unfolding walkAt rowsFit
+walk-none w marks place ended s at next r e = rw (r, e)
+
+pub walk-complete : (w : ℕ) (before : List (Field ℕ)) (place : ℕ) (s : List ℕ) (at next : ℕ) (l : List (Field ℕ))
+    → next ≤ length s → FieldsIn w before place s at next l
+    → walkAt w (length l) (marksOf before) place (any isRest before) s at ≡ Past next
+unfolding joined
+walk-complete w before place s at next [] le h = end (h .rows) (h .stands .end)
   where
-    go : (t : Step) → Inside (bitTotal packet) t → stepAfter s run i p t ≡ Moved.To next → next ≤ bitTotal packet
-    go (step e m) q g = let k = after-to s run i p e m next g in omega (arith, q)
-    go (stop f) q g = let z : _≡_ {A = ℕ} 0 1 = cc in absurd (omega arith)
+    end : rowsFit w place [] ≡ true → next ≡ at + 0
+        → walkAt w 0 (marksOf before) place (any isRest before) s at ≡ Past next
+    end r e = walk-none w (marksOf before) place (any isRest before) s at next r (omega (arith, e))
+walk-complete w before place s at next (f ∷ l) le h =
+    let p = partsAt s at in
+    let mid = at + length (storedField f) in
+    let st = stands-left s at next (storedField f) (joined storedField l) (h .stands) in
+    let right = stands-right s at next (storedField f) (joined storedField l) (h .stands) in
+    let form = firstBreak-cons keepsForm before f l (h .form) in
+    let size = firstBreak-cons keepsSize before f l (h .size) in
+    let kinds = firstBreak-cons (keepsTypes indexReadable) before f l (h .kinds) in
+    let rests = firstBreak-cons keepsRest before f l (h .rests) in
+    let rows = sym (rows-step w place f (widths l)) ∙ h .rows in
+    let keeps = types-keep before f (form .0) (size .0) (kinds .0) in
+    let c = record-complete s (marksOf before) (marksOf (before ++ (f ∷ []))) at f mid keeps st
+    (omega (arith, right .end, le)) in
+    let short = formed-parts f (form .0) .1 in
+    let o : marksOf before ++ (markOf p ∷ []) ≡ marksOf (before ++ (f ∷ [])) = own-marks before f (markOf p)
+    (mark-is s p f (c .3) short) in
+    let e : (any isRest before || eqb (p .kind) 4) ≡ any isRest (before ++ (f ∷ [])) =
+    rw (rest-is s p f (c .3)) (sym (any-end isRest before f)) in
+    let order : orderTest w place (any isRest before) p ≡ true =
+    order-is s p f before w place (c .3)
+    ∙ and-both (fitsRow w place (f .width)) _ (and-left (fitsRow w place (f .width)) _ rows) (rests .0) in
+    walk-passes w (length l) (marksOf before) place (any isRest before) s at next
+    (test-whole w place (any isRest before) s at (c .0) (c .1) order) (rw o (c .2))
+    ∙ rw (o, bits-are s p f (c .3), e, c .4)
+    (walk-complete w (before ++ (f ∷ [])) (place + fixedBits f) s mid next l le (record {
+      stands = right;
+      form = form .1;
+      size = size .1;
+      kinds = kinds .1;
+      rests = rests .1;
+      rows = and-right (fitsRow w place (f .width)) _ rows;
+    }))

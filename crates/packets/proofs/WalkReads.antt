@@ -1,24 +1,23 @@
 -- The walk over a stored table's records reads a packet as the description says.
-use mathlib.Core.Path.{_≡_, refl, sym, _∙_, ap}
+use mathlib.Core.Path.{_≡_, refl}
 use mathlib.Core.Bool.{Bool, true, false, cond}
 use mathlib.Core.List.{List, [], _∷_, _++_}
 use mathlib.Core.Option.{none}
-use Prim.Native.Nat.{ℕ, suc, _+_, _*_, _<_, _≤_}
+use Prim.Native.Nat.{ℕ, _+_, _*_, _<_, _≤_}
 use native.Mathlib.Omega.{arith}
 use native.Mathlib.Numerals.{add-one}
 use lib.Dec.{ltb, eqb}
-use lib.ListN.{length, take, length-append}
+use lib.ListN.{length, length-append}
 use borrow.Author.Tests.{eqb-true, le-ltb, lt-ltb}
 use Rattle.base.specs.Lists.{joined, sum, firstBreak}
 use Rattle.base.specs.Places.{Stands, twoAt}
 use Rattle.base.proofs.Breaks.{firstBreak-cons}
 use Rattle.base.proofs.Places.{stands-left, stands-right}
-use Rattle.rules.specs.declared.Fault.{Fault}
 use Rattle.rules.specs.declared.PacketAnswer.{PacketAnswer}
 use Rattle.rules.specs.Fields.{Field, Description, fixedBits}
-use Rattle.rules.specs.Within.{keepsForm, keepsSize, keepsTypes, indexReadable, isWidth, Within}
+use Rattle.rules.specs.Within.{keepsForm, keepsSize, keepsTypes, indexReadable, Within}
 use Rattle.rules.specs.Stored.{storedField, stored}
-use Rattle.rules.specs.Answers.{faultNumber, ofPacket}
+use Rattle.rules.specs.Answers.{ofPacket}
 use Rattle.rules.specs.Reading.{
   Entry,
   Step,
@@ -26,43 +25,27 @@ use Rattle.rules.specs.Reading.{
   stop,
   Reading,
   complete,
-  faulted,
   leftOver,
   readOn,
   readField,
   readFields,
   reading,
   bitTotal,
-  numbersOf,
 }
 use Rattle.rules.specs.Promises.{readingAnswer}
 use Rattle.laws.proofs.ReadsFields.{formed-parts}
-use Rattle.packets.specs.declared.records.Parts.{Parts}
-use Rattle.packets.specs.declared.walks.Moved.{Moved}
-use Rattle.packets.specs.Parts.{tableMost, partsAt}
+use Rattle.packets.specs.Parts.{tableMost}
 use Rattle.packets.specs.PartsStand.{PartsStand}
 use Rattle.packets.specs.Steps.{recordAt, laterBits, fieldStep}
-use Rattle.packets.specs.Walks.{
-  stepAfter,
-  runWith,
-  Walk,
-  ended,
-  stopped,
-  tooMany,
-  onMoved,
-  walkFrom,
-  walkAll,
-  walkAnswer,
-  Leaves,
-}
+use Rattle.packets.specs.Walks.{stepAfter, runWith, Walk, onStep, walkFrom, walkAll, walkAnswer, Leaves}
 use Rattle.packets.specs.RunRead.{RunHolds}
 use Rattle.packets.proofs.RecordLaws.{record-parts}
 use Rattle.packets.proofs.FieldBounds.{field-bounds}
 use Rattle.packets.proofs.RunEntries.{Begins}
 use Rattle.packets.proofs.FieldReads.{fixed-part}
 use Rattle.packets.proofs.FieldMatches.{Matches, field-matches}
-use Rattle.packets.proofs.WalkLaws.{length-with}
-use Rattle.packets.proofs.HeadReads.{HeadStands, head-stands}
+use Rattle.packets.proofs.PacketWalk.{length-with}
+use Rattle.packets.proofs.HeadReads.{head-stands}
 
 -- ── records one behind the other ──
 
@@ -93,8 +76,9 @@ later-sum before (f ∷ fs) s at end form size p le =
     let e = firstBreak-cons keepsForm before f fs form in
     let z = firstBreak-cons keepsSize before f fs size in
     let q = first-stands before f fs s at end form size p le in
-    let width = q .parts .width in
-    let bits = fixed-part (recordAt s at) (f .width) (q .parts .kind) s (recordAt s at .tree) width (formed-parts f (e .0) .2) in
+    let r = recordAt s at in
+    let form = formed-parts f (e .0) .2 in
+    let bits = fixed-part r (f .width) (q .parts .kind) s (r .tree) (q .parts .width) form in
     rw (bits, later-sum (before ++ (f ∷ [])) fs s (recordAt s at .next) end (e .1) (z .1) (q .later) le)
 
 -- ── all fields ──
@@ -102,7 +86,8 @@ later-sum before (f ∷ fs) s at end form size p le =
 -- a reading, and a walk of the code with the run that it leaves
 pub record WalkHolds (packet : List ℕ) (got : Reading) (w : Walk) : Type 0 where
   pub answer : ofPacket (walkAnswer packet w) ≡ readingAnswer got packet
-  pub front : (entries : List Entry) → got ≡ complete entries → (after : List ℕ) → Leaves w after → Begins after entries
+  pub front : (entries : List Entry) → got ≡ complete entries → (after : List ℕ) → Leaves w after
+      → Begins after entries
 
 at-end : (packet : List ℕ) (entries : List Entry) (run : List ℕ) (place : ℕ) → Begins run entries → (x : Bool)
     → eqb place (bitTotal packet) ≡ x
@@ -117,22 +102,25 @@ complete-is true entries es e = cc
 complete-is false entries es e = cc
 
 walk-on : (packet after : List ℕ) (entries : List Entry) (go : List Entry → ℕ → Reading) (walk : ℕ → Walk)
-    → ((e : Entry) (next : ℕ) → Begins after (entries ++ (e ∷ [])) → WalkHolds packet (go (entries ++ (e ∷ [])) next) (walk next))
-    → (t : Step) (m : Moved) → Matches entries after t m
-    → WalkHolds packet (readOn entries t go) (onMoved m (length entries + 1) walk)
+    → ((e : Entry) (next : ℕ) → Begins after (entries ++ (e ∷ []))
+    → WalkHolds packet (go (entries ++ (e ∷ [])) next) (walk next))
+    → (t m : Step) → Matches entries after t m
+    → WalkHolds packet (readOn entries t go) (onStep m (length entries + 1) walk)
 unfolding ofPacket readingAnswer walkAnswer
-walk-on packet after entries go walk ih (step e next) (Moved.To m) q = rw (q .0) (ih e next (q .1))
-walk-on packet after entries go walk ih (step e next) (Moved.Stop g) q = absurd q
-walk-on packet after entries go walk ih (stop f) (Moved.To m) q = absurd q
-walk-on packet after entries go walk ih (stop f) (Moved.Stop g) q =
+walk-on packet after entries go walk ih (step e next) (step d m) q = rw (q .0) (ih e next (q .1))
+walk-on packet after entries go walk ih (step e next) (stop g) q = absurd q
+walk-on packet after entries go walk ih (stop f) (step d m) q = absurd q
+walk-on packet after entries go walk ih (stop f) (stop g) q =
     record { answer = rw (q, add-one); front = λ es e. let z : _≡_ {A = ℕ} 0 1 = cc in absurd (omega arith) }
 
-pub walk-reads : (s packet : List ℕ) (fs before : List (Field ℕ)) (entries : List Entry) (run : List ℕ) (place at end : ℕ)
+pub walk-reads : (s packet : List ℕ) (fs before : List (Field ℕ)) (entries : List Entry) (run : List ℕ)
+    (place at end : ℕ)
     → length entries ≡ length before → Begins run entries → 4 * (length entries + length fs) ≤ length run
     → firstBreak keepsForm before fs ≡ none → firstBreak keepsSize before fs ≡ none
     → firstBreak (keepsTypes indexReadable) before fs ≡ none
     → Stands s at (joined storedField fs) end → end ≤ tableMost
-    → WalkHolds packet (readFields packet entries place fs) (walkFrom s packet (length fs) (length entries) run place at)
+    → WalkHolds packet (readFields packet entries place fs)
+    (walkFrom s packet (length fs) (length entries) run place at)
 unfolding walkFrom readFields walkAnswer
 walk-reads s packet [] before entries run place at end counts begins room form size kinds p le = record {
   answer = at-end packet entries run place begins (eqb place (bitTotal packet)) refl;
@@ -165,8 +153,8 @@ walk-all d w s packet run e room =
     let h = head-stands d w s e in
     let few : ltb 64 (length (d .fields)) ≡ false = le-ltb 64 (length (d .fields)) (h .few) in
     rw (h .count, few)
-    (walk-reads s packet (d .fields) [] [] run 0 (twoAt s 0) (h .end) refl refl (omega (arith, h .few)) (w .form) (w .size)
-    (w .kinds) (h .fields) (h .short))
+    (walk-reads s packet (d .fields) [] [] run 0 (twoAt s 0) (h .end) refl refl (omega (arith, h .few)) (w .form)
+    (w .size) (w .kinds) (h .fields) (h .short))
 
 -- ── a packet read into a run ──
 

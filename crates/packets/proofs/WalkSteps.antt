@@ -1,14 +1,13 @@
 -- One step of the walk over the fields of a table.
-use mathlib.Core.Path.{_≡_, refl}
-use mathlib.Core.Bool.{Bool, true, false, cond, _&&_, _||_}
+use mathlib.Core.Path.{_≡_}
+use mathlib.Core.Bool.{Bool, true, false, cond, _||_}
 use mathlib.Core.List.{List, [], _∷_, _++_}
-use Prim.Native.Nat.{ℕ, zero, suc, _+_, _-_, _%_, _<_, _≤_}
+use Prim.Native.Nat.{ℕ, suc, _+_, _-_, _%_, _<_, _≤_}
 use native.Mathlib.Omega.{arith}
 use native.Mathlib.Numerals.{add-one}
 use lib.Dec.{eqb}
 use lib.ListN.{length, take, set}
 use lib.Seq.{take-suc-set, take-set-le}
-use Rattle.packets.specs.declared.tables.Walked.{Walked}
 use Rattle.packets.specs.declared.tables.Walked.the-variants.{Past, Bad}
 use Rattle.packets.specs.declared.records.Parts.{Parts}
 use Rattle.packets.specs.Parts.{partsAt}
@@ -19,7 +18,8 @@ use Rattle.packets.specs.TableTest.{walkAt}
 pub take-before : {A : Type 0} (l : List A) (i : ℕ) (x : A) → take i (set l i x) ≡ take i l
 take-before l i x = take-set-le i l i x (omega arith)
 
-pub take-own : {A : Type 0} (l : List A) (i : ℕ) (x : A) → i < length l → take (i + 1) (set l i x) ≡ take i l ++ (x ∷ [])
+pub take-own : {A : Type 0} (l : List A) (i : ℕ) (x : A) → i < length l
+    → take (i + 1) (set l i x) ≡ take i l ++ (x ∷ [])
 take-own l i x lt = rw (add-one i) (take-suc-set l i x lt)
 
 module _ (w n i : ℕ) (marks : List ℕ) (place : ℕ) (ended : Bool) (s : List ℕ) (at : ℕ) where
@@ -39,7 +39,8 @@ module _ (w n i : ℕ) (marks : List ℕ) (place : ℕ) (ended : Bool) (s : List
   pub walk-on : i < n → fieldTest w place ended s at (partsAt s at) ≡ true
       → treesTest s marks own (partsAt s at) ≡ true
       → walkAt w (n - i) marks place ended s at
-      ≡ walkAt w (n - (i + 1)) own (place + bitsOf (partsAt s at)) (ended || eqb (partsAt s at .kind) 4) s (partsAt s at .next)
+      ≡ walkAt w (n - (i + 1)) own (place + bitsOf (partsAt s at)) (ended || eqb (partsAt s at .kind) 4) s
+      (partsAt s at .next)
   unfolding walkAt
   walk-on lt e f = let m : n - i ≡ suc (n - (i + 1)) = omega arith in rw (m, e, f)
 

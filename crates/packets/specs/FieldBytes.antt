@@ -11,6 +11,6 @@ abbrev pub movedBy : ℕ → ℕ × ℕ → ℕ × ℕ
 movedBy n p = (p .0, n + p .1)
 
 -- the bytes that are handed back, and their place, where the packet's place is from
-pub record HandsField (table packet : List ℕ) (i : ℕ) (bytes : List ℕ) (from at : ℕ × ℕ) : Type 0 where
+pub record Lends (table packet : List ℕ) (i : ℕ) (bytes : List ℕ) (from at : ℕ × ℕ) : Type 0 where
   pub content : (good : Dec (Good table)) → bytes ≡ partBytes packet (partBy good packet i)
   pub place : (good : Dec (Good table)) → at ≡ movedBy (partBy good packet i .start) from

@@ -1,5 +1,4 @@
--- The part of a packet that is a field, by the field's numbers. This mirrors the code of src/readings.rt: no public promise
--- rests on this file.
+-- The part of a packet that is a field, by its numbers. This mirrors the code: no public promise rests on this file.
 use mathlib.Core.Path.{_≡_}
 use mathlib.Core.Bool.{Bool, true, false, cond}
 use mathlib.Core.List.{List}
@@ -8,7 +7,6 @@ use lib.Dec.{eqb}
 use lib.ListN.{length, getD}
 use Rattle.rules.specs.declared.PacketAnswer.{PacketAnswer}
 use Rattle.rules.specs.Stored.{Good}
-use Rattle.rules.specs.Reading.{Part}
 use Rattle.rules.specs.Promises.{partBy}
 use Rattle.packets.specs.declared.readings.Bytes.{Bytes}
 

@@ -1,7 +1,6 @@
 -- The tests of one field's record. This mirrors the code of src/fields.rt: no public promise rests on this file.
-use mathlib.Core.Path.{_≡_}
 use mathlib.Core.Bool.{Bool, true, false, cond, _&&_, _||_, not}
-use mathlib.Core.List.{List, [], _∷_, _++_}
+use mathlib.Core.List.{List}
 use Prim.Native.Nat.{ℕ, _+_, _-_, _%_, _≤_}
 use lib.Dec.{leb, eqb}
 use lib.ListN.{length, getD, take, drop}
@@ -60,7 +59,8 @@ unfoldable pub boundsTest : List ℕ → ℕ → Parts → Bool
 boundsTest s at p = leb (p .next) (length s) && (eqb (at + twoAt s at) (p .next) && between 2 (p .kind) 4)
 
 unfoldable pub numberTest : ℕ → ℕ → Bool
-numberTest kind number = cond (eqb kind 2) (between 1 number 32) (cond (eqb kind 3) (eqb number 1 || eqb number 8) true)
+numberTest kind number =
+    cond (eqb kind 2) (between 1 number 32) (cond (eqb kind 3) (eqb number 1 || eqb number 8) true)
 
 unfoldable pub shortTest : List ℕ → Span → Bool
 shortTest s p = eqb (p .len) 0 || isShort (bytesIn s p)

@@ -15,7 +15,8 @@ use Rattle.rules.specs.Promises.{readingAnswer}
 -- a reading, the answer r, and the run after
 pub record RunHolds (got : Reading) (packet : List ℕ) (r : PacketAnswer) (after : List ℕ) : Type 0 where
   pub answer : ofPacket r ≡ readingAnswer got packet
-  pub front : (entries : List Entry) → got ≡ complete entries → take (4 * length entries) after ≡ joined numbersOf entries
+  pub front : (entries : List Entry) → got ≡ complete entries
+      → take (4 * length entries) after ≡ joined numbersOf entries
 
 -- by each description that the table stores
 abbrev pub ReadsRun : List ℕ → List ℕ → PacketAnswer → List ℕ → Type 0

@@ -1,10 +1,8 @@
--- One field of a packet by the parts of its record and the run so far. This mirrors the code of src/steps.rt: no public
--- promise rests on this file.
-use mathlib.Core.Bool.{Bool, true, false, cond}
+-- One field of a packet by its record and the run so far. This mirrors the code: no public promise rests on this file.
+use mathlib.Core.Bool.{cond}
 use mathlib.Core.List.{List}
-use Prim.Native.Nat.{ℕ, zero, suc, _+_, _*_, _-_}
+use Prim.Native.Nat.{ℕ, zero, suc, _+_}
 use lib.Dec.{ltb, leb, eqb}
-use Rattle.rules.specs.declared.Fault.{Fault}
 use Rattle.rules.specs.declared.Fault.the-variants.{BitsMissing}
 use Rattle.rules.specs.Values.{Value, value, fault}
 use Rattle.rules.specs.Reading.{Entry, absent, Step, step, stop, andThen, scaled, remainder, bitTotal, bitsAt}

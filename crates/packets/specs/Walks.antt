@@ -1,42 +1,37 @@
--- The fields of a packet in order, by a table's records. This mirrors the code of src/walks.rt: no public promise rests on
--- this file.
+-- The fields of a packet in order, by a table's records. This mirrors the code: no public promise rests on this file.
 use mathlib.Core.Path.{_≡_}
-use mathlib.Core.Bool.{Bool, true, false, cond}
+use mathlib.Core.Bool.{cond}
 use mathlib.Core.List.{List}
-use Prim.Native.Nat.{ℕ, zero, suc, _+_, _*_, _-_, _≤_}
+use Prim.Native.Nat.{ℕ, zero, suc, _+_, _*_}
 use lib.Dec.{ltb, eqb}
 use lib.ListN.{set}
 use Rattle.base.specs.Places.{twoAt}
 use Rattle.rules.specs.declared.Fault.{Fault}
 use Rattle.rules.specs.declared.Fault.the-variants.{ConstraintFalse}
 use Rattle.rules.specs.declared.PacketAnswer.{PacketAnswer}
-use Rattle.rules.specs.Values.{Value, value, fault}
-use Rattle.rules.specs.Reading.{Entry, Step, step, stop, bitTotal}
+use Rattle.rules.specs.Reading.{Entry, Step, step, stop, andThen, bitTotal}
 use Rattle.packets.specs.declared.records.Span.{Span}
 use Rattle.packets.specs.declared.records.Parts.{Parts}
 use Rattle.packets.specs.declared.steps.Numbers.{Numbers}
-use Rattle.packets.specs.declared.walks.Moved.{Moved}
-use Rattle.packets.specs.Steps.{recordAt, holdsAt, fieldStep, numbersIn}
+use Rattle.packets.specs.declared.steps.Found.{Found}
+use Rattle.packets.specs.Steps.{numbersIn, foundOf, recordAt, holdsAt, fieldStep}
 
 -- ── one field ──
 
 -- four numbers for field i
 unfoldable pub putAt : List ℕ → ℕ → Numbers → List ℕ
 putAt run i e =
-    set (set (set (set run (4 * i) (e .present)) (4 * i + 1) (e .offset)) (4 * i + 2) (e .width)) (4 * i + 3) (e .value)
+    set (set (set (set run (4 * i) (e .present)) (4 * i + 1) (e .offset)) (4 * i + 2) (e .width))
+    (4 * i + 3) (e .value)
 
-abbrev pub keptBy : Value → ℕ → Moved
-keptBy (value c) next = cond (eqb c 0) (Moved.Stop ConstraintFalse) (Moved.To next)
-keptBy (fault f) next = Moved.Stop f
-
-unfoldable pub keptAt : List ℕ → List ℕ → Span → ℕ → Moved
-keptAt s run p next = keptBy (holdsAt s run p) next
+unfoldable pub keptAt : List ℕ → List ℕ → Span → Entry → ℕ → Step
+keptAt s run p e next = andThen (holdsAt s run p) (λ c. cond (eqb c 0) (stop ConstraintFalse) (step e next))
 
 -- the constraint reads the run that has the field's own numbers
-unfoldable pub stepAfter : List ℕ → List ℕ → ℕ → Parts → Step → Moved
+unfoldable pub stepAfter : List ℕ → List ℕ → ℕ → Parts → Step → Step
 stepAfter s run i p (step e next) =
-    cond (eqb (e .present) 0) (Moved.To next) (keptAt s (putAt run i (numbersIn e)) (p .constraint) next)
-stepAfter s run i p (stop f) = Moved.Stop f
+    cond (eqb (e .present) 0) (step e next) (keptAt s (putAt run i (numbersIn e)) (p .constraint) e next)
+stepAfter s run i p (stop f) = stop f
 
 abbrev pub runWith : List ℕ → ℕ → Step → List ℕ
 runWith run i (step e next) = putAt run i (numbersIn e)
@@ -50,15 +45,15 @@ pub data Walk : Type 0 where
   stopped : Fault → ℕ → Walk
   tooMany : Walk
 
-abbrev pub onMoved : Moved → ℕ → (ℕ → Walk) → Walk
-onMoved (Moved.To next) k go = go next
-onMoved (Moved.Stop f) k go = stopped f k
+abbrev pub onStep : Step → ℕ → (ℕ → Walk) → Walk
+onStep (step e next) k go = go next
+onStep (stop f) k go = stopped f k
 
 -- n fields from field i on
 unfoldable pub walkFrom : List ℕ → List ℕ → ℕ → ℕ → List ℕ → ℕ → ℕ → Walk
 walkFrom s packet zero i run place at = ended run place
 walkFrom s packet (suc n) i run place at =
-    onMoved (stepAfter s run i (recordAt s at) (fieldStep s packet run (recordAt s at) n place)) (i + 1)
+    onStep (stepAfter s run i (recordAt s at) (fieldStep s packet run (recordAt s at) n place)) (i + 1)
     (λ next. walkFrom s packet n (i + 1)
     (runWith run i (fieldStep s packet run (recordAt s at) n place)) next (recordAt s at .next))
 
@@ -71,12 +66,24 @@ walkAnswer packet (ended run place) =
 walkAnswer packet (stopped f k) = PacketAnswer.Refused f k
 walkAnswer packet tooMany = PacketAnswer.NotGood
 
-abbrev pub refusedOf : Moved → ℕ → PacketAnswer
-refusedOf (Moved.Stop f) k = PacketAnswer.Refused f k
-refusedOf (Moved.To next) k = PacketAnswer.LeftOver
+abbrev pub refusedOf : Found → ℕ → PacketAnswer
+refusedOf (Found.Stop f) k = PacketAnswer.Refused f k
+refusedOf (Found.Field e next) k = PacketAnswer.LeftOver
 
 -- the run after a walk to the end
 abbrev pub Leaves : Walk → List ℕ → Type 0
 Leaves (ended run place) after = after ≡ run
 Leaves (stopped f k) after = Unit {0}
 Leaves tooMany after = Unit {0}
+
+-- ── what the code does ──
+
+-- field i by its record: the answer r, and the run before and after
+abbrev pub Steps : List ℕ → List ℕ → List ℕ → ℕ → ℕ → ℕ → Parts → Found → List ℕ → Type 0
+Steps s packet run i later place p r after =
+    (r ≡ foundOf (stepAfter s run i p (fieldStep s packet run p later place)))
+    × (after ≡ runWith run i (fieldStep s packet run p later place))
+
+-- all fields: the answer r, and the run before and after
+abbrev pub Walks : List ℕ → List ℕ → List ℕ → PacketAnswer → List ℕ → Type 0
+Walks s packet run r after = (r ≡ walkAnswer packet (walkAll s packet run)) × Leaves (walkAll s packet run) after

@@ -151,16 +151,16 @@ fn rest_at(table: &[u8], packet: &[u8], p: Parts, later: usize, place: usize) ->
     Got::Stop(Fault::BitsMissing)
 }
 
-// A field's width; later is the number of records behind it.
-fn extent_at(table: &[u8], packet: &[u8], run: &[u32], p: Parts, later: usize, place: usize) -> Got
-    requires { ⌜ (later ≤ 64) × (place ≤ bitTotal (now packet)) × (length (now packet) ≤ 2048) ⌝ }
-    ensures { λ r. ⌜ r ≡ gotOf (extentAt (now (table .entry)) (now (packet .entry)) (now (run .entry)) p later place) ⌝ }
+// A field's width; it starts at a bit, and n records come behind it.
+fn extent_at(table: &[u8], packet: &[u8], run: &[u32], p: Parts, n: usize, bit: usize) -> Got
+    requires { ⌜ (n ≤ 64) × (bit ≤ bitTotal (now packet)) × (length (now packet) ≤ 2048) ⌝ }
+    ensures { λ r. ⌜ r ≡ gotOf (extentAt (now (table .entry)) (now (packet .entry)) (now (run .entry)) p n bit) ⌝ }
 {
     if p.kind == MEASURED {
         return measured_at(table, run, p);
     }
     if p.kind == REST {
-        return rest_at(table, packet, p, later, place);
+        return rest_at(table, packet, p, n, bit);
     }
     Got::Value(fixed_bits(p) as u64)
 }
@@ -200,20 +200,13 @@ fn bounded_at(packet: &[u8], kind: usize, place: usize, width: u64) -> Found
 }
 
 // A field whose condition is yes.
-fn present_at(
-    table: &[u8],
-    packet: &[u8],
-    run: &[u32],
-    p: Parts,
-    later: usize,
-    place: usize,
-) -> Found
-    requires { ⌜ (later ≤ 64) × (place ≤ bitTotal (now packet)) × (length (now packet) ≤ 2048) ⌝ }
-    ensures { λ r. ⌜ r ≡ foundOf (presentAt (now (table .entry)) (now (packet .entry)) (now (run .entry)) p later place) ⌝ }
+fn present_at(table: &[u8], packet: &[u8], run: &[u32], p: Parts, n: usize, bit: usize) -> Found
+    requires { ⌜ (n ≤ 64) × (bit ≤ bitTotal (now packet)) × (length (now packet) ≤ 2048) ⌝ }
+    ensures { λ r. ⌜ r ≡ foundOf (presentAt (now (table .entry)) (now (packet .entry)) (now (run .entry)) p n bit) ⌝ }
 {
-    let extent = extent_at(table, packet, run, p, later, place);
+    let extent = extent_at(table, packet, run, p, n, bit);
     match extent {
-        Got::Value(width) => bounded_at(packet, p.kind, place, width),
+        Got::Value(width) => bounded_at(packet, p.kind, bit, width),
         Got::Stop(f) => Found::Stop(f),
     }
 }
@@ -224,11 +217,11 @@ pub(crate) fn field_step(
     packet: &[u8],
     run: &[u32],
     p: Parts,
-    later: usize,
-    place: usize,
+    n: usize,
+    bit: usize,
 ) -> Found
-    requires { ⌜ (later ≤ 64) × (place ≤ bitTotal (now packet)) × (length (now packet) ≤ 2048) ⌝ }
-    ensures { λ r. ⌜ r ≡ foundOf (fieldStep (now (table .entry)) (now (packet .entry)) (now (run .entry)) p later place) ⌝ }
+    requires { ⌜ (n ≤ 64) × (bit ≤ bitTotal (now packet)) × (length (now packet) ≤ 2048) ⌝ }
+    ensures { λ r. ⌜ r ≡ foundOf (fieldStep (now (table .entry)) (now (packet .entry)) (now (run .entry)) p n bit) ⌝ }
 {
     let condition = holds_at(table, run, p.condition);
     match condition {
@@ -240,9 +233,9 @@ pub(crate) fn field_step(
                     width: 0,
                     value: 0,
                 };
-                return Found::Field(numbers, place);
+                return Found::Field(numbers, bit);
             }
-            present_at(table, packet, run, p, later, place)
+            present_at(table, packet, run, p, n, bit)
         }
         Got::Stop(f) => Found::Stop(f),
     }

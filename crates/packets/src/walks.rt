@@ -13,27 +13,11 @@ use rules::PacketAnswer;
 ghost use mathlib.Core.Path.{_≡_};
 ghost use Prim.Native.Nat.{_+_, _*_, _≤_, _<_};
 ghost use lib.ListN.{length};
-ghost use Rattle.base.specs.Places.{twoAt};
 ghost use Rattle.rules.specs.Reading.{bitTotal};
-ghost use Rattle.packets.specs.Steps.{fieldStep};
-ghost use Rattle.packets.specs.Walks.{
-  putAt,
-  keptAt,
-  stepAfter,
-  runWith,
-  refusedOf,
-  walkAll,
-  walkAnswer,
-  Leaves,
-};
+ghost use Rattle.packets.specs.Steps.{entryIn, foundOf};
+ghost use Rattle.packets.specs.Walks.{putAt, keptAt, refusedOf, Steps, Walks};
 
 const FIELDS_MOST: usize = 64;
-
-// The place behind a field, or its fault.
-pub(crate) enum Moved {
-    To(usize),
-    Stop(Fault),
-}
 
 fn put(run: &mut [u32], i: usize, e: Numbers)
     requires { ⌜ (i < 64) × (4 * i + 4 ≤ length (now run)) ⌝ }
@@ -47,64 +31,62 @@ fn put(run: &mut [u32], i: usize, e: Numbers)
 }
 
 // A present field's constraint.
-fn kept_at(table: &[u8], run: &[u32], tree: Span, next: usize) -> Moved
-    ensures { λ r. ⌜ r ≡ keptAt (now (table .entry)) (now (run .entry)) tree next ⌝ }
+fn kept_at(table: &[u8], run: &[u32], tree: Span, e: Numbers, next: usize) -> Found
+    ensures { λ r. ⌜ r ≡ foundOf (keptAt (now (table .entry)) (now (run .entry)) tree (entryIn e) next) ⌝ }
 {
     let held = holds_at(table, run, tree);
     match held {
         Got::Value(c) => {
             if c == 0 {
-                return Moved::Stop(Fault::ConstraintFalse);
+                return Found::Stop(Fault::ConstraintFalse);
             }
-            Moved::To(next)
+            Found::Field(e, next)
         }
-        Got::Stop(f) => Moved::Stop(f),
+        Got::Stop(f) => Found::Stop(f),
     }
 }
 
-// Field i, with later records behind it.
+// Field i by its record; it starts at a bit, and n records come behind it.
 fn one_field(
-    table: &[u8],
+    s: &[u8],
     packet: &[u8],
     run: &mut [u32],
     i: usize,
-    later: usize,
-    place: usize,
+    n: usize,
+    bit: usize,
     p: Parts,
-) -> Moved
+) -> Found
     requires { ⌜ (i < 64) × (4 * i + 4 ≤ length (now run)) ⌝ }
-    requires { ⌜ (later ≤ 64) × (place ≤ bitTotal (now packet)) × (length (now packet) ≤ 2048) ⌝ }
-    ensures { λ r. ⌜ r ≡ stepAfter (now (table .entry)) (now (run .entry)) i p (fieldStep (now (table .entry)) (now (packet .entry)) (now (run .entry)) p later place) ⌝ }
-    ensures { λ r. ⌜ now (run .exit) ≡ runWith (now (run .entry)) i (fieldStep (now (table .entry)) (now (packet .entry)) (now (run .entry)) p later place) ⌝ }
+    requires { ⌜ (n ≤ 64) × (bit ≤ bitTotal (now packet)) × (length (now packet) ≤ 2048) ⌝ }
+    ensures { λ r. ⌜ Steps (now (s .entry)) (now (packet .entry)) (now (run .entry)) i n bit p r (now (run .exit)) ⌝ }
 {
-    let found = field_step(table, packet, run, p, later, place);
+    let found = field_step(s, packet, run, p, n, bit);
     match found {
         Found::Field(e, next) => {
             put(run, i, e);
             if e.present == 0 {
-                return Moved::To(next);
+                return Found::Field(e, next);
             }
-            kept_at(table, run, p.constraint, next)
+            kept_at(s, run, p.constraint, e, next)
         }
-        Found::Stop(f) => Moved::Stop(f),
+        Found::Stop(f) => Found::Stop(f),
     }
 }
 
 // The refusal that a fault is, at field k from 1.
-fn refused(moved: Moved, k: usize) -> PacketAnswer
-    ensures { λ r. ⌜ r ≡ refusedOf moved k ⌝ }
+fn refused(found: Found, k: usize) -> PacketAnswer
+    ensures { λ r. ⌜ r ≡ refusedOf found k ⌝ }
 {
-    match moved {
-        Moved::Stop(f) => PacketAnswer::Refused(f, k),
-        Moved::To(next) => PacketAnswer::LeftOver,
+    match found {
+        Found::Stop(f) => PacketAnswer::Refused(f, k),
+        Found::Field(_, _) => PacketAnswer::LeftOver,
     }
 }
 
 // All fields of a table, into the front of the run.
 pub(crate) fn walk_fields(table: &[u8], packet: &[u8], run: &mut [u32]) -> PacketAnswer
     requires { ⌜ (256 ≤ length (now run)) × (length (now packet) ≤ 2048) ⌝ }
-    ensures { λ r. ⌜ r ≡ walkAnswer (now (packet .entry)) (walkAll (now (table .entry)) (now (packet .entry)) (now (run .entry))) ⌝ }
-    ensures { λ r. ⌜ Leaves (walkAll (now (table .entry)) (now (packet .entry)) (now (run .entry))) (now (run .exit)) ⌝ }
+    ensures { λ r. ⌜ Walks (now (table .entry)) (now (packet .entry)) (now (run .entry)) r (now (run .exit)) ⌝ }
 {
     let n = two_at(table, 6);
     if FIELDS_MOST < n {
@@ -116,9 +98,9 @@ pub(crate) fn walk_fields(table: &[u8], packet: &[u8], run: &mut [u32]) -> Packe
     let mut i = 0;
     while i < n {
         let p = record_at(table, at);
-        let moved = one_field(table, packet, run, i, n - i - 1, place, p);
-        let Moved::To(next) = moved else {
-            return refused(moved, i + 1);
+        let found = one_field(table, packet, run, i, n - i - 1, place, p);
+        let Found::Field(_, next) = found else {
+            return refused(found, i + 1);
         };
         place = next;
         at = p.next;

@@ -1,9 +1,7 @@
-use mathlib.Core.Bool.{true, false}
 use native.Mathlib.Nat.{sub-zero}
-use mathlib.Core.Path.{_≡_, refl, sym, _∙_}
-use Prim.Native.Nat.{ℕ, _+_, _-_, _≤_, _<_}
+use mathlib.Core.Path.{_≡_, sym, _∙_}
+use Prim.Native.Nat.{_-_, _≤_}
 use native.Mathlib.Omega.{arith}
-use borrow.Author.Tests.{lt-ltb, le-ltb}
 use Rattle.names.specs.Repeats.{namesAlike, repeats, firstFrom, firstRepeat}
 use Rattle.names.proofs.RepeatLaws.{search-step, search-end, repeats-none, repeats-found}
 use borrow.Author.Needs.{needs}
@@ -14,13 +12,15 @@ use Rattle.names.proofs.repeats.first_repeat.Lts as lts
 use Rattle.names.proofs.repeats.same_name.Reads as same-name-reads
 
 abbrev Inv-loop : tie.InvT-loop
-Inv-loop n names j i₀ i = (i ≤ j) × (firstFrom (λ k. namesAlike names k j) 0 j ≡ firstFrom (λ k. namesAlike names k j) i (j - i))
+Inv-loop n names j i₀ i =
+    (i ≤ j) × (firstFrom (λ k. namesAlike names k j) 0 j ≡ firstFrom (λ k. namesAlike names k j) i (j - i))
 
 abbrev μ-loop : tie.MeasureT-loop
 μ-loop n names j i₀ i = j - i
 
 abbrev Inv-later : tie.InvT-later
-Inv-later n names j₀ j = (j ≤ n) × (firstRepeat (namesAlike names) n ≡ firstFrom (repeats (namesAlike names)) j (n - j))
+Inv-later n names j₀ j =
+    (j ≤ n) × (firstRepeat (namesAlike names) n ≡ firstFrom (repeats (namesAlike names)) j (n - j))
 
 abbrev μ-later : tie.MeasureT-later
 μ-later n names j₀ j = n - j
@@ -56,8 +56,11 @@ loop-again : tie.Need-loop-again Inv-loop μ-loop Inv-later μ-later
 loop-again c =
     let alike = namesAlike (c .before .before .before .before .before .before .before .before .args .t1) in
     let j = c .before .before .before .before .before .before .before .later .j in
-    let e = sym (c .before .same-name .ensures) ∙ c .if2 .left in
-    (omega arith, c .before .before .before .before .before .loop .inv .1 ∙ search-step (λ k. alike k j) (c .before .before .before .before .before .loop .i) j (omega arith) ∙ simp e)
+    let e = sym (c .before .same-name .ensures) ∙ c .if2 .left in (
+      omega arith,
+      c .before .before .before .before .before .loop .inv .1 ∙ search-step (λ k. alike k j)
+          (c .before .before .before .before .before .loop .i) j (omega arith) ∙ simp e,
+    )
 
 add-j : tie.Need-add-j Inv-loop μ-loop Inv-later μ-later
 add-j c = search needs
@@ -68,20 +71,29 @@ later-less c = omega arith
 later-again : tie.Need-later-again Inv-loop μ-loop Inv-later μ-later
 later-again c =
     let alike = namesAlike (c .before .before .before .before .args .t1) in
-    let e = repeats-none alike (c .before .loop .i) (c .before .before .before .later .j) (omega arith) (omega arith) (c .before .loop .inv .1) in
-    (omega arith, c .before .before .before .later .inv .1 ∙ search-step (repeats alike) (c .before .before .before .later .j) (c .before .before .before .before .args .n) (omega arith) ∙ simp e)
+    let e = repeats-none alike (c .before .loop .i) (c .before .before .before .later .j) (omega arith) (omega arith)
+    (c .before .loop .inv .1) in (
+      omega arith,
+      c .before .before .before .later .inv .1 ∙ search-step (repeats alike)
+          (c .before .before .before .later .j) (c .before .before .before .before .args .n) (omega arith) ∙ simp e,
+    )
 
 returns : tie.Need-returns Inv-loop μ-loop Inv-later μ-later
 returns c =
     let e : c .before .later .j ≡ c .before .before .args .n = omega arith in
-    sym (c .before .later .inv .1 ∙ rw e (search-end (repeats (namesAlike (c .before .before .args .t1))) (c .before .before .args .n)))
+    sym (c .before .later .inv .1 ∙ rw e (search-end (repeats (namesAlike (c .before .before .args .t1)))
+    (c .before .before .args .n)))
 
 returns-2 : tie.Need-returns-2 Inv-loop μ-loop Inv-later μ-later
 returns-2 c =
     let alike = namesAlike (c .before .before .before .before .before .before .before .before .args .t1) in
     let same = sym (c .before .same-name .ensures) ∙ c .if2 .taken in
-    let e = repeats-found alike (c .before .before .before .before .before .loop .i) (c .before .before .before .before .before .before .before .later .j) (omega arith) (c .before .before .before .before .before .loop .inv .1) same in
-    sym (c .before .before .before .before .before .before .before .later .inv .1 ∙ search-step (repeats alike) (c .before .before .before .before .before .before .before .later .j) (c .before .before .before .before .before .before .before .before .args .n) (omega arith) ∙ simp e)
+    let e = repeats-found alike (c .before .before .before .before .before .loop .i)
+    (c .before .before .before .before .before .before .before .later .j) (omega arith)
+    (c .before .before .before .before .before .loop .inv .1) same in
+    sym (c .before .before .before .before .before .before .before .later .inv .1 ∙ search-step (repeats alike)
+    (c .before .before .before .before .before .before .before .later .j)
+    (c .before .before .before .before .before .before .before .before .args .n) (omega arith) ∙ simp e)
 
 pub first-repeat-spec : {M : Type 1} → statement M
 first-repeat-spec =

@@ -1,9 +1,7 @@
-use mathlib.Core.Path.{_≡_, refl, sym, _∙_, ap}
-use Prim.Native.Nat.{ℕ, _+_, _-_, _≤_, _<_}
+use mathlib.Core.Path.{_≡_, refl}
+use Prim.Native.Nat.{_-_, _≤_}
 use native.Mathlib.Omega.{arith}
-use native.Mathlib.Numerals.{add-one}
-use lib.ListN.{length, take, getD, set}
-use lib.Seq.{take-all, take-suc-set}
+use lib.ListN.{length, take}
 use denote.Ref.{now}
 use Rattle.names.specs.Repeats.{padTo}
 use Rattle.names.proofs.PadLaws.{pad-set, pad-whole}
@@ -40,7 +38,8 @@ loop-again : tie.Need-loop-again Inv-loop μ-loop
 loop-again c = (
   omega arith,
   search needs,
-  pad-set (c .before .before .loop .name) (now (c .before .before .before .before .args .w)) (c .before .before .loop .i) _ (omega arith) (c .before .before .loop .inv .2) (c .byte-of .ensures),
+  pad-set (c .before .before .loop .name) (now (c .before .before .before .before .args .w))
+      (c .before .before .loop .i) _ (omega arith) (c .before .before .loop .inv .2) (c .byte-of .ensures),
 )
 
 returns : tie.Need-returns Inv-loop μ-loop

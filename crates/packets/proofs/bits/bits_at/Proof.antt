@@ -1,62 +1,73 @@
-use mathlib.Core.Path.{_≡_, refl, sym, _∙_}
 use native.Mathlib.Omega.{arith}
 use denote.Ref.{now}
-use Prim.Native.Nat.{_+_, _-_, _*_, _≤_, _<_, _/_}
-use Rattle.rules.specs.Reading.{bitsAt}
-use Rattle.packets.proofs.BitLaws.{bit-lt, bits-step, bits-room}
+use lib.Pow.{pow-pos}
+use Rattle.packets.proofs.BitLaws.{bits-below, one-shifted, bits-taken}
 use borrow.Author.Needs.{needs}
 use Rattle.packets.proofs.bits.bits_at.Statement.{statement}
 use Rattle.packets.proofs.bits.bits_at.Tie as tie
 use Rattle.packets.proofs.bits.bits_at.Reads as reads
 use Rattle.packets.proofs.bits.bits_at.Lts as lts
-use Rattle.packets.proofs.bits.bit_at.Reads as bit-at-reads
+use Rattle.packets.proofs.bits.bytes_at.Reads as bytes-at-reads
 
-abbrev Inv-loop : tie.InvT-loop
-Inv-loop packet place n v₀ i₀ v i = (i ≤ n) × (v ≡ bitsAt packet place i)
+add-end : tie.Need-add-end
+add-end c = search needs
 
-abbrev μ-loop : tie.MeasureT-loop
-μ-loop packet place n v₀ i₀ v i = n - i
+add-m : tie.Need-add-m
+add-m c = search needs
 
-loop-holds : tie.Need-loop-holds Inv-loop μ-loop
-unfolding bitsAt
-loop-holds c = (omega arith, refl)
+sub-m : tie.Need-sub-m
+sub-m c = search needs
 
-mul-v : tie.Need-mul-v Inv-loop μ-loop
-mul-v c = omega (arith, bits-room (now (c .before .before .before .args .packet)) (c .before .before .before .args .place) (c .before .loop .i) (omega arith))
+bytes-at-requires : tie.Need-bytes-at-requires
+bytes-at-requires c κs = search needs
 
-add-bit-at : tie.Need-add-bit-at Inv-loop μ-loop
-add-bit-at c = omega arith
+add-spare : tie.Need-add-spare
+add-spare c = search needs
 
-bit-at-requires : tie.Need-bit-at-requires Inv-loop μ-loop
-bit-at-requires c κs = omega arith
+mul-spare : tie.Need-mul-spare
+mul-spare c = search needs
 
-add-v : tie.Need-add-v Inv-loop μ-loop
-add-v c = omega (arith, bits-room (now (c .before .before .before .before .args .packet)) (c .before .before .before .before .args .place) (c .before .before .loop .i) (omega arith), bit-lt (now (c .before .before .before .before .args .packet)) (c .before .before .before .before .args .place + c .before .before .loop .i))
+sub-spare : tie.Need-sub-spare
+sub-spare c = search needs
 
-add-i : tie.Need-add-i Inv-loop μ-loop
-add-i c = omega arith
+shr-result : tie.Need-shr-result
+shr-result c = search needs
 
-loop-less : tie.Need-loop-less Inv-loop μ-loop
-loop-less c = omega arith
+shl-result : tie.Need-shl-result
+shl-result c = search needs
 
-loop-again : tie.Need-loop-again Inv-loop μ-loop
-loop-again c = (omega arith, rw (c .before .before .loop .inv .1, c .bit-at .ensures, bits-step))
+rem-result : tie.Need-rem-result
+rem-result c =
+    let a = c .before .before .args in
+    let e = one-shifted (a .n) (omega arith) in
+    rw e (pow-pos (a .n))
 
-returns : tie.Need-returns Inv-loop μ-loop
-returns c = let e : c .before .loop .i ≡ c .before .before .before .args .n = omega arith in rw e at (c .before .loop .inv .1)
+cast-result : tie.Need-cast-result
+cast-result c =
+    let a = c .before .before .args in
+    let bytes-at = c .bytes-at in
+    let e = bits-taken (now (a .packet)) (a .place) (a .n) (bytes-at .result) (omega arith) (bytes-at .ensures) in
+    rw e (omega (arith, bits-below (now (a .packet)) (a .place) (a .n) 32 (omega arith)))
+
+returns : tie.Need-returns
+returns c =
+    let a = c .before .before .args in
+    let bytes-at = c .bytes-at in
+    bits-taken (now (a .packet)) (a .place) (a .n) (bytes-at .result) (omega arith) (bytes-at .ensures)
 
 pub bits-at-spec : {M : Type 1} → statement M
 bits-at-spec =
     tie.close
     (tie.spec
-    Inv-loop
-    μ-loop
-    loop-holds
-    mul-v
-    add-bit-at
-    bit-at-requires
-    add-v
-    add-i
-    loop-less
-    loop-again
+    add-end
+    add-m
+    sub-m
+    bytes-at-requires
+    add-spare
+    mul-spare
+    sub-spare
+    shr-result
+    shl-result
+    rem-result
+    cast-result
     returns)

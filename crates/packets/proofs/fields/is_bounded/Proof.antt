@@ -1,10 +1,5 @@
-use mathlib.Core.Path.{_≡_, refl, sym, _∙_, ap}
-use mathlib.Core.Bool.{Bool, true, false}
-use Prim.Native.Nat.{ℕ, _+_, _-_, _<_, _≤_, _%_}
-use native.Mathlib.Omega.{arith}
-use lib.ListN.{length, getD, take, drop}
-use denote.Ref.{now}
-use borrow.Author.Tests.{le-ltb, lt-ltb, le-leb, lt-leb, eq-eqb, ne-eqb, not-true, not-false}
+use Prim.Native.Nat.{_-_}
+use borrow.Author.Tests.{le-leb, lt-leb, eq-eqb, ne-eqb}
 use Rattle.packets.specs.FieldTest.{boundsTest}
 use borrow.Author.Needs.{needs}
 use Rattle.packets.proofs.fields.is_bounded.Statement.{statement}
@@ -25,15 +20,35 @@ add-if2 c = search needs
 
 returns-2 : tie.Need-returns-2
 unfolding boundsTest
-returns-2 c = rw (le-leb _ _ (c .before .before .before .if1 .left), ← c .before .before .two-at .ensures .0, ne-eqb _ _ (c .if2 .taken))
+returns-2 c =
+    rw (
+      le-leb _ _ (c .before .before .before .if1 .left),
+      ← c .before .before .two-at .ensures .0,
+      ne-eqb _ _
+          (c .if2 .taken),
+    )
 
 returns-3 : tie.Need-returns-3
 unfolding boundsTest
-returns-3 c = rw (le-leb _ _ (c .before .before .before .before .before .if1 .left), ← c .before .before .before .before .two-at .ensures .0, eq-eqb _ _ (c .before .before .if2 .left), lt-leb _ _ (c .if3 .taken))
+returns-3 c =
+    rw (
+      le-leb _ _ (c .before .before .before .before .before .if1 .left),
+      ← c .before .before .before .before .two-at .ensures .0,
+      eq-eqb _ _ (c .before .before .if2 .left),
+      lt-leb _ _
+          (c .if3 .taken),
+    )
 
 returns-4 : tie.Need-returns-4
 unfolding boundsTest
-returns-4 c = rw (le-leb _ _ (c .before .before .before .before .before .before .if1 .left), ← c .before .before .before .before .before .two-at .ensures .0, eq-eqb _ _ (c .before .before .before .if2 .left), le-leb _ _ (c .before .if3 .left))
+returns-4 c =
+    rw (
+      le-leb _ _ (c .before .before .before .before .before .before .if1 .left),
+      ← c .before .before .before .before .before .two-at .ensures .0,
+      eq-eqb _ _
+          (c .before .before .before .if2 .left),
+      le-leb _ _ (c .before .if3 .left),
+    )
 
 pub is-bounded-spec : {M : Type 1} → statement M
 is-bounded-spec =

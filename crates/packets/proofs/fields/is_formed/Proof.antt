@@ -1,10 +1,9 @@
-use mathlib.Core.Path.{_≡_, refl, sym, _∙_, ap}
-use mathlib.Core.Bool.{Bool, true, false}
-use Prim.Native.Nat.{ℕ, _+_, _-_, _<_, _≤_, _%_}
-use native.Mathlib.Omega.{arith}
-use lib.ListN.{length, getD, take, drop}
-use denote.Ref.{now}
-use borrow.Author.Tests.{le-ltb, lt-ltb, le-leb, lt-leb, eq-eqb, ne-eqb, not-true, not-false}
+use mathlib.Core.Path.{sym, _∙_}
+use Prim.Native.Nat.{_-_}
+use borrow.Author.Tests.{not-true, not-false}
+use mathlib.Core.Path.{sym, _∙_}
+use Prim.Native.Nat.{_-_}
+use borrow.Author.Tests.{not-true, not-false}
 use Rattle.packets.specs.FieldTest.{formTest}
 use borrow.Author.Needs.{needs}
 use Rattle.packets.proofs.fields.is_formed.Statement.{statement}
@@ -39,14 +38,23 @@ is-name-requires c κs = search needs
 
 returns-2 : tie.Need-returns-2
 unfolding formTest
-returns-2 c = rw ((sym (c .before .before .before .is-label .ensures) ∙ not-false (c .before .before .before .is-label .result) (c .before .before .if1 .left)), (sym (c .before .is-name .ensures) ∙ not-true (c .before .is-name .result) (c .if2 .taken)))
+returns-2 c =
+    let label = sym (c .before .before .before .is-label .ensures) ∙ not-false
+    (c .before .before .before .is-label .result) (c .before .before .if1 .left) in
+    let no-name = sym (c .before .is-name .ensures) ∙ not-true (c .before .is-name .result) (c .if2 .taken) in
+    rw (label, no-name)
 
 is-number-requires : tie.Need-is-number-requires
 is-number-requires c κs = search needs
 
 returns-3 : tie.Need-returns-3
 unfolding formTest
-returns-3 c = rw ((sym (c .before .before .before .before .is-label .ensures) ∙ not-false (c .before .before .before .before .is-label .result) (c .before .before .before .if1 .left)), (sym (c .before .before .is-name .ensures) ∙ not-false (c .before .before .is-name .result) (c .before .if2 .left))) (c .is-number .ensures)
+returns-3 c =
+    let label = sym (c .before .before .before .before .is-label .ensures) ∙ not-false
+    (c .before .before .before .before .is-label .result) (c .before .before .before .if1 .left) in
+    let name = sym (c .before .before .is-name .ensures) ∙ not-false (c .before .before .is-name .result)
+    (c .before .if2 .left) in
+    rw (label, name) (c .is-number .ensures)
 
 pub is-formed-spec : {M : Type 1} → statement M
 is-formed-spec =

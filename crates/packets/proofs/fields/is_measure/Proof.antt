@@ -1,10 +1,5 @@
-use mathlib.Core.Path.{_≡_, refl, sym, _∙_, ap}
-use mathlib.Core.Bool.{Bool, true, false}
-use Prim.Native.Nat.{ℕ, _+_, _-_, _<_, _≤_, _%_}
-use native.Mathlib.Omega.{arith}
-use lib.ListN.{length, getD, take, drop}
-use denote.Ref.{now}
-use borrow.Author.Tests.{le-ltb, lt-ltb, le-leb, lt-leb, eq-eqb, ne-eqb, not-true, not-false}
+use Prim.Native.Nat.{_-_}
+use borrow.Author.Tests.{eq-eqb, ne-eqb}
 use Rattle.packets.specs.FieldTest.{widthTest}
 use borrow.Author.Needs.{needs}
 use Rattle.packets.proofs.fields.is_measure.Statement.{statement}
@@ -23,14 +18,25 @@ byte-at-requires c κs = search needs
 
 returns-2 : tie.Need-returns-2
 unfolding widthTest
-returns-2 c = rw (eq-eqb _ _ (c .before .before .before .if1 .left), ← c .before .byte-at .ensures .0, eq-eqb _ _ (c .if2 .taken))
+returns-2 c =
+    rw (
+      eq-eqb _ _ (c .before .before .before .if1 .left),
+      ← c .before .byte-at .ensures .0,
+      eq-eqb _ _
+          (c .if2 .taken),
+    )
 
 is-tree-requires : tie.Need-is-tree-requires
 is-tree-requires c κs = search needs
 
 returns-3 : tie.Need-returns-3
 unfolding widthTest
-returns-3 c = rw (eq-eqb _ _ (c .before .before .before .before .if1 .left), ← c .before .before .byte-at .ensures .0, ne-eqb _ _ (c .before .if2 .left)) (c .is-tree .ensures)
+returns-3 c =
+    rw (
+      eq-eqb _ _ (c .before .before .before .before .if1 .left),
+      ← c .before .before .byte-at .ensures .0,
+      ne-eqb _ _ (c .before .if2 .left),
+    ) (c .is-tree .ensures)
 
 pub is-measure-spec : {M : Type 1} → statement M
 is-measure-spec =

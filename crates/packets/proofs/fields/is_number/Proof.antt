@@ -1,12 +1,6 @@
-use mathlib.Core.Path.{_≡_, refl, sym, _∙_, ap}
-use mathlib.Core.Bool.{Bool, true, false}
-use Prim.Native.Nat.{ℕ, _+_, _-_, _<_, _≤_, _%_}
-use native.Mathlib.Omega.{arith}
-use lib.ListN.{length, getD, take, drop}
-use denote.Ref.{now}
-use borrow.Author.Tests.{le-ltb, lt-ltb, le-leb, lt-leb, eq-eqb, ne-eqb, not-true, not-false}
+use Prim.Native.Nat.{_-_}
+use borrow.Author.Tests.{le-leb, lt-leb, eq-eqb, ne-eqb}
 use Rattle.packets.specs.FieldTest.{numberTest}
-use borrow.Author.Needs.{needs}
 use Rattle.packets.proofs.fields.is_number.Statement.{statement}
 use Rattle.packets.proofs.fields.is_number.Tie as tie
 use Rattle.packets.proofs.fields.is_number.Reads as reads
@@ -22,11 +16,13 @@ returns-2 c = rw (eq-eqb _ _ (c .before .if1 .taken), le-leb _ _ (c .if2 .left))
 
 returns-3 : tie.Need-returns-3
 unfolding numberTest
-returns-3 c = rw (ne-eqb _ _ (c .before .before .if1 .left), eq-eqb _ _ (c .before .if3 .taken), eq-eqb _ _ (c .if4 .taken))
+returns-3 c =
+    rw (ne-eqb _ _ (c .before .before .if1 .left), eq-eqb _ _ (c .before .if3 .taken), eq-eqb _ _ (c .if4 .taken))
 
 returns-4 : tie.Need-returns-4
 unfolding numberTest
-returns-4 c = rw (ne-eqb _ _ (c .before .before .if1 .left), eq-eqb _ _ (c .before .if3 .taken), ne-eqb _ _ (c .if4 .left))
+returns-4 c =
+    rw (ne-eqb _ _ (c .before .before .if1 .left), eq-eqb _ _ (c .before .if3 .taken), ne-eqb _ _ (c .if4 .left))
 
 returns-5 : tie.Need-returns-5
 unfolding numberTest

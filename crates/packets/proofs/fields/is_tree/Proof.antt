@@ -1,10 +1,9 @@
-use mathlib.Core.Path.{_≡_, refl, sym, _∙_, ap}
-use mathlib.Core.Bool.{Bool, true, false}
-use Prim.Native.Nat.{ℕ, _+_, _-_, _<_, _≤_, _%_}
-use native.Mathlib.Omega.{arith}
-use lib.ListN.{length, getD, take, drop}
-use denote.Ref.{now}
-use borrow.Author.Tests.{le-ltb, lt-ltb, le-leb, lt-leb, eq-eqb, ne-eqb, not-true, not-false}
+use mathlib.Core.Path.{sym, _∙_}
+use Prim.Native.Nat.{_-_}
+use borrow.Author.Tests.{le-leb, lt-leb, not-true, not-false}
+use mathlib.Core.Path.{sym, _∙_}
+use Prim.Native.Nat.{_-_}
+use borrow.Author.Tests.{le-leb, lt-leb, not-true, not-false}
 use Rattle.packets.specs.FieldTest.{treeTest}
 use borrow.Author.Needs.{needs}
 use Rattle.packets.proofs.fields.is_tree.Statement.{statement}
@@ -39,8 +38,10 @@ same-type-requires c κs = search needs
 returns-3 : tie.Need-returns-3
 unfolding treeTest
 returns-3 c =
-    let e = sym (c .before .before .before .before .before .check .ensures) ∙ c .before .before .before .found .given .1 in
-    rw (le-leb _ _ (c .before .before .before .before .before .before .if1 .left), e, (sym (c .before .same-type .ensures) ∙ not-true (c .before .same-type .result) (c .if2 .taken)))
+    let found = sym (c .before .before .before .before .before .check .ensures)
+    ∙ c .before .before .before .found .given .1 in
+    let other = sym (c .before .same-type .ensures) ∙ not-true (c .before .same-type .result) (c .if2 .taken) in
+    rw (le-leb _ _ (c .before .before .before .before .before .before .if1 .left), found, other)
 
 add-result : tie.Need-add-result
 add-result c = search needs
@@ -48,8 +49,11 @@ add-result c = search needs
 returns-4 : tie.Need-returns-4
 unfolding treeTest
 returns-4 c =
-    let e = sym (c .before .before .before .before .before .before .before .check .ensures) ∙ c .before .before .before .before .before .found .given .1 in
-    rw (le-leb _ _ (c .before .before .before .before .before .before .before .before .if1 .left), e, (sym (c .before .before .before .same-type .ensures) ∙ not-false (c .before .before .before .same-type .result) (c .before .before .if2 .left)))
+    let found = sym (c .before .before .before .before .before .before .before .check .ensures)
+    ∙ c .before .before .before .before .before .found .given .1 in
+    let same = sym (c .before .before .before .same-type .ensures) ∙ not-false
+    (c .before .before .before .same-type .result) (c .before .before .if2 .left) in
+    rw (le-leb _ _ (c .before .before .before .before .before .before .before .before .if1 .left), found, same)
 
 pub is-tree-spec : {M : Type 1} → statement M
 is-tree-spec =

@@ -1,7 +1,6 @@
-use mathlib.Core.Path.{_≡_, refl, sym, _∙_}
+use mathlib.Core.Path.{refl}
 use native.Mathlib.Omega.{arith}
 use denote.Ref.{now}
-use Prim.Native.Nat.{_+_, _-_, _*_, _≤_, _<_, _/_}
 use native.Mathlib.Nat.{add-sub-cancel-left}
 use Rattle.packets.proofs.PartPromises.{field-handed}
 use borrow.Author.Needs.{needs}
@@ -27,7 +26,11 @@ part-result-end : tie.Need-part-result-end
 part-result-end c = omega (arith, c .before .find-part .ensures .within)
 
 returns : tie.Need-returns
-returns c = field-handed (now (c .before .before .before .before .before .args .table)) (now (c .before .before .before .before .before .args .packet)) (c .before .before .before .before .before .args .index) (c .before .before .find-part .result) _ _ _ (c .before .before .find-part .ensures) (simp add-sub-cancel-left) refl
+returns c =
+    let a = c .before .before .before .before .before .args in
+    let find-part = c .before .before .find-part in
+    field-handed (now (a .table)) (now (a .packet)) (a .index) (find-part .result) _ _ _ (find-part .ensures)
+    (simp add-sub-cancel-left) refl
 
 pub field-bytes-spec : {M : Type 1} → statement M
 field-bytes-spec =

@@ -1,7 +1,6 @@
-use mathlib.Core.Path.{_≡_, refl, sym, _∙_}
+use mathlib.Core.Path.{sym, _∙_}
 use native.Mathlib.Omega.{arith}
 use denote.Ref.{now}
-use Prim.Native.Nat.{_+_, _-_, _*_, _≤_, _<_, _/_}
 use Rattle.packets.proofs.PacketPromises.{good-from, bad-from, good-few}
 use Rattle.packets.proofs.PartPromises.{part-not-good, part-outside, part-refused, part-found}
 use borrow.Author.Needs.{needs}
@@ -25,13 +24,28 @@ enum-told : tie.Need-enum-told
 enum-told c = search needs
 
 returns : tie.Need-returns
-returns c = part-not-good (now (c .before .before .before .before .before .args .table)) (now (c .before .before .before .before .before .args .packet)) (c .before .before .before .before .before .args .index) (bad-from (now (c .before .before .before .before .before .args .table)) (c .before .before .check-table .result) (c .before .before .check-table .ensures) (c .enum-told .given .1))
+returns c =
+    let a = c .before .before .before .before .before .args in
+    let check-table = c .before .before .check-table in
+    let enum-told = c .enum-told in
+    let table = now (a .table) in
+    let packet = now (a .packet) in
+    let bad = bad-from table (check-table .result) (check-table .ensures) (enum-told .given .1) in
+    part-not-good table packet (a .index) bad
 
 two-at-requires : tie.Need-two-at-requires
 two-at-requires c κs = search needs
 
 returns-2 : tie.Need-returns-2
-returns-2 c = part-outside (now (c .before .before .before .before .before .before .before .before .args .table)) (now (c .before .before .before .before .before .before .before .before .args .packet)) (c .before .before .before .before .before .before .before .before .args .index) (good-from (now (c .before .before .before .before .before .before .before .before .args .table)) (c .before .before .before .before .before .check-table .result) _ (c .before .before .before .before .before .check-table .ensures) (c .before .before .before .checked .given .1)) (omega (arith, c .before .two-at .ensures .0))
+returns-2 c =
+    let a = c .before .before .before .before .before .before .before .before .args in
+    let check-table = c .before .before .before .before .before .check-table in
+    let checked = c .before .before .before .checked in
+    let two-at = c .before .two-at in
+    let table = now (a .table) in
+    let packet = now (a .packet) in
+    let good = good-from table (check-table .result) _ (check-table .ensures) (checked .given .1) in
+    part-outside table packet (a .index) good (omega (arith, two-at .ensures .0))
 
 slice-aggregate-read-run : tie.Need-slice-aggregate-read-run
 slice-aggregate-read-run c = search needs
@@ -46,13 +60,50 @@ slice-aggregate-part-at : tie.Need-slice-aggregate-part-at
 slice-aggregate-part-at c = sym (c .before .before .before .before .read-run .kept .1 .1 .0)
 
 part-at-requires : tie.Need-part-at-requires
-part-at-requires c κs = let few = good-few (now (c .before .before .before .before .before .before .before .before .before .before .before .before .before .before .args .table)) (good-from (now (c .before .before .before .before .before .before .before .before .before .before .before .before .before .before .args .table)) (c .before .before .before .before .before .before .before .before .before .before .before .check-table .result) _ (c .before .before .before .before .before .before .before .before .before .before .before .check-table .ensures) (c .before .before .before .before .before .before .before .before .before .checked .given .1)) in (omega (arith, c .before .before .before .before .before .before .before .two-at .ensures .0), omega arith)
+part-at-requires c κs =
+    let c₈ = c .before .before .before .before .before .before .before .before in
+    let a = c₈ .before .before .before .before .before .before .args in
+    let check-table = c₈ .before .before .before .check-table in
+    let checked = c₈ .before .checked in
+    let two-at = c .before .before .before .before .before .before .before .two-at in
+    let table = now (a .table) in
+    let good = good-from table (check-table .result) _ (check-table .ensures) (checked .given .1) in
+    let few = good-few table good in
+    (omega (arith, two-at .ensures .0), omega arith)
 
 returns-3 : tie.Need-returns-3
-returns-3 c = rw (c .part-at .ensures) (part-found (now (c .before .before .before .before .before .before .before .before .before .before .before .before .before .before .before .args .table)) (now (c .before .before .before .before .before .before .before .before .before .before .before .before .before .before .before .args .packet)) (c .before .before .before .before .before .before .before .before .before .before .before .before .before .before .before .args .index) (c .before .before .before .before .before .read-run .result) (c .before .before .before .before .before .read-run .last .1 .1 .0) (good-from (now (c .before .before .before .before .before .before .before .before .before .before .before .before .before .before .before .args .table)) (c .before .before .before .before .before .before .before .before .before .before .before .before .check-table .result) _ (c .before .before .before .before .before .before .before .before .before .before .before .before .check-table .ensures) (c .before .before .before .before .before .before .before .before .before .before .checked .given .1)) (c .before .before .before .before .before .read-run .ensures) (omega (arith, c .before .before .before .before .before .before .before .before .two-at .ensures .0)) (sym (c .before .before .before .is-accepted .ensures) ∙ c .before .before .if2 .taken))
+returns-3 c =
+    let c₈ = c .before .before .before .before .before .before .before .before in
+    let a = c₈ .before .before .before .before .before .before .before .args in
+    let check-table = c₈ .before .before .before .before .check-table in
+    let checked = c₈ .before .before .checked in
+    let two-at = c₈ .two-at in
+    let read-run = c .before .before .before .before .before .read-run in
+    let is-accepted = c .before .before .before .is-accepted in
+    let if2 = c .before .before .if2 in
+    let part-at = c .part-at in
+    let table = now (a .table) in
+    let packet = now (a .packet) in
+    let good = good-from table (check-table .result) _ (check-table .ensures) (checked .given .1) in
+    let accepted = sym (is-accepted .ensures) ∙ if2 .taken in
+    rw (part-at .ensures)
+    (part-found table packet (a .index) (read-run .result) (read-run .last .1 .1 .0) good (read-run .ensures)
+    (omega (arith, two-at .ensures .0)) accepted)
 
 returns-4 : tie.Need-returns-4
-returns-4 c = part-refused (now (c .before .before .before .before .before .before .before .before .before .before .before .before .before .args .table)) (now (c .before .before .before .before .before .before .before .before .before .before .before .before .before .args .packet)) (c .before .before .before .before .before .before .before .before .before .before .before .before .before .args .index) (c .before .before .before .read-run .result) (c .before .before .before .read-run .last .1 .1 .0) (good-from (now (c .before .before .before .before .before .before .before .before .before .before .before .before .before .args .table)) (c .before .before .before .before .before .before .before .before .before .before .check-table .result) _ (c .before .before .before .before .before .before .before .before .before .before .check-table .ensures) (c .before .before .before .before .before .before .before .before .checked .given .1)) (c .before .before .before .read-run .ensures) (sym (c .before .is-accepted .ensures) ∙ c .if2 .left)
+returns-4 c =
+    let c₈ = c .before .before .before .before .before .before .before .before in
+    let a = c₈ .before .before .before .before .before .args in
+    let check-table = c₈ .before .before .check-table in
+    let checked = c₈ .checked in
+    let read-run = c .before .before .before .read-run in
+    let is-accepted = c .before .is-accepted in
+    let if2 = c .if2 in
+    let table = now (a .table) in
+    let packet = now (a .packet) in
+    let good = good-from table (check-table .result) _ (check-table .ensures) (checked .given .1) in
+    let refused = sym (is-accepted .ensures) ∙ if2 .left in
+    part-refused table packet (a .index) (read-run .result) (read-run .last .1 .1 .0) good (read-run .ensures) refused
 
 pub find-part-spec : {M : Type 1} → statement M
 find-part-spec =

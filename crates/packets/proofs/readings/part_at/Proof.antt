@@ -1,7 +1,5 @@
-use mathlib.Core.Path.{_≡_, refl, sym, _∙_}
 use native.Mathlib.Omega.{arith}
-use denote.Ref.{now}
-use Prim.Native.Nat.{_+_, _-_, _*_, _≤_, _<_, _/_}
+use Prim.Native.Nat.{_+_, _*_}
 use borrow.Author.Tests.{eq-eqb, ne-eqb}
 use Rattle.packets.specs.FieldParts.{partAt}
 use borrow.Author.Needs.{needs}
@@ -45,11 +43,21 @@ shared-slice-read-if1 c = search needs
 
 returns : tie.Need-returns
 unfolding partAt
-returns c = rw (eq-eqb _ 1 (c .before .before .if1 .taken), eq-eqb _ 0 (c .before .if2 .taken), eq-eqb _ 0 (c .if3 .taken))
+returns c =
+    let if1 = c .before .before .if1 in
+    let if2 = c .before .if2 in
+    let if3 = c .if3 in
+    let one = eq-eqb _ 1 (if1 .taken) in
+    rw (one, eq-eqb _ 0 (if2 .taken), eq-eqb _ 0 (if3 .taken))
 
 returns-2 : tie.Need-returns-2
 unfolding partAt
-returns-2 c = rw (eq-eqb _ 1 (c .before .before .if1 .taken), eq-eqb _ 0 (c .before .if2 .taken), ne-eqb _ 0 (c .if3 .left))
+returns-2 c =
+    let if1 = c .before .before .if1 in
+    let if2 = c .before .if2 in
+    let if3 = c .if3 in
+    let one = eq-eqb _ 1 (if1 .taken) in
+    rw (one, eq-eqb _ 0 (if2 .taken), ne-eqb _ 0 (if3 .left))
 
 returns-3 : tie.Need-returns-3
 unfolding partAt

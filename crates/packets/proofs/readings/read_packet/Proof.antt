@@ -1,8 +1,16 @@
-use mathlib.Core.Path.{_≡_, refl, sym, _∙_}
+use mathlib.Core.Path.{sym, _∙_}
 use native.Mathlib.Omega.{arith}
 use denote.Ref.{now}
-use Prim.Native.Nat.{_+_, _-_, _*_, _≤_, _<_, _/_}
-use Rattle.packets.proofs.PacketPromises.{good-from, bad-from, good-few, packet-not-good, packet-too-long, packet-short-run, packet-accepted, packet-refused}
+use Rattle.packets.proofs.PacketPromises.{
+  good-from,
+  bad-from,
+  good-few,
+  packet-not-good,
+  packet-too-long,
+  packet-short-run,
+  packet-accepted,
+  packet-refused,
+}
 use borrow.Author.Needs.{needs}
 use Rattle.packets.proofs.readings.read_packet.Statement.{statement}
 use Rattle.packets.proofs.readings.read_packet.Tie as tie
@@ -24,10 +32,25 @@ enum-told : tie.Need-enum-told
 enum-told c = search needs
 
 returns : tie.Need-returns
-returns c = packet-not-good (now (c .before .before .before .before .before .before .args .table)) (now (c .before .before .before .before .before .before .args .packet)) (now (c .before .before .before .before .before .before .args .run)) (bad-from (now (c .before .before .before .before .before .before .args .table)) (c .before .before .check-table .result) (c .before .before .check-table .ensures) (c .enum-told .given .1))
+returns c =
+    let a = c .before .before .before .before .before .before .args in
+    let check-table = c .before .before .check-table in
+    let enum-told = c .enum-told in
+    let table = now (a .table) in
+    let packet = now (a .packet) in
+    let bad = bad-from table (check-table .result) (check-table .ensures) (enum-told .given .1) in
+    packet-not-good table packet (now (a .run)) bad
 
 returns-2 : tie.Need-returns-2
-returns-2 c = packet-too-long (now (c .before .before .before .before .before .before .before .before .args .table)) (now (c .before .before .before .before .before .before .before .before .args .packet)) (now (c .before .before .before .before .before .before .before .before .args .run)) (good-from (now (c .before .before .before .before .before .before .before .before .args .table)) (c .before .before .before .before .check-table .result) _ (c .before .before .before .before .check-table .ensures) (c .before .before .checked .given .1)) (c .if1 .taken)
+returns-2 c =
+    let a = c .before .before .before .before .before .before .before .before .args in
+    let check-table = c .before .before .before .before .check-table in
+    let checked = c .before .before .checked in
+    let if1 = c .if1 in
+    let table = now (a .table) in
+    let packet = now (a .packet) in
+    let good = good-from table (check-table .result) _ (check-table .ensures) (checked .given .1) in
+    packet-too-long table packet (now (a .run)) good (if1 .taken)
 
 two-at-requires : tie.Need-two-at-requires
 two-at-requires c κs = search needs
@@ -36,7 +59,16 @@ mul-n : tie.Need-mul-n
 mul-n c = search needs
 
 returns-3 : tie.Need-returns-3
-returns-3 c = packet-short-run (now (c .before .before .before .before .before .before .before .before .before .before .args .table)) (now (c .before .before .before .before .before .before .before .before .before .before .args .packet)) (now (c .before .before .before .before .before .before .before .before .before .before .args .run)) (good-from (now (c .before .before .before .before .before .before .before .before .before .before .args .table)) (c .before .before .before .before .before .before .check-table .result) _ (c .before .before .before .before .before .before .check-table .ensures) (c .before .before .before .before .checked .given .1)) (omega arith) (omega (arith, c .before .two-at .ensures .0))
+returns-3 c =
+    let c₈ = c .before .before .before .before .before .before .before .before in
+    let a = c₈ .before .before .args in
+    let check-table = c .before .before .before .before .before .before .check-table in
+    let checked = c .before .before .before .before .checked in
+    let two-at = c .before .two-at in
+    let table = now (a .table) in
+    let packet = now (a .packet) in
+    let good = good-from table (check-table .result) _ (check-table .ensures) (checked .given .1) in
+    packet-short-run table packet (now (a .run)) good (omega arith) (omega (arith, two-at .ensures .0))
 
 slice-aggregate-read-run : tie.Need-slice-aggregate-read-run
 slice-aggregate-read-run c = search needs
@@ -51,16 +83,58 @@ slice-aggregate-copy-numbers : tie.Need-slice-aggregate-copy-numbers
 slice-aggregate-copy-numbers c = sym (c .before .before .before .before .before .read-run .kept .1 .1 .0)
 
 copy-numbers-requires : tie.Need-copy-numbers-requires
-copy-numbers-requires c κs = let few = good-few (now (c .before .before .before .before .before .before .before .before .before .before .before .before .before .before .before .before .before .args .table)) (good-from (now (c .before .before .before .before .before .before .before .before .before .before .before .before .before .before .before .before .before .args .table)) (c .before .before .before .before .before .before .before .before .before .before .before .before .before .check-table .result) _ (c .before .before .before .before .before .before .before .before .before .before .before .before .before .check-table .ensures) (c .before .before .before .before .before .before .before .before .before .before .before .checked .given .1)) in (omega (arith, c .before .before .before .before .before .before .before .before .two-at .ensures .0), omega (arith, c .before .before .before .before .before .before .before .before .two-at .ensures .0, c .before .before .before .before .before .read-run .kept .1 .1 .0))
+copy-numbers-requires c κs =
+    let c₈ = c .before .before .before .before .before .before .before .before in
+    let c₁₆ = c₈ .before .before .before .before .before .before .before .before in
+    let a = c₁₆ .before .args in
+    let check-table = c₈ .before .before .before .before .before .check-table in
+    let checked = c₈ .before .before .before .checked in
+    let two-at = c₈ .two-at in
+    let read-run = c .before .before .before .before .before .read-run in
+    let table = now (a .table) in
+    let good = good-from table (check-table .result) _ (check-table .ensures) (checked .given .1) in
+    let few = good-few table good in
+    (omega (arith, two-at .ensures .0), omega (arith, two-at .ensures .0, read-run .kept .1 .1 .0))
 
 same-length : tie.Need-same-length
 same-length c = search needs
 
 returns-4 : tie.Need-returns-4
-returns-4 c = rw (c .before .before .copy-numbers .ensures, c .before .before .before .before .before .before .before .before .before .before .before .two-at .ensures .0) (packet-accepted (now (c .before .before .before .before .before .before .before .before .before .before .before .before .before .before .before .before .before .before .before .before .args .table)) (now (c .before .before .before .before .before .before .before .before .before .before .before .before .before .before .before .before .before .before .before .before .args .packet)) (now (c .before .before .before .before .before .before .before .before .before .before .before .before .before .before .before .before .before .before .before .before .args .run)) (c .before .before .before .before .before .before .before .before .read-run .result) (c .before .before .before .before .before .before .before .before .read-run .last .1 .1 .0) (good-from (now (c .before .before .before .before .before .before .before .before .before .before .before .before .before .before .before .before .before .before .before .before .args .table)) (c .before .before .before .before .before .before .before .before .before .before .before .before .before .before .before .before .check-table .result) _ (c .before .before .before .before .before .before .before .before .before .before .before .before .before .before .before .before .check-table .ensures) (c .before .before .before .before .before .before .before .before .before .before .before .before .before .before .checked .given .1)) (omega arith) (omega (arith, c .before .before .before .before .before .before .before .before .before .before .before .two-at .ensures .0)) (c .before .before .before .before .before .before .before .before .read-run .ensures) (sym (c .before .before .before .before .before .before .is-accepted .ensures) ∙ c .before .before .before .before .before .if3 .taken))
+returns-4 c =
+    let c₈ = c .before .before .before .before .before .before .before .before in
+    let c₁₆ = c₈ .before .before .before .before .before .before .before .before in
+    let a = c₁₆ .before .before .before .before .args in
+    let check-table = c₁₆ .check-table in
+    let checked = c₈ .before .before .before .before .before .before .checked in
+    let two-at = c₈ .before .before .before .two-at in
+    let read-run = c₈ .read-run in
+    let is-accepted = c .before .before .before .before .before .before .is-accepted in
+    let if3 = c .before .before .before .before .before .if3 in
+    let copy-numbers = c .before .before .copy-numbers in
+    let table = now (a .table) in
+    let packet = now (a .packet) in
+    let good = good-from table (check-table .result) _ (check-table .ensures) (checked .given .1) in
+    let accepted = sym (is-accepted .ensures) ∙ if3 .taken in
+    rw (copy-numbers .ensures, two-at .ensures .0)
+    (packet-accepted table packet (now (a .run)) (read-run .result) (read-run .last .1 .1 .0) good (omega arith)
+    (omega (arith, two-at .ensures .0)) (read-run .ensures) accepted)
 
 returns-5 : tie.Need-returns-5
-returns-5 c = packet-refused (now (c .before .before .before .before .before .before .before .before .before .before .before .before .before .before .before .args .table)) (now (c .before .before .before .before .before .before .before .before .before .before .before .before .before .before .before .args .packet)) (now (c .before .before .before .before .before .before .before .before .before .before .before .before .before .before .before .args .run)) (c .before .before .before .read-run .result) (c .before .before .before .read-run .last .1 .1 .0) (good-from (now (c .before .before .before .before .before .before .before .before .before .before .before .before .before .before .before .args .table)) (c .before .before .before .before .before .before .before .before .before .before .before .check-table .result) _ (c .before .before .before .before .before .before .before .before .before .before .before .check-table .ensures) (c .before .before .before .before .before .before .before .before .before .checked .given .1)) (omega arith) (omega (arith, c .before .before .before .before .before .before .two-at .ensures .0)) (c .before .before .before .read-run .ensures) (sym (c .before .is-accepted .ensures) ∙ c .if3 .left)
+returns-5 c =
+    let c₈ = c .before .before .before .before .before .before .before .before in
+    let a = c₈ .before .before .before .before .before .before .before .args in
+    let check-table = c₈ .before .before .before .check-table in
+    let checked = c₈ .before .checked in
+    let two-at = c .before .before .before .before .before .before .two-at in
+    let read-run = c .before .before .before .read-run in
+    let is-accepted = c .before .is-accepted in
+    let if3 = c .if3 in
+    let table = now (a .table) in
+    let packet = now (a .packet) in
+    let good = good-from table (check-table .result) _ (check-table .ensures) (checked .given .1) in
+    let refused = sym (is-accepted .ensures) ∙ if3 .left in
+    packet-refused table packet (now (a .run)) (read-run .result) (read-run .last .1 .1 .0) good (omega arith)
+    (omega (arith, two-at .ensures .0)) (read-run .ensures) refused
 
 pub read-packet-spec : {M : Type 1} → statement M
 read-packet-spec =

@@ -1,4 +1,4 @@
-use mathlib.Core.Path.{_≡_, refl, sym, _∙_}
+use mathlib.Core.Path.{refl}
 use native.Mathlib.Omega.{arith}
 use denote.Ref.{now}
 use Rattle.packets.proofs.WalkReads.{run-read, run-long}
@@ -10,7 +10,11 @@ use Rattle.packets.proofs.readings.read_run.Lts as lts
 use Rattle.packets.proofs.walks.walk_fields.Reads as walk-fields-reads
 
 returns : tie.Need-returns
-returns c = λ d within stored. run-long d (now (c .before .before .before .before .args .table)) (now (c .before .before .before .before .args .packet)) (now (c .before .before .before .before .args .run)) _ _ (c .if1 .taken) refl
+returns c =
+    let a = c .before .before .before .before .args in
+    let if1 = c .if1 in
+    λ d within stored.
+    run-long d (now (a .table)) (now (a .packet)) (now (a .run)) _ _ (if1 .taken) refl
 
 walk-fields-requires : tie.Need-walk-fields-requires
 walk-fields-requires c κs = search needs
@@ -19,7 +23,13 @@ same-length : tie.Need-same-length
 same-length c = search needs
 
 returns-2 : tie.Need-returns-2
-returns-2 c = λ d within stored. run-read d (now (c .before .before .before .before .before .before .before .before .args .table)) (now (c .before .before .before .before .before .before .before .before .args .packet)) (now (c .before .before .before .before .before .before .before .before .args .run)) _ _ within stored (omega arith) (omega arith) (c .before .before .walk-fields .ensures .0) (c .before .before .walk-fields .ensures .1)
+returns-2 c =
+    let a = c .before .before .before .before .before .before .before .before .args in
+    let walk-fields = c .before .before .walk-fields in
+    let w = walk-fields .ensures in
+    λ d within stored.
+    run-read d (now (a .table)) (now (a .packet)) (now (a .run)) _ _ within stored (omega arith) (omega arith) (w .0)
+    (w .1)
 
 pub read-run-spec : {M : Type 1} → statement M
 read-run-spec = tie.close (tie.spec returns walk-fields-requires same-length returns-2)

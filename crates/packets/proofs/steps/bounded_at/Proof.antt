@@ -1,8 +1,7 @@
-use mathlib.Core.Path.{_≡_, refl, sym, _∙_}
 use native.Mathlib.Omega.{arith}
 use denote.Ref.{now}
-use borrow.Author.Tests.{eq-eqb, ne-eqb, le-leb, lt-leb, lt-ltb, le-ltb}
-use Prim.Native.Nat.{_+_, _-_, _*_, _≤_, _<_, _/_}
+use borrow.Author.Tests.{lt-ltb, le-ltb}
+use Prim.Native.Nat.{_+_}
 use Rattle.packets.specs.Steps.{boundedAt}
 use Rattle.rules.specs.Reading.{bitTotal}
 use borrow.Author.Needs.{needs}
@@ -20,7 +19,10 @@ sub-left c = search needs
 
 returns : tie.Need-returns
 unfolding boundedAt
-returns c = rw (lt-ltb (bitTotal (now (c .before .before .args .packet))) (c .before .before .args .place + c .before .before .args .width) (omega arith))
+returns c =
+    let a = c .before .before .args in
+    let far = lt-ltb (bitTotal (now (a .packet))) (a .place + a .width) (omega arith) in
+    rw far
 
 number-of-requires : tie.Need-number-of-requires
 number-of-requires c κs = search needs
@@ -36,7 +38,11 @@ add-t10 c = search needs
 
 returns-2 : tie.Need-returns-2
 unfolding boundedAt
-returns-2 c = rw (le-ltb (bitTotal (now (c .before .before .before .args .packet))) (c .before .before .before .args .place + c .before .before .before .args .width) (omega arith), c .number-of .ensures)
+returns-2 c =
+    let a = c .before .before .before .args in
+    let number-of = c .number-of in
+    let near = le-ltb (bitTotal (now (a .packet))) (a .place + a .width) (omega arith) in
+    rw (near, number-of .ensures)
 
 pub bounded-at-spec : {M : Type 1} → statement M
 bounded-at-spec =

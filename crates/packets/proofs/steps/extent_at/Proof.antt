@@ -1,7 +1,4 @@
-use mathlib.Core.Path.{_≡_, refl, sym, _∙_}
-use native.Mathlib.Omega.{arith}
-use denote.Ref.{now}
-use borrow.Author.Tests.{eq-eqb, ne-eqb, le-leb, lt-leb, lt-ltb, le-ltb}
+use borrow.Author.Tests.{eq-eqb, ne-eqb}
 use Rattle.packets.specs.Steps.{extentAt}
 use borrow.Author.Needs.{needs}
 use Rattle.packets.proofs.steps.extent_at.Statement.{statement}
@@ -24,14 +21,22 @@ rest-at-requires c κs = search needs
 
 returns-2 : tie.Need-returns-2
 unfolding extentAt
-returns-2 c = rw (ne-eqb _ 3 (c .before .before .before .if1 .left), eq-eqb _ 4 (c .before .if2 .taken)) (c .rest-at .ensures)
+returns-2 c =
+    let if1 = c .before .before .before .if1 in
+    let if2 = c .before .if2 in
+    let rest-at = c .rest-at in
+    rw (ne-eqb _ 3 (if1 .left), eq-eqb _ 4 (if2 .taken)) (rest-at .ensures)
 
 fixed-bits-requires : tie.Need-fixed-bits-requires
 fixed-bits-requires c κs = search needs
 
 returns-3 : tie.Need-returns-3
 unfolding extentAt
-returns-3 c = rw (ne-eqb _ 3 (c .before .before .before .if1 .left), ne-eqb _ 4 (c .before .if2 .left), c .fixed-bits .ensures .0)
+returns-3 c =
+    let if1 = c .before .before .before .if1 in
+    let if2 = c .before .if2 in
+    let fixed-bits = c .fixed-bits in
+    rw (ne-eqb _ 3 (if1 .left), ne-eqb _ 4 (if2 .left), fixed-bits .ensures .0)
 
 pub extent-at-spec : {M : Type 1} → statement M
 extent-at-spec =

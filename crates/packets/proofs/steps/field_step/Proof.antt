@@ -1,8 +1,6 @@
 use Rattle.packets.specs.Steps.{fieldStep, holdsAt}
-use mathlib.Core.Path.{_≡_, refl, sym, _∙_}
-use native.Mathlib.Omega.{arith}
 use denote.Ref.{now}
-use borrow.Author.Tests.{eq-eqb, ne-eqb, le-leb, lt-leb, lt-ltb, le-ltb}
+use borrow.Author.Tests.{eq-eqb, ne-eqb}
 use Rattle.packets.specs.Steps.{fieldStep}
 use Rattle.packets.proofs.StepLaws.{got-value, got-stop}
 use borrow.Author.Needs.{needs}
@@ -21,7 +19,14 @@ enum-known-condition c = search needs
 
 returns : tie.Need-returns
 unfolding fieldStep
-returns c = rw (got-value (holdsAt (now (c .before .before .before .before .before .before .before .before .args .table)) (now (c .before .before .before .before .before .before .before .before .args .run)) (c .before .before .before .before .before .before .before .before .args .p .condition)) _ (sym (c .before .before .before .before .holds-at .ensures) ∙ c .before .before .condition .given .1), eq-eqb _ 0 (c .if1 .taken))
+returns c =
+    let a = c .before .before .before .before .before .before .before .before .args in
+    let holds-at = c .before .before .before .before .holds-at in
+    let condition = c .before .before .condition in
+    let if1 = c .if1 in
+    let v = holdsAt (now (a .table)) (now (a .run)) (a .p .condition) in
+    let e = got-value (holds-at .result) v _ (holds-at .ensures) (condition .given .1) in
+    rw (e, eq-eqb _ 0 (if1 .taken))
 
 present-at-requires : tie.Need-present-at-requires
 present-at-requires c κs = search needs
@@ -31,11 +36,26 @@ enum-known-condition-2 c = search needs
 
 returns-2 : tie.Need-returns-2
 unfolding fieldStep
-returns-2 c = rw (got-value (holdsAt (now (c .before .before .before .before .before .before .before .before .before .args .table)) (now (c .before .before .before .before .before .before .before .before .before .args .run)) (c .before .before .before .before .before .before .before .before .before .args .p .condition)) _ (sym (c .before .before .before .before .before .holds-at .ensures) ∙ c .before .before .before .condition .given .1), ne-eqb _ 0 (c .before .if1 .left)) (c .present-at .ensures)
+returns-2 c =
+    let c₈ = c .before .before .before .before .before .before .before .before in
+    let a = c₈ .before .args in
+    let holds-at = c .before .before .before .before .before .holds-at in
+    let condition = c .before .before .before .condition in
+    let if1 = c .before .if1 in
+    let present-at = c .present-at in
+    let v = holdsAt (now (a .table)) (now (a .run)) (a .p .condition) in
+    let e = got-value (holds-at .result) v _ (holds-at .ensures) (condition .given .1) in
+    rw (e, ne-eqb _ 0 (if1 .left)) (present-at .ensures)
 
 returns-3 : tie.Need-returns-3
 unfolding fieldStep
-returns-3 c = rw (got-stop (holdsAt (now (c .before .before .before .before .before .before .before .args .table)) (now (c .before .before .before .before .before .before .before .args .run)) (c .before .before .before .before .before .before .before .args .p .condition)) _ (sym (c .before .before .before .holds-at .ensures) ∙ c .before .condition2 .given .1))
+returns-3 c =
+    let a = c .before .before .before .before .before .before .before .args in
+    let holds-at = c .before .before .before .holds-at in
+    let condition2 = c .before .condition2 in
+    let v = holdsAt (now (a .table)) (now (a .run)) (a .p .condition) in
+    let e = got-stop (holds-at .result) v _ (holds-at .ensures) (condition2 .given .1) in
+    rw e
 
 pub field-step-spec : {M : Type 1} → statement M
 field-step-spec =

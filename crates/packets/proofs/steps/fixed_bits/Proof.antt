@@ -1,9 +1,6 @@
-use mathlib.Core.Path.{_≡_, refl, sym, _∙_}
 use native.Mathlib.Omega.{arith}
-use denote.Ref.{now}
-use borrow.Author.Tests.{eq-eqb, ne-eqb, le-leb, lt-leb, lt-ltb, le-ltb}
+use borrow.Author.Tests.{eq-eqb, ne-eqb, le-leb, lt-leb}
 use Rattle.packets.specs.Steps.{fixedOf}
-use borrow.Author.Needs.{needs}
 use Rattle.packets.proofs.steps.fixed_bits.Statement.{statement}
 use Rattle.packets.proofs.steps.fixed_bits.Tie as tie
 use Rattle.packets.proofs.steps.fixed_bits.Reads as reads

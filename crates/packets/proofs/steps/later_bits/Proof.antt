@@ -1,8 +1,8 @@
-use mathlib.Core.Path.{_≡_, refl, sym, _∙_}
+use mathlib.Core.Path.{_≡_, sym, _∙_}
 use native.Mathlib.Omega.{arith}
 use denote.Ref.{now}
-use Prim.Native.Nat.{_+_, _-_, _*_, _≤_, _<_, _/_}
-use Rattle.packets.specs.Steps.{laterBits, fixedOf, recordAt}
+use Prim.Native.Nat.{_+_, _-_, _*_, _≤_}
+use Rattle.packets.specs.Steps.{laterBits}
 use native.Mathlib.Nat.{sub-zero, zero-add}
 use Rattle.packets.proofs.StepLaws.{later-step, later-end}
 use borrow.Author.Needs.{needs}
@@ -14,7 +14,9 @@ use Rattle.packets.proofs.steps.fixed_bits.Reads as fixed-bits-reads
 use Rattle.packets.proofs.steps.record_at.Reads as record-at-reads
 
 abbrev Inv-loop : tie.InvT-loop
-Inv-loop table start n sum₀ at₀ i₀ sum at i = (i ≤ n) × (sum ≤ 32 * i) × (laterBits n table start ≡ sum + laterBits (n - i) table at)
+Inv-loop table start n sum₀ at₀ i₀ sum at i =
+    (i ≤ n) × (sum ≤ 32 * i)
+    × (laterBits n table start ≡ sum + laterBits (n - i) table at)
 
 abbrev μ-loop : tie.MeasureT-loop
 μ-loop table start n sum₀ at₀ i₀ sum at i = n - i
@@ -38,10 +40,24 @@ loop-less : tie.Need-loop-less Inv-loop μ-loop
 loop-less c = search needs
 
 loop-again : tie.Need-loop-again Inv-loop μ-loop
-loop-again c = (omega arith, omega (arith, c .fixed-bits .ensures .1), c .before .before .before .loop .inv .2 ∙ later-step (now (c .before .before .before .before .before .args .table)) (c .before .before .before .before .before .args .n) (c .before .before .before .loop .i) (c .before .before .before .loop .sum) (c .before .before .before .loop .at) (omega arith) ∙ rw (c .fixed-bits .ensures .0, c .before .record-at .ensures))
+loop-again c =
+    let a = c .before .before .before .before .before .args in
+    let l = c .before .before .before .loop in
+    let record-at = c .before .record-at in
+    let fixed-bits = c .fixed-bits in
+    let h = later-step (now (a .table)) (a .n) (l .i) (l .sum) (l .at) (omega arith) in (
+      omega arith,
+      omega (arith, fixed-bits .ensures .1),
+      l .inv .2 ∙ h ∙ rw (fixed-bits .ensures .0, record-at .ensures),
+    )
 
 returns : tie.Need-returns Inv-loop μ-loop
-returns c = let e : c .before .loop .i ≡ c .before .before .before .args .n = omega arith in let h = rw e at (c .before .loop .inv .2) in (sym (h ∙ later-end (now (c .before .before .before .args .table)) (c .before .before .before .args .n) (c .before .loop .sum) (c .before .loop .at)), omega arith)
+returns c =
+    let a = c .before .before .before .args in
+    let l = c .before .loop in
+    let e : l .i ≡ a .n = omega arith in
+    let h = rw e at (l .inv .2) in
+    (sym (h ∙ later-end (now (a .table)) (a .n) (l .sum) (l .at)), omega arith)
 
 pub later-bits-spec : {M : Type 1} → statement M
 later-bits-spec =

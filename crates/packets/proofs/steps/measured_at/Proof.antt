@@ -1,6 +1,3 @@
-use mathlib.Core.Path.{_≡_, refl, sym, _∙_}
-use native.Mathlib.Omega.{arith}
-use denote.Ref.{now}
 use Rattle.packets.specs.Steps.{measuredAt, treeValue}
 use borrow.Author.Needs.{needs}
 use Rattle.packets.proofs.steps.measured_at.Statement.{statement}

@@ -1,6 +1,4 @@
 use Rattle.packets.specs.Steps.{presentAt, extentAt}
-use mathlib.Core.Path.{_≡_, refl, sym, _∙_}
-use native.Mathlib.Omega.{arith}
 use denote.Ref.{now}
 use Rattle.packets.specs.Steps.{presentAt}
 use Rattle.packets.proofs.StepLaws.{got-value, got-stop}
@@ -26,11 +24,26 @@ enum-known-extent-2 c = search needs
 
 returns : tie.Need-returns
 unfolding presentAt
-returns c = rw (got-value (extentAt (now (c .before .before .before .before .before .before .before .before .args .table)) (now (c .before .before .before .before .before .before .before .before .args .packet)) (now (c .before .before .before .before .before .before .before .before .args .run)) (c .before .before .before .before .before .before .before .before .args .p) (c .before .before .before .before .before .before .before .before .args .later) (c .before .before .before .before .before .before .before .before .args .place)) _ (sym (c .before .before .before .before .extent-at .ensures) ∙ c .before .before .extent .given .1)) (c .bounded-at .ensures)
+returns c =
+    let a = c .before .before .before .before .before .before .before .before .args in
+    let extent-at = c .before .before .before .before .extent-at in
+    let extent = c .before .before .extent in
+    let bounded-at = c .bounded-at in
+    let v =
+    extentAt (now (a .table)) (now (a .packet)) (now (a .run)) (a .p) (a .n) (a .bit) in
+    let e = got-value (extent-at .result) v _ (extent-at .ensures) (extent .given .1) in
+    rw e (bounded-at .ensures)
 
 returns-2 : tie.Need-returns-2
 unfolding presentAt
-returns-2 c = rw (got-stop (extentAt (now (c .before .before .before .before .before .before .before .args .table)) (now (c .before .before .before .before .before .before .before .args .packet)) (now (c .before .before .before .before .before .before .before .args .run)) (c .before .before .before .before .before .before .before .args .p) (c .before .before .before .before .before .before .before .args .later) (c .before .before .before .before .before .before .before .args .place)) _ (sym (c .before .before .before .extent-at .ensures) ∙ c .before .extent2 .given .1))
+returns-2 c =
+    let a = c .before .before .before .before .before .before .before .args in
+    let extent-at = c .before .before .before .extent-at in
+    let extent2 = c .before .extent2 in
+    let v =
+    extentAt (now (a .table)) (now (a .packet)) (now (a .run)) (a .p) (a .n) (a .bit) in
+    let e = got-stop (extent-at .result) v _ (extent-at .ensures) (extent2 .given .1) in
+    rw e
 
 pub present-at-spec : {M : Type 1} → statement M
 present-at-spec =

@@ -1,6 +1,3 @@
-use mathlib.Core.Path.{_≡_, refl, sym, _∙_}
-use native.Mathlib.Omega.{arith}
-use denote.Ref.{now}
 use Rattle.packets.specs.Steps.{treeValue}
 use borrow.Author.Needs.{needs}
 use Rattle.packets.proofs.steps.tree_value.Statement.{statement}

@@ -1,12 +1,7 @@
-use mathlib.Core.Path.{_≡_, refl, sym, _∙_, ap}
-use mathlib.Core.Bool.{Bool, true, false, _||_}
-use mathlib.Core.List.{List, [], _∷_, _++_}
-use Prim.Native.Nat.{ℕ, _+_, _-_, _*_, _<_, _≤_, _%_}
+use mathlib.Core.Path.{sym, _∙_}
+use Prim.Native.Nat.{_-_}
 use native.Mathlib.Omega.{arith}
-use native.Mathlib.Nat.{sub-zero}
-use lib.ListN.{length, getD, take, drop}
 use denote.Ref.{now}
-use borrow.Author.Tests.{le-ltb, lt-ltb, le-leb, lt-leb, eq-eqb, ne-eqb, not-true, not-false}
 use Rattle.packets.proofs.TableLaws.{accepts, refuses}
 use borrow.Author.Needs.{needs}
 use Rattle.packets.proofs.tables.check_table.Statement.{statement}
@@ -20,10 +15,13 @@ is-table-requires c κs = search needs
 
 returns : tie.Need-returns
 returns c =
-    accepts (now (c .before .before .before .args .table)) (λ i. omega (arith, c .before .before .shared-slice-known .given i)) (sym (c .before .is-table .ensures) ∙ c .if1 .taken)
+    accepts (now (c .before .before .before .args .table))
+    (λ i. omega (arith, c .before .before .shared-slice-known .given i))
+    (sym (c .before .is-table .ensures) ∙ c .if1 .taken)
 
 returns-2 : tie.Need-returns-2
-returns-2 c = refuses (now (c .before .before .before .args .table)) (sym (c .before .is-table .ensures) ∙ c .if1 .left)
+returns-2 c =
+    refuses (now (c .before .before .before .args .table)) (sym (c .before .is-table .ensures) ∙ c .if1 .left)
 
 pub check-table-spec : {M : Type 1} → statement M
 check-table-spec = tie.close (tie.spec is-table-requires returns returns-2)

@@ -1,12 +1,5 @@
-use mathlib.Core.Path.{_≡_, refl, sym, _∙_, ap}
-use mathlib.Core.Bool.{Bool, true, false, _||_}
-use mathlib.Core.List.{List, [], _∷_, _++_}
-use Prim.Native.Nat.{ℕ, _+_, _-_, _*_, _<_, _≤_, _%_}
-use native.Mathlib.Omega.{arith}
-use native.Mathlib.Nat.{sub-zero}
-use lib.ListN.{length, getD, take, drop}
-use denote.Ref.{now}
-use borrow.Author.Tests.{le-ltb, lt-ltb, le-leb, lt-leb, eq-eqb, ne-eqb, not-true, not-false}
+use Prim.Native.Nat.{_-_}
+use borrow.Author.Tests.{eq-eqb, ne-eqb}
 use Rattle.packets.specs.TableTest.{lastTest}
 use borrow.Author.Needs.{needs}
 use Rattle.packets.proofs.tables.is_last.Statement.{statement}
@@ -27,7 +20,8 @@ two-at-requires c κs = search needs
 
 returns-2 : tie.Need-returns-2
 unfolding lastTest
-returns-2 c = rw (eq-eqb _ _ (c .before .before .if1 .left), ← c .before .two-at .ensures .0, ne-eqb _ _ (c .if2 .taken))
+returns-2 c =
+    rw (eq-eqb _ _ (c .before .before .if1 .left), ← c .before .two-at .ensures .0, ne-eqb _ _ (c .if2 .taken))
 
 add-two-at : tie.Need-add-two-at
 add-two-at c = search needs
@@ -37,7 +31,14 @@ two-at-requires-2 c κs = search needs
 
 returns-3 : tie.Need-returns-3
 unfolding lastTest
-returns-3 c = rw (eq-eqb _ _ (c .before .before .before .if1 .left), ← c .before .before .two-at .ensures .0, eq-eqb _ _ (c .before .if2 .left), ← c .two-at2 .ensures .0)
+returns-3 c =
+    rw (
+      eq-eqb _ _ (c .before .before .before .if1 .left),
+      ← c .before .before .two-at .ensures .0,
+      eq-eqb _ _
+          (c .before .if2 .left),
+      ← c .two-at2 .ensures .0,
+    )
 
 pub is-last-spec : {M : Type 1} → statement M
 is-last-spec =

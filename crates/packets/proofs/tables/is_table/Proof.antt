@@ -1,15 +1,15 @@
-use mathlib.Core.Path.{_≡_, refl, sym, _∙_, ap}
-use mathlib.Core.Bool.{Bool, true, false, _||_}
-use mathlib.Core.List.{List, [], _∷_, _++_}
-use Prim.Native.Nat.{ℕ, _+_, _-_, _*_, _<_, _≤_, _%_}
+use mathlib.Core.Path.{sym, _∙_}
+use Prim.Native.Nat.{_+_, _-_, _<_, _≤_}
+use lib.ListN.{length}
+use borrow.Author.Tests.{le-leb, lt-leb, not-true, not-false}
+use mathlib.Core.Path.{sym, _∙_}
+use Prim.Native.Nat.{_+_, _-_, _<_, _≤_}
 use native.Mathlib.Omega.{arith}
-use native.Mathlib.Nat.{sub-zero}
-use lib.ListN.{length, getD, take, drop}
+use lib.ListN.{length}
 use denote.Ref.{now}
-use borrow.Author.Tests.{le-ltb, lt-ltb, le-leb, lt-leb, eq-eqb, ne-eqb, not-true, not-false}
-use Rattle.packets.specs.TableTest.{tableTest, walkAt}
+use borrow.Author.Tests.{le-leb, lt-leb, not-true, not-false}
+use Rattle.packets.specs.TableTest.{tableTest}
 use Rattle.packets.proofs.TableSteps.{head-is, row-positive, walk-of, walk-past, walk-places, count-most}
-use Rattle.base.specs.Places.{twoAt}
 use borrow.Author.Needs.{needs}
 use Rattle.packets.proofs.tables.is_table.Statement.{statement}
 use Rattle.packets.proofs.tables.is_table.Tie as tie
@@ -30,7 +30,10 @@ is-head-requires c κs = search needs
 
 returns-2 : tie.Need-returns-2
 unfolding tableTest
-returns-2 c = rw (le-leb _ _ (c .before .before .if1 .left), (sym (c .before .is-head .ensures) ∙ not-true (c .before .is-head .result) (c .if2 .taken)))
+returns-2 c =
+    let short = le-leb _ _ (c .before .before .if1 .left) in
+    let no-head = sym (c .before .is-head .ensures) ∙ not-true (c .before .is-head .result) (c .if2 .taken) in
+    rw (short, no-head)
 
 two-at-requires : tie.Need-two-at-requires
 two-at-requires c κs = search needs
@@ -49,11 +52,16 @@ slice-aggregate-walk c = search needs
 
 walk-requires : tie.Need-walk-requires
 walk-requires c κs =
-    let h = (head-is (now (c .before .before .before .before .before .before .before .before .args .table)) (sym (c .before .before .before .before .before .is-head .ensures) ∙ not-false (c .before .before .before .before .before .is-head .result) (c .before .before .before .before .if2 .left))) in
-    let r : 0 < c .before .before .before .two-at .result = rw (c .before .before .before .two-at .ensures .0) (row-positive _ (h .row)) in
-    let k : c .before .before .two-at2 .result ≤ 64 = rw (c .before .before .two-at2 .ensures .0) (count-most _ (h .count)) in
-    let f : 10 + c .before .two-at3 .result ≤ length (now (c .before .before .before .before .before .before .before .before .args .table)) = rw (c .before .two-at3 .ensures .0) (h .end) in
-    (r, k, omega arith, omega arith, f)
+    let s = now (c .before .before .before .before .before .before .before .before .args .table) in
+    let head = sym (c .before .before .before .before .before .is-head .ensures) ∙ not-false
+    (c .before .before .before .before .before .is-head .result) (c .before .before .before .before .if2 .left) in
+    let h = head-is s head in
+    let row : 0 < c .before .before .before .two-at .result = rw (c .before .before .before .two-at .ensures .0)
+    (row-positive _ (h .row)) in
+    let count : c .before .before .two-at2 .result ≤ 64 = rw (c .before .before .two-at2 .ensures .0)
+    (count-most _ (h .count)) in
+    let end : 10 + c .before .two-at3 .result ≤ length s = rw (c .before .two-at3 .ensures .0) (h .end) in
+    (row, count, omega arith, omega arith, end)
 
 enum-known-at : tie.Need-enum-known-at
 enum-known-at c = search needs
@@ -64,36 +72,99 @@ enum-told c = search needs
 returns-3 : tie.Need-returns-3
 unfolding tableTest
 returns-3 c =
-    let e = (walk-of (now (c .before .before .before .before .before .before .before .before .before .before .before .before .args .table)) (c .before .before .before .before .before .before .before .two-at .ensures .0) (c .before .before .before .before .before .before .two-at2 .ensures .0) (c .before .before .before .before .before .two-at3 .ensures .0) (c .before .before .before .walk .ensures) (c .enum-told .given .1)) in
-    rw (le-leb _ _ (c .before .before .before .before .before .before .before .before .before .before .if1 .left), (sym (c .before .before .before .before .before .before .before .before .before .is-head .ensures) ∙ not-false (c .before .before .before .before .before .before .before .before .before .is-head .result) (c .before .before .before .before .before .before .before .before .if2 .left)), e)
+    let s = now (c .before .before .before .before .before .before .before .before .before .before .before .before
+    .args .table) in
+    let head = sym (c .before .before .before .before .before .before .before .before .before .is-head .ensures)
+    ∙ not-false (c .before .before .before .before .before .before .before .before .before .is-head .result)
+    (c .before .before .before .before .before .before .before .before .if2 .left) in
+    let row-is = c .before .before .before .before .before .before .before .two-at .ensures .0 in
+    let count-is = c .before .before .before .before .before .before .two-at2 .ensures .0 in
+    let from-is = c .before .before .before .before .before .two-at3 .ensures .0 in
+    let walked = walk-of s row-is count-is from-is (c .before .before .before .walk .ensures)
+    (c .enum-told .given .1) in
+    let short = le-leb _ _ (c .before .before .before .before .before .before .before .before .before .before .if1
+    .left) in
+    rw (short, head, walked)
 
 is-last-requires : tie.Need-is-last-requires
 is-last-requires c κs =
-    let h = (head-is (now (c .before .before .before .before .before .before .before .before .before .before .before .before .before .args .table)) (sym (c .before .before .before .before .before .before .before .before .before .before .is-head .ensures) ∙ not-false (c .before .before .before .before .before .before .before .before .before .before .is-head .result) (c .before .before .before .before .before .before .before .before .before .if2 .left))) in
-    let e = (walk-of (now (c .before .before .before .before .before .before .before .before .before .before .before .before .before .args .table)) (c .before .before .before .before .before .before .before .before .two-at .ensures .0) (c .before .before .before .before .before .before .before .two-at2 .ensures .0) (c .before .before .before .before .before .before .two-at3 .ensures .0) (c .before .before .before .before .walk .ensures) (c .before .at .given .1)) in
-    let z = walk-past _ _ _ _ _ _ _ _ (h .end) e in
+    let s = now (c .before .before .before .before .before .before .before .before .before .before .before .before
+    .before .args .table) in
+    let head = sym (c .before .before .before .before .before .before .before .before .before .before .is-head
+    .ensures) ∙ not-false (c .before .before .before .before .before .before .before .before .before .before .is-head
+    .result) (c .before .before .before .before .before .before .before .before .before .if2 .left) in
+    let h = head-is s head in
+    let row-is = c .before .before .before .before .before .before .before .before .two-at .ensures .0 in
+    let count-is = c .before .before .before .before .before .before .before .two-at2 .ensures .0 in
+    let from-is = c .before .before .before .before .before .before .two-at3 .ensures .0 in
+    let walked = walk-of s row-is count-is from-is (c .before .before .before .before .walk .ensures)
+    (c .before .at .given .1) in
+    let past = walk-past _ _ _ _ _ _ _ _ (h .end) walked in
     omega arith
 
 returns-4 : tie.Need-returns-4
 unfolding tableTest
 returns-4 c =
-    let e = (walk-of (now (c .before .before .before .before .before .before .before .before .before .before .before .before .before .before .before .args .table)) (c .before .before .before .before .before .before .before .before .before .before .two-at .ensures .0) (c .before .before .before .before .before .before .before .before .before .two-at2 .ensures .0) (c .before .before .before .before .before .before .before .before .two-at3 .ensures .0) (c .before .before .before .before .before .before .walk .ensures) (c .before .before .before .at .given .1)) in
-    rw (le-leb _ _ (c .before .before .before .before .before .before .before .before .before .before .before .before .before .if1 .left), (sym (c .before .before .before .before .before .before .before .before .before .before .before .before .is-head .ensures) ∙ not-false (c .before .before .before .before .before .before .before .before .before .before .before .before .is-head .result) (c .before .before .before .before .before .before .before .before .before .before .before .if2 .left)), e, (sym (c .before .is-last .ensures) ∙ not-true (c .before .is-last .result) (c .if3 .taken)))
+    let s = now (c .before .before .before .before .before .before .before .before .before .before .before .before
+    .before .before .before .args .table) in
+    let head = sym (c .before .before .before .before .before .before .before .before .before .before .before .before
+    .is-head .ensures) ∙ not-false (c .before .before .before .before .before .before .before .before .before .before
+    .before .before .is-head .result) (c .before .before .before .before .before .before .before .before .before
+    .before .before .if2 .left) in
+    let row-is = c .before .before .before .before .before .before .before .before .before .before .two-at .ensures
+    .0 in
+    let count-is = c .before .before .before .before .before .before .before .before .before .two-at2 .ensures .0 in
+    let from-is = c .before .before .before .before .before .before .before .before .two-at3 .ensures .0 in
+    let walked = walk-of s row-is count-is from-is (c .before .before .before .before .before .before .walk .ensures)
+    (c .before .before .before .at .given .1) in
+    let short = le-leb _ _ (c .before .before .before .before .before .before .before .before .before .before .before
+    .before .before .if1 .left) in
+    let no-last = sym (c .before .is-last .ensures) ∙ not-true (c .before .is-last .result) (c .if3 .taken) in
+    rw (short, head, walked, no-last)
 
 has-unique-names-requires : tie.Need-has-unique-names-requires
 has-unique-names-requires c κs =
-    let h = (head-is (now (c .before .before .before .before .before .before .before .before .before .before .before .before .before .before .before .args .table)) (sym (c .before .before .before .before .before .before .before .before .before .before .before .before .is-head .ensures) ∙ not-false (c .before .before .before .before .before .before .before .before .before .before .before .before .is-head .result) (c .before .before .before .before .before .before .before .before .before .before .before .if2 .left))) in
-    let e = (walk-of (now (c .before .before .before .before .before .before .before .before .before .before .before .before .before .before .before .args .table)) (c .before .before .before .before .before .before .before .before .before .before .two-at .ensures .0) (c .before .before .before .before .before .before .before .before .before .two-at2 .ensures .0) (c .before .before .before .before .before .before .before .before .two-at3 .ensures .0) (c .before .before .before .before .before .before .walk .ensures) (c .before .before .before .at .given .1)) in
-    let k : c .before .before .before .before .before .before .before .before .before .two-at2 .result ≤ 64 = rw (c .before .before .before .before .before .before .before .before .before .two-at2 .ensures .0) (count-most _ (h .count)) in
-    let z = walk-places _ _ _ _ _ _ _ _ (c .before .before .before .before .before .before .before .before .before .before .before .before .before .if1 .left) (h .end) e in
-    (k, c .before .before .before .before .before .before .before .before .before .before .before .before .before .if1 .left, rw (c .before .before .before .before .before .before .before .before .before .two-at2 .ensures .0, c .before .before .before .before .before .before .before .before .two-at3 .ensures .0) z)
+    let s = now (c .before .before .before .before .before .before .before .before .before .before .before .before
+    .before .before .before .args .table) in
+    let head = sym (c .before .before .before .before .before .before .before .before .before .before .before .before
+    .is-head .ensures) ∙ not-false (c .before .before .before .before .before .before .before .before .before .before
+    .before .before .is-head .result) (c .before .before .before .before .before .before .before .before .before
+    .before .before .if2 .left) in
+    let h = head-is s head in
+    let row-is = c .before .before .before .before .before .before .before .before .before .before .two-at .ensures
+    .0 in
+    let count-is = c .before .before .before .before .before .before .before .before .before .two-at2 .ensures .0 in
+    let from-is = c .before .before .before .before .before .before .before .before .two-at3 .ensures .0 in
+    let walked = walk-of s row-is count-is from-is (c .before .before .before .before .before .before .walk .ensures)
+    (c .before .before .before .at .given .1) in
+    let most = c .before .before .before .before .before .before .before .before .before .before .before .before
+    .before .if1 .left in
+    let places = walk-places _ _ _ _ _ _ _ _ most (h .end) walked in
+    (rw count-is (count-most _ (h .count)), most, rw (count-is, from-is) places)
 
 returns-5 : tie.Need-returns-5
 unfolding tableTest
 returns-5 c =
-    let e = (walk-of (now (c .before .before .before .before .before .before .before .before .before .before .before .before .before .before .before .before .args .table)) (c .before .before .before .before .before .before .before .before .before .before .before .two-at .ensures .0) (c .before .before .before .before .before .before .before .before .before .before .two-at2 .ensures .0) (c .before .before .before .before .before .before .before .before .before .two-at3 .ensures .0) (c .before .before .before .before .before .before .before .walk .ensures) (c .before .before .before .before .at .given .1)) in
-    rw (le-leb _ _ (c .before .before .before .before .before .before .before .before .before .before .before .before .before .before .if1 .left), (sym (c .before .before .before .before .before .before .before .before .before .before .before .before .before .is-head .ensures) ∙ not-false (c .before .before .before .before .before .before .before .before .before .before .before .before .before .is-head .result) (c .before .before .before .before .before .before .before .before .before .before .before .before .if2 .left)), e, (sym (c .before .before .is-last .ensures) ∙ not-false (c .before .before .is-last .result) (c .before .if3 .left)), ← c .before .before .before .before .before .before .before .before .before .before .two-at2 .ensures .0, ← c .before .before .before .before .before .before .before .before .before .two-at3 .ensures .0)
-    (c .has-unique-names .ensures)
+    let s = now (c .before .before .before .before .before .before .before .before .before .before .before .before
+    .before .before .before .before .args .table) in
+    let head = sym (c .before .before .before .before .before .before .before .before .before .before .before .before
+    .before .is-head .ensures) ∙ not-false
+    (c .before .before .before .before .before .before .before .before .before .before .before .before .before
+    .is-head .result) (c .before .before .before .before .before .before .before .before .before .before .before
+    .before .if2 .left) in
+    let row-is = c .before .before .before .before .before .before .before .before .before .before .before .two-at
+    .ensures .0 in
+    let count-is = c .before .before .before .before .before .before .before .before .before .before .two-at2 .ensures
+    .0 in
+    let from-is = c .before .before .before .before .before .before .before .before .before .two-at3 .ensures .0 in
+    let walked = walk-of s row-is count-is from-is
+    (c .before .before .before .before .before .before .before .walk .ensures)
+    (c .before .before .before .before .at .given .1) in
+    let short = le-leb _ _ (c .before .before .before .before .before .before .before .before .before .before .before
+    .before .before .before .if1 .left) in
+    let last = sym (c .before .before .is-last .ensures) ∙ not-false (c .before .before .is-last .result)
+    (c .before .if3 .left) in
+    rw (short, head, walked, last, ← count-is, ← from-is) (c .has-unique-names .ensures)
 
 pub is-table-spec : {M : Type 1} → statement M
 is-table-spec =

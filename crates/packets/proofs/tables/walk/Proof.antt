@@ -1,18 +1,23 @@
+use mathlib.Core.Path.{_≡_, refl, sym, _∙_}
+use mathlib.Core.Bool.{false}
+use mathlib.Core.List.{[]}
+use Prim.Native.Nat.{_-_, _*_, _≤_}
+use lib.ListN.{length, take}
+use borrow.Author.Tests.{eq-eqb, ne-eqb, not-true, not-false}
 use lib.Seq.{lt-length-set}
-use mathlib.Core.Path.{_≡_, refl, sym, _∙_, ap}
-use mathlib.Core.Bool.{Bool, true, false, _||_}
-use mathlib.Core.List.{List, [], _∷_, _++_}
-use Prim.Native.Nat.{ℕ, _+_, _-_, _*_, _<_, _≤_, _%_}
+use mathlib.Core.Path.{_≡_, refl, sym, _∙_}
+use mathlib.Core.Bool.{false}
+use mathlib.Core.List.{[]}
+use Prim.Native.Nat.{_-_, _*_, _≤_}
 use native.Mathlib.Omega.{arith}
 use native.Mathlib.Nat.{sub-zero}
-use lib.ListN.{length, getD, take, drop}
+use lib.ListN.{length, take}
 use denote.Ref.{now}
-use borrow.Author.Tests.{le-ltb, lt-ltb, le-leb, lt-leb, eq-eqb, ne-eqb, not-true, not-false}
+use borrow.Author.Tests.{eq-eqb, ne-eqb, not-true, not-false}
 use Rattle.packets.specs.TableTest.{walkAt}
 use Rattle.packets.specs.Parts.{partsAt}
-use Rattle.packets.specs.FieldTest.{markOf, treesTest}
 use Rattle.packets.proofs.FieldSteps.{parts-inside, field-next, bits-small}
-use Rattle.packets.proofs.WalkSteps.{take-before, take-own, walk-field, walk-trees, walk-on, walk-end, own-trees}
+use Rattle.packets.proofs.WalkSteps.{take-own, walk-field, walk-trees, walk-on, walk-end, own-trees}
 use borrow.Author.Needs.{needs}
 use Rattle.packets.proofs.tables.walk.Statement.{statement}
 use Rattle.packets.proofs.tables.walk.Tie as tie
@@ -40,15 +45,26 @@ parts-at-requires : tie.Need-parts-at-requires Inv-loop μ-loop
 parts-at-requires c κs = search needs
 
 is-field-requires : tie.Need-is-field-requires Inv-loop μ-loop
-is-field-requires c κs = (c .before .before .before .before .before .pre .0, omega arith, c .before .before .before .before .before .pre .3, c .parts-at .ensures)
+is-field-requires c κs = (
+  c .before .before .before .before .before .pre .0,
+  omega arith,
+  c .before .before .before .before .before .pre .3,
+  c .parts-at .ensures,
+)
 
 same-length : tie.Need-same-length Inv-loop μ-loop
 same-length c = search needs
 
 returns : tie.Need-returns Inv-loop μ-loop
 returns c =
-    sym (c .before .before .before .before .loop .inv .4 ∙ walk-field (c .before .before .before .before .before .before .before .args .w) (c .before .before .before .before .before .before .before .args .count) (c .before .before .before .before .loop .i) (take (c .before .before .before .before .loop .i) (c .before .before .before .before .loop .marks)) (c .before .before .before .before .loop .place) (c .before .before .before .before .loop .ended) (now (c .before .before .before .before .before .before .before .args .s)) (c .before .before .before .before .loop .at) (omega arith)
-    (rw (c .before .before .parts-at .ensures) at (sym (c .before .is-field .ensures) ∙ not-true (c .before .is-field .result) (c .if1 .taken))))
+    let a = c .before .before .before .before .before .before .before .args in
+    let l = c .before .before .before .before .loop in
+    let s = now (a .s) in
+    let before = take (l .i) (l .marks) in
+    let parts = c .before .before .parts-at .ensures in
+    let no-field = sym (c .before .is-field .ensures) ∙ not-true (c .before .is-field .result) (c .if1 .taken) in
+    sym (l .inv .4 ∙ walk-field (a .w) (a .count) (l .i) before (l .place) (l .ended) s (l .at) (omega arith)
+    (rw parts at no-field))
 
 mark-of-requires : tie.Need-mark-of-requires Inv-loop μ-loop
 mark-of-requires c κs = search needs
@@ -57,27 +73,46 @@ slice-write-marks : tie.Need-slice-write-marks Inv-loop μ-loop
 slice-write-marks c = search needs
 
 has-trees-requires : tie.Need-has-trees-requires Inv-loop μ-loop
-has-trees-requires c κs = (
-  lt-length-set (c .before .before .before .before .before .before .loop .marks) (c .before .before .before .before .before .before .loop .i) _ (omega arith),
-  c .before .before .before .before .before .before .before .before .before .pre .3,
-  rw (c .before .before .before .before .parts-at .ensures) (parts-inside _ _ (field-next _ _ _ _ _ _ (rw (c .before .before .before .before .parts-at .ensures) at (sym (c .before .before .before .is-field .ensures) ∙ not-false (c .before .before .before .is-field .result) (c .before .before .if1 .left))))),
-)
+has-trees-requires c κs =
+    let l = c .before .before .before .before .before .before .loop in
+    let parts = c .before .before .before .before .parts-at .ensures in
+    let field = sym (c .before .before .before .is-field .ensures) ∙ not-false
+    (c .before .before .before .is-field .result) (c .before .before .if1 .left) in
+    let next = field-next _ _ _ _ _ _ (rw parts at field) in (
+      lt-length-set (l .marks) (l .i) _ (omega arith),
+      c .before .before .before .before .before .before .before .before .before .pre .3,
+      rw parts
+          (parts-inside _ _ next),
+    )
 
 same-length-2 : tie.Need-same-length-2 Inv-loop μ-loop
 same-length-2 c = search needs
 
 returns-2 : tie.Need-returns-2 Inv-loop μ-loop
 returns-2 c =
-    sym (c .before .before .before .before .before .before .before .before .loop .inv .4 ∙ walk-trees (c .before .before .before .before .before .before .before .before .before .before .before .args .w) (c .before .before .before .before .before .before .before .before .before .before .before .args .count) (c .before .before .before .before .before .before .before .before .loop .i) (take (c .before .before .before .before .before .before .before .before .loop .i) (c .before .before .before .before .before .before .before .before .loop .marks)) (c .before .before .before .before .before .before .before .before .loop .place) (c .before .before .before .before .before .before .before .before .loop .ended) (now (c .before .before .before .before .before .before .before .before .before .before .before .args .s)) (c .before .before .before .before .before .before .before .before .loop .at) (omega arith) (rw (c .before .before .before .before .before .before .parts-at .ensures) at (sym (c .before .before .before .before .before .is-field .ensures) ∙ not-false (c .before .before .before .before .before .is-field .result) (c .before .before .before .before .if1 .left)))
-    (own-trees (c .before .before .before .before .before .before .before .before .loop .marks) (c .before .before .before .before .before .before .before .before .loop .i) _ (now (c .before .before .before .before .before .before .before .before .before .before .before .args .s)) (c .before .before .before .before .before .before .parts-at .result) (partsAt (now (c .before .before .before .before .before .before .before .before .before .before .before .args .s)) (c .before .before .before .before .before .before .before .before .loop .at)) (c .before .before .before .before .before .before .parts-at .ensures) (c .before .before .before .mark-of .ensures) (omega arith) (sym (c .before .has-trees .ensures) ∙ not-true (c .before .has-trees .result) (c .if2 .taken))))
+    let a = c .before .before .before .before .before .before .before .before .before .before .before .args in
+    let l = c .before .before .before .before .before .before .before .before .loop in
+    let s = now (a .s) in
+    let before = take (l .i) (l .marks) in
+    let parts = c .before .before .before .before .before .before .parts-at .ensures in
+    let field = sym (c .before .before .before .before .before .is-field .ensures) ∙ not-false
+    (c .before .before .before .before .before .is-field .result) (c .before .before .before .before .if1 .left) in
+    let no-trees = sym (c .before .has-trees .ensures) ∙ not-true (c .before .has-trees .result) (c .if2 .taken) in
+    let own = own-trees (l .marks) (l .i) _ s _ (partsAt s (l .at)) parts
+    (c .before .before .before .mark-of .ensures) (omega arith) no-trees in
+    sym (l .inv .4 ∙ walk-trees (a .w) (a .count) (l .i) before (l .place) (l .ended) s (l .at) (omega arith)
+    (rw parts at field) own)
 
 bits-of-requires : tie.Need-bits-of-requires Inv-loop μ-loop
 bits-of-requires c κs = search needs
 
 add-place : tie.Need-add-place Inv-loop μ-loop
 add-place c =
-    let b = bits-small _ _ _ _ _ _ (sym (c .before .before .before .before .before .before .is-field .ensures) ∙ not-false (c .before .before .before .before .before .before .is-field .result) (c .before .before .before .before .before .if1 .left)) in
-    let e = c .bits-of .ensures in
+    let field = sym (c .before .before .before .before .before .before .is-field .ensures) ∙ not-false
+    (c .before .before .before .before .before .before .is-field .result)
+    (c .before .before .before .before .before .if1 .left) in
+    let small = bits-small _ _ _ _ _ _ field in
+    let bits = c .bits-of .ensures in
     omega arith
 
 ends-with-requires : tie.Need-ends-with-requires Inv-loop μ-loop
@@ -91,14 +126,35 @@ loop-less c = omega arith
 
 loop-again : tie.Need-loop-again Inv-loop μ-loop
 loop-again c =
-    let b = bits-small _ _ _ _ _ _ (sym (c .before .before .before .before .before .before .before .is-field .ensures) ∙ not-false (c .before .before .before .before .before .before .before .is-field .result) (c .before .before .before .before .before .before .if1 .left)) in
-    let e = c .before .bits-of .ensures in (
+    let a = c .before .before .before .before .before .before .before .before .before .before .before .before .before
+    .args in
+    let l = c .before .before .before .before .before .before .before .before .before .before .loop in
+    let s = now (a .s) in
+    let before = take (l .i) (l .marks) in
+    let parts = c .before .before .before .before .before .before .before .before .parts-at .ensures in
+    let field = sym (c .before .before .before .before .before .before .before .is-field .ensures) ∙ not-false
+    (c .before .before .before .before .before .before .before .is-field .result)
+    (c .before .before .before .before .before .before .if1 .left) in
+    let trees = sym (c .before .before .before .has-trees .ensures) ∙ not-false
+    (c .before .before .before .has-trees .result) (c .before .before .if2 .left) in
+    let own = own-trees (l .marks) (l .i) _ s _ (partsAt s (l .at)) parts
+    (c .before .before .before .before .before .mark-of .ensures) (omega arith) trees in
+    let small = bits-small _ _ _ _ _ _ field in
+    let bits = c .before .bits-of .ensures in
+    let step = walk-on (a .w) (a .count) (l .i) before (l .place) (l .ended) s (l .at) (omega arith)
+    (rw parts at field) own in
+    let marks = take-own (l .marks) (l .i) (c .before .before .before .before .before .mark-of .result) (omega arith) in (
       omega arith,
       search needs,
       omega arith,
-      field-next _ _ _ _ _ _ (sym (c .before .before .before .before .before .before .before .is-field .ensures) ∙ not-false (c .before .before .before .before .before .before .before .is-field .result) (c .before .before .before .before .before .before .if1 .left)),
-      c .before .before .before .before .before .before .before .before .before .before .loop .inv .4 ∙ walk-on (c .before .before .before .before .before .before .before .before .before .before .before .before .before .args .w) (c .before .before .before .before .before .before .before .before .before .before .before .before .before .args .count) (c .before .before .before .before .before .before .before .before .before .before .loop .i) (take (c .before .before .before .before .before .before .before .before .before .before .loop .i) (c .before .before .before .before .before .before .before .before .before .before .loop .marks)) (c .before .before .before .before .before .before .before .before .before .before .loop .place) (c .before .before .before .before .before .before .before .before .before .before .loop .ended) (now (c .before .before .before .before .before .before .before .before .before .before .before .before .before .args .s)) (c .before .before .before .before .before .before .before .before .before .before .loop .at) (omega arith) (rw (c .before .before .before .before .before .before .before .before .parts-at .ensures) at (sym (c .before .before .before .before .before .before .before .is-field .ensures) ∙ not-false (c .before .before .before .before .before .before .before .is-field .result) (c .before .before .before .before .before .before .if1 .left))) (own-trees (c .before .before .before .before .before .before .before .before .before .before .loop .marks) (c .before .before .before .before .before .before .before .before .before .before .loop .i) _ (now (c .before .before .before .before .before .before .before .before .before .before .before .before .before .args .s)) (c .before .before .before .before .before .before .before .before .parts-at .result) (partsAt (now (c .before .before .before .before .before .before .before .before .before .before .before .before .before .args .s)) (c .before .before .before .before .before .before .before .before .before .before .loop .at)) (c .before .before .before .before .before .before .before .before .parts-at .ensures) (c .before .before .before .before .before .mark-of .ensures) (omega arith) (sym (c .before .before .before .has-trees .ensures) ∙ not-false (c .before .before .before .has-trees .result) (c .before .before .if2 .left)))
-          ∙ rw (take-own (c .before .before .before .before .before .before .before .before .before .before .loop .marks) (c .before .before .before .before .before .before .before .before .before .before .loop .i) _ (omega arith), c .ends-with .ensures, e, c .before .before .before .before .before .mark-of .ensures, c .before .before .before .before .before .before .before .before .parts-at .ensures),
+      field-next _ _ _ _ _ _ field,
+      l .inv .4 ∙ step ∙ rw (
+        marks,
+        c .ends-with .ensures,
+        bits,
+        c .before .before .before .before .before .mark-of .ensures,
+        parts,
+      ),
     )
 
 rem-if3 : tie.Need-rem-if3 Inv-loop μ-loop
@@ -109,14 +165,24 @@ same-length-3 c = search needs
 
 returns-3 : tie.Need-returns-3 Inv-loop μ-loop
 returns-3 c =
-    sym (c .before .before .loop .inv .4 ∙ walk-end (c .before .before .before .before .before .args .w) (c .before .before .before .before .before .args .count) (c .before .before .loop .i) (take (c .before .before .loop .i) (c .before .before .loop .marks)) (c .before .before .loop .place) (c .before .before .loop .ended) (now (c .before .before .before .before .before .args .s)) (c .before .before .loop .at) (omega arith) ∙ rw (eq-eqb _ _ (c .if3 .taken)))
+    let a = c .before .before .before .before .before .args in
+    let l = c .before .before .loop in
+    let s = now (a .s) in
+    let before = take (l .i) (l .marks) in
+    sym (l .inv .4 ∙ walk-end (a .w) (a .count) (l .i) before (l .place) (l .ended) s (l .at) (omega arith) ∙ rw
+    (eq-eqb _ _ (c .if3 .taken)))
 
 same-length-4 : tie.Need-same-length-4 Inv-loop μ-loop
 same-length-4 c = search needs
 
 returns-4 : tie.Need-returns-4 Inv-loop μ-loop
 returns-4 c =
-    sym (c .before .before .loop .inv .4 ∙ walk-end (c .before .before .before .before .before .args .w) (c .before .before .before .before .before .args .count) (c .before .before .loop .i) (take (c .before .before .loop .i) (c .before .before .loop .marks)) (c .before .before .loop .place) (c .before .before .loop .ended) (now (c .before .before .before .before .before .args .s)) (c .before .before .loop .at) (omega arith) ∙ rw (ne-eqb _ _ (c .if3 .left)))
+    let a = c .before .before .before .before .before .args in
+    let l = c .before .before .loop in
+    let s = now (a .s) in
+    let before = take (l .i) (l .marks) in
+    sym (l .inv .4 ∙ walk-end (a .w) (a .count) (l .i) before (l .place) (l .ended) s (l .at) (omega arith) ∙ rw
+    (ne-eqb _ _ (c .if3 .left)))
 
 pub walk-spec : {M : Type 1} → statement M
 walk-spec =

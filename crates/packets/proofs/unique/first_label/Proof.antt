@@ -1,12 +1,10 @@
-use mathlib.Core.Path.{_≡_, refl, sym, _∙_, ap}
-use mathlib.Core.Bool.{Bool, true, false, _||_}
-use mathlib.Core.List.{List, [], _∷_, _++_}
-use Prim.Native.Nat.{ℕ, _+_, _-_, _*_, _<_, _≤_, _%_}
+use mathlib.Core.Path.{_≡_, sym, _∙_}
+use Prim.Native.Nat.{_-_, _≤_}
+use mathlib.Core.Path.{_≡_, sym, _∙_}
+use Prim.Native.Nat.{_-_, _≤_}
 use native.Mathlib.Omega.{arith}
 use native.Mathlib.Nat.{sub-zero}
-use lib.ListN.{length, getD, take, drop}
 use denote.Ref.{now}
-use borrow.Author.Tests.{le-ltb, lt-ltb, le-leb, lt-leb, eq-eqb, ne-eqb, not-true, not-false}
 use Rattle.packets.specs.NamesTest.{labelsAlike}
 use Rattle.names.specs.Repeats.{repeats, firstFrom, firstRepeat}
 use Rattle.names.proofs.RepeatLaws.{search-step, search-end, repeats-none, repeats-found}
@@ -18,13 +16,15 @@ use Rattle.packets.proofs.unique.first_label.Lts as lts
 use Rattle.packets.proofs.unique.same_labels.Reads as same-labels-reads
 
 abbrev Inv-loop : tie.InvT-loop
-Inv-loop s n places j i₀ i = (i ≤ j) × (firstFrom (λ k. labelsAlike s places k j) 0 j ≡ firstFrom (λ k. labelsAlike s places k j) i (j - i))
+Inv-loop s n places j i₀ i =
+    (i ≤ j) × (firstFrom (λ k. labelsAlike s places k j) 0 j ≡ firstFrom (λ k. labelsAlike s places k j) i (j - i))
 
 abbrev μ-loop : tie.MeasureT-loop
 μ-loop s n places j i₀ i = j - i
 
 abbrev Inv-later : tie.InvT-later
-Inv-later s n places j₀ j = (j ≤ n) × (firstRepeat (labelsAlike s places) n ≡ firstFrom (repeats (labelsAlike s places)) j (n - j))
+Inv-later s n places j₀ j =
+    (j ≤ n) × (firstRepeat (labelsAlike s places) n ≡ firstFrom (repeats (labelsAlike s places)) j (n - j))
 
 abbrev μ-later : tie.MeasureT-later
 μ-later s n places j₀ j = n - j
@@ -48,7 +48,11 @@ array-read-same-labels-2 : tie.Need-array-read-same-labels-2 Inv-loop μ-loop In
 array-read-same-labels-2 c = search needs
 
 same-labels-requires : tie.Need-same-labels-requires Inv-loop μ-loop Inv-later μ-later
-same-labels-requires c κs = (c .before .before .before .before .before .pre .1, c .before .before .before .before .before .pre .2 (c .before .loop .i) (omega arith), c .before .before .before .before .before .pre .2 (c .before .before .before .later .j) (omega arith))
+same-labels-requires c κs =
+    let pre = c .before .before .before .before .before .pre in
+    let l = c .before .loop in
+    let o = c .before .before .before .later in
+    (pre .1, pre .2 (l .i) (omega arith), pre .2 (o .j) (omega arith))
 
 add-i : tie.Need-add-i Inv-loop μ-loop Inv-later μ-later
 add-i c = search needs
@@ -58,10 +62,13 @@ loop-less c = omega arith
 
 loop-again : tie.Need-loop-again Inv-loop μ-loop Inv-later μ-later
 loop-again c =
-    let alike = labelsAlike (now (c .before .before .before .before .before .before .before .args .s)) (c .before .before .before .before .before .before .before .args .t2) in
-    let j = c .before .before .before .before .before .later .j in
-    let e = sym (c .before .same-labels .ensures) ∙ c .if2 .left in
-    (omega arith, c .before .before .before .loop .inv .1 ∙ search-step (λ k. alike k j) (c .before .before .before .loop .i) j (omega arith) ∙ simp e)
+    let a = c .before .before .before .before .before .before .before .args in
+    let o = c .before .before .before .before .before .later in
+    let l = c .before .before .before .loop in
+    let alike = labelsAlike (now (a .s)) (a .t2) in
+    let other = sym (c .before .same-labels .ensures) ∙ c .if2 .left in
+    let step = search-step (λ k. alike k (o .j)) (l .i) (o .j) (omega arith) in
+    (omega arith, l .inv .1 ∙ step ∙ simp other)
 
 add-j : tie.Need-add-j Inv-loop μ-loop Inv-later μ-later
 add-j c = search needs
@@ -71,21 +78,31 @@ later-less c = omega arith
 
 later-again : tie.Need-later-again Inv-loop μ-loop Inv-later μ-later
 later-again c =
-    let alike = labelsAlike (now (c .before .before .before .before .before .args .s)) (c .before .before .before .before .before .args .t2) in
-    let e = repeats-none alike (c .before .loop .i) (c .before .before .before .later .j) (omega arith) (omega arith) (c .before .loop .inv .1) in
-    (omega arith, c .before .before .before .later .inv .1 ∙ search-step (repeats alike) (c .before .before .before .later .j) (c .before .before .before .before .before .args .n) (omega arith) ∙ simp e)
+    let a = c .before .before .before .before .before .args in
+    let o = c .before .before .before .later in
+    let l = c .before .loop in
+    let alike = labelsAlike (now (a .s)) (a .t2) in
+    let none = repeats-none alike (l .i) (o .j) (omega arith) (omega arith) (l .inv .1) in
+    let step = search-step (repeats alike) (o .j) (a .n) (omega arith) in
+    (omega arith, o .inv .1 ∙ step ∙ simp none)
 
 returns : tie.Need-returns Inv-loop μ-loop Inv-later μ-later
 returns c =
-    let e : c .before .later .j ≡ c .before .before .before .args .n = omega arith in
-    sym (c .before .later .inv .1 ∙ rw e (search-end (repeats (labelsAlike (now (c .before .before .before .args .s)) (c .before .before .before .args .t2))) (c .before .before .before .args .n)))
+    let a = c .before .before .before .args in
+    let o = c .before .later in
+    let end : o .j ≡ a .n = omega arith in
+    sym (o .inv .1 ∙ rw end (search-end (repeats (labelsAlike (now (a .s)) (a .t2))) (a .n)))
 
 returns-2 : tie.Need-returns-2 Inv-loop μ-loop Inv-later μ-later
 returns-2 c =
-    let alike = labelsAlike (now (c .before .before .before .before .before .before .before .args .s)) (c .before .before .before .before .before .before .before .args .t2) in
+    let a = c .before .before .before .before .before .before .before .args in
+    let o = c .before .before .before .before .before .later in
+    let l = c .before .before .before .loop in
+    let alike = labelsAlike (now (a .s)) (a .t2) in
     let same = sym (c .before .same-labels .ensures) ∙ c .if2 .taken in
-    let e = repeats-found alike (c .before .before .before .loop .i) (c .before .before .before .before .before .later .j) (omega arith) (c .before .before .before .loop .inv .1) same in
-    sym (c .before .before .before .before .before .later .inv .1 ∙ search-step (repeats alike) (c .before .before .before .before .before .later .j) (c .before .before .before .before .before .before .before .args .n) (omega arith) ∙ simp e)
+    let found = repeats-found alike (l .i) (o .j) (omega arith) (l .inv .1) same in
+    let step = search-step (repeats alike) (o .j) (a .n) (omega arith) in
+    sym (o .inv .1 ∙ step ∙ simp found)
 
 pub first-label-spec : {M : Type 1} → statement M
 first-label-spec =

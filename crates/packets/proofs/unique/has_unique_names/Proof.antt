@@ -1,14 +1,10 @@
-use mathlib.Core.Path.{_≡_, refl, sym, _∙_, ap}
-use mathlib.Core.Bool.{Bool, true, false, _||_}
-use mathlib.Core.List.{List, [], _∷_, _++_}
-use Prim.Native.Nat.{ℕ, _+_, _-_, _*_, _<_, _≤_, _%_}
-use native.Mathlib.Omega.{arith}
-use native.Mathlib.Nat.{sub-zero}
-use lib.ListN.{length, getD, take, drop}
+use Prim.Native.Nat.{_-_}
+use borrow.Author.Tests.{eq-eqb, ne-eqb}
+use Prim.Native.Nat.{_-_}
 use denote.Ref.{now}
-use borrow.Author.Tests.{le-ltb, lt-ltb, le-leb, lt-leb, eq-eqb, ne-eqb, not-true, not-false}
-use Rattle.packets.specs.NamesTest.{namesTest, placesFrom}
-use Rattle.packets.proofs.NameSteps.{place-first, places-rest, places-again, places-done, shorts-again, all-places, all-names, all-labels}
+use borrow.Author.Tests.{eq-eqb, ne-eqb}
+use Rattle.packets.specs.NamesTest.{namesTest}
+use Rattle.packets.proofs.NameSteps.{all-places, all-names, all-labels}
 use borrow.Author.Needs.{needs}
 use Rattle.packets.proofs.unique.has_unique_names.Statement.{statement}
 use Rattle.packets.proofs.unique.has_unique_names.Tie as tie
@@ -23,16 +19,21 @@ record-places-requires : tie.Need-record-places-requires
 record-places-requires c κs = search needs
 
 first-label-requires : tie.Need-first-label-requires
-first-label-requires c κs = (c .before .before .pre .0, c .before .before .pre .1, all-places _ _ _ _ (c .record-places .ensures) (c .before .before .pre .2))
+first-label-requires c κs =
+    let pre = c .before .before .pre in
+    (pre .0, pre .1, all-places _ _ _ _ (c .record-places .ensures) (pre .2))
 
 returns : tie.Need-returns
 unfolding namesTest
 returns c =
-    let e = all-labels (now (c .before .before .before .before .args .s)) (c .before .before .before .before .args .count) _ _ (c .before .before .record-places .ensures) in
-    rw (← e, ← c .before .first-label .ensures, ne-eqb _ _ (c .if1 .taken))
+    let a = c .before .before .before .before .args in
+    let labels = all-labels (now (a .s)) (a .count) _ _ (c .before .before .record-places .ensures) in
+    rw (← labels, ← c .before .first-label .ensures, ne-eqb _ _ (c .if1 .taken))
 
 short-names-requires : tie.Need-short-names-requires
-short-names-requires c κs = (c .before .before .before .before .pre .0, c .before .before .before .before .pre .1, all-places _ _ _ _ (c .before .before .record-places .ensures) (c .before .before .before .before .pre .2))
+short-names-requires c κs =
+    let pre = c .before .before .before .before .pre in
+    (pre .0, pre .1, all-places _ _ _ _ (c .before .before .record-places .ensures) (pre .2))
 
 first-repeat-requires : tie.Need-first-repeat-requires
 first-repeat-requires c κs = search needs
@@ -40,9 +41,12 @@ first-repeat-requires c κs = search needs
 returns-2 : tie.Need-returns-2
 unfolding namesTest
 returns-2 c =
-    let e = all-labels (now (c .before .before .before .before .before .before .args .s)) (c .before .before .before .before .before .before .args .count) _ _ (c .before .before .before .before .record-places .ensures) in
-    let f = all-names (now (c .before .before .before .before .before .before .args .s)) (c .before .before .before .before .before .before .args .count) _ _ _ (c .before .before .before .before .record-places .ensures) (c .before .short-names .ensures) in
-    rw (← e, ← f, ← c .before .before .before .first-label .ensures, eq-eqb _ _ (c .before .before .if1 .left), ← c .first-repeat .ensures)
+    let a = c .before .before .before .before .before .before .args in
+    let places = c .before .before .before .before .record-places .ensures in
+    let labels = all-labels (now (a .s)) (a .count) _ _ places in
+    let names = all-names (now (a .s)) (a .count) _ _ _ places (c .before .short-names .ensures) in
+    let first = c .before .before .before .first-label .ensures in
+    rw (← labels, ← names, ← first, eq-eqb _ _ (c .before .before .if1 .left), ← c .first-repeat .ensures)
 
 pub has-unique-names-spec : {M : Type 1} → statement M
 has-unique-names-spec =

@@ -1,14 +1,11 @@
-use mathlib.Core.Path.{_≡_, refl, sym, _∙_, ap}
-use mathlib.Core.Bool.{Bool, true, false, _||_}
-use mathlib.Core.List.{List, [], _∷_, _++_}
-use Prim.Native.Nat.{ℕ, _+_, _-_, _*_, _<_, _≤_, _%_}
+use mathlib.Core.Path.{_≡_}
+use mathlib.Core.List.{_++_}
+use Prim.Native.Nat.{_+_, _-_, _≤_}
 use native.Mathlib.Omega.{arith}
 use native.Mathlib.Nat.{sub-zero}
-use lib.ListN.{length, getD, take, drop}
-use denote.Ref.{now}
-use borrow.Author.Tests.{le-ltb, lt-ltb, le-leb, lt-leb, eq-eqb, ne-eqb, not-true, not-false}
+use lib.ListN.{length, take}
 use Rattle.packets.specs.NamesTest.{placesFrom, FieldPlaces}
-use Rattle.packets.proofs.NameSteps.{place-first, places-rest, places-again, places-done, shorts-again, all-places, all-names, all-labels}
+use Rattle.packets.proofs.NameSteps.{place-first, places-rest, places-again, places-done}
 use borrow.Author.Needs.{needs}
 use Rattle.packets.proofs.unique.record_places.Statement.{statement}
 use Rattle.packets.proofs.unique.record_places.Tie as tie
@@ -46,8 +43,10 @@ loop-again : tie.Need-loop-again Inv-loop μ-loop
 loop-again c = (
   omega arith,
   search needs,
-  rw (c .parts-at .ensures) (places-rest _ _ (c .before .before .loop .i) _ (omega arith) (c .before .before .loop .inv .2)),
-  rw (c .parts-at .ensures) (places-again _ _ (c .before .before .loop .i) _ (c .before .before .loop .places) _ (omega arith) (omega arith) (c .before .before .loop .inv .3)),
+  rw (c .parts-at .ensures) (places-rest _ _ (c .before .before .loop .i) _ (omega arith)
+      (c .before .before .loop .inv .2)),
+  rw (c .parts-at .ensures) (places-again _ _ (c .before .before .loop .i) _ (c .before .before .loop .places) _
+      (omega arith) (omega arith) (c .before .before .loop .inv .3)),
 )
 
 returns : tie.Need-returns Inv-loop μ-loop

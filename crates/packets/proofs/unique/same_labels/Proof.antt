@@ -1,12 +1,6 @@
-use mathlib.Core.Path.{_≡_, refl, sym, _∙_, ap}
-use mathlib.Core.Bool.{Bool, true, false, _||_}
-use mathlib.Core.List.{List, [], _∷_, _++_}
-use Prim.Native.Nat.{ℕ, _+_, _-_, _*_, _<_, _≤_, _%_}
+use mathlib.Core.Path.{sym, _∙_}
+use Prim.Native.Nat.{_-_}
 use native.Mathlib.Omega.{arith}
-use native.Mathlib.Nat.{sub-zero}
-use lib.ListN.{length, getD, take, drop}
-use denote.Ref.{now}
-use borrow.Author.Tests.{le-ltb, lt-ltb, le-leb, lt-leb, eq-eqb, ne-eqb, not-true, not-false}
 use Rattle.packets.specs.NamesTest.{labelAt}
 use borrow.Author.Needs.{needs}
 use Rattle.packets.proofs.unique.same_labels.Statement.{statement}
@@ -23,10 +17,14 @@ parts-at-requires-2 : tie.Need-parts-at-requires-2
 parts-at-requires-2 c κs = search needs
 
 add-a-end : tie.Need-add-a-end
-add-a-end c = let z = rw (sym (c .before .before .before .before .parts-at .ensures)) at (c .before .before .before .before .before .before .pre .1 .inside .label) in omega arith
+add-a-end c =
+    let z = rw (sym (c .before .before .before .before .parts-at .ensures)) at
+    (c .before .before .before .before .before .before .pre .1 .inside .label) in omega arith
 
 add-b-end : tie.Need-add-b-end
-add-b-end c = let z = rw (sym (c .before .before .before .before .parts-at2 .ensures)) at (c .before .before .before .before .before .before .before .pre .2 .inside .label) in omega arith
+add-b-end c =
+    let z = rw (sym (c .before .before .before .before .parts-at2 .ensures)) at
+    (c .before .before .before .before .before .before .before .pre .2 .inside .label) in omega arith
 
 sub-same-words : tie.Need-sub-same-words
 sub-same-words c = search needs
@@ -35,7 +33,9 @@ part-same-words-start : tie.Need-part-same-words-start
 part-same-words-start c = search needs
 
 part-same-words-end : tie.Need-part-same-words-end
-part-same-words-end c = let z = rw (sym (c .before .before .before .before .before .parts-at .ensures)) at (c .before .before .before .before .before .before .before .pre .1 .inside .label) in omega arith
+part-same-words-end c =
+    let z = rw (sym (c .before .before .before .before .before .parts-at .ensures)) at
+    (c .before .before .before .before .before .before .before .pre .1 .inside .label) in omega arith
 
 sub-same-words-2 : tie.Need-sub-same-words-2
 sub-same-words-2 c = search needs
@@ -44,14 +44,20 @@ part-same-words-start-2 : tie.Need-part-same-words-start-2
 part-same-words-start-2 c = search needs
 
 part-same-words-end-2 : tie.Need-part-same-words-end-2
-part-same-words-end-2 c = let z = rw (sym (c .before .before .before .before .before .parts-at2 .ensures)) at (c .before .before .before .before .before .before .before .before .pre .2 .inside .label) in omega arith
+part-same-words-end-2 c =
+    let z = rw (sym (c .before .before .before .before .before .parts-at2 .ensures)) at
+    (c .before .before .before .before .before .before .before .before .pre .2 .inside .label) in omega arith
 
 same-words-requires : tie.Need-same-words-requires
 same-words-requires c κs = search needs
 
 returns : tie.Need-returns
 unfolding labelAt
-returns c = c .same-words .ensures ∙ rw (c .before .before .before .before .before .before .before .before .parts-at .ensures, c .before .before .before .before .before .before .before .parts-at2 .ensures)
+returns c =
+    c .same-words .ensures ∙ rw (
+      c .before .before .before .before .before .before .before .before .parts-at .ensures,
+      c .before .before .before .before .before .before .before .parts-at2 .ensures,
+    )
 
 pub same-labels-spec : {M : Type 1} → statement M
 same-labels-spec =

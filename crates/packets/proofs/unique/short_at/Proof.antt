@@ -1,12 +1,6 @@
-use mathlib.Core.Path.{_≡_, refl, sym, _∙_, ap}
-use mathlib.Core.Bool.{Bool, true, false, _||_}
-use mathlib.Core.List.{List, [], _∷_, _++_}
-use Prim.Native.Nat.{ℕ, _+_, _-_, _*_, _<_, _≤_, _%_}
+use mathlib.Core.Path.{sym, _∙_}
+use Prim.Native.Nat.{_-_}
 use native.Mathlib.Omega.{arith}
-use native.Mathlib.Nat.{sub-zero}
-use lib.ListN.{length, getD, take, drop}
-use denote.Ref.{now}
-use borrow.Author.Tests.{le-ltb, lt-ltb, le-leb, lt-leb, eq-eqb, ne-eqb, not-true, not-false}
 use Rattle.packets.specs.NamesTest.{shortAt}
 use borrow.Author.Needs.{needs}
 use Rattle.packets.proofs.unique.short_at.Statement.{statement}
@@ -20,7 +14,9 @@ parts-at-requires : tie.Need-parts-at-requires
 parts-at-requires c κs = search needs
 
 add-end : tie.Need-add-end
-add-end c = let z = rw (sym (c .before .before .parts-at .ensures)) at (c .before .before .before .before .pre .1 .inside .short) in omega arith
+add-end c =
+    let z = rw (sym (c .before .before .parts-at .ensures)) at
+    (c .before .before .before .before .pre .1 .inside .short) in omega arith
 
 sub-held-name : tie.Need-sub-held-name
 sub-held-name c = omega arith
@@ -29,7 +25,9 @@ part-held-name-start : tie.Need-part-held-name-start
 part-held-name-start c = omega arith
 
 part-held-name-end : tie.Need-part-held-name-end
-part-held-name-end c = let z = rw (sym (c .before .before .parts-at .ensures)) at (c .before .before .before .before .pre .1 .inside .short) in omega arith
+part-held-name-end c =
+    let z = rw (sym (c .before .before .parts-at .ensures)) at
+    (c .before .before .before .before .pre .1 .inside .short) in omega arith
 
 held-name-requires : tie.Need-held-name-requires
 held-name-requires c κs = search needs

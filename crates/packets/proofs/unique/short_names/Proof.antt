@@ -1,14 +1,10 @@
-use mathlib.Core.Path.{_≡_, refl, sym, _∙_, ap}
-use mathlib.Core.Bool.{Bool, true, false, _||_}
-use mathlib.Core.List.{List, [], _∷_, _++_}
-use Prim.Native.Nat.{ℕ, _+_, _-_, _*_, _<_, _≤_, _%_}
+use mathlib.Core.Path.{_≡_, refl}
+use Prim.Native.Nat.{_-_, _≤_}
 use native.Mathlib.Omega.{arith}
-use native.Mathlib.Nat.{sub-zero}
-use lib.ListN.{length, getD, take, drop}
+use lib.ListN.{length, take}
 use denote.Ref.{now}
-use borrow.Author.Tests.{le-ltb, lt-ltb, le-leb, lt-leb, eq-eqb, ne-eqb, not-true, not-false}
-use Rattle.packets.specs.NamesTest.{shortAt, shortsAt}
-use Rattle.packets.proofs.NameSteps.{place-first, places-rest, places-again, places-done, shorts-again, all-places, all-names, all-labels}
+use Rattle.packets.specs.NamesTest.{shortsAt}
+use Rattle.packets.proofs.NameSteps.{shorts-again}
 use borrow.Author.Needs.{needs}
 use Rattle.packets.proofs.unique.short_names.Statement.{statement}
 use Rattle.packets.proofs.unique.short_names.Tie as tie
@@ -17,7 +13,8 @@ use Rattle.packets.proofs.unique.short_names.Lts as lts
 use Rattle.packets.proofs.unique.short_at.Reads as short-at-reads
 
 abbrev Inv-loop : tie.InvT-loop
-Inv-loop s count places names₀ i₀ names i = (i ≤ count) × (length names ≡ 64) × (take i names ≡ shortsAt s (take i places))
+Inv-loop s count places names₀ i₀ names i =
+    (i ≤ count) × (length names ≡ 64) × (take i names ≡ shortsAt s (take i places))
 
 abbrev μ-loop : tie.MeasureT-loop
 μ-loop s count places names₀ i₀ names i = count - i
@@ -32,7 +29,8 @@ array-read-short-at : tie.Need-array-read-short-at Inv-loop μ-loop
 array-read-short-at c = search needs
 
 short-at-requires : tie.Need-short-at-requires Inv-loop μ-loop
-short-at-requires c κs = (c .before .before .before .pre .1, c .before .before .before .pre .2 (c .before .loop .i) (omega arith))
+short-at-requires c κs =
+    (c .before .before .before .pre .1, c .before .before .before .pre .2 (c .before .loop .i) (omega arith))
 
 mul-names : tie.Need-mul-names Inv-loop μ-loop
 mul-names c = search needs
@@ -50,11 +48,15 @@ loop-again : tie.Need-loop-again Inv-loop μ-loop
 loop-again c = (
   omega arith,
   search needs,
-  shorts-again (now (c .before .before .before .before .args .s)) _ (c .before .before .loop .names) (c .before .before .loop .i) _ (omega arith) (search needs) (c .before .before .loop .inv .2) (c .short-at .ensures),
+  shorts-again (now (c .before .before .before .before .args .s)) _ (c .before .before .loop .names)
+      (c .before .before .loop .i) _ (omega arith) (search needs) (c .before .before .loop .inv .2)
+      (c .short-at .ensures),
 )
 
 returns : tie.Need-returns Inv-loop μ-loop
-returns c = let e : c .before .loop .i ≡ c .before .before .before .args .count = omega arith in rw e at (c .before .loop .inv .2)
+returns c =
+    let e : c .before .loop .i ≡ c .before .before .before .args .count = omega arith in rw e at
+    (c .before .loop .inv .2)
 
 pub short-names-spec : {M : Type 1} → statement M
 short-names-spec =

@@ -1,9 +1,7 @@
-use Rattle.packets.specs.Steps.{fieldStep}
-use mathlib.Core.Path.{_≡_, refl, sym, _∙_}
-use native.Mathlib.Omega.{arith}
 use denote.Ref.{now}
-use borrow.Author.Tests.{eq-eqb, ne-eqb, le-leb, lt-leb, lt-ltb, le-ltb}
-use Rattle.packets.specs.Walks.{stepAfter, runWith}
+use borrow.Author.Tests.{eq-eqb, ne-eqb}
+use Rattle.packets.specs.Steps.{fieldStep}
+use Rattle.packets.specs.Walks.{stepAfter}
 use Rattle.packets.proofs.StepLaws.{found-field, found-stop}
 use borrow.Author.Needs.{needs}
 use Rattle.packets.proofs.walks.one_field.Statement.{statement}
@@ -28,7 +26,17 @@ same-length c = search needs
 
 returns : tie.Need-returns
 unfolding stepAfter
-returns c = let e = found-field (fieldStep (now (c .before .before .before .before .before .before .before .before .before .before .before .before .before .before .args .table)) (now (c .before .before .before .before .before .before .before .before .before .before .before .before .before .before .args .packet)) (now (c .before .before .before .before .before .before .before .before .before .before .before .before .before .before .args .run)) (c .before .before .before .before .before .before .before .before .before .before .before .before .before .before .args .p) (c .before .before .before .before .before .before .before .before .before .before .before .before .before .before .args .later) (c .before .before .before .before .before .before .before .before .before .before .before .before .before .before .args .place)) _ _ (sym (c .before .before .before .before .before .before .before .before .before .field-step .ensures) ∙ c .before .before .before .before .before .before .before .found .given .1) in (rw (e, eq-eqb _ 0 (c .if1 .taken)), rw e (c .before .before .before .before .put .ensures))
+returns c =
+    let c₈ = c .before .before .before .before .before .before .before .before in
+    let a = c₈ .before .before .before .before .before .before .args in
+    let field-step = c₈ .before .field-step in
+    let found = c .before .before .before .before .before .before .before .found in
+    let put = c .before .before .before .before .put in
+    let if1 = c .if1 in
+    let st =
+    fieldStep (now (a .s)) (now (a .packet)) (now (a .run)) (a .p) (a .n) (a .bit) in
+    let e = found-field (field-step .result) st _ _ (field-step .ensures) (found .given .1) in
+    (rw (e, eq-eqb _ 0 (if1 .taken)), rw e (put .ensures))
 
 kept-at-requires : tie.Need-kept-at-requires
 kept-at-requires c κs = search needs
@@ -41,14 +49,32 @@ same-length-2 c = search needs
 
 returns-2 : tie.Need-returns-2
 unfolding stepAfter
-returns-2 c = let e = found-field (fieldStep (now (c .before .before .before .before .before .before .before .before .before .before .before .before .before .before .before .before .args .table)) (now (c .before .before .before .before .before .before .before .before .before .before .before .before .before .before .before .before .args .packet)) (now (c .before .before .before .before .before .before .before .before .before .before .before .before .before .before .before .before .args .run)) (c .before .before .before .before .before .before .before .before .before .before .before .before .before .before .before .before .args .p) (c .before .before .before .before .before .before .before .before .before .before .before .before .before .before .before .before .args .later) (c .before .before .before .before .before .before .before .before .before .before .before .before .before .before .before .before .args .place)) _ _ (sym (c .before .before .before .before .before .before .before .before .before .before .before .field-step .ensures) ∙ c .before .before .before .before .before .before .before .before .before .found .given .1) in (rw (e, ne-eqb _ 0 (c .before .before .if1 .left), ← c .before .before .before .before .before .before .put .ensures) (c .kept-at .ensures), rw e (c .before .before .before .before .before .before .put .ensures))
+returns-2 c =
+    let c₈ = c .before .before .before .before .before .before .before .before in
+    let a = c₈ .before .before .before .before .before .before .before .before .args in
+    let field-step = c₈ .before .before .before .field-step in
+    let found = c₈ .before .found in
+    let put = c .before .before .before .before .before .before .put in
+    let if1 = c .before .before .if1 in
+    let kept-at = c .kept-at in
+    let st =
+    fieldStep (now (a .s)) (now (a .packet)) (now (a .run)) (a .p) (a .n) (a .bit) in
+    let e = found-field (field-step .result) st _ _ (field-step .ensures) (found .given .1) in
+    (rw (e, ne-eqb _ 0 (if1 .left), ← put .ensures) (kept-at .ensures), rw e (put .ensures))
 
 same-length-3 : tie.Need-same-length-3
 same-length-3 c = search needs
 
 returns-3 : tie.Need-returns-3
 unfolding stepAfter
-returns-3 c = let e = found-stop (fieldStep (now (c .before .before .before .before .before .before .before .before .args .table)) (now (c .before .before .before .before .before .before .before .before .args .packet)) (now (c .before .before .before .before .before .before .before .before .args .run)) (c .before .before .before .before .before .before .before .before .args .p) (c .before .before .before .before .before .before .before .before .args .later) (c .before .before .before .before .before .before .before .before .args .place)) _ (sym (c .before .before .before .field-step .ensures) ∙ c .before .found2 .given .1) in (rw e, rw e)
+returns-3 c =
+    let a = c .before .before .before .before .before .before .before .before .args in
+    let field-step = c .before .before .before .field-step in
+    let found2 = c .before .found2 in
+    let st =
+    fieldStep (now (a .s)) (now (a .packet)) (now (a .run)) (a .p) (a .n) (a .bit) in
+    let e = found-stop (field-step .result) st _ (field-step .ensures) (found2 .given .1) in
+    (rw e, rw e)
 
 pub one-field-spec : {M : Type 1} → statement M
 one-field-spec =

@@ -1,14 +1,14 @@
-use Rattle.packets.specs.Steps.{fieldStep}
-use mathlib.Core.Path.{_≡_, refl, sym, _∙_}
+use mathlib.Core.Path.{_≡_, refl, _∙_}
 use native.Mathlib.Omega.{arith}
 use denote.Ref.{now}
-use borrow.Author.Tests.{eq-eqb, ne-eqb, le-leb, lt-leb, lt-ltb, le-ltb}
-use Prim.Native.Nat.{_+_, _-_, _*_, _≤_, _<_, _/_}
-use Rattle.packets.specs.Walks.{Walk, walkAll, walkFrom, walkAnswer, Leaves}
+use borrow.Author.Tests.{eq-eqb, ne-eqb, lt-ltb, le-ltb}
+use Prim.Native.Nat.{_-_, _≤_}
+use Rattle.packets.specs.Steps.{fieldStep}
+use Rattle.packets.specs.Walks.{walkAll, walkFrom, walkAnswer}
 use native.Mathlib.Nat.{sub-zero}
 use lib.ListN.{length}
 use Rattle.rules.specs.Reading.{bitTotal}
-use Rattle.packets.proofs.WalkLaws.{length-with, walk-to, walk-stop, walk-end, step-inside}
+use Rattle.packets.proofs.PacketWalk.{length-with, walk-to, walk-stop, walk-end, step-inside}
 use borrow.Author.Needs.{needs}
 use Rattle.packets.proofs.walks.walk_fields.Statement.{statement}
 use Rattle.packets.proofs.walks.walk_fields.Tie as tie
@@ -20,7 +20,9 @@ use Rattle.packets.proofs.walks.one_field.Reads as one-field-reads
 use Rattle.packets.proofs.walks.refused.Reads as refused-reads
 
 abbrev Inv-loop : tie.InvT-loop
-Inv-loop table packet run₀ n total at₀ place₀ i₀ run at place i = (i ≤ n) × (place ≤ bitTotal packet) × (length run ≡ length run₀) × (walkAll table packet run₀ ≡ walkFrom table packet (n - i) i run place at)
+Inv-loop table packet run₀ n total at₀ place₀ i₀ run at place i =
+    (i ≤ n) × (place ≤ bitTotal packet) × (length run ≡ length run₀)
+    × (walkAll table packet run₀ ≡ walkFrom table packet (n - i) i run place at)
 
 abbrev μ-loop : tie.MeasureT-loop
 μ-loop table packet run₀ n total at₀ place₀ i₀ run at place i = n - i
@@ -30,7 +32,12 @@ two-at-requires c κs = search needs
 
 returns : tie.Need-returns Inv-loop μ-loop
 unfolding walkAll walkAnswer
-returns c = let e = lt-ltb 64 _ (c .if1 .taken) in let k = c .before .two-at .ensures .0 in (rw (← k, e), rw (← k, e) tt)
+returns c =
+    let two-at = c .before .two-at in
+    let if1 = c .if1 in
+    let e = lt-ltb 64 _ (if1 .taken) in
+    let k = two-at .ensures .0 in
+    (rw (← k, e), rw (← k, e) tt)
 
 mul-total : tie.Need-mul-total Inv-loop μ-loop
 mul-total c = search needs
@@ -40,7 +47,12 @@ two-at-requires-2 c κs = search needs
 
 loop-holds : tie.Need-loop-holds Inv-loop μ-loop
 unfolding walkAll
-loop-holds c = (omega arith, omega arith, refl, rw (← c .before .before .two-at .ensures .0, ← c .two-at2 .ensures .0, le-ltb 64 _ (c .before .if1 .left), sub-zero))
+loop-holds c =
+    let two-at = c .before .before .two-at in
+    let if1 = c .before .if1 in
+    let two-at2 = c .two-at2 in
+    let few = le-ltb 64 _ (if1 .left) in
+    (omega arith, omega arith, refl, rw (← two-at .ensures .0, ← two-at2 .ensures .0, few, sub-zero))
 
 record-at-requires : tie.Need-record-at-requires Inv-loop μ-loop
 record-at-requires c κs = search needs
@@ -54,8 +66,8 @@ sub-one-field-2 c = search needs
 one-field-requires : tie.Need-one-field-requires Inv-loop μ-loop
 one-field-requires c κs = search needs
 
-enum-known-moved : tie.Need-enum-known-moved Inv-loop μ-loop
-enum-known-moved c = search needs
+enum-known-found : tie.Need-enum-known-found Inv-loop μ-loop
+enum-known-found c = search needs
 
 enum-told : tie.Need-enum-told Inv-loop μ-loop
 enum-told c = search needs
@@ -71,7 +83,23 @@ same-length c = search needs
 
 returns-2 : tie.Need-returns-2 Inv-loop μ-loop
 unfolding walkAnswer
-returns-2 c = let h = c .before .before .before .before .before .before .before .before .before .loop .inv .3 ∙ walk-stop (now (c .before .before .before .before .before .before .before .before .before .before .before .before .before .before .before .before .args .table)) (now (c .before .before .before .before .before .before .before .before .before .before .before .before .before .before .before .before .args .packet)) (c .before .before .before .before .before .before .before .before .before .loop .run) (c .before .before .before .before .before .before .before .before .before .before .before .before .two-at .result) (c .before .before .before .before .before .before .before .before .before .loop .i) (c .before .before .before .before .before .before .before .before .before .loop .place) (c .before .before .before .before .before .before .before .before .before .loop .at) (c .before .before .before .before .before .before .before .record-at .result) (c .before .before .before .before .before .one-field .result) (c .before .before .before .before .before .one-field .last .1 .1 .0) (omega arith) (c .before .before .before .before .before .before .before .record-at .ensures) (c .before .before .before .before .before .one-field .ensures .0) _ (c .before .enum-told .given .1) in (rw h (c .refused .ensures ∙ rw (c .before .enum-told .given .1)), rw h tt)
+returns-2 c =
+    let c₈ = c .before .before .before .before .before .before .before .before in
+    let a = c₈ .before .before .before .before .before .before .before .before .args in
+    let two-at = c₈ .before .before .before .before .two-at in
+    let l = c₈ .before .loop in
+    let loop-test = c₈ .loop-test in
+    let record-at = c .before .before .before .before .before .before .before .record-at in
+    let one-field = c .before .before .before .before .before .one-field in
+    let enum-told = c .before .enum-told in
+    let refused = c .refused in
+    let told = enum-told .given .1 in
+    let h =
+    l .inv .3
+    ∙ walk-stop (now (a .table)) (now (a .packet)) (l .run) (two-at .result) (l .i) (l .place) (l .at)
+    (record-at .result) (one-field .result) (one-field .last .1 .1 .0) (loop-test .taken) (record-at .ensures)
+    (one-field .ensures .0) _ told in
+    (rw h (refused .ensures ∙ rw told), rw h tt)
 
 add-i : tie.Need-add-i Inv-loop μ-loop
 add-i c = search needs
@@ -80,21 +108,62 @@ loop-less : tie.Need-loop-less Inv-loop μ-loop
 loop-less c = search needs
 
 loop-again : tie.Need-loop-again Inv-loop μ-loop
-loop-again c = let h = walk-to (now (c .before .before .before .before .before .before .before .before .before .before .before .before .before .before .before .before .args .table)) (now (c .before .before .before .before .before .before .before .before .before .before .before .before .before .before .before .before .args .packet)) (c .before .before .before .before .before .before .before .before .before .loop .run) (c .before .before .before .before .before .before .before .before .before .before .before .before .two-at .result) (c .before .before .before .before .before .before .before .before .before .loop .i) (c .before .before .before .before .before .before .before .before .before .loop .place) (c .before .before .before .before .before .before .before .before .before .loop .at) (c .before .before .before .before .before .before .before .record-at .result) (c .before .before .before .before .before .one-field .result) (c .before .before .before .before .before .one-field .last .1 .1 .0) (omega arith) (c .before .before .before .before .before .before .before .record-at .ensures) (c .before .before .before .before .before .one-field .ensures .0) _ (c .before .before .before .before .before .one-field .ensures .1) (c .before .moved .given .1) in (omega arith, step-inside (now (c .before .before .before .before .before .before .before .before .before .before .before .before .before .before .before .before .args .table)) (now (c .before .before .before .before .before .before .before .before .before .before .before .before .before .before .before .before .args .packet)) (c .before .before .before .before .before .before .before .before .before .loop .run) (c .before .before .before .before .before .before .before .before .before .loop .i) (c .before .before .before .before .before .before .before .record-at .result) _ (c .before .before .before .before .before .before .before .before .before .loop .place) _ (c .before .before .before .before .before .before .before .before .before .loop .inv .1) (sym (c .before .before .before .before .before .one-field .ensures .0) ∙ c .before .moved .given .1), rw (c .before .before .before .before .before .one-field .ensures .1) (length-with (c .before .before .before .before .before .before .before .before .before .loop .run) (c .before .before .before .before .before .before .before .before .before .loop .i) (fieldStep (now (c .before .before .before .before .before .before .before .before .before .before .before .before .before .before .before .before .args .table)) (now (c .before .before .before .before .before .before .before .before .before .before .before .before .before .before .before .before .args .packet)) (c .before .before .before .before .before .before .before .before .before .loop .run) (c .before .before .before .before .before .before .before .record-at .result) (c .before .before .before .before .before .before .before .before .before .before .before .before .two-at .result - c .before .before .before .before .before .before .before .before .before .loop .i - 1) (c .before .before .before .before .before .before .before .before .before .loop .place))) ∙ c .before .before .before .before .before .before .before .before .before .loop .inv .2, c .before .before .before .before .before .before .before .before .before .loop .inv .3 ∙ h)
+loop-again c =
+    let c₈ = c .before .before .before .before .before .before .before .before in
+    let a = c₈ .before .before .before .before .before .before .before .before .args in
+    let two-at = c₈ .before .before .before .before .two-at in
+    let l = c₈ .before .loop in
+    let loop-test = c₈ .loop-test in
+    let record-at = c .before .before .before .before .before .before .before .record-at in
+    let one-field = c .before .before .before .before .before .one-field in
+    let found = c .before .found in
+    let to = found .given .1 in
+    let later = two-at .result - l .i - 1 in
+    let st = fieldStep (now (a .table)) (now (a .packet)) (l .run) (record-at .result) later (l .place) in
+    let h =
+    walk-to (now (a .table)) (now (a .packet)) (l .run) (two-at .result) (l .i) (l .place) (l .at) (record-at .result)
+    (one-field .result) (one-field .last .1 .1 .0) (loop-test .taken) (record-at .ensures) (one-field .ensures .0)
+    _ _ (one-field .ensures .1) to in
+    let inside =
+    step-inside (now (a .table)) (now (a .packet)) (l .run) (l .i) (record-at .result) later (l .place)
+    (one-field .result) _ _ (l .inv .1) (one-field .ensures .0) to in (
+      omega arith,
+      inside,
+      rw (one-field .ensures .1) (length-with (l .run) (l .i) st) ∙ l .inv .2,
+      l .inv .3 ∙ h,
+    )
 
 same-length-2 : tie.Need-same-length-2 Inv-loop μ-loop
 same-length-2 c = search needs
 
 returns-3 : tie.Need-returns-3 Inv-loop μ-loop
 unfolding walkAnswer
-returns-3 c = let e : c .before .before .loop .i ≡ c .before .before .before .before .before .two-at .result = omega arith in let h = rw e at (c .before .before .loop .inv .3) ∙ walk-end (now (c .before .before .before .before .before .before .before .before .before .args .table)) (now (c .before .before .before .before .before .before .before .before .before .args .packet)) (c .before .before .loop .run) (c .before .before .before .before .before .two-at .result) (c .before .before .loop .place) (c .before .before .loop .at) in (rw (h, eq-eqb _ _ (c .if2 .taken)), rw h refl)
+returns-3 c =
+    let c₈ = c .before .before .before .before .before .before .before .before in
+    let a = c₈ .before .args in
+    let two-at = c .before .before .before .before .before .two-at in
+    let l = c .before .before .loop in
+    let if2 = c .if2 in
+    let e : l .i ≡ two-at .result = omega arith in
+    let h =
+    rw e at (l .inv .3) ∙ walk-end (now (a .table)) (now (a .packet)) (l .run) (two-at .result) (l .place) (l .at) in
+    (rw (h, eq-eqb _ _ (if2 .taken)), rw h refl)
 
 same-length-3 : tie.Need-same-length-3 Inv-loop μ-loop
 same-length-3 c = search needs
 
 returns-4 : tie.Need-returns-4 Inv-loop μ-loop
 unfolding walkAnswer
-returns-4 c = let e : c .before .before .loop .i ≡ c .before .before .before .before .before .two-at .result = omega arith in let h = rw e at (c .before .before .loop .inv .3) ∙ walk-end (now (c .before .before .before .before .before .before .before .before .before .args .table)) (now (c .before .before .before .before .before .before .before .before .before .args .packet)) (c .before .before .loop .run) (c .before .before .before .before .before .two-at .result) (c .before .before .loop .place) (c .before .before .loop .at) in (rw (h, ne-eqb _ _ (c .if2 .left)), rw h refl)
+returns-4 c =
+    let c₈ = c .before .before .before .before .before .before .before .before in
+    let a = c₈ .before .args in
+    let two-at = c .before .before .before .before .before .two-at in
+    let l = c .before .before .loop in
+    let if2 = c .if2 in
+    let e : l .i ≡ two-at .result = omega arith in
+    let h =
+    rw e at (l .inv .3) ∙ walk-end (now (a .table)) (now (a .packet)) (l .run) (two-at .result) (l .place) (l .at) in
+    (rw (h, ne-eqb _ _ (if2 .left)), rw h refl)
 
 pub walk-fields-spec : {M : Type 1} → statement M
 walk-fields-spec =
@@ -111,7 +180,7 @@ walk-fields-spec =
     sub-one-field
     sub-one-field-2
     one-field-requires
-    enum-known-moved
+    enum-known-found
     enum-told
     add-refused
     refused-requires
