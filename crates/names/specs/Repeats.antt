@@ -1,5 +1,5 @@
--- The first of some things that is like an earlier one, and names held as arrays of 8 bytes.
--- This mirrors the code: no public promise rests on this file.
+-- The first of some things that is like an earlier one, and names held as arrays of 8 bytes, zeros for none.
+-- [01, The form for each place]
 use mathlib.Core.Bool.{Bool, cond, _&&_, not}
 use mathlib.Core.List.{List, [], _∷_}
 use Prim.Native.Nat.{ℕ, zero, suc}
@@ -32,3 +32,7 @@ sameName a b = not (eqb (getD a 0 0) 0) && same a b
 
 abbrev pub namesAlike : List (List ℕ) → ℕ → ℕ → Bool
 namesAlike names i j = sameName (getD names i []) (getD names j [])
+
+-- n, or most where n is more
+abbrev pub atMost : ℕ → ℕ → ℕ
+atMost most n = cond (ltb most n) most n

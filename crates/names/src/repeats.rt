@@ -3,7 +3,7 @@ use crate::words::same_words;
 ghost use mathlib.Core.Path.{_≡_};
 ghost use Prim.Native.Nat.{_≤_};
 ghost use lib.ListN.{getD};
-ghost use Rattle.names.specs.Repeats.{padTo, sameName, namesAlike, firstRepeat};
+ghost use Rattle.names.specs.Repeats.{padTo, sameName, namesAlike, firstRepeat, atMost};
 
 // A byte, 0 behind the end.
 fn byte_of(w: &[u8], i: usize) -> u8
@@ -39,7 +39,7 @@ pub fn same_name(a: [u8; 8], b: [u8; 8]) -> bool
 }
 
 // The first of n names that repeats an earlier one, else n.
-pub fn first_repeat(names: [[u8; 8]; 64], n: usize) -> usize
+fn repeat_below(names: [[u8; 8]; 64], n: usize) -> usize
     requires { ⌜ n ≤ 64 ⌝ }
     ensures { λ r. ⌜ r ≡ firstRepeat (namesAlike names) n ⌝ }
 {
@@ -57,4 +57,14 @@ pub fn first_repeat(names: [[u8; 8]; 64], n: usize) -> usize
         }
         j += 1;
     }
+}
+
+// The same for the first n names, or for all where there are fewer.
+pub fn first_repeat(names: [[u8; 8]; 64], n: usize) -> usize
+    ensures { λ r. ⌜ r ≡ firstRepeat (namesAlike names) (atMost 64 n) ⌝ }
+{
+    if 64 < n {
+        return repeat_below(names, 64);
+    }
+    repeat_below(names, n)
 }

@@ -12,7 +12,7 @@
 -- PacketPromises, PartPromises      from the walk to the promises
 -- WriteLaws, LinesWritten           writing one byte, and one line, behind the other
 -- LinesStored, ListingTexts, ListingStored   what is written by a table is its description's listing
--- LookupSteps, LookupStored         records by index and fields by name
+-- LookupSteps, LookupStored, LookupPromises   records by index and fields by name
 pub mod Products
 pub mod TreeSteps
 pub mod TreeCodes
@@ -53,3 +53,4 @@ pub mod ListingTexts
 pub mod ListingStored
 pub mod LookupSteps
 pub mod LookupStored
+pub mod LookupPromises

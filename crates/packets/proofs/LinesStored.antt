@@ -35,7 +35,7 @@ kind-fixed (measured u t) = refl
 kind-fixed rest = refl
 
 -- a label that stands in a part is inside the table
-label-inside : (s : List ℕ) (at end : ℕ) (l : List ℕ) → isLabel l ≡ true → Stands s at l end → end ≤ length s
+pub label-inside : (s : List ℕ) (at end : ℕ) (l : List ℕ) → isLabel l ≡ true → Stands s at l end → end ≤ length s
 unfolding isLabel all
 label-inside s at end [] h p = absurd (false≢true h)
 label-inside s at end (x ∷ l) h p = stands-some s at end x l p

@@ -8,7 +8,7 @@ use native.Mathlib.Omega.{arith}
 use native.Mathlib.Nat.{add-zero}
 use native.Mathlib.Numerals.{add-one}
 use lib.Dec.{ltb, eqb}
-use lib.ListN.{length, take, drop, length-append}
+use lib.ListN.{length, take, drop, getElem?, length-append}
 use lib.Seq.{take-at}
 use borrow.Author.Tests.{le-ltb, eq-eqb, ne-eqb}
 use Rattle.base.specs.Lists.{all, any, same, ifAny, listOf, joined, firstBreak}
@@ -128,3 +128,39 @@ module _ (s : List ℕ) (end : ℕ) (r : List ℕ) (short : end ≤ tableMost) w
           ≡ cond b (accepted i) (firstNamed name (suc i) fs)
       go true ih = refl
       go false ih = ih
+
+  -- the record of an index that there is
+  pub record Placed (fs : List (Field ℕ)) (i place : ℕ) : Type 0 where
+    pub field : Field ℕ
+    pub element : getElem? fs i ≡ some field
+    pub place-is : placeFrom s i place ≡ place + length (joined storedField (take i fs))
+    pub label-is : isLabel (field .label) ≡ true
+    pub parts-are : PartsStand s (partsAt s (placeFrom s i place)) field
+    pub is-low : placeFrom s i place ≤ tableMost
+
+  pub place-stored : (fs before : List (Field ℕ)) (i place : ℕ) → firstBreak keepsForm before fs ≡ none
+      → firstBreak keepsSize before fs ≡ none → Stands s place (joined storedField fs ++ r) end → i < length fs → Placed fs i place
+  unfolding placeFrom joined
+  place-stored [] before i place hf hs p lt = absurd (omega arith)
+  place-stored (f ∷ fs) before zero place hf hs p lt = let w = front f fs before place hf hs p in record {
+    field = f;
+    element = refl;
+    place-is = omega arith;
+    label-is = w .label;
+    parts-are = w .parts;
+    is-low = w .low;
+  }
+  place-stored (f ∷ fs) before (suc i) place hf hs p lt =
+      let w = front f fs before place hf hs p in
+      let ih = place-stored fs (before ++ (f ∷ [])) i (place + length (storedField f)) (w .formed) (w .sized) (w .more)
+      (omega arith) in
+      let e : placeFrom s (suc i) place ≡ placeFrom s i (place + length (storedField f))
+      = rw (le-ltb tableMost place (w .low), w .next) in
+      record {
+        field = ih .field;
+        element = ih .element;
+        place-is = e ∙ omega (arith, ih .place-is, length-append (storedField f) (joined storedField (take i fs)));
+        label-is = ih .label-is;
+        parts-are = rw e (ih .parts-are);
+        is-low = rw e (ih .is-low);
+      }

@@ -3,12 +3,17 @@ use crate::records::Parts;
 use crate::records::Span;
 use crate::records::parts_at;
 use crate::records::two_at;
+use crate::tables::check_table;
 use names::words::same_words;
 use rules::FieldAnswer;
+use rules::TableAnswer;
 ghost use mathlib.Core.Path.{_≡_};
 ghost use Prim.Native.Nat.{_≤_};
+ghost use denote.Ref.{ptr};
 ghost use Rattle.base.specs.Places.{twoAt};
-ghost use Rattle.packets.specs.Lookups.{placeFrom, isNamedIn, hasName, findFrom};
+ghost use Rattle.rules.specs.Promises.{FindsField};
+ghost use Rattle.packets.specs.FieldBytes.{LendsLabel};
+ghost use Rattle.packets.specs.Lookups.{placeFrom, isNamedIn, hasName, findFrom, OnTable};
 
 const TABLE_MOST: usize = 32768;
 
@@ -76,4 +81,54 @@ fn find_from(table: &[u8], name: &[u8], n: usize, place: usize) -> FieldAnswer
         i += 1;
     }
     FieldAnswer::Unknown
+}
+
+// The index of the first field that has the name as its label or short name.
+pub fn field_index(table: &[u8], name: &[u8]) -> FieldAnswer
+    ensures { λ r. ⌜ FindsField (now (table .entry)) (now (name .entry)) r ⌝ }
+{
+    let checked = check_table(table);
+    let TableAnswer::Good(size) = checked else {
+        return FieldAnswer::NotGood;
+    };
+    let n = two_at(table, 6);
+    let first = two_at(table, 0);
+    find_from(table, name, n, first)
+}
+
+// Where the label of the field of an index lies in the table.
+fn find_label(table: &[u8], index: usize) -> Span
+    ensures { λ r. ⌜ OnTable (now (table .entry)) index r ⌝ }
+{
+    let none = Span { at: 0, len: 0 };
+    let checked = check_table(table);
+    let TableAnswer::Good(size) = checked else {
+        return none;
+    };
+    if two_at(table, 6) <= index {
+        return none;
+    }
+    let place = place_behind(table, index);
+    if TABLE_MOST < place {
+        return none;
+    }
+    let parts = parts_at(table, place);
+    let label = parts.label;
+    if table.len() < label.at {
+        return none;
+    }
+    if table.len() - label.at < label.len {
+        return none;
+    }
+    label
+}
+
+// The label of the field of an index, as that part of the table.
+pub fn field_label<'a>(table: &'a [u8], index: usize) -> &'a [u8]
+    ensures { λ r. ⌜ LendsLabel (now (table .entry)) index (now r) (ptr (table .entry)) (ptr r) ⌝ }
+{
+    let label = find_label(table, index);
+    let start = label.at;
+    let end = start + label.len;
+    &table[start..end]
 }

@@ -1,5 +1,7 @@
+use Prim.Native.Nat.{_≤_}
+use native.Mathlib.Omega.{arith}
 use Prim.Native.Nat.{_-_}
-use borrow.Author.Tests.{eq-eqb, ne-eqb}
+use borrow.Author.Tests.{eq-eqb, ne-eqb, le-ltb}
 use Prim.Native.Nat.{_-_}
 use denote.Ref.{now}
 use borrow.Author.Tests.{eq-eqb, ne-eqb}
@@ -46,7 +48,9 @@ returns-2 c =
     let labels = all-labels (now (a .s)) (a .count) _ _ places in
     let names = all-names (now (a .s)) (a .count) _ _ _ places (c .before .short-names .ensures) in
     let first = c .before .before .before .first-label .ensures in
-    rw (← labels, ← names, ← first, eq-eqb _ _ (c .before .before .if1 .left), ← c .first-repeat .ensures)
+    let few : a .count ≤ 64 = omega (arith, c .before .before .before .before .before .before .pre .0) in
+    let r = rw (le-ltb 64 (a .count) few) at (c .first-repeat .ensures) in
+    rw (← labels, ← names, ← first, eq-eqb _ _ (c .before .before .if1 .left), ← r)
 
 pub has-unique-names-spec : {M : Type 1} → statement M
 has-unique-names-spec =
