@@ -7,8 +7,18 @@ use lib.Dec.{eqb}
 use Rattle.rules.specs.declared.Fault.{Fault}
 use Rattle.rules.specs.declared.TableAnswer.{TableAnswer}
 use Rattle.rules.specs.declared.PacketAnswer.{PacketAnswer}
-use Rattle.rules.specs.Answers.{Answer, faultNumber, ofTable, ofPacket}
-use Rattle.rules.specs.Promises.{Outcome, ChecksTable, ReadsPacket, HandsPart}
+use Rattle.rules.specs.declared.FieldAnswer.{FieldAnswer}
+use Rattle.rules.specs.declared.ListingAnswer.{ListingAnswer}
+use Rattle.rules.specs.Answers.{Answer, faultNumber, ofTable, ofPacket, ofField, ofListing}
+use Rattle.rules.specs.Promises.{
+  Outcome,
+  ChecksTable,
+  ReadsPacket,
+  HandsPart,
+  ListsPacket,
+  FindsField,
+  HandsLabel,
+}
 use Rattle.laws.proofs.Decidable.{good-decidable}
 
 -- ── an answer is known by its number, place and value ──
@@ -44,6 +54,24 @@ packet-back (PacketAnswer.Refused Fault.AbsentRead i) = refl
 packet-back (PacketAnswer.Refused Fault.OutOfRange i) = refl
 packet-back PacketAnswer.LeftOver = refl
 
+fieldOf : Answer → FieldAnswer
+fieldOf a =
+    cond (eqb (a .number) 0) (FieldAnswer.At (a .value)) (cond (eqb (a .number) 21) FieldAnswer.NotGood FieldAnswer.Unknown)
+
+field-back : (r : FieldAnswer) → fieldOf (ofField r) ≡ r
+unfolding fieldOf ofField
+field-back (FieldAnswer.At i) = refl
+field-back FieldAnswer.NotGood = refl
+field-back FieldAnswer.Unknown = refl
+
+listingOf : Answer → ListingAnswer
+listingOf a = cond (eqb (a .number) 0) (ListingAnswer.Written (a .value)) ListingAnswer.NoRoom
+
+listing-back : (r : ListingAnswer) → listingOf (ofListing r) ≡ r
+unfolding listingOf ofListing
+listing-back (ListingAnswer.Written n) = refl
+listing-back ListingAnswer.NoRoom = refl
+
 pub table-number : (a b : TableAnswer) → ofTable a ≡ ofTable b → a ≡ b
 table-number a b e = sym (table-back a) ∙ ap tableOf e ∙ table-back b
 
@@ -67,5 +95,24 @@ packet-settled table packet run a b after other p q =
 pub part-settled : (table packet : List ℕ) (i : ℕ) (bytes others : List ℕ) (start other : ℕ)
     → HandsPart table packet i bytes start → HandsPart table packet i others other → (bytes ≡ others) × (start ≡ other)
 part-settled table packet i bytes others start other p q =
+    let g = good-decidable table in
+    (p .content g ∙ sym (q .content g), p .place g ∙ sym (q .place g))
+
+pub listing-settled : (table packet out : List ℕ) (a b : ListingAnswer) (after other : List ℕ)
+    → ListsPacket table packet out a after → ListsPacket table packet out b other → (a ≡ b) × (after ≡ other)
+listing-settled table packet out a b after other p q =
+    let g = good-decidable table in
+    let e = p g ∙ sym (q g) in
+    let n = ap (λ (o : Outcome). listingOf (o .answer)) e in
+    (sym (listing-back a) ∙ n ∙ listing-back b, ap (λ (o : Outcome). o .buffer) e)
+
+pub index-settled : (table name : List ℕ) (a b : FieldAnswer) → FindsField table name a → FindsField table name b → a ≡ b
+index-settled table name a b p q =
+    let g = good-decidable table in
+    sym (field-back a) ∙ ap fieldOf (p g ∙ sym (q g)) ∙ field-back b
+
+pub label-settled : (table : List ℕ) (i : ℕ) (bytes others : List ℕ) (start other : ℕ)
+    → HandsLabel table i bytes start → HandsLabel table i others other → (bytes ≡ others) × (start ≡ other)
+label-settled table i bytes others start other p q =
     let g = good-decidable table in
     (p .content g ∙ sym (q .content g), p .place g ∙ sym (q .place g))

@@ -21,6 +21,14 @@ pub class-letter : (b : ℕ) → b < 256 → eqb (classOf b) 1 ≡ isLetter b
 unfolding any operator operators isLetter isDigit isOperator isSpace classOf
 class-letter = agree (λ b. eqb (classOf b) 1) isLetter 256 refl
 
+pub class-operator : (b : ℕ) → b < 256 → eqb (classOf b) 3 ≡ isOperator b
+unfolding any operator operators isLetter isDigit isOperator isSpace classOf
+class-operator = agree (λ b. eqb (classOf b) 3) isOperator 256 refl
+
+pub class-space : (b : ℕ) → b < 256 → eqb (classOf b) 4 ≡ isSpace b
+unfolding any operator operators isLetter isDigit isOperator isSpace classOf
+class-space = agree (λ b. eqb (classOf b) 4) isSpace 256 refl
+
 pub class-word : (b : ℕ) → b < 256 → (eqb (classOf b) 1 || eqb (classOf b) 2) ≡ isWordByte b
 unfolding any operator operators isLetter isDigit isOperator isSpace classOf isWordByte
 class-word = agree (λ b. eqb (classOf b) 1 || eqb (classOf b) 2) isWordByte 256 refl

@@ -26,7 +26,7 @@ padTo zero w = []
 padTo (suc n) [] = 0 ∷ padTo n []
 padTo (suc n) (x ∷ w) = x ∷ padTo n w
 
--- both are the same name: zeros are none
+-- both are the same name; a held name is none where its first byte is 0
 unfoldable pub sameName : List ℕ → List ℕ → Bool
 sameName a b = not (eqb (getD a 0 0) 0) && same a b
 

@@ -1,6 +1,6 @@
 // The class of every byte value, in one constant table.
 ghost use mathlib.Core.Path.{_≡_};
-ghost use Rattle.rules.specs.Names.{classOf, isLetter, isWordByte, isNameByte};
+ghost use Rattle.rules.specs.Names.{classOf, isLetter, isOperator, isSpace, isWordByte, isNameByte};
 
 pub const LETTER: u8 = 1;
 
@@ -280,6 +280,18 @@ pub fn is_letter(b: u8) -> bool
     ensures { λ r. ⌜ r ≡ isLetter b ⌝ }
 {
     class_of(b) == LETTER
+}
+
+pub fn is_operator(b: u8) -> bool
+    ensures { λ r. ⌜ r ≡ isOperator b ⌝ }
+{
+    class_of(b) == OPERATOR
+}
+
+pub fn is_space(b: u8) -> bool
+    ensures { λ r. ⌜ r ≡ isSpace b ⌝ }
+{
+    class_of(b) == SPACE
 }
 
 // A letter or digit.

@@ -28,7 +28,7 @@ pub fn held_name(w: &[u8]) -> [u8; 8]
     name
 }
 
-// Both are the same name; zeros are none.
+// Both are the same name; one whose first byte is 0 is none.
 pub fn same_name(a: [u8; 8], b: [u8; 8]) -> bool
     ensures { λ r. ⌜ r ≡ sameName a b ⌝ }
 {
@@ -59,7 +59,7 @@ fn repeat_below(names: [[u8; 8]; 64], n: usize) -> usize
     }
 }
 
-// The same for the first n names, or for all where there are fewer.
+// The first of the first n names that repeats an earlier one; else n, or 64 where n is more.
 pub fn first_repeat(names: [[u8; 8]; 64], n: usize) -> usize
     ensures { λ r. ⌜ r ≡ firstRepeat (namesAlike names) (atMost 64 n) ⌝ }
 {

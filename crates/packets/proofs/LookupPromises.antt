@@ -13,10 +13,9 @@ use Rattle.rules.specs.Fields.{Field, Description}
 use Rattle.rules.specs.Stored.{recordOf, headBody, storedField, stored, Good}
 use Rattle.rules.specs.Answers.{Answer, ofTable, ofField}
 use Rattle.rules.specs.Reading.{Part, noPart, partBytes}
-use Rattle.rules.specs.Promises.{byTable, ChecksTable, FindsField, firstNamed, labelOf, labelBy}
+use Rattle.rules.specs.Promises.{byTable, ChecksTable, FindsField, firstNamed, labelOf, labelBy, movedBy, LendsLabel}
 use Rattle.packets.specs.declared.records.Span.{Span}
 use Rattle.packets.specs.Parts.{tableMost, spanOf, ending, partsAt}
-use Rattle.packets.specs.FieldBytes.{movedBy, LendsLabel}
 use Rattle.packets.specs.Lookups.{placeFrom, findFrom, OnTable}
 use Rattle.packets.proofs.TableHead.{table-length, head-first, head-count, fields-stand}
 use Rattle.packets.proofs.LinesStored.{label-inside}
@@ -111,7 +110,11 @@ module _ (table : List ℕ) (i : ℕ) where
 
 pub label-lent : (table : List ℕ) (i : ℕ) (r : Span) (bytes : List ℕ) (from at : ℕ × ℕ) → OnTable table i r
     → bytes ≡ take (r .len) (drop (r .at) table) → at ≡ movedBy (r .at) from → LendsLabel table i bytes from at
-label-lent table i r bytes from at on content place = record {
-  content = λ good. rw (← ap (λ (x : Span). x .at) (on .is good), ← ap (λ (x : Span). x .len) (on .is good)) content;
-  place = λ good. rw (← ap (λ (x : Span). x .at) (on .is good)) place;
-}
+label-lent table i r bytes from at on content place = (
+  r .at,
+  record {
+    content = λ good. rw (← ap (λ (x : Span). x .at) (on .is good), ← ap (λ (x : Span). x .len) (on .is good)) content;
+    place = λ good. ap (λ (x : Span). x .at) (on .is good);
+  },
+  place,
+)

@@ -28,12 +28,11 @@ use Rattle.rules.specs.Reading.{
   partIn,
 }
 use Rattle.rules.specs.Cover.{InOrder}
-use Rattle.rules.specs.Promises.{ChecksTable, partBy, HandsPart}
+use Rattle.rules.specs.Promises.{ChecksTable, partBy, movedBy, LendsPart}
 use Rattle.laws.proofs.Cover.{cover-in-order}
 use Rattle.laws.proofs.Decidable.{good-decidable}
 use Rattle.packets.specs.declared.readings.Bytes.{Bytes}
 use Rattle.packets.specs.FieldParts.{isAccepted, bytesOf, partAt, OnPacket}
-use Rattle.packets.specs.FieldBytes.{movedBy, Lends}
 use Rattle.packets.specs.RunRead.{ReadsRun}
 use Rattle.packets.proofs.RunEntries.{Begins, run-present, run-number}
 use Rattle.packets.proofs.PacketPromises.{
@@ -176,31 +175,13 @@ module _ (table packet : List ℕ) (i : ℕ) where
 
 pub field-handed : (table packet : List ℕ) (i : ℕ) (r : Bytes) (bytes : List ℕ) (from at : ℕ × ℕ)
     → OnPacket table packet i r → bytes ≡ take (r .size) (drop (r .start) packet) → at ≡ movedBy (r .start) from
-    → Lends table packet i bytes from at
-field-handed table packet i r bytes from at on content place = record {
-  content = λ good.
-      rw (← ap (λ (x : Bytes). x .start) (on .is good), ← ap (λ (x : Bytes). x .size) (on .is good)) content;
-  place = λ good. rw (← ap (λ (x : Bytes). x .start) (on .is good)) place;
-}
-
--- the promise with its start
-pub hands-part : (table packet : List ℕ) (i : ℕ) (bytes : List ℕ) (from at : ℕ × ℕ)
-    → Lends table packet i bytes from at
-    → (start : ℕ) × HandsPart table packet i bytes start × (at ≡ movedBy start from)
-hands-part table packet i bytes from at h =
-    let g = good-decidable table in (
-      partBy g packet i .start,
-      record {
-        content = h .content;
-        place = λ good. let e = ap (λ (p : ℕ × ℕ). p .1) (sym (h .place g) ∙ h .place good) in omega (arith, e);
-      },
-      h .place g,
-    )
-
--- one part for each input
-pub field-settled : (table packet : List ℕ) (i : ℕ) (bytes others : List ℕ) (from at other : ℕ × ℕ)
-    → Lends table packet i bytes from at → Lends table packet i others from other
-    → (bytes ≡ others) × (at ≡ other)
-field-settled table packet i bytes others from at other p q =
-    let g = good-decidable table in
-    (p .content g ∙ sym (q .content g), p .place g ∙ sym (q .place g))
+    → LendsPart table packet i bytes from at
+field-handed table packet i r bytes from at on content place = (
+  r .start,
+  record {
+    content = λ good.
+        rw (← ap (λ (x : Bytes). x .start) (on .is good), ← ap (λ (x : Bytes). x .size) (on .is good)) content;
+    place = λ good. ap (λ (x : Bytes). x .start) (on .is good);
+  },
+  place,
+)

@@ -11,8 +11,7 @@ ghost use mathlib.Core.Path.{_≡_};
 ghost use Prim.Native.Nat.{_≤_};
 ghost use denote.Ref.{ptr};
 ghost use Rattle.base.specs.Places.{twoAt};
-ghost use Rattle.rules.specs.Promises.{FindsField};
-ghost use Rattle.packets.specs.FieldBytes.{LendsLabel};
+ghost use Rattle.rules.specs.Promises.{FindsField, LendsLabel};
 ghost use Rattle.packets.specs.Lookups.{placeFrom, isNamedIn, hasName, findFrom, OnTable};
 
 const TABLE_MOST: usize = 32768;

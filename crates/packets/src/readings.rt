@@ -9,10 +9,9 @@ ghost use mathlib.Core.List.{_++_};
 ghost use Prim.Native.Nat.{_*_, _≤_, _<_};
 ghost use denote.Ref.{ptr};
 ghost use lib.ListN.{length, take, drop};
-ghost use Rattle.rules.specs.Promises.{ReadsPacket};
+ghost use Rattle.rules.specs.Promises.{ReadsPacket, LendsPart};
 ghost use Rattle.packets.specs.RunRead.{ReadsRun};
 ghost use Rattle.packets.specs.FieldParts.{isAccepted, partAt, OnPacket};
-ghost use Rattle.packets.specs.FieldBytes.{Lends};
 
 const PACKET_MOST: usize = 2048;
 
@@ -125,7 +124,7 @@ fn find_part(table: &[u8], packet: &[u8], index: usize) -> Bytes
 
 // The bytes of the field of an index, as that part of the packet.
 pub fn field_bytes<'a>(table: &[u8], packet: &'a [u8], index: usize) -> &'a [u8]
-    ensures { λ r. ⌜ Lends (now (table .entry)) (now (packet .entry)) index (now r) (ptr (packet .entry)) (ptr r) ⌝ }
+    ensures { λ r. ⌜ LendsPart (now (table .entry)) (now (packet .entry)) index (now r) (ptr (packet .entry)) (ptr r) ⌝ }
 {
     let part = find_part(table, packet, index);
     let start = part.start;

@@ -113,6 +113,15 @@ pub record HandsPart (table packet : List ℕ) (i : ℕ) (bytes : List ℕ) (sta
   pub content : (good : Dec (Good table)) → bytes ≡ partBytes packet (partBy good packet i)
   pub place : (good : Dec (Good table)) → start ≡ partBy good packet i .start
 
+-- the place n bytes behind a place: a place is a block and a count of bytes into it
+abbrev pub movedBy : ℕ → ℕ × ℕ → ℕ × ℕ
+movedBy n p = (p .0, n + p .1)
+
+-- the part is handed back as that very part of the packet, which lies at a place
+abbrev pub LendsPart : List ℕ → List ℕ → ℕ → List ℕ → ℕ × ℕ → ℕ × ℕ → Type 0
+LendsPart table packet i bytes from at =
+    (start : ℕ) × HandsPart table packet i bytes start × (at ≡ movedBy start from)
+
 -- ── a table's fields by name ──
 
 -- the index of the first field, counted from i, that has the name as its label or short name
@@ -139,6 +148,10 @@ labelBy good i = byTable good (λ d. labelOf d i (getElem? (d .fields) i)) noPar
 pub record HandsLabel (table : List ℕ) (i : ℕ) (bytes : List ℕ) (start : ℕ) : Type 0 where
   pub content : (good : Dec (Good table)) → bytes ≡ partBytes table (labelBy good i)
   pub place : (good : Dec (Good table)) → start ≡ labelBy good i .start
+
+-- the label is handed back as that very part of the table, which lies at a place
+abbrev pub LendsLabel : List ℕ → ℕ → List ℕ → ℕ × ℕ → ℕ × ℕ → Type 0
+LendsLabel table i bytes from at = (start : ℕ) × HandsLabel table i bytes start × (at ≡ movedBy start from)
 
 -- ── a packet's listing ──
 
