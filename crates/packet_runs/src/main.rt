@@ -1,0 +1,47 @@
+// Runs the library on the requests of its data folder, one to a line, and prints an answer line for each.
+mod answers;
+mod requests;
+mod words;
+
+use requests::answer_line;
+use words::find;
+ghost use mathlib.Core.Path.{_≡_};
+ghost use lib.ListN.{length};
+
+// Room for a file of requests.
+fn room() -> [u8; 524288]
+    ensures { λ r. ⌜ 524288 ≡ length r ⌝ }
+{
+    [0; 524288]
+}
+
+// The requests in order; each ends in LF.
+fn answer_all(requests: &[u8]) {
+    let mut at = 0;
+    while at < requests.len() {
+        let end = find(requests, at, b'\n');
+        answer_line(&requests[at..end]);
+        if end == requests.len() {
+            return;
+        }
+        at = end + 1;
+    }
+}
+
+fn run_file(path: &[u8]) {
+    let fd = os::open_read(path);
+    if fd < 0 {
+        os::fail(path);
+        return;
+    }
+    let mut requests = room();
+    let n = io::read_full(fd, &mut requests);
+    libc::close(fd);
+    answer_all(&requests[..n]);
+}
+
+fn main() {
+    run_file(b"marked");
+    run_file(b"tables");
+    run_file(b"packets");
+}
