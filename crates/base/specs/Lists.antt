@@ -66,7 +66,8 @@ Each R (x ∷ l) (y ∷ m) = R x y × Each R l m
 -- the index of the first element that does not keep a rule, which may look at the elements before it
 unfoldable pub firstBreak : {A : Type 0} → (List A → A → Bool) → List A → List A → Option ℕ
 firstBreak keeps before [] = none
-firstBreak keeps before (x ∷ l) = cond (keeps before x) (firstBreak keeps (before ++ (x ∷ [])) l) (some (length before))
+firstBreak keeps before (x ∷ l) = cond (keeps before x) (firstBreak keeps (before ++ (x ∷ [])) l) (some
+    (length before))
 
 -- the first that there is
 abbrev pub orElse : {A : Type 0} → Option A → Option A → Option A

@@ -81,7 +81,8 @@ module _ (before : List Entry) (f : Field ℕ) where
       present : Step
       present = andThen (widthAt packet before place later (f .width)) (bounded packet before place f)
 
-      widths : IsYes (holds before (f .condition)) → (v : Value) → KeptIn before f (andThen v (bounded packet before place f))
+      widths : IsYes (holds before (f .condition)) → (v : Value) → KeptIn before f (andThen v
+          (bounded packet before place f))
       widths y (value n) = bounded-kept y packet place n
       widths y (fault x) = tt
 

@@ -111,7 +111,8 @@ fields-behind packet entries all place (f ∷ fs) h =
     (λ more next. fields-behind packet more all next fs)
   where
     go : (s : Step) → Placed place s → readOn entries s (λ more next. readFields packet more next fs) ≡ complete all
-        → ((more : List Entry) (next : ℕ) → readFields packet more next fs ≡ complete all → Behind more next packet all)
+        → ((more : List Entry) (next : ℕ) → readFields packet more next fs ≡ complete all
+        → Behind more next packet all)
         → Behind entries place packet all
     go (step e next) p h ih = cons-behind packet entries all place next e p (ih (entries ++ (e ∷ [])) next h)
     go (stop f) p h ih = let z : _≡_ {A = ℕ} 0 1 = cc in absurd (omega arith)
@@ -143,14 +144,16 @@ order-from (e ∷ es) place end bit (suc j) (inr p) h =
     let q = order-from es (place + e .width) end bit j (p .2) h in omega arith
 
 -- what holds of one index behind the first entry, and not of the first, holds of one index
-later : (e : Entry) (es : List Entry) (bit : ℕ) → (LiesIn bit e → ⊥) → OnlyOne (Covers es bit) → OnlyOne (Covers (e ∷ es) bit)
+later : (e : Entry) (es : List Entry) (bit : ℕ) → (LiesIn bit e → ⊥) → OnlyOne (Covers es bit) → OnlyOne (Covers
+    (e ∷ es) bit)
 later e es bit not-here w = record { index = suc (w .index); has = w .has; only = only }
   where
     only : (j : ℕ) → Covers (e ∷ es) bit j → j ≡ suc (w .index)
     only zero h = absurd (not-here h)
     only (suc j) h = ap suc (w .only j h)
 
-order-only : (es : List Entry) (place end bit : ℕ) → InOrder place es end → place ≤ bit → bit < end → OnlyOne (Covers es bit)
+order-only : (es : List Entry) (place end bit : ℕ) → InOrder place es end → place ≤ bit → bit < end → OnlyOne
+    (Covers es bit)
 order-only [] place end bit p ge lt = absurd (omega arith)
 order-only (e ∷ es) place end bit (inl p) ge lt =
     later e es bit

@@ -56,7 +56,8 @@ packet-back PacketAnswer.LeftOver = refl
 
 fieldOf : Answer → FieldAnswer
 fieldOf a =
-    cond (eqb (a .number) 0) (FieldAnswer.At (a .value)) (cond (eqb (a .number) 21) FieldAnswer.NotGood FieldAnswer.Unknown)
+    cond (eqb (a .number) 0) (FieldAnswer.At (a .value)) (cond (eqb
+    (a .number) 21) FieldAnswer.NotGood FieldAnswer.Unknown)
 
 field-back : (r : FieldAnswer) → fieldOf (ofField r) ≡ r
 unfolding fieldOf ofField
@@ -106,7 +107,8 @@ listing-settled table packet out a b after other p q =
     let n = ap (λ (o : Outcome). listingOf (o .answer)) e in
     (sym (listing-back a) ∙ n ∙ listing-back b, ap (λ (o : Outcome). o .buffer) e)
 
-pub index-settled : (table name : List ℕ) (a b : FieldAnswer) → FindsField table name a → FindsField table name b → a ≡ b
+pub index-settled : (table name : List ℕ) (a b : FieldAnswer) → FindsField table name a → FindsField table name b
+    → a ≡ b
 index-settled table name a b p q =
     let g = good-decidable table in
     sym (field-back a) ∙ ap fieldOf (p g ∙ sym (q g)) ∙ field-back b

@@ -39,6 +39,7 @@ name-word true b e = rw e
 name-word false b e = e
 
 -- a byte that is no letter or digit, in a label
-pub name-label : (label : Bool) (b : ℕ) → isWordByte b ≡ false → label ≡ true → isNameByte label b ≡ (eqb b 32 || eqb b 45)
+pub name-label : (label : Bool) (b : ℕ) → isWordByte b ≡ false → label ≡ true → isNameByte label b ≡
+    (eqb b 32 || eqb b 45)
 unfolding isLabelByte isSpace
 name-label label b e h = rw (h, e)

@@ -10,7 +10,8 @@ use lib.Seq.{drop-cons}
 use Rattle.rules.specs.Names.{isSpace, noTwoSpaces}
 
 pub spaces-step : (l : List ℕ) (i : ℕ) → suc i < length l
-    → noTwoSpaces (drop i l) ≡ (not (isSpace (getD l i 0) && isSpace (getD l (suc i) 0)) && noTwoSpaces (drop (suc i) l))
+    → noTwoSpaces (drop i l) ≡ (not (isSpace (getD l i 0) && isSpace (getD l (suc i) 0)) && noTwoSpaces (drop
+    (suc i) l))
 unfolding noTwoSpaces
 spaces-step l i h =
     let h₀ : i < length l = omega arith in
@@ -25,7 +26,8 @@ spaces-end (a ∷ b ∷ l) h = absurd (omega arith)
 
 -- the index i and the one before it
 module _ (l : List ℕ) (i : ℕ) (from : 1 ≤ i) (inside : i < length l) where
-  step : noTwoSpaces (drop (i - 1) l) ≡ (not (isSpace (getD l (i - 1) 0) && isSpace (getD l i 0)) && noTwoSpaces (drop i l))
+  step : noTwoSpaces (drop (i - 1) l) ≡ (not (isSpace (getD l (i - 1) 0) && isSpace (getD l i 0)) && noTwoSpaces
+      (drop i l))
   step = let e : suc (i - 1) ≡ i = omega arith in
       rw e at (spaces-step l (i - 1) (omega arith))
 
@@ -37,6 +39,7 @@ module _ (l : List ℕ) (i : ℕ) (from : 1 ≤ i) (inside : i < length l) where
   unfolding isSpace
   spaces-first n = step ∙ rw (ne-eqb _ _ n)
 
-  pub spaces-second : getD l (i - 1) 0 ≡ 32 → (getD l i 0 ≡ 32 → ⊥) → noTwoSpaces (drop (i - 1) l) ≡ noTwoSpaces (drop i l)
+  pub spaces-second : getD l (i - 1) 0 ≡ 32 → (getD l i 0 ≡ 32 → ⊥) → noTwoSpaces (drop (i - 1) l) ≡ noTwoSpaces
+      (drop i l)
   unfolding isSpace
   spaces-second e n = step ∙ rw (eq-eqb _ _ e, ne-eqb _ _ n)

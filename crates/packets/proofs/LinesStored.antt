@@ -61,7 +61,8 @@ line-stored s p run i f e h q r =
     )
     (simp append-assoc)
 
-pub lines-stored : (s run : List ℕ) (fs : List (Field ℕ)) (es : List Entry) (before : List (Field ℕ)) (i place end : ℕ) (r : List ℕ)
+pub lines-stored : (s run : List ℕ) (fs : List (Field ℕ)) (es : List Entry) (before : List (Field ℕ))
+    (i place end : ℕ) (r : List ℕ)
     → firstBreak keepsForm before fs ≡ none → firstBreak keepsSize before fs ≡ none
     → length es ≡ length fs → end ≤ tableMost → Stands s place (joined storedField fs ++ r) end
     → ((k : ℕ) → k < length es → entryIn run (i + k) ≡ getD es k absent)
@@ -80,9 +81,14 @@ lines-stored s run (f ∷ fs) (e ∷ es) before i place end r hf hs n le p q =
     let more = stands-right s place end (storedField f) _ p′ in
     let label = formed-parts f (kf .0) .0 in
     let here : entryIn run i ≡ e = rw add-zero at (q 0 (omega arith)) in
-    let ih = lines-stored s run fs es (before ++ (f ∷ [])) (i + 1) (place + length (storedField f)) end r (kf .1) (ks .1)
+    let ih = lines-stored s run fs es (before ++ (f ∷ [])) (i + 1) (place + length (storedField f)) end r (kf .1)
+    (ks .1)
     (omega arith) le more (λ k lt. next k lt) in
-    rw (le-ltb tableMost place (omega (arith, p .end)), line-stored s (partsAt s place) run i f e label (w .0) here, w .1)
+    rw (
+      le-ltb tableMost place (omega (arith, p .end)),
+      line-stored s (partsAt s place) run i f e label (w .0) here,
+      w .1,
+    )
     (ap (λ (t : List ℕ). (entryLine f e ++ (10 ∷ [])) ++ t) ih)
   where
     next : (k : ℕ) → k < length es → entryIn run (i + 1 + k) ≡ getD es k absent

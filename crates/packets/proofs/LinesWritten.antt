@@ -17,7 +17,8 @@ use Rattle.packets.proofs.WriteLaws.{writes-none, writes-join, state-le
 
 pub line-length : (s : List ℕ) (p : Parts) (run : List ℕ) (i : ℕ) → length (lineText s p run i) ≤ 75
 unfolding lineText
-line-length s p run i = go (ltb 40 (p .label .len)) refl (ltb (length s) (p .label .at) || ltb (length s - p .label .at) (p .label .len))
+line-length s p run i = go (ltb 40 (p .label .len)) refl (ltb (length s) (p .label .at) || ltb
+    (length s - p .label .at) (p .label .len))
   where
     text : List ℕ
     text =
@@ -33,7 +34,8 @@ line-length s p run i = go (ltb 40 (p .label .len)) refl (ltb (length s) (p .lab
         simp length-append (omega (arith, q, l, ltb-false 40 (p .label .len) e))
 
 -- what is written of the n lines once i of them are
-pub record Lines (before : List ℕ) (at : ℕ) (s : List ℕ) (place : ℕ) (run : List ℕ) (n : ℕ) (out : List ℕ) (next begin i : ℕ) : Type 0 where
+pub record Lines (before : List ℕ) (at : ℕ) (s : List ℕ) (place : ℕ) (run : List ℕ) (n : ℕ) (out : List ℕ)
+    (next begin i : ℕ) : Type 0 where
   pub inside : i ≤ n
   pub room : next ≤ at + 75 * i
   pub done : List ℕ
@@ -58,7 +60,8 @@ module _ {before : List ℕ} {at : ℕ} {s : List ℕ} {place : ℕ} {run : List
       let d : l .done ≡ linesFrom s run 0 n place = sym (append-nil (l .done)) ∙ rw e at (l .left) in
       rw d at (l .wrote)
 
-  pub lines-end : Lines before at s place run n out next begin i → n ≤ i → Writes before at (linesFrom s run 0 n place) out next
+  pub lines-end : Lines before at s place run n out next begin i → n ≤ i → Writes before at
+      (linesFrom s run 0 n place) out next
   unfolding linesFrom
   lines-end l h = ended l (let z : n - i ≡ 0 = omega arith in rw z)
 

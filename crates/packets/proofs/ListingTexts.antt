@@ -50,7 +50,8 @@ refused-lines d packet leftOver n = one-line (refusedLine 28 0)
 
 pub listing-refused : (d : Description) (packet : List ℕ) → (readingAnswer (reading d packet) packet .number ≡ 0 → ⊥)
     → listing d packet
-    ≡ refusedLine (readingAnswer (reading d packet) packet .number) (readingAnswer (reading d packet) packet .place) ++ (10 ∷ [])
+    ≡ refusedLine (readingAnswer (reading d packet) packet .number) (readingAnswer
+    (reading d packet) packet .place) ++ (10 ∷ [])
 listing-refused d packet n = refused-lines d packet (reading d packet) n
 
 -- and 0 is a complete reading
@@ -88,7 +89,8 @@ lines-length s run (suc n) i place = go (ltb tableMost place) (lines-length s ru
     more : List ℕ
     more = linesFrom s run (i + 1) n (partsAt s place .next)
 
-    go : (b : Bool) → length more ≤ 75 * n → length (cond b [] (lineText s (partsAt s place) run i ++ more)) ≤ 75 * suc n
+    go : (b : Bool) → length more ≤ 75 * n → length (cond b [] (lineText s
+        (partsAt s place) run i ++ more)) ≤ 75 * suc n
     go true h = omega arith
     go false h = rw (length-append (lineText s (partsAt s place) run i) more)
         (omega (arith, line-length s (partsAt s place) run i))

@@ -18,7 +18,8 @@ module _ (s : List ℕ) (n k place : ℕ) where
   unfolding placeFrom
   place-stop h t = let z : n - k ≡ suc (n - (k + 1)) = omega arith in rw (z, lt-ltb tableMost place t)
 
-  pub place-step : k < n → place ≤ tableMost → placeFrom s (n - k) place ≡ placeFrom s (n - (k + 1)) (partsAt s place .next)
+  pub place-step : k < n → place ≤ tableMost → placeFrom s (n - k) place ≡ placeFrom s (n - (k + 1))
+      (partsAt s place .next)
   unfolding placeFrom
   place-step h t = let z : n - k ≡ suc (n - (k + 1)) = omega arith in rw (z, le-ltb tableMost place t)
 

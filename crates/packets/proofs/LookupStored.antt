@@ -52,7 +52,8 @@ named-none : (s : List ℕ) (p : Span) (name : List ℕ) → In s p [] → isNam
 unfolding isNamedIn
 named-none s p name l = rw (eq-eqb (p .len) 0 (omega (arith, l .end)))
 
-named-label : (s : List ℕ) (p : Span) (name l : List ℕ) → isLabel l ≡ true → In s p l → isNamedIn s p name ≡ same name l
+named-label : (s : List ℕ) (p : Span) (name l : List ℕ) → isLabel l ≡ true → In s p l
+    → isNamedIn s p name ≡ same name l
 unfolding isLabel all
 named-label s p name [] h i = absurd (false≢true h)
 named-label s p name (x ∷ l) h i = named-some s p name x l i
@@ -89,7 +90,8 @@ module _ (s : List ℕ) (end : ℕ) (r : List ℕ) (short : end ≤ tableMost) w
     low : place ≤ tableMost
 
   front : (f : Field ℕ) (fs before : List (Field ℕ)) (place : ℕ) → firstBreak keepsForm before (f ∷ fs) ≡ none
-      → firstBreak keepsSize before (f ∷ fs) ≡ none → Stands s place (joined storedField (f ∷ fs) ++ r) end → Front f fs before place
+      → firstBreak keepsSize before (f ∷ fs) ≡ none → Stands s place (joined storedField (f ∷ fs) ++ r) end
+      → Front f fs before place
   unfolding joined
   front f fs before place hf hs p =
       let kf = firstBreak-cons keepsForm before f fs hf in
@@ -117,8 +119,13 @@ module _ (s : List ℕ) (end : ℕ) (r : List ℕ) (short : end ≤ tableMost) w
   find-stored name [] before i place hf hs p = refl
   find-stored name (f ∷ fs) before i place hf hs p =
       let w = front f fs before place hf hs p in
-      let ih = find-stored name fs (before ++ (f ∷ [])) (i + 1) (place + length (storedField f)) (w .formed) (w .sized) (w .more) in
-      rw (le-ltb tableMost place (w .low), has-name s (partsAt s place) name f (w .label) (w .name) (w .parts), w .next)
+      let ih = find-stored name fs (before ++ (f ∷ [])) (i + 1) (place + length (storedField f)) (w .formed)
+      (w .sized) (w .more) in
+      rw (
+        le-ltb tableMost place (w .low),
+        has-name s (partsAt s place) name f (w .label) (w .name) (w .parts),
+        w .next,
+      )
       (go (any (same name) (cellNames f)) (ih ∙ ap (λ (n : ℕ). firstNamed name n fs) (add-one i)))
     where
       go : (b : Bool)
@@ -139,7 +146,8 @@ module _ (s : List ℕ) (end : ℕ) (r : List ℕ) (short : end ≤ tableMost) w
     pub is-low : placeFrom s i place ≤ tableMost
 
   pub place-stored : (fs before : List (Field ℕ)) (i place : ℕ) → firstBreak keepsForm before fs ≡ none
-      → firstBreak keepsSize before fs ≡ none → Stands s place (joined storedField fs ++ r) end → i < length fs → Placed fs i place
+      → firstBreak keepsSize before fs ≡ none → Stands s place (joined storedField fs ++ r) end → i < length fs
+      → Placed fs i place
   unfolding placeFrom joined
   place-stored [] before i place hf hs p lt = absurd (omega arith)
   place-stored (f ∷ fs) before zero place hf hs p lt = let w = front f fs before place hf hs p in record {

@@ -111,7 +111,8 @@ after-inside s run i p total (step e m) q =
 after-inside s run i p total (stop f) q = tt
 
 pub step-inside : (s packet run : List ℕ) (i : ℕ) (p : Parts) (later place : ℕ) (found : Found)
-    (e : Numbers) (next : ℕ) → place ≤ bitTotal packet → found ≡ foundOf (stepAfter s run i p (fieldStep s packet run p later place))
+    (e : Numbers) (next : ℕ) → place ≤ bitTotal packet → found ≡ foundOf (stepAfter s run i p
+    (fieldStep s packet run p later place))
     → found ≡ Found.Field e next → next ≤ bitTotal packet
 step-inside s packet run i p later place found e next h goes to =
     let st = fieldStep s packet run p later place in

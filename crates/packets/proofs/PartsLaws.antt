@@ -31,7 +31,8 @@ use Rattle.packets.specs.PartsStand.{In, WidthStands, PartsStand}
 
 module _ (s : List ℕ) (a b : ℕ) (l : List ℕ) where
   pub counted-length : length l < 65536 → Stands s a (counted l) b → twoAt s a ≡ length l
-  counted-length h p = stands-two s a (a + length (le2 (length l))) (length l) (stands-left s a b (le2 (length l)) l p) h
+  counted-length h p = stands-two s a (a + length (le2 (length l))) (length l) (stands-left s a b (le2
+      (length l)) l p) h
 
   pub counted-in : length l < 65536 → Stands s a (counted l) b → In s (spanAt s a) l × (ending (spanAt s a) ≡ b)
   counted-in h p =
@@ -42,7 +43,8 @@ module _ (s : List ℕ) (a b : ℕ) (l : List ℕ) where
       let m : ending (spanAt s a) ≡ b = omega (arith, e, q′ .end) in
       (rw m q′, m)
 
-  pub counted-build : IsBytes s → a + 2 ≤ length s → ending (spanAt s a) ≡ b → In s (spanAt s a) l → Stands s a (counted l) b
+  pub counted-build : IsBytes s → a + 2 ≤ length s → ending (spanAt s a) ≡ b → In s (spanAt s a) l → Stands s a
+      (counted l) b
   counted-build h le m p =
       let e : twoAt s a ≡ length l = omega (arith, p .end) in
       stands-join s a (a + 2) b (le2 (length l)) l (rw e at (two-stands s a h le)) (rw m at p)

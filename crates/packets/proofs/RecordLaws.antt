@@ -41,8 +41,11 @@ kind-small rest = omega arith
 module _ (s : List ℕ) (a b n : ℕ) (l : List ℕ) where
   pub two-front : n < 65536 → Stands s a (le2 n ++ l) b → (twoAt s a ≡ n) × Stands s (a + 2) l b
   two-front h p =
-      let e : a + length (le2 n) ≡ a + 2 = rw (length-le2 n) in
-      (stands-two s a (a + length (le2 n)) n (stands-left s a b (le2 n) l p) h, rw e at (stands-right s a b (le2 n) l p))
+      let e : a + length (le2 n) ≡ a + 2 = rw (length-le2 n) in (
+        stands-two s a (a + length (le2 n)) n (stands-left s a b (le2 n) l p) h,
+        rw e at (stands-right s a b
+            (le2 n) l p),
+      )
 
   pub front-two : IsBytes s → a + 2 ≤ length s → twoAt s a ≡ n → Stands s (a + 2) l b → Stands s a (le2 n ++ l) b
   front-two h le e p = stands-join s a (a + 2) b (le2 n) l (rw e at (two-stands s a h le)) p
@@ -117,7 +120,8 @@ width-next s a (measured u t) = omega arith
 width-next s a rest = omega arith
 
 pub record-build : (s : List ℕ) (at : ℕ) (f : Field ℕ) → IsBytes s → partsAt s at .next ≤ length s
-    → at + twoAt s at ≡ partsAt s at .next → PartsStand s (partsAt s at) f → Stands s at (storedField f) (partsAt s at .next)
+    → at + twoAt s at ≡ partsAt s at .next → PartsStand s (partsAt s at) f → Stands s at (storedField f)
+    (partsAt s at .next)
 unfolding storedField fieldBody partsAt
 record-build s at f h le e p =
     let k = kindNumber (f .width) in
@@ -138,6 +142,12 @@ record-build s at f h le e p =
     let q₄ = front-width s (ending n) next (f .width) _ h (omega arith) pw q₅ in
     let q₃ = front-counted s (ending l) next (storedName (f .short)) _ h (omega arith) (p .short) q₄ in
     let q₂ = front-counted s (at + 4) next (f .label) _ h (omega arith) (p .label) q₃ in
-    let q₁ = front-two s (at + 2) next k _ h (omega arith) ek (moved s (at + 4) (at + 2 + 2) next _ (omega arith) q₂) in
-    let size : twoAt s at ≡ 4 + length (fieldBody f) = omega (arith, q₁ .end, length-append (le2 k) (fieldBody f), length-le2 k) in
+    let q₁ = front-two s (at + 2) next k _ h (omega arith) ek (moved s (at + 4) (at + 2 + 2) next _
+    (omega arith) q₂) in
+    let size : twoAt s at ≡ 4 + length (fieldBody f) = omega (
+      arith,
+      q₁ .end,
+      length-append (le2 k) (fieldBody f),
+      length-le2 k,
+    ) in
     rw ek (front-two s at next (4 + length (fieldBody f)) _ h (omega arith) size q₁)

@@ -25,9 +25,11 @@ use Rattle.packets.proofs.FieldBounds.{length-counted, field-sizes, bod
 -- ── lengths ──
 
 pub count-most : (d : Description) → Within d → length (d .fields) ≤ 64
-count-most d w = leb-true _ _ (and-true (leb 1 (length (d .fields))) (leb (length (d .fields)) fieldsMost) (w .count) .1)
+count-most d w = leb-true _ _ (and-true (leb 1 (length (d .fields))) (leb (length (d .fields)) fieldsMost)
+    (w .count) .1)
 
-fields-length : (before fs : List (Field ℕ)) → firstBreak keepsForm before fs ≡ none → firstBreak keepsSize before fs ≡ none
+fields-length : (before fs : List (Field ℕ)) → firstBreak keepsForm before fs ≡ none
+    → firstBreak keepsSize before fs ≡ none
     → length (joined storedField fs) ≤ 424 * length fs
 unfolding joined
 fields-length before [] hf hs = omega arith

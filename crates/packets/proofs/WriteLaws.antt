@@ -105,7 +105,8 @@ state-length fixed e = go (isPresent e) fixed
     go true false = simp length-append (omega (arith, o, w))
 
 -- what is written is inside the buffer
-pub writes-inside : {before after : List ℕ} {at next : ℕ} {w : List ℕ} → Writes before at w after next → at ≤ length before
+pub writes-inside : {before after : List ℕ} {at next : ℕ} {w : List ℕ} → Writes before at w after next
+    → at ≤ length before
     → next ≤ length before
 writes-inside {before} {after} {at} {next} {w} p h =
     let t = ap length (p .text) in

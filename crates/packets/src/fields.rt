@@ -90,7 +90,8 @@ fn is_measure(s: &[u8], marks: &[u8], parts: Parts) -> bool
 // The trees of the field of index i: its mark is set, for its constraint.
 pub(crate) fn has_trees(s: &[u8], parts: Parts, marks: &[u8], i: usize) -> bool
     requires { ⌜ (i < length (now marks)) × (length (now s) ≤ tableMost) × Inside (now s) parts ⌝ }
-    ensures { λ r. ⌜ r ≡ treesTest (now (s .entry)) (take i (now (marks .entry))) (take (i + 1) (now (marks .entry))) parts ⌝ }
+    ensures { λ r. ⌜ r ≡ treesTest (now (s .entry)) (take i (now (marks .entry))) (take (i + 1)
+        (now (marks .entry))) parts ⌝ }
 {
     if !is_measure(s, &marks[..i], parts) {
         return false;

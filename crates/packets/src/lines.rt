@@ -25,7 +25,8 @@ fn put_number(out: &mut [u8], at: usize, number: u32) -> usize
 // Offset, width and, for a fixed field, value.
 fn put_entry(out: &mut [u8], at: usize, run: &[u32], i: usize, fixed: bool) -> usize
     requires { ⌜ (at + 33 ≤ length (now out)) × (4 * i + 4 ≤ length (now run)) ⌝ }
-    ensures { λ r. ⌜ Writes (now (out .entry)) at (entryText fixed (entryIn (now (run .entry)) i)) (now (out .exit)) r ⌝ }
+    ensures { λ r. ⌜ Writes (now (out .entry)) at (entryText fixed (entryIn (now (run .entry)) i))
+        (now (out .exit)) r ⌝ }
 {
     let offset = put_number(out, at, run[4 * i + 1]);
     let width = put_number(out, offset, run[4 * i + 2]);
@@ -38,7 +39,8 @@ fn put_entry(out: &mut [u8], at: usize, run: &[u32], i: usize, fixed: bool) -> u
 // The entry, or that the field is absent.
 fn put_state(out: &mut [u8], at: usize, run: &[u32], i: usize, fixed: bool) -> usize
     requires { ⌜ (at + 33 ≤ length (now out)) × (4 * i + 4 ≤ length (now run)) ⌝ }
-    ensures { λ r. ⌜ Writes (now (out .entry)) at (stateText fixed (entryIn (now (run .entry)) i)) (now (out .exit)) r ⌝ }
+    ensures { λ r. ⌜ Writes (now (out .entry)) at (stateText fixed (entryIn (now (run .entry)) i))
+        (now (out .exit)) r ⌝ }
 {
     if run[4 * i] == 1 {
         return put_entry(out, at, run, i, fixed);
@@ -56,7 +58,8 @@ pub(crate) fn put_line(
     i: usize,
 ) -> usize
     requires { ⌜ (at + 75 ≤ length (now out)) × (4 * i + 4 ≤ length (now run)) ⌝ }
-    ensures { λ r. ⌜ Writes (now (out .entry)) at (lineText (now (table .entry)) parts (now (run .entry)) i) (now (out .exit)) r ⌝ }
+    ensures { λ r. ⌜ Writes (now (out .entry)) at (lineText (now (table .entry)) parts (now (run .entry)) i)
+        (now (out .exit)) r ⌝ }
 {
     let label = parts.label;
     let start = label.at;

@@ -38,7 +38,8 @@ pub(crate) fn put_lines(
     n: usize,
 ) -> usize
     requires { ⌜ (n ≤ 64) × (at + 75 * n ≤ length (now out)) × (4 * n ≤ length (now run)) ⌝ }
-    ensures { λ r. ⌜ Writes (now (out .entry)) at (linesFrom (now (table .entry)) (now (run .entry)) 0 n place) (now (out .exit)) r ⌝ }
+    ensures { λ r. ⌜ Writes (now (out .entry)) at (linesFrom (now (table .entry))
+        (now (run .entry)) 0 n place) (now (out .exit)) r ⌝ }
     ensures { λ r. ⌜ r ≤ at + 75 * n ⌝ }
 {
     let mut next = at;
@@ -115,7 +116,8 @@ fn list_into(out: &mut [u8], table: &[u8], packet: &[u8]) -> usize
 // The first n bytes of a buffer into the output, where there is room.
 fn deliver(out: &mut [u8], from: &[u8], n: usize) -> ListingAnswer
     requires { ⌜ n ≤ length (now from) ⌝ }
-    ensures { λ r. ⌜ leaves (ofListing r) (now (out .exit)) ≡ delivered (take n (now (from .entry))) (now (out .entry)) ⌝ }
+    ensures { λ r. ⌜ leaves (ofListing r) (now (out .exit)) ≡ delivered (take n (now (from .entry)))
+        (now (out .entry)) ⌝ }
 {
     if out.len() < n {
         return ListingAnswer::NoRoom;

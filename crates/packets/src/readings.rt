@@ -124,7 +124,8 @@ fn find_part(table: &[u8], packet: &[u8], index: usize) -> Bytes
 
 // The bytes of the field of an index, as that part of the packet.
 pub fn field_bytes<'a>(table: &[u8], packet: &'a [u8], index: usize) -> &'a [u8]
-    ensures { λ r. ⌜ LendsPart (now (table .entry)) (now (packet .entry)) index (now r) (ptr (packet .entry)) (ptr r) ⌝ }
+    ensures { λ r. ⌜ LendsPart (now (table .entry)) (now (packet .entry)) index
+        (now r) (ptr (packet .entry)) (ptr r) ⌝ }
 {
     let part = find_part(table, packet, index);
     let start = part.start;

@@ -63,7 +63,8 @@ written w buffer = w ++ drop (length w) buffer
 
 -- bytes for an output: 11 where it is too short, else their length
 unfoldable pub delivered : List ℕ → List ℕ → Outcome
-delivered w out = cond (ltb (length out) (length w)) (leaves (refused 11 0) out) (leaves (accepted (length w)) (written w out))
+delivered w out = cond (ltb (length out) (length w)) (leaves (refused 11 0) out) (leaves (accepted (length w))
+    (written w out))
 
 -- ── a table, good or not ──
 
@@ -102,7 +103,8 @@ packetOutcome d packet run =
 -- the answer r, and the run before and after
 abbrev pub ReadsPacket : List ℕ → List ℕ → List ℕ → PacketAnswer → List ℕ → Type 0
 ReadsPacket table packet run r after =
-    (good : Dec (Good table)) → leaves (ofPacket r) after ≡ byTable good (λ d. packetOutcome d packet run) (leaves notGood run)
+    (good : Dec (Good table)) → leaves (ofPacket r) after ≡ byTable good (λ d. packetOutcome d packet run)
+    (leaves notGood run)
 
 -- the part of the packet that is the field of an index
 unfoldable pub partBy : {table : List ℕ} → Dec (Good table) → List ℕ → ℕ → Part

@@ -13,17 +13,26 @@ is-word-byte-requires : tie.Need-is-word-byte-requires
 is-word-byte-requires c κs = search needs
 
 returns : tie.Need-returns
-returns c = sym (name-word (c .before .before .args .label) (c .before .before .args .b) (sym (c .before .is-word-byte .ensures) ∙ c .if1 .taken))
+returns c = sym (name-word (c .before .before .args .label) (c .before .before .args .b) (sym
+    (c .before .is-word-byte .ensures) ∙ c .if1 .taken))
 
 returns-2 : tie.Need-returns-2
 returns-2 c =
     let n = sym (c .before .before .before .is-word-byte .ensures) ∙ c .before .before .if1 .left in
-    rw (name-label (c .before .before .before .before .args .label) (c .before .before .before .before .args .b) n (c .before .if2 .taken), eq-eqb (c .before .before .before .before .args .b) 32 (c .if3 .taken))
+    rw (
+      name-label (c .before .before .before .before .args .label) (c .before .before .before .before .args .b) n
+          (c .before .if2 .taken),
+      eq-eqb (c .before .before .before .before .args .b) 32 (c .if3 .taken),
+    )
 
 returns-3 : tie.Need-returns-3
 returns-3 c =
     let n = sym (c .before .before .before .is-word-byte .ensures) ∙ c .before .before .if1 .left in
-    rw (name-label (c .before .before .before .before .args .label) (c .before .before .before .before .args .b) n (c .before .if2 .taken), ne-eqb (c .before .before .before .before .args .b) 32 (c .if3 .left))
+    rw (
+      name-label (c .before .before .before .before .args .label) (c .before .before .before .before .args .b) n
+          (c .before .if2 .taken),
+      ne-eqb (c .before .before .before .before .args .b) 32 (c .if3 .left),
+    )
 
 returns-4 : tie.Need-returns-4
 returns-4 c =

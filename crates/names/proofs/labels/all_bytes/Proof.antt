@@ -32,7 +32,10 @@ is-name-byte-requires c κs = search needs
 returns : tie.Need-returns Inv-loop μ-loop
 returns c =
     let e = sym (c .before .is-name-byte .ensures) ∙ not-true (c .before .is-name-byte .result) (c .if1 .taken) in
-    sym (c .before .before .before .before .loop .inv .1 ∙ all-step (isNameByte (c .before .before .before .before .before .before .args .label)) (now (c .before .before .before .before .before .before .args .w)) (c .before .before .before .before .loop .i) (omega arith) ∙ rw e)
+    sym (c .before .before .before .before .loop .inv .1 ∙ all-step (isNameByte
+    (c .before .before .before .before .before .before .args .label)) (now
+    (c .before .before .before .before .before .before .args .w)) (c .before .before .before .before .loop .i)
+    (omega arith) ∙ rw e)
 
 add-i : tie.Need-add-i Inv-loop μ-loop
 add-i c = search needs
@@ -42,13 +45,19 @@ loop-less c = search needs
 
 loop-again : tie.Need-loop-again Inv-loop μ-loop
 loop-again c =
-    let e = sym (c .before .is-name-byte .ensures) ∙ not-false (c .before .is-name-byte .result) (c .if1 .left) in
-    (omega arith, c .before .before .before .before .loop .inv .1 ∙ all-step (isNameByte (c .before .before .before .before .before .before .args .label)) (now (c .before .before .before .before .before .before .args .w)) (c .before .before .before .before .loop .i) (omega arith) ∙ rw e)
+    let e = sym (c .before .is-name-byte .ensures) ∙ not-false (c .before .is-name-byte .result) (c .if1 .left) in (
+      omega arith,
+      c .before .before .before .before .loop .inv .1 ∙ all-step (isNameByte
+          (c .before .before .before .before .before .before .args .label)) (now
+          (c .before .before .before .before .before .before .args .w)) (c .before .before .before .before .loop .i)
+          (omega arith) ∙ rw e,
+    )
 
 returns-2 : tie.Need-returns-2 Inv-loop μ-loop
 returns-2 c =
     let e : c .before .loop .i ≡ length (now (c .before .before .before .args .w)) = omega arith in
-    sym (c .before .loop .inv .1 ∙ rw e (all-end (isNameByte (c .before .before .before .args .label)) (now (c .before .before .before .args .w))))
+    sym (c .before .loop .inv .1 ∙ rw e (all-end (isNameByte (c .before .before .before .args .label)) (now
+    (c .before .before .before .args .w))))
 
 pub all-bytes-spec : {M : Type 1} → statement M
 all-bytes-spec =

@@ -43,7 +43,8 @@ is-word-byte-requires-2 c κs = search needs
 returns-3 : tie.Need-returns-3
 returns-3 c =
     let w = now (c .before .before .before .before .before .before .before .args .w) in
-    let e = sym (c .before .before .before .is-word-byte .ensures) ∙ not-false (c .before .before .before .is-word-byte .result) (c .before .before .if2 .left) in
+    let e = sym (c .before .before .before .is-word-byte .ensures) ∙ not-false
+    (c .before .before .before .is-word-byte .result) (c .before .before .if2 .left) in
     sym (ends-are w (length w - 1) (omega arith) ∙ rw (e, ← c .is-word-byte2 .ensures))
 
 pub has-word-ends-spec : {M : Type 1} → statement M

@@ -31,9 +31,15 @@ has-word-ends-requires c κs = search needs
 returns-3 : tie.Need-returns-3
 unfolding isLabel
 returns-3 c =
-    let a = sym (c .before .before .before .all-bytes .ensures) ∙ not-false (c .before .before .before .all-bytes .result) (c .before .before .if2 .left) in
+    let a = sym (c .before .before .before .all-bytes .ensures) ∙ not-false
+    (c .before .before .before .all-bytes .result) (c .before .before .if2 .left) in
     let e = sym (c .before .has-word-ends .ensures) ∙ not-true (c .before .has-word-ends .result) (c .if3 .taken) in
-    rw (le-leb (length (now (c .before .before .before .before .before .before .args .w))) 40 (c .before .before .before .before .if1 .left), a, e)
+    rw (
+      le-leb (length (now (c .before .before .before .before .before .before .args .w))) 40
+          (c .before .before .before .before .if1 .left),
+      a,
+      e,
+    )
 
 no-two-spaces-requires : tie.Need-no-two-spaces-requires
 no-two-spaces-requires c κs = search needs
@@ -41,9 +47,16 @@ no-two-spaces-requires c κs = search needs
 returns-4 : tie.Need-returns-4
 unfolding isLabel
 returns-4 c =
-    let a = sym (c .before .before .before .before .all-bytes .ensures) ∙ not-false (c .before .before .before .before .all-bytes .result) (c .before .before .before .if2 .left) in
-    let e = sym (c .before .before .has-word-ends .ensures) ∙ not-false (c .before .before .has-word-ends .result) (c .before .if3 .left) in
-    rw (le-leb (length (now (c .before .before .before .before .before .before .before .args .w))) 40 (c .before .before .before .before .before .if1 .left), a, e) (c .no-two-spaces .ensures)
+    let a = sym (c .before .before .before .before .all-bytes .ensures) ∙ not-false
+    (c .before .before .before .before .all-bytes .result) (c .before .before .before .if2 .left) in
+    let e = sym (c .before .before .has-word-ends .ensures) ∙ not-false (c .before .before .has-word-ends .result)
+    (c .before .if3 .left) in
+    rw (
+      le-leb (length (now (c .before .before .before .before .before .before .before .args .w))) 40
+          (c .before .before .before .before .before .if1 .left),
+      a,
+      e,
+    ) (c .no-two-spaces .ensures)
 
 pub is-label-spec : {M : Type 1} → statement M
 is-label-spec =

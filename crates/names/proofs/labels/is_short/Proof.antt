@@ -31,7 +31,8 @@ returns-2 c =
 returns-3 : tie.Need-returns-3
 returns-3 c =
     let w = now (c .before .before .before .before .before .before .args .w) in
-    let a = sym (c .before .before .is-letter .ensures) ∙ not-false (c .before .before .is-letter .result) (c .before .if2 .left) in
+    let a = sym (c .before .before .is-letter .ensures) ∙ not-false (c .before .before .is-letter .result)
+    (c .before .if2 .left) in
     sym (short-is w (omega arith) ∙ rw (a, lt-leb (length w) 8 (c .if3 .taken)))
 
 all-bytes-requires : tie.Need-all-bytes-requires
@@ -40,7 +41,8 @@ all-bytes-requires c κs = search needs
 returns-4 : tie.Need-returns-4
 returns-4 c =
     let w = now (c .before .before .before .before .before .before .before .before .args .w) in
-    let a = sym (c .before .before .before .before .is-letter .ensures) ∙ not-false (c .before .before .before .before .is-letter .result) (c .before .before .before .if2 .left) in
+    let a = sym (c .before .before .before .before .is-letter .ensures) ∙ not-false
+    (c .before .before .before .before .is-letter .result) (c .before .before .before .if2 .left) in
     let b = sym (c .before .all-bytes .ensures) ∙ not-true (c .before .all-bytes .result) (c .if4 .taken) in
     sym (short-is w (omega arith) ∙ rw (a, le-leb (length w) 8 (c .before .before .if3 .left), b))
 
@@ -50,9 +52,17 @@ is-reserved-requires c κs = search needs
 returns-5 : tie.Need-returns-5
 returns-5 c =
     let w = now (c .before .before .before .before .before .before .before .before .before .args .w) in
-    let a = sym (c .before .before .before .before .before .is-letter .ensures) ∙ not-false (c .before .before .before .before .before .is-letter .result) (c .before .before .before .before .if2 .left) in
-    let b = sym (c .before .before .all-bytes .ensures) ∙ not-false (c .before .before .all-bytes .result) (c .before .if4 .left) in
-    sym (short-is w (omega arith) ∙ rw (a, le-leb (length w) 8 (c .before .before .before .if3 .left), b, ← c .is-reserved .ensures))
+    let a = sym (c .before .before .before .before .before .is-letter .ensures) ∙ not-false
+    (c .before .before .before .before .before .is-letter .result)
+    (c .before .before .before .before .if2 .left) in
+    let b = sym (c .before .before .all-bytes .ensures) ∙ not-false (c .before .before .all-bytes .result)
+    (c .before .if4 .left) in
+    sym (short-is w (omega arith) ∙ rw (
+      a,
+      le-leb (length w) 8 (c .before .before .before .if3 .left),
+      b,
+      ← c .is-reserved .ensures,
+    ))
 
 pub is-short-spec : {M : Type 1} → statement M
 is-short-spec =

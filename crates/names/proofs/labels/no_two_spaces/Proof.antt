@@ -35,7 +35,9 @@ shared-slice-read-if2 c = search needs
 returns : tie.Need-returns Inv-loop μ-loop
 returns c =
     let w = now (c .before .before .before .before .before .before .args .w) in
-    sym (c .before .before .before .before .before .loop .inv .1 ∙ spaces-pair w (c .before .before .before .before .before .loop .i) (omega arith) (omega arith) (c .before .before .if1 .taken) (c .if2 .taken))
+    sym (c .before .before .before .before .before .loop .inv .1 ∙ spaces-pair w
+    (c .before .before .before .before .before .loop .i) (omega arith) (omega arith)
+    (c .before .before .if1 .taken) (c .if2 .taken))
 
 add-i : tie.Need-add-i Inv-loop μ-loop
 add-i c = search needs

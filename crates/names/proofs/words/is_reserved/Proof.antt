@@ -28,7 +28,11 @@ same-words-requires-2 c κs = search needs
 
 returns-2 : tie.Need-returns-2
 unfolding any reserved isReserved
-returns-2 c = rw (sym (c .before .before .before .before .same-words .ensures) ∙ c .before .before .before .if1 .left, sym (c .before .same-words2 .ensures) ∙ c .if2 .taken)
+returns-2 c = rw (
+  sym (c .before .before .before .before .same-words .ensures)
+      ∙ c .before .before .before .if1 .left,
+  sym (c .before .same-words2 .ensures) ∙ c .if2 .taken,
+)
 
 slice-aggregate-same-words-3 : tie.Need-slice-aggregate-same-words-3
 slice-aggregate-same-words-3 c = search needs
@@ -38,7 +42,14 @@ same-words-requires-3 c κs = search needs
 
 returns-3 : tie.Need-returns-3
 unfolding any reserved isReserved
-returns-3 c = rw (sym (c .before .before .before .before .before .before .before .same-words .ensures) ∙ c .before .before .before .before .before .before .if1 .left, sym (c .before .before .before .before .same-words2 .ensures) ∙ c .before .before .before .if2 .left, sym (c .before .same-words3 .ensures) ∙ c .if3 .taken)
+returns-3 c = rw (
+  sym (c .before .before .before .before .before .before .before .same-words .ensures)
+      ∙ c .before .before .before .before .before .before .if1 .left,
+  sym
+      (c .before .before .before .before .same-words2 .ensures) ∙ c .before .before .before .if2 .left,
+  sym
+      (c .before .same-words3 .ensures) ∙ c .if3 .taken,
+)
 
 slice-aggregate-same-words-4 : tie.Need-slice-aggregate-same-words-4
 slice-aggregate-same-words-4 c = search needs

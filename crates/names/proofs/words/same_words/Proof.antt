@@ -32,8 +32,10 @@ shared-slice-read-if2-2 c = search needs
 
 returns-2 : tie.Need-returns-2 Inv-loop μ-loop
 returns-2 c =
-    let a = now (c .before .before .before .before .before .before .args .a) in let b = now (c .before .before .before .before .before .before .args .b) in
-    sym (c .before .before .before .before .loop .inv .2 ∙ same-step a b (c .before .before .before .before .loop .i) (omega arith) (omega arith) ∙ rw (ne-eqb _ _ (c .if2 .taken)))
+    let a = now (c .before .before .before .before .before .before .args .a) in let b = now
+    (c .before .before .before .before .before .before .args .b) in
+    sym (c .before .before .before .before .loop .inv .2 ∙ same-step a b
+    (c .before .before .before .before .loop .i) (omega arith) (omega arith) ∙ rw (ne-eqb _ _ (c .if2 .taken)))
 
 add-i : tie.Need-add-i Inv-loop μ-loop
 add-i c = search needs
@@ -43,8 +45,14 @@ loop-less c = search needs
 
 loop-again : tie.Need-loop-again Inv-loop μ-loop
 loop-again c =
-    let a = now (c .before .before .before .before .before .before .args .a) in let b = now (c .before .before .before .before .before .before .args .b) in
-    (omega arith, c .before .before .before .before .loop .inv .1, c .before .before .before .before .loop .inv .2 ∙ same-step a b (c .before .before .before .before .loop .i) (omega arith) (omega arith) ∙ rw (eq-eqb _ _ (c .if2 .left)))
+    let a = now (c .before .before .before .before .before .before .args .a) in let b = now
+    (c .before .before .before .before .before .before .args .b) in (
+      omega arith,
+      c .before .before .before .before .loop .inv .1,
+      c .before .before .before .before .loop .inv .2
+          ∙ same-step a b (c .before .before .before .before .loop .i) (omega arith) (omega arith) ∙ rw (eq-eqb _ _
+          (c .if2 .left)),
+    )
 
 returns-3 : tie.Need-returns-3 Inv-loop μ-loop
 returns-3 c =

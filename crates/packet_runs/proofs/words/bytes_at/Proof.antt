@@ -74,8 +74,11 @@ loop-less : tie.Need-loop-less Inv-loop μ-loop
 loop-less c = search needs
 
 loop-again : tie.Need-loop-again Inv-loop μ-loop
-loop-again c =
-  (simp length-set (c .before .before .before .before .before .before .before .before .loop .inv .0), simp length-set (omega arith), omega arith)
+loop-again c = (
+  simp length-set (c .before .before .before .before .before .before .before .before .loop .inv .0),
+  simp length-set (omega arith),
+  omega arith,
+)
 
 same-length-4 : tie.Need-same-length-4 Inv-loop μ-loop
 same-length-4 c = c .before .loop .inv .0

@@ -41,7 +41,10 @@ shared-slice-read-put-number-2 c = search needs
 
 put-number-requires-2 : tie.Need-put-number-requires-2
 put-number-requires-2 c κs =
-    let r = number-room (getD (now (c .before .before .before .before .before .before .before .before .before .args .run)) (4 * c .before .before .before .before .before .before .before .before .before .args .i + 1) 0) (c .before .before .before .before .put-number .ensures) in
+    let r = number-room (getD (now
+    (c .before .before .before .before .before .before .before .before .before .args .run))
+    (4 * c .before .before .before .before .before .before .before .before .before .args .i + 1) 0)
+    (c .before .before .before .before .put-number .ensures) in
     omega (arith, r, c .before .before .before .before .put-number .ensures .kept)
 
 mul-put-number-5 : tie.Need-mul-put-number-5
@@ -58,8 +61,10 @@ shared-slice-read-put-number-3 c = search needs
 
 put-number-requires-3 : tie.Need-put-number-requires-3
 put-number-requires-3 c κs =
-    let r = number-room (getD (now (c .before .before .before .before .before .before .before .before .before .before .before .before .before .before .before .args .run)) (4 * c .before .before .before .before .before .before .before .before .before .before .before .before .before .before .before .args .i + 1) 0) (c .before .before .before .before .before .before .before .before .before .before .put-number .ensures) in
-    let q = number-room (getD (now (c .before .before .before .before .before .before .before .before .before .before .before .before .before .before .before .args .run)) (4 * c .before .before .before .before .before .before .before .before .before .before .before .before .before .before .before .args .i + 2) 0) (c .before .before .before .before .before .put-number2 .ensures) in
+    let r = number-room (getD (now
+    (c .before .before .before .before .before .before .before .before .before .before .before .before .before .before .before .args .run)) (4 * c .before .before .before .before .before .before .before .before .before .before .before .before .before .before .before .args .i + 1) 0) (c .before .before .before .before .before .before .before .before .before .before .put-number .ensures) in
+    let q = number-room (getD (now
+    (c .before .before .before .before .before .before .before .before .before .before .before .before .before .before .before .args .run)) (4 * c .before .before .before .before .before .before .before .before .before .before .before .before .before .before .before .args .i + 2) 0) (c .before .before .before .before .before .put-number2 .ensures) in
     omega (arith, r, q, c .before .before .before .before .before .before .before .before .before .before .put-number .ensures .kept, c .before .before .before .before .before .put-number2 .ensures .kept)
 
 same-length : tie.Need-same-length
@@ -76,7 +81,8 @@ same-length-2 c = search needs
 returns-2 : tie.Need-returns-2
 returns-2 c =
     rw (c .if1 .left)
-    (writes-join (c .before .before .before .before .before .before .before .before .put-number .ensures) (rw append-nil (c .before .before .before .put-number2 .ensures)))
+    (writes-join (c .before .before .before .before .before .before .before .before .put-number .ensures)
+    (rw append-nil (c .before .before .before .put-number2 .ensures)))
 
 pub put-entry-spec : {M : Type 1} → statement M
 put-entry-spec =

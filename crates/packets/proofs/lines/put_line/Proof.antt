@@ -22,7 +22,8 @@ unfolding lineText
 returns c =
     let p = c .before .before .before .before .before .args .parts .label in
     let s = now (c .before .before .before .before .before .args .table) in
-    rw (lt-ltb 40 (p .len) (c .if1 .taken)) (writes-none (now (c .before .before .before .before .before .args .out)) (c .before .before .before .before .before .args .at))
+    rw (lt-ltb 40 (p .len) (c .if1 .taken)) (writes-none (now
+    (c .before .before .before .before .before .args .out)) (c .before .before .before .before .before .args .at))
 
 returns-2 : tie.Need-returns-2
 unfolding lineText
@@ -30,7 +31,8 @@ returns-2 c =
     let p = c .before .before .before .before .before .before .args .parts .label in
     let s = now (c .before .before .before .before .before .before .args .table) in
     rw (le-ltb 40 (p .len) (c .before .if1 .left), lt-ltb (length s) (p .at) (c .if2 .taken))
-    (writes-none (now (c .before .before .before .before .before .before .args .out)) (c .before .before .before .before .before .before .args .at))
+    (writes-none (now (c .before .before .before .before .before .before .args .out))
+    (c .before .before .before .before .before .before .args .at))
 
 sub-if3 : tie.Need-sub-if3
 sub-if3 c = search needs
@@ -40,8 +42,14 @@ unfolding lineText
 returns-3 c =
     let p = c .before .before .before .before .before .before .before .args .parts .label in
     let s = now (c .before .before .before .before .before .before .before .args .table) in
-    rw (le-ltb 40 (p .len) (c .before .before .if1 .left), le-ltb (length s) (p .at) (c .before .if2 .left), lt-ltb (length s - p .at) (p .len) (c .if3 .taken))
-    (writes-none (now (c .before .before .before .before .before .before .before .args .out)) (c .before .before .before .before .before .before .before .args .at))
+    rw (
+      le-ltb 40 (p .len) (c .before .before .if1 .left),
+      le-ltb (length s) (p .at) (c .before .if2 .left),
+      lt-ltb
+          (length s - p .at) (p .len) (c .if3 .taken),
+    )
+    (writes-none (now (c .before .before .before .before .before .before .before .args .out))
+    (c .before .before .before .before .before .before .before .args .at))
 
 add-end : tie.Need-add-end
 add-end c = search needs
@@ -73,7 +81,8 @@ slice-aggregate-put-2 c = search needs
 put-requires-3 : tie.Need-put-requires-3
 put-requires-3 c κs =
     let e = entryIn (now (c .before .before .before .before .before .before .before .before .before .before .before .before .before .before .before .before .before .before .before .before .before .before .before .args .run)) (c .before .before .before .before .before .before .before .before .before .before .before .before .before .before .before .before .before .before .before .before .before .before .before .args .i) in
-    let l = state-length (eqb (c .before .before .before .before .before .before .before .before .before .before .before .before .before .before .before .before .before .before .before .before .before .before .before .args .parts .kind) 2) e in
+    let l = state-length (eqb
+    (c .before .before .before .before .before .before .before .before .before .before .before .before .before .before .before .before .before .before .before .before .before .before .before .args .parts .kind) 2) e in
     omega (arith, l, c .before .before .before .before .before .before .before .before .before .before .before .before .before .put .ensures .end, c .before .before .before .before .before .before .before .before .put2 .ensures .end, c .before .before .before .before .put-state .ensures .end, c .before .before .before .before .before .before .before .before .before .before .before .before .before .put .ensures .kept, c .before .before .before .before .before .before .before .before .put2 .ensures .kept, c .before .before .before .before .put-state .ensures .kept)
 
 same-length : tie.Need-same-length
@@ -87,7 +96,10 @@ returns-4 c =
     let e : p .at + p .len - p .at ≡ p .len = omega arith in
     let name = rw e at (c .before .before .before .before .before .before .before .before .before .before .before .before .before .before .before .before .put .ensures) in
     rw (le-ltb 40 (p .len) (c .before .before .before .before .before .before .before .before .before .before .before .before .before .before .before .before .before .before .before .before .before .if1 .left), le-ltb (length s) (p .at) (c .before .before .before .before .before .before .before .before .before .before .before .before .before .before .before .before .before .before .before .before .if2 .left), le-ltb (length s - p .at) (p .len) (c .before .before .before .before .before .before .before .before .before .before .before .before .before .before .before .before .before .before .before .if3 .left))
-    (writes-join name (writes-join (c .before .before .before .before .before .before .before .before .before .before .before .put2 .ensures) (writes-join (c .before .before .before .before .before .before .before .put-state .ensures) (c .before .before .put3 .ensures))))
+    (writes-join name (writes-join
+    (c .before .before .before .before .before .before .before .before .before .before .before .put2 .ensures)
+    (writes-join (c .before .before .before .before .before .before .before .put-state .ensures)
+    (c .before .before .put3 .ensures))))
 
 pub put-line-spec : {M : Type 1} → statement M
 put-line-spec =

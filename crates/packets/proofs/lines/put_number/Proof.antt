@@ -26,7 +26,8 @@ same-length : tie.Need-same-length
 same-length c = search needs
 
 returns : tie.Need-returns
-returns c = writes-join (c .before .before .before .before .before .before .put .ensures) (c .before .before .put-digits .ensures)
+returns c = writes-join (c .before .before .before .before .before .before .put .ensures)
+    (c .before .before .put-digits .ensures)
 
 pub put-number-spec : {M : Type 1} → statement M
 put-number-spec =

@@ -18,7 +18,11 @@ unfolding ofListing delivered
 returns c =
     let from = now (c .before .before .before .args .from) in
     let l = length-take-le (c .before .before .before .args .n) from (omega arith) in
-    rw (l, lt-ltb (length (now (c .before .before .before .args .out))) (c .before .before .before .args .n) (c .if1 .taken))
+    rw (
+      l,
+      lt-ltb (length (now (c .before .before .before .args .out))) (c .before .before .before .args .n)
+          (c .if1 .taken),
+    )
 
 copy-out-requires : tie.Need-copy-out-requires
 copy-out-requires c κs = search needs
@@ -31,7 +35,14 @@ unfolding ofListing delivered
 returns-2 c =
     let from = now (c .before .before .before .before .before .before .before .args .from) in
     let l = length-take-le (c .before .before .before .before .before .before .before .args .n) from (omega arith) in
-    rw (c .before .before .copy-out .ensures, l, le-ltb (length (now (c .before .before .before .before .before .before .before .args .out))) (c .before .before .before .before .before .before .before .args .n) (c .before .before .before .before .if1 .left))
+    rw (
+      c .before .before .copy-out .ensures,
+      l,
+      le-ltb (length (now
+          (c .before .before .before .before .before .before .before .args .out)))
+          (c .before .before .before .before .before .before .before .args .n)
+          (c .before .before .before .before .if1 .left),
+    )
 
 pub deliver-spec : {M : Type 1} → statement M
 deliver-spec = tie.close (tie.spec returns copy-out-requires same-length returns-2)

@@ -29,7 +29,9 @@ same-length : tie.Need-same-length
 same-length c = search needs
 
 returns : tie.Need-returns
-returns c = into-bad _ _ _ _ _ _ (c .before .before .before .before .before .before .check-table .ensures) (c .before .before .before .before .enum-told .given .1) (c .before .before .put-refusal .ensures) (writes-inside (c .before .before .put-refusal .ensures) (omega arith))
+returns c = into-bad _ _ _ _ _ _ (c .before .before .before .before .before .before .check-table .ensures)
+    (c .before .before .before .before .enum-told .given .1) (c .before .before .put-refusal .ensures)
+    (writes-inside (c .before .before .put-refusal .ensures) (omega arith))
 
 put-listing-requires : tie.Need-put-listing-requires
 put-listing-requires c κs = search needs
@@ -38,7 +40,9 @@ same-length-2 : tie.Need-same-length-2
 same-length-2 c = search needs
 
 returns-2 : tie.Need-returns-2
-returns-2 c = into-good _ _ _ _ _ _ _ (c .before .before .before .before .before .before .before .check-table .ensures) (c .before .before .before .before .before .checked .given .1) (c .before .before .put-listing .ensures)
+returns-2 c = into-good _ _ _ _ _ _ _
+    (c .before .before .before .before .before .before .before .check-table .ensures)
+    (c .before .before .before .before .before .checked .given .1) (c .before .before .put-listing .ensures)
 
 pub list-into-spec : {M : Type 1} → statement M
 list-into-spec =

@@ -30,7 +30,9 @@ same-length : tie.Need-same-length
 same-length c = search needs
 
 returns : tie.Need-returns
-returns c = λ good. c .before .before .deliver .ensures ∙ ap (λ (w : List ℕ). delivered w (now (c .before .before .before .before .before .before .before .before .before .before .before .args .out))) (c .before .before .before .before .before .before .list-into .ensures .text good .text)
+returns c = λ good. c .before .before .deliver .ensures ∙ ap (λ (w : List ℕ). delivered w (now
+    (c .before .before .before .before .before .before .before .before .before .before .before .args .out)))
+    (c .before .before .before .before .before .before .list-into .ensures .text good .text)
 
 pub list-packet-spec : {M : Type 1} → statement M
 list-packet-spec =

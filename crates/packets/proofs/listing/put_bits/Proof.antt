@@ -17,19 +17,34 @@ put-requires : tie.Need-put-requires
 put-requires c κs = search needs
 
 put-digits-requires : tie.Need-put-digits-requires
-put-digits-requires c κs = omega (arith, c .before .before .before .put .ensures .end, c .before .before .before .put .ensures .kept)
+put-digits-requires c κs = omega (
+  arith,
+  c .before .before .before .put .ensures .end,
+  c .before .before .before .put .ensures .kept,
+)
 
 slice-aggregate-put-2 : tie.Need-slice-aggregate-put-2
 slice-aggregate-put-2 c = search needs
 
 put-requires-2 : tie.Need-put-requires-2
-put-requires-2 c κs = omega (arith, digits-length 10 (c .before .before .before .before .before .before .before .before .before .before .before .before .args .total), c .before .before .before .before .before .before .before .before .put .ensures .end, c .before .before .before .before .before .before .before .before .put .ensures .kept, c .before .before .before .before .put-digits .ensures .end, c .before .before .before .before .put-digits .ensures .kept)
+put-requires-2 c κs = omega (
+  arith,
+  digits-length 10
+      (c .before .before .before .before .before .before .before .before .before .before .before .before .args .total),
+  c .before .before .before .before .before .before .before .before .put .ensures .end,
+  c .before .before .before .before .before .before .before .before .put .ensures .kept,
+  c .before .before .before .before .put-digits .ensures .end,
+  c .before .before .before .before .put-digits .ensures .kept,
+)
 
 same-length : tie.Need-same-length
 same-length c = search needs
 
 returns : tie.Need-returns
-returns c = rw append-assoc (writes-join (c .before .before .before .before .before .before .before .before .before .before .before .put .ensures) (writes-join (c .before .before .before .before .before .before .before .put-digits .ensures) (c .before .before .put2 .ensures)))
+returns c = rw append-assoc (writes-join
+    (c .before .before .before .before .before .before .before .before .before .before .before .put .ensures)
+    (writes-join (c .before .before .before .before .before .before .before .put-digits .ensures)
+    (c .before .before .put2 .ensures)))
 
 pub put-bits-spec : {M : Type 1} → statement M
 put-bits-spec =

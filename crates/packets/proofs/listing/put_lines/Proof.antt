@@ -46,7 +46,8 @@ loop-less c = search needs
 loop-again : tie.Need-loop-again Inv-loop μ-loop
 loop-again c =
     let e = c .before .before .before .before .parts-at .ensures in
-    rw e (lines-step (c .before .before .before .before .before .before .before .loop .inv) (omega arith) (omega arith) (rw e at (c .before .before .put-line .ensures)))
+    rw e (lines-step (c .before .before .before .before .before .before .before .loop .inv) (omega arith)
+    (omega arith) (rw e at (c .before .before .put-line .ensures)))
 
 same-length-2 : tie.Need-same-length-2 Inv-loop μ-loop
 same-length-2 c = c .before .loop .inv .wrote .kept

@@ -67,10 +67,12 @@ returns-2 : tie.Need-returns-2
 returns-2 c =
     let s = now (c .before .before .before .before .before .before .before .before .before .before .before .before .before .before .before .before .before .before .before .before .before .args .table) in
     let packet = now (c .before .before .before .before .before .before .before .before .before .before .before .before .before .before .before .before .before .before .before .before .before .args .packet) in
-    let j = writes-join (c .before .before .before .before .before .before .before .put-lines .ensures .0) (c .before .before .put-bits .ensures) in
+    let j = writes-join (c .before .before .before .before .before .before .before .put-lines .ensures .0)
+    (c .before .before .put-bits .ensures) in
     let k = rw (c .before .before .before .before .before .before .before .before .before .before .before .before .two-at .ensures .0, c .before .before .before .before .before .before .before .before .before .before .two-at2 .ensures .0, c .before .before .before .before .value-of .ensures) at j in
     record {
-      text = λ d w is. rw (← listed-accepted s packet d w is _ _ (c .before .before .before .before .before .before .before .before .before .before .before .before .before .before .before .before .read-run .ensures d w is) (sym (c .before .before .before .before .before .before .before .before .before .before .before .before .before .before .number-of .ensures) ∙ c .before .before .before .before .before .before .before .before .before .before .before .before .before .if1 .taken)) k;
+      text = λ d w is. rw (← listed-accepted s packet d w is _ _
+          (c .before .before .before .before .before .before .before .before .before .before .before .before .before .before .before .before .read-run .ensures d w is) (sym (c .before .before .before .before .before .before .before .before .before .before .before .before .before .before .number-of .ensures) ∙ c .before .before .before .before .before .before .before .before .before .before .before .before .before .if1 .taken)) k;
       inside = writes-inside j (omega arith);
     }
 
@@ -87,9 +89,15 @@ returns-3 : tie.Need-returns-3
 returns-3 c =
     let s = now (c .before .before .before .before .before .before .before .before .before .before .before .before .before .args .table) in
     let packet = now (c .before .before .before .before .before .before .before .before .before .before .before .before .before .args .packet) in
-    let k = rw (c .before .before .before .before .before .before .number-of .ensures, c .before .before .before .before .place-of .ensures) at (c .before .before .put-refusal .ensures) in
+    let k = rw (
+      c .before .before .before .before .before .before .number-of .ensures,
+      c .before .before .before .before .place-of .ensures,
+    ) at (c .before .before .put-refusal .ensures) in
     record {
-      text = λ d w is. rw (← listed-refused s packet d w is _ _ (c .before .before .before .before .before .before .before .before .read-run .ensures d w is) (λ z. c .before .before .before .before .before .if1 .left (c .before .before .before .before .before .before .number-of .ensures ∙ z))) k;
+      text = λ d w is. rw (← listed-refused s packet d w is _ _
+          (c .before .before .before .before .before .before .before .before .read-run .ensures d w is)
+          (λ z. c .before .before .before .before .before .if1 .left
+          (c .before .before .before .before .before .before .number-of .ensures ∙ z))) k;
       inside = writes-inside k (omega arith);
     }
 

@@ -25,7 +25,9 @@ enum-told : tie.Need-enum-told
 enum-told c = search needs
 
 returns : tie.Need-returns
-returns c = index-bad (now (c .before .before .before .before .before .args .table)) (now (c .before .before .before .before .before .args .name)) (bad-from _ _ (c .before .before .check-table .ensures) (c .enum-told .given .1))
+returns c = index-bad (now (c .before .before .before .before .before .args .table)) (now
+    (c .before .before .before .before .before .args .name)) (bad-from _ _ (c .before .before .check-table .ensures)
+    (c .enum-told .given .1))
 
 two-at-requires : tie.Need-two-at-requires
 two-at-requires c κs = search needs
@@ -38,9 +40,12 @@ find-from-requires c κs = search needs
 
 returns-2 : tie.Need-returns-2
 returns-2 c =
-    let g = good-from _ _ _ (c .before .before .before .before .before .before .check-table .ensures) (c .before .before .before .before .checked .given .1) in
+    let g = good-from _ _ _ (c .before .before .before .before .before .before .check-table .ensures)
+    (c .before .before .before .before .checked .given .1) in
     let e = c .find-from .ensures in
-    rw (e, c .before .before .two-at .ensures .0, c .before .two-at2 .ensures .0) (index-found (now (c .before .before .before .before .before .before .before .before .before .args .table)) (now (c .before .before .before .before .before .before .before .before .before .args .name)) g)
+    rw (e, c .before .before .two-at .ensures .0, c .before .two-at2 .ensures .0) (index-found (now
+    (c .before .before .before .before .before .before .before .before .before .args .table)) (now
+    (c .before .before .before .before .before .before .before .before .before .args .name)) g)
 
 pub field-index-spec : {M : Type 1} → statement M
 field-index-spec =

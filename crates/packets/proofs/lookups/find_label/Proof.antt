@@ -26,7 +26,9 @@ enum-told : tie.Need-enum-told
 enum-told c = search needs
 
 returns : tie.Need-returns
-returns c = label-bad (now (c .before .before .before .before .args .table)) (c .before .before .before .before .args .index) (bad-from _ _ (c .before .before .check-table .ensures) (c .enum-told .given .1))
+returns c = label-bad (now (c .before .before .before .before .args .table))
+    (c .before .before .before .before .args .index) (bad-from _ _ (c .before .before .check-table .ensures)
+    (c .enum-told .given .1))
 
 two-at-requires : tie.Need-two-at-requires
 two-at-requires c κs = search needs
@@ -34,8 +36,12 @@ two-at-requires c κs = search needs
 returns-2 : tie.Need-returns-2
 returns-2 c =
     let s = now (c .before .before .before .before .before .before .before .args .table) in
-    let g = good-from _ _ _ (c .before .before .before .before .before .check-table .ensures) (c .before .before .before .checked .given .1) in
-    label-outside s (c .before .before .before .before .before .before .before .args .index) g (omega (arith, c .before .two-at .ensures .0))
+    let g = good-from _ _ _ (c .before .before .before .before .before .check-table .ensures)
+    (c .before .before .before .checked .given .1) in
+    label-outside s (c .before .before .before .before .before .before .before .args .index) g (omega (
+      arith,
+      c .before .two-at .ensures .0,
+    ))
 
 place-behind-requires : tie.Need-place-behind-requires
 place-behind-requires c κs = search needs
@@ -43,7 +49,8 @@ place-behind-requires c κs = search needs
 returns-3 : tie.Need-returns-3
 returns-3 c =
     let s = now (c .before .before .before .before .before .before .before .before .before .args .table) in
-    let g = good-from _ _ _ (c .before .before .before .before .before .before .before .check-table .ensures) (c .before .before .before .before .before .checked .given .1) in
+    let g = good-from _ _ _ (c .before .before .before .before .before .before .before .check-table .ensures)
+    (c .before .before .before .before .before .checked .given .1) in
     let lt : c .before .before .before .before .before .before .before .before .before .args .index < twoAt s 6 = omega (arith, c .before .before .before .two-at .ensures .0) in
     let l = label-found s (c .before .before .before .before .before .before .before .before .before .args .index) g lt in
     let low = rw (← c .before .place-behind .ensures) at (l .low) in
@@ -58,7 +65,10 @@ returns-4 c =
     let g = good-from _ _ _ (c .before .before .before .before .before .before .before .before .before .before .before .check-table .ensures) (c .before .before .before .before .before .before .before .before .before .checked .given .1) in
     let lt : c .before .before .before .before .before .before .before .before .before .before .before .before .before .args .index < twoAt s 6 = omega (arith, c .before .before .before .before .before .before .before .two-at .ensures .0) in
     let l = label-found s (c .before .before .before .before .before .before .before .before .before .before .before .before .before .args .index) g lt in
-    let inside = rw (← c .before .before .before .before .before .place-behind .ensures, ← c .before .before .before .parts-at .ensures) at (l .inside) in
+    let inside = rw (
+      ← c .before .before .before .before .before .place-behind .ensures,
+      ← c .before .before .before .parts-at .ensures,
+    ) at (l .inside) in
     absurd (omega (arith, inside))
 
 sub-if4 : tie.Need-sub-if4
@@ -70,7 +80,10 @@ returns-5 c =
     let g = good-from _ _ _ (c .before .before .before .before .before .before .before .before .before .before .before .before .before .before .check-table .ensures) (c .before .before .before .before .before .before .before .before .before .before .before .before .checked .given .1) in
     let lt : c .before .before .before .before .before .before .before .before .before .before .before .before .before .before .before .before .args .index < twoAt s 6 = omega (arith, c .before .before .before .before .before .before .before .before .before .before .two-at .ensures .0) in
     let l = label-found s (c .before .before .before .before .before .before .before .before .before .before .before .before .before .before .before .before .args .index) g lt in
-    let inside = rw (← c .before .before .before .before .before .before .before .before .place-behind .ensures, ← c .before .before .before .before .before .before .parts-at .ensures) at (l .inside) in
+    let inside = rw (
+      ← c .before .before .before .before .before .before .before .before .place-behind .ensures,
+      ← c .before .before .before .before .before .before .parts-at .ensures,
+    ) at (l .inside) in
     absurd (omega (arith, inside))
 
 returns-6 : tie.Need-returns-6
@@ -79,7 +92,10 @@ returns-6 c =
     let g = good-from _ _ _ (c .before .before .before .before .before .before .before .before .before .before .before .before .before .before .check-table .ensures) (c .before .before .before .before .before .before .before .before .before .before .before .before .checked .given .1) in
     let lt : c .before .before .before .before .before .before .before .before .before .before .before .before .before .before .before .before .args .index < twoAt s 6 = omega (arith, c .before .before .before .before .before .before .before .before .before .before .two-at .ensures .0) in
     let l = label-found s (c .before .before .before .before .before .before .before .before .before .before .before .before .before .before .before .before .args .index) g lt in
-    rw (c .before .before .before .before .before .before .parts-at .ensures, c .before .before .before .before .before .before .before .before .place-behind .ensures) (l .on)
+    rw (
+      c .before .before .before .before .before .before .parts-at .ensures,
+      c .before .before .before .before .before .before .before .before .place-behind .ensures,
+    ) (l .on)
 
 pub find-label-spec : {M : Type 1} → statement M
 find-label-spec =

@@ -38,7 +38,12 @@ unfolding isNamedIn
 returns-3 c =
     let p = c .before .before .before .before .before .args .span in
     let s = now (c .before .before .before .before .before .args .table) in
-    rw (ne-eqb (p .len) 0 (c .before .before .if1 .left), le-ltb (length s) (p .at) (c .before .if2 .left), lt-ltb (length s - p .at) (p .len) (c .if3 .taken))
+    rw (
+      ne-eqb (p .len) 0 (c .before .before .if1 .left),
+      le-ltb (length s) (p .at) (c .before .if2 .left),
+      lt-ltb
+          (length s - p .at) (p .len) (c .if3 .taken),
+    )
 
 add-end : tie.Need-add-end
 add-end c = search needs
@@ -61,7 +66,12 @@ returns-4 c =
     let p = c .before .before .before .before .before .before .before .args .span in
     let s = now (c .before .before .before .before .before .before .before .args .table) in
     let e : p .at + p .len - p .at ≡ p .len = omega arith in
-    rw (ne-eqb (p .len) 0 (c .before .before .before .before .if1 .left), le-ltb (length s) (p .at) (c .before .before .before .if2 .left), le-ltb (length s - p .at) (p .len) (c .before .before .if3 .left))
+    rw (
+      ne-eqb (p .len) 0 (c .before .before .before .before .if1 .left),
+      le-ltb (length s) (p .at)
+          (c .before .before .before .if2 .left),
+      le-ltb (length s - p .at) (p .len) (c .before .before .if3 .left),
+    )
     (rw e at (c .same-words .ensures))
 
 pub is-named-spec : {M : Type 1} → statement M

@@ -30,7 +30,9 @@ loop-holds : tie.Need-loop-holds Inv-loop μ-loop
 loop-holds c = (omega arith, rw (sub-zero, c .two-at .ensures .0))
 
 returns : tie.Need-returns Inv-loop μ-loop
-returns c = sym (c .before .before .loop .inv .1 ∙ place-stop (now (c .before .before .before .before .before .args .table)) (c .before .before .before .before .before .args .n) (c .before .before .loop .k) (c .before .before .loop .place) (omega arith) (c .if1 .taken))
+returns c = sym (c .before .before .loop .inv .1 ∙ place-stop (now
+    (c .before .before .before .before .before .args .table)) (c .before .before .before .before .before .args .n)
+    (c .before .before .loop .k) (c .before .before .loop .place) (omega arith) (c .if1 .taken))
 
 parts-at-requires : tie.Need-parts-at-requires Inv-loop μ-loop
 parts-at-requires c κs = search needs
@@ -46,11 +48,14 @@ loop-again c =
     let l = c .before .before .before .loop in (
       omega arith,
       rw (c .parts-at .ensures)
-          (l .inv .1 ∙ place-step (now (c .before .before .before .before .before .before .args .table)) (c .before .before .before .before .before .before .args .n) (l .k) (l .place) (omega arith) (omega arith)),
+          (l .inv .1 ∙ place-step (now (c .before .before .before .before .before .before .args .table))
+          (c .before .before .before .before .before .before .args .n) (l .k) (l .place) (omega arith)
+          (omega arith)),
     )
 
 returns-2 : tie.Need-returns-2 Inv-loop μ-loop
-returns-2 c = sym (c .before .loop .inv .1 ∙ place-end (now (c .before .before .before .before .args .table)) (c .before .before .before .before .args .n) (c .before .loop .k) (c .before .loop .place) (omega arith))
+returns-2 c = sym (c .before .loop .inv .1 ∙ place-end (now (c .before .before .before .before .args .table))
+    (c .before .before .before .before .args .n) (c .before .loop .k) (c .before .loop .place) (omega arith))
 
 pub place-behind-spec : {M : Type 1} → statement M
 place-behind-spec =

@@ -38,14 +38,25 @@ add-next c = search needs
 returns-2 : tie.Need-returns-2
 unfolding widthAt
 returns-2 c = record {
-  is = rw (ne-eqb (c .before .before .before .before .before .before .args .kind) 2 (c .before .before .before .before .if1 .left), eq-eqb (c .before .before .before .before .before .before .args .kind) 3 (c .before .before .before .if2 .taken), c .before .before .two-at2 .ensures .0, c .before .span-at .ensures .is);
+  is = rw (
+    ne-eqb (c .before .before .before .before .before .before .args .kind) 2
+        (c .before .before .before .before .if1 .left),
+    eq-eqb
+        (c .before .before .before .before .before .before .args .kind) 3 (c .before .before .before .if2 .taken),
+    c .before .before .two-at2 .ensures .0,
+    c .before .span-at .ensures .is,
+  );
   small = omega (arith, c .before .span-at .ensures .from, c .before .span-at .ensures .small);
 }
 
 returns-3 : tie.Need-returns-3
 unfolding widthAt
 returns-3 c = record {
-  is = rw (ne-eqb (c .before .before .before .args .kind) 2 (c .before .if1 .left), ne-eqb (c .before .before .before .args .kind) 3 (c .if2 .left));
+  is = rw (
+    ne-eqb (c .before .before .before .args .kind) 2 (c .before .if1 .left),
+    ne-eqb
+        (c .before .before .before .args .kind) 3 (c .if2 .left),
+  );
   small = omega arith;
 }
 

@@ -143,7 +143,8 @@ loop-again c =
     let bits = c .before .bits-of .ensures in
     let step = walk-on (a .w) (a .count) (l .i) before (l .place) (l .ended) s (l .at) (omega arith)
     (rw parts at field) own in
-    let marks = take-own (l .marks) (l .i) (c .before .before .before .before .before .mark-of .result) (omega arith) in (
+    let marks = take-own (l .marks) (l .i) (c .before .before .before .before .before .mark-of .result)
+    (omega arith) in (
       omega arith,
       search needs,
       omega arith,

@@ -79,7 +79,8 @@ put-digits-returns-2 t c =
 put-digits-sub-put-digits : (t : ℕ) → put-digits-lts.Need-sub-put-digits (calls t) (put-digits-at t) put-digits.Post
 put-digits-sub-put-digits t c = search needs
 
-put-digits-put-digits-requires : (t : ℕ) → put-digits-lts.Need-put-digits-requires (calls t) (put-digits-at t) put-digits.Post
+put-digits-put-digits-requires : (t : ℕ) → put-digits-lts.Need-put-digits-requires (calls t)
+    (put-digits-at t) put-digits.Post
 put-digits-put-digits-requires t c κs =
     let a = c .before .before .before .before .args in
     let some : 0 < a .places = omega (arith, c .before .before .if1 .left) in
@@ -91,7 +92,8 @@ put-digits-cast-out-2 t c = search needs
 put-digits-add-out-2 : (t : ℕ) → put-digits-lts.Need-add-out-2 (calls t) (put-digits-at t) put-digits.Post
 put-digits-add-out-2 t c = search needs
 
-put-digits-slice-write-out-2 : (t : ℕ) → put-digits-lts.Need-slice-write-out-2 (calls t) (put-digits-at t) put-digits.Post
+put-digits-slice-write-out-2 : (t : ℕ) → put-digits-lts.Need-slice-write-out-2 (calls t)
+    (put-digits-at t) put-digits.Post
 put-digits-slice-write-out-2 t c =
     let a = c .before .before .before .before .before .before .before .args in
     let some : 0 < a .places = omega (arith, c .before .before .before .before .before .if1 .left) in
@@ -117,7 +119,12 @@ put-digits-returns-3 t c =
     let some : 0 < a .places = omega (arith, c .before .before .before .before .before .if1 .left) in
     let w = c .before .before .put-digits .ensures in
     let l = digits-length (a .places - 1) (a .number / 10) in
-    let lt : c .before .before .put-digits .result < length (c .before .before .put-digits .last .0) = omega (arith, w .end, w .kept, l) in
+    let lt : c .before .before .put-digits .result < length (c .before .before .put-digits .last .0) = omega (
+      arith,
+      w .end,
+      w .kept,
+      l,
+    ) in
     rw (digits-more (a .places) (a .number) some (c .before .before .before .before .if2 .left))
     (writes-byte (now (a .out)) (c .before .before .put-digits .last .0) (a .at) _ _ _ w lt)
 

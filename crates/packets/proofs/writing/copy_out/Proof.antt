@@ -38,7 +38,8 @@ loop-again c =
     let l = c .before .before .loop in (
       omega arith,
       rw length-set (l .inv .1),
-      rw (l .inv .2) (copy-step (now (c .before .before .before .args .out)) (now (c .before .before .before .args .from)) (l .i) (omega arith) (omega arith)),
+      rw (l .inv .2) (copy-step (now (c .before .before .before .args .out)) (now
+          (c .before .before .before .args .from)) (l .i) (omega arith) (omega arith)),
     )
 
 same-length : tie.Need-same-length Inv-loop μ-loop

@@ -15,7 +15,8 @@ use Rattle.packets.proofs.writing.put.Reads as reads
 use Rattle.packets.proofs.writing.put.Lts as lts
 
 abbrev Inv-loop : tie.InvT-loop
-Inv-loop out₀ at word i₀ out i = (i ≤ length word) × (length out ≡ length out₀) × (take (at + i) out ≡ take at out₀ ++ take i word)
+Inv-loop out₀ at word i₀ out i = (i ≤ length word) × (length out ≡ length out₀) × (take
+    (at + i) out ≡ take at out₀ ++ take i word)
 
 abbrev μ-loop : tie.MeasureT-loop
 μ-loop out₀ at word i₀ out i = length word - i
@@ -43,7 +44,8 @@ loop-again c =
     let l = c .before .before .loop in (
       omega arith,
       rw length-set (l .inv .1),
-      put-step (now (c .before .before .before .args .out)) (l .out) (now (c .before .before .before .args .word)) (c .before .before .before .args .at) (l .i) (l .inv .2) (omega arith) (omega arith),
+      put-step (now (c .before .before .before .args .out)) (l .out) (now (c .before .before .before .args .word))
+          (c .before .before .before .args .at) (l .i) (l .inv .2) (omega arith) (omega arith),
     )
 
 add-result : tie.Need-add-result Inv-loop μ-loop

@@ -29,8 +29,20 @@ check-below t = and 2 check-kinds.ps (falls 2 check-kinds.ps _<_ μ-check t) che
 
 -- what the callees' contracts ask and promise
 abbrev calls : ℕ → check-lts.Claims
-calls t =
-    (code-of-reads.Asked, code-of-reads.Learnt, check-number-reads.Asked, check-number-reads.Learnt, check-field-reads.Asked, check-field-reads.Learnt, check-below t, check.Post, check-not-reads.Asked, check-not-reads.Learnt, check-two-reads.Asked, check-two-reads.Learnt)
+calls t = (
+  code-of-reads.Asked,
+  code-of-reads.Learnt,
+  check-number-reads.Asked,
+  check-number-reads.Learnt,
+  check-field-reads.Asked,
+  check-field-reads.Learnt,
+  check-below t,
+  check.Post,
+  check-not-reads.Asked,
+  check-not-reads.Learnt,
+  check-two-reads.Asked,
+  check-two-reads.Learnt,
+)
 
 -- where the byte's code is known to be k, the answer goes by k
 coded : (t : ℕ) (p : check-lts.After-code-of (calls t) (check-at t) check.Post) {k : Code} → p .code-of .result ≡ k

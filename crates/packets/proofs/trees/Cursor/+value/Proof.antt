@@ -31,8 +31,24 @@ value-below t = and 2 value-kinds.ps (falls 2 value-kinds.ps _<_ μ-value t) val
 
 -- what the callees' contracts ask and promise
 abbrev calls : ℕ → value-lts.Claims
-calls t =
-    (code-of-reads.Asked, code-of-reads.Learnt, number-reads.Asked, number-reads.Learnt, field-reads.Asked, field-reads.Learnt, value-below t, value.Post, yes-no-reads.Asked, yes-no-reads.Learnt, settles-reads.Asked, settles-reads.Learnt, skip-reads.Asked, skip-reads.Learnt, combine-reads.Asked, combine-reads.Learnt)
+calls t = (
+  code-of-reads.Asked,
+  code-of-reads.Learnt,
+  number-reads.Asked,
+  number-reads.Learnt,
+  field-reads.Asked,
+  field-reads.Learnt,
+  value-below t,
+  value.Post,
+  yes-no-reads.Asked,
+  yes-no-reads.Learnt,
+  settles-reads.Asked,
+  settles-reads.Learnt,
+  skip-reads.Asked,
+  skip-reads.Learnt,
+  combine-reads.Asked,
+  combine-reads.Learnt,
+)
 
 -- where the byte's code is known to be k, the answer goes by k
 coded : (t : ℕ) (p : value-lts.After-code-of (calls t) (value-at t) value.Post) {k : Code} → p .code-of .result ≡ k
