@@ -4,10 +4,10 @@
   tools/make_packet_runs.py VECTORS
 
 Reads VECTORS/tables.tsv and VECTORS/packets.tsv (a request, a TAB and its answer to a line).
-Writes crates/packet_runs/data/marked    M1 to M10 of document 01
-       crates/packet_runs/data/tables    requests `table`
-       crates/packet_runs/data/packets   requests `read`, `part` and `list`
-       crates/packet_runs/stdout         the answers due to the three files, in this order
+Writes crates/packet_runs/data/marked      M1 to M10 of document 01
+       crates/packet_runs/data/tables1 ..  requests `table`
+       crates/packet_runs/data/packets1 .. requests `read`, `part` and `list`
+       crates/packet_runs/stdout           the answers due to these files, in this order, in which main names them
 No answer comes from a run of the program: those of M1 to M10 are document 01's, the others the vectors'.
 A part is answered by its length and its bytes, `part LEN HEX`, where the vectors have `part START LEN`.
 """
@@ -18,6 +18,8 @@ from collections import Counter
 CRATE = "crates/packet_runs/"
 SHORT = {"tables": 420, "packets": 500}  # every request of at most so many bytes is taken
 LEAST = 30  # so many of each kind of request and answer are taken, as far as there are, whatever their length
+
+ROOM = 65536  # no file of requests is longer
 
 # The stored form of document 01, 'The stored table'.
 CODES = {"+": 0x10, "-": 0x11, "*": 0x12, "==": 0x20, "<=": 0x23}
@@ -193,13 +195,26 @@ def chosen(vectors, name):
         yield case
 
 
+# The cases in order, in files that fit the room.
+def split(name, cases):
+    files, size = [[]], 0
+    for case in cases:
+        size += len(case[0]) + 1
+        if size > ROOM:
+            files.append([])
+            size = len(case[0]) + 1
+        files[-1].append(case)
+    return {"%s%d" % (name, i): file for i, file in enumerate(files, 1)}
+
+
 def main(vectors):
     stdout = []
     counts = Counter()
     files = {"marked": list(marked())}
     for name in SHORT:
-        files[name] = [(r, due_to(r, a)) for r, a in chosen(vectors, name)]
-        counts.update(group(r, a) for r, a in chosen(vectors, name))
+        taken = list(chosen(vectors, name))
+        files.update(split(name, [(r, due_to(r, a)) for r, a in taken]))
+        counts.update(group(r, a) for r, a in taken)
     for name, cases in files.items():
         with open(CRATE + "data/" + name, "w") as out:
             out.writelines(request + "\n" for request, _ in cases)

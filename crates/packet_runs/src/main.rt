@@ -5,15 +5,6 @@ mod words;
 
 use requests::answer_line;
 use words::find;
-ghost use mathlib.Core.Path.{_≡_};
-ghost use lib.ListN.{length};
-
-// Room for a file of requests.
-fn room() -> [u8; 524288]
-    ensures { λ r. ⌜ 524288 ≡ length r ⌝ }
-{
-    [0; 524288]
-}
 
 // The requests in order; each ends in LF.
 fn answer_all(requests: &[u8]) {
@@ -28,13 +19,14 @@ fn answer_all(requests: &[u8]) {
     }
 }
 
+// A file of at most 65,536 bytes.
 fn run_file(path: &[u8]) {
     let fd = os::open_read(path);
     if fd < 0 {
         os::fail(path);
         return;
     }
-    let mut requests = room();
+    let mut requests = io::large_buffer();
     let n = io::read_full(fd, &mut requests);
     libc::close(fd);
     answer_all(&requests[..n]);
@@ -42,6 +34,11 @@ fn run_file(path: &[u8]) {
 
 fn main() {
     run_file(b"marked");
-    run_file(b"tables");
-    run_file(b"packets");
+    run_file(b"tables1");
+    run_file(b"tables2");
+    run_file(b"packets1");
+    run_file(b"packets2");
+    run_file(b"packets3");
+    run_file(b"packets4");
+    run_file(b"packets5");
 }

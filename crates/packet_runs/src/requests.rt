@@ -70,6 +70,14 @@ fn run_listing(table: &[u8], packet: &[u8]) {
     show_listing(answer, &out);
 }
 
+fn run_packet(table: &[u8], packet: &[u8], kind: u8, number: usize) {
+    match kind {
+        b'r' => run_sized(table, packet, number),
+        b'p' => run_part(table, packet, number),
+        _ => run_listing(table, packet),
+    }
+}
+
 // `read SIZE TABLE PACKET`, `part INDEX TABLE PACKET` or `list TABLE PACKET`; at is the table's place.
 fn answer_packet(line: &[u8], at: usize, kind: u8, number: usize)
     requires { ⌜ at ≤ length (now line) ⌝ }
@@ -79,11 +87,7 @@ fn answer_packet(line: &[u8], at: usize, kind: u8, number: usize)
     let place = next_word(line, at);
     let mut packet = io::buffer();
     let m = bytes_at(line, place, &mut packet);
-    match kind {
-        b'r' => run_sized(&table[..n], &packet[..m], number),
-        b'p' => run_part(&table[..n], &packet[..m], number),
-        _ => run_listing(&table[..n], &packet[..m]),
-    }
+    run_packet(&table[..n], &packet[..m], kind, number);
 }
 
 // A request, known by its first letter.

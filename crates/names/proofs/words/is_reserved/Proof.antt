@@ -59,7 +59,16 @@ same-words-requires-4 c κs = search needs
 
 returns-4 : tie.Need-returns-4
 unfolding any reserved isReserved
-returns-4 c = rw (sym (c .before .before .before .before .before .before .before .before .before .before .same-words .ensures) ∙ c .before .before .before .before .before .before .before .before .before .if1 .left, sym (c .before .before .before .before .before .before .before .same-words2 .ensures) ∙ c .before .before .before .before .before .before .if2 .left, sym (c .before .before .before .before .same-words3 .ensures) ∙ c .before .before .before .if3 .left, sym (c .before .same-words4 .ensures) ∙ c .if4 .taken)
+returns-4 c = rw (
+  sym (c .before .before .before .before .before .before .before .before .before .before .same-words
+      .ensures) ∙ c .before .before .before .before .before .before .before .before .before .if1 .left,
+  sym (c .before
+      .before .before .before .before .before .before .same-words2 .ensures) ∙ c .before .before .before .before
+      .before .before .if2 .left,
+  sym (c .before .before .before .before .same-words3 .ensures) ∙ c .before .before
+      .before .if3 .left,
+  sym (c .before .same-words4 .ensures) ∙ c .if4 .taken,
+)
 
 slice-aggregate-same-words-5 : tie.Need-slice-aggregate-same-words-5
 slice-aggregate-same-words-5 c = search needs
@@ -69,7 +78,20 @@ same-words-requires-5 c κs = search needs
 
 returns-5 : tie.Need-returns-5
 unfolding any reserved isReserved
-returns-5 c = rw (sym (c .before .before .before .before .before .before .before .before .before .before .before .before .before .same-words .ensures) ∙ c .before .before .before .before .before .before .before .before .before .before .before .before .if1 .left, sym (c .before .before .before .before .before .before .before .before .before .before .same-words2 .ensures) ∙ c .before .before .before .before .before .before .before .before .before .if2 .left, sym (c .before .before .before .before .before .before .before .same-words3 .ensures) ∙ c .before .before .before .before .before .before .if3 .left, sym (c .before .before .before .before .same-words4 .ensures) ∙ c .before .before .before .if4 .left, sym (c .before .same-words5 .ensures) ∙ c .if5 .taken)
+returns-5 c = rw (
+  sym (c .before .before .before .before .before .before .before .before .before .before .before
+      .before .before .same-words .ensures) ∙ c .before .before .before .before .before .before .before .before
+      .before .before .before .before .if1 .left,
+  sym (c .before .before .before .before .before .before .before
+      .before .before .before .same-words2 .ensures) ∙ c .before .before .before .before .before .before .before
+      .before .before .if2 .left,
+  sym (c .before .before .before .before .before .before .before .same-words3
+      .ensures) ∙ c .before .before .before .before .before .before .if3 .left,
+  sym (c .before .before .before .before
+      .same-words4 .ensures) ∙ c .before .before .before .if4 .left,
+  sym (c .before .same-words5 .ensures) ∙ c .if5
+      .taken,
+)
 
 slice-aggregate-same-words-6 : tie.Need-slice-aggregate-same-words-6
 slice-aggregate-same-words-6 c = search needs
@@ -79,7 +101,22 @@ same-words-requires-6 c κs = search needs
 
 returns-6 : tie.Need-returns-6
 unfolding any reserved isReserved
-returns-6 c = rw (sym (c .before .before .before .before .before .before .before .before .before .before .before .before .before .before .before .same-words .ensures) ∙ c .before .before .before .before .before .before .before .before .before .before .before .before .before .before .if1 .left, sym (c .before .before .before .before .before .before .before .before .before .before .before .before .same-words2 .ensures) ∙ c .before .before .before .before .before .before .before .before .before .before .before .if2 .left, sym (c .before .before .before .before .before .before .before .before .before .same-words3 .ensures) ∙ c .before .before .before .before .before .before .before .before .if3 .left, sym (c .before .before .before .before .before .before .same-words4 .ensures) ∙ c .before .before .before .before .before .if4 .left, sym (c .before .before .before .same-words5 .ensures) ∙ c .before .before .if5 .left, or-false) (c .same-words6 .ensures)
+returns-6 c = rw (
+  sym (c .before .before .before .before .before .before .before .before .before .before .before
+      .before .before .before .before .same-words .ensures) ∙ c .before .before .before .before .before .before
+      .before .before .before .before .before .before .before .before .if1 .left,
+  sym (c .before .before .before
+      .before .before .before .before .before .before .before .before .before .same-words2 .ensures) ∙ c .before
+      .before .before .before .before .before .before .before .before .before .before .if2 .left,
+  sym (c .before
+      .before .before .before .before .before .before .before .before .same-words3 .ensures) ∙ c .before .before
+      .before .before .before .before .before .before .if3 .left,
+  sym (c .before .before .before .before .before
+      .before .same-words4 .ensures) ∙ c .before .before .before .before .before .if4 .left,
+  sym (c .before .before
+      .before .same-words5 .ensures) ∙ c .before .before .if5 .left,
+  or-false,
+) (c .same-words6 .ensures)
 
 pub is-reserved-spec : {M : Type 1} → statement M
 is-reserved-spec =

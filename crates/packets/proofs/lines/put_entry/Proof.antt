@@ -62,10 +62,23 @@ shared-slice-read-put-number-3 c = search needs
 put-number-requires-3 : tie.Need-put-number-requires-3
 put-number-requires-3 c κs =
     let r = number-room (getD (now
-    (c .before .before .before .before .before .before .before .before .before .before .before .before .before .before .before .args .run)) (4 * c .before .before .before .before .before .before .before .before .before .before .before .before .before .before .before .args .i + 1) 0) (c .before .before .before .before .before .before .before .before .before .before .put-number .ensures) in
+    (c .before .before .before .before .before .before .before .before .before .before .before .before .before
+    .before .before .args .run)) (4 * c .before .before .before .before .before .before .before .before .before
+    .before .before .before .before .before .before .args .i + 1) 0) (c .before .before .before .before .before
+    .before .before .before .before .before .put-number .ensures) in
     let q = number-room (getD (now
-    (c .before .before .before .before .before .before .before .before .before .before .before .before .before .before .before .args .run)) (4 * c .before .before .before .before .before .before .before .before .before .before .before .before .before .before .before .args .i + 2) 0) (c .before .before .before .before .before .put-number2 .ensures) in
-    omega (arith, r, q, c .before .before .before .before .before .before .before .before .before .before .put-number .ensures .kept, c .before .before .before .before .before .put-number2 .ensures .kept)
+    (c .before .before .before .before .before .before .before .before .before .before .before .before .before
+    .before .before .args .run)) (4 * c .before .before .before .before .before .before .before .before .before
+    .before .before .before .before .before .before .args .i + 2) 0) (c .before .before .before .before .before
+    .put-number2 .ensures) in
+    omega (
+      arith,
+      r,
+      q,
+      c .before .before .before .before .before .before .before .before .before .before
+          .put-number .ensures .kept,
+      c .before .before .before .before .before .put-number2 .ensures .kept,
+    )
 
 same-length : tie.Need-same-length
 same-length c = search needs
@@ -73,7 +86,9 @@ same-length c = search needs
 returns : tie.Need-returns
 returns c =
     rw (c .before .before .before .before .before .if1 .taken)
-    (writes-join (c .before .before .before .before .before .before .before .before .before .before .before .before .before .put-number .ensures) (writes-join (c .before .before .before .before .before .before .before .before .put-number2 .ensures) (c .before .before .put-number3 .ensures)))
+    (writes-join (c .before .before .before .before .before .before .before .before .before .before .before .before
+    .before .put-number .ensures) (writes-join (c .before .before .before .before .before .before .before
+    .before .put-number2 .ensures) (c .before .before .put-number3 .ensures)))
 
 same-length-2 : tie.Need-same-length-2
 same-length-2 c = search needs

@@ -80,10 +80,28 @@ slice-aggregate-put-2 c = search needs
 
 put-requires-3 : tie.Need-put-requires-3
 put-requires-3 c κs =
-    let e = entryIn (now (c .before .before .before .before .before .before .before .before .before .before .before .before .before .before .before .before .before .before .before .before .before .before .before .args .run)) (c .before .before .before .before .before .before .before .before .before .before .before .before .before .before .before .before .before .before .before .before .before .before .before .args .i) in
+    let e = entryIn (now (c .before .before .before .before .before .before .before .before .before .before .before
+    .before .before .before .before .before .before .before .before .before .before .before .before .args .run))
+    (c .before .before .before .before .before .before .before .before .before .before .before .before .before
+    .before .before .before .before .before .before .before .before .before .before .args .i) in
     let l = state-length (eqb
-    (c .before .before .before .before .before .before .before .before .before .before .before .before .before .before .before .before .before .before .before .before .before .before .before .args .parts .kind) 2) e in
-    omega (arith, l, c .before .before .before .before .before .before .before .before .before .before .before .before .before .put .ensures .end, c .before .before .before .before .before .before .before .before .put2 .ensures .end, c .before .before .before .before .put-state .ensures .end, c .before .before .before .before .before .before .before .before .before .before .before .before .before .put .ensures .kept, c .before .before .before .before .before .before .before .before .put2 .ensures .kept, c .before .before .before .before .put-state .ensures .kept)
+    (c .before .before .before .before .before .before .before .before .before .before .before .before .before
+    .before .before .before .before .before .before .before .before .before .before .args .parts .kind) 2) e in
+    omega (
+      arith,
+      l,
+      c .before .before .before .before .before .before .before .before .before .before .before
+          .before .before .put .ensures .end,
+      c .before .before .before .before .before .before .before .before .put2
+          .ensures .end,
+      c .before .before .before .before .put-state .ensures .end,
+      c .before .before .before .before
+          .before .before .before .before .before .before .before .before .before .put .ensures .kept,
+      c .before
+          .before .before .before .before .before .before .before .put2 .ensures .kept,
+      c .before .before .before
+          .before .put-state .ensures .kept,
+    )
 
 same-length : tie.Need-same-length
 same-length c = search needs
@@ -91,11 +109,25 @@ same-length c = search needs
 returns-4 : tie.Need-returns-4
 unfolding lineText
 returns-4 c =
-    let p = c .before .before .before .before .before .before .before .before .before .before .before .before .before .before .before .before .before .before .before .before .before .before .before .before .before .before .args .parts .label in
-    let s = now (c .before .before .before .before .before .before .before .before .before .before .before .before .before .before .before .before .before .before .before .before .before .before .before .before .before .before .args .table) in
+    let p = c .before .before .before .before .before .before .before .before .before .before .before .before
+    .before .before .before .before .before .before .before .before .before .before .before .before .before
+    .before .args .parts .label in
+    let s = now (c .before .before .before .before .before .before .before .before .before .before .before .before
+    .before .before .before .before .before .before .before .before .before .before .before .before .before
+    .before .args .table) in
     let e : p .at + p .len - p .at ≡ p .len = omega arith in
-    let name = rw e at (c .before .before .before .before .before .before .before .before .before .before .before .before .before .before .before .before .put .ensures) in
-    rw (le-ltb 40 (p .len) (c .before .before .before .before .before .before .before .before .before .before .before .before .before .before .before .before .before .before .before .before .before .if1 .left), le-ltb (length s) (p .at) (c .before .before .before .before .before .before .before .before .before .before .before .before .before .before .before .before .before .before .before .before .if2 .left), le-ltb (length s - p .at) (p .len) (c .before .before .before .before .before .before .before .before .before .before .before .before .before .before .before .before .before .before .before .if3 .left))
+    let name = rw e at (c .before .before .before .before .before .before .before .before .before .before .before
+    .before .before .before .before .before .put .ensures) in
+    rw (
+      le-ltb 40 (p .len) (c .before .before .before .before .before .before .before .before .before .before
+          .before .before .before .before .before .before .before .before .before .before .before .if1 .left),
+      le-ltb
+          (length s) (p .at) (c .before .before .before .before .before .before .before .before .before .before
+          .before .before .before .before .before .before .before .before .before .before .if2 .left),
+      le-ltb
+          (length s - p .at) (p .len) (c .before .before .before .before .before .before .before .before .before
+          .before .before .before .before .before .before .before .before .before .before .if3 .left),
+    )
     (writes-join name (writes-join
     (c .before .before .before .before .before .before .before .before .before .before .before .put2 .ensures)
     (writes-join (c .before .before .before .before .before .before .before .put-state .ensures)

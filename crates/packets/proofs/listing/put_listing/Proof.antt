@@ -37,7 +37,8 @@ two-at-requires c κs = search needs
 returns : tie.Need-returns
 returns c =
     let s = now (c .before .before .before .before .before .before .before .before .before .before .args .table) in
-    let packet = now (c .before .before .before .before .before .before .before .before .before .before .args .packet) in
+    let packet = now (c .before .before .before .before .before .before .before .before .before .before .args
+    .packet) in
     record {
       text = λ d w is. absurd (omega (arith, c .before .two-at .ensures .0, head-count d s is w, count-most d w));
       inside = omega arith;
@@ -65,14 +66,26 @@ same-length c = search needs
 
 returns-2 : tie.Need-returns-2
 returns-2 c =
-    let s = now (c .before .before .before .before .before .before .before .before .before .before .before .before .before .before .before .before .before .before .before .before .before .args .table) in
-    let packet = now (c .before .before .before .before .before .before .before .before .before .before .before .before .before .before .before .before .before .before .before .before .before .args .packet) in
+    let s = now (c .before .before .before .before .before .before .before .before .before .before .before .before
+    .before .before .before .before .before .before .before .before .before .args .table) in
+    let packet = now (c .before .before .before .before .before .before .before .before .before .before .before
+    .before .before .before .before .before .before .before .before .before .before .args .packet) in
     let j = writes-join (c .before .before .before .before .before .before .before .put-lines .ensures .0)
     (c .before .before .put-bits .ensures) in
-    let k = rw (c .before .before .before .before .before .before .before .before .before .before .before .before .two-at .ensures .0, c .before .before .before .before .before .before .before .before .before .before .two-at2 .ensures .0, c .before .before .before .before .value-of .ensures) at j in
+    let k = rw (
+      c .before .before .before .before .before .before .before .before .before .before .before .before
+          .two-at .ensures .0,
+      c .before .before .before .before .before .before .before .before .before .before
+          .two-at2 .ensures .0,
+      c .before .before .before .before .value-of .ensures,
+    ) at j in
     record {
       text = λ d w is. rw (← listed-accepted s packet d w is _ _
-          (c .before .before .before .before .before .before .before .before .before .before .before .before .before .before .before .before .read-run .ensures d w is) (sym (c .before .before .before .before .before .before .before .before .before .before .before .before .before .before .number-of .ensures) ∙ c .before .before .before .before .before .before .before .before .before .before .before .before .before .if1 .taken)) k;
+          (c .before .before .before .before .before .before .before .before .before .before .before .before .before
+          .before .before .before .read-run .ensures d w is) (sym (c .before .before .before .before .before
+          .before .before .before .before .before .before .before .before .before .number-of .ensures) ∙ c
+          .before .before .before .before .before .before .before .before .before .before .before .before
+          .before .if1 .taken)) k;
       inside = writes-inside j (omega arith);
     }
 
@@ -87,8 +100,10 @@ same-length-2 c = search needs
 
 returns-3 : tie.Need-returns-3
 returns-3 c =
-    let s = now (c .before .before .before .before .before .before .before .before .before .before .before .before .before .args .table) in
-    let packet = now (c .before .before .before .before .before .before .before .before .before .before .before .before .before .args .packet) in
+    let s = now (c .before .before .before .before .before .before .before .before .before .before .before .before
+    .before .args .table) in
+    let packet = now (c .before .before .before .before .before .before .before .before .before .before .before
+    .before .before .args .packet) in
     let k = rw (
       c .before .before .before .before .before .before .number-of .ensures,
       c .before .before .before .before .place-of .ensures,

@@ -26,7 +26,8 @@ put-requires-2 : tie.Need-put-requires-2
 put-requires-2 c κs = omega (
   arith,
   digits-length 10
-      (c .before .before .before .before .before .before .before .before .before .before .before .before .args .number),
+      (c .before .before .before .before .before .before .before .before .before .before .before .before .args
+      .number),
   c .before .before .before .before .before .before .before .before .put .ensures .end,
   c .before .before .before .before .before .before .before .before .put .ensures .kept,
   c .before .before .before .before .put-digits .ensures .end,
@@ -37,9 +38,11 @@ put-digits-requires-2 : tie.Need-put-digits-requires-2
 put-digits-requires-2 c κs = omega (
   arith,
   digits-length 10
-      (c .before .before .before .before .before .before .before .before .before .before .before .before .before .before .before .before .args .number),
+      (c .before .before .before .before .before .before .before .before .before .before .before .before .before
+      .before .before .before .args .number),
   c .before .before .before .before .before .before .before .before .before .before .before .before .put .ensures .end,
-  c .before .before .before .before .before .before .before .before .before .before .before .before .put .ensures .kept,
+  c .before .before .before .before .before .before .before .before .before .before .before .before .put .ensures
+      .kept,
   c .before .before .before .before .before .before .before .before .put-digits .ensures .end,
   c .before .before .before .before .before .before .before .before .put-digits .ensures .kept,
   c .before .before .before .put2 .ensures .end,
@@ -53,14 +56,20 @@ put-requires-3 : tie.Need-put-requires-3
 put-requires-3 c κs = omega (
   arith,
   digits-length 10
-      (c .before .before .before .before .before .before .before .before .before .before .before .before .before .before .before .before .before .before .before .before .before .args .number),
-  c .before .before .before .before .before .before .before .before .before .before .before .before .before .before .before .before .before .put .ensures .end,
-  c .before .before .before .before .before .before .before .before .before .before .before .before .before .before .before .before .before .put .ensures .kept,
-  c .before .before .before .before .before .before .before .before .before .before .before .before .before .put-digits .ensures .end,
-  c .before .before .before .before .before .before .before .before .before .before .before .before .before .put-digits .ensures .kept,
+      (c .before .before .before .before .before .before .before .before .before .before .before .before .before
+      .before .before .before .before .before .before .before .before .args .number),
+  c .before .before .before .before .before .before .before .before .before .before .before .before .before .before
+      .before .before .before .put .ensures .end,
+  c .before .before .before .before .before .before .before .before .before .before .before .before .before .before
+      .before .before .before .put .ensures .kept,
+  c .before .before .before .before .before .before .before .before .before .before .before .before .before
+      .put-digits .ensures .end,
+  c .before .before .before .before .before .before .before .before .before .before .before .before .before
+      .put-digits .ensures .kept,
   c .before .before .before .before .before .before .before .before .put2 .ensures .end,
   c .before .before .before .before .before .before .before .before .put2 .ensures .kept,
-  digits-length 10 (c .before .before .before .before .before .before .before .before .before .before .before .before .before .before .before .before .before .before .before .before .before .args .place),
+  digits-length 10 (c .before .before .before .before .before .before .before .before .before .before .before
+      .before .before .before .before .before .before .before .before .before .before .args .place),
   c .before .before .before .before .put-digits2 .ensures .end,
   c .before .before .before .before .put-digits2 .ensures .kept,
 )
@@ -70,7 +79,11 @@ same-length c = search needs
 
 returns : tie.Need-returns
 returns c = simp append-assoc
-    (writes-join (c .before .before .before .before .before .before .before .before .before .before .before .before .before .before .before .before .before .before .before .before .put .ensures) (writes-join (c .before .before .before .before .before .before .before .before .before .before .before .before .before .before .before .before .put-digits .ensures) (writes-join (c .before .before .before .before .before .before .before .before .before .before .before .put2 .ensures)
+    (writes-join (c .before .before .before .before .before .before .before .before .before .before .before .before
+    .before .before .before .before .before .before .before .before .put .ensures) (writes-join (c .before
+    .before .before .before .before .before .before .before .before .before .before .before .before .before
+    .before .before .put-digits .ensures) (writes-join (c .before .before .before .before .before .before
+    .before .before .before .before .before .put2 .ensures)
     (writes-join (c .before .before .before .before .before .before .before .put-digits2 .ensures)
     (c .before .before .put3 .ensures)))))
 

@@ -5,7 +5,14 @@ use Prim.Native.Nat.{_<_, _≤_}
 use denote.Ref.{now}
 use Rattle.base.specs.Places.{twoAt}
 use Rattle.packets.proofs.PacketPromises.{good-from, bad-from}
-use Rattle.packets.proofs.LookupPromises.{index-bad, index-found, label-bad, label-outside, label-found, label-lent}
+use Rattle.packets.proofs.LookupPromises.{
+  index-bad,
+  index-found,
+  label-bad,
+  label-outside,
+  label-found,
+  label-lent,
+}
 use borrow.Author.Needs.{needs}
 use Rattle.packets.proofs.lookups.find_label.Statement.{statement}
 use Rattle.packets.proofs.lookups.find_label.Tie as tie
@@ -51,8 +58,10 @@ returns-3 c =
     let s = now (c .before .before .before .before .before .before .before .before .before .args .table) in
     let g = good-from _ _ _ (c .before .before .before .before .before .before .before .check-table .ensures)
     (c .before .before .before .before .before .checked .given .1) in
-    let lt : c .before .before .before .before .before .before .before .before .before .args .index < twoAt s 6 = omega (arith, c .before .before .before .two-at .ensures .0) in
-    let l = label-found s (c .before .before .before .before .before .before .before .before .before .args .index) g lt in
+    let lt : c .before .before .before .before .before .before .before .before .before .args
+    .index < twoAt s 6 = omega (arith, c .before .before .before .two-at .ensures .0) in
+    let l = label-found s (c .before .before .before .before .before .before .before .before .before .args
+    .index) g lt in
     let low = rw (← c .before .place-behind .ensures) at (l .low) in
     absurd (omega (arith, low))
 
@@ -61,10 +70,19 @@ parts-at-requires c κs = search needs
 
 returns-4 : tie.Need-returns-4
 returns-4 c =
-    let s = now (c .before .before .before .before .before .before .before .before .before .before .before .before .before .args .table) in
-    let g = good-from _ _ _ (c .before .before .before .before .before .before .before .before .before .before .before .check-table .ensures) (c .before .before .before .before .before .before .before .before .before .checked .given .1) in
-    let lt : c .before .before .before .before .before .before .before .before .before .before .before .before .before .args .index < twoAt s 6 = omega (arith, c .before .before .before .before .before .before .before .two-at .ensures .0) in
-    let l = label-found s (c .before .before .before .before .before .before .before .before .before .before .before .before .before .args .index) g lt in
+    let s = now (c .before .before .before .before .before .before .before .before .before .before .before .before
+    .before .args .table) in
+    let g = good-from _ _ _ (c .before .before .before .before .before .before .before .before .before .before
+    .before .check-table .ensures) (c .before .before .before .before .before .before .before .before .before
+    .checked .given .1) in
+    let lt : c .before .before .before .before .before .before .before .before .before .before .before .before
+    .before .args .index < twoAt s 6 = omega (
+      arith,
+      c .before .before .before .before .before .before .before
+          .two-at .ensures .0,
+    ) in
+    let l = label-found s (c .before .before .before .before .before .before .before .before .before .before .before
+    .before .before .args .index) g lt in
     let inside = rw (
       ← c .before .before .before .before .before .place-behind .ensures,
       ← c .before .before .before .parts-at .ensures,
@@ -76,10 +94,19 @@ sub-if4 c = search needs
 
 returns-5 : tie.Need-returns-5
 returns-5 c =
-    let s = now (c .before .before .before .before .before .before .before .before .before .before .before .before .before .before .before .before .args .table) in
-    let g = good-from _ _ _ (c .before .before .before .before .before .before .before .before .before .before .before .before .before .before .check-table .ensures) (c .before .before .before .before .before .before .before .before .before .before .before .before .checked .given .1) in
-    let lt : c .before .before .before .before .before .before .before .before .before .before .before .before .before .before .before .before .args .index < twoAt s 6 = omega (arith, c .before .before .before .before .before .before .before .before .before .before .two-at .ensures .0) in
-    let l = label-found s (c .before .before .before .before .before .before .before .before .before .before .before .before .before .before .before .before .args .index) g lt in
+    let s = now (c .before .before .before .before .before .before .before .before .before .before .before .before
+    .before .before .before .before .args .table) in
+    let g = good-from _ _ _ (c .before .before .before .before .before .before .before .before .before .before
+    .before .before .before .before .check-table .ensures) (c .before .before .before .before .before .before
+    .before .before .before .before .before .before .checked .given .1) in
+    let lt : c .before .before .before .before .before .before .before .before .before .before .before .before
+    .before .before .before .before .args .index < twoAt s 6 = omega (
+      arith,
+      c .before .before .before .before
+          .before .before .before .before .before .before .two-at .ensures .0,
+    ) in
+    let l = label-found s (c .before .before .before .before .before .before .before .before .before .before .before
+    .before .before .before .before .before .args .index) g lt in
     let inside = rw (
       ← c .before .before .before .before .before .before .before .before .place-behind .ensures,
       ← c .before .before .before .before .before .before .parts-at .ensures,
@@ -88,10 +115,19 @@ returns-5 c =
 
 returns-6 : tie.Need-returns-6
 returns-6 c =
-    let s = now (c .before .before .before .before .before .before .before .before .before .before .before .before .before .before .before .before .args .table) in
-    let g = good-from _ _ _ (c .before .before .before .before .before .before .before .before .before .before .before .before .before .before .check-table .ensures) (c .before .before .before .before .before .before .before .before .before .before .before .before .checked .given .1) in
-    let lt : c .before .before .before .before .before .before .before .before .before .before .before .before .before .before .before .before .args .index < twoAt s 6 = omega (arith, c .before .before .before .before .before .before .before .before .before .before .two-at .ensures .0) in
-    let l = label-found s (c .before .before .before .before .before .before .before .before .before .before .before .before .before .before .before .before .args .index) g lt in
+    let s = now (c .before .before .before .before .before .before .before .before .before .before .before .before
+    .before .before .before .before .args .table) in
+    let g = good-from _ _ _ (c .before .before .before .before .before .before .before .before .before .before
+    .before .before .before .before .check-table .ensures) (c .before .before .before .before .before .before
+    .before .before .before .before .before .before .checked .given .1) in
+    let lt : c .before .before .before .before .before .before .before .before .before .before .before .before
+    .before .before .before .before .args .index < twoAt s 6 = omega (
+      arith,
+      c .before .before .before .before
+          .before .before .before .before .before .before .two-at .ensures .0,
+    ) in
+    let l = label-found s (c .before .before .before .before .before .before .before .before .before .before .before
+    .before .before .before .before .before .args .index) g lt in
     rw (
       c .before .before .before .before .before .before .parts-at .ensures,
       c .before .before .before .before .before .before .before .before .place-behind .ensures,

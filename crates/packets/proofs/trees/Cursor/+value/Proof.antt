@@ -211,9 +211,11 @@ value-returns-9 t c =
 
 value-returns-10 : (t : ℕ) → value-lts.Need-returns-10 (calls t) (value-at t) value.Post
 value-returns-10 t c =
-    let p = c .before .before .before .before .before .before .before .before .before .before .before .before .before .before in
+    let p = c .before .before .before .before .before .before .before .before .before .before .before .before
+    .before .before in
     rw (
-      coded t p (c .before .before .before .before .before .before .before .before .before .before .before .before .c .given .1),
+      coded t p (c .before .before .before .before .before .before .before .before .before .before .before .before
+          .c .given .1),
       ← c .before .before .before .before .before .before .before .before .before .before .value2 .ensures,
       c .before .before .before .before .before .before .before .before .v2 .given .1,
       ← c .before .before .before .before .before .before .settles .ensures,
