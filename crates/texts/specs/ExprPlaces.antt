@@ -1,0 +1,56 @@
+-- What the reader of expressions answers, at places of a text: mirrors the code, no public promise rests on it.
+use mathlib.Core.Path.{_≡_}
+use mathlib.Core.List.{List, [], _∷_}
+use Prim.Native.Nat.{ℕ, _+_, _*_, _≤_, _<_}
+use lib.ListN.{length, drop}
+use Rattle.rules.specs.declared.Op.{Op}
+use Rattle.rules.specs.declared.Op.the-variants.{Or, And, Eq, Ne, Lt, Le, Gt, Ge, Add, Sub, Mul}
+use Rattle.rules.specs.Trees.{Tree, depth, storedLength}
+use Rattle.rules.specs.Reader.{Out, fail, got, Found, missing, found}
+use Rattle.texts.specs.declared.leaves.Read.{Read}
+use Rattle.texts.specs.declared.leaves.Read.the-variants as read
+use Rattle.texts.specs.declared.operators.Mark.{Mark}
+use Rattle.texts.specs.declared.operators.Mark.the-variants as mark
+use Rattle.texts.specs.declared.operators.Sign.{Sign}
+use Rattle.texts.specs.declared.operators.Sign.the-variants as sign
+
+-- ── operators ──
+
+-- the operators of two bytes, and of one
+unfoldable pub longs : List Op
+longs = Or ∷ And ∷ Eq ∷ Ne ∷ Le ∷ Ge ∷ []
+
+unfoldable pub shorts : List Op
+shorts = Lt ∷ Gt ∷ Add ∷ Sub ∷ Mul ∷ []
+
+-- what the reader finds before the text z
+abbrev pub foundBy : Mark → List ℕ → Found
+foundBy mark.Nothing z = missing
+foundBy (mark.Is o) z = found o z
+
+-- the code's answer r is that of the reader in the text s
+unfoldable pub SameSign : List ℕ → Found → Sign → Type 0
+SameSign s missing r = r ≡ sign.Nothing
+SameSign s (found o q) r = (n : ℕ) × (r ≡ sign.At o n) × (drop n s ≡ q)
+
+-- an answered place stands behind `at`, within the text
+unfoldable pub WithinSign : List ℕ → ℕ → Sign → Type 0
+WithinSign s at sign.Nothing = Unit {0}
+WithinSign s at (sign.At o n) = (at < n) × (n ≤ length s)
+
+-- ── expressions ──
+
+-- the code's answer r is that of the reader in the text s, with the tree's depth and stored length
+unfoldable pub Same : List ℕ → Out → Read → Type 0
+Same s fail r = r ≡ read.Nothing
+Same s (got t q) r = (n : ℕ) × (r ≡ read.At n (depth t) (storedLength t)) × (drop n s ≡ q)
+
+-- an answered place stands at `lo` or behind it, within the text; from `at` on, where a tree of depth d and stored
+-- length z was read, each byte of text made the tree at most 1 deeper and 5 longer
+unfoldable pub Within : List ℕ → ℕ → ℕ → ℕ → ℕ → Read → Type 0
+Within s lo at d z read.Nothing = Unit {0}
+Within s lo at d z (read.At n e v) = (lo ≤ n) × (n ≤ length s) × (e + at ≤ d + n) × (v + 5 * at ≤ z + 5 * n)
+
+-- w makes each tree n deeper and longer
+unfoldable pub Adds : ℕ → (Tree (List ℕ) → Tree (List ℕ)) → Type 0
+Adds n w = (t : Tree (List ℕ)) → (depth (w t) ≡ n + depth t) × (storedLength (w t) ≡ n + storedLength t)
