@@ -94,7 +94,8 @@ module _ (c d : ℕ) where
   -- the second byte ends no operator that begins so
   pub two-second : (c ≡ 124 → ⊥) → (c ≡ 38 → ⊥) → (d ≡ 61 → ⊥) → Two mark.Nothing
   unfolding longs firstOf operator after
-  two-second n1 n2 n3 z = rw (other 124 c n1, other 38 c n2, other 61 d n3) (go (eqb 61 c) (eqb 33 c) (eqb 60 c) (eqb 62 c))
+  two-second n1 n2 n3 z =
+      rw (other 124 c n1, other 38 c n2, other 61 d n3) (go (eqb 61 c) (eqb 33 c) (eqb 60 c) (eqb 62 c))
     where
       go : (p q r s : Bool) → foundOr Eq (foundOr Ne (foundOr Le (foundOr Ge missing (cond s none none))
           (cond r none none)) (cond q none none)) (cond p none none) ≡ missing
@@ -244,8 +245,10 @@ module _ (s : List ℕ) (at : ℕ) (g : Sign) where
   pub sign-long : (o : Op) (n : ℕ) → g ≡ sign.At o n → SameSign s (firstOf longs (drop at s)) g
       → WithinSign s at g → Signed s at (firstOf order (drop at s)) (sign.At o n)
   unfolding WithinSign SameSign
-  sign-long o n e w i = (sign-within s at g o n e i,
-      rw (order-split (drop at s), sign-some s (firstOf longs (drop at s)) g o n e w) (n, refl, refl))
+  sign-long o n e w i = (
+    sign-within s at g o n e i,
+    rw (order-split (drop at s), sign-some s (firstOf longs (drop at s)) g o n e w) (n, refl, refl),
+  )
 
 -- ── with the spaces around it ──
 
@@ -254,7 +257,8 @@ module _ (s : List ℕ) (at from : ℕ) (g : Sign) (e : drop from s ≡ skip (dr
       → Signed s at (operatorAt (drop at s)) sign.Nothing
   unfolding WithinSign SameSign operatorAt skipBehind
   operator-none p w =
-      let q : firstOf order (skip (drop at s)) ≡ missing = rw e at (sign-none s (firstOf order (drop from s)) g p w) in
+      let q : firstOf order (skip (drop at s)) ≡ missing = rw e at (sign-none s (firstOf order
+      (drop from s)) g p w) in
       (tt, rw q refl)
 
   pub operator-some : (o : Op) (n m : ℕ) → at ≤ from → g ≡ sign.At o n → WithinSign s from g

@@ -12,9 +12,10 @@ use borrow.Author.Tests.{le-leb, lt-leb, ne-eqb}
 use Rattle.rules.specs.declared.Op.{Op}
 use Rattle.rules.specs.Operators.{level, leftLevel, rightLevel}
 use Rattle.rules.specs.Trees.{Tree, two, negation, depth, storedTree, storedLength}
-use Rattle.rules.specs.Reader.{Out, fail, got, Found, missing, found, operatorAt, close, inside, atom, step, andThen}
-use Rattle.rules.specs.Reader.{leaf, word, behind, expr, more}
-use Rattle.texts.specs.ExprPlaces.{Same, Within, SameSign, Adds}
+use Rattle.rules.specs.Reader.{Out, fail, got, Found, missing, found, operatorAt, close, inside, atom, step}
+use Rattle.rules.specs.Reader.{andThen}
+use Rattle.rules.specs.Reader.{expr, more}
+use Rattle.texts.specs.ExprPlaces.{Same, Within, SameSign, Adds, LeafAt, ExprAt, AtomAt, InsideAt, MoreAt}
 use Rattle.texts.specs.declared.leaves.Read.{Read}
 use Rattle.texts.specs.declared.leaves.Read.the-variants.{Nothing, At}
 use Rattle.texts.specs.declared.operators.Sign.{Sign}
@@ -49,7 +50,8 @@ pub within-fail : (s : List ℕ) (lo at d z : ℕ) → Within s lo at d z Nothin
 unfolding Within
 within-fail s lo at d z = tt
 
-pub within-here : (s : List ℕ) (lo at d z n e v : ℕ) → lo ≤ n → n ≤ length s → e + at ≤ d + n → v + 5 * at ≤ z + 5 * n
+pub within-here : (s : List ℕ)
+    (lo at d z n e v : ℕ) → lo ≤ n → n ≤ length s → e + at ≤ d + n → v + 5 * at ≤ z + 5 * n
     → Within s lo at d z (At n e v)
 unfolding Within
 within-here s lo at d z n e v a b c f = (a, b, c, f)
@@ -87,30 +89,14 @@ two-length o x y z v p q =
 
 -- ── expr ──
 
-module _ (s : List ℕ) (at k b : ℕ) where
-  abbrev pub Expr : Read → Type 0
-  Expr r = (f : ℕ) → length (drop at s) < f → Same s (expr f k b (drop at s)) r
-
-module _ (s : List ℕ) (at b : ℕ) where
-  abbrev pub Atom : Read → Type 0
-  Atom r = (f : ℕ) → length (drop at s) < suc f → Same s (atom (expr f 0) b (drop at s)) r
-
-  abbrev pub Inside : ℕ → Read → Type 0
-  Inside n r = (w : Tree (List ℕ) → Tree (List ℕ)) (f : ℕ) → Adds n w → length (drop at s) < suc f
-      → Same s (inside (expr f 0) b w (drop at s)) r
-
-module _ (s : List ℕ) (at k h b d z : ℕ) where
-  abbrev pub More : Read → Type 0
-  More r = (t : Tree (List ℕ)) (f : ℕ) → depth t ≡ d → storedLength t ≡ z → length (drop at s) < f
-      → Same s (more f k h b t (drop at s)) r
-
-module _ (s : List ℕ) (at k b : ℕ) (r : Read) (A : Atom s at b r) where
-  pub expr-fail : r ≡ Nothing → Expr s at k b Nothing
+module _ (s : List ℕ) (at k b : ℕ) (r : Read) (A : AtomAt s at b r) where
+  pub expr-fail : r ≡ Nothing → ExprAt s at k b Nothing
   unfolding expr andThen Same
   expr-fail e zero lt = absurd (omega arith)
   expr-fail e (suc f) lt = rw (same-fail s (atom (expr f 0) b (drop at s)) r e (A f lt)) refl
 
-  pub expr-go : (n d z : ℕ) → r ≡ At n d z → at < n → n ≤ length s → (r′ : Read) → More s n k 5 b d z r′ → Expr s at k b r′
+  pub expr-go : (n d z : ℕ) → r ≡ At n d z → at < n → n ≤ length s → (r′ : Read)
+      → MoreAt s n k 5 b d z r′ → ExprAt s at k b r′
   unfolding expr andThen
   expr-go n d z e lo hi r′ M zero lt = absurd (omega arith)
   expr-go n d z e lo hi r′ M (suc f) lt =
@@ -121,13 +107,13 @@ module _ (s : List ℕ) (at k b : ℕ) (r : Read) (A : Atom s at b r) where
 -- ── more ──
 
 module _ (s : List ℕ) (at k h b d z : ℕ) (g : Sign) (w : SameSign s (operatorAt (drop at s)) g) where
-  pub more-none : g ≡ sign.Nothing → More s at k h b d z (At at d z)
+  pub more-none : g ≡ sign.Nothing → MoreAt s at k h b d z (At at d z)
   unfolding more step Same
   more-none e t zero dt zt lt = absurd (omega arith)
   more-none e t (suc f) dt zt lt = rw (sign-none s (operatorAt (drop at s)) g e w) (at, rw (dt, zt) refl, refl)
 
   pub more-stop : (o : Op) (n : ℕ) → g ≡ sign.At o n → (leb k (level o) && leb (leftLevel o) h) ≡ false
-      → More s at k h b d z (At at d z)
+      → MoreAt s at k h b d z (At at d z)
   unfolding more step Same
   more-stop o n p out t zero dt zt lt = absurd (omega arith)
   more-stop o n p out t (suc f) dt zt lt =
@@ -155,11 +141,11 @@ more-at s at k h b n o l t f a p lv kl eh q =
 
 module _ (s : List ℕ) (at k h b d z : ℕ) (g : Sign) (w : SameSign s (operatorAt (drop at s)) g) (o : Op) (n l : ℕ)
     (p : g ≡ sign.At o n) (lv : level o ≡ l) (kl : k ≤ l) (eh : leftLevel o ≤ h) (lo : at < n) (hi : n ≤ length s)
-    (y : Read) (E : Expr s n (l + 1) b y) where
+    (y : Read) (E : ExprAt s n (l + 1) b y) where
   lower-to : (m : ℕ) → n ≤ m → (f : ℕ) → length (drop at s) < suc f → length (drop m s) < f
   lower-to m le f lt = simp length-drop (omega (arith, simp length-drop at lt))
 
-  pub more-fail : y ≡ Nothing → More s at k h b d z Nothing
+  pub more-fail : y ≡ Nothing → MoreAt s at k h b d z Nothing
   unfolding andThen Same
   more-fail ye t zero dt zt lt = absurd (omega arith)
   more-fail ye t (suc f) dt zt lt =
@@ -168,7 +154,7 @@ module _ (s : List ℕ) (at k h b d z : ℕ) (g : Sign) (w : SameSign s (operato
       rw (more-at s at k h b n o l t f fail i lv kl eh q) refl
 
   pub more-go : (m e v x : ℕ) → y ≡ At m e v → n < m → m ≤ length s → x ≡ max d e → (r : Read)
-      → More s m k l b (1 + x) (1 + (z + v)) r → More s at k h b d z r
+      → MoreAt s m k l b (1 + x) (1 + (z + v)) r → MoreAt s at k h b d z r
   unfolding andThen
   more-go m e v x ye lo′ hi′ xe r M t zero dt zt lt = absurd (omega arith)
   more-go m e v x ye lo′ hi′ xe r M t (suc f) dt zt lt =
@@ -191,24 +177,24 @@ stop-left k l e h le lt = rw (le-leb k l le, lt-leb e h lt) refl
 -- ── atom ──
 
 module _ (s : List ℕ) (at b : ℕ) where
-  pub atom-end : at ≡ length s → Atom s at b Nothing
+  pub atom-end : at ≡ length s → AtomAt s at b Nothing
   unfolding atom Same
   atom-end e f lt = rw (e, drop-length) refl
 
-  pub atom-bang : at < length s → getD s at 0 ≡ 33 → (r : Read) → Inside s (at + 1) b 1 r → Atom s at b r
+  pub atom-bang : at < length s → getD s at 0 ≡ 33 → (r : Read) → InsideAt s (at + 1) b 1 r → AtomAt s at b r
   unfolding atom
   atom-bang hi e r I f lt =
       let lt′ : length (drop (at + 1) s) < suc f = simp length-drop (omega (arith, simp length-drop at lt)) in
       rw (drop-cons s at 0 hi, e) (rw add-one at (I negation f adds-not lt′))
 
-  pub atom-paren : at < length s → getD s at 0 ≡ 40 → (r : Read) → Inside s at b 0 r → Atom s at b r
+  pub atom-paren : at < length s → getD s at 0 ≡ 40 → (r : Read) → InsideAt s at b 0 r → AtomAt s at b r
   unfolding atom
   atom-paren hi e r I f lt =
       let q : drop at s ≡ 40 ∷ drop (suc at) s = drop-cons s at 0 hi ∙ ap (λ (x : ℕ). x ∷ drop (suc at) s) e in
       rw q (rw q at (I (λ t. t) f adds-none lt))
 
   pub atom-word : at < length s → (getD s at 0 ≡ 33 → ⊥) → (getD s at 0 ≡ 40 → ⊥) → (r : Read)
-      → Same s (leaf (word (drop at s)) (behind (drop at s))) r → Atom s at b r
+      → LeafAt s at r → AtomAt s at b r
   unfolding atom
   atom-word hi n33 n40 r L f lt =
       let q = drop-cons s at 0 hi in
@@ -217,11 +203,11 @@ module _ (s : List ℕ) (at b : ℕ) where
 -- ── inside ──
 
 module _ (s : List ℕ) (at b n : ℕ) where
-  pub in-end : at ≡ length s → Inside s at b n Nothing
+  pub in-end : at ≡ length s → InsideAt s at b n Nothing
   unfolding inside Same
   in-end e w f a lt = rw (e, drop-length) refl
 
-  pub in-zero : at < length s → b ≡ 0 → Inside s at b n Nothing
+  pub in-zero : at < length s → b ≡ 0 → InsideAt s at b n Nothing
   unfolding inside Same
   in-zero hi e w f a lt = rw (drop-cons s at 0 hi, e) refl
 
@@ -231,7 +217,8 @@ in-rest : (s : List ℕ) (at b : ℕ) → at < length s → (b ≡ 0 → ⊥) �
     → inside (expr f 0) b w (drop at s) ≡ close w (expr f 0 (b - 1) (drop (at + 1) s))
 unfolding inside
 in-rest s at zero hi nz e w f = absurd (nz refl)
-in-rest s at (suc b) hi nz e w f = let q : suc b - 1 ≡ b = omega arith in rw (drop-cons s at 0 hi, e, q, add-one at) refl
+in-rest s at (suc b) hi nz e w f = let q : suc b - 1 ≡ b = omega arith in rw
+    (drop-cons s at 0 hi, e, q, add-one at) refl
 
 in-other : (s : List ℕ) (at b : ℕ) → at < length s → (getD s at 0 ≡ 40 → ⊥) → (w : Tree (List ℕ) → Tree (List ℕ))
     (f : ℕ) → inside (expr f 0) b w (drop at s) ≡ fail
@@ -245,31 +232,33 @@ unfolding close
 close-end w o t z p q = rw (p, q) refl
 
 module _ (s : List ℕ) (at b over : ℕ) (hi : at < length s) where
-  pub in-wrong : (getD s at 0 ≡ 40 → ⊥) → Inside s at b over Nothing
+  pub in-wrong : (getD s at 0 ≡ 40 → ⊥) → InsideAt s at b over Nothing
   unfolding Same
   in-wrong e w f a lt = rw (in-other s at b hi e w f) refl
 
-  module _ (nz : b ≡ 0 → ⊥) (e : getD s at 0 ≡ 40) (r : Read) (E : Expr s (at + 1) 0 (b - 1) r) where
+  module _ (nz : b ≡ 0 → ⊥) (e : getD s at 0 ≡ 40) (r : Read) (E : ExprAt s (at + 1) 0 (b - 1) r) where
     lower : (f : ℕ) → length (drop at s) < suc f → length (drop (at + 1) s) < f
     lower f lt = simp length-drop (omega (arith, simp length-drop at lt))
 
-    pub in-fail : r ≡ Nothing → Inside s at b over Nothing
+    pub in-fail : r ≡ Nothing → InsideAt s at b over Nothing
     unfolding close Same
-    in-fail p w f a lt = rw (in-rest s at b hi nz e w f,
-        same-fail s (expr f 0 (b - 1) (drop (at + 1) s)) r p (E f (lower f lt))) refl
+    in-fail p w f a lt = rw (
+      in-rest s at b hi nz e w f,
+      same-fail s (expr f 0 (b - 1) (drop (at + 1) s)) r p (E f (lower f lt)),
+    ) refl
 
     module _ (n d z : ℕ) (p : r ≡ At n d z) where
       read-in : (f : ℕ) → length (drop at s) < suc f → Is s (expr f 0 (b - 1) (drop (at + 1) s)) n d z
       read-in f lt = same-got s (expr f 0 (b - 1) (drop (at + 1) s)) r n d z p (E f (lower f lt))
 
-      pub in-open : n ≡ length s → Inside s at b over Nothing
+      pub in-open : n ≡ length s → InsideAt s at b over Nothing
       unfolding close Same
       in-open q w f a lt =
           let v = read-in f lt in
           rw (in-rest s at b hi nz e w f) (rw (close-end w (expr f 0 (b - 1) (drop (at + 1) s)) (v .tree) (drop n s)
           (v .is) (rw (q, drop-length) refl)) refl)
 
-      pub in-close : n < length s → getD s n 0 ≡ 41 → Inside s at b over (At (n + 1) (over + d) (over + z))
+      pub in-close : n < length s → getD s n 0 ≡ 41 → InsideAt s at b over (At (n + 1) (over + d) (over + z))
       unfolding close Same Adds
       in-close lt′ q w f a lt =
           let v = read-in f lt in
@@ -277,7 +266,7 @@ module _ (s : List ℕ) (at b over : ℕ) (hi : at < length s) where
           rw (in-rest s at b hi nz e w f, v .is, drop-cons s n 0 lt′, q)
           (n + 1, rw (u .0, u .1, v .depth-is, v .length-is) refl, rw add-one refl)
 
-      pub in-left : n < length s → (getD s n 0 ≡ 41 → ⊥) → Inside s at b over Nothing
+      pub in-left : n < length s → (getD s n 0 ≡ 41 → ⊥) → InsideAt s at b over Nothing
       unfolding close Same
       in-left lt′ q w f a lt =
           let v = read-in f lt in

@@ -1,18 +1,15 @@
 // The longest expression at a place of a text.
-use crate::leaves::leaf_at;
 use crate::leaves::Read;
+use crate::leaves::leaf_at;
+use crate::operators::Sign;
 use crate::operators::left_of;
 use crate::operators::level_of;
 use crate::operators::operator_at;
-use crate::operators::Sign;
 ghost use mathlib.Core.Path.{_≡_};
-ghost use mathlib.Core.List.{List};
-ghost use Prim.Native.Nat.{ℕ, suc, _+_, _*_, _≤_, _<_, max};
-ghost use lib.ListN.{length, drop};
+ghost use Prim.Native.Nat.{_+_, _*_, _≤_, max};
+ghost use lib.ListN.{length};
 ghost use Rattle.rules.specs.Limits.{textMost};
-ghost use Rattle.rules.specs.Trees.{Tree, depth, storedLength};
-ghost use Rattle.rules.specs.Reader as reader;
-ghost use Rattle.texts.specs.ExprPlaces.{Same, Within, Adds};
+ghost use Rattle.texts.specs.ExprPlaces.{Within, ExprAt, AtomAt, InsideAt, MoreAt};
 
 fn larger(a: usize, b: usize) -> usize
     ensures { λ r. ⌜ r ≡ max a b ⌝ }
@@ -24,7 +21,7 @@ fn larger(a: usize, b: usize) -> usize
 pub(crate) fn expr(s: &[u8], at: usize, k: u8, b: u8) -> Read
     requires { ⌜ (at ≤ length (now s)) × (length (now s) ≤ textMost) ⌝ }
     ensures place { λ r. ⌜ Within (now (s .entry)) (at + 1) at 0 0 r ⌝ }
-    ensures same { λ r. ⌜ ((f : ℕ) → length (drop at (now (s .entry))) < f → Same (now (s .entry)) (reader.expr f k b (drop at (now (s .entry)))) r) ⌝ }
+    ensures same { λ r. ⌜ ExprAt (now (s .entry)) at k b r ⌝ }
 {
     let a = atom(s, at, b);
     match a {
@@ -37,7 +34,7 @@ pub(crate) fn expr(s: &[u8], at: usize, k: u8, b: u8) -> Read
 fn atom(s: &[u8], at: usize, b: u8) -> Read
     requires { ⌜ (at ≤ length (now s)) × (length (now s) ≤ textMost) ⌝ }
     ensures place { λ r. ⌜ Within (now (s .entry)) (at + 1) at 0 0 r ⌝ }
-    ensures same { λ r. ⌜ ((f : ℕ) → length (drop at (now (s .entry))) < suc f → Same (now (s .entry)) (reader.atom (reader.expr f 0) b (drop at (now (s .entry)))) r) ⌝ }
+    ensures same { λ r. ⌜ AtomAt (now (s .entry)) at b r ⌝ }
 {
     if at == s.len() {
         return Read::Nothing;
@@ -56,7 +53,7 @@ fn atom(s: &[u8], at: usize, b: u8) -> Read
 fn inside(s: &[u8], at: usize, b: u8, over: usize) -> Read
     requires { ⌜ (at ≤ length (now s)) × (length (now s) ≤ textMost) × (over ≤ 1) ⌝ }
     ensures place { λ r. ⌜ Within (now (s .entry)) (at + 1) at 0 0 r ⌝ }
-    ensures same { λ r. ⌜ ((w : Tree (List ℕ) → Tree (List ℕ)) (f : ℕ) → Adds over w → length (drop at (now (s .entry))) < suc f → Same (now (s .entry)) (reader.inside (reader.expr f 0) b w (drop at (now (s .entry)))) r) ⌝ }
+    ensures same { λ r. ⌜ InsideAt (now (s .entry)) at b over r ⌝ }
 {
     if at == s.len() {
         return Read::Nothing;
@@ -74,7 +71,11 @@ fn inside(s: &[u8], at: usize, b: u8, over: usize) -> Read
             if n == s.len() {
                 return Read::Nothing;
             }
-            if s[n] == b')' { Read::At(n + 1, over + d, over + z) } else { Read::Nothing }
+            if s[n] == b')' {
+                Read::At(n + 1, over + d, over + z)
+            } else {
+                Read::Nothing
+            }
         }
     }
 }
@@ -83,7 +84,7 @@ fn inside(s: &[u8], at: usize, b: u8, over: usize) -> Read
 fn more(s: &[u8], at: usize, k: u8, h: u8, b: u8, d: usize, z: usize) -> Read
     requires { ⌜ (at ≤ length (now s)) × (length (now s) ≤ textMost) × (d ≤ at) × (z ≤ 5 * at) ⌝ }
     ensures place { λ r. ⌜ Within (now (s .entry)) at at d z r ⌝ }
-    ensures same { λ r. ⌜ ((t : Tree (List ℕ)) (f : ℕ) → depth t ≡ d → storedLength t ≡ z → length (drop at (now (s .entry))) < f → Same (now (s .entry)) (reader.more f k h b t (drop at (now (s .entry)))) r) ⌝ }
+    ensures same { λ r. ⌜ MoreAt (now (s .entry)) at k h b d z r ⌝ }
 {
     let g = operator_at(s, at);
     match g {

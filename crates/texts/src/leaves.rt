@@ -1,14 +1,14 @@
 // Words of letters and digits at a place of a text: short names and numbers.
+use names::classes::DIGIT;
 use names::classes::class_of;
 use names::classes::is_word_byte;
-use names::classes::DIGIT;
 use names::labels::is_short;
 ghost use mathlib.Core.Path.{_≡_};
 ghost use Prim.Native.Nat.{ℕ, _+_, _≤_};
 ghost use lib.ListN.{length, drop};
 ghost use Rattle.rules.specs.Names.{isDigit};
-ghost use Rattle.rules.specs.Reader.{word, behind, leaf, isNumberWord};
-ghost use Rattle.texts.specs.ExprPlaces.{Same, Within};
+ghost use Rattle.rules.specs.Reader.{behind, isNumberWord};
+ghost use Rattle.texts.specs.ExprPlaces.{LeafAt, Within};
 
 // The place behind an expression, its depth and the length of its stored form.
 pub(crate) enum Read {
@@ -68,7 +68,7 @@ fn is_number(w: &[u8]) -> bool
 pub(crate) fn leaf_at(s: &[u8], at: usize) -> Read
     requires { ⌜ at ≤ length (now s) ⌝ }
     ensures place { λ r. ⌜ Within (now (s .entry)) (at + 1) at 0 0 r ⌝ }
-    ensures same { λ r. ⌜ Same (now (s .entry)) (leaf (word (drop at (now (s .entry)))) (behind (drop at (now (s .entry))))) r ⌝ }
+    ensures same { λ r. ⌜ LeafAt (now (s .entry)) at r ⌝ }
 {
     let end = word_end(s, at);
     if is_short(&s[at..end]) {

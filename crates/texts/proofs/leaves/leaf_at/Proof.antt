@@ -31,7 +31,7 @@ is-short-requires : tie.Need-is-short-requires
 is-short-requires c κs = search needs
 
 returns : tie.Need-returns
-returns c = 
+returns c =
     let s = c .before .before .before .before .before .args .s .now in
     let at = c .before .before .before .before .before .args .at in
     let end = c .before .before .before .word-end .result in
@@ -52,23 +52,27 @@ is-number-requires : tie.Need-is-number-requires
 is-number-requires c κs = search needs
 
 returns-2 : tie.Need-returns-2
-returns-2 c = 
+returns-2 c =
     let s = c .before .before .before .before .before .before .before .before .args .s .now in
     let at = c .before .before .before .before .before .before .before .before .args .at in
     let end = c .before .before .before .before .before .before .word-end .result in
     let w = c .before .before .before .before .before .before .word-end .ensures in
-    let n : isShort (take (end - at) (drop at s)) ≡ false = sym (c .before .before .before .before .is-short .ensures) ∙ c .before .before .before .if1 .left in
-    let q : isNumberWord (take (end - at) (drop at s)) ≡ true = sym (c .before .is-number .ensures) ∙ c .if2 .taken in
+    let n : isShort (take (end - at) (drop at s)) ≡ false = sym
+    (c .before .before .before .before .is-short .ensures) ∙ c .before .before .before .if1 .left in
+    let q : isNumberWord (take (end - at) (drop at s)) ≡ true = sym
+    (c .before .is-number .ensures) ∙ c .if2 .taken in
     leaf-number s at end (w .0 .0) (w .0 .1) (w .1) n q
 
 returns-3 : tie.Need-returns-3
-returns-3 c = 
+returns-3 c =
     let s = c .before .before .before .before .before .before .before .before .args .s .now in
     let at = c .before .before .before .before .before .before .before .before .args .at in
     let end = c .before .before .before .before .before .before .word-end .result in
     let w = c .before .before .before .before .before .before .word-end .ensures in
-    let n : isShort (take (end - at) (drop at s)) ≡ false = sym (c .before .before .before .before .is-short .ensures) ∙ c .before .before .before .if1 .left in
-    let q : isNumberWord (take (end - at) (drop at s)) ≡ false = sym (c .before .is-number .ensures) ∙ c .if2 .left in
+    let n : isShort (take (end - at) (drop at s)) ≡ false = sym
+    (c .before .before .before .before .is-short .ensures) ∙ c .before .before .before .if1 .left in
+    let q : isNumberWord (take (end - at) (drop at s)) ≡ false = sym
+    (c .before .is-number .ensures) ∙ c .if2 .left in
     leaf-neither s at end (w .0 .0) (w .0 .1) (w .1) n q
 
 pub leaf-at-spec : {M : Type 1} → statement M

@@ -30,10 +30,11 @@ is-word-byte-requires : tie.Need-is-word-byte-requires Inv-loop μ-loop
 is-word-byte-requires c κs = search needs
 
 returns : tie.Need-returns Inv-loop μ-loop
-returns c = 
+returns c =
     let s = c .before .before .before .before .before .before .args .s .now in
     let i = c .before .before .before .before .loop .i in
-    let n : isWordByte (getD s i 0) ≡ false = sym (c .before .is-word-byte .ensures) ∙ not-true (c .before .is-word-byte .result) (c .if1 .taken) in
+    let n : isWordByte (getD s i 0) ≡ false = sym (c .before .is-word-byte .ensures) ∙ not-true
+    (c .before .is-word-byte .result) (c .if1 .taken) in
     (omega arith, behind-stop s i (omega arith) n ∙ sym (c .before .before .before .before .loop .inv .2))
 
 add-i : tie.Need-add-i Inv-loop μ-loop
@@ -43,14 +44,15 @@ loop-less : tie.Need-loop-less Inv-loop μ-loop
 loop-less c = search needs
 
 loop-again : tie.Need-loop-again Inv-loop μ-loop
-loop-again c = 
+loop-again c =
     let s = c .before .before .before .before .before .before .args .s .now in
     let i = c .before .before .before .before .loop .i in
-    let y : isWordByte (getD s i 0) ≡ true = sym (c .before .is-word-byte .ensures) ∙ not-false (c .before .is-word-byte .result) (c .if1 .left) in
+    let y : isWordByte (getD s i 0) ≡ true = sym (c .before .is-word-byte .ensures) ∙ not-false
+    (c .before .is-word-byte .result) (c .if1 .left) in
     (omega arith, omega arith, c .before .before .before .before .loop .inv .2 ∙ behind-step s i (omega arith) y)
 
 returns-2 : tie.Need-returns-2 Inv-loop μ-loop
-returns-2 c = 
+returns-2 c =
     let s = c .before .before .before .args .s .now in
     let i = c .before .loop .i in
     (omega arith, behind-end s i (omega arith) (omega arith) ∙ sym (c .before .loop .inv .2))

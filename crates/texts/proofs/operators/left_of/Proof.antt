@@ -14,13 +14,13 @@ level-of-requires : tie.Need-level-of-requires
 level-of-requires c κs = search needs
 
 returns : tie.Need-returns
-returns c = 
+returns c =
     let o = c .before .before .args .o in
     let e : level o ≡ 2 = sym (c .before .level-of .ensures) ∙ c .if1 .taken in
     rw (left-is o, eq-eqb (level o) 2 e)
 
 returns-2 : tie.Need-returns-2
-returns-2 c = 
+returns-2 c =
     let o = c .before .before .args .o in
     let n : level o ≡ 2 → ⊥ = λ e. c .if1 .left (c .before .level-of .ensures ∙ e) in
     rw (left-is o, ne-eqb (level o) 2 n) (c .before .level-of .ensures)

@@ -26,10 +26,14 @@ add-t10 : tie.Need-add-t10
 add-t10 c = search needs
 
 returns-2 : tie.Need-returns-2
-returns-2 c = short-none (c .before .before .before .before .before .before .args .s .now) (c .before .before .before .before .before .before .args .at) (omega arith) _ (c .before .before .one-byte .ensures) (c .enum-told .given .1)
+returns-2 c = short-none (c .before .before .before .before .before .before .args .s .now)
+    (c .before .before .before .before .before .before .args .at) (omega arith) _
+    (c .before .before .one-byte .ensures) (c .enum-told .given .1)
 
 returns-3 : tie.Need-returns-3
-returns-3 c = short-some (c .before .before .before .before .before .before .before .args .s .now) (c .before .before .before .before .before .before .before .args .at) (omega arith) _ (c .before .before .before .one-byte .ensures) _ (c .before .m .given .1)
+returns-3 c = short-some (c .before .before .before .before .before .before .before .args .s .now)
+    (c .before .before .before .before .before .before .before .args .at) (omega arith) _
+    (c .before .before .before .one-byte .ensures) _ (c .before .m .given .1)
 
 pub one-at-spec : {M : Type 1} → statement M
 one-at-spec =

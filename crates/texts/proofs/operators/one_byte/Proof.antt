@@ -21,7 +21,9 @@ returns-5 : tie.Need-returns-5
 returns-5 c = one-mul (c .before .before .before .before .before .args .c) (c .if5 .taken)
 
 returns-6 : tie.Need-returns-6
-returns-6 c = one-none (c .before .before .before .before .before .args .c) (c .before .before .before .before .if1 .left) (c .before .before .before .if2 .left) (c .before .before .if3 .left) (c .before .if4 .left) (c .if5 .left)
+returns-6 c = one-none (c .before .before .before .before .before .args .c)
+    (c .before .before .before .before .if1 .left) (c .before .before .before .if2 .left)
+    (c .before .before .if3 .left) (c .before .if4 .left) (c .if5 .left)
 
 pub one-byte-spec : {M : Type 1} → statement M
 one-byte-spec = tie.close (tie.spec returns returns-2 returns-3 returns-4 returns-5 returns-6)

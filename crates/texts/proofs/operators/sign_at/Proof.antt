@@ -20,11 +20,17 @@ enum-known-g : tie.Need-enum-known-g
 enum-known-g c = search needs
 
 returns : tie.Need-returns
-returns c = (c .one-at .ensures .0,
-    sign-short (c .before .before .before .before .before .args .s .now) (c .before .before .before .before .before .args .at) _ (c .before .enum-told .given .1) (c .before .before .before .two-at .ensures .1) _ (c .one-at .ensures .1))
+returns c = (
+  c .one-at .ensures .0,
+  sign-short (c .before .before .before .before .before .args .s .now)
+      (c .before .before .before .before .before .args .at) _ (c .before .enum-told .given .1)
+      (c .before .before .before .two-at .ensures .1) _ (c .one-at .ensures .1),
+)
 
 returns-2 : tie.Need-returns-2
-returns-2 c = sign-long (c .before .before .before .before .before .args .s .now) (c .before .before .before .before .before .args .at) _ _ _ (c .before .g .given .1) (c .before .before .before .two-at .ensures .1) (c .before .before .before .two-at .ensures .0)
+returns-2 c = sign-long (c .before .before .before .before .before .args .s .now)
+    (c .before .before .before .before .before .args .at) _ _ _ (c .before .g .given .1)
+    (c .before .before .before .two-at .ensures .1) (c .before .before .before .two-at .ensures .0)
 
 pub sign-at-spec : {M : Type 1} → statement M
 sign-at-spec =

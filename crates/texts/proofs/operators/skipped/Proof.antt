@@ -16,10 +16,18 @@ add-result : tie.Need-add-result
 add-result c = search needs
 
 returns-2 : tie.Need-returns-2
-returns-2 c = (omega arith, skip-yes (c .before .before .before .args .s .now) (c .before .before .before .args .at) (omega arith) (c .if2 .taken))
+returns-2 c = (
+  omega arith,
+  skip-yes (c .before .before .before .args .s .now)
+      (c .before .before .before .args .at) (omega arith) (c .if2 .taken),
+)
 
 returns-3 : tie.Need-returns-3
-returns-3 c = (omega arith, skip-no (c .before .before .before .args .s .now) (c .before .before .before .args .at) (omega arith) (c .if2 .left))
+returns-3 c = (
+  omega arith,
+  skip-no (c .before .before .before .args .s .now)
+      (c .before .before .before .args .at) (omega arith) (c .if2 .left),
+)
 
 pub skipped-spec : {M : Type 1} → statement M
 skipped-spec = tie.close (tie.spec returns shared-slice-read-if2 add-result returns-2 returns-3)

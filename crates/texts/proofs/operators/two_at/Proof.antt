@@ -35,10 +35,14 @@ add-t13 : tie.Need-add-t13
 add-t13 c = search needs
 
 returns-2 : tie.Need-returns-2
-returns-2 c = long-none (c .before .before .before .before .before .before .before .args .s .now) (c .before .before .before .before .before .before .before .args .at) (omega arith) _ (c .before .before .two-bytes .ensures) (c .enum-told .given .1)
+returns-2 c = long-none (c .before .before .before .before .before .before .before .args .s .now)
+    (c .before .before .before .before .before .before .before .args .at) (omega arith) _
+    (c .before .before .two-bytes .ensures) (c .enum-told .given .1)
 
 returns-3 : tie.Need-returns-3
-returns-3 c = long-some (c .before .before .before .before .before .before .before .before .args .s .now) (c .before .before .before .before .before .before .before .before .args .at) (omega arith) _ (c .before .before .before .two-bytes .ensures) _ (c .before .m .given .1)
+returns-3 c = long-some (c .before .before .before .before .before .before .before .before .args .s .now)
+    (c .before .before .before .before .before .before .before .before .args .at) (omega arith) _
+    (c .before .before .before .two-bytes .ensures) _ (c .before .m .given .1)
 
 pub two-at-spec : {M : Type 1} → statement M
 two-at-spec =
