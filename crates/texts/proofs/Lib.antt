@@ -21,6 +21,8 @@
 -- Resolve, ResolveRows     forms that keep 6 to 10 resolve to a description that the text spells
 -- AllowedLines, AllowedTexts   the bytes of a text that spells a description are allowed
 -- Answered, TextResults    no text spells two descriptions; exactly one outcome for each text and output
+-- ExprSigns, ExprLeaves    operators and words at a place of a text, as the code reads them
+-- ExprSteps                expressions at a place of a text
 pub mod Combine
 pub mod LineNames
 pub mod LineTrees
@@ -49,3 +51,6 @@ pub mod AllowedLines
 pub mod AllowedTexts
 pub mod Answered
 pub mod TextResults
+pub mod ExprSigns
+pub mod ExprLeaves
+pub mod ExprSteps

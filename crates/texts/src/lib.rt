@@ -1,1 +1,5 @@
-// No code stands here yet: specs/ holds readers that mirror what the code is to do, proofs/ the theorems on spelling.
+// Texts: where expressions stand in them. specs/ holds readers that mirror what the code does, proofs/ the theorems on
+// spelling.
+mod expressions;
+mod leaves;
+mod operators;

@@ -1,0 +1,78 @@
+-- What the reader of expressions answers, at places of a text: mirrors the code, no public promise rests on it.
+use mathlib.Core.Path.{_≡_}
+use mathlib.Core.List.{List, [], _∷_}
+use Prim.Native.Nat.{ℕ, suc, _+_, _*_, _≤_, _<_}
+use lib.ListN.{length, drop}
+use Rattle.rules.specs.declared.Op.{Op}
+use Rattle.rules.specs.declared.Op.the-variants.{Or, And, Eq, Ne, Lt, Le, Gt, Ge, Add, Sub, Mul}
+use Rattle.rules.specs.Trees.{Tree, depth, storedLength}
+use Rattle.rules.specs.Reader.{Out, fail, got, Found, missing, found, word, behind, leaf, inside, atom, expr, more}
+use Rattle.texts.specs.declared.leaves.Read.{Read}
+use Rattle.texts.specs.declared.leaves.Read.the-variants as read
+use Rattle.texts.specs.declared.operators.Mark.{Mark}
+use Rattle.texts.specs.declared.operators.Mark.the-variants as mark
+use Rattle.texts.specs.declared.operators.Sign.{Sign}
+use Rattle.texts.specs.declared.operators.Sign.the-variants as sign
+
+-- ── operators ──
+
+-- the operators of two bytes, and of one
+unfoldable pub longs : List Op
+longs = Or ∷ And ∷ Eq ∷ Ne ∷ Le ∷ Ge ∷ []
+
+unfoldable pub shorts : List Op
+shorts = Lt ∷ Gt ∷ Add ∷ Sub ∷ Mul ∷ []
+
+-- what the reader finds before the text z
+abbrev pub foundBy : Mark → List ℕ → Found
+foundBy mark.Nothing z = missing
+foundBy (mark.Is o) z = found o z
+
+-- the code's answer r is that of the reader in the text s
+unfoldable pub SameSign : List ℕ → Found → Sign → Type 0
+SameSign s missing r = r ≡ sign.Nothing
+SameSign s (found o q) r = (n : ℕ) × (r ≡ sign.At o n) × (drop n s ≡ q)
+
+-- an answered place stands behind `at`, within the text
+unfoldable pub WithinSign : List ℕ → ℕ → Sign → Type 0
+WithinSign s at sign.Nothing = Unit {0}
+WithinSign s at (sign.At o n) = (at < n) × (n ≤ length s)
+
+-- ── expressions ──
+
+-- the code's answer r is that of the reader in the text s, with the tree's depth and stored length
+unfoldable pub Same : List ℕ → Out → Read → Type 0
+Same s fail r = r ≡ read.Nothing
+Same s (got t q) r = (n : ℕ) × (r ≡ read.At n (depth t) (storedLength t)) × (drop n s ≡ q)
+
+-- an answered place stands at `lo` or behind it, within the text; from `at` on, where a tree of depth d and stored
+-- length z was read, each byte of text made the tree at most 1 deeper and 5 longer
+unfoldable pub Within : List ℕ → ℕ → ℕ → ℕ → ℕ → Read → Type 0
+Within s lo at d z read.Nothing = Unit {0}
+Within s lo at d z (read.At n e v) = (lo ≤ n) × (n ≤ length s) × (e + at ≤ d + n) × (v + 5 * at ≤ z + 5 * n)
+
+-- w makes each tree n deeper and longer
+unfoldable pub Adds : ℕ → (Tree (List ℕ) → Tree (List ℕ)) → Type 0
+Adds n w = (t : Tree (List ℕ)) → (depth (w t) ≡ n + depth t) × (storedLength (w t) ≡ n + storedLength t)
+
+-- ── what the code promises at the place `at` of the text s, whatever fuel the reader has, if it is enough ──
+
+abbrev pub LeafAt : List ℕ → ℕ → Read → Type 0
+LeafAt s at r = Same s (leaf (word (drop at s)) (behind (drop at s))) r
+
+-- an expression at level k and tighter, with b parentheses that may be opened
+abbrev pub ExprAt : List ℕ → ℕ → ℕ → ℕ → Read → Type 0
+ExprAt s at k b r = (f : ℕ) → length (drop at s) < f → Same s (expr f k b (drop at s)) r
+
+abbrev pub AtomAt : List ℕ → ℕ → ℕ → Read → Type 0
+AtomAt s at b r = (f : ℕ) → length (drop at s) < suc f → Same s (atom (expr f 0) b (drop at s)) r
+
+-- parentheses, of a whole that is n deeper and longer than what stands in them
+abbrev pub InsideAt : List ℕ → ℕ → ℕ → ℕ → Read → Type 0
+InsideAt s at b n r = (w : Tree (List ℕ) → Tree (List ℕ)) (f : ℕ) → Adds n w → length (drop at s) < suc f
+    → Same s (inside (expr f 0) b w (drop at s)) r
+
+-- what goes on behind a tree of level h, depth d and stored length z
+abbrev pub MoreAt : List ℕ → ℕ → ℕ → ℕ → ℕ → ℕ → ℕ → Read → Type 0
+MoreAt s at k h b d z r = (t : Tree (List ℕ)) (f : ℕ) → depth t ≡ d → storedLength t ≡ z → length (drop at s) < f
+    → Same s (more f k h b t (drop at s)) r

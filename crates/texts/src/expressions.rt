@@ -1,0 +1,106 @@
+// The longest expression at a place of a text.
+use crate::leaves::Read;
+use crate::leaves::leaf_at;
+use crate::operators::Sign;
+use crate::operators::left_of;
+use crate::operators::level_of;
+use crate::operators::operator_at;
+ghost use mathlib.Core.Path.{_≡_};
+ghost use Prim.Native.Nat.{_+_, _*_, _≤_, max};
+ghost use lib.ListN.{length};
+ghost use Rattle.rules.specs.Limits.{textMost};
+ghost use Rattle.texts.specs.ExprPlaces.{Within, ExprAt, AtomAt, InsideAt, MoreAt};
+
+fn larger(a: usize, b: usize) -> usize
+    ensures { λ r. ⌜ r ≡ max a b ⌝ }
+{
+    if a < b { b } else { a }
+}
+
+// At level `k` and tighter, with `b` parentheses that may be opened.
+pub(crate) fn expr(s: &[u8], at: usize, k: u8, b: u8) -> Read
+    requires { ⌜ (at ≤ length (now s)) × (length (now s) ≤ textMost) ⌝ }
+    ensures place { λ r. ⌜ Within (now (s .entry)) (at + 1) at 0 0 r ⌝ }
+    ensures same { λ r. ⌜ ExprAt (now (s .entry)) at k b r ⌝ }
+{
+    let a = atom(s, at, b);
+    match a {
+        Read::Nothing => Read::Nothing,
+        Read::At(n, d, z) => more(s, n, k, 5, b, d, z),
+    }
+}
+
+// `!(`, `(` or a word.
+fn atom(s: &[u8], at: usize, b: u8) -> Read
+    requires { ⌜ (at ≤ length (now s)) × (length (now s) ≤ textMost) ⌝ }
+    ensures place { λ r. ⌜ Within (now (s .entry)) (at + 1) at 0 0 r ⌝ }
+    ensures same { λ r. ⌜ AtomAt (now (s .entry)) at b r ⌝ }
+{
+    if at == s.len() {
+        return Read::Nothing;
+    }
+    let c = s[at];
+    if c == b'!' {
+        return inside(s, at + 1, b, 1);
+    }
+    if c == b'(' {
+        return inside(s, at, b, 0);
+    }
+    leaf_at(s, at)
+}
+
+// An expression in parentheses; the whole is `over` deeper and longer than what stands in them.
+fn inside(s: &[u8], at: usize, b: u8, over: usize) -> Read
+    requires { ⌜ (at ≤ length (now s)) × (length (now s) ≤ textMost) × (over ≤ 1) ⌝ }
+    ensures place { λ r. ⌜ Within (now (s .entry)) (at + 1) at 0 0 r ⌝ }
+    ensures same { λ r. ⌜ InsideAt (now (s .entry)) at b over r ⌝ }
+{
+    if at == s.len() {
+        return Read::Nothing;
+    }
+    if b == 0 {
+        return Read::Nothing;
+    }
+    if s[at] != b'(' {
+        return Read::Nothing;
+    }
+    let e = expr(s, at + 1, 0, b - 1);
+    match e {
+        Read::Nothing => Read::Nothing,
+        Read::At(n, d, z) => {
+            if n == s.len() {
+                return Read::Nothing;
+            }
+            if s[n] == b')' {
+                Read::At(n + 1, over + d, over + z)
+            } else {
+                Read::Nothing
+            }
+        }
+    }
+}
+
+// What goes on behind a tree of level `h`, depth `d` and stored length `z`.
+fn more(s: &[u8], at: usize, k: u8, h: u8, b: u8, d: usize, z: usize) -> Read
+    requires { ⌜ (at ≤ length (now s)) × (length (now s) ≤ textMost) × (d ≤ at) × (z ≤ 5 * at) ⌝ }
+    ensures place { λ r. ⌜ Within (now (s .entry)) at at d z r ⌝ }
+    ensures same { λ r. ⌜ MoreAt (now (s .entry)) at k h b d z r ⌝ }
+{
+    let g = operator_at(s, at);
+    match g {
+        Sign::Nothing => Read::At(at, d, z),
+        Sign::At(o, end) => {
+            let l = level_of(o);
+            if k <= l {
+                if left_of(o) <= h {
+                    let y = expr(s, end, l + 1, b);
+                    return match y {
+                        Read::Nothing => Read::Nothing,
+                        Read::At(n, e, v) => more(s, n, k, l, b, 1 + larger(d, e), 1 + (z + v)),
+                    };
+                }
+            }
+            Read::At(at, d, z)
+        }
+    }
+}

@@ -1,0 +1,81 @@
+// Words of letters and digits at a place of a text: short names and numbers.
+use names::classes::DIGIT;
+use names::classes::class_of;
+use names::classes::is_word_byte;
+use names::labels::is_short;
+ghost use mathlib.Core.Path.{_≡_};
+ghost use Prim.Native.Nat.{ℕ, _+_, _≤_};
+ghost use lib.ListN.{length, drop};
+ghost use Rattle.rules.specs.Names.{isDigit};
+ghost use Rattle.rules.specs.Reader.{behind, isNumberWord};
+ghost use Rattle.texts.specs.ExprPlaces.{LeafAt, Within};
+
+// The place behind an expression, its depth and the length of its stored form.
+pub(crate) enum Read {
+    Nothing,
+    At(usize, usize, usize),
+}
+
+// Where the word of letters and digits at `at` ends.
+fn word_end(s: &[u8], at: usize) -> usize
+    requires { ⌜ at ≤ length (now s) ⌝ }
+    ensures place { λ r. ⌜ (at ≤ r) × (r ≤ length (now (s .entry))) ⌝ }
+    ensures rest { λ r. ⌜ drop r (now (s .entry)) ≡ behind (drop at (now (s .entry))) ⌝ }
+{
+    let mut i = at;
+    while i < s.len() {
+        if !is_word_byte(s[i]) {
+            return i;
+        }
+        i += 1;
+    }
+    i
+}
+
+fn is_digit(b: u8) -> bool
+    ensures { λ r. ⌜ r ≡ isDigit b ⌝ }
+{
+    class_of(b) == DIGIT
+}
+
+// Digits without a leading 0, at most 4,294,967,295.
+fn is_number(w: &[u8]) -> bool
+    ensures { λ r. ⌜ r ≡ isNumberWord (now (w .entry)) ⌝ }
+{
+    if w.len() == 0 {
+        return false;
+    }
+    if w[0] == b'0' {
+        return w.len() == 1;
+    }
+    let mut v: u64 = 0;
+    let mut i = 0;
+    while i < w.len() {
+        let c = w[i];
+        if !is_digit(c) {
+            return false;
+        }
+        v = v * 10 + (c as u64 - 48);
+        if v > 4294967295 {
+            return false;
+        }
+        i += 1;
+    }
+    true
+}
+
+// The short name or number at `at`.
+pub(crate) fn leaf_at(s: &[u8], at: usize) -> Read
+    requires { ⌜ at ≤ length (now s) ⌝ }
+    ensures place { λ r. ⌜ Within (now (s .entry)) (at + 1) at 0 0 r ⌝ }
+    ensures same { λ r. ⌜ LeafAt (now (s .entry)) at r ⌝ }
+{
+    let end = word_end(s, at);
+    if is_short(&s[at..end]) {
+        return Read::At(end, 1, 2);
+    }
+    if is_number(&s[at..end]) {
+        return Read::At(end, 1, 5);
+    }
+    Read::Nothing
+}
