@@ -1,1 +1,1 @@
-// Definitions and laws that several crates share stand in specs/ and proofs/; the code here is the comparison of words.
+// No code stands here: definitions and laws that several crates share are in specs/ and proofs/.

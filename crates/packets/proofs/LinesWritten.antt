@@ -52,37 +52,39 @@ lines-start before at s place run n = record {
   left = rw sub-zero;
 }
 
-module _ {before : List ℕ} {at : ℕ} {s : List ℕ} {place : ℕ} {run : List ℕ} {n : ℕ} {out : List ℕ} {next begin i : ℕ} where
-  -- nothing is left
-  ended : (l : Lines before at s place run n out next begin i) → linesFrom s run i (n - i) begin ≡ []
-      → Writes before at (linesFrom s run 0 n place) out next
-  ended l e =
-      let d : l .done ≡ linesFrom s run 0 n place = sym (append-nil (l .done)) ∙ rw e at (l .left) in
-      rw d at (l .wrote)
+module _
+    {before : List ℕ} {at : ℕ} {s : List ℕ} {place : ℕ} {run : List ℕ} {n : ℕ} {out : List ℕ} {next begin i : ℕ}
+  where
+    -- nothing is left
+    ended : (l : Lines before at s place run n out next begin i) → linesFrom s run i (n - i) begin ≡ []
+        → Writes before at (linesFrom s run 0 n place) out next
+    ended l e =
+        let d : l .done ≡ linesFrom s run 0 n place = sym (append-nil (l .done)) ∙ rw e at (l .left) in
+        rw d at (l .wrote)
 
-  pub lines-end : Lines before at s place run n out next begin i → n ≤ i → Writes before at
-      (linesFrom s run 0 n place) out next
-  unfolding linesFrom
-  lines-end l h = ended l (let z : n - i ≡ 0 = omega arith in rw z)
+    pub lines-end : Lines before at s place run n out next begin i → n ≤ i → Writes before at
+        (linesFrom s run 0 n place) out next
+    unfolding linesFrom
+    lines-end l h = ended l (let z : n - i ≡ 0 = omega arith in rw z)
 
-  pub lines-stop : Lines before at s place run n out next begin i → i < n → tableMost < begin
-      → Writes before at (linesFrom s run 0 n place) out next
-  unfolding linesFrom
-  lines-stop l h k = ended l (let z : n - i ≡ suc (n - (i + 1)) = omega arith in rw (z, lt-ltb tableMost begin k))
+    pub lines-stop : Lines before at s place run n out next begin i → i < n → tableMost < begin
+        → Writes before at (linesFrom s run 0 n place) out next
+    unfolding linesFrom
+    lines-stop l h k = ended l (let z : n - i ≡ suc (n - (i + 1)) = omega arith in rw (z, lt-ltb tableMost begin k))
 
-  pub lines-step : Lines before at s place run n out next begin i → i < n → begin ≤ tableMost
-      → {after : List ℕ} {more : ℕ} → Writes out next (lineText s (partsAt s begin) run i) after more
-      → Lines before at s place run n after more (partsAt s begin .next) (i + 1)
-  unfolding linesFrom
-  lines-step l h k {after} {more} w =
-      let z : n - i ≡ suc (n - (i + 1)) = omega arith in
-      let e : linesFrom s run i (n - i) begin
-      ≡ lineText s (partsAt s begin) run i ++ linesFrom s run (i + 1) (n - (i + 1)) (partsAt s begin .next)
-      = rw (z, le-ltb tableMost begin k) in
-      record {
-        inside = omega arith;
-        room = omega (arith, w .end, line-length s (partsAt s begin) run i, l .room);
-        done = l .done ++ lineText s (partsAt s begin) run i;
-        wrote = writes-join (l .wrote) w;
-        left = append-assoc (l .done) (lineText s (partsAt s begin) run i) _ ∙ rw (← e) (l .left);
-      }
+    pub lines-step : Lines before at s place run n out next begin i → i < n → begin ≤ tableMost
+        → {after : List ℕ} {more : ℕ} → Writes out next (lineText s (partsAt s begin) run i) after more
+        → Lines before at s place run n after more (partsAt s begin .next) (i + 1)
+    unfolding linesFrom
+    lines-step l h k {after} {more} w =
+        let z : n - i ≡ suc (n - (i + 1)) = omega arith in
+        let e : linesFrom s run i (n - i) begin
+        ≡ lineText s (partsAt s begin) run i ++ linesFrom s run (i + 1) (n - (i + 1)) (partsAt s begin .next)
+        = rw (z, le-ltb tableMost begin k) in
+        record {
+          inside = omega arith;
+          room = omega (arith, w .end, line-length s (partsAt s begin) run i, l .room);
+          done = l .done ++ lineText s (partsAt s begin) run i;
+          wrote = writes-join (l .wrote) w;
+          left = append-assoc (l .done) (lineText s (partsAt s begin) run i) _ ∙ rw (← e) (l .left);
+        }

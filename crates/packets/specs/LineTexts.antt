@@ -1,4 +1,5 @@
--- The text of a field's line, from the parts of its record and its entry in a run. No public promise rests on this file.
+-- The text of a field's line, from the parts of its record and its entry in a run.
+-- This mirrors the code: no public promise rests on this file.
 use mathlib.Core.Bool.{Bool, cond, _||_}
 use mathlib.Core.List.{List, [], _∷_, _++_}
 use Prim.Native.Nat.{ℕ, zero, suc, _+_, _*_, _-_}

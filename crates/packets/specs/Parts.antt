@@ -1,4 +1,5 @@
--- Where the parts of a field's record stand, by its lengths. This mirrors the code: no public promise rests on this file.
+-- Where the parts of a field's record stand, by its lengths.
+-- This mirrors the code: no public promise rests on this file.
 use mathlib.Core.Path.{_≡_}
 use mathlib.Core.Bool.{Bool, cond}
 use mathlib.Core.List.{List}

@@ -89,7 +89,8 @@ fn is_last(s: &[u8], at: usize) -> bool
 
 // The fields, one after the other; marks are of those that may be read.
 fn walk(s: &[u8], w: usize, count: usize, from: usize, marks: &mut [u8]) -> Walked
-    requires { ⌜ (0 < w) × (count ≤ 64) × (count ≤ length (now marks)) × (length (now s) ≤ tableMost) × (from ≤ length (now s)) ⌝ }
+    requires { ⌜ (0 < w) × (count ≤ 64) × (count ≤ length (now marks)) × (length (now s) ≤ tableMost)
+        × (from ≤ length (now s)) ⌝ }
     ensures { λ r. ⌜ r ≡ walkAt w count [] 0 false (now (s .entry)) from ⌝ }
 {
     let mut at = from;

@@ -22,7 +22,8 @@ ghost use Rattle.packets.specs.NamesTest.{
 
 // The places of the first records.
 fn record_places(s: &[u8], count: usize, from: usize) -> [usize; 64]
-    requires { ⌜ (count ≤ 64) × (length (now s) ≤ tableMost) × FieldPlaces (now s) count (placesFrom (now s) count from) ⌝ }
+    requires { ⌜ (count ≤ 64) × (length (now s) ≤ tableMost)
+        × FieldPlaces (now s) count (placesFrom (now s) count from) ⌝ }
     ensures { λ r. ⌜ take count r ≡ placesFrom (now (s .entry)) count from ⌝ }
 {
     let mut places = [0usize; 64];
@@ -101,7 +102,8 @@ fn first_label(s: &[u8], places: [usize; 64], n: usize) -> usize
 
 // Of the records from a place on, no label and no short name repeats an earlier one.
 pub(crate) fn has_unique_names(s: &[u8], count: usize, from: usize) -> bool
-    requires { ⌜ (count ≤ 64) × (length (now s) ≤ tableMost) × FieldPlaces (now s) count (placesFrom (now s) count from) ⌝ }
+    requires { ⌜ (count ≤ 64) × (length (now s) ≤ tableMost)
+        × FieldPlaces (now s) count (placesFrom (now s) count from) ⌝ }
     ensures { λ r. ⌜ r ≡ namesTest (now (s .entry)) count from ⌝ }
 {
     let places = record_places(s, count, from);

@@ -1,6 +1,7 @@
 -- The main results. Demand 1 (every input has an answer) and demand 2 (a good table reads a packet as 01 says) are the
--- promises ChecksTable, ReadsPacket, HandsPart and ListsPacket, demand 3 (a text is accepted exactly where it spells a
--- description that fits) is ReadsText; all in Promises, each kept by an entry for all inputs. These say what they settle.
+-- promises ChecksTable, ReadsPacket, LendsPart and ListsPacket, demand 3 (a text is accepted exactly where it spells a
+-- description that fits) is ReadsText; all in Promises, each to be kept by an entry for all inputs.
+-- These say what the promises settle.
 use mathlib.Core.Path.{_≡_}
 use mathlib.Core.List.{List, []}
 use Prim.Native.Nat.{ℕ, _<_}
