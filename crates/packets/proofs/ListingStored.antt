@@ -20,7 +20,8 @@ use Rattle.packets.specs.RunRead.{RunHolds}
 use Rattle.packets.specs.Writes.{Writes}
 use Rattle.packets.specs.Listings.{ListsStored, ListsInto}
 use Rattle.packets.specs.LineTexts.{entryIn, linesFrom}
-use Rattle.packets.proofs.TableHead.{table-length, head-count, fields-stand}
+use Rattle.packets.proofs.TableHead.{head-count, fields-stand}
+use Rattle.packets.proofs.TableParts.{table-length}
 use Rattle.packets.proofs.RunEntries.{run-number, run-present}
 use Rattle.packets.proofs.LinesStored.{lines-stored}
 use Rattle.packets.proofs.ListingTexts.{

@@ -17,7 +17,8 @@ use Rattle.rules.specs.Promises.{byTable, ChecksTable, FindsField, firstNamed, 
 use Rattle.packets.specs.declared.records.Span.{Span}
 use Rattle.packets.specs.Parts.{tableMost, spanOf, ending, partsAt}
 use Rattle.packets.specs.Lookups.{placeFrom, findFrom, OnTable}
-use Rattle.packets.proofs.TableHead.{table-length, head-first, head-count, fields-stand}
+use Rattle.packets.proofs.TableHead.{head-first, head-count, fields-stand}
+use Rattle.packets.proofs.TableParts.{table-length}
 use Rattle.packets.proofs.LinesStored.{label-inside}
 use Rattle.packets.proofs.LookupStored.{find-stored, Placed, place-stored}
 

@@ -1,58 +1,28 @@
--- Where a stored table's fields begin, how many there are, and how long the table can be.
+-- Where a stored table's fields begin, and how many there are.
 use mathlib.Core.Path.{_≡_, refl, sym, _∙_, ap}
 use mathlib.Core.List.{List, [], _∷_, _++_, append-assoc}
-use mathlib.Core.Option.{none}
 use Prim.Native.Nat.{ℕ, zero, suc, _+_, _*_, _<_, _≤_}
 use native.Mathlib.Omega.{arith}
 use native.Mathlib.Nat.{zero-add}
 use lib.ListN.{length, length-append}
 use borrow.Author.Tests.{leb-true}
 use lib.Dec.{leb}
-use Rattle.base.specs.Lists.{joined, firstBreak}
+use Rattle.base.specs.Lists.{joined}
 use Rattle.base.specs.Places.{Stands, twoAt}
 use Rattle.base.proofs.Places.{stands-all, stands-left, stands-right}
-use Rattle.base.proofs.Breaks.{and-true, or-true, firstBreak-cons}
+use Rattle.base.proofs.Breaks.{and-true}
 use Rattle.rules.specs.Limits.{fieldsMost}
 use Rattle.rules.specs.Trees.{le2}
 use Rattle.rules.specs.Fields.{Field, Description}
-use Rattle.rules.specs.Within.{Within, isRowWidth, keepsForm, keepsSize}
+use Rattle.rules.specs.Within.{Within}
 use Rattle.rules.specs.Stored.{recordOf, counted, headBody, storedField, stored}
 use Rattle.laws.proofs.PlacesOfNumbers.{length-le2, stands-two}
 use Rattle.laws.proofs.ReadsFields.{label-length}
-use Rattle.packets.specs.Parts.{tableMost}
-use Rattle.packets.proofs.FieldBounds.{length-counted, field-sizes, body-size, record-size}
-
--- ── lengths ──
+use Rattle.packets.proofs.TableParts.{head-length}
 
 pub count-most : (d : Description) → Within d → length (d .fields) ≤ 64
 count-most d w = leb-true _ _ (and-true (leb 1 (length (d .fields))) (leb (length (d .fields)) fieldsMost)
     (w .count) .1)
-
-fields-length : (before fs : List (Field ℕ)) → firstBreak keepsForm before fs ≡ none
-    → firstBreak keepsSize before fs ≡ none
-    → length (joined storedField fs) ≤ 424 * length fs
-unfolding joined
-fields-length before [] hf hs = omega arith
-fields-length before (f ∷ fs) hf hs =
-    let kf = firstBreak-cons keepsForm before f fs hf in
-    let ks = firstBreak-cons keepsSize before f fs hs in
-    let z = body-size f (field-sizes f (kf .0) (ks .0)) in
-    let ih = fields-length (before ++ (f ∷ [])) fs (kf .1) (ks .1) in
-    omega (arith, record-size f, length-append (storedField f) (joined storedField fs))
-
-pub head-length : (d : Description) → length (headBody d) ≡ 6 + length (d .name)
-unfolding headBody
-head-length d =
-    simp (length-append, length-le2) (omega arith)
-
-pub table-length : (d : Description) → Within d → length (stored d) ≤ tableMost
-unfolding stored
-table-length d w =
-    let n = count-most d w in
-    let l = label-length (d .name) (w .name) in
-    let f = fields-length [] (d .fields) (w .form) (w .size) in
-    let h = head-length d in
-    simp (length-append, length-le2) (omega arith)
 
 -- ── the first record ──
 
