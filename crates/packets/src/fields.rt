@@ -11,6 +11,9 @@ use crate::trees::Cursor;
 use crate::trees::same_type;
 use names::labels::is_label;
 use names::labels::is_short;
+use rules::DEPTH_MOST;
+use rules::FIXED_MOST;
+use rules::STORED_MOST;
 use rules::ValueType;
 ghost use mathlib.Core.Path.{_≡_};
 ghost use mathlib.Core.Bool.{_||_};
@@ -34,14 +37,7 @@ ghost use Rattle.packets.specs.FieldTest.{
   bitsOf,
 };
 
-// The most bytes of a stored tree, its greatest depth, and the first byte of a number.
-const STORED_MOST: usize = 120;
-
-const DEPTH_MOST: usize = 12;
-
 const NUMBER: usize = 1;
-
-const BITS_MOST: usize = 32;
 
 // A tree of the kind is stored in just this part.
 fn is_tree(s: &[u8], marks: &[u8], kind: ValueType, p: Span) -> bool
@@ -127,7 +123,7 @@ fn is_number(kind: usize, number: usize) -> bool
         if number < 1 {
             return false;
         }
-        return number <= BITS_MOST;
+        return number <= FIXED_MOST;
     }
     if kind == MEASURED {
         if number == 1 {

@@ -4,12 +4,14 @@ use crate::answers::place_of;
 use crate::answers::value_of;
 use crate::lines::put_line;
 use crate::readings::read_run;
+use crate::records::TABLE_MOST;
 use crate::records::parts_at;
 use crate::records::two_at;
 use crate::tables::check_table;
 use crate::writing::copy_out;
 use crate::writing::put;
 use crate::writing::put_digits;
+use rules::FIELDS_MOST;
 use rules::ListingAnswer;
 use rules::TableAnswer;
 ghost use mathlib.Core.Path.{_≡_};
@@ -23,10 +25,6 @@ ghost use Rattle.rules.specs.Answers.{ofListing};
 ghost use Rattle.rules.specs.Promises.{leaves, delivered, ListsPacket};
 ghost use Rattle.packets.specs.LineTexts.{linesFrom};
 ghost use Rattle.packets.specs.Listings.{ListsStored, ListsInto};
-
-const TABLE_MOST: usize = 32768;
-
-const FIELDS_MOST: usize = 64;
 
 // The lines of the n fields whose records begin at a place.
 pub(crate) fn put_lines(

@@ -1,6 +1,7 @@
 // Fields of a table by index and by name.
 use crate::records::Parts;
 use crate::records::Span;
+use crate::records::TABLE_MOST;
 use crate::records::parts_at;
 use crate::records::two_at;
 use crate::tables::check_table;
@@ -13,8 +14,6 @@ ghost use denote.Ref.{ptr};
 ghost use Rattle.base.specs.Places.{twoAt};
 ghost use Rattle.rules.specs.Promises.{FindsField, LendsLabel};
 ghost use Rattle.packets.specs.Lookups.{placeFrom, isNamedIn, hasName, findFrom, OnTable};
-
-const TABLE_MOST: usize = 32768;
 
 // The place behind n records.
 fn place_behind(table: &[u8], n: usize) -> usize

@@ -2,6 +2,7 @@
 use crate::records::two_at;
 use crate::tables::check_table;
 use crate::walks::walk_fields;
+use rules::PACKET_MOST;
 use rules::PacketAnswer;
 use rules::TableAnswer;
 ghost use mathlib.Core.Path.{_≡_};
@@ -12,8 +13,6 @@ ghost use lib.ListN.{length, take, drop};
 ghost use Rattle.rules.specs.Promises.{ReadsPacket, LendsPart};
 ghost use Rattle.packets.specs.RunRead.{ReadsRun};
 ghost use Rattle.packets.specs.FieldParts.{isAccepted, partAt, OnPacket};
-
-const PACKET_MOST: usize = 2048;
 
 // Where a field's bytes lie in the packet.
 pub(crate) struct Bytes {

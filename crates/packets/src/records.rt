@@ -5,6 +5,9 @@ ghost use lib.ListN.{getD};
 ghost use Rattle.base.specs.Places.{twoAt};
 ghost use Rattle.packets.specs.Parts.{placeMost, tableMost, Spans, Widths, partsAt};
 
+// No good table is longer.
+pub(crate) const TABLE_MOST: usize = 32768;
+
 // The record kinds of fields.
 pub(crate) const FIXED: usize = 2;
 

@@ -5,9 +5,12 @@ use crate::records::MEASURED;
 use crate::records::Parts;
 use crate::records::REST;
 use crate::records::Span;
+use crate::records::TABLE_MOST;
 use crate::records::parts_at;
 use crate::trees::Cursor;
 use crate::trees::Evaluated;
+use rules::DEPTH_MOST;
+use rules::FIXED_MOST;
 use rules::Fault;
 ghost use mathlib.Core.Path.{_≡_};
 ghost use Prim.Native.Nat.{_+_, _*_, _≤_};
@@ -30,13 +33,6 @@ ghost use Rattle.packets.specs.Steps.{
   presentAt,
   fieldStep,
 };
-
-// The depth to which trees are evaluated.
-const DEPTH: usize = 12;
-
-const TABLE_MOST: usize = 32768;
-
-const FIXED_MOST: usize = 32;
 
 // A number, or the fault of finding it.
 pub(crate) enum Got {
@@ -72,7 +68,7 @@ fn tree_value(table: &[u8], run: &[u32], at: usize) -> Got
     ensures { λ r. ⌜ r ≡ gotOf (treeValue (now (table .entry)) (now (run .entry)) at) ⌝ }
 {
     let tree = Cursor { at };
-    let v = tree.value(table, DEPTH, run);
+    let v = tree.value(table, DEPTH_MOST, run);
     match v {
         Evaluated::Value(n, next) => Got::Value(n as u64),
         Evaluated::Stop(f) => Got::Stop(f),
@@ -132,7 +128,7 @@ fn measured_at(table: &[u8], run: &[u32], p: Parts) -> Got
     ensures { λ r. ⌜ r ≡ gotOf (measuredAt (now (table .entry)) (now (run .entry)) p) ⌝ }
 {
     let tree = Cursor { at: p.tree.at };
-    let v = tree.value(table, DEPTH, run);
+    let v = tree.value(table, DEPTH_MOST, run);
     match v {
         Evaluated::Value(n, next) => Got::Value(scale(p.number, n)),
         Evaluated::Stop(f) => Got::Stop(f),

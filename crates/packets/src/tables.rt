@@ -4,10 +4,12 @@ use crate::fields::ends_with;
 use crate::fields::has_trees;
 use crate::fields::is_field;
 use crate::fields::mark_of;
+use crate::records::TABLE_MOST;
 use crate::records::parts_at;
 use crate::records::two_at;
 use crate::unique::has_unique_names;
 use names::labels::is_label;
+use rules::FIELDS_MOST;
 use rules::TableAnswer;
 ghost use mathlib.Core.Path.{_≡_};
 ghost use mathlib.Core.Bool.{false};
@@ -18,11 +20,6 @@ ghost use Rattle.rules.specs.Within.{isRowWidth};
 ghost use Rattle.rules.specs.Promises.{ChecksTable};
 ghost use Rattle.packets.specs.Parts.{placeMost, tableMost};
 ghost use Rattle.packets.specs.TableTest.{walkAt, headTest, lastTest, tableTest};
-
-// No good table is longer.
-const TABLE_MOST: usize = 32768;
-
-const FIELDS_MOST: usize = 64;
 
 const HEAD: usize = 1;
 

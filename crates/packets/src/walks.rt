@@ -8,6 +8,7 @@ use crate::steps::Numbers;
 use crate::steps::field_step;
 use crate::steps::holds_at;
 use crate::steps::record_at;
+use rules::FIELDS_MOST;
 use rules::Fault;
 use rules::PacketAnswer;
 ghost use mathlib.Core.Path.{_≡_};
@@ -16,8 +17,6 @@ ghost use lib.ListN.{length};
 ghost use Rattle.rules.specs.Reading.{bitTotal};
 ghost use Rattle.packets.specs.Steps.{entryIn, foundOf};
 ghost use Rattle.packets.specs.Walks.{putAt, keptAt, refusedOf, Steps, Walks};
-
-const FIELDS_MOST: usize = 64;
 
 fn put(run: &mut [u32], i: usize, e: Numbers)
     requires { ⌜ (i < 64) × (4 * i + 4 ≤ length (now run)) ⌝ }

@@ -75,7 +75,17 @@ pub enum ListingAnswer {
     NoRoom,
 }
 
-// The limits that the code tests; specs/Limits.antt has them all.
+// The limits that the code tests, as in specs/Limits.antt.
+pub const FIELDS_MOST: usize = 64;
+
+pub const PACKET_MOST: usize = 2048;
+
+pub const DEPTH_MOST: usize = 12;
+
+pub const STORED_MOST: usize = 120;
+
+pub const FIXED_MOST: usize = 32;
+
 pub const LABEL_MOST: usize = 40;
 
 pub const SHORT_MOST: usize = 8;
