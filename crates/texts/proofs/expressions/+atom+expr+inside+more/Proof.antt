@@ -235,8 +235,9 @@ inside-returns-5 t c =
           (omega arith) (c .closed .ensures .0),
       in-go (a .s .now) (a .at) (a .b) (a .over) (omega arith)
           (c .before .before .before .before .before .before .before .if2 .left)
-          (c .before .before .before .before .before .if3 .left) _ (c .before .before .before .before .expr .ensures .1)
-          (v .0) (v .1 .0) (v .1 .1 .0) (c .before .before .e .given .1) _ (c .closed .ensures .1),
+          (c .before .before .before .before .before .if3 .left) _
+          (c .before .before .before .before .expr .ensures .1) (v .0) (v .1 .0) (v .1 .1 .0)
+          (c .before .before .e .given .1) _ (c .closed .ensures .1),
     )
 
 more-operator-at-requires : (t : ℕ) → more-lts.Need-operator-at-requires (more-calls t) (more-at t) more.Post
