@@ -15,7 +15,8 @@ use Rattle.rules.specs.Trees.{Tree, two, negation, depth, storedTree, storedLen
 use Rattle.rules.specs.Reader.{Out, fail, got, Found, missing, found, operatorAt, close, inside, atom, step}
 use Rattle.rules.specs.Reader.{andThen}
 use Rattle.rules.specs.Reader.{expr, more}
-use Rattle.texts.specs.ExprPlaces.{Same, Within, SameSign, Adds, LeafAt, ExprAt, AtomAt, InsideAt, MoreAt}
+use Rattle.texts.specs.ExprPlaces.{Same, Within, SameSign, Adds, LeafAt, ExprAt, AtomAt}
+use Rattle.texts.specs.ExprPlaces.{ClosedAt, InsideAt, MoreAt}
 use Rattle.texts.specs.declared.leaves.Read.{Read}
 use Rattle.texts.specs.declared.leaves.Read.the-variants.{Nothing, At}
 use Rattle.texts.specs.declared.operators.Sign.{Sign}
@@ -226,10 +227,20 @@ unfolding inside
 in-other s at zero hi e w f = rw (drop-cons s at 0 hi) refl
 in-other s at (suc b) hi e w f = rw (drop-cons s at 0 hi, ne-eqb (getD s at 0) 40 e, inside) refl
 
-close-end : (w : Tree (List ℕ) → Tree (List ℕ)) (o : Out) (t : Tree (List ℕ)) (z : List ℕ) → o ≡ got t z → z ≡ []
-    → close w o ≡ fail
-unfolding close
-close-end w o t z p q = rw (p, q) refl
+module _ (s : List ℕ) (at over d z : ℕ) where
+  pub closed-end : at ≡ length s → ClosedAt s at over d z Nothing
+  unfolding close Same
+  closed-end q w t a dt zt = rw (q, drop-length) refl
+
+  pub closed-yes : at < length s → getD s at 0 ≡ 41 → ClosedAt s at over d z (At (at + 1) (over + d) (over + z))
+  unfolding close Same Adds
+  closed-yes lt q w t a dt zt =
+      let u = a t in
+      rw (drop-cons s at 0 lt, q) (at + 1, rw (u .0, u .1, dt, zt) refl, rw add-one refl)
+
+  pub closed-no : at < length s → (getD s at 0 ≡ 41 → ⊥) → ClosedAt s at over d z Nothing
+  unfolding close Same
+  closed-no lt q w t a dt zt = rw (drop-cons s at 0 lt, ne-eqb (getD s at 0) 41 q, close) refl
 
 module _ (s : List ℕ) (at b over : ℕ) (hi : at < length s) where
   pub in-wrong : (getD s at 0 ≡ 40 → ⊥) → InsideAt s at b over Nothing
@@ -247,27 +258,7 @@ module _ (s : List ℕ) (at b over : ℕ) (hi : at < length s) where
       same-fail s (expr f 0 (b - 1) (drop (at + 1) s)) r p (E f (lower f lt)),
     ) refl
 
-    module _ (n d z : ℕ) (p : r ≡ At n d z) where
-      read-in : (f : ℕ) → length (drop at s) < suc f → Is s (expr f 0 (b - 1) (drop (at + 1) s)) n d z
-      read-in f lt = same-got s (expr f 0 (b - 1) (drop (at + 1) s)) r n d z p (E f (lower f lt))
-
-      pub in-open : n ≡ length s → InsideAt s at b over Nothing
-      unfolding close Same
-      in-open q w f a lt =
-          let v = read-in f lt in
-          rw (in-rest s at b hi nz e w f) (rw (close-end w (expr f 0 (b - 1) (drop (at + 1) s)) (v .tree) (drop n s)
-          (v .is) (rw (q, drop-length) refl)) refl)
-
-      pub in-close : n < length s → getD s n 0 ≡ 41 → InsideAt s at b over (At (n + 1) (over + d) (over + z))
-      unfolding close Same Adds
-      in-close lt′ q w f a lt =
-          let v = read-in f lt in
-          let u = a (v .tree) in
-          rw (in-rest s at b hi nz e w f, v .is, drop-cons s n 0 lt′, q)
-          (n + 1, rw (u .0, u .1, v .depth-is, v .length-is) refl, rw add-one refl)
-
-      pub in-left : n < length s → (getD s n 0 ≡ 41 → ⊥) → InsideAt s at b over Nothing
-      unfolding close Same
-      in-left lt′ q w f a lt =
-          let v = read-in f lt in
-          rw (in-rest s at b hi nz e w f, v .is, drop-cons s n 0 lt′, ne-eqb (getD s n 0) 41 q, close) refl
+    pub in-go : (n d z : ℕ) → r ≡ At n d z → (r′ : Read) → ClosedAt s n over d z r′ → InsideAt s at b over r′
+    in-go n d z p r′ C w f a lt =
+        let v = same-got s (expr f 0 (b - 1) (drop (at + 1) s)) r n d z p (E f (lower f lt)) in
+        rw (in-rest s at b hi nz e w f, v .is) (C w (v .tree) a (v .depth-is) (v .length-is))

@@ -6,7 +6,8 @@ use lib.ListN.{length, drop}
 use Rattle.rules.specs.declared.Op.{Op}
 use Rattle.rules.specs.declared.Op.the-variants.{Or, And, Eq, Ne, Lt, Le, Gt, Ge, Add, Sub, Mul}
 use Rattle.rules.specs.Trees.{Tree, depth, storedLength}
-use Rattle.rules.specs.Reader.{Out, fail, got, Found, missing, found, word, behind, leaf, inside, atom, expr, more}
+use Rattle.rules.specs.Reader.{Out, fail, got, Found, missing, found, word, behind, leaf, close, inside, atom, expr}
+use Rattle.rules.specs.Reader.{more}
 use Rattle.texts.specs.declared.leaves.Read.{Read}
 use Rattle.texts.specs.declared.leaves.Read.the-variants as read
 use Rattle.texts.specs.declared.operators.Mark.{Mark}
@@ -71,6 +72,11 @@ AtomAt s at b r = (f : ℕ) → length (drop at s) < suc f → Same s (atom (exp
 abbrev pub InsideAt : List ℕ → ℕ → ℕ → ℕ → Read → Type 0
 InsideAt s at b n r = (w : Tree (List ℕ) → Tree (List ℕ)) (f : ℕ) → Adds n w → length (drop at s) < suc f
     → Same s (inside (expr f 0) b w (drop at s)) r
+
+-- the closing parenthesis behind a tree of depth d and stored length z
+abbrev pub ClosedAt : List ℕ → ℕ → ℕ → ℕ → ℕ → Read → Type 0
+ClosedAt s at n d z r = (w : Tree (List ℕ) → Tree (List ℕ)) (t : Tree (List ℕ)) → Adds n w → depth t ≡ d
+    → storedLength t ≡ z → Same s (close w (got t (drop at s))) r
 
 -- what goes on behind a tree of level h, depth d and stored length z
 abbrev pub MoreAt : List ℕ → ℕ → ℕ → ℕ → ℕ → ℕ → ℕ → Read → Type 0

@@ -9,12 +9,28 @@ ghost use mathlib.Core.Path.{_≡_};
 ghost use Prim.Native.Nat.{_+_, _*_, _≤_, max};
 ghost use lib.ListN.{length};
 ghost use Rattle.rules.specs.Limits.{textMost};
-ghost use Rattle.texts.specs.ExprPlaces.{Within, ExprAt, AtomAt, InsideAt, MoreAt};
+ghost use Rattle.texts.specs.ExprPlaces.{Within, ExprAt, AtomAt, ClosedAt, InsideAt, MoreAt};
 
 fn larger(a: usize, b: usize) -> usize
     ensures { λ r. ⌜ r ≡ max a b ⌝ }
 {
     if a < b { b } else { a }
+}
+
+// The closing parenthesis behind a tree of depth `d` and stored length `z`.
+fn closed(s: &[u8], at: usize, over: usize, d: usize, z: usize) -> Read
+    requires { ⌜ (at ≤ length (now s)) × (length (now s) ≤ textMost) × (over ≤ 1) × (d ≤ at) × (z ≤ 5 * at) ⌝ }
+    ensures place { λ r. ⌜ Within (now (s .entry)) (at + 1) at d z r ⌝ }
+    ensures same { λ r. ⌜ ClosedAt (now (s .entry)) at over d z r ⌝ }
+{
+    if at == s.len() {
+        return Read::Nothing;
+    }
+    if s[at] == b')' {
+        Read::At(at + 1, over + d, over + z)
+    } else {
+        Read::Nothing
+    }
 }
 
 // At level `k` and tighter, with `b` parentheses that may be opened.
@@ -67,16 +83,7 @@ fn inside(s: &[u8], at: usize, b: u8, over: usize) -> Read
     let e = expr(s, at + 1, 0, b - 1);
     match e {
         Read::Nothing => Read::Nothing,
-        Read::At(n, d, z) => {
-            if n == s.len() {
-                return Read::Nothing;
-            }
-            if s[n] == b')' {
-                Read::At(n + 1, over + d, over + z)
-            } else {
-                Read::Nothing
-            }
-        }
+        Read::At(n, d, z) => closed(s, n, over, d, z),
     }
 }
 

@@ -10,7 +10,7 @@ use Rattle.texts.proofs.ExprSteps.{within-got, within-up, within-fail, 
 use Rattle.texts.proofs.ExprSteps.{max-most}
 use Rattle.texts.proofs.ExprSteps.{more-none, more-stop, more-fail, more-go, stop-level, stop-left}
 use Rattle.texts.proofs.ExprSteps.{atom-end, atom-bang, atom-paren, atom-word}
-use Rattle.texts.proofs.ExprSteps.{in-end, in-zero, in-wrong, in-fail, in-open, in-close, in-left}
+use Rattle.texts.proofs.ExprSteps.{in-end, in-zero, in-wrong, in-fail, in-go}
 use borrow.Fn.Kinds.{In}
 use borrow.Fn.PlainCycle.{Measures, is, falls, and}
 use Rattle.texts.proofs.expressions.atom.Reads as atom
@@ -25,6 +25,7 @@ use Rattle.texts.proofs.expressions.+atom+expr+inside+more.Lts-inside a
 use Rattle.texts.proofs.expressions.more.Reads as more
 use Rattle.texts.proofs.expressions.more.Kinds as more-kinds
 use Rattle.texts.proofs.expressions.+atom+expr+inside+more.Lts-more as more-lts
+use Rattle.texts.proofs.expressions.closed.Reads as closed-reads
 use Rattle.texts.proofs.expressions.larger.Reads as larger-reads
 use Rattle.texts.proofs.leaves.leaf_at.Reads as leaf-at-reads
 use Rattle.texts.proofs.operators.left_of.Reads as left-of-reads
@@ -71,13 +72,16 @@ more-below t = and 1 more-kinds.ps (falls 1 more-kinds.ps _<_ μ-more t) more.Pr
 
 -- what the callees' contracts ask and promise
 abbrev atom-calls : ℕ → atom-lts.Claims
-atom-calls t = (inside-below t, inside.Post, leaf-at-reads.Asked, leaf-at-reads.Learnt)
+atom-calls t =
+    (inside-below t, inside.Post, leaf-at-reads.Asked, leaf-at-reads.Learnt)
 
 abbrev expr-calls : ℕ → expr-lts.Claims
-expr-calls t = (atom-below t, atom.Post, more-below t, more.Post)
+expr-calls t =
+    (atom-below t, atom.Post, more-below t, more.Post)
 
 abbrev inside-calls : ℕ → inside-lts.Claims
-inside-calls t = (expr-below t, expr.Post)
+inside-calls t =
+    (expr-below t, expr.Post, closed-reads.Asked, closed-reads.Learnt)
 
 abbrev more-calls : ℕ → more-lts.Claims
 more-calls t = (
@@ -205,51 +209,13 @@ inside-enum-told t c = search needs
 inside-enum-known-e : (t : ℕ) → inside-lts.Need-enum-known-e (inside-calls t) (inside-at t) inside.Post
 inside-enum-known-e t c = search needs
 
+inside-closed-requires : (t : ℕ) → inside-lts.Need-closed-requires (inside-calls t) (inside-at t) inside.Post
+inside-closed-requires t c κs =
+    let w = within-got _ _ _ _ _ _ _ _ _ (c .before .e .given .1) (c .before .before .before .expr .ensures .0) in
+    omega arith
+
 inside-returns-4 : (t : ℕ) → inside-lts.Need-returns-4 (inside-calls t) (inside-at t) inside.Post
 inside-returns-4 t c =
-    let a = c .before .before .before .before .before .before .before .before .before .before .args in
-    let v = c .before .before .e .given .0 in
-    let w = within-got (a .s .now) (a .at + 1 + 1) (a .at + 1) 0 0 _ (v .0) (v .1 .0) (v .1 .1 .0)
-    (c .before .before .e .given .1)
-    (c .before .before .before .before .expr .ensures .0) in (
-      within-fail _ _ _ _ _,
-      in-open (a .s .now) (a .at) (a .b) (a .over) (omega arith)
-          (c .before .before .before .before .before .before .before .if2 .left)
-          (c .before .before .before .before .before .if3 .left) _ (c .before .before .before .before .expr .ensures .1)
-          (v .0) (v .1 .0) (v .1 .1 .0) (c .before .before .e .given .1) (c .if4 .taken),
-    )
-
-inside-shared-slice-read-if5 : (t : ℕ) → inside-lts.Need-shared-slice-read-if5 (inside-calls t)
-    (inside-at t) inside.Post
-inside-shared-slice-read-if5 t c =
-    let a = c .before .before .before .before .before .before .before .before .before .before .before .args in
-    let v = c .before .before .before .e .given .0 in
-    let w = within-got (a .s .now) (a .at + 1 + 1) (a .at + 1) 0 0 _ (v .0) (v .1 .0) (v .1 .1 .0)
-    (c .before .before .before .e .given .1)
-    (c .before .before .before .before .before .expr .ensures .0) in
-    let q : v .0 < length (a .s .now) = omega (arith, c .before .if4 .left) in
-    q
-
-inside-add-t19 : (t : ℕ) → inside-lts.Need-add-t19 (inside-calls t) (inside-at t) inside.Post
-inside-add-t19 t c =
-    let w = within-got _ _ _ _ _ _ _ _ _ (c .before .before .before .before .e .given .1)
-    (c .before .before .before .before .before .before .expr .ensures .0) in
-    omega (arith, c .before .before .if4 .left)
-
-inside-add-t20 : (t : ℕ) → inside-lts.Need-add-t20 (inside-calls t) (inside-at t) inside.Post
-inside-add-t20 t c =
-    let w = within-got _ _ _ _ _ _ _ _ _ (c .before .before .before .before .e .given .1)
-    (c .before .before .before .before .before .before .expr .ensures .0) in
-    omega (arith, c .before .before .if4 .left)
-
-inside-add-t21 : (t : ℕ) → inside-lts.Need-add-t21 (inside-calls t) (inside-at t) inside.Post
-inside-add-t21 t c =
-    let w = within-got _ _ _ _ _ _ _ _ _ (c .before .before .before .before .e .given .1)
-    (c .before .before .before .before .before .before .expr .ensures .0) in
-    omega (arith, c .before .before .if4 .left)
-
-inside-returns-5 : (t : ℕ) → inside-lts.Need-returns-5 (inside-calls t) (inside-at t) inside.Post
-inside-returns-5 t c =
     let a = c .before .before .before .before .before .before .before .before .args in (
       within-fail _ _ _ _ _,
       in-fail (a .s .now) (a .at) (a .b) (a .over) (omega arith)
@@ -257,38 +223,21 @@ inside-returns-5 t c =
           (c .before .before .expr .ensures .1) (c .enum-told .given .1),
     )
 
-inside-returns-6 : (t : ℕ) → inside-lts.Need-returns-6 (inside-calls t) (inside-at t) inside.Post
-inside-returns-6 t c =
-    let a = c .before .before .before .before .before .before .before .before .before .before .before .before .args
-    in
-    let v = c .before .before .before .before .e .given .0 in
+inside-returns-5 : (t : ℕ) → inside-lts.Need-returns-5 (inside-calls t) (inside-at t) inside.Post
+inside-returns-5 t c =
+    let a = c .before .before .before .before .before .before .before .before .before .before .args in
+    let v = c .before .before .e .given .0 in
     let w = within-got (a .s .now) (a .at + 1 + 1) (a .at + 1) 0 0 _ (v .0) (v .1 .0) (v .1 .1 .0)
-    (c .before .before .before .before .e .given .1)
-    (c .before .before .before .before .before .before .expr .ensures .0) in
-    let q : v .0 < length (a .s .now) = omega (arith, c .before .before .if4 .left) in (
-      within-here _ _ _ _ _ _ _ _ (omega arith) (omega arith) (omega arith) (omega arith),
-      in-close (a .s .now) (a .at) (a .b) (a .over) (omega arith)
-          (c .before .before .before .before .before .before .before .before .before .if2 .left)
-          (c .before .before .before .before .before .before .before .if3 .left) _
-          (c .before .before .before .before .before .before .expr .ensures .1)
-          (v .0) (v .1 .0) (v .1 .1 .0) (c .before .before .before .before .e .given .1) q (c .if5 .taken),
-    )
-
-inside-returns-7 : (t : ℕ) → inside-lts.Need-returns-7 (inside-calls t) (inside-at t) inside.Post
-inside-returns-7 t c =
-    let a = c .before .before .before .before .before .before .before .before .before .before .before .before .args
-    in
-    let v = c .before .before .before .before .e .given .0 in
-    let w = within-got (a .s .now) (a .at + 1 + 1) (a .at + 1) 0 0 _ (v .0) (v .1 .0) (v .1 .1 .0)
-    (c .before .before .before .before .e .given .1)
-    (c .before .before .before .before .before .before .expr .ensures .0) in
-    let q : v .0 < length (a .s .now) = omega (arith, c .before .before .if4 .left) in (
-      within-fail _ _ _ _ _,
-      in-left (a .s .now) (a .at) (a .b) (a .over) (omega arith)
-          (c .before .before .before .before .before .before .before .before .before .if2 .left)
-          (c .before .before .before .before .before .before .before .if3 .left) _
-          (c .before .before .before .before .before .before .expr .ensures .1)
-          (v .0) (v .1 .0) (v .1 .1 .0) (c .before .before .before .before .e .given .1) q (c .if5 .left),
+    (c .before .before .e .given .1)
+    (c .before .before .before .before .expr .ensures .0) in (
+      within-up (a .s .now) (v .0 + 1) (v .0) (v .1 .0) (v .1 .1 .0) (a .at + 1) (a .at) 0 0 _ (omega arith)
+          (omega arith)
+          (omega arith) (c .closed .ensures .0),
+      in-go (a .s .now) (a .at) (a .b) (a .over) (omega arith)
+          (c .before .before .before .before .before .before .before .if2 .left)
+          (c .before .before .before .before .before .if3 .left) _
+          (c .before .before .before .before .expr .ensures .1) (v .0) (v .1 .0) (v .1 .1 .0)
+          (c .before .before .e .given .1) _ (c .closed .ensures .1),
     )
 
 more-operator-at-requires : (t : ℕ) → more-lts.Need-operator-at-requires (more-calls t) (more-at t) more.Post
@@ -480,9 +429,8 @@ pub +atom+expr+inside+more-spec : {M : Type 1} → statement M
     (expr-enum-known-a t) (expr-more-requires t) (expr-returns t) (expr-returns-2 t))
     (λ t. inside-lts.spec (inside-calls t) (inside-at t) inside.Post (inside-returns t) (inside-returns-2 t)
     (inside-shared-slice-read-if3 t) (inside-returns-3 t) (inside-add-expr t) (inside-sub-expr t)
-    (inside-expr-requires t) (inside-enum-told t) (inside-enum-known-e t) (inside-returns-4 t)
-    (inside-shared-slice-read-if5 t) (inside-add-t19 t) (inside-add-t20 t) (inside-add-t21 t) (inside-returns-5 t)
-    (inside-returns-6 t) (inside-returns-7 t))
+    (inside-expr-requires t) (inside-enum-told t) (inside-enum-known-e t) (inside-closed-requires t)
+    (inside-returns-4 t) (inside-returns-5 t))
     λ t. more-lts.spec (more-calls t) (more-at t) more.Post (more-operator-at-requires t) (more-enum-told t)
     (more-enum-known-g t) (more-level-of-requires t) (more-left-of-requires t) (more-add-expr t)
     (more-expr-requires t) (more-enum-told-2 t) (more-enum-known-y t) (more-larger-requires t) (more-add-more t)
