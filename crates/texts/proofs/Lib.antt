@@ -24,6 +24,7 @@
 -- ExprSigns, ExprLeaves    operators and words at a place of a text, as the code reads them
 -- ExprSteps                expressions at a place of a text
 -- FieldWords, FieldNames   phrases, units, labels and short names at a place of a text
+-- FieldClauses             constraint and condition at a place of a text
 pub mod Combine
 pub mod LineNames
 pub mod LineTrees
@@ -57,3 +58,4 @@ pub mod ExprLeaves
 pub mod ExprSteps
 pub mod FieldWords
 pub mod FieldNames
+pub mod FieldClauses

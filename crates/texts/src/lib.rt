@@ -1,6 +1,7 @@
 // Texts: where expressions and the parts of field lines stand in them. specs/ holds readers that mirror what the code
 // does, proofs/ the theorems on spelling.
 mod expressions;
+mod field_clauses;
 mod fields;
 mod labels;
 mod leaves;

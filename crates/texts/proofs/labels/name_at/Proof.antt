@@ -42,14 +42,16 @@ returns c =
     let a = c .before .before .before .before .before .before .before .before .args in
     let w = c .before .before .before .before .before .before .word-end in
     name-yes (a .s .now) (a .at) (w .result) (w .ensures .0 .0) (w .ensures .0 .1) (w .ensures .1)
-    (sym (c .before .before .before .before .is-short .ensures) ∙ c .before .before .before .if1 .taken) (sym (c .before .starts-at .ensures) ∙ c .if2 .taken)
+    (sym (c .before .before .before .before .is-short .ensures) ∙ c .before .before .before .if1 .taken)
+    (sym (c .before .starts-at .ensures) ∙ c .if2 .taken)
 
 returns-2 : tie.Need-returns-2
 returns-2 c =
     let a = c .before .before .before .before .before .before .before .before .args in
     let w = c .before .before .before .before .before .before .word-end in
     name-unclosed (a .s .now) (a .at) (w .result) (w .ensures .0 .0) (w .ensures .0 .1) (w .ensures .1)
-    (sym (c .before .before .before .before .is-short .ensures) ∙ c .before .before .before .if1 .taken) (sym (c .before .starts-at .ensures) ∙ c .if2 .left)
+    (sym (c .before .before .before .before .is-short .ensures) ∙ c .before .before .before .if1 .taken)
+    (sym (c .before .starts-at .ensures) ∙ c .if2 .left)
 
 returns-3 : tie.Need-returns-3
 returns-3 c =

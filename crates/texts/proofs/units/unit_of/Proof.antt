@@ -19,7 +19,10 @@ same-words-requires c κs = search needs
 
 returns : tie.Need-returns
 unfolding unless0
-returns c = unit-case (c .before .before .before .before .args .w .now) true _ _ _ (sym (c .before .same-words .ensures) ∙ c .if1 .taken) refl refl refl
+returns c =
+    let w = c .before .before .before .before .args .w .now in
+    let e1 = sym (c .before .same-words .ensures) ∙ c .if1 .taken in
+    unit-case w true _ _ _ e1 refl refl refl
 
 slice-aggregate-same-words-2 : tie.Need-slice-aggregate-same-words-2
 slice-aggregate-same-words-2 c = search needs
@@ -29,8 +32,12 @@ same-words-requires-2 c κs = search needs
 
 returns-2 : tie.Need-returns-2
 unfolding unless0
-returns-2 c = unit-case (c .before .before .before .before .before .before .before .args .w .now) false true _ _ (sym (c .before .before .before .before .same-words .ensures) ∙ c .before .before .before .if1 .left)
-    (sym (c .before .same-words2 .ensures) ∙ c .if2 .taken) refl refl
+returns-2 c =
+    let c1 = c .before .before .before in
+    let w = c1 .before .before .before .before .args .w .now in
+    let e1 = sym (c1 .before .same-words .ensures) ∙ c1 .if1 .left in
+    let e2 = sym (c .before .same-words2 .ensures) ∙ c .if2 .taken in
+    unit-case w false true _ _ e1 e2 refl refl
 
 slice-aggregate-same-words-3 : tie.Need-slice-aggregate-same-words-3
 slice-aggregate-same-words-3 c = search needs
@@ -40,9 +47,14 @@ same-words-requires-3 c κs = search needs
 
 returns-3 : tie.Need-returns-3
 unfolding unless0
-returns-3 c = unit-case (c .before .before .before .before .before .before .before .before .before .before .args .w .now) false false true _ (sym (c .before .before .before .before .before .before .before .same-words .ensures) ∙ c .before .before .before .before .before .before .if1 .left)
-    (sym (c .before .before .before .before .same-words2 .ensures) ∙ c .before .before .before .if2 .left)
-    (sym (c .before .same-words3 .ensures) ∙ c .if3 .taken) refl
+returns-3 c =
+    let c2 = c .before .before .before in
+    let c1 = c2 .before .before .before in
+    let w = c1 .before .before .before .before .args .w .now in
+    let e1 = sym (c1 .before .same-words .ensures) ∙ c1 .if1 .left in
+    let e2 = sym (c2 .before .same-words2 .ensures) ∙ c2 .if2 .left in
+    let e3 = sym (c .before .same-words3 .ensures) ∙ c .if3 .taken in
+    unit-case w false false true _ e1 e2 e3 refl
 
 slice-aggregate-same-words-4 : tie.Need-slice-aggregate-same-words-4
 slice-aggregate-same-words-4 c = search needs
@@ -52,17 +64,29 @@ same-words-requires-4 c κs = search needs
 
 returns-4 : tie.Need-returns-4
 unfolding unless0
-returns-4 c = unit-case (c .before .before .before .before .before .before .before .before .before .before .before .before .before .args .w .now) false false false true (sym (c .before .before .before .before .before .before .before .before .before .before .same-words .ensures) ∙ c .before .before .before .before .before .before .before .before .before .if1 .left)
-    (sym (c .before .before .before .before .before .before .before .same-words2 .ensures) ∙ c .before .before .before .before .before .before .if2 .left)
-    (sym (c .before .before .before .before .same-words3 .ensures) ∙ c .before .before .before .if3 .left)
-    (sym (c .before .same-words4 .ensures) ∙ c .if4 .taken)
+returns-4 c =
+    let c3 = c .before .before .before in
+    let c2 = c3 .before .before .before in
+    let c1 = c2 .before .before .before in
+    let w = c1 .before .before .before .before .args .w .now in
+    let e1 = sym (c1 .before .same-words .ensures) ∙ c1 .if1 .left in
+    let e2 = sym (c2 .before .same-words2 .ensures) ∙ c2 .if2 .left in
+    let e3 = sym (c3 .before .same-words3 .ensures) ∙ c3 .if3 .left in
+    let e4 = sym (c .before .same-words4 .ensures) ∙ c .if4 .taken in
+    unit-case w false false false true e1 e2 e3 e4
 
 returns-5 : tie.Need-returns-5
 unfolding unless0
-returns-5 c = unit-case (c .before .before .before .before .before .before .before .before .before .before .before .before .before .args .w .now) false false false false (sym (c .before .before .before .before .before .before .before .before .before .before .same-words .ensures) ∙ c .before .before .before .before .before .before .before .before .before .if1 .left)
-    (sym (c .before .before .before .before .before .before .before .same-words2 .ensures) ∙ c .before .before .before .before .before .before .if2 .left)
-    (sym (c .before .before .before .before .same-words3 .ensures) ∙ c .before .before .before .if3 .left)
-    (sym (c .before .same-words4 .ensures) ∙ c .if4 .left)
+returns-5 c =
+    let c3 = c .before .before .before in
+    let c2 = c3 .before .before .before in
+    let c1 = c2 .before .before .before in
+    let w = c1 .before .before .before .before .args .w .now in
+    let e1 = sym (c1 .before .same-words .ensures) ∙ c1 .if1 .left in
+    let e2 = sym (c2 .before .same-words2 .ensures) ∙ c2 .if2 .left in
+    let e3 = sym (c3 .before .same-words3 .ensures) ∙ c3 .if3 .left in
+    let e4 = sym (c .before .same-words4 .ensures) ∙ c .if4 .left in
+    unit-case w false false false false e1 e2 e3 e4
 
 pub unit-of-spec : {M : Type 1} → statement M
 unit-of-spec =
