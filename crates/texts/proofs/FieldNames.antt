@@ -81,7 +81,8 @@ module _ (s : List ℕ) (at : ℕ) where
       let g = goes (getD s at 0) (drop (suc at) s) (ap labelEnds (sym d) ∙ e) in
       ap labelBehind d ∙ g ∙ ap (λ (n : ℕ). labelBehind (drop n s)) (sym (add-one at))
 
-module _ (s : List ℕ) (at end : ℕ) (lo : at ≤ end) (hi : end ≤ length s) (e : drop end s ≡ labelBehind (drop at s)) where
+module _ (s : List ℕ) (at end : ℕ) (lo : at ≤ end) (hi : end ≤ length s)
+    (e : drop end s ≡ labelBehind (drop at s)) where
   label-part : take (end - at) (drop at s) ≡ labelText (drop at s)
   label-part =
       let z : List ℕ = drop at s in
@@ -180,4 +181,6 @@ module _ (s : List ℕ) (at : ℕ) (le : at ≤ length s) where
 
   pub short-bare : begins (bytes " (") (drop at s) ≡ false → ShortAt (short.At at at at)
   unfolding SameShort WithinShort NameIs
-  short-bare n = ((omega arith, omega arith, omega arith, le), rw (short-none (drop at s) n) (at, at, at, refl, refl, refl))
+  short-bare n =
+      let e = short-none (drop at s) n in
+      ((omega arith, omega arith, omega arith, le), rw e (at, at, at, refl, refl, refl))

@@ -42,7 +42,8 @@ tree-at-requires c κs =
 returns-2 : tie.Need-returns-2
 returns-2 c =
     let a = c .before .before .before .before .before .before .before .before .args in
-    let n = sym (c .before .before .before .before .before .starts-at .ensures) ∙ c .before .before .before .before .if1 .left in
+    let p = c .before .before .before .before in
+    let n = sym (p .before .starts-at .ensures) ∙ p .if1 .left in
     let y = sym (c .before .before .starts-at2 .ensures) ∙ c .before .if2 .taken in
     let t = c .tree-at in
     constraint-yes (a .s .now) (a .at) (omega arith) (t .result) n y (t .ensures .0) (t .ensures .1)

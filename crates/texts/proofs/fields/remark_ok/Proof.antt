@@ -29,13 +29,17 @@ shared-slice-read-if2 : tie.Need-shared-slice-read-if2 Inv-loop μ-loop
 shared-slice-read-if2 c = search needs
 
 returns-2 : tie.Need-returns-2 Inv-loop μ-loop
-returns-2 c = let a = c .before .before .before .before .args in sym (remark-other (a .s .now) (a .at) (omega arith) (c .if2 .taken))
+returns-2 c =
+    let a = c .before .before .before .before .args in
+    sym (remark-other (a .s .now) (a .at) (omega arith) (c .if2 .taken))
 
 add-i : tie.Need-add-i Inv-loop μ-loop
 add-i c = search needs
 
 loop-holds : tie.Need-loop-holds Inv-loop μ-loop
-loop-holds c = let a = c .before .before .before .before .args in (omega arith, remark-space (a .s .now) (a .at) (omega arith) (c .if2 .left))
+loop-holds c =
+    let a = c .before .before .before .before .args in
+    (omega arith, remark-space (a .s .now) (a .at) (omega arith) (c .if2 .left))
 
 shared-slice-read-is-printable : tie.Need-shared-slice-read-is-printable Inv-loop μ-loop
 shared-slice-read-is-printable c = search needs

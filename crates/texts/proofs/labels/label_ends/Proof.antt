@@ -31,7 +31,8 @@ starts-at-requires-2 c κs = search needs
 returns-2 : tie.Need-returns-2
 returns-2 c =
     let a = c .before .before .before .before .before .before .args in
-    let n = ends-colon (drop (a .at) (a .s .now)) (sym (c .before .before .before .starts-at .ensures) ∙ c .before .before .if1 .left) in
+    let p = c .before .before in
+    let n = ends-colon (drop (a .at) (a .s .now)) (sym (p .before .starts-at .ensures) ∙ p .if1 .left) in
     c .starts-at2 .ensures ∙ sym n
 
 pub label-ends-spec : {M : Type 1} → statement M
