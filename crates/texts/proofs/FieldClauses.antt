@@ -1,24 +1,24 @@
 -- Constraint and condition at a place of a text, against the reader over what is left of it.
-use mathlib.Core.Path.{_≡_, refl, ap, sym, _∙_}
-use mathlib.Core.Bool.{Bool, true, false, and-false}
+use mathlib.Core.Path.{_≡_, refl}
+use mathlib.Core.Bool.{true, false, and-false}
 use mathlib.Core.List.{List}
 use mathlib.Core.Option.{Option, none, some}
-use Prim.Native.Nat.{ℕ, suc, _+_, _≤_, _<_}
+use Prim.Native.Nat.{ℕ, suc, _+_, _≤_}
 use native.Mathlib.Omega.{arith}
 use lib.ListN.{length, drop}
 use Rattle.base.specs.Bytes.{bytes}
 use Rattle.rules.specs.Limits.{openMost}
 use Rattle.rules.specs.Trees.{Tree, depth, storedLength}
-use Rattle.rules.specs.Reader.{Out, fail, got, expr}
+use Rattle.rules.specs.Reader.{fail, got, expr}
 use Rattle.texts.specs.LineReader.{Got, miss, hit, literal, begins, readTree, readPhrase, readMaybe}
 use Rattle.texts.specs.LineReader.{isCondition, isConstraint, readConstraint, readCondition}
-use Rattle.texts.specs.ExprPlaces.{ExprAt, Within}
+use Rattle.texts.specs.ExprPlaces.{ExprAt}
 use Rattle.texts.specs.FieldPlaces.{treeClause, SameClause, WithinClause}
 use Rattle.texts.specs.declared.leaves.Read.{Read}
 use Rattle.texts.specs.declared.leaves.Read.the-variants as read
 use Rattle.texts.specs.declared.field_clauses.Clause.{Clause}
 use Rattle.texts.specs.declared.field_clauses.Clause.the-variants as clause
-use Rattle.texts.proofs.ExprSteps.{same-fail, Is, same-got, within-got}
+use Rattle.texts.proofs.ExprSteps.{same-fail, Is, same-got}
 use Rattle.texts.proofs.FieldNames.{literal-at}
 
 -- ── an expression ──

@@ -1,7 +1,7 @@
 -- Labels and short names at a place of a text, against the reader over what is left of it.
 use mathlib.Core.Path.{_≡_, refl, ap, sym, _∙_}
-use mathlib.Core.Bool.{Bool, true, false, cond, not}
-use mathlib.Core.List.{List, [], _∷_, _++_}
+use mathlib.Core.Bool.{Bool, true, false, not}
+use mathlib.Core.List.{List, _∷_, _++_}
 use mathlib.Core.Option.{Option, none, some}
 use Prim.Native.Nat.{ℕ, suc, _+_, _-_, _≤_, _<_}
 use native.Mathlib.Omega.{arith}
@@ -13,7 +13,7 @@ use Rattle.base.specs.Lists.{isNone}
 use Rattle.base.proofs.Places.{drop-more}
 use Rattle.rules.specs.Names.{isLabel, isShort}
 use Rattle.rules.specs.Reader.{after, word, behind}
-use Rattle.texts.specs.LineReader.{Got, miss, hit, passed, literal, begins, labelEnds, labelText, labelBehind}
+use Rattle.texts.specs.LineReader.{miss, hit, passed, literal, begins, labelEnds, labelText, labelBehind}
 use Rattle.texts.specs.LineReader.{readLabel, readName, readShort}
 use Rattle.texts.specs.FieldPlaces.{SameLabel, WithinLabel, NameIs, SameShort, WithinShort}
 use Rattle.texts.specs.declared.labels.Label.the-variants as label

@@ -2,7 +2,6 @@
 use crate::expressions::expr;
 use crate::fields::starts_at;
 use crate::leaves::Read;
-ghost use mathlib.Core.Path.{_≡_};
 ghost use Prim.Native.Nat.{_≤_};
 ghost use lib.ListN.{length, drop};
 ghost use Rattle.rules.specs.Limits.{textMost};

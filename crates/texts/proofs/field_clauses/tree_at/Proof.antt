@@ -1,8 +1,4 @@
-use mathlib.Core.Path.{_≡_, refl, sym, _∙_}
 use native.Mathlib.Omega.{arith}
-use Prim.Native.Nat.{_≤_, _+_}
-use lib.ListN.{length}
-use Rattle.base.specs.Bytes.{bytes}
 use Rattle.texts.proofs.ExprSteps.{within-got}
 use Rattle.texts.proofs.FieldClauses.{tree-fail, tree-got}
 use borrow.Author.Needs.{needs}

@@ -1,8 +1,6 @@
-use mathlib.Core.Path.{_≡_, refl, sym, _∙_}
+use mathlib.Core.Path.{sym}
 use native.Mathlib.Omega.{arith}
-use Prim.Native.Nat.{_≤_, _-_, _+_, _<_}
 use Rattle.texts.proofs.FieldWords.{printable-low, printable-rest}
-use borrow.Author.Needs.{needs}
 use Rattle.texts.proofs.fields.is_printable.Statement.{statement}
 use Rattle.texts.proofs.fields.is_printable.Tie as tie
 use Rattle.texts.proofs.fields.is_printable.Reads as reads

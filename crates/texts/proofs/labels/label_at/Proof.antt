@@ -1,5 +1,4 @@
-use mathlib.Core.Path.{_≡_, refl, sym, _∙_}
-use native.Mathlib.Omega.{arith}
+use mathlib.Core.Path.{sym, _∙_}
 use Rattle.texts.proofs.FieldNames.{label-yes, label-no}
 use borrow.Author.Needs.{needs}
 use Rattle.texts.proofs.labels.label_at.Statement.{statement}

@@ -1,8 +1,8 @@
 use mathlib.Core.Path.{_≡_, refl, sym, _∙_}
 use native.Mathlib.Omega.{arith}
-use Prim.Native.Nat.{_≤_, _-_, _+_, _<_}
+use Prim.Native.Nat.{_≤_, _-_}
 use mathlib.Core.Bool.{true, false}
-use lib.ListN.{length, take, drop}
+use lib.ListN.{length, drop}
 use Rattle.texts.specs.LineReader.{labelEnds, labelBehind}
 use Rattle.texts.proofs.FieldNames.{label-end, label-stop, label-step}
 use borrow.Author.Needs.{needs}

@@ -1,8 +1,4 @@
-use mathlib.Core.Path.{_≡_, refl, sym, _∙_}
-use native.Mathlib.Omega.{arith}
-use Prim.Native.Nat.{_≤_, _-_, _+_, _<_}
-use mathlib.Core.Bool.{true, false}
-use lib.ListN.{length, take, drop}
+use mathlib.Core.Path.{sym, _∙_}
 use Rattle.texts.proofs.FieldNames.{name-yes, name-unclosed, name-no}
 use borrow.Author.Needs.{needs}
 use Rattle.texts.proofs.labels.name_at.Statement.{statement}

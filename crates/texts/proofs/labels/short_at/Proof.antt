@@ -1,8 +1,5 @@
-use mathlib.Core.Path.{_≡_, refl, sym, _∙_}
+use mathlib.Core.Path.{sym, _∙_}
 use native.Mathlib.Omega.{arith}
-use Prim.Native.Nat.{_≤_, _-_, _+_, _<_}
-use mathlib.Core.Bool.{true, false}
-use lib.ListN.{length, take, drop}
 use Rattle.texts.proofs.FieldNames.{short-room, short-named, short-bare}
 use borrow.Author.Needs.{needs}
 use Rattle.texts.proofs.labels.short_at.Statement.{statement}

@@ -1,6 +1,3 @@
-use mathlib.Core.Path.{_≡_, refl, sym, _∙_}
-use native.Mathlib.Omega.{arith}
-use Prim.Native.Nat.{_≤_, _-_, _+_, _<_}
 use Rattle.texts.proofs.FieldWords.{unit-none, unit-some}
 use borrow.Author.Needs.{needs}
 use Rattle.texts.proofs.units.unit_at.Statement.{statement}

@@ -1,6 +1,4 @@
-use mathlib.Core.Path.{_≡_, refl, sym, _∙_}
-use native.Mathlib.Omega.{arith}
-use Prim.Native.Nat.{_≤_, _-_, _+_, _<_}
+use mathlib.Core.Path.{refl, sym, _∙_}
 use mathlib.Core.Bool.{true, false}
 use Rattle.texts.specs.FieldPlaces.{unless0}
 use Rattle.texts.proofs.FieldWords.{unit-case}
