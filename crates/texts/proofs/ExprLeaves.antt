@@ -132,7 +132,7 @@ module _ (s : List ℕ) (at end : ℕ) (lo : at ≤ end) (hi : end ≤ length s)
   part-is = word-part s at end lo hi e
 
   -- a test that refuses the empty word
-  longer : (p : List ℕ → Bool) → p [] ≡ false → p (take (end - at) (drop at s)) ≡ true → at + 1 ≤ end
+  pub longer : (p : List ℕ → Bool) → p [] ≡ false → p (take (end - at) (drop at s)) ≡ true → at + 1 ≤ end
   longer p n y = go (decLt at end)
     where
       go : Dec (at < end) → at + 1 ≤ end

@@ -23,6 +23,8 @@
 -- Answered, TextResults    no text spells two descriptions; exactly one outcome for each text and output
 -- ExprSigns, ExprLeaves    operators and words at a place of a text, as the code reads them
 -- ExprSteps                expressions at a place of a text
+-- FieldWords, FieldNames   phrases, units, labels and short names at a place of a text
+-- FieldClauses             constraint and condition at a place of a text
 pub mod Combine
 pub mod LineNames
 pub mod LineTrees
@@ -54,3 +56,6 @@ pub mod TextResults
 pub mod ExprSigns
 pub mod ExprLeaves
 pub mod ExprSteps
+pub mod FieldWords
+pub mod FieldNames
+pub mod FieldClauses

@@ -22,7 +22,7 @@ use Rattle.texts.proofs.Combine.{differs}
 
 -- ── labels ──
 
-label-split : (s : List ℕ) → s ≡ labelText s ++ labelBehind s
+pub label-split : (s : List ℕ) → s ≡ labelText s ++ labelBehind s
 unfolding labelText labelBehind
 label-split [] = refl
 label-split (c ∷ s) = go (labelEnds (c ∷ s)) (label-split s)

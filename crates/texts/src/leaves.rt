@@ -17,7 +17,7 @@ pub(crate) enum Read {
 }
 
 // Where the word of letters and digits at `at` ends.
-fn word_end(s: &[u8], at: usize) -> usize
+pub(crate) fn word_end(s: &[u8], at: usize) -> usize
     requires { ⌜ at ≤ length (now s) ⌝ }
     ensures place { λ r. ⌜ (at ≤ r) × (r ≤ length (now (s .entry))) ⌝ }
     ensures rest { λ r. ⌜ drop r (now (s .entry)) ≡ behind (drop at (now (s .entry))) ⌝ }

@@ -1,5 +1,9 @@
-// Texts: where expressions stand in them. specs/ holds readers that mirror what the code does, proofs/ the theorems on
-// spelling.
+// Texts: where expressions and the parts of field lines stand in them. specs/ holds readers that mirror what the code
+// does, proofs/ the theorems on spelling.
 mod expressions;
+mod field_clauses;
+mod fields;
+mod labels;
 mod leaves;
 mod operators;
+mod units;

@@ -1,0 +1,54 @@
+// Phrases of a field line at a place of a text, and the remark behind its full stop.
+ghost use mathlib.Core.Path.{_≡_};
+ghost use Prim.Native.Nat.{_≤_};
+ghost use lib.ListN.{length, drop};
+ghost use Rattle.rules.specs.Names.{isPrintable};
+ghost use Rattle.texts.specs.LineReader.{begins, isRemark};
+
+// The word stands at `at`.
+pub(crate) fn starts_at(s: &[u8], at: usize, word: &[u8]) -> bool
+    requires { ⌜ at ≤ length (now s) ⌝ }
+    ensures { λ r. ⌜ r ≡ begins (now (word .entry)) (drop at (now (s .entry))) ⌝ }
+{
+    if s.len() - at < word.len() {
+        return false;
+    }
+    let mut i = 0;
+    while i < word.len() {
+        if word[i] != s[at + i] {
+            return false;
+        }
+        i += 1;
+    }
+    true
+}
+
+fn is_printable(b: u8) -> bool
+    ensures { λ r. ⌜ r ≡ isPrintable b ⌝ }
+{
+    if b < 32 {
+        return false;
+    }
+    b <= 126
+}
+
+// From `at` on stands nothing, or a space and printable bytes.
+pub(crate) fn remark_ok(s: &[u8], at: usize) -> bool
+    requires { ⌜ at ≤ length (now s) ⌝ }
+    ensures { λ r. ⌜ r ≡ isRemark (drop at (now (s .entry))) ⌝ }
+{
+    if at == s.len() {
+        return true;
+    }
+    if s[at] != b' ' {
+        return false;
+    }
+    let mut i = at + 1;
+    while i < s.len() {
+        if !is_printable(s[i]) {
+            return false;
+        }
+        i += 1;
+    }
+    true
+}
