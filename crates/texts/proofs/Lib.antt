@@ -23,6 +23,7 @@
 -- Answered, TextResults    no text spells two descriptions; exactly one outcome for each text and output
 -- ExprSigns, ExprLeaves    operators and words at a place of a text, as the code reads them
 -- ExprSteps                expressions at a place of a text
+-- FrameLeaves              bytes, lines, rulers and the opening line, as the code reads them
 pub mod Combine
 pub mod LineNames
 pub mod LineTrees
@@ -54,3 +55,4 @@ pub mod TextResults
 pub mod ExprSigns
 pub mod ExprLeaves
 pub mod ExprSteps
+pub mod FrameLeaves
