@@ -24,6 +24,7 @@
 -- ExprSigns, ExprLeaves    operators and words at a place of a text, as the code reads them
 -- ExprSteps                expressions at a place of a text
 -- FrameLeaves              bytes, lines, rulers and the opening line, as the code reads them
+-- RowLeaves                cells, as the code reads them
 pub mod Combine
 pub mod LineNames
 pub mod LineTrees
@@ -56,3 +57,4 @@ pub mod ExprSigns
 pub mod ExprLeaves
 pub mod ExprSteps
 pub mod FrameLeaves
+pub mod RowLeaves

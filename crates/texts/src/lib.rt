@@ -4,4 +4,5 @@ mod expressions;
 mod frames;
 mod leaves;
 mod operators;
+mod rows;
 mod rulers;

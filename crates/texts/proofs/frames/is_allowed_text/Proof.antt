@@ -34,7 +34,8 @@ returns c =
     let s = c .before .before .before .before .before .before .args .text .now in
     let n : isAllowed (getD s (c .before .before .before .before .loop .i) 0) ≡ false =
     sym (c .before .is-allowed .ensures) ∙ not-true (c .before .is-allowed .result) (c .if1 .taken) in
-    sym (c .before .before .before .before .loop .inv .1 ∙ all-stop isAllowed s (c .before .before .before .before .loop .i) (omega arith) n)
+    sym (c .before .before .before .before .loop .inv .1 ∙ all-stop isAllowed s (c .before .before .before
+    .before .loop .i) (omega arith) n)
 
 add-i : tie.Need-add-i Inv-loop μ-loop
 add-i c = search needs
@@ -46,11 +47,15 @@ loop-again : tie.Need-loop-again Inv-loop μ-loop
 loop-again c =
     let s = c .before .before .before .before .before .before .args .text .now in
     let n : isAllowed (getD s (c .before .before .before .before .loop .i) 0) ≡ true =
-    sym (c .before .is-allowed .ensures) ∙ not-false (c .before .is-allowed .result) (c .if1 .left) in
-    (omega arith, c .before .before .before .before .loop .inv .1 ∙ all-step isAllowed s (c .before .before .before .before .loop .i) (omega arith) n)
+    sym (c .before .is-allowed .ensures) ∙ not-false (c .before .is-allowed .result) (c .if1 .left) in (
+      omega arith,
+      c .before .before .before .before .loop .inv .1 ∙ all-step isAllowed s (c .before .before
+          .before .before .loop .i) (omega arith) n,
+    )
 
 returns-2 : tie.Need-returns-2 Inv-loop μ-loop
-returns-2 c = sym (c .before .loop .inv .1 ∙ all-end isAllowed (c .before .before .before .args .text .now) (c .before .loop .i) (omega arith) (omega arith))
+returns-2 c = sym (c .before .loop .inv .1 ∙ all-end isAllowed (c .before .before .before .args .text .now) (c
+    .before .loop .i) (omega arith) (omega arith))
 
 pub is-allowed-text-spec : {M : Type 1} → statement M
 is-allowed-text-spec =

@@ -63,7 +63,8 @@ unfolding closing
 returns-3 c =
     let s = c .before .before .before .before .before .before .before .before .args .s .now in
     let q : true ≡ same (take (length s - (length s - 25)) (drop (length s - 25) s)) closing =
-    sym (not-false (c .before .before .before .same-words .result) (c .before .before .if2 .left)) ∙ c .before .before .before .same-words .ensures in
+    sym (not-false (c .before .before .before .same-words .result) (c .before .before .if2 .left)) ∙ c .before
+    .before .before .same-words .ensures in
     let r : c .is-label .result ≡ isLabel (take (length s - 25 - 0) s) = c .is-label .ensures in
     (rw (sub-zero (length s - 25)) at r) ∙ name-long s true (omega arith) q
 

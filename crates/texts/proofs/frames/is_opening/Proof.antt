@@ -47,7 +47,8 @@ is-named-requires c κs = search needs
 returns-2 : tie.Need-returns-2
 returns-2 c =
     let l = c .before .before .before .before .before .before .before .before .args .line .now in
-    let q : same (take 3 l) (bytes "An ") ≡ true = sym (c .before .before .before .same-words .ensures) ∙ c .before .before .if2 .taken in
+    let q : same (take 3 l) (bytes "An ") ≡ true = sym (c .before .before .before .same-words .ensures) ∙ c
+    .before .before .if2 .taken in
     c .is-named .ensures ∙ ap (λ m. isSome (readName m)) (take-rest 3 l) ∙ opened-an l q
 
 sub-same-words-2 : tie.Need-sub-same-words-2
@@ -79,15 +80,19 @@ is-named-requires-2 c κs = search needs
 
 returns-3 : tie.Need-returns-3
 returns-3 c =
-    let l = c .before .before .before .before .before .before .before .before .before .before .before .before .args .line .now in
-    let q : same (take 3 l) (bytes "An ") ≡ false = sym (c .before .before .before .before .before .before .before .same-words .ensures) ∙ c .before .before .before .before .before .before .if2 .left in
-    let k : same (take 2 l) (bytes "A ") ≡ true = sym (c .before .before .before .same-words2 .ensures) ∙ c .before .before .if3 .taken in
+    let l = c .before .before .before .before .before .before .before .before .before .before .before .before
+    .args .line .now in
+    let q : same (take 3 l) (bytes "An ") ≡ false = sym (c .before .before .before .before .before .before
+    .before .same-words .ensures) ∙ c .before .before .before .before .before .before .if2 .left in
+    let k : same (take 2 l) (bytes "A ") ≡ true = sym (c .before .before .before .same-words2 .ensures) ∙ c
+    .before .before .if3 .taken in
     c .is-named2 .ensures ∙ ap (λ m. isSome (readName m)) (take-rest 2 l) ∙ opened-a l q k
 
 returns-4 : tie.Need-returns-4
 returns-4 c =
     let l = c .before .before .before .before .before .before .before .before .before .before .args .line .now in
-    let q : same (take 3 l) (bytes "An ") ≡ false = sym (c .before .before .before .before .before .same-words .ensures) ∙ c .before .before .before .before .if2 .left in
+    let q : same (take 3 l) (bytes "An ") ≡ false = sym (c .before .before .before .before .before .same-words
+    .ensures) ∙ c .before .before .before .before .if2 .left in
     let k : same (take 2 l) (bytes "A ") ≡ false = sym (c .before .same-words2 .ensures) ∙ c .if3 .left in
     opened-none l q k
 

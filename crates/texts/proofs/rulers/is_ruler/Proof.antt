@@ -20,7 +20,8 @@ abbrev μ-loop : tie.MeasureT-loop
 μ-loop line k n i₀ i = length line - i
 
 returns : tie.Need-returns Inv-loop μ-loop
-returns c = sym (ruler-length (columnAt (c .before .before .args .k)) (c .before .before .args .line .now) (c .before .before .args .n) (c .if1 .taken))
+returns c = sym (ruler-length (columnAt (c .before .before .args .k)) (c .before .before .args .line .now) (c
+    .before .before .args .n) (c .if1 .taken))
 
 loop-holds : tie.Need-loop-holds Inv-loop μ-loop
 loop-holds c = (omega arith, omega arith, refl)
@@ -36,7 +37,9 @@ returns-2 c =
     let l = c .before .before .before .before .before .before .before .args .line .now in
     sym
     (c .before .before .before .before .loop .inv .2
-    ∙ ruler-stop (columnAt (c .before .before .before .before .before .before .before .args .k)) l (c .before .before .before .before .before .before .before .args .n) (c .before .before .before .before .loop .i) (c .before .column .result) (omega arith) (omega arith)
+    ∙ ruler-stop (columnAt (c .before .before .before .before .before .before .before .args .k)) l (c .before
+    .before .before .before .before .before .before .args .n) (c .before .before .before .before .loop .i) (c
+    .before .column .result) (omega arith) (omega arith)
     (c .before .column .ensures) (c .if2 .taken))
 
 add-i : tie.Need-add-i Inv-loop μ-loop
@@ -51,7 +54,9 @@ loop-again c =
       omega arith,
       omega arith,
       c .before .before .before .before .loop .inv .2
-          ∙ ruler-next (columnAt (c .before .before .before .before .before .before .before .args .k)) l (c .before .before .before .before .before .before .before .args .n) (c .before .before .before .before .loop .i) (c .before .column .result) (omega arith) (omega arith)
+          ∙ ruler-next (columnAt (c .before .before .before .before .before .before .before .args .k)) l (c
+          .before .before .before .before .before .before .before .args .n) (c .before .before .before .before .loop
+          .i) (c .before .column .result) (omega arith) (omega arith)
           (c .before .column .ensures) (c .if2 .left),
     )
 
@@ -59,7 +64,8 @@ returns-3 : tie.Need-returns-3 Inv-loop μ-loop
 returns-3 c =
     sym
     (c .before .loop .inv .2
-    ∙ ruler-end (columnAt (c .before .before .before .before .args .k)) (c .before .before .before .before .args .line .now) (c .before .before .before .before .args .n) (c .before .loop .i) (omega arith) (omega arith)
+    ∙ ruler-end (columnAt (c .before .before .before .before .args .k)) (c .before .before .before .before
+    .args .line .now) (c .before .before .before .before .args .n) (c .before .loop .i) (omega arith) (omega arith)
     (omega arith))
 
 pub is-ruler-spec : {M : Type 1} → statement M

@@ -12,27 +12,31 @@ is-ruler-requires : tie.Need-is-ruler-requires
 is-ruler-requires c κs = search needs
 
 returns : tie.Need-returns
-returns c = width-8 (c .before .before .before .args .line .now) (sym (c .before .is-ruler .ensures) ∙ c .if1 .taken)
+returns c = width-8 (c .before .before .before .args .line .now) (sym (c .before .is-ruler .ensures) ∙ c .if1
+    .taken)
 
 is-ruler-requires-2 : tie.Need-is-ruler-requires-2
 is-ruler-requires-2 c κs = search needs
 
 returns-2 : tie.Need-returns-2
 returns-2 c =
-    width-16 (c .before .before .before .before .before .args .line .now) (sym (c .before .before .before .is-ruler .ensures) ∙ c .before .before .if1 .left) (sym (c .before .is-ruler2 .ensures) ∙ c .if2 .taken)
+    width-16 (c .before .before .before .before .before .args .line .now) (sym (c .before .before .before
+    .is-ruler .ensures) ∙ c .before .before .if1 .left) (sym (c .before .is-ruler2 .ensures) ∙ c .if2 .taken)
 
 is-ruler-requires-3 : tie.Need-is-ruler-requires-3
 is-ruler-requires-3 c κs = search needs
 
 returns-3 : tie.Need-returns-3
 returns-3 c =
-    width-last (c .before .before .before .before .before .before .before .args .line .now) true (sym (c .before .before .before .before .before .is-ruler .ensures) ∙ c .before .before .before .before .if1 .left)
+    width-last (c .before .before .before .before .before .before .before .args .line .now) true (sym (c
+    .before .before .before .before .before .is-ruler .ensures) ∙ c .before .before .before .before .if1 .left)
     (sym (c .before .before .before .is-ruler2 .ensures) ∙ c .before .before .if2 .left)
     (sym (c .before .is-ruler3 .ensures) ∙ c .if3 .taken)
 
 returns-4 : tie.Need-returns-4
 returns-4 c =
-    width-last (c .before .before .before .before .before .before .before .args .line .now) false (sym (c .before .before .before .before .before .is-ruler .ensures) ∙ c .before .before .before .before .if1 .left)
+    width-last (c .before .before .before .before .before .before .before .args .line .now) false (sym (c
+    .before .before .before .before .before .is-ruler .ensures) ∙ c .before .before .before .before .if1 .left)
     (sym (c .before .before .before .is-ruler2 .ensures) ∙ c .before .before .if2 .left)
     (sym (c .before .is-ruler3 .ensures) ∙ c .if3 .left)
 
