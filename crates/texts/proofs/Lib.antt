@@ -24,7 +24,7 @@
 -- ExprSigns, ExprLeaves    operators and words at a place of a text, as the code reads them
 -- ExprSteps                expressions at a place of a text
 -- FrameLeaves              bytes, lines, rulers and the opening line, as the code reads them
--- RowLeaves                cells, as the code reads them
+-- RowLeaves                cells and long rows, as the code reads them
 pub mod Combine
 pub mod LineNames
 pub mod LineTrees

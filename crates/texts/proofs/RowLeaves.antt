@@ -7,14 +7,28 @@ use native.Mathlib.Omega.{arith}
 use native.Mathlib.Numerals.{add-one}
 use native.Mathlib.Nat.{le-of-suc-le-suc}
 use lib.Dec.{eqb}
-use lib.ListN.{length, take, drop, getD, length-drop}
-use lib.Seq.{drop-cons, drop-length}
-use borrow.Author.Tests.{eq-eqb, ne-eqb}
+use lib.ListN.{length, take, drop, getD, length-drop, drop-of-length-le}
+use lib.Seq.{drop-cons, drop-length, length-take-le}
+use borrow.Author.Tests.{eqb-true, eqb-false, eq-eqb, ne-eqb}
 use Rattle.rules.specs.Names.{isSpace, isLabel}
-use Rattle.rules.specs.Frames.{Cell, isCell}
-use Rattle.texts.specs.FrameReader.{lead, leftTrim, keepEnd, rightTrim, cellOf}
+use Rattle.rules.specs.Frames.{Cell, isCell, Row, longRow, isRow}
+use Rattle.texts.specs.FrameReader.{
+  onFirst,
+  pieces,
+  rest,
+  leftTrim,
+  keepEnd,
+  rightTrim,
+  cellOf,
+  keepRow,
+  longOf,
+}
 use Rattle.texts.proofs.RowCells.{cellText-of, right-pad, length-cell}
-use Rattle.texts.proofs.FrameLeaves.{take-rest}
+use Rattle.texts.proofs.FrameLeaves.{take-rest, pieces-first, pieces-none}
+use Rattle.texts.proofs.SplitLaws.{endedBy, split-joined}
+use Rattle.texts.specs.FramePlaces.{upTo, isSome}
+use Rattle.base.specs.Lists.{isEmpty, joined}
+use mathlib.Core.Option.{Option, none, some}
 
 -- ── spaces in front ──
 
@@ -110,3 +124,105 @@ module _ (s : List ℕ) where
         ∙ ap (λ (m : List ℕ). isLabel (take n m)) (sym t)
         ∙ ap isLabel (r ∙ ap rightTrim (t ∙ l))
         ∙ cell-odd odd
+
+-- ── a long row, behind its first colon ──
+
+rest-first : (e : ℕ) (s : List ℕ) → upTo e s < length s → rest e s ≡ rest e (drop (suc (upTo e s)) s)
+unfolding pieces rest onFirst upTo
+rest-first e [] lt = absurd (omega arith)
+rest-first e (b ∷ s) lt = go (eqb b e) (rest-first e s) (pieces-first e s) lt
+  where
+    go : (x : Bool)
+        → (upTo e s < length s → rest e s ≡ rest e (drop (suc (upTo e s)) s))
+        → (upTo e s < length s → pieces e s ≡ take (upTo e s) s ∷ pieces e (drop (suc (upTo e s)) s))
+        → cond x 0 (suc (upTo e s)) < suc (length s)
+        → cond x (rest e s) (cond (isEmpty (pieces e s)) (b ∷ rest e s) (rest e s))
+        ≡ rest e (drop (suc (cond x 0 (suc (upTo e s)))) (b ∷ s))
+    go true h k lt = refl
+    go false h k lt = rw (k (omega arith)) (h (omega arith))
+
+abbrev pub isLong : ℕ → List ℕ → Bool
+isLong w l = isSome (longOf w (rest 58 l) (pieces 58 l))
+
+row-kept : (w : ℕ) (r : List ℕ) (row : Row) → isSome (keepRow w r row) ≡ (isEmpty r && isRow w row)
+unfolding keepRow
+row-kept w r row = go (isEmpty r && isRow w row)
+  where
+    go : (x : Bool) → isSome (cond x (some row) none) ≡ x
+    go true = refl
+    go false = refl
+
+-- no colon, or more than one byte from the colon on
+pub long-other : (w : ℕ) (l : List ℕ) → upTo 58 l ≤ length l → (length l - upTo 58 l ≡ 1 → ⊥) → false ≡ isLong w l
+unfolding longOf joined
+long-other w l le n = go (eqb (upTo 58 l) (length l)) refl
+  where
+    behind : (t : List ℕ) (p : List ℕ) (ls : List (List ℕ)) → pieces 58 t ≡ ls → 0 < length t
+        → false ≡ isSome (longOf w (rest 58 t) (p ∷ ls))
+    behind t p (m ∷ ls) q lt = refl
+    behind t p [] q lt =
+        let r : rest 58 t ≡ t =
+        ap {B = List ℕ} (λ ls. joined (endedBy 58) ls ++ rest 58 t) (sym q) ∙ split-joined 58 t in
+        sym
+        (row-kept w (rest 58 t) (longRow (cellOf p))
+        ∙ ap (λ (m : List ℕ). isEmpty m && isRow w (longRow (cellOf p))) r
+        ∙ filled t lt)
+      where
+        filled : (t : List ℕ) → 0 < length t → (isEmpty t && isRow w (longRow (cellOf p))) ≡ false
+        filled [] lt = absurd (omega arith)
+        filled (b ∷ t) lt = refl
+
+    go : (x : Bool) → eqb (upTo 58 l) (length l) ≡ x → false ≡ isLong w l
+    go true e = rw (pieces-none 58 l (eqb-true (upTo 58 l) (length l) e) .0) refl
+    go false e =
+        let lt : upTo 58 l < length l = omega (arith, le, eqb-false (upTo 58 l) (length l) e) in
+        let t : List ℕ = drop (suc (upTo 58 l)) l in
+        rw (pieces-first 58 l lt, rest-first 58 l lt)
+        (behind t (take (upTo 58 l) l) (pieces 58 t) refl (omega (arith, lt, n, length-drop (suc (upTo 58 l)) l)))
+
+pub long-one : (w : ℕ) (l : List ℕ) → length l - upTo 58 l ≡ 1
+    → isRow w (longRow (cellOf (take (upTo 58 l) l))) ≡ isLong w l
+unfolding longOf pieces rest
+long-one w l e =
+    let lt : upTo 58 l < length l = omega arith in
+    let t : drop (suc (upTo 58 l)) l ≡ [] = drop-of-length-le l {i = suc (upTo 58 l)} (omega arith) in
+    rw (pieces-first 58 l lt, rest-first 58 l lt, t)
+    (sym (row-kept w [] (longRow (cellOf (take (upTo 58 l) l)))))
+
+long-wide : (w : ℕ) (p : List ℕ) → (length p + 1 ≡ 2 * w → ⊥) → false ≡ isRow w (longRow (cellOf p))
+long-wide w p n = go (eqb (length p % 2) 0) refl
+  where
+    go : (x : Bool) → eqb (length p % 2) 0 ≡ x → false ≡ isRow w (longRow (cellOf p))
+    go true e = ap (λ (x : Bool). x && eqb (cellOf p .bits) w) (cell-even p (eqb-true (length p % 2) 0 e))
+    go false e =
+        let k = eqb-false (length p % 2) 0 e in
+        let q : eqb (cellOf p .bits) w ≡ false =
+        ne-eqb (cellOf p .bits) w (λ h. n (omega (arith, h, k, cell-bits p))) in
+        sym (ap (λ (x : Bool). isCell (cellOf p) && x) q ∙ and-false (isCell (cellOf p)))
+
+long-fit : (w : ℕ) (p : List ℕ) → length p + 1 ≡ 2 * w → isCell (cellOf p) ≡ isRow w (longRow (cellOf p))
+long-fit w p e =
+    let q : eqb (cellOf p .bits) w ≡ true = eq-eqb (cellOf p .bits) w (omega (arith, e, cell-bits p)) in
+    sym (ap (λ (x : Bool). isCell (cellOf p) && x) q ∙ and-right-true (isCell (cellOf p)))
+
+module _ (w : ℕ) (l : List ℕ) (e : ℕ) (h : e ≡ 0 + upTo 58 l) (le : e ≤ length l) where
+  first : e ≡ upTo 58 l
+  first = omega (arith, h)
+
+  pub long-end : (length l - e ≡ 1 → ⊥) → false ≡ isLong w l
+  long-end ne = long-other w l (omega (arith, le, first)) (λ k. ne (omega (arith, k, first)))
+
+  sized : length (take (upTo 58 l) l) ≡ upTo 58 l
+  sized = length-take-le (upTo 58 l) l (omega (arith, le, first))
+
+  pub long-width : length l - e ≡ 1 → (length l ≡ 2 * w → ⊥) → false ≡ isLong w l
+  long-width d ne =
+      long-wide w (take (upTo 58 l) l) (λ k. ne (omega (arith, k, d, sized, first)))
+      ∙ long-one w l (omega (arith, d, first))
+
+  pub long-cell : length l - e ≡ 1 → length l ≡ 2 * w → isCell (cellOf (take (e - 0) l)) ≡ isLong w l
+  long-cell d q =
+      let z : e - 0 ≡ upTo 58 l = omega (arith, first) in
+      ap (λ (n : ℕ). isCell (cellOf (take n l))) z
+      ∙ long-fit w (take (upTo 58 l) l) (omega (arith, q, d, sized, first))
+      ∙ long-one w l (omega (arith, d, first))

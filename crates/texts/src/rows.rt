@@ -1,10 +1,12 @@
-// The cells of a row.
+// The cells of a row, and a long row.
+use crate::frames::part_end;
 use names::labels::is_label;
 ghost use mathlib.Core.Path.{_≡_};
 ghost use Prim.Native.Nat.{_≤_};
 ghost use lib.ListN.{length, take, drop};
 ghost use Rattle.rules.specs.Frames.{isCell};
-ghost use Rattle.texts.specs.FrameReader.{leftTrim, rightTrim, cellOf};
+ghost use Rattle.texts.specs.FrameReader.{pieces, rest, leftTrim, rightTrim, cellOf, longOf};
+ghost use Rattle.texts.specs.FramePlaces.{isSome};
 
 // The place behind the spaces in front.
 fn spaces_end(s: &[u8]) -> usize
@@ -44,4 +46,19 @@ pub(crate) fn is_cell(s: &[u8]) -> bool
     let a = spaces_end(s);
     let n = trimmed(&s[a..]);
     is_label(&s[a..a + n])
+}
+
+// What stands behind the first colon of a long row: a cell of `w` bits, and a colon.
+pub(crate) fn is_long(l: &[u8], w: usize) -> bool
+    requires { ⌜ w ≤ 32 ⌝ }
+    ensures { λ r. ⌜ r ≡ isSome (longOf w (rest 58 (now (l .entry))) (pieces 58 (now (l .entry)))) ⌝ }
+{
+    let e = part_end(l, 0, b':');
+    if l.len() - e != 1 {
+        return false;
+    }
+    if l.len() != 2 * w {
+        return false;
+    }
+    is_cell(&l[0..e])
 }
