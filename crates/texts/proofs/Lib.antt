@@ -25,6 +25,8 @@
 -- ExprSteps                expressions at a place of a text
 -- FieldWords, FieldNames   phrases, units, labels and short names at a place of a text
 -- FieldClauses             constraint and condition at a place of a text
+-- FrameLeaves              bytes, lines, rulers and the opening line, as the code reads them
+-- RowLeaves                cells and long rows, as the code reads them
 pub mod Combine
 pub mod LineNames
 pub mod LineTrees
@@ -59,3 +61,5 @@ pub mod ExprSteps
 pub mod FieldWords
 pub mod FieldNames
 pub mod FieldClauses
+pub mod FrameLeaves
+pub mod RowLeaves

@@ -99,7 +99,7 @@ unfolding rightTrim keepEnd isSpace
 right-spaces zero = refl
 right-spaces (suc j) = rw (right-spaces j)
 
-right-pad : (s : List ℕ) (j : ℕ) → rightTrim (s ++ replicate j 32) ≡ rightTrim s
+pub right-pad : (s : List ℕ) (j : ℕ) → rightTrim (s ++ replicate j 32) ≡ rightTrim s
 unfolding rightTrim
 right-pad [] j = right-spaces j
 right-pad (c ∷ s) j = ap (keepEnd c) (right-pad s j)
@@ -110,7 +110,7 @@ right-last [] h = refl
 right-last (c ∷ []) h = rw (word-no-space c h)
 right-last (c ∷ d ∷ s) h = rw (right-last (d ∷ s) h)
 
-length-cell : (c : Cell) → length (cellText c) ≡ c .before + (length (c .text) + c .behind)
+pub length-cell : (c : Cell) → length (cellText c) ≡ c .before + (length (c .text) + c .behind)
 unfolding cellText
 length-cell c = simp (length-append, length-replicate) refl
 

@@ -3,7 +3,10 @@
 mod expressions;
 mod field_clauses;
 mod fields;
+mod frames;
 mod labels;
 mod leaves;
 mod operators;
+mod rows;
+mod rulers;
 mod units;

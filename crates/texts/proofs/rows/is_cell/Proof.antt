@@ -1,0 +1,77 @@
+use mathlib.Core.Path.{_∙_}
+use native.Mathlib.Omega.{arith}
+use Rattle.texts.proofs.RowLeaves.{cell-even, part-fits, cell-part}
+use borrow.Author.Needs.{needs}
+use Rattle.texts.proofs.rows.is_cell.Statement.{statement}
+use Rattle.texts.proofs.rows.is_cell.Tie as tie
+use Rattle.texts.proofs.rows.is_cell.Reads as reads
+use Rattle.texts.proofs.rows.is_cell.Lts as lts
+use Rattle.names.proofs.labels.is_label.Reads as is-label-reads
+use Rattle.texts.proofs.rows.spaces_end.Reads as spaces-end-reads
+use Rattle.texts.proofs.rows.trimmed.Reads as trimmed-reads
+
+returns : tie.Need-returns
+returns c = cell-even (c .before .before .args .s .now) (c .if1 .taken)
+
+spaces-end-requires : tie.Need-spaces-end-requires
+spaces-end-requires c κs = search needs
+
+sub-trimmed : tie.Need-sub-trimmed
+sub-trimmed c = search needs
+
+part-trimmed-start : tie.Need-part-trimmed-start
+part-trimmed-start c = search needs
+
+part-trimmed-end : tie.Need-part-trimmed-end
+part-trimmed-end c = search needs
+
+trimmed-requires : tie.Need-trimmed-requires
+trimmed-requires c κs = search needs
+
+add-is-label : tie.Need-add-is-label
+add-is-label c =
+    let f = part-fits (c .before .before .before .before .before .args .s .now) (c .before .before .spaces-end
+    .result) (c .trimmed .result) (c .before .before .spaces-end .ensures .0)
+    (c .trimmed .ensures .0) in
+    omega arith
+
+sub-is-label : tie.Need-sub-is-label
+sub-is-label c = search needs
+
+part-is-label-start : tie.Need-part-is-label-start
+part-is-label-start c = search needs
+
+part-is-label-end : tie.Need-part-is-label-end
+part-is-label-end c =
+    let f = part-fits (c .before .before .before .before .before .args .s .now) (c .before .before .spaces-end
+    .result) (c .trimmed .result) (c .before .before .spaces-end .ensures .0)
+    (c .trimmed .ensures .0) in
+    omega arith
+
+is-label-requires : tie.Need-is-label-requires
+is-label-requires c κs = search needs
+
+returns-2 : tie.Need-returns-2
+returns-2 c =
+    c .is-label .ensures
+    ∙ cell-part (c .before .before .before .before .before .before .before .args .s .now) (c .before .before
+    .before .before .spaces-end .result) (c .before .before .trimmed .result) (c .before .before .before
+    .before .before .if1 .left) (c .before .before .before .before .spaces-end .ensures .1)
+    (c .before .before .trimmed .ensures .1)
+
+pub is-cell-spec : {M : Type 1} → statement M
+is-cell-spec =
+    tie.close
+    (tie.spec
+    returns
+    spaces-end-requires
+    sub-trimmed
+    part-trimmed-start
+    part-trimmed-end
+    trimmed-requires
+    add-is-label
+    sub-is-label
+    part-is-label-start
+    part-is-label-end
+    is-label-requires
+    returns-2)

@@ -1,0 +1,64 @@
+// The cells of a row, and a long row.
+use crate::frames::part_end;
+use names::labels::is_label;
+ghost use mathlib.Core.Path.{_≡_};
+ghost use Prim.Native.Nat.{_≤_};
+ghost use lib.ListN.{length, take, drop};
+ghost use Rattle.rules.specs.Frames.{isCell};
+ghost use Rattle.texts.specs.FrameReader.{pieces, rest, leftTrim, rightTrim, cellOf, longOf};
+ghost use Rattle.texts.specs.FramePlaces.{isSome};
+
+// The place behind the spaces in front.
+fn spaces_end(s: &[u8]) -> usize
+    ensures { λ r. ⌜ (r ≤ length (now (s .entry))) × (drop r (now (s .entry)) ≡ leftTrim (now (s .entry))) ⌝ }
+{
+    let mut i = 0;
+    while i < s.len() {
+        if s[i] != b' ' {
+            return i;
+        }
+        i += 1;
+    }
+    i
+}
+
+// The length without the spaces at the end.
+fn trimmed(s: &[u8]) -> usize
+    ensures { λ r. ⌜ (r ≤ length (now (s .entry))) × (take r (now (s .entry)) ≡ rightTrim (now (s .entry))) ⌝ }
+{
+    let mut n = s.len();
+    while 0 < n {
+        if s[n - 1] != b' ' {
+            return n;
+        }
+        n -= 1;
+    }
+    n
+}
+
+// The characters between two bars are a cell.
+pub(crate) fn is_cell(s: &[u8]) -> bool
+    ensures { λ r. ⌜ r ≡ isCell (cellOf (now (s .entry))) ⌝ }
+{
+    if s.len() % 2 == 0 {
+        return false;
+    }
+    let a = spaces_end(s);
+    let n = trimmed(&s[a..]);
+    is_label(&s[a..a + n])
+}
+
+// What stands behind the first colon of a long row: a cell of `w` bits, and a colon.
+pub(crate) fn is_long(l: &[u8], w: usize) -> bool
+    requires { ⌜ w ≤ 32 ⌝ }
+    ensures { λ r. ⌜ r ≡ isSome (longOf w (rest 58 (now (l .entry))) (pieces 58 (now (l .entry)))) ⌝ }
+{
+    let e = part_end(l, 0, b':');
+    if l.len() - e != 1 {
+        return false;
+    }
+    if l.len() != 2 * w {
+        return false;
+    }
+    is_cell(&l[0..e])
+}
