@@ -1,5 +1,5 @@
-// Texts: where expressions, the parts of field lines and of a frame stand in them. specs/ holds readers that mirror what
-// the code does, proofs/ the theorems on spelling.
+// Texts: where expressions, the parts of field lines and of a frame stand in them. specs/ holds readers that mirror
+// what the code does, proofs/ the theorems on spelling.
 mod expressions;
 mod field_clauses;
 mod fields;
