@@ -6,6 +6,7 @@
 -- Scans    tests over a list, one index after the other
 -- Joined   parts one after the other
 -- Places   where bytes stand: joined, split, the byte in front, the end
+-- Writing  bytes written one behind the other
 pub mod Lists
 pub mod Decimal
 pub mod Breaks
@@ -14,3 +15,4 @@ pub mod Lookups
 pub mod Scans
 pub mod Joined
 pub mod Places
+pub mod Writing

@@ -11,9 +11,10 @@ use borrow.Author.Tests.{lt-ltb, le-ltb, ltb-true, ltb-false}
 use Rattle.base.specs.Bytes.{bytes}
 use Rattle.packets.specs.declared.records.Parts.{Parts}
 use Rattle.packets.specs.Parts.{tableMost, partsAt}
-use Rattle.packets.specs.Writes.{Writes}
+use Rattle.base.specs.Writes.{Writes}
 use Rattle.packets.specs.LineTexts.{entryIn, stateText, isNoLabel, lineText, linesFrom}
-use Rattle.packets.proofs.WriteLaws.{writes-none, writes-join, state-length}
+use Rattle.base.proofs.Writing.{writes-none, writes-join}
+use Rattle.packets.proofs.WriteLaws.{state-length}
 
 pub line-length : (s : List ℕ) (p : Parts) (run : List ℕ) (i : ℕ) → length (lineText s p run i) ≤ 75
 unfolding lineText

@@ -17,7 +17,7 @@ use Rattle.rules.specs.Listing.{refusedLine, bitsLine, linesText, entryLines}
 use Rattle.rules.specs.Answers.{Answer, accepted, ofTable, ofPacket}
 use Rattle.rules.specs.Promises.{readingAnswer, listing, refusal, notGood, byTable, ChecksTable}
 use Rattle.packets.specs.RunRead.{RunHolds}
-use Rattle.packets.specs.Writes.{Writes}
+use Rattle.base.specs.Writes.{Writes}
 use Rattle.packets.specs.Listings.{ListsStored, ListsInto}
 use Rattle.packets.specs.LineTexts.{entryIn, linesFrom}
 use Rattle.packets.proofs.TableHead.{head-count, fields-stand}

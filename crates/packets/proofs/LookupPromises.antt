@@ -13,7 +13,18 @@ use Rattle.rules.specs.Fields.{Field, Description}
 use Rattle.rules.specs.Stored.{recordOf, headBody, storedField, stored, Good}
 use Rattle.rules.specs.Answers.{Answer, ofTable, ofField}
 use Rattle.rules.specs.Reading.{Part, noPart, partBytes}
-use Rattle.rules.specs.Promises.{byTable, ChecksTable, FindsField, firstNamed, labelOf, labelBy, movedBy, LendsLabel}
+use Rattle.rules.specs.Promises.{
+  partFrom,
+  byTable,
+  ChecksTable,
+  FindsField,
+  firstNamed,
+  labelOf,
+  labelBy,
+  PlacesLabel,
+  movedBy,
+  LendsLabel,
+}
 use Rattle.packets.specs.declared.records.Span.{Span}
 use Rattle.packets.specs.Parts.{tableMost, spanOf, ending, partsAt}
 use Rattle.packets.specs.Lookups.{placeFrom, findFrom, OnTable}
@@ -108,6 +119,9 @@ module _ (table : List ℕ) (i : ℕ) where
           rw (q .element, labelBy) (λ j. record { at = at j; len = len j })
 
 -- ── what is handed back ──
+
+pub label-placed : (table : List ℕ) (i : ℕ) (r : Span) → OnTable table i r → PlacesLabel table i (r .at) (r .len)
+label-placed table i r on good = ap (λ (x : Span). partFrom (x .at) (x .len)) (on .is good)
 
 pub label-lent : (table : List ℕ) (i : ℕ) (r : Span) (bytes : List ℕ) (from at : ℕ × ℕ) → OnTable table i r
     → bytes ≡ take (r .len) (drop (r .at) table) → at ≡ movedBy (r .at) from → LendsLabel table i bytes from at

@@ -28,7 +28,7 @@ use Rattle.rules.specs.Reading.{
   partIn,
 }
 use Rattle.rules.specs.Cover.{InOrder}
-use Rattle.rules.specs.Promises.{ChecksTable, partBy, movedBy, LendsPart}
+use Rattle.rules.specs.Promises.{ChecksTable, partFrom, partBy, PlacesPart, movedBy, LendsPart}
 use Rattle.laws.proofs.Cover.{cover-in-order}
 use Rattle.laws.proofs.Decidable.{good-decidable}
 use Rattle.packets.specs.declared.readings.Bytes.{Bytes}
@@ -172,6 +172,10 @@ module _ (table packet : List ℕ) (i : ℕ) where
             rw (found g) (entry-inside (getD es i absent) (length packet) (order-entry es 0 (bitTotal packet) i o))
 
 -- ── what is handed back ──
+
+pub part-placed : (table packet : List ℕ) (i : ℕ) (r : Bytes) → OnPacket table packet i r
+    → PlacesPart table packet i (r .start) (r .size)
+part-placed table packet i r on good = ap (λ (x : Bytes). partFrom (x .start) (x .size)) (on .is good)
 
 pub field-handed : (table packet : List ℕ) (i : ℕ) (r : Bytes) (bytes : List ℕ) (from at : ℕ × ℕ)
     → OnPacket table packet i r → bytes ≡ take (r .size) (drop (r .start) packet) → at ≡ movedBy (r .start) from

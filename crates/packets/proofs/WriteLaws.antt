@@ -1,28 +1,19 @@
--- Laws of writing one byte behind the other.
-use mathlib.Core.Path.{_≡_, refl, sym, _∙_, ap}
+-- What is copied, the lengths of digits, and how much room a line's parts take.
+use mathlib.Core.Path.{_≡_, sym, _∙_}
 use mathlib.Core.Bool.{Bool, true, false, cond}
-use mathlib.Core.List.{List, [], _∷_, _++_, append-assoc, append-nil}
+use mathlib.Core.List.{List, [], _∷_, _++_, append-assoc}
 use Prim.Native.Nat.{ℕ, zero, suc, _+_, _-_, _/_, _%_, _<_, _≤_}
 use native.Mathlib.Numerals.{add-one}
 use native.Mathlib.Omega.{arith}
 use lib.Dec.{ltb}
-use lib.ListN.{length, getD, take, drop, set, length-append, length-take, length-set}
-use lib.Seq.{take-suc, take-suc-set, drop-cons, set-at, length-take-le}
+use lib.ListN.{length, getD, take, drop, set, length-append}
+use lib.Seq.{take-suc, drop-cons, set-at, length-take-le}
 use borrow.Author.Tests.{lt-ltb, le-ltb}
 use Rattle.base.specs.Bytes.{bytes, digit, digits, decimal}
 use Rattle.rules.specs.Reading.{Entry, isPresent}
 use Rattle.rules.specs.Listing.{entryText}
-use Rattle.packets.specs.Writes.{Writes}
+use Rattle.base.specs.Writes.{Writes}
 use Rattle.packets.specs.LineTexts.{stateText}
-
--- one byte more of a word that is written
-pub put-step : (before out word : List ℕ) (at i : ℕ) → take (at + i) out ≡ take at before ++ take i word
-    → i < length word → at + i < length out
-    → take (at + (i + 1)) (set out (at + i) (getD word i 0)) ≡ take at before ++ take (i + 1) word
-put-step before out word at i e h k =
-    let n : at + (i + 1) ≡ suc (at + i) = omega arith in
-    rw (n, add-one i, take-suc-set out (at + i) (getD word i 0) k, take-suc word i 0 h, e)
-    (append-assoc (take at before) (take i word) (getD word i 0 ∷ []))
 
 -- one byte more that is copied
 pub copy-step : (out from : List ℕ) (i : ℕ) → i < length out → i < length from
@@ -60,27 +51,6 @@ digits-more (suc p) n h k =
     let e : suc p - 1 ≡ p = omega arith in
     rw (le-ltb n 10 k, e)
 
-pub writes-none : (out : List ℕ) (at : ℕ) → Writes out at [] out at
-writes-none out at = record { text = sym (append-nil (take at out)); end = omega arith; kept = refl }
-
--- one byte behind what was written
-pub writes-byte : (before out : List ℕ) (at next b : ℕ) (w : List ℕ) → Writes before at w out next → next < length out
-    → Writes before at (w ++ (b ∷ [])) (set out next b) (next + 1)
-writes-byte before out at next b w p h = record {
-  text = rw (add-one next, take-suc-set out next b h, p .text) (append-assoc (take at before) w (b ∷ []));
-  end = omega (arith, p .end, length-append w (b ∷ []));
-  kept = length-set out next b ∙ p .kept;
-}
-
--- two writings, one behind the other
-pub writes-join : {a b c : List ℕ} {at mid next : ℕ} {w u : List ℕ} → Writes a at w b mid → Writes b mid u c next
-    → Writes a at (w ++ u) c next
-writes-join {a} {b} {c} {at} {mid} {next} {w} {u} p q = record {
-  text = rw (q .text, p .text) (append-assoc (take at a) w u);
-  end = omega (arith, p .end, q .end, length-append w u);
-  kept = q .kept ∙ p .kept;
-}
-
 -- a number with the space before it has at most 11 bytes
 pub number-room : {a b : List ℕ} {at next : ℕ} (n : ℕ) → Writes a at (32 ∷ decimal n) b next → next ≤ at + 11
 number-room n p = omega (arith, p .end, digits-length 10 n)
@@ -103,11 +73,3 @@ state-length fixed e = go (isPresent e) fixed
     go false f = omega arith
     go true true = simp length-append (omega (arith, o, w, v))
     go true false = simp length-append (omega (arith, o, w))
-
--- what is written is inside the buffer
-pub writes-inside : {before after : List ℕ} {at next : ℕ} {w : List ℕ} → Writes before at w after next
-    → at ≤ length before
-    → next ≤ length before
-writes-inside {before} {after} {at} {next} {w} p h =
-    let t = ap length (p .text) in
-    omega (arith, t, length-take next after, length-append (take at before) w, length-take at before, p .end, p .kept)

@@ -16,7 +16,7 @@ fn fault_number(fault: Fault) -> usize
 }
 
 // 0 for an accepted packet.
-pub(crate) fn number_of(answer: PacketAnswer) -> usize
+pub fn number_of(answer: PacketAnswer) -> usize
     ensures { λ r. ⌜ r ≡ ofPacket answer .number ⌝ }
 {
     match answer {
@@ -29,7 +29,7 @@ pub(crate) fn number_of(answer: PacketAnswer) -> usize
     }
 }
 
-pub(crate) fn place_of(answer: PacketAnswer) -> usize
+pub fn place_of(answer: PacketAnswer) -> usize
     ensures { λ r. ⌜ r ≡ ofPacket answer .place ⌝ }
 {
     match answer {
@@ -42,7 +42,7 @@ pub(crate) fn place_of(answer: PacketAnswer) -> usize
     }
 }
 
-pub(crate) fn value_of(answer: PacketAnswer) -> usize
+pub fn value_of(answer: PacketAnswer) -> usize
     ensures { λ r. ⌜ r ≡ ofPacket answer .value ⌝ }
 {
     match answer {

@@ -1,5 +1,5 @@
 // Tables are checked, and packets read by them.
-mod answers;
+pub mod answers;
 mod bits;
 mod fields;
 mod lines;

@@ -10,7 +10,7 @@ ghost use Prim.Native.Nat.{_+_, _*_, _≤_};
 ghost use lib.ListN.{length};
 ghost use Rattle.base.specs.Bytes.{bytes, decimal};
 ghost use Rattle.rules.specs.Listing.{entryText};
-ghost use Rattle.packets.specs.Writes.{Writes};
+ghost use Rattle.base.specs.Writes.{Writes};
 ghost use Rattle.packets.specs.LineTexts.{entryIn, stateText, lineText};
 
 // A space and a number in decimal.

@@ -20,7 +20,7 @@ ghost use mathlib.Core.List.{_++_};
 ghost use lib.ListN.{length, take};
 ghost use Rattle.base.specs.Bytes.{bytes};
 ghost use Rattle.rules.specs.Listing.{refusedLine, bitsLine};
-ghost use Rattle.packets.specs.Writes.{Writes};
+ghost use Rattle.base.specs.Writes.{Writes};
 ghost use Rattle.rules.specs.Answers.{ofListing};
 ghost use Rattle.rules.specs.Promises.{leaves, delivered, ListsPacket};
 ghost use Rattle.packets.specs.LineTexts.{linesFrom};

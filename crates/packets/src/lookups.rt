@@ -1,4 +1,5 @@
 // Fields of a table by index and by name.
+use crate::readings::Bytes;
 use crate::records::Parts;
 use crate::records::Span;
 use crate::records::TABLE_MOST;
@@ -12,7 +13,7 @@ ghost use mathlib.Core.Path.{_≡_};
 ghost use Prim.Native.Nat.{_≤_};
 ghost use denote.Ref.{ptr};
 ghost use Rattle.base.specs.Places.{twoAt};
-ghost use Rattle.rules.specs.Promises.{FindsField, LendsLabel};
+ghost use Rattle.rules.specs.Promises.{FindsField, PlacesLabel, LendsLabel};
 ghost use Rattle.packets.specs.Lookups.{placeFrom, isNamedIn, hasName, findFrom, OnTable};
 
 // The place behind n records.
@@ -94,7 +95,7 @@ pub fn field_index(table: &[u8], name: &[u8]) -> FieldAnswer
     find_from(table, name, n, first)
 }
 
-// Where the label of the field of an index lies in the table.
+// The label's part of the field of an index.
 fn find_label(table: &[u8], index: usize) -> Span
     ensures { λ r. ⌜ OnTable (now (table .entry)) index r ⌝ }
 {
@@ -119,6 +120,17 @@ fn find_label(table: &[u8], index: usize) -> Span
         return none;
     }
     label
+}
+
+// Where the label of the field of an index lies in the table.
+pub fn label_place(table: &[u8], index: usize) -> Bytes
+    ensures { λ r. ⌜ PlacesLabel (now (table .entry)) index (r .start) (r .size) ⌝ }
+{
+    let label = find_label(table, index);
+    Bytes {
+        start: label.at,
+        size: label.len,
+    }
 }
 
 // The label of the field of an index, as that part of the table.

@@ -10,12 +10,12 @@ ghost use mathlib.Core.List.{_++_};
 ghost use Prim.Native.Nat.{_*_, _≤_, _<_};
 ghost use denote.Ref.{ptr};
 ghost use lib.ListN.{length, take, drop};
-ghost use Rattle.rules.specs.Promises.{ReadsPacket, LendsPart};
+ghost use Rattle.rules.specs.Promises.{ReadsPacket, PlacesPart, LendsPart};
 ghost use Rattle.packets.specs.RunRead.{ReadsRun};
 ghost use Rattle.packets.specs.FieldParts.{isAccepted, partAt, OnPacket};
 
-// Where a field's bytes lie in the packet.
-pub(crate) struct Bytes {
+// Where a part lies: its start, and its size.
+pub struct Bytes {
     pub start: usize,
     pub size: usize,
 }
@@ -119,6 +119,13 @@ fn find_part(table: &[u8], packet: &[u8], index: usize) -> Bytes
         return part_at(&numbers, index);
     }
     none
+}
+
+// Where the bytes of the field of an index lie in the packet.
+pub fn field_place(table: &[u8], packet: &[u8], index: usize) -> Bytes
+    ensures { λ r. ⌜ PlacesPart (now (table .entry)) (now (packet .entry)) index (r .start) (r .size) ⌝ }
+{
+    find_part(table, packet, index)
 }
 
 // The bytes of the field of an index, as that part of the packet.

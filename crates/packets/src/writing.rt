@@ -4,7 +4,7 @@ ghost use Prim.Native.Nat.{_+_, _≤_};
 ghost use lib.ListN.{length, take, drop};
 ghost use Rattle.base.specs.Bytes.{digits};
 ghost use Rattle.rules.specs.Promises.{written};
-ghost use Rattle.packets.specs.Writes.{Writes};
+ghost use Rattle.base.specs.Writes.{Writes};
 
 // Writes a word at a place, and answers the place behind it.
 pub(crate) fn put(out: &mut [u8], at: usize, word: &[u8]) -> usize

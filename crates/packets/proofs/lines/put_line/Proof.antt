@@ -8,7 +8,8 @@ use Prim.Native.Nat.{_+_, _*_, _-_}
 use borrow.Author.Tests.{lt-ltb, le-ltb}
 use lib.Dec.{eqb}
 use Rattle.packets.specs.LineTexts.{lineText, entryIn}
-use Rattle.packets.proofs.WriteLaws.{writes-none, writes-join, state-length}
+use Rattle.base.proofs.Writing.{writes-none, writes-join}
+use Rattle.packets.proofs.WriteLaws.{state-length}
 use borrow.Author.Needs.{needs}
 use Rattle.packets.proofs.lines.put_line.Statement.{statement}
 use Rattle.packets.proofs.lines.put_line.Tie as tie

@@ -1,4 +1,4 @@
-use Rattle.packets.proofs.WriteLaws.{writes-inside}
+use Rattle.base.proofs.Writing.{writes-inside}
 use Rattle.packets.proofs.ListingStored.{into-good, into-bad}
 use mathlib.Core.Path.{_≡_, refl, sym, _∙_}
 use native.Mathlib.Omega.{arith}

@@ -5,7 +5,7 @@ use native.Mathlib.Omega.{arith}
 use denote.Ref.{now}
 use lib.ListN.{length, take}
 use Rattle.base.specs.Places.{twoAt}
-use Rattle.packets.proofs.WriteLaws.{writes-join, writes-inside}
+use Rattle.base.proofs.Writing.{writes-join, writes-inside}
 use Rattle.packets.proofs.TableHead.{head-count, count-most}
 use Rattle.packets.proofs.ListingStored.{listed-accepted, listed-refused}
 use borrow.Author.Needs.{needs}

@@ -5,7 +5,8 @@ use lib.ListN.{length}
 use Prim.Native.Nat.{_-_, _/_}
 use denote.Ref.{now}
 use Rattle.base.specs.Bytes.{digits}
-use Rattle.packets.proofs.WriteLaws.{digits-length, digits-one, digits-more, writes-none, writes-byte}
+use Rattle.base.proofs.Writing.{writes-none, writes-byte}
+use Rattle.packets.proofs.WriteLaws.{digits-length, digits-one, digits-more}
 use borrow.Author.Needs.{needs}
 use Prim.Native.Nat.{ℕ, _<_}
 use borrow.Fn.Kinds.{In}

@@ -6,8 +6,8 @@ use denote.Ref.{now}
 use lib.ListN.{length, take, drop, length-set}
 use native.Mathlib.Nat.{add-zero}
 use lib.Seq.{take-length}
-use Rattle.packets.specs.Writes.{Writes}
-use Rattle.packets.proofs.WriteLaws.{put-step}
+use Rattle.base.specs.Writes.{Writes}
+use Rattle.base.proofs.Writing.{put-step, put-further}
 use borrow.Author.Needs.{needs}
 use Rattle.packets.proofs.writing.put.Statement.{statement}
 use Rattle.packets.proofs.writing.put.Tie as tie
@@ -15,14 +15,17 @@ use Rattle.packets.proofs.writing.put.Reads as reads
 use Rattle.packets.proofs.writing.put.Lts as lts
 
 abbrev Inv-loop : tie.InvT-loop
-Inv-loop out₀ at word i₀ out i = (i ≤ length word) × (length out ≡ length out₀) × (take
-    (at + i) out ≡ take at out₀ ++ take i word)
+Inv-loop out₀ at word i₀ out i =
+    (i ≤ length word)
+    × (length out ≡ length out₀)
+    × (take (at + i) out ≡ take at out₀ ++ take i word)
+    × (drop (at + i) out ≡ drop (at + i) out₀)
 
 abbrev μ-loop : tie.MeasureT-loop
 μ-loop out₀ at word i₀ out i = length word - i
 
 loop-holds : tie.Need-loop-holds Inv-loop μ-loop
-loop-holds c = (omega arith, refl, rw add-zero (sym (append-nil _)))
+loop-holds c = (omega arith, refl, rw add-zero (sym (append-nil _)), refl)
 
 shared-slice-read-out : tie.Need-shared-slice-read-out Inv-loop μ-loop
 shared-slice-read-out c = search needs
@@ -46,6 +49,8 @@ loop-again c =
       rw length-set (l .inv .1),
       put-step (now (c .before .before .before .args .out)) (l .out) (now (c .before .before .before .args .word))
           (c .before .before .before .args .at) (l .i) (l .inv .2) (omega arith) (omega arith),
+      put-further (now (c .before .before .before .args .out)) (l .out) (c .before .before .before .args .at) (l .i) _
+          (l .inv .3),
     )
 
 add-result : tie.Need-add-result Inv-loop μ-loop
@@ -62,6 +67,7 @@ returns c =
       text = l .inv .2 ∙ rw (e, take-length);
       end = omega arith;
       kept = l .inv .1;
+      beyond = l .inv .3;
     }
 
 pub put-spec : {M : Type 1} → statement M
