@@ -16,7 +16,9 @@ use Rattle.rules.specs.Reader.{Out, fail, got, Found, missing, found, operatorA
 use Rattle.rules.specs.Reader.{andThen}
 use Rattle.rules.specs.Reader.{expr, more}
 use Rattle.texts.specs.ExprPlaces.{Same, Within, SameSign, Adds, LeafAt, ExprAt, AtomAt}
-use Rattle.texts.specs.ExprPlaces.{ClosedAt, InsideAt, MoreAt}
+use Rattle.texts.specs.ExprPlaces.{ClosedAt, InsideAt, MoreAt, NextAt, WithinNext}
+use Rattle.texts.specs.declared.expressions.Next.{Next}
+use Rattle.texts.specs.declared.expressions.Next.the-variants as next
 use Rattle.texts.specs.declared.leaves.Read.{Read}
 use Rattle.texts.specs.declared.leaves.Read.the-variants.{Nothing, At}
 use Rattle.texts.specs.declared.operators.Sign.{Sign}
@@ -82,7 +84,7 @@ two-depth : (o : Op) (x y : Tree (List ℕ)) (d e : ℕ) → depth x ≡ d → d
 unfolding depth
 two-depth o x y d e p q = rw (p, q) (omega arith)
 
-two-length : (o : Op) (x y : Tree (List ℕ)) (z v : ℕ) → storedLength x ≡ z → storedLength y ≡ v
+pub two-length : (o : Op) (x y : Tree (List ℕ)) (z v : ℕ) → storedLength x ≡ z → storedLength y ≡ v
     → storedLength (two o x y) ≡ 1 + (z + v)
 unfolding storedTree
 two-length o x y z v p q =
@@ -131,7 +133,7 @@ more-eq s at k h b n o t f a p kl eh q =
     rw (p, le-leb k (level o) kl, le-leb (leftLevel o) h eh, q′) refl
 
 -- the same where l is the operator's level
-more-at : (s : List ℕ) (at k h b n : ℕ) (o : Op) (l : ℕ) (t : Tree (List ℕ)) (f : ℕ) (a : Out)
+pub more-at : (s : List ℕ) (at k h b n : ℕ) (o : Op) (l : ℕ) (t : Tree (List ℕ)) (f : ℕ) (a : Out)
     → operatorAt (drop at s) ≡ found o (drop n s) → level o ≡ l → k ≤ l → leftLevel o ≤ h
     → expr f (l + 1) b (drop n s) ≡ a
     → more (suc f) k h b t (drop at s) ≡ andThen a (λ y q. more f k l b (two o t y) q)
@@ -213,7 +215,7 @@ module _ (s : List ℕ) (at b n : ℕ) where
   in-zero hi e w f a lt = rw (drop-cons s at 0 hi, e) refl
 
 -- the parenthesis is there, b is not 0, and the expression behind it was read
-in-rest : (s : List ℕ) (at b : ℕ) → at < length s → (b ≡ 0 → ⊥) → getD s at 0 ≡ 40
+pub in-rest : (s : List ℕ) (at b : ℕ) → at < length s → (b ≡ 0 → ⊥) → getD s at 0 ≡ 40
     → (w : Tree (List ℕ) → Tree (List ℕ)) (f : ℕ)
     → inside (expr f 0) b w (drop at s) ≡ close w (expr f 0 (b - 1) (drop (at + 1) s))
 unfolding inside
@@ -221,7 +223,7 @@ in-rest s at zero hi nz e w f = absurd (nz refl)
 in-rest s at (suc b) hi nz e w f = let q : suc b - 1 ≡ b = omega arith in rw
     (drop-cons s at 0 hi, e, q, add-one at) refl
 
-in-other : (s : List ℕ) (at b : ℕ) → at < length s → (getD s at 0 ≡ 40 → ⊥) → (w : Tree (List ℕ) → Tree (List ℕ))
+pub in-other : (s : List ℕ) (at b : ℕ) → at < length s → (getD s at 0 ≡ 40 → ⊥) → (w : Tree (List ℕ) → Tree (List ℕ))
     (f : ℕ) → inside (expr f 0) b w (drop at s) ≡ fail
 unfolding inside
 in-other s at zero hi e w f = rw (drop-cons s at 0 hi) refl
@@ -262,3 +264,36 @@ module _ (s : List ℕ) (at b over : ℕ) (hi : at < length s) where
     in-go n d z p r′ C w f a lt =
         let v = same-got s (expr f 0 (b - 1) (drop (at + 1) s)) r n d z p (E f (lower f lt)) in
         rw (in-rest s at b hi nz e w f, v .is) (C w (v .tree) a (v .depth-is) (v .length-is))
+
+-- ── one operator after the other ──
+
+module _ (s : List ℕ) (at k h b d z : ℕ) where
+  abbrev pub NextIs : Next → Type 0
+  NextIs r = WithinNext s at d z r × NextAt s at k h b d z r
+
+  pub next-fail : MoreAt s at k h b d z Nothing → NextIs next.Fail
+  unfolding WithinNext NextAt
+  next-fail m = (tt, m)
+
+  pub next-stop : MoreAt s at k h b d z (At at d z) → NextIs next.Stop
+  unfolding WithinNext NextAt
+  next-stop m = (tt, m)
+
+  pub next-on : (n l e v : ℕ) → at < n → n ≤ length s → e + at ≤ d + n → v + 5 * at ≤ z + 5 * n
+      → ((r : Read) → MoreAt s n k l b e v r → MoreAt s at k h b d z r) → NextIs (next.On n l e v)
+  unfolding WithinNext NextAt
+  next-on n l e v p q x y m = ((p, q, x, y), m)
+
+  pub failed : {r : Next} → r ≡ next.Fail → NextIs r → MoreAt s at k h b d z Nothing
+  unfolding NextAt
+  failed e m = rw e at (m .1)
+
+  pub stopped : {r : Next} → r ≡ next.Stop → NextIs r → MoreAt s at k h b d z (At at d z)
+  unfolding NextAt
+  stopped e m = rw e at (m .1)
+
+  pub gone-on : {r : Next} (n l e v : ℕ) → r ≡ next.On n l e v → NextIs r
+      → (at < n) × (n ≤ length s) × (e + at ≤ d + n) × (v + 5 * at ≤ z + 5 * n)
+      × ((q : Read) → MoreAt s n k l b e v q → MoreAt s at k h b d z q)
+  unfolding WithinNext NextAt
+  gone-on n l e v p m = let w = rw p at m in (w .0 .0, w .0 .1, w .0 .2, w .0 .3, w .1)

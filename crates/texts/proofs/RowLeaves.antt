@@ -127,7 +127,7 @@ module _ (s : List ℕ) where
 
 -- ── a long row, behind its first colon ──
 
-rest-first : (e : ℕ) (s : List ℕ) → upTo e s < length s → rest e s ≡ rest e (drop (suc (upTo e s)) s)
+pub rest-first : (e : ℕ) (s : List ℕ) → upTo e s < length s → rest e s ≡ rest e (drop (suc (upTo e s)) s)
 unfolding pieces rest onFirst upTo
 rest-first e [] lt = absurd (omega arith)
 rest-first e (b ∷ s) lt = go (eqb b e) (rest-first e s) (pieces-first e s) lt

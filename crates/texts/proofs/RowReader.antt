@@ -92,13 +92,13 @@ row-sound w (b ∷ l) = go (eqb b 124) refl (eqb b 58) refl
 
 -- ── a row is read from its line ──
 
-joined-cells : (cs : List Cell) → barred cs ≡ joined (endedBy 124) (map cellText cs) ++ []
+pub joined-cells : (cs : List Cell) → barred cs ≡ joined (endedBy 124) (map cellText cs) ++ []
 unfolding joined
 joined-cells [] = refl
 joined-cells (c ∷ cs) =
     rw (joined-cells cs) (sym (append-assoc (cellText c ++ (124 ∷ [])) (joined (endedBy 124) (map cellText cs)) []))
 
-cells-free : (e : ℕ) → isLabelByte e ≡ false → (cs : List Cell) → all isCell cs ≡ true
+pub cells-free : (e : ℕ) → isLabelByte e ≡ false → (cs : List Cell) → all isCell cs ≡ true
     → all (isFree e) (map cellText cs) ≡ true
 unfolding all
 cells-free e f [] h = refl
@@ -106,7 +106,7 @@ cells-free e f (c ∷ cs) h =
     rw (cell-free e f c (and-left (isCell c) (all isCell cs) h))
     (cells-free e f cs (and-right (isCell c) (all isCell cs) h))
 
-cells-back : (cs : List Cell) → all isCell cs ≡ true → map cellOf (map cellText cs) ≡ cs
+pub cells-back : (cs : List Cell) → all isCell cs ≡ true → map cellOf (map cellText cs) ≡ cs
 unfolding all
 cells-back [] h = refl
 cells-back (c ∷ cs) h =

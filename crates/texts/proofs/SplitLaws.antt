@@ -21,11 +21,11 @@ isFree e l = all (λ b. not (eqb b e)) l
 abbrev pub endedBy : ℕ → List ℕ → List ℕ
 endedBy e l = l ++ (e ∷ [])
 
-other : (e b : ℕ) (l : List ℕ) → isFree e (b ∷ l) ≡ true → eqb b e ≡ false
+pub other : (e b : ℕ) (l : List ℕ) → isFree e (b ∷ l) ≡ true → eqb b e ≡ false
 unfolding all
 other e b l h = not-true (eqb b e) (and-left (not (eqb b e)) (isFree e l) h)
 
-others : (e b : ℕ) (l : List ℕ) → isFree e (b ∷ l) ≡ true → isFree e l ≡ true
+pub others : (e b : ℕ) (l : List ℕ) → isFree e (b ∷ l) ≡ true → isFree e l ≡ true
 unfolding all
 others e b l h = and-right (not (eqb b e)) (isFree e l) h
 

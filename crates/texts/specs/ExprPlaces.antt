@@ -10,6 +10,8 @@ use Rattle.rules.specs.Reader.{Out, fail, got, Found, missing, found, word, beh
 use Rattle.rules.specs.Reader.{more}
 use Rattle.texts.specs.declared.leaves.Read.{Read}
 use Rattle.texts.specs.declared.leaves.Read.the-variants as read
+use Rattle.texts.specs.declared.expressions.Next.{Next}
+use Rattle.texts.specs.declared.expressions.Next.the-variants as next
 use Rattle.texts.specs.declared.operators.Mark.{Mark}
 use Rattle.texts.specs.declared.operators.Mark.the-variants as mark
 use Rattle.texts.specs.declared.operators.Sign.{Sign}
@@ -82,3 +84,14 @@ ClosedAt s at n d z r = (w : Tree (List ℕ) → Tree (List ℕ)) (t : Tree (Lis
 abbrev pub MoreAt : List ℕ → ℕ → ℕ → ℕ → ℕ → ℕ → ℕ → Read → Type 0
 MoreAt s at k h b d z r = (t : Tree (List ℕ)) (f : ℕ) → depth t ≡ d → storedLength t ≡ z → length (drop at s) < f
     → Same s (more f k h b t (drop at s)) r
+
+-- one operator and its right operand: what goes on behind them goes on behind the tree before them
+unfoldable pub NextAt : List ℕ → ℕ → ℕ → ℕ → ℕ → ℕ → ℕ → Next → Type 0
+NextAt s at k h b d z next.Fail = MoreAt s at k h b d z read.Nothing
+NextAt s at k h b d z next.Stop = MoreAt s at k h b d z (read.At at d z)
+NextAt s at k h b d z (next.On n l e v) = (r : Read) → MoreAt s n k l b e v r → MoreAt s at k h b d z r
+
+unfoldable pub WithinNext : List ℕ → ℕ → ℕ → ℕ → Next → Type 0
+WithinNext s at d z next.Fail = Unit {0}
+WithinNext s at d z next.Stop = Unit {0}
+WithinNext s at d z (next.On n l e v) = (at < n) × (n ≤ length s) × (e + at ≤ d + n) × (v + 5 * at ≤ z + 5 * n)

@@ -9,7 +9,15 @@ ghost use mathlib.Core.Path.{_≡_};
 ghost use Prim.Native.Nat.{_+_, _*_, _≤_, max};
 ghost use lib.ListN.{length};
 ghost use Rattle.rules.specs.Limits.{textMost};
-ghost use Rattle.texts.specs.ExprPlaces.{Within, ExprAt, AtomAt, ClosedAt, InsideAt, MoreAt};
+ghost use Rattle.texts.specs.ExprPlaces.{Within, ExprAt, AtomAt, ClosedAt, InsideAt, MoreAt, WithinNext, NextAt};
+
+// What an operator and its right operand make of the tree before them: the place behind them, the level, the depth
+// and the stored length of the whole; or no operator that may stand there, or no right operand.
+pub(crate) enum Next {
+    Fail,
+    Stop,
+    On(usize, u8, usize, usize),
+}
 
 fn larger(a: usize, b: usize) -> usize
     ensures { λ r. ⌜ r ≡ max a b ⌝ }
@@ -87,27 +95,52 @@ fn inside(s: &[u8], at: usize, b: u8, over: usize) -> Read
     }
 }
 
-// What goes on behind a tree of level `h`, depth `d` and stored length `z`.
-fn more(s: &[u8], at: usize, k: u8, h: u8, b: u8, d: usize, z: usize) -> Read
+// One operator with its right operand, behind a tree of level `h`, depth `d` and stored length `z`.
+fn step(s: &[u8], at: usize, k: u8, h: u8, b: u8, d: usize, z: usize) -> Next
     requires { ⌜ (at ≤ length (now s)) × (length (now s) ≤ textMost) × (d ≤ at) × (z ≤ 5 * at) ⌝ }
-    ensures place { λ r. ⌜ Within (now (s .entry)) at at d z r ⌝ }
-    ensures same { λ r. ⌜ MoreAt (now (s .entry)) at k h b d z r ⌝ }
+    ensures place { λ r. ⌜ WithinNext (now (s .entry)) at d z r ⌝ }
+    ensures same { λ r. ⌜ NextAt (now (s .entry)) at k h b d z r ⌝ }
 {
     let g = operator_at(s, at);
     match g {
-        Sign::Nothing => Read::At(at, d, z),
+        Sign::Nothing => Next::Stop,
         Sign::At(o, end) => {
             let l = level_of(o);
             if k <= l {
                 if left_of(o) <= h {
                     let y = expr(s, end, l + 1, b);
                     return match y {
-                        Read::Nothing => Read::Nothing,
-                        Read::At(n, e, v) => more(s, n, k, l, b, 1 + larger(d, e), 1 + (z + v)),
+                        Read::Nothing => Next::Fail,
+                        Read::At(n, e, v) => Next::On(n, l, 1 + larger(d, e), 1 + (z + v)),
                     };
                 }
             }
-            Read::At(at, d, z)
+            Next::Stop
+        }
+    }
+}
+
+// All that goes on behind a tree of level `h`, depth `d` and stored length `z`.
+fn more(s: &[u8], at: usize, k: u8, h: u8, b: u8, d: usize, z: usize) -> Read
+    requires { ⌜ (at ≤ length (now s)) × (length (now s) ≤ textMost) × (d ≤ at) × (z ≤ 5 * at) ⌝ }
+    ensures place { λ r. ⌜ Within (now (s .entry)) at at d z r ⌝ }
+    ensures same { λ r. ⌜ MoreAt (now (s .entry)) at k h b d z r ⌝ }
+{
+    let mut place = at;
+    let mut level = h;
+    let mut depth = d;
+    let mut size = z;
+    loop {
+        let next = step(s, place, k, level, b, depth, size);
+        match next {
+            Next::Fail => return Read::Nothing,
+            Next::Stop => return Read::At(place, depth, size),
+            Next::On(n, l, e, v) => {
+                place = n;
+                level = l;
+                depth = e;
+                size = v;
+            }
         }
     }
 }

@@ -39,7 +39,7 @@ fn is_digit(b: u8) -> bool
 }
 
 // Digits without a leading 0, at most 4,294,967,295.
-fn is_number(w: &[u8]) -> bool
+pub(crate) fn is_number(w: &[u8]) -> bool
     ensures { λ r. ⌜ r ≡ isNumberWord (now (w .entry)) ⌝ }
 {
     if w.len() == 0 {

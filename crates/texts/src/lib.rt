@@ -1,12 +1,30 @@
 // Texts: where expressions, the parts of field lines and of a frame stand in them. specs/ holds readers that mirror
 // what the code does, proofs/ the theorems on spelling.
+mod clashes;
+mod ends;
 mod expressions;
 mod field_clauses;
 mod fields;
 mod frames;
+mod held_names;
 mod labels;
 mod leaves;
+mod line_kinds;
+mod line_rows;
+mod line_rules;
+mod mismatches;
+mod numbers;
+mod openings;
 mod operators;
+mod parts;
+mod piece_parts;
+mod pieces;
+pub mod reading;
+mod records;
+mod row_cells;
 mod rows;
 mod rulers;
+mod tables;
 mod units;
+mod walks;
+mod widths;

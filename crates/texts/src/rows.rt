@@ -9,7 +9,7 @@ ghost use Rattle.texts.specs.FrameReader.{pieces, rest, leftTrim, rightT
 ghost use Rattle.texts.specs.FramePlaces.{isSome};
 
 // The place behind the spaces in front.
-fn spaces_end(s: &[u8]) -> usize
+pub(crate) fn spaces_end(s: &[u8]) -> usize
     ensures { λ r. ⌜ (r ≤ length (now (s .entry))) × (drop r (now (s .entry)) ≡ leftTrim (now (s .entry))) ⌝ }
 {
     let mut i = 0;
@@ -23,7 +23,7 @@ fn spaces_end(s: &[u8]) -> usize
 }
 
 // The length without the spaces at the end.
-fn trimmed(s: &[u8]) -> usize
+pub(crate) fn trimmed(s: &[u8]) -> usize
     ensures { λ r. ⌜ (r ≤ length (now (s .entry))) × (take r (now (s .entry)) ≡ rightTrim (now (s .entry))) ⌝ }
 {
     let mut n = s.len();

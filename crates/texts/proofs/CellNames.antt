@@ -1,0 +1,111 @@
+-- A cell held against a field line, as the code does it.
+use mathlib.Core.Path.{_≡_, refl, ap, sym, _∙_}
+use mathlib.Core.Bool.{Bool, true, false, cond, _&&_, _||_, not}
+use mathlib.Core.List.{List, [], _∷_}
+use mathlib.Core.Option.{Option, none, some}
+use Prim.Native.Nat.{ℕ, _+_, _-_, _/_}
+use native.Mathlib.Omega.{arith}
+use native.Mathlib.Nat.{sub-zero}
+use lib.Dec.{eqb}
+use lib.ListN.{length, take, drop}
+use borrow.Author.Tests.{eq-eqb, ne-eqb}
+use Rattle.base.specs.Lists.{all, any, same, lastIs, listOf}
+use Rattle.base.proofs.Lists.{not-both}
+use Rattle.rules.specs.Names.{isLabel, noTwoSpaces}
+use Rattle.rules.specs.Fields.{Width, fixed, measured, rest, Form, cellNames}
+use Rattle.rules.specs.Frames.{Shown}
+use Rattle.rules.specs.Spelling.{isPlaceFor}
+use Rattle.texts.specs.FrameReader.{leftTrim, rightTrim}
+use Rattle.texts.specs.LinePlaces.{spanIn, WidthIs, ShortIs, LineOf}
+use Rattle.texts.specs.Mismatches.{shownOf, isNameIn, isPlaceIn, ShowsIs}
+use Rattle.texts.specs.declared.parts.Span.{Span}
+use Rattle.texts.specs.declared.parts.TreeAt.{TreeAt}
+use Rattle.texts.specs.declared.parts.Parts.{Parts}
+use Rattle.texts.proofs.FrameLeaves.{take-rest}
+
+-- ── the tests ──
+
+part : (at len : ℕ) (s : List ℕ) → take (at + len - at) (drop at s) ≡ take len (drop at s)
+part at len s = let e : at + len - at ≡ len = omega arith in rw e refl
+
+module _ (name s : List ℕ) (p : Parts) where
+  pub name-label : same name (take (p .label - 0) s) ≡ true → true ≡ isNameIn name s p
+  name-label h = rw (ap (λ (n : ℕ). same name (take n s)) (sym (sub-zero (p .label))) ∙ h) refl
+
+  pub name-short : (r : Bool) → same name (take (p .label - 0) s) ≡ false
+      → r ≡ same name (take (p .short .at + p .short .len - p .short .at) (drop (p .short .at) s))
+      → r ≡ isNameIn name s p
+  name-short r h e =
+      e ∙ ap (same name) (part (p .short .at) (p .short .len) s)
+      ∙ sym (rw (ap (λ (n : ℕ). same name (take n s)) (sym (sub-zero (p .label))) ∙ h) refl)
+
+module _ (long : Bool) (bits : ℕ) (p : Parts) where
+  pub place-long : (p .kind ≡ 2 → ⊥) → long ≡ isPlaceIn long bits p
+  place-long n = rw (ne-eqb (p .kind) 2 n) refl
+
+  pub place-fixed : p .kind ≡ 2 → (not long && eqb bits (p .bits)) ≡ isPlaceIn long bits p
+  place-fixed e = rw (eq-eqb (p .kind) 2 e) refl
+
+-- ── against the form of the line ──
+
+label-some : (name : List ℕ) → isLabel name ≡ true → same name [] ≡ false
+unfolding isLabel all lastIs noTwoSpaces same
+label-some [] h = absurd (not-both (isLabel []) h refl)
+label-some (b ∷ name) h = refl
+
+or-last : (x y : Bool) → (x || y) ≡ (x || (y || false))
+or-last true y = refl
+or-last false true = refl
+or-last false false = refl
+
+short-is : (name s l : List ℕ) (q : Span) → isLabel name ≡ true → (o : Option (List ℕ)) → ShortIs s o q
+    → (same name l || same name (spanIn s q)) ≡ any (same name) (l ∷ listOf o)
+unfolding any
+short-is name s l q h none e =
+    let z : take (q .len) (drop (q .at) s) ≡ [] = rw e refl in
+    rw (z, label-some name h) refl
+short-is name s l q h (some w) e = rw e (or-last (same name l) (same name w))
+
+name-is : (text name : List ℕ) (x : Form) (p : Parts) → LineOf text x p → isLabel name ≡ true
+    → isNameIn name (spanIn text (p .line)) p ≡ any (same name) (cellNames x)
+name-is text name x p o h =
+    ap (λ (l : List ℕ). same name l || same name (spanIn (spanIn text (p .line)) (p .short))) (o .parts .label)
+    ∙ short-is name (spanIn text (p .line)) (x .label) (p .short) h (x .short) (o .parts .short)
+
+width-is : (s : List ℕ) (c : Shown) (u : Width (List ℕ)) (kind b : ℕ) (t : TreeAt) → WidthIs s u kind b t
+    → cond (eqb kind 2) (not (c .long) && eqb (c .bits) b) (c .long) ≡ isPlaceFor c u
+width-is s c (fixed n) kind b t h = rw (h .0, h .1) refl
+width-is s c (measured u m) kind b t h = rw (h .0) refl
+width-is s c rest kind b t h = rw (h .0) refl
+
+-- ── a cell of these characters, with its name behind the spaces in front ──
+
+module _ (chars text : List ℕ) (long : Bool) (p : Parts) (a n : ℕ) (l : drop a chars ≡ leftTrim chars)
+    (t : take n (take (length chars - a) (drop a chars)) ≡ rightTrim (take (length chars - a) (drop a chars))) where
+  abbrev pub named : Bool
+  named = isNameIn (take (a + n - a) (drop a chars))
+      (take (p .line .at + p .line .len - p .line .at) (drop (p .line .at) text)) p
+
+  same-named : named ≡ isNameIn (rightTrim (leftTrim chars)) (spanIn text (p .line)) p
+  same-named =
+      let w : take (length chars - a) (drop a chars) ≡ drop a chars = take-rest a chars in
+      let k : take (a + n - a) (drop a chars) ≡ rightTrim (leftTrim chars)
+      = part a n chars ∙ ap (take n) (sym w) ∙ t ∙ ap rightTrim (w ∙ l) in
+      ap (λ (m : List ℕ). isNameIn m (take (p .line .at + p .line .len - p .line .at) (drop (p .line .at) text)) p) k
+      ∙ ap (λ (m : List ℕ). isNameIn (rightTrim (leftTrim chars)) m p) (part (p .line .at) (p .line .len) text)
+
+  pub shows-not : (y : Bool) → y ≡ named → y ≡ false → ShowsIs chars long text p false
+  shows-not y e z x o h =
+      let q : any (same (rightTrim (leftTrim chars))) (cellNames x) ≡ false
+      = sym (name-is text (rightTrim (leftTrim chars)) x p o h) ∙ sym same-named ∙ sym e ∙ z in
+      ap (λ (b : Bool). b && isPlaceFor (shownOf long chars) (x .width)) (sym q)
+
+  pub shows-place : (y r : Bool) → y ≡ named → y ≡ true → r ≡ isPlaceIn long ((length chars + 1) / 2) p
+      → ShowsIs chars long text p r
+  shows-place y r e z f x o h =
+      let q : any (same (rightTrim (leftTrim chars))) (cellNames x) ≡ true
+      = sym (name-is text (rightTrim (leftTrim chars)) x p o h) ∙ sym same-named ∙ sym e ∙ z in
+      f
+      ∙ width-is (spanIn text (p .line)) (shownOf long chars) (x .width) (p .kind) (p .bits) (p .width) (o .parts
+      .width)
+      ∙ ap (λ (b : Bool). b && isPlaceFor (shownOf long chars) (x .width)) (sym q)

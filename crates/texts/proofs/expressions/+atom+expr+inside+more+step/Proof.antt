@@ -1,0 +1,508 @@
+use borrow.Author.Needs.{needs}
+use Prim.Native.Nat.{ℕ, _<_, _≤_, _+_, _*_, _-_}
+use mathlib.Core.Path.{_≡_, refl, sym, _∙_}
+use native.Mathlib.Omega.{arith}
+use lib.ListN.{length}
+use Rattle.rules.specs.Operators.{level, leftLevel}
+use Rattle.rules.proofs.OperatorTable.{level-lt}
+use Rattle.texts.proofs.ExprSigns.{sign-within}
+use Rattle.texts.proofs.ExprSteps.{within-got, within-up, within-fail, within-here, expr-fail, expr-go}
+use Rattle.texts.proofs.ExprSteps.{max-most}
+use Rattle.texts.proofs.ExprSteps.{more-none, more-stop, more-fail, more-go, stop-level, stop-left}
+use Rattle.texts.proofs.ExprSteps.{next-fail, next-stop, next-on, failed, stopped, gone-on}
+use Rattle.texts.specs.ExprPlaces.{MoreAt}
+use Rattle.texts.specs.declared.leaves.Read.{Read}
+use Rattle.texts.proofs.ExprSteps.{atom-end, atom-bang, atom-paren, atom-word}
+use Rattle.texts.proofs.ExprSteps.{in-end, in-zero, in-wrong, in-fail, in-go}
+use borrow.Fn.Kinds.{In}
+use borrow.Fn.PlainCycle.{Measures, is, falls, and}
+use Rattle.texts.proofs.expressions.atom.Reads as atom
+use Rattle.texts.proofs.expressions.atom.Kinds as atom-kinds
+use Rattle.texts.proofs.expressions.+atom+expr+inside+more+step.Lts-atom as atom-lts
+use Rattle.texts.proofs.expressions.expr.Reads as expr
+use Rattle.texts.proofs.expressions.expr.Kinds as expr-kinds
+use Rattle.texts.proofs.expressions.+atom+expr+inside+more+step.Lts-expr as expr-lts
+use Rattle.texts.proofs.expressions.inside.Reads as inside
+use Rattle.texts.proofs.expressions.inside.Kinds as inside-kinds
+use Rattle.texts.proofs.expressions.+atom+expr+inside+more+step.Lts-inside as inside-lts
+use Rattle.texts.proofs.expressions.more.Reads as more
+use Rattle.texts.proofs.expressions.more.Kinds as more-kinds
+use Rattle.texts.proofs.expressions.+atom+expr+inside+more+step.Lts-more as more-lts
+use Rattle.texts.proofs.expressions.step.Reads as step
+use Rattle.texts.proofs.expressions.step.Kinds as step-kinds
+use Rattle.texts.proofs.expressions.+atom+expr+inside+more+step.Lts-step as step-lts
+use Rattle.texts.proofs.expressions.closed.Reads as closed-reads
+use Rattle.texts.proofs.expressions.larger.Reads as larger-reads
+use Rattle.texts.proofs.leaves.leaf_at.Reads as leaf-at-reads
+use Rattle.texts.proofs.operators.left_of.Reads as left-of-reads
+use Rattle.texts.proofs.operators.level_of.Reads as level-of-reads
+use Rattle.texts.proofs.operators.operator_at.Reads as operator-at-reads
+use Rattle.texts.proofs.expressions.+atom+expr+inside+more+step.{statement}
+use Rattle.texts.proofs.expressions.+atom+expr+inside+more+step.Tie.{close}
+
+abbrev μ-atom : Measures 1 atom-kinds.ps ℕ
+μ-atom κs a = 4 * (length (a .0 .now) - a .1 .0) + 1
+
+abbrev μ-expr : Measures 1 expr-kinds.ps ℕ
+μ-expr κs a = 4 * (length (a .0 .now) - a .1 .0) + 2
+
+abbrev μ-inside : Measures 1 inside-kinds.ps ℕ
+μ-inside κs a = 4 * (length (a .0 .now) - a .1 .0) + 0
+
+abbrev μ-more : Measures 1 more-kinds.ps ℕ
+μ-more κs a = 4 * (length (a .0 .now) - a .1 .0) + 4
+
+abbrev μ-step : Measures 1 step-kinds.ps ℕ
+μ-step κs a = 4 * (length (a .0 .now) - a .1 .0) + 3
+
+abbrev atom-at : ℕ → In 1 atom-kinds.ps
+atom-at t = and 1 atom-kinds.ps (is 1 atom-kinds.ps μ-atom t) atom.Pre
+
+abbrev atom-below : ℕ → In 1 atom-kinds.ps
+atom-below t = and 1 atom-kinds.ps (falls 1 atom-kinds.ps _<_ μ-atom t) atom.Pre
+
+abbrev expr-at : ℕ → In 1 expr-kinds.ps
+expr-at t = and 1 expr-kinds.ps (is 1 expr-kinds.ps μ-expr t) expr.Pre
+
+abbrev expr-below : ℕ → In 1 expr-kinds.ps
+expr-below t = and 1 expr-kinds.ps (falls 1 expr-kinds.ps _<_ μ-expr t) expr.Pre
+
+abbrev inside-at : ℕ → In 1 inside-kinds.ps
+inside-at t = and 1 inside-kinds.ps (is 1 inside-kinds.ps μ-inside t) inside.Pre
+
+abbrev inside-below : ℕ → In 1 inside-kinds.ps
+inside-below t = and 1 inside-kinds.ps (falls 1 inside-kinds.ps _<_ μ-inside t) inside.Pre
+
+abbrev more-at : ℕ → In 1 more-kinds.ps
+more-at t = and 1 more-kinds.ps (is 1 more-kinds.ps μ-more t) more.Pre
+
+abbrev more-below : ℕ → In 1 more-kinds.ps
+more-below t = and 1 more-kinds.ps (falls 1 more-kinds.ps _<_ μ-more t) more.Pre
+
+abbrev step-at : ℕ → In 1 step-kinds.ps
+step-at t = and 1 step-kinds.ps (is 1 step-kinds.ps μ-step t) step.Pre
+
+abbrev step-below : ℕ → In 1 step-kinds.ps
+step-below t = and 1 step-kinds.ps (falls 1 step-kinds.ps _<_ μ-step t) step.Pre
+
+-- what the callees' contracts ask and promise
+abbrev atom-calls : ℕ → atom-lts.Claims
+atom-calls t =
+    (inside-below t, inside.Post, leaf-at-reads.Asked, leaf-at-reads.Learnt)
+
+abbrev expr-calls : ℕ → expr-lts.Claims
+expr-calls t =
+    (atom-below t, atom.Post, more-below t, more.Post)
+
+abbrev inside-calls : ℕ → inside-lts.Claims
+inside-calls t =
+    (expr-below t, expr.Post, closed-reads.Asked, closed-reads.Learnt)
+
+abbrev more-calls : ℕ → more-lts.Claims
+more-calls t = (step-below t, step.Post)
+
+abbrev step-calls : ℕ → step-lts.Claims
+step-calls t = (
+  operator-at-reads.Asked,
+  operator-at-reads.Learnt,
+  level-of-reads.Asked,
+  level-of-reads.Learnt,
+  left-of-reads.Asked,
+  left-of-reads.Learnt,
+  expr-below t,
+  expr.Post,
+  larger-reads.Asked,
+  larger-reads.Learnt,
+)
+
+atom-returns : (t : ℕ) → atom-lts.Need-returns (atom-calls t) (atom-at t) atom.Post
+atom-returns t c = (within-fail _ _ _ _ _, atom-end _ _ _ (c .if1 .taken))
+
+atom-shared-slice-read-c : (t : ℕ) → atom-lts.Need-shared-slice-read-c (atom-calls t) (atom-at t) atom.Post
+atom-shared-slice-read-c t c = search needs
+
+atom-add-inside : (t : ℕ) → atom-lts.Need-add-inside (atom-calls t) (atom-at t) atom.Post
+atom-add-inside t c = search needs
+
+atom-inside-requires : (t : ℕ) → atom-lts.Need-inside-requires (atom-calls t) (atom-at t) atom.Post
+atom-inside-requires t c κs = search needs
+
+atom-returns-2 : (t : ℕ) → atom-lts.Need-returns-2 (atom-calls t) (atom-at t) atom.Post
+atom-returns-2 t c =
+    let a = c .before .before .before .before .before .args in (
+      within-up (a .s .now) (a .at + 1 + 1) (a .at + 1) 0 0 (a .at + 1) (a .at) 0 0 _ (omega arith) (omega arith)
+          (omega arith) (c .inside .ensures .0),
+      atom-bang (a .s .now) (a .at) (a .b) (omega arith) (c .before .if2 .taken) _ (c .inside .ensures .1),
+    )
+
+atom-inside-requires-2 : (t : ℕ) → atom-lts.Need-inside-requires-2 (atom-calls t) (atom-at t) atom.Post
+atom-inside-requires-2 t c κs = search needs
+
+atom-returns-3 : (t : ℕ) → atom-lts.Need-returns-3 (atom-calls t) (atom-at t) atom.Post
+atom-returns-3 t c =
+    let a = c .before .before .before .before .before .before .args in (
+      c .inside2 .ensures .0,
+      atom-paren (a .s .now) (a .at) (a .b) (omega arith) (c .before .if3 .taken) _
+          (c .inside2 .ensures .1),
+    )
+
+atom-leaf-at-requires : (t : ℕ) → atom-lts.Need-leaf-at-requires (atom-calls t) (atom-at t) atom.Post
+atom-leaf-at-requires t c κs = search needs
+
+atom-returns-4 : (t : ℕ) → atom-lts.Need-returns-4 (atom-calls t) (atom-at t) atom.Post
+atom-returns-4 t c =
+    let a = c .before .before .before .before .before .before .args in (
+      c .leaf-at .ensures .0,
+      atom-word (a .s .now) (a .at) (a .b) (omega arith) (c .before .before .if2 .left)
+          (c .before .if3 .left) _ (c .leaf-at .ensures .1),
+    )
+
+expr-atom-requires : (t : ℕ) → expr-lts.Need-atom-requires (expr-calls t) (expr-at t) expr.Post
+expr-atom-requires t c κs = search needs
+
+expr-enum-told : (t : ℕ) → expr-lts.Need-enum-told (expr-calls t) (expr-at t) expr.Post
+expr-enum-told t c = search needs
+
+expr-enum-known-a : (t : ℕ) → expr-lts.Need-enum-known-a (expr-calls t) (expr-at t) expr.Post
+expr-enum-known-a t c = search needs
+
+expr-more-requires : (t : ℕ) → expr-lts.Need-more-requires (expr-calls t) (expr-at t) expr.Post
+expr-more-requires t c κs =
+    let w = within-got _ _ _ _ _ _ _ _ _ (c .before .a .given .1) (c .before .before .before .atom .ensures .0) in
+    omega arith
+
+expr-returns : (t : ℕ) → expr-lts.Need-returns (expr-calls t) (expr-at t) expr.Post
+expr-returns t c =
+    let a = c .before .before .before .before .args in (
+      within-fail _ _ _ _ _,
+      expr-fail (a .s .now) (a .at) (a .k) (a .b) _ (c .before .before .atom .ensures .1)
+          (c .enum-told .given .1),
+    )
+
+expr-returns-2 : (t : ℕ) → expr-lts.Need-returns-2 (expr-calls t) (expr-at t) expr.Post
+expr-returns-2 t c =
+    let a = c .before .before .before .before .before .before .args in
+    let v = c .before .before .a .given .0 in
+    let w = within-got (a .s .now) (a .at + 1) (a .at) 0 0 _ (v .0) (v .1 .0) (v .1 .1 .0)
+    (c .before .before .a .given .1)
+    (c .before .before .before .before .atom .ensures .0) in (
+      within-up (a .s .now) (v .0) (v .0) (v .1 .0) (v .1 .1 .0) (a .at + 1) (a .at) 0 0 _ (w .0) (omega arith)
+          (omega arith) (c .more .ensures .0),
+      expr-go (a .s .now) (a .at) (a .k) (a .b) _ (c .before .before .before .before .atom .ensures .1) (v .0)
+          (v .1 .0) (v .1 .1 .0) (c .before .before .a .given .1) (omega arith)
+          (w .1) _ (c .more .ensures .1),
+    )
+
+inside-returns : (t : ℕ) → inside-lts.Need-returns (inside-calls t) (inside-at t) inside.Post
+inside-returns t c = (within-fail _ _ _ _ _, in-end _ _ _ _ (c .if1 .taken))
+
+inside-returns-2 : (t : ℕ) → inside-lts.Need-returns-2 (inside-calls t) (inside-at t) inside.Post
+inside-returns-2 t c =
+    let a = c .before .before .before .args in
+    (within-fail _ _ _ _ _, in-zero (a .s .now) (a .at) (a .b) (a .over) (omega arith) (c .if2 .taken))
+
+inside-shared-slice-read-if3 : (t : ℕ) → inside-lts.Need-shared-slice-read-if3 (inside-calls t)
+    (inside-at t) inside.Post
+inside-shared-slice-read-if3 t c = search needs
+
+inside-returns-3 : (t : ℕ) → inside-lts.Need-returns-3 (inside-calls t) (inside-at t) inside.Post
+inside-returns-3 t c =
+    let a = c .before .before .before .before .before .args in
+    (within-fail _ _ _ _ _, in-wrong (a .s .now) (a .at) (a .b) (a .over) (omega arith) (c .if3 .taken))
+
+inside-add-expr : (t : ℕ) → inside-lts.Need-add-expr (inside-calls t) (inside-at t) inside.Post
+inside-add-expr t c = search needs
+
+inside-sub-expr : (t : ℕ) → inside-lts.Need-sub-expr (inside-calls t) (inside-at t) inside.Post
+inside-sub-expr t c = search needs
+
+inside-expr-requires : (t : ℕ) → inside-lts.Need-expr-requires (inside-calls t) (inside-at t) inside.Post
+inside-expr-requires t c κs = search needs
+
+inside-enum-told : (t : ℕ) → inside-lts.Need-enum-told (inside-calls t) (inside-at t) inside.Post
+inside-enum-told t c = search needs
+
+inside-enum-known-e : (t : ℕ) → inside-lts.Need-enum-known-e (inside-calls t) (inside-at t) inside.Post
+inside-enum-known-e t c = search needs
+
+inside-closed-requires : (t : ℕ) → inside-lts.Need-closed-requires (inside-calls t) (inside-at t) inside.Post
+inside-closed-requires t c κs =
+    let w = within-got _ _ _ _ _ _ _ _ _ (c .before .e .given .1) (c .before .before .before .expr .ensures .0) in
+    omega arith
+
+inside-returns-4 : (t : ℕ) → inside-lts.Need-returns-4 (inside-calls t) (inside-at t) inside.Post
+inside-returns-4 t c =
+    let a = c .before .before .before .before .before .before .before .before .args in (
+      within-fail _ _ _ _ _,
+      in-fail (a .s .now) (a .at) (a .b) (a .over) (omega arith)
+          (c .before .before .before .before .before .if2 .left) (c .before .before .before .if3 .left) _
+          (c .before .before .expr .ensures .1) (c .enum-told .given .1),
+    )
+
+inside-returns-5 : (t : ℕ) → inside-lts.Need-returns-5 (inside-calls t) (inside-at t) inside.Post
+inside-returns-5 t c =
+    let a = c .before .before .before .before .before .before .before .before .before .before .args in
+    let v = c .before .before .e .given .0 in
+    let w = within-got (a .s .now) (a .at + 1 + 1) (a .at + 1) 0 0 _ (v .0) (v .1 .0) (v .1 .1 .0)
+    (c .before .before .e .given .1)
+    (c .before .before .before .before .expr .ensures .0) in (
+      within-up (a .s .now) (v .0 + 1) (v .0) (v .1 .0) (v .1 .1 .0) (a .at + 1) (a .at) 0 0 _ (omega arith)
+          (omega arith)
+          (omega arith) (c .closed .ensures .0),
+      in-go (a .s .now) (a .at) (a .b) (a .over) (omega arith)
+          (c .before .before .before .before .before .before .before .if2 .left)
+          (c .before .before .before .before .before .if3 .left) _
+          (c .before .before .before .before .expr .ensures .1) (v .0) (v .1 .0) (v .1 .1 .0)
+          (c .before .before .e .given .1) _ (c .closed .ensures .1),
+    )
+
+abbrev more-Inv-loop : more-lts.InvT-loop
+more-Inv-loop s at k h b d z place₀ level₀ depth₀ size₀ place level depth size =
+    (at ≤ place)
+    × (place ≤ length s)
+    × (depth + at ≤ d + place)
+    × (size + 5 * at ≤ z + 5 * place)
+    × ((r : Read) → MoreAt s place k level b depth size r → MoreAt s at k h b d z r)
+
+abbrev more-μ-loop : more-lts.MeasureT-loop
+more-μ-loop s at k h b d z place₀ level₀ depth₀ size₀ place level depth size = length s - place
+
+more-loop-holds : (t : ℕ) → more-lts.Need-loop-holds (more-calls t) (more-at t) more.Post more-Inv-loop more-μ-loop
+more-loop-holds t c = (omega arith, omega arith, omega arith, omega arith, λ r m. m)
+
+more-step-requires : (t : ℕ) → more-lts.Need-step-requires (more-calls t) (more-at t) more.Post more-Inv-loop
+    more-μ-loop
+more-step-requires t c κs =
+    let i = c .loop .inv in
+    omega (arith, i .0, i .1, i .2, i .3)
+
+more-enum-told : (t : ℕ) → more-lts.Need-enum-told (more-calls t) (more-at t) more.Post more-Inv-loop more-μ-loop
+more-enum-told t c = search needs
+
+more-returns : (t : ℕ) → more-lts.Need-returns (more-calls t) (more-at t) more.Post more-Inv-loop more-μ-loop
+more-returns t c =
+    let a = c .before .before .before .before .before .args in
+    let l = c .before .before .before .loop in (
+      within-fail _ _ _ _ _,
+      l .inv .4 _ (failed (a .s .now) (l .place) (a .k) (l .level) (a .b) (l .depth) (l .size)
+          (c .enum-told .given .1) (c .before .before .step .ensures)),
+    )
+
+more-enum-told-2 : (t : ℕ) → more-lts.Need-enum-told-2 (more-calls t) (more-at t) more.Post more-Inv-loop more-μ-loop
+more-enum-told-2 t c = search needs
+
+more-returns-2 : (t : ℕ) → more-lts.Need-returns-2 (more-calls t) (more-at t) more.Post more-Inv-loop more-μ-loop
+more-returns-2 t c =
+    let a = c .before .before .before .before .before .args in
+    let l = c .before .before .before .loop in
+    let i = l .inv in (
+      within-here _ _ _ _ _ _ _ _ (omega arith) (omega arith) (omega arith) (omega arith),
+      i .4 _ (stopped (a .s .now) (l .place) (a .k) (l .level) (a .b) (l .depth) (l .size) (c .enum-told2 .given .1)
+          (c .before .before .step .ensures)),
+    )
+
+more-enum-known-next : (t : ℕ) → more-lts.Need-enum-known-next (more-calls t) (more-at t) more.Post more-Inv-loop
+    more-μ-loop
+more-enum-known-next t c = search needs
+
+more-loop-less : (t : ℕ) → more-lts.Need-loop-less (more-calls t) (more-at t) more.Post more-Inv-loop more-μ-loop
+more-loop-less t c =
+    let a = c .before .before .before .before .before .before .args in
+    let l = c .before .before .before .before .loop in
+    let g = gone-on (a .s .now) (l .place) (a .k) (l .level) (a .b) (l .depth) (l .size) _ _ _ _ (c .before .next
+    .given .1) (c .before .before .before .step .ensures) in
+    omega (arith, g .0, g .1)
+
+more-loop-again : (t : ℕ) → more-lts.Need-loop-again (more-calls t) (more-at t) more.Post more-Inv-loop more-μ-loop
+more-loop-again t c =
+    let a = c .before .before .before .before .before .before .args in
+    let l = c .before .before .before .before .loop in
+    let i = l .inv in
+    let g = gone-on (a .s .now) (l .place) (a .k) (l .level) (a .b) (l .depth) (l .size) _ _ _ _ (c .before .next
+    .given .1) (c .before .before .before .step .ensures) in (
+      omega (arith, g .0),
+      g .1,
+      omega (arith, g .2, i .2),
+      omega (arith, g .3, i .3),
+      λ r z. i .4 r (g .4 r z),
+    )
+
+step-operator-at-requires : (t : ℕ) → step-lts.Need-operator-at-requires (step-calls t) (step-at t) step.Post
+step-operator-at-requires t c κs = search needs
+
+step-enum-told : (t : ℕ) → step-lts.Need-enum-told (step-calls t) (step-at t) step.Post
+step-enum-told t c = search needs
+
+step-enum-known-g : (t : ℕ) → step-lts.Need-enum-known-g (step-calls t) (step-at t) step.Post
+step-enum-known-g t c = search needs
+
+step-level-of-requires : (t : ℕ) → step-lts.Need-level-of-requires (step-calls t) (step-at t) step.Post
+step-level-of-requires t c κs = search needs
+
+step-left-of-requires : (t : ℕ) → step-lts.Need-left-of-requires (step-calls t) (step-at t) step.Post
+step-left-of-requires t c κs = search needs
+
+step-add-expr : (t : ℕ) → step-lts.Need-add-expr (step-calls t) (step-at t) step.Post
+step-add-expr t c =
+    let a = c .before .before .before .before .before .before .before .before .before .args in
+    let v = c .before .before .before .before .before .g .given .0 in
+    let u = sign-within (a .s .now) (a .at) _ (v .0) (v .1 .0)
+    (c .before .before .before .before .before .g .given .1)
+    (c .before .before .before .before .before .before .before .operator-at .ensures .0) in
+    let lt = level-lt (v .0) in
+    omega (arith, c .before .before .before .level-of .ensures, lt)
+
+step-expr-requires : (t : ℕ) → step-lts.Need-expr-requires (step-calls t) (step-at t) step.Post
+step-expr-requires t c κs =
+    let u = sign-within _ _ _ _ _ (c .before .before .before .before .before .g .given .1)
+    (c .before .before .before .before .before .before .before .operator-at .ensures .0) in
+    omega arith
+
+step-enum-told-2 : (t : ℕ) → step-lts.Need-enum-told-2 (step-calls t) (step-at t) step.Post
+step-enum-told-2 t c = search needs
+
+step-enum-known-y : (t : ℕ) → step-lts.Need-enum-known-y (step-calls t) (step-at t) step.Post
+step-enum-known-y t c = search needs
+
+step-larger-requires : (t : ℕ) → step-lts.Need-larger-requires (step-calls t) (step-at t) step.Post
+step-larger-requires t c κs = search needs
+
+step-add-t23 : (t : ℕ) → step-lts.Need-add-t23 (step-calls t) (step-at t) step.Post
+step-add-t23 t c =
+    let u = sign-within _ _ _ _ _
+    (c .before .before .before .before .before .before .before .before .before .before .g .given .1)
+    (c .before .before .before .before .before .before .before .before .before .before .before .before .operator-at
+    .ensures .0) in
+    let w = within-got _ _ _ _ _ _ _ _ _ (c .before .before .y .given .1)
+    (c .before .before .before .before .expr .ensures .0) in
+    let m = max-most (c .before .before .before .before .before .before .before .before .before .before .before
+    .before .before .before .args .d) (c .before .before .y .given .0 .1 .0) in
+    omega (arith, c .larger .ensures)
+
+step-add-t24 : (t : ℕ) → step-lts.Need-add-t24 (step-calls t) (step-at t) step.Post
+step-add-t24 t c =
+    let u = sign-within _ _ _ _ _
+    (c .before .before .before .before .before .before .before .before .before .before .g .given .1)
+    (c .before .before .before .before .before .before .before .before .before .before .before .before .operator-at
+    .ensures .0) in
+    let w = within-got _ _ _ _ _ _ _ _ _ (c .before .before .y .given .1)
+    (c .before .before .before .before .expr .ensures .0) in
+    omega arith
+
+step-add-t25 : (t : ℕ) → step-lts.Need-add-t25 (step-calls t) (step-at t) step.Post
+step-add-t25 t c =
+    let u = sign-within _ _ _ _ _
+    (c .before .before .before .before .before .before .before .before .before .before .g .given .1)
+    (c .before .before .before .before .before .before .before .before .before .before .before .before .operator-at
+    .ensures .0) in
+    let w = within-got _ _ _ _ _ _ _ _ _ (c .before .before .y .given .1)
+    (c .before .before .before .before .expr .ensures .0) in
+    omega arith
+
+step-returns : (t : ℕ) → step-lts.Need-returns (step-calls t) (step-at t) step.Post
+step-returns t c =
+    let a = c .before .before .before .before .before .before .before .before .before .before .before .before .args in
+    let v = c .before .before .before .before .before .before .before .before .g .given .0 in
+    let u = sign-within (a .s .now) (a .at) _ (v .0) (v .1 .0) (c .before .before .before .before .before .before
+    .before .before .g .given .1) (c .before .before .before .before .before .before .before .before .before
+    .before .operator-at .ensures .0) in
+    let eh : leftLevel (v .0) ≤ a .h = omega (
+      arith,
+      c .before .before .before .before .left-of .ensures,
+      c .before
+          .before .before .if2 .taken,
+    ) in
+    next-fail (a .s .now) (a .at) (a .k) (a .h) (a .b) (a .d) (a .z)
+    (more-fail (a .s .now) (a .at) (a .k) (a .h) (a .b) (a .d) (a .z) _ (c .before .before .before .before .before
+    .before .before .before .before .before .operator-at .ensures .1)
+    (v .0) (v .1 .0) (c .before .before .before .before .before .before .level-of .result) (c .before .before
+    .before .before .before .before .before .before .g .given .1) (sym (c .before .before .before .before
+    .before .before .level-of .ensures))
+    (c .before .before .before .before .before .if1 .taken) eh (u .0) (u .1) _ (c .before .before .expr .ensures .1)
+    (c .enum-told2 .given .1))
+
+step-returns-2 : (t : ℕ) → step-lts.Need-returns-2 (step-calls t) (step-at t) step.Post
+step-returns-2 t c =
+    let a = c .before .before .before .before .before .before .before .before .before .before .before .before
+    .before .before .args in
+    let v = c .before .before .before .before .before .before .before .before .before .before .g .given .0 in
+    let u = sign-within (a .s .now) (a .at) _ (v .0) (v .1 .0) (c .before .before .before .before .before .before
+    .before .before .before .before .g .given .1) (c .before .before .before .before .before .before .before
+    .before .before .before .before .before .operator-at .ensures .0) in
+    let y = c .before .before .y .given .0 in
+    let w = within-got (a .s .now) (v .1 .0 + 1) (v .1 .0) 0 0 _ (y .0) (y .1 .0) (y .1 .1 .0) (c .before .before .y
+    .given .1)
+    (c .before .before .before .before .expr .ensures .0) in
+    let m = max-most (a .d) (y .1 .0) in
+    let x : c .larger .result ≤ a .d + y .1 .0 = rw (c .larger .ensures) m in
+    let eh : leftLevel (v .0) ≤ a .h = omega (
+      arith,
+      c .before .before .before .before .before .before .left-of
+          .ensures,
+      c .before .before .before .before .before .if2 .taken,
+    ) in
+    next-on (a .s .now) (a .at) (a .k) (a .h) (a .b) (a .d) (a .z) _ _ _ _
+    (omega arith) (w .1) (omega arith) (omega arith)
+    (λ r z. more-go (a .s .now) (a .at) (a .k) (a .h) (a .b) (a .d) (a .z) _ (c .before .before .before .before
+    .before .before .before .before .before .before .before .before .operator-at .ensures .1)
+    (v .0) (v .1 .0) (c .before .before .before .before .before .before .before .before .level-of .result) (c
+    .before .before .before .before .before .before .before .before .before .before .g .given .1) (sym (c
+    .before .before .before .before .before .before .before .before .level-of .ensures)) (c .before .before
+    .before .before .before .before .before .if1 .taken) eh (u .0) (u .1) _
+    (c .before .before .before .before .expr .ensures .1) (y .0) (y .1 .0) (y .1 .1 .0) (c .larger .result) (c
+    .before .before .y .given .1) (omega arith) (w .1)
+    (c .larger .ensures) r z)
+
+step-returns-3 : (t : ℕ) → step-lts.Need-returns-3 (step-calls t) (step-at t) step.Post
+step-returns-3 t c =
+    let a = c .before .before .before .before .args in
+    next-stop (a .s .now) (a .at) (a .k) (a .h) (a .b) (a .d) (a .z)
+    (more-none (a .s .now) (a .at) (a .k) (a .h) (a .b) (a .d) (a .z) _ (c .before .before .operator-at .ensures .1)
+    (c .enum-told .given .1))
+
+step-returns-4 : (t : ℕ) → step-lts.Need-returns-4 (step-calls t) (step-at t) step.Post
+step-returns-4 t c =
+    let a = c .before .before .before .before .before .before .before .before .before .args in
+    let v = c .before .before .before .before .before .g .given .0 in
+    let out = stop-left (a .k) (level (v .0)) (leftLevel (v .0)) (a .h)
+    (omega (arith, c .before .before .before .level-of .ensures, c .before .before .if1 .taken)) (omega (
+      arith,
+      c
+          .before .left-of .ensures,
+      c .if2 .left,
+    )) in
+    next-stop (a .s .now) (a .at) (a .k) (a .h) (a .b) (a .d) (a .z)
+    (more-stop (a .s .now) (a .at) (a .k) (a .h) (a .b) (a .d) (a .z) _ (c .before .before .before .before .before
+    .before .before .operator-at .ensures .1) (v .0) (v .1 .0)
+    (c .before .before .before .before .before .g .given .1) out)
+
+step-returns-5 : (t : ℕ) → step-lts.Need-returns-5 (step-calls t) (step-at t) step.Post
+step-returns-5 t c =
+    let a = c .before .before .before .before .before .before .before .args in
+    let v = c .before .before .before .g .given .0 in
+    let out = stop-level (a .k) (level (v .0)) (leftLevel (v .0)) (a .h)
+    (omega (arith, c .before .level-of .ensures, c .if1 .left)) in
+    next-stop (a .s .now) (a .at) (a .k) (a .h) (a .b) (a .d) (a .z)
+    (more-stop (a .s .now) (a .at) (a .k) (a .h) (a .b) (a .d) (a .z) _ (c .before .before .before .before .before
+    .operator-at .ensures .1) (v .0) (v .1 .0)
+    (c .before .before .before .g .given .1) out)
+
+pub +atom+expr+inside+more+step-spec : {M : Type 1} → statement M
++atom+expr+inside+more+step-spec = close μ-atom μ-expr μ-inside μ-more μ-step
+    (λ t. atom-lts.spec (atom-calls t) (atom-at t) atom.Post (atom-returns t) (atom-shared-slice-read-c t)
+    (atom-add-inside t) (atom-inside-requires t) (atom-returns-2 t) (atom-inside-requires-2 t) (atom-returns-3 t)
+    (atom-leaf-at-requires t) (atom-returns-4 t))
+    (λ t. expr-lts.spec (expr-calls t) (expr-at t) expr.Post (expr-atom-requires t) (expr-enum-told t)
+    (expr-enum-known-a t) (expr-more-requires t) (expr-returns t) (expr-returns-2 t))
+    (λ t. inside-lts.spec (inside-calls t) (inside-at t) inside.Post (inside-returns t) (inside-returns-2 t)
+    (inside-shared-slice-read-if3 t) (inside-returns-3 t) (inside-add-expr t) (inside-sub-expr t)
+    (inside-expr-requires t) (inside-enum-told t) (inside-enum-known-e t) (inside-closed-requires t)
+    (inside-returns-4 t) (inside-returns-5 t))
+    (λ t. more-lts.spec (more-calls t) (more-at t) more.Post more-Inv-loop more-μ-loop (more-loop-holds t)
+    (more-step-requires t) (more-enum-told t) (more-returns t) (more-enum-told-2 t) (more-returns-2 t)
+    (more-enum-known-next t) (more-loop-less t) (more-loop-again t))
+    λ t. step-lts.spec (step-calls t) (step-at t) step.Post (step-operator-at-requires t) (step-enum-told t)
+    (step-enum-known-g t) (step-level-of-requires t) (step-left-of-requires t) (step-add-expr t)
+    (step-expr-requires t) (step-enum-told-2 t) (step-enum-known-y t) (step-larger-requires t) (step-add-t23 t)
+    (step-add-t24 t) (step-add-t25 t) (step-returns t) (step-returns-2 t)
+    (step-returns-3 t) (step-returns-4 t) (step-returns-5 t)

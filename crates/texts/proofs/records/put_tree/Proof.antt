@@ -1,0 +1,71 @@
+use denote.Ref.{now}
+use Rattle.texts.specs.Pieces.{lookUp}
+use Rattle.texts.proofs.RecordLaws.{tree-none, tree-some, piece-room}
+use borrow.Author.Needs.{needs}
+use Rattle.texts.proofs.records.put_tree.Statement.{statement}
+use Rattle.texts.proofs.records.put_tree.Tie as tie
+use Rattle.texts.proofs.records.put_tree.Reads as reads
+use Rattle.texts.proofs.records.put_tree.Lts as lts
+use Rattle.texts.proofs.pieces.tree_piece.Reads as tree-piece-reads
+use Rattle.texts.proofs.records.put_counted.Reads as put-counted-reads
+use Rattle.texts.proofs.records.put_two.Reads as put-two-reads
+
+put-two-requires : tie.Need-put-two-requires
+put-two-requires c κs = search needs
+
+same-length : tie.Need-same-length
+same-length c = search needs
+
+returns : tie.Need-returns
+returns c =
+    let a = c .before .before .before .before .before .before .before .args in
+    tree-none (now (a .line)) (a .t) (lookUp (now (a .names)) (a .n)) (c .before .before .before .before .if1 .taken)
+    (c .before .before .put-two .ensures)
+
+tree-piece-requires : tie.Need-tree-piece-requires
+tree-piece-requires c κs = search needs
+
+sub-put-counted : tie.Need-sub-put-counted
+sub-put-counted c = search needs
+
+part-put-counted-start : tie.Need-part-put-counted-start
+part-put-counted-start c = search needs
+
+part-put-counted-end : tie.Need-part-put-counted-end
+part-put-counted-end c =
+    let a = c .before .before .before .before .before .before .before .args in
+    piece-room (now (a .line)) (a .t) (now (a .names)) (a .n) (c .before .before .before .before .if1 .left) (c
+    .before .before .before .before .before .before .before .pre .3) (c .before .before .before .tree-piece
+    .result)
+    (c .before .before .before .tree-piece .ensures) (c .before .before .before .before .before .before .before .pre
+    .5 .0) (c .before .before .before .before .before .before .before .pre .5 .1)
+
+put-counted-requires : tie.Need-put-counted-requires
+put-counted-requires c κs = search needs
+
+same-length-2 : tie.Need-same-length-2
+same-length-2 c = search needs
+
+returns-2 : tie.Need-returns-2
+returns-2 c =
+    let a = c .before .before .before .before .before .before .before .before .before .before .before .args in
+    tree-some (now (a .line)) (a .t) (now (a .names)) (a .n) (c .before .before .before .before .before .before
+    .before .before .if1 .left) (c .before .before .before .before .before .before .before .before .before
+    .before .before .pre .3) (c .before .before .before .before .before .before .before .tree-piece .result)
+    (c .before .before .before .before .before .before .before .tree-piece .ensures) (c .before .before .put-counted
+    .ensures)
+
+pub put-tree-spec : {M : Type 1} → statement M
+put-tree-spec =
+    tie.close
+    (tie.spec
+    put-two-requires
+    same-length
+    returns
+    tree-piece-requires
+    sub-put-counted
+    part-put-counted-start
+    part-put-counted-end
+    put-counted-requires
+    same-length-2
+    returns-2)

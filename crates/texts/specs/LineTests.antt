@@ -1,0 +1,67 @@
+-- What the code tests of the field lines that it holds: mirrors the code, no public promise rests on it.
+use mathlib.Core.Path.{_≡_}
+use mathlib.Core.Bool.{Bool, false, cond, _&&_, _||_, not}
+use mathlib.Core.List.{List, []}
+use Prim.Native.Nat.{ℕ, zero, suc, _+_, _<_}
+use lib.Dec.{eqb}
+use lib.ListN.{take, drop, getD}
+use Rattle.base.specs.Lists.{same, ifAny}
+use Rattle.rules.specs.declared.ValueType.the-variants.{YesNo}
+use Rattle.rules.specs.Trees.{hasType}
+use Rattle.rules.specs.Fields.{Form}
+use Rattle.rules.specs.Within.{widthHasType}
+use Rattle.names.specs.Repeats.{firstFrom, padTo, sameName}
+use Rattle.texts.specs.LinePlaces.{rowAt, LineOf}
+use Rattle.texts.specs.Pieces.{mayRead}
+use Rattle.texts.specs.declared.parts.Parts.{Parts}
+use Rattle.texts.specs.declared.line_rules.Rule.{Rule}
+use Rattle.texts.specs.declared.line_rules.Rule.the-variants.{Form as HasForm, Size, Rest}
+
+-- ── rules of one line, of which some look at the lines before it ──
+
+-- one of the first n lines is the rest field's
+unfoldable pub anyRest : List Parts → ℕ → Bool
+anyRest rows zero = false
+anyRest rows (suc n) = anyRest rows n || eqb (rowAt rows n .kind) 4
+
+-- the line breaks the rule; rested says that the rest field is listed before it
+abbrev pub breaksRule : Rule → Bool → Parts → Bool
+breaksRule HasForm rested p = eqb (p .kind) 0
+breaksRule Size rested p = not (p .small)
+breaksRule Rest rested p = rested && not (eqb (p .kind) 2 && eqb (p .condition .size) 0)
+
+abbrev pub breaksAt : Rule → List Parts → ℕ → Bool
+breaksAt rule rows i = breaksRule rule (anyRest rows i) (rowAt rows i)
+
+-- ── names ──
+
+abbrev pub labelIn : List ℕ → Parts → List ℕ
+labelIn text p = take (p .label) (drop (p .line .at) text)
+
+abbrev pub shortIn : List ℕ → Parts → List ℕ
+shortIn text p = take (p .short .len) (drop (p .line .at + p .short .at) text)
+
+-- a line's short name, held; where only fixed fields count, another has none
+unfoldable pub heldShort : List ℕ → Bool → Parts → List ℕ
+heldShort text fixed p = padTo 8 (cond (fixed && not (eqb (p .kind) 2)) [] (shortIn text p))
+
+-- a line and an earlier one have one label or one short name; names are the held ones
+unfoldable pub clashAt : List ℕ → List Parts → List (List ℕ) → ℕ → ℕ → Bool
+clashAt text rows names i j =
+    same (labelIn text (rowAt rows j)) (labelIn text (rowAt rows i))
+    || sameName (getD names j []) (getD names i [])
+
+-- ── kinds ──
+
+-- the line of index i has expressions of the right kinds, which read names among the held ones
+abbrev pub kindsKept : List (List ℕ) → ℕ → Form → Bool
+kindsKept names i x =
+    widthHasType (mayRead names i) (x .width)
+    && (ifAny (hasType (mayRead names (i + 1)) YesNo) (x .constraint)
+    && ifAny (hasType (mayRead names i) YesNo) (x .condition))
+
+-- the first of n lines whose expressions have not their kinds, else n
+abbrev pub FirstWrong : List ℕ → List Parts → List (List ℕ) → ℕ → ℕ → Type 0
+FirstWrong text rows names n r =
+    (f : ℕ → Form) → ((i : ℕ) → i < n → LineOf text (f i) (rowAt rows i))
+    → r ≡ firstFrom (λ i. not (kindsKept names i (f i))) 0 n

@@ -1,0 +1,64 @@
+-- Cells held against field lines, as the code does it: mirrors the code, no public promise rests on it.
+use mathlib.Core.Path.{_≡_}
+use mathlib.Core.Bool.{Bool, true, cond, _&&_, _||_, not}
+use mathlib.Core.List.{List, [], _∷_, _++_}
+use mathlib.Core.Option.{Option, none, some}
+use Prim.Native.Nat.{ℕ, _+_, _/_, _≤_}
+use lib.Dec.{eqb}
+use lib.ListN.{length, take, drop}
+use Rattle.base.specs.Lists.{all, same, joined}
+use Rattle.rules.specs.Limits.{textMost}
+use Rattle.rules.specs.Names.{isLabel}
+use Rattle.rules.specs.Fields.{Form}
+use Rattle.rules.specs.Frames.{border, Row, rowLines, isRow, ended, Shown, shownIn}
+use Rattle.rules.specs.Spelling as spelling
+use Rattle.texts.specs.FrameReader.{leftTrim, rightTrim}
+use Rattle.texts.specs.LinePlaces.{spanIn, Fits, LineOf, RowsFor, RowsFit}
+use Rattle.texts.specs.declared.parts.Parts.{Parts}
+
+-- what the characters between two bars show
+abbrev pub shownOf : Bool → List ℕ → Shown
+shownOf long s = record { long = long; bits = (length s + 1) / 2; text = rightTrim (leftTrim s) }
+
+-- the name is the label or the short name of the line s
+abbrev pub isNameIn : List ℕ → List ℕ → Parts → Bool
+isNameIn name s p = same name (take (p .label) s) || same name (spanIn s (p .short))
+
+-- a fixed field has a bit cell of its width, any other a long row
+abbrev pub isPlaceIn : Bool → ℕ → Parts → Bool
+isPlaceIn long bits p = cond (eqb (p .kind) 2) (not long && eqb bits (p .bits)) long
+
+-- the line lies within m bytes, and its parts within the line
+abbrev pub LineFits : ℕ → Parts → Type 0
+LineFits m p = (p .line .at + p .line .len ≤ m) × Fits (p .line .len) p
+
+-- whether a cell of these characters shows the field of the line with the parts p
+abbrev pub ShowsIs : List ℕ → Bool → List ℕ → Parts → Bool → Type 0
+ShowsIs chars long text p r = (x : Form) → LineOf text x p → isLabel (rightTrim (leftTrim chars)) ≡ true
+    → r ≡ spelling.shows (shownOf long chars) x
+
+-- ── all cells ──
+
+-- the answer where no cell is left behind i cells that agree with their fields
+abbrev pub endIndex : ℕ → ℕ → ℕ
+endIndex i n = cond (eqb i n) (n + 1) i
+
+-- the index of a mismatch, n + 1 for none
+abbrev pub indexOr : ℕ → Option ℕ → ℕ
+indexOr n none = n + 1
+indexOr n (some i) = i
+
+-- from a place of the text on there are the lines of rows, each with its border, an empty line, and lines ms
+pub record RowsAt (text : List ℕ) (from w : ℕ) (rows : List Row) (ms : List (List ℕ)) : Type 0 where
+  pub areRows : all (isRow w) rows ≡ true
+  pub stands : drop from text ≡ joined ended (joined (λ r. rowLines r ++ (border w ∷ [])) rows ++ ([] ∷ ms))
+
+-- the n lines with these parts, and the place, lie within m bytes
+abbrev pub InText : ℕ → ℕ → List Parts → ℕ → Type 0
+InText m from parts n = (m ≤ textMost) × (from ≤ m) × (n ≤ 64) × RowsFit m parts n
+
+-- the first index at which the rows' cells and the fields disagree, or one of them is missing
+abbrev pub MismatchIs : List ℕ → ℕ → List Parts → ℕ → ℕ → Type 0
+MismatchIs text from parts n r = (w : ℕ) (rows : List Row) (ms : List (List ℕ)) (forms : List Form)
+    → RowsAt text from w rows ms → length forms ≡ n → RowsFor text forms parts
+    → r ≡ indexOr n (spelling.mismatch 0 (joined shownIn rows) forms)

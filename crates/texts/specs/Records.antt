@@ -1,0 +1,87 @@
+-- The records that the code writes of the lines that it holds: mirrors the code, no public promise rests on it.
+use mathlib.Core.Path.{_≡_}
+use mathlib.Core.Bool.{true, cond}
+use mathlib.Core.List.{List, [], _∷_, _++_}
+use mathlib.Core.Option.{some, Option·map}
+use Prim.Native.Nat.{ℕ, zero, suc, _+_, _≤_}
+use lib.Dec.{eqb}
+use lib.ListN.{length, getElem?}
+use Rattle.base.specs.Lists.{all}
+use Rattle.base.specs.Writes.{Writes}
+use Rattle.rules.specs.Limits.{textMost, storedMost}
+use Rattle.rules.specs.Trees.{le2, isSmall}
+use Rattle.rules.specs.Fields.{Field, Form, trees}
+use Rattle.rules.specs.Stored.{counted, recordOf, storedField}
+use Rattle.texts.specs.Resolving.{renameTree, renameWidth}
+use Rattle.texts.specs.LinePlaces.{rowAt, PartsAre, LineOf, RowsFor}
+use Rattle.texts.specs.Pieces.{lookUp}
+use Rattle.texts.specs.declared.parts.Parts.{Parts}
+
+-- ── lengths ──
+
+unfoldable pub widthSize : Parts → ℕ
+widthSize p = cond (eqb (p .kind) 2) 2 (cond (eqb (p .kind) 3) (4 + p .width .size) 0)
+
+-- of a field's record
+unfoldable pub fieldSize : Parts → ℕ
+fieldSize p = 12 + p .label + p .short .len + widthSize p + p .constraint .size + p .condition .size
+
+-- of n records from an index on
+unfoldable pub sizeFrom : List Parts → ℕ → ℕ → ℕ
+sizeFrom rows i zero = 0
+sizeFrom rows i (suc n) = fieldSize (rowAt rows i) + sizeFrom rows (suc i) n
+
+-- parts of lengths that a text and small expressions allow
+pub record Sized (p : Parts) : Type 0 where
+  pub label : p .label ≤ textMost
+  pub short : p .short .len ≤ textMost
+  pub width : p .width .size ≤ storedMost
+  pub constraint : p .constraint .size ≤ storedMost
+  pub condition : p .condition .size ≤ storedMost
+
+-- ── records ──
+
+-- the field of the line of index i: each name stands for its index among the held ones
+abbrev pub indexed : List (List ℕ) → ℕ → Form → Field ℕ
+indexed names i x = record {
+  label = x .label;
+  short = x .short;
+  width = renameWidth (lookUp names i) (x .width);
+  constraint = Option·map (renameTree (lookUp names (i + 1))) (x .constraint);
+  condition = Option·map (renameTree (lookUp names i)) (x .condition);
+}
+
+-- the records of lines, the first of which has the index i
+unfoldable pub storedFrom : List (List ℕ) → ℕ → List Form → List ℕ
+storedFrom names i [] = []
+storedFrom names i (x ∷ l) = storedField (indexed names i x) ++ storedFrom names (suc i) l
+
+-- the table with a name and W
+unfoldable pub tableOf : List (List ℕ) → List ℕ → ℕ → List Form → List ℕ
+tableOf names name w forms =
+    recordOf 1 (le2 w ++ (le2 (length forms) ++ counted name)) ++ (storedFrom names 0 forms ++ recordOf 5 [])
+
+-- ── lines that can be written ──
+
+-- the parts of a line whose expressions are small
+abbrev pub Small : List ℕ → Form → Parts → Type 0
+Small line x p = PartsAre line x p × (all isSmall (trees x) ≡ true)
+
+-- the line has a form
+abbrev pub IsSmall : List ℕ → Parts → Type 0
+IsSmall line p = (x : Form) × Small line x p
+
+-- w of each form of the line is written
+abbrev pub WritesEach : List ℕ → Parts → List ℕ → ℕ → (Form → List ℕ) → List ℕ → ℕ → Type 0
+WritesEach line p before at w after next = (x : Form) → Small line x p → Writes before at (w x) after next
+
+-- ── all lines ──
+
+-- the same for a line of a text
+abbrev pub LineSmall : List ℕ → Parts → Type 0
+LineSmall text p = (x : Form) × LineOf text x p × (all isSmall (trees x) ≡ true)
+
+-- each form is that of a line, and its expressions are small
+pub record AllSmall (text : List ℕ) (rows : List Parts) (forms : List Form) : Type 0 where
+  pub lines : RowsFor text forms rows
+  pub small : (i : ℕ) (x : Form) → getElem? forms i ≡ some x → all isSmall (trees x) ≡ true

@@ -1,0 +1,56 @@
+// The first field line that repeats the label or short name of an earlier one.
+use crate::parts::Parts;
+use names::repeats::same_name;
+use names::words::same_words;
+ghost use mathlib.Core.Path.{_≡_};
+ghost use Prim.Native.Nat.{_+_, _≤_, _<_};
+ghost use lib.ListN.{length};
+ghost use Rattle.base.specs.Lists.{same};
+ghost use Rattle.names.specs.Repeats.{firstRepeat};
+ghost use Rattle.texts.specs.LinePlaces.{RowsFit};
+ghost use Rattle.texts.specs.LineTests.{labelIn, clashAt};
+
+fn same_labels(text: &[u8], p: Parts, q: Parts) -> bool
+    requires { ⌜ (p .line .at + p .label ≤ length (now text)) × (q .line .at + q .label ≤ length (now text)) ⌝ }
+    ensures { λ r. ⌜ r ≡ same (labelIn (now (text .entry)) p) (labelIn (now (text .entry)) q) ⌝ }
+{
+    let first = p.line;
+    let second = q.line;
+    let a = first.at;
+    let b = a + p.label;
+    let c = second.at;
+    let d = c + q.label;
+    same_words(&text[a..b], &text[c..d])
+}
+
+// The line j and the earlier line i have one label or one short name.
+fn clash(text: &[u8], rows: [Parts; 64], names: &[[u8; 8]; 64], i: usize, j: usize) -> bool
+    requires { ⌜ (i < j) × (j < 64) × RowsFit (length (now text)) rows (j + 1) ⌝ }
+    ensures { λ r. ⌜ r ≡ clashAt (now (text .entry)) rows (now (names .entry)) i j ⌝ }
+{
+    if same_labels(text, rows[j], rows[i]) {
+        return true;
+    }
+    same_name(names[j], names[i])
+}
+
+// The first of n lines that clashes with an earlier one, else n.
+pub(crate) fn first_clash(text: &[u8], rows: [Parts; 64], names: &[[u8; 8]; 64], n: usize) -> usize
+    requires { ⌜ (n ≤ 64) × RowsFit (length (now text)) rows n ⌝ }
+    ensures { λ r. ⌜ r ≡ firstRepeat (clashAt (now (text .entry)) rows (now (names .entry))) n ⌝ }
+{
+    let mut j = 0;
+    'later: loop {
+        if j >= n {
+            break 'later n;
+        }
+        let mut i = 0;
+        while i < j {
+            if clash(text, rows, names, i, j) {
+                break 'later j;
+            }
+            i += 1;
+        }
+        j += 1;
+    }
+}

@@ -1,0 +1,99 @@
+// The cells of the rows, held against the field lines.
+use crate::frames::line_end;
+use crate::frames::part_end;
+use crate::parts::Parts;
+use crate::rows::spaces_end;
+use crate::rows::trimmed;
+use crate::walks::skip_lines;
+use names::words::same_words;
+ghost use mathlib.Core.Path.{_≡_};
+ghost use Prim.Native.Nat.{_≤_};
+ghost use lib.ListN.{length};
+ghost use Rattle.rules.specs.Limits.{textMost};
+ghost use Rattle.texts.specs.LinePlaces.{Fits};
+ghost use Rattle.texts.specs.Mismatches.{isNameIn, isPlaceIn, LineFits, ShowsIs, endIndex, InText, MismatchIs};
+
+fn is_name_in(name: &[u8], line: &[u8], p: Parts) -> bool
+    requires { ⌜ Fits (length (now line)) p ⌝ }
+    ensures { λ r. ⌜ r ≡ isNameIn (now (name .entry)) (now (line .entry)) p ⌝ }
+{
+    let label = p.label;
+    if same_words(name, &line[0..label]) {
+        return true;
+    }
+    let at = p.short.at;
+    let end = at + p.short.len;
+    same_words(name, &line[at..end])
+}
+
+fn is_place_in(long: bool, bits: usize, p: Parts) -> bool
+    ensures { λ r. ⌜ r ≡ isPlaceIn long bits p ⌝ }
+{
+    if p.kind != 2 {
+        return long;
+    }
+    if long {
+        return false;
+    }
+    bits == p.bits
+}
+
+// A cell of these characters shows the field of a line of the text.
+fn shows(chars: &[u8], long: bool, text: &[u8], p: Parts) -> bool
+    requires { ⌜ (length (now chars) ≤ textMost) × LineFits (length (now text)) p ⌝ }
+    ensures { λ r. ⌜ ShowsIs (now (chars .entry)) long (now (text .entry)) p r ⌝ }
+{
+    let a = spaces_end(chars);
+    let n = trimmed(&chars[a..]);
+    let at = p.line.at;
+    let end = at + p.line.len;
+    if !is_name_in(&chars[a..a + n], &text[at..end], p) {
+        return false;
+    }
+    is_place_in(long, (chars.len() + 1) / 2, p)
+}
+
+// The answer where no cell is left.
+fn end_index(i: usize, n: usize) -> usize
+    requires { ⌜ n ≤ 64 ⌝ }
+    ensures { λ r. ⌜ r ≡ endIndex i n ⌝ }
+{
+    if i == n {
+        return n + 1;
+    }
+    i
+}
+
+// The first index at which a cell and a line of the first `n` disagree or one of them is missing, or `n + 1`.
+pub(crate) fn first_mismatch(text: &[u8], from: usize, rows: [Parts; 64], n: usize) -> usize
+    requires { ⌜ InText (length (now text)) from rows n ⌝ }
+    ensures { λ r. ⌜ MismatchIs (now (text .entry)) from rows n r ⌝ }
+{
+    let mut at = from;
+    let mut i = 0;
+    'rows: loop {
+        let e = line_end(text, at);
+        if e <= at {
+            break 'rows end_index(i, n);
+        }
+        let line = &text[at..e];
+        let bar = line[0];
+        let mut a = 1;
+        while a < line.len() {
+            let b = part_end(line, a, bar);
+            if i >= n {
+                break 'rows i;
+            }
+            if !shows(&line[a..b], bar == b':', text, rows[i]) {
+                break 'rows i;
+            }
+            i += 1;
+            a = b + 1;
+        }
+        let s = skip_lines(&text[at..], 2);
+        if s == 0 {
+            break 'rows i;
+        }
+        at += s;
+    }
+}

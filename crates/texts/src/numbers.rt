@@ -1,0 +1,30 @@
+// The value of a number word.
+ghost use mathlib.Core.Bool.{true};
+ghost use mathlib.Core.Path.{_≡_};
+ghost use Prim.Native.Nat.{_≤_};
+ghost use Rattle.rules.specs.Limits.{numberMost};
+ghost use Rattle.rules.specs.Reader.{isNumberWord, value};
+
+// The value of a word of digits that is a number; of another word, some number.
+pub(crate) fn word_value(w: &[u8]) -> usize
+    ensures most { λ r. ⌜ r ≤ numberMost ⌝ }
+    ensures same { λ r. ⌜ (isNumberWord (now (w .entry)) ≡ true → r ≡ value (now (w .entry))) ⌝ }
+{
+    let mut v: usize = 0;
+    let mut i = 0;
+    while i < w.len() {
+        let c = w[i];
+        if c < b'0' {
+            return 0;
+        }
+        if c > b'9' {
+            return 0;
+        }
+        v = v * 10 + (c as usize - 48);
+        if v > 4294967295 {
+            return 0;
+        }
+        i += 1;
+    }
+    v
+}
