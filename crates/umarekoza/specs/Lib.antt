@@ -1,0 +1,2 @@
+-- Exports      what an export's reply says
+pub mod Exports

@@ -1,0 +1,107 @@
+// The library's entries for programs in C and other languages.
+mod replies;
+
+use crate::replies::field_reply;
+use crate::replies::listing_reply;
+use crate::replies::packet_reply;
+use crate::replies::table_reply;
+use crate::replies::text_reply;
+use packets::listing::list_packet;
+use packets::lookups::field_index;
+use packets::lookups::label_place;
+use packets::readings::field_place;
+use packets::readings::read_packet;
+use packets::tables::check_table;
+use texts::reading::read_text;
+ghost use Rattle.rules.specs.Promises.{
+  leaves,
+  TableGives,
+  PacketGives,
+  PlacesPart,
+  NameGives,
+  PlacesLabel,
+  ListingGives,
+  Answers,
+};
+ghost use Rattle.umarekoza.specs.Exports.{shown};
+
+// Number 0 is acceptance, with the length that is answered; else document 01's number and place.
+#[repr(C)]
+pub struct Reply {
+    pub number: u32,
+    pub place: u32,
+    pub length: u64,
+}
+
+// Where a part of a lent buffer lies.
+#[repr(C)]
+pub struct Span {
+    pub offset: u64,
+    pub length: u64,
+}
+
+// A text is read, and its table written into an output: the length is the table's.
+#[no_mangle]
+pub extern "C" fn umarekoza_write_table(text: &[u8], out: &mut [u8]) -> Reply
+    ensures { λ r. ⌜ Answers (now (text .entry)) (now (out .entry)) (leaves (shown r) (now (out .exit))) ⌝ }
+{
+    text_reply(read_text(text, out))
+}
+
+// A table is checked: the length is the table's.
+#[no_mangle]
+pub extern "C" fn umarekoza_check_table(table: &[u8]) -> Reply
+    ensures { λ r. ⌜ TableGives (now (table .entry)) (shown r) ⌝ }
+{
+    table_reply(check_table(table))
+}
+
+// A packet is read by a table, into a run of four numbers a field: the length is the bit total.
+#[no_mangle]
+pub extern "C" fn umarekoza_read_packet(table: &[u8], packet: &[u8], run: &mut [u32]) -> Reply
+    ensures { λ r. ⌜ PacketGives (now (table .entry)) (now (packet .entry)) (now (run .entry))
+        (leaves (shown r) (now (run .exit))) ⌝ }
+{
+    packet_reply(read_packet(table, packet, run))
+}
+
+// Where the bytes of the field of an index lie in the packet.
+#[no_mangle]
+pub extern "C" fn umarekoza_field_bytes(table: &[u8], packet: &[u8], index: usize) -> Span
+    ensures { λ r. ⌜ PlacesPart (now (table .entry)) (now (packet .entry)) index (r .offset) (r .length) ⌝ }
+{
+    let part = field_place(table, packet, index);
+    Span {
+        offset: part.start as u64,
+        length: part.size as u64,
+    }
+}
+
+// A packet's listing by a table, into an output: the length is the listing's.
+#[no_mangle]
+pub extern "C" fn umarekoza_list_packet(table: &[u8], packet: &[u8], out: &mut [u8]) -> Reply
+    ensures { λ r. ⌜ ListingGives (now (table .entry)) (now (packet .entry)) (now (out .entry))
+        (leaves (shown r) (now (out .exit))) ⌝ }
+{
+    listing_reply(list_packet(table, packet, out))
+}
+
+// The first field that has the name as its label or short name: the length is its index.
+#[no_mangle]
+pub extern "C" fn umarekoza_find_field(table: &[u8], name: &[u8]) -> Reply
+    ensures { λ r. ⌜ NameGives (now (table .entry)) (now (name .entry)) (shown r) ⌝ }
+{
+    field_reply(field_index(table, name))
+}
+
+// Where the label of the field of an index lies in the table.
+#[no_mangle]
+pub extern "C" fn umarekoza_field_label(table: &[u8], index: usize) -> Span
+    ensures { λ r. ⌜ PlacesLabel (now (table .entry)) index (r .offset) (r .length) ⌝ }
+{
+    let part = label_place(table, index);
+    Span {
+        offset: part.start as u64,
+        length: part.size as u64,
+    }
+}

@@ -1,0 +1,97 @@
+// Answers as replies.
+use crate::Reply;
+use packets::answers::number_of;
+use packets::answers::place_of;
+use packets::answers::value_of;
+use rules::FieldAnswer;
+use rules::ListingAnswer;
+use rules::PacketAnswer;
+use rules::TableAnswer;
+use rules::TextAnswer;
+ghost use mathlib.Core.Path.{_≡_};
+ghost use Prim.Native.Nat.{_<_};
+ghost use Rattle.rules.specs.Answers.{accepted, refused, ofTable, ofPacket, ofText, ofField, ofListing};
+ghost use Rattle.umarekoza.specs.Exports.{shown};
+
+fn accept(n: usize) -> Reply
+    ensures { λ r. ⌜ shown r ≡ accepted n ⌝ }
+{
+    Reply {
+        number: 0,
+        place: 0,
+        length: n as u64,
+    }
+}
+
+fn refuse(number: u32, place: usize) -> Reply
+    requires { ⌜ place < 4294967296 ⌝ }
+    ensures { λ r. ⌜ shown r ≡ refused number place ⌝ }
+{
+    Reply {
+        number: number,
+        place: place as u32,
+        length: 0,
+    }
+}
+
+pub(crate) fn text_reply(answer: TextAnswer) -> Reply
+    requires { ⌜ ofText answer .place < 4294967296 ⌝ }
+    ensures { λ r. ⌜ shown r ≡ ofText answer ⌝ }
+{
+    match answer {
+        TextAnswer::Accepted(n) => accept(n),
+        TextAnswer::TooLong => refuse(1, 0),
+        TextAnswer::BadByte => refuse(2, 0),
+        TextAnswer::BadLine(line) => refuse(3, line),
+        TextAnswer::TooMany => refuse(4, 0),
+        TextAnswer::BadForm(line) => refuse(5, line),
+        TextAnswer::OverLimit(line) => refuse(6, line),
+        TextAnswer::Mismatch(line) => refuse(7, line),
+        TextAnswer::Repeated(line) => refuse(8, line),
+        TextAnswer::BadName(line) => refuse(9, line),
+        TextAnswer::BadRest(line) => refuse(10, line),
+        TextAnswer::NoRoom => refuse(11, 0),
+    }
+}
+
+pub(crate) fn table_reply(answer: TableAnswer) -> Reply
+    ensures { λ r. ⌜ shown r ≡ ofTable answer ⌝ }
+{
+    match answer {
+        TableAnswer::Good(n) => accept(n),
+        TableAnswer::NotGood => refuse(21, 0),
+    }
+}
+
+pub(crate) fn packet_reply(answer: PacketAnswer) -> Reply
+    requires { ⌜ ofPacket answer .place < 4294967296 ⌝ }
+    ensures { λ r. ⌜ shown r ≡ ofPacket answer ⌝ }
+{
+    let number = number_of(answer);
+    let place = place_of(answer);
+    let length = value_of(answer);
+    Reply {
+        number: number as u32,
+        place: place as u32,
+        length: length as u64,
+    }
+}
+
+pub(crate) fn field_reply(answer: FieldAnswer) -> Reply
+    ensures { λ r. ⌜ shown r ≡ ofField answer ⌝ }
+{
+    match answer {
+        FieldAnswer::At(i) => accept(i),
+        FieldAnswer::NotGood => refuse(21, 0),
+        FieldAnswer::Unknown => refuse(30, 0),
+    }
+}
+
+pub(crate) fn listing_reply(answer: ListingAnswer) -> Reply
+    ensures { λ r. ⌜ shown r ≡ ofListing answer ⌝ }
+{
+    match answer {
+        ListingAnswer::Written(n) => accept(n),
+        ListingAnswer::NoRoom => refuse(11, 0),
+    }
+}

@@ -1,0 +1,75 @@
+/* Umarekoza: packet diagrams as tables, and packets read by them.
+
+   Link libumarekoza.a (x86-64 Linux). Numbers, places and bytes are those of document 01.
+
+   Each function has a proved promise, which holds for all bytes and lengths: it settles the answer, and what every
+   lent buffer holds afterwards. A buffer that is not written is left as it was, and so is any byte beyond what is
+   written. Nothing is kept between calls, and no memory is allocated.
+
+   No promise covers the caller's side:
+   - each pointer is valid for its length (in bytes; for a run in numbers), and a run is aligned as uint32_t is;
+   - no buffer that is written overlaps another buffer of the same call, and nothing else writes them meanwhile;
+   - NULL with length 0 is taken as an empty buffer: nothing is read or written through it;
+   - there is stack enough: a call may need some tens of kilobytes. */
+#ifndef UMAREKOZA_H
+#define UMAREKOZA_H
+
+#include <stddef.h>
+#include <stdint.h>
+
+#ifdef __cplusplus
+extern "C" {
+#endif
+
+/* Number 0: accepted, with a length. Else refused: 01's number and place, and length 0. */
+struct umarekoza_answer {
+    uint32_t number;
+    uint32_t place;
+    uint64_t length;
+};
+
+/* A part of a lent buffer: where it starts, and its length, in bytes. */
+struct umarekoza_span {
+    uint64_t offset;
+    uint64_t length;
+};
+
+/* Reads a description text and writes its table at the start of out. Accepted: the table's length.
+   Refused: 1 to 10 for the text, at the line from 1 or at 0; 11 at 0 if the table does not fit. Then out is
+   unchanged. */
+struct umarekoza_answer umarekoza_write_table(const uint8_t *text, size_t text_len, uint8_t *out, size_t out_len);
+
+/* Checks a table. Accepted: the table's length. Refused: 21 at 0. */
+struct umarekoza_answer umarekoza_check_table(const uint8_t *table, size_t table_len);
+
+/* Reads a packet by a table, and writes four numbers a field at the start of run: 1 if it is present, its offset and
+   its width in bits, its value (0 if it is long); an absent field has four zeros. Accepted: the packet's bits.
+   Refused: 21 at 0 (the table), 22 at 0 (too long), 23 at 0 (run_len is under four numbers a field), 24 to 27 at the
+   field from 1, 28 at 0 (bits left over). Then run is unchanged. */
+struct umarekoza_answer umarekoza_read_packet(const uint8_t *table, size_t table_len, const uint8_t *packet,
+                                              size_t packet_len, uint32_t *run, size_t run_len);
+
+/* Where in the packet the bytes of a field lie, by its index from 0. 0, 0 if the table is not good, the packet is
+   refused, there is no such field, it is absent, or it is not whole bytes from a byte on. */
+struct umarekoza_span umarekoza_field_bytes(const uint8_t *table, size_t table_len, const uint8_t *packet,
+                                            size_t packet_len, size_t index);
+
+/* Writes a packet's listing at the start of out; that of a refused packet, or of a table that is not good, is the line
+   `refused N at P`. Accepted: the listing's length. Refused: 11 at 0 if it does not fit. Then out is unchanged. */
+struct umarekoza_answer umarekoza_list_packet(const uint8_t *table, size_t table_len, const uint8_t *packet,
+                                              size_t packet_len, uint8_t *out, size_t out_len);
+
+/* The first field that has the name as its label or short name. Accepted: its index from 0, as the length.
+   Refused: 21 at 0 (the table), 30 at 0 (no such field). */
+struct umarekoza_answer umarekoza_find_field(const uint8_t *table, size_t table_len, const uint8_t *name,
+                                             size_t name_len);
+
+/* Where in the table the label of a field stands, by its index from 0. 0, 0 if the table is not good or there is no
+   such field. */
+struct umarekoza_span umarekoza_field_label(const uint8_t *table, size_t table_len, size_t index);
+
+#ifdef __cplusplus
+}
+#endif
+
+#endif
