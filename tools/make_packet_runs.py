@@ -11,70 +11,14 @@ Writes crates/packet_runs/data/marked      M1 to M10 of document 01
 No answer comes from a run of the program: those of M1 to M10 are document 01's, the others the vectors'.
 A part is answered by its length and its bytes, `part LEN HEX`, where the vectors have `part START LEN`.
 """
-import struct
 import sys
 from collections import Counter
+
+from runs import BLADE, TAG, both, fixed, number, spelled, split, table, write
 
 CRATE = "crates/packet_runs/"
 SHORT = {"tables": 420, "packets": 500}  # every request of at most so many bytes is taken
 LEAST = 30  # so many of each kind of request and answer are taken, as far as there are, whatever their length
-
-ROOM = 65536  # no file of requests is longer
-
-# The stored form of document 01, 'The stored table'.
-CODES = {"+": 0x10, "-": 0x11, "*": 0x12, "==": 0x20, "<=": 0x23}
-
-
-def two(n):
-    return struct.pack("<H", n)
-
-
-def sized(s):
-    return two(len(s)) + s
-
-
-def number(n):
-    return b"\x01" + struct.pack("<I", n)
-
-
-def field(i):
-    return bytes([2, i])
-
-
-def both(op, a, b):
-    return bytes([CODES[op]]) + a + b
-
-
-def record(kind, body):
-    return two(4 + len(body)) + two(kind) + body
-
-
-def fixed(label, short, bits, constraint=b"", condition=b""):
-    return record(2, sized(label) + sized(short) + two(bits) + sized(constraint) + sized(condition))
-
-
-def measured(label, short, unit, width):
-    return record(3, sized(label) + sized(short) + two(unit) + sized(width) + sized(b"") + sized(b""))
-
-
-def table(name, w, *fields):
-    return record(1, two(w) + two(len(fields)) + sized(name)) + b"".join(fields) + record(5, b"")
-
-
-BLADE = table(
-    b"Blade Report",
-    16,
-    fixed(b"Version", b"V", 2, both("==", field(0), number(1))),
-    fixed(b"On Loan", b"L", 1),
-    fixed(b"Cells", b"N", 5, both("<=", field(2), number(20))),
-    fixed(b"Blade", b"", 8),
-    fixed(b"Borrower", b"Bor", 16, b"", both("==", field(1), number(1))),
-    measured(b"Readings", b"", 8, field(2)),
-    fixed(b"Sum", b"", 16),
-)
-TAG = table(b"Tag", 8, fixed(b"Kind", b"K", 8, both("==", field(0), number(7))))
-TAG_OF_01 = """0D 00 01 00 08 00 01 00 03 00 54 61 67 1B 00 02 00 04 00 4B 69 6E 64 01 00 4B 08 00 08 00
-    20 02 00 01 07 00 00 00 00 00 04 00 05 00"""
 
 # Document 01's packets, the answer to `read` and the listing of each.
 M1 = "62 07 01 2C AA BB 00 09"
@@ -120,16 +64,11 @@ VALUES = [
 ]
 
 
-def spelled(s):
-    return s.hex() or "-"
-
-
 def shown(part):
     return "part %d %s" % (len(part), spelled(part))
 
 
 def marked():
-    assert TAG == bytes.fromhex(TAG_OF_01)
     blade = BLADE.hex()
     yield "table " + blade, "ok"
     for packet, answer, listing in READINGS:
@@ -195,34 +134,14 @@ def chosen(vectors, name):
         yield case
 
 
-# The cases in order, in files that fit the room.
-def split(name, cases):
-    files, size = [[]], 0
-    for case in cases:
-        size += len(case[0]) + 1
-        if size > ROOM:
-            files.append([])
-            size = len(case[0]) + 1
-        files[-1].append(case)
-    return {"%s%d" % (name, i): file for i, file in enumerate(files, 1)}
-
-
 def main(vectors):
-    stdout = []
     counts = Counter()
     files = {"marked": list(marked())}
     for name in SHORT:
         taken = list(chosen(vectors, name))
         files.update(split(name, [(r, due_to(r, a)) for r, a in taken]))
         counts.update(group(r, a) for r, a in taken)
-    for name, cases in files.items():
-        with open(CRATE + "data/" + name, "w") as out:
-            out.writelines(request + "\n" for request, _ in cases)
-        stdout += [answer + "\n" for _, answer in cases]
-        print(name, len(cases), "requests,", sum(len(r) + 1 for r, _ in cases), "bytes")
-    with open(CRATE + "stdout", "w") as out:
-        out.writelines(stdout)
-    print("stdout", sum(map(len, stdout)), "bytes")
+    write(CRATE, files)
     for kind, n in sorted(counts.items()):
         print(*kind, n)
 

@@ -1,5 +1,8 @@
 // The library's answers as lines.
-use libc::STDOUT_FILENO;
+use crate::printing::show;
+use crate::printing::show_bytes;
+use crate::printing::show_number;
+use crate::printing::show_refusal;
 use rules::Fault;
 use rules::ListingAnswer;
 use rules::PacketAnswer;
@@ -15,23 +18,6 @@ fn wide(x: u32) -> u64 {
     x as u64
 }
 
-fn show(word: &[u8]) {
-    io::write_all(STDOUT_FILENO, word);
-}
-
-// A word and a number.
-fn show_number(word: &[u8], number: u64) {
-    show(word);
-    io::print_decimal(STDOUT_FILENO, number);
-}
-
-// `refused N P`.
-fn show_refusal(number: u64, place: usize) {
-    show_number(b"refused ", number);
-    show_number(b" ", place as u64);
-    show(b"\n");
-}
-
 fn show_fault(fault: Fault, place: usize) {
     match fault {
         Fault::BitsMissing => show_refusal(24, place),
@@ -39,22 +25,6 @@ fn show_fault(fault: Fault, place: usize) {
         Fault::AbsentRead => show_refusal(26, place),
         Fault::OutOfRange => show_refusal(27, place),
     }
-}
-
-// The first n bytes in hex, `-` for none.
-pub(crate) fn show_bytes(s: &[u8], n: usize) {
-    if n == 0 {
-        show(b"-");
-    }
-    let mut i = 0;
-    while i < n {
-        if s.len() <= i {
-            break;
-        }
-        io::print_hex(STDOUT_FILENO, wide_byte(s[i]), 2);
-        i += 1;
-    }
-    show(b"\n");
 }
 
 pub(crate) fn show_table(answer: TableAnswer) {

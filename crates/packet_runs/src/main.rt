@@ -1,21 +1,22 @@
 // Runs the library on the requests of its data folder, one to a line, and prints an answer line for each.
 mod answers;
-mod requests;
-mod words;
+mod kinds;
+mod printing;
 
-use requests::answer_line;
-use words::find;
+use kinds::answer_line;
+use requests::words::find;
 
 // The requests in order; each ends in LF.
 fn answer_all(requests: &[u8]) {
     let mut at = 0;
     while at < requests.len() {
-        let end = find(requests, at, b'\n');
-        answer_line(&requests[at..end]);
-        if end == requests.len() {
+        let rest = &requests[at..];
+        let end = find(rest, b'\n');
+        answer_line(&rest[..end]);
+        if end == rest.len() {
             return;
         }
-        at = end + 1;
+        at += end + 1;
     }
 }
 

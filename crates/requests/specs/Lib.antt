@@ -1,0 +1,2 @@
+-- Words  the words of a request line
+pub mod Words

@@ -1,0 +1,2 @@
+// The words of a request line.
+pub mod words;

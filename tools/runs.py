@@ -1,0 +1,93 @@
+"""What make_packet_runs.py and make_text_runs.py share: document 01's stored form, and how requests are written."""
+import struct
+
+ROOM = 65536  # no file of requests is longer
+
+# The stored form of document 01, 'The stored table'.
+CODES = {"+": 0x10, "-": 0x11, "*": 0x12, "==": 0x20, "<=": 0x23, ">": 0x24, ">=": 0x25, "||": 0x31}
+
+
+def two(n):
+    return struct.pack("<H", n)
+
+
+def sized(s):
+    return two(len(s)) + s
+
+
+def number(n):
+    return b"\x01" + struct.pack("<I", n)
+
+
+def field(i):
+    return bytes([2, i])
+
+
+def both(op, a, b):
+    return bytes([CODES[op]]) + a + b
+
+
+def record(kind, body):
+    return two(4 + len(body)) + two(kind) + body
+
+
+def fixed(label, short, bits, constraint=b"", condition=b""):
+    return record(2, sized(label) + sized(short) + two(bits) + sized(constraint) + sized(condition))
+
+
+def measured(label, short, unit, width, condition=b""):
+    return record(3, sized(label) + sized(short) + two(unit) + sized(width) + sized(b"") + sized(condition))
+
+
+def rest(label, short):
+    return record(4, sized(label) + sized(short) + sized(b"") + sized(b""))
+
+
+def table(name, w, *fields):
+    return record(1, two(w) + two(len(fields)) + sized(name)) + b"".join(fields) + record(5, b"")
+
+
+BLADE = table(
+    b"Blade Report",
+    16,
+    fixed(b"Version", b"V", 2, both("==", field(0), number(1))),
+    fixed(b"On Loan", b"L", 1),
+    fixed(b"Cells", b"N", 5, both("<=", field(2), number(20))),
+    fixed(b"Blade", b"", 8),
+    fixed(b"Borrower", b"Bor", 16, b"", both("==", field(1), number(1))),
+    measured(b"Readings", b"", 8, field(2)),
+    fixed(b"Sum", b"", 16),
+)
+TAG = table(b"Tag", 8, fixed(b"Kind", b"K", 8, both("==", field(0), number(7))))
+TAG_OF_01 = """0D 00 01 00 08 00 01 00 03 00 54 61 67 1B 00 02 00 04 00 4B 69 6E 64 01 00 4B 08 00 08 00
+    20 02 00 01 07 00 00 00 00 00 04 00 05 00"""
+assert TAG == bytes.fromhex(TAG_OF_01)
+
+
+def spelled(s):
+    return s.hex() or "-"
+
+
+# The cases in order, in files that fit the room.
+def split(name, cases):
+    files, size = [[]], 0
+    for case in cases:
+        size += len(case[0]) + 1
+        if size > ROOM:
+            files.append([])
+            size = len(case[0]) + 1
+        files[-1].append(case)
+    return {"%s%d" % (name, i): file for i, file in enumerate(files, 1)}
+
+
+# The requests of each file, and the answers due to all in this order.
+def write(crate, files):
+    stdout = []
+    for name, cases in files.items():
+        with open(crate + "data/" + name, "w") as out:
+            out.writelines(request + "\n" for request, _ in cases)
+        stdout += [answer + "\n" for _, answer in cases]
+        print(name, len(cases), "requests,", sum(len(r) + 1 for r, _ in cases), "bytes")
+    with open(crate + "stdout", "w") as out:
+        out.writelines(stdout)
+    print("stdout", sum(map(len, stdout)), "bytes")
