@@ -1,0 +1,141 @@
+//! The frame of a text: the opening, the rulers, the rows and the lines that follow [01, The lines of a text].
+//! What is wrong here is a 3.
+
+use crate::lines::Lines;
+use crate::names::is_label;
+use crate::refusals::Refusal;
+use crate::rules::ROW_BITS;
+
+pub const FORMATTED: &[u8] = b" is formatted as follows:";
+pub const WHERE: &[u8] = b"where:";
+
+/// A cell: its text without outer spaces, and its bits, none in a long row.
+pub struct Cell<'a> {
+    pub text: &'a [u8],
+    pub bits: Option<u32>,
+}
+
+pub struct Frame<'a> {
+    pub name: &'a [u8],
+    pub row_bits: u32,
+    pub cells: Vec<Cell<'a>>,
+    /// The number of the first field line, from 1.
+    pub first_line: u32,
+    pub field_lines: Vec<&'a [u8]>,
+}
+
+pub fn frame(text: &[u8]) -> Result<Frame<'_>, Refusal> {
+    let mut lines = Lines::new(text);
+    let Some(name) = opening_name(lines.required()?) else { return lines.wrong() };
+    lines.exactly(b"")?;
+    let tens = lines.required()?;
+    let Some(row_bits) = ROW_BITS.into_iter().find(|bits| tens_ruler(*bits) == tens) else {
+        return lines.wrong();
+    };
+    lines.exactly(&units_ruler(row_bits))?;
+    let border = border(row_bits);
+    lines.exactly(&border)?;
+    let cells = rows(&mut lines, row_bits, &border)?;
+    lines.exactly(WHERE)?;
+    lines.exactly(b"")?;
+    let first_line = lines.taken + 1;
+    let field_lines = remaining(&mut lines)?;
+    Ok(Frame { name, row_bits, cells, first_line, field_lines })
+}
+
+/// NAME of the opening line.
+fn opening_name(line: &[u8]) -> Option<&[u8]> {
+    let named = line.strip_prefix(b"A ").or_else(|| line.strip_prefix(b"An "))?;
+    named.strip_suffix(FORMATTED).filter(|name| is_label(name))
+}
+
+/// A space, then at column 2i+1 the digit i/10 for each i below W divisible by 10.
+pub fn tens_ruler(row_bits: u32) -> Vec<u8> {
+    let mut ruler = Vec::new();
+    for tens in 0..row_bits.div_ceil(10) {
+        ruler.resize(20 * tens as usize + 1, b' ');
+        ruler.push(b'0' + tens as u8);
+    }
+    ruler
+}
+
+/// For each i below W a space and the digit i mod 10.
+pub fn units_ruler(row_bits: u32) -> Vec<u8> {
+    (0..row_bits).flat_map(|bit| [b' ', b'0' + (bit % 10) as u8]).collect()
+}
+
+pub fn border(row_bits: u32) -> Vec<u8> {
+    let mut border = vec![b'+'];
+    border.extend(b"-+".repeat(row_bits as usize));
+    border
+}
+
+/// The cells of all rows, up to the empty line that ends them.
+fn rows<'a>(lines: &mut Lines<'a>, row_bits: u32, border: &[u8]) -> Result<Vec<Cell<'a>>, Refusal> {
+    let mut cells = Vec::new();
+    loop {
+        let row = lines.required()?;
+        if row.is_empty() && !cells.is_empty() {
+            return Ok(cells);
+        }
+        if row_cells(row, row_bits, &mut cells).is_none() {
+            return lines.wrong();
+        }
+        lines.exactly(border)?;
+    }
+}
+
+/// Adds the cells of a row.
+fn row_cells<'a>(row: &'a [u8], row_bits: u32, cells: &mut Vec<Cell<'a>>) -> Option<()> {
+    if row.len() != 2 * row_bits as usize + 1 {
+        return None;
+    }
+    let inner = &row[1..row.len() - 1];
+    match (row[0], row[row.len() - 1]) {
+        (b':', b':') => cells.push(Cell { text: cell_text(inner)?, bits: None }),
+        (b'|', b'|') => {
+            for part in inner.split(|byte| *byte == b'|') {
+                // Bars at even columns have an odd number of columns between them.
+                if part.len() % 2 == 0 {
+                    return None;
+                }
+                cells.push(Cell { text: cell_text(part)?, bits: Some(part.len() as u32 / 2 + 1) });
+            }
+        }
+        _ => return None,
+    }
+    Some(())
+}
+
+/// The text of a cell without outer spaces, if it is a label.
+fn cell_text(cell: &[u8]) -> Option<&[u8]> {
+    let text = cell.trim_ascii();
+    is_label(text).then_some(text)
+}
+
+/// One or more field lines, to the end of the text.
+fn remaining<'a>(lines: &mut Lines<'a>) -> Result<Vec<&'a [u8]>, Refusal> {
+    let mut field_lines = vec![lines.required()?];
+    while let Some(line) = lines.next() {
+        field_lines.push(line);
+    }
+    if lines.rest.is_empty() {
+        Ok(field_lines)
+    } else {
+        lines.ends_early()
+    }
+}
+
+#[cfg(test)]
+mod tests {
+    use super::*;
+
+    #[test]
+    fn rulers() {
+        assert_eq!(tens_ruler(8), b" 0");
+        assert_eq!(tens_ruler(16), b" 0                   1");
+        assert_eq!(tens_ruler(32).len(), 62);
+        assert_eq!(units_ruler(8), b" 0 1 2 3 4 5 6 7");
+        assert_eq!(border(8), b"+-+-+-+-+-+-+-+-+");
+    }
+}

@@ -1,0 +1,64 @@
+//! Random rows: which fields a description has, in order.
+
+use super::Rng;
+use crate::rules::ROW_BITS;
+
+#[derive(Clone, Copy, PartialEq, Eq)]
+pub enum Slot {
+    Fixed(u32),
+    Measured,
+    Rest,
+}
+
+pub struct Layout {
+    pub row_bits: u32,
+    pub slots: Vec<Slot>,
+}
+
+/// A few rows.
+pub fn layout(rng: &mut Rng) -> Layout {
+    let row_bits = rng.pick(ROW_BITS);
+    let mut slots = Vec::new();
+    for _ in 0..rng.between(1, 6) {
+        add_row(rng, row_bits, &mut slots, 16);
+    }
+    Layout { row_bits, slots }
+}
+
+/// As many rows as give exactly `count` fields.
+pub fn full_layout(rng: &mut Rng, count: usize) -> Layout {
+    let row_bits = rng.pick(ROW_BITS);
+    let mut slots = Vec::new();
+    while slots.len() < count {
+        let most = (count - slots.len()).min(12);
+        add_row(rng, row_bits, &mut slots, most);
+    }
+    Layout { row_bits, slots }
+}
+
+/// Adds a row of at most `most` fields; after the rest field bit rows only.
+fn add_row(rng: &mut Rng, row_bits: u32, slots: &mut Vec<Slot>, most: usize) {
+    if !slots.contains(&Slot::Rest) && rng.one_in(4) {
+        let slot = if rng.one_in(4) { Slot::Rest } else { Slot::Measured };
+        return slots.push(slot);
+    }
+    let mut left = row_bits;
+    for place in 1.. {
+        let bits = if place == most || rng.one_in(3) { left } else { part(rng, left) };
+        slots.push(Slot::Fixed(bits));
+        left -= bits;
+        if left == 0 {
+            return;
+        }
+    }
+}
+
+/// Some of the bits left in a row, at least 1.
+fn part(rng: &mut Rng, left: u32) -> u32 {
+    let some = match rng.below(3) {
+        0 => left / 2,
+        1 => rng.between(1, 4) as u32,
+        _ => rng.between(1, left as usize) as u32,
+    };
+    some.clamp(1, left)
+}

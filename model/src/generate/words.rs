@@ -1,0 +1,121 @@
+//! Random names: labels of all forms, and short names.
+
+use super::layouts::{Layout, Slot};
+use super::Rng;
+use crate::names::{is_label, is_short_name};
+
+const WORDS: [&[u8]; 18] = [
+    b"Version",
+    b"Length",
+    b"On",
+    b"Loan",
+    b"Sum",
+    b"bits",
+    b"byte",
+    b"variable",
+    b"present",
+    b"only",
+    b"when",
+    b"where",
+    b"is formatted as follows",
+    b"A",
+    b"An",
+    b"7",
+    b"Next-Hop",
+    b"x",
+];
+const TRIES: usize = 400;
+
+pub struct Names {
+    pub name: Vec<u8>,
+    pub labels: Vec<Vec<u8>>,
+    pub shorts: Vec<Option<Vec<u8>>>,
+}
+
+impl Names {
+    /// Names for a layout, no two labels and no two short names alike; with `shown`, the label or the short name
+    /// of a field fits in its cell.
+    pub fn random(rng: &mut Rng, layout: &Layout, shown: bool) -> Names {
+        let mut names = Names { name: label(rng, 40), labels: Vec::new(), shorts: Vec::new() };
+        for slot in &layout.slots {
+            let bits = match slot {
+                Slot::Fixed(bits) => *bits,
+                _ => layout.row_bits,
+            };
+            let room = if shown { 2 * bits as usize - 1 } else { 40 };
+            names.add(rng, room);
+        }
+        names
+    }
+
+    /// Adds a new label and a new short name or none, one of which fits in `room`.
+    fn add(&mut self, rng: &mut Rng, room: usize) {
+        let mut chosen = (label(rng, room), None);
+        for _ in 0..TRIES {
+            let by_label = rng.one_in(2);
+            let label = label(rng, if by_label { room } else { 40 });
+            let wants_short = !by_label || rng.one_in(2);
+            let longest = if by_label || room > 8 { 8 } else { room };
+            let short = wants_short.then(|| short_name(rng, longest));
+            chosen = (label, short);
+            if self.is_new(&chosen.0, &chosen.1) {
+                break;
+            }
+        }
+        self.labels.push(chosen.0);
+        self.shorts.push(chosen.1);
+    }
+
+    fn is_new(&self, label: &Vec<u8>, short: &Option<Vec<u8>>) -> bool {
+        !self.labels.contains(label) && (short.is_none() || !self.shorts.contains(short))
+    }
+}
+
+/// A label of at most `most` bytes, 40 at most.
+fn label(rng: &mut Rng, most: usize) -> Vec<u8> {
+    let most = most.min(40);
+    loop {
+        let length = if rng.one_in(15) { most } else { rng.between(1, most.min(14)) };
+        let label = if rng.one_in(2) { letters(rng, length) } else { words(rng, most) };
+        if is_label(&label) && label.len() <= most {
+            return label;
+        }
+    }
+}
+
+/// A short name of at most `most` bytes.
+fn short_name(rng: &mut Rng, most: usize) -> Vec<u8> {
+    loop {
+        let length = if rng.one_in(2) { rng.between(1, most.min(2)) } else { rng.between(1, most) };
+        let name: Vec<u8> = (0..length).map(|_| letter_or_digit(rng)).collect();
+        if is_short_name(&name) {
+            return name;
+        }
+    }
+}
+
+fn words(rng: &mut Rng, most: usize) -> Vec<u8> {
+    let mut text = rng.pick(WORDS).to_vec();
+    while text.len() < most && rng.one_in(2) {
+        text.push(rng.pick([b' ', b' ', b'-']));
+        text.extend_from_slice(rng.pick(WORDS));
+    }
+    if text.len() > most || rng.one_in(4) {
+        text.truncate(rng.between(1, most));
+    }
+    text
+}
+
+fn letters(rng: &mut Rng, length: usize) -> Vec<u8> {
+    let inner = |rng: &mut Rng| if rng.one_in(8) { rng.pick([b' ', b'-']) } else { letter_or_digit(rng) };
+    (0..length).map(|_| inner(rng)).collect()
+}
+
+fn letter_or_digit(rng: &mut Rng) -> u8 {
+    let letter = rng.below(26) as u8;
+    match rng.below(5) {
+        0 => b'0' + rng.below(10) as u8,
+        1 | 2 => b'A' + letter,
+        _ => b'a' + letter,
+    }
+}

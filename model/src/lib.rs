@@ -1,0 +1,34 @@
+//! A model of document 01, written from the document alone: it reads description texts, writes and checks field
+//! tables, reads packets by a table and lists them. Every function answers for every input.
+//!
+//! In reading order: `names`, `trees`, `expressions`, `descriptions`, `rules` say what a description is;
+//! `lines`, `frames`, `field_lines`, `matching`, `texts` read a text; `stored`, `tables` hold the stored form;
+//! `evaluation`, `reading`, `listing`, `lookups` use a table. `generate` makes random cases, and `protocol`
+//! answers the requests of the oracle.
+
+mod descriptions;
+mod evaluation;
+mod expressions;
+mod field_lines;
+mod frames;
+pub mod generate;
+mod lines;
+mod listing;
+mod lookups;
+mod matching;
+mod names;
+pub mod protocol;
+mod reading;
+mod refusals;
+mod rules;
+mod stored;
+mod tables;
+mod texts;
+mod trees;
+
+pub use listing::list_packet;
+pub use lookups::{field_label, find_field};
+pub use reading::{field_bytes, read_packet, Reading};
+pub use refusals::Refusal;
+pub use tables::check_table;
+pub use texts::write_table;

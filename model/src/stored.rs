@@ -1,0 +1,182 @@
+//! The stored form of a description, written and taken apart [01, The stored table].
+
+use crate::descriptions::{Description, Field, Width};
+use crate::rules::{LONGEST_TREE, MOST_DEPTH};
+use crate::trees::{Node, Op, Tree, FIELD_CODE, NOT_CODE, NUMBER_CODE};
+
+const HEAD: usize = 1;
+const FIXED: usize = 2;
+const MEASURED: usize = 3;
+const REST: usize = 4;
+const END: usize = 5;
+
+/// The table of a description.
+pub fn encode(description: &Description) -> Vec<u8> {
+    let mut table = Vec::with_capacity(64 * (description.fields.len() + 1));
+    record(&mut table, HEAD, |body| {
+        put_number(body, description.row_bits as usize);
+        put_number(body, description.fields.len());
+        put_part(body, description.name);
+    });
+    for field in &description.fields {
+        put_field(&mut table, field);
+    }
+    record(&mut table, END, |_| {});
+    table
+}
+
+/// Adds a record: its length, its kind and the body that `put` adds.
+fn record(table: &mut Vec<u8>, kind: usize, put: impl FnOnce(&mut Vec<u8>)) {
+    let start = table.len();
+    put_number(table, 0);
+    put_number(table, kind);
+    put(table);
+    let length = (table.len() - start) as u16;
+    table[start..start + 2].copy_from_slice(&length.to_le_bytes());
+}
+
+fn put_field(table: &mut Vec<u8>, field: &Field<usize>) {
+    let kind = match field.width {
+        Width::Fixed(_) => FIXED,
+        Width::Measured { .. } => MEASURED,
+        Width::Rest => REST,
+    };
+    record(table, kind, |body| {
+        put_part(body, field.label);
+        put_part(body, field.short.unwrap_or(b""));
+        match &field.width {
+            Width::Fixed(bits) => put_number(body, *bits as usize),
+            Width::Measured { unit, tree } => {
+                put_number(body, *unit as usize);
+                put_tree(body, Some(tree));
+            }
+            Width::Rest => {}
+        }
+        put_tree(body, field.constraint.as_ref());
+        put_tree(body, field.condition.as_ref());
+    });
+}
+
+fn put_number(bytes: &mut Vec<u8>, number: usize) {
+    bytes.extend_from_slice(&(number as u16).to_le_bytes());
+}
+
+fn put_part(bytes: &mut Vec<u8>, part: &[u8]) {
+    put_number(bytes, part.len());
+    bytes.extend_from_slice(part);
+}
+
+fn put_tree(bytes: &mut Vec<u8>, tree: Option<&Tree<usize>>) {
+    let Some(tree) = tree else { return put_number(bytes, 0) };
+    put_number(bytes, tree.stored_length());
+    put_node(bytes, tree, tree.root());
+}
+
+/// Adds the stored form of a subtree, operator first.
+fn put_node(bytes: &mut Vec<u8>, tree: &Tree<usize>, node: usize) {
+    match tree.nodes[node] {
+        Node::Number(number) => {
+            bytes.push(NUMBER_CODE);
+            bytes.extend_from_slice(&number.to_le_bytes());
+        }
+        Node::Name(index) => bytes.extend_from_slice(&[FIELD_CODE, index as u8]),
+        Node::Not(operand) => {
+            bytes.push(NOT_CODE);
+            put_node(bytes, tree, operand);
+        }
+        Node::Two(op, left, right) => {
+            bytes.push(op.code());
+            put_node(bytes, tree, left);
+            put_node(bytes, tree, right);
+        }
+    }
+}
+
+/// The description whose records a table holds, if it is such a list of records; whether the description is
+/// within the limits is not asked here.
+pub fn decode(table: &[u8]) -> Option<Description<'_>> {
+    let mut rest = table;
+    let (kind, mut head) = take_record(&mut rest)?;
+    let row_bits = take_number(&mut head)? as u32;
+    let count = take_number(&mut head)?;
+    let name = take_part(&mut head)?;
+    if kind != HEAD || !head.is_empty() {
+        return None;
+    }
+    let mut fields = Vec::new();
+    for _ in 0..count {
+        fields.push(take_field(&mut rest)?);
+    }
+    let (kind, body) = take_record(&mut rest)?;
+    let ended = kind == END && body.is_empty() && rest.is_empty();
+    ended.then_some(Description { name, row_bits, fields })
+}
+
+/// The kind and body of the next record.
+fn take_record<'a>(rest: &mut &'a [u8]) -> Option<(usize, &'a [u8])> {
+    let length = take_number(rest)?;
+    let mut record = take(rest, length.checked_sub(2)?)?;
+    Some((take_number(&mut record)?, record))
+}
+
+fn take_field<'a>(rest: &mut &'a [u8]) -> Option<Field<'a, usize>> {
+    let (kind, mut body) = take_record(rest)?;
+    let label = take_part(&mut body)?;
+    let short = Some(take_part(&mut body)?).filter(|short| !short.is_empty());
+    let width = match kind {
+        FIXED => Width::Fixed(take_number(&mut body)? as u32),
+        MEASURED => Width::Measured { unit: take_number(&mut body)? as u32, tree: take_tree(&mut body)?? },
+        REST => Width::Rest,
+        _ => return None,
+    };
+    let constraint = take_tree(&mut body)?;
+    let condition = take_tree(&mut body)?;
+    body.is_empty().then_some(Field { label, short, width, constraint, condition })
+}
+
+fn take<'a>(rest: &mut &'a [u8], length: usize) -> Option<&'a [u8]> {
+    let (part, after) = rest.split_at_checked(length)?;
+    *rest = after;
+    Some(part)
+}
+
+fn take_number(rest: &mut &[u8]) -> Option<usize> {
+    let bytes = take(rest, 2)?.try_into().ok()?;
+    Some(usize::from(u16::from_le_bytes(bytes)))
+}
+
+fn take_part<'a>(rest: &mut &'a [u8]) -> Option<&'a [u8]> {
+    let length = take_number(rest)?;
+    take(rest, length)
+}
+
+/// A stored tree, or `Some(None)` for the length 0.
+fn take_tree(rest: &mut &[u8]) -> Option<Option<Tree<usize>>> {
+    let mut bytes = take_part(rest)?;
+    if bytes.is_empty() {
+        return Some(None);
+    }
+    if bytes.len() > LONGEST_TREE {
+        return None;
+    }
+    let mut nodes = Vec::new();
+    take_node(&mut bytes, &mut nodes, MOST_DEPTH)?;
+    bytes.is_empty().then_some(Some(Tree { nodes }))
+}
+
+/// Takes a subtree of at most `depth` and answers the place of its root.
+fn take_node(rest: &mut &[u8], nodes: &mut Vec<Node<usize>>, depth: u32) -> Option<usize> {
+    let depth = depth.checked_sub(1)?;
+    let node = match take(rest, 1)?[0] {
+        NUMBER_CODE => Node::Number(u32::from_le_bytes(take(rest, 4)?.try_into().ok()?)),
+        FIELD_CODE => Node::Name(usize::from(take(rest, 1)?[0])),
+        NOT_CODE => Node::Not(take_node(rest, nodes, depth)?),
+        code => {
+            let op = Op::from_code(code)?;
+            let left = take_node(rest, nodes, depth)?;
+            Node::Two(op, left, take_node(rest, nodes, depth)?)
+        }
+    };
+    nodes.push(node);
+    Some(nodes.len() - 1)
+}
