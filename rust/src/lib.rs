@@ -1,0 +1,67 @@
+//! Packet diagrams as a person writes them, turned into field tables, and packets read by a table: safe calls of
+//! the proved static library `libumarekoza.a`. Document 01 has the rules, the numbers and the places.
+//!
+//! Every function answers for every input and panics for none. Functions that write to a lent slice change no
+//! byte of it where they refuse, and nothing beyond what they write where they accept.
+//!
+//! ```
+//! let page = "\
+//! A Blade Report is formatted as follows:
+//!
+//!  0                   1
+//!  0 1 2 3 4 5 6 7 8 9 0 1 2 3 4 5
+//! +-+-+-+-+-+-+-+-+-+-+-+-+-+-+-+-+
+//! | V |L|  Cells  |     Blade     |
+//! +-+-+-+-+-+-+-+-+-+-+-+-+-+-+-+-+
+//! |           Borrower            |
+//! +-+-+-+-+-+-+-+-+-+-+-+-+-+-+-+-+
+//! :            Readings           :
+//! +-+-+-+-+-+-+-+-+-+-+-+-+-+-+-+-+
+//! |             Sum               |
+//! +-+-+-+-+-+-+-+-+-+-+-+-+-+-+-+-+
+//!
+//! where:
+//!
+//! Version (V): 2 bits; V == 1.
+//! On Loan (L): 1 bit.
+//! Cells (N): 5 bits; N <= 20.
+//! Blade: 1 byte.
+//! Borrower (Bor): 2 bytes; present only when L == 1.
+//! Readings: N bytes.
+//! Sum: 2 bytes.
+//! ";
+//! let table = umarekoza::table_of(page.as_bytes())?;
+//! let packet = [0x62, 0x07, 0x01, 0x2C, 0xAA, 0xBB, 0x00, 0x09];
+//! let readings = umarekoza::find_field(&table, b"Readings")?;
+//! assert_eq!(umarekoza::field_bytes(&table, &packet, readings), [0xAA, 0xBB]);
+//! assert!(umarekoza::listing(&table, &packet).starts_with(b"Version: 0 2 1\nOn Loan: 2 1 1\n"));
+//! # Ok::<(), umarekoza::Refusal>(())
+//! ```
+
+#![warn(missing_docs)]
+
+mod calls;
+mod packets;
+mod refusal;
+mod tables;
+
+pub use packets::{field_bytes, fields_of, list_packet, listing, read_packet, Field};
+pub use refusal::Refusal;
+pub use tables::{check_table, field_label, find_field, table_of, write_table};
+
+const OUTPUT_TOO_SHORT: u32 = 11;
+
+/// What `write` writes to an output, which is doubled as long as it is too short.
+fn grown(write: impl Fn(&mut [u8]) -> Result<usize, Refusal>) -> Result<Vec<u8>, Refusal> {
+    let mut out = vec![0; 2048];
+    loop {
+        match write(&mut out) {
+            Ok(length) => {
+                out.truncate(length);
+                return Ok(out);
+            }
+            Err(refusal) if refusal.number == OUTPUT_TOO_SHORT => out.resize(2 * out.len(), 0),
+            Err(refusal) => return Err(refusal),
+        }
+    }
+}

@@ -1,0 +1,24 @@
+use std::error::Error;
+use std::fmt;
+
+/// A refusal of document 01: its number, and its place (a line of a text, a field of a packet, or 0).
+///
+/// ```
+/// let refusal = umarekoza::Refusal { number: 24, place: 7 };
+/// assert_eq!(refusal.to_string(), "refused 24 at 7");
+/// ```
+#[derive(Clone, Copy, Debug, PartialEq, Eq, Hash)]
+pub struct Refusal {
+    /// The number, from 1 on.
+    pub number: u32,
+    /// The line or field, counted from 1, or 0.
+    pub place: u32,
+}
+
+impl fmt::Display for Refusal {
+    fn fmt(&self, to: &mut fmt::Formatter<'_>) -> fmt::Result {
+        write!(to, "refused {} at {}", self.number, self.place)
+    }
+}
+
+impl Error for Refusal {}

@@ -1,0 +1,87 @@
+use crate::{calls, grown, Refusal};
+
+/// Writes the table of the description that a page text spells to the start of `out` and answers its length.
+///
+/// Refuses by 1 to 11. A refusal leaves `out` as it was; bytes beyond the table stay too.
+///
+/// ```
+/// use umarekoza::{write_table, Refusal};
+/// # let tag = "A Tag is formatted as follows:\n\n 0\n 0 1 2 3 4 5 6 7\n+-+-+-+-+-+-+-+-+\n\
+/// # |       K       |\n+-+-+-+-+-+-+-+-+\n\nwhere:\n\nKind (K): 1 byte; K == 7.\n";
+/// let mut out = [0; 64];
+/// assert_eq!(write_table(tag.as_bytes(), &mut out), Ok(44));
+/// assert_eq!(out[44..], [0; 20]);
+/// assert_eq!(write_table(tag.as_bytes(), &mut out[..43]), Err(Refusal { number: 11, place: 0 }));
+/// ```
+pub fn write_table(text: &[u8], out: &mut [u8]) -> Result<usize, Refusal> {
+    calls::write_table(text, out).settled().map(|length| length as usize)
+}
+
+/// The table of the description that a page text spells.
+///
+/// ```
+/// let tag = "\
+/// A Tag is formatted as follows:
+///
+///  0
+///  0 1 2 3 4 5 6 7
+/// +-+-+-+-+-+-+-+-+
+/// |       K       |
+/// +-+-+-+-+-+-+-+-+
+///
+/// where:
+///
+/// Kind (K): 1 byte; K == 7.
+/// ";
+/// let table = umarekoza::table_of(tag.as_bytes())?;
+/// assert_eq!(
+///     table,
+///     [
+///         0x0D, 0x00, 0x01, 0x00, 0x08, 0x00, 0x01, 0x00, 0x03, 0x00, 0x54, 0x61, 0x67, // the head
+///         0x1B, 0x00, 0x02, 0x00, 0x04, 0x00, 0x4B, 0x69, 0x6E, 0x64, 0x01, 0x00, 0x4B, 0x08, 0x00, 0x08,
+///         0x00, 0x20, 0x02, 0x00, 0x01, 0x07, 0x00, 0x00, 0x00, 0x00, 0x00, // the field Kind
+///         0x04, 0x00, 0x05, 0x00, // the end
+///     ]
+/// );
+/// # Ok::<(), umarekoza::Refusal>(())
+/// ```
+pub fn table_of(text: &[u8]) -> Result<Vec<u8>, Refusal> {
+    grown(|out| write_table(text, out))
+}
+
+/// Refuses a table that is not good, by 21.
+///
+/// ```
+/// use umarekoza::{check_table, Refusal};
+/// assert_eq!(check_table(b"no table"), Err(Refusal { number: 21, place: 0 }));
+/// ```
+pub fn check_table(table: &[u8]) -> Result<(), Refusal> {
+    calls::check_table(table).settled().map(|_| ())
+}
+
+/// The index, from 0, of the field with this label or short name. Refuses by 21, and by 30 if there is none.
+///
+/// ```
+/// # let page = include_bytes!("../../examples/pages/blade-report.txt");
+/// # let table = umarekoza::table_of(page)?;
+/// assert_eq!(umarekoza::find_field(&table, b"Borrower"), Ok(4));
+/// assert_eq!(umarekoza::find_field(&table, b"Bor"), Ok(4));
+/// # Ok::<(), umarekoza::Refusal>(())
+/// ```
+pub fn find_field(table: &[u8], name: &[u8]) -> Result<usize, Refusal> {
+    calls::find_field(table, name).settled().map(|index| index as usize)
+}
+
+/// The label of the field with this index, as that part of the table. None if the table is not good or has no
+/// such field.
+///
+/// ```
+/// # let page = include_bytes!("../../examples/pages/blade-report.txt");
+/// # let table = umarekoza::table_of(page)?;
+/// assert_eq!(umarekoza::field_label(&table, 1), Some(&b"On Loan"[..]));
+/// assert_eq!(umarekoza::field_label(&table, 7), None);
+/// # Ok::<(), umarekoza::Refusal>(())
+/// ```
+pub fn field_label(table: &[u8], index: usize) -> Option<&[u8]> {
+    Some(calls::field_label(table, index).part_of(table)).filter(|label| !label.is_empty())
+}

@@ -1,0 +1,125 @@
+//! The marked cases M1 to M10 of document 01, empty slices, and what lent slices hold afterwards.
+
+use umarekoza::*;
+
+const BLADE: &[u8] = include_bytes!("../../examples/pages/blade-report.txt");
+const M1: [u8; 8] = [0x62, 0x07, 0x01, 0x2C, 0xAA, 0xBB, 0x00, 0x09];
+const M2: [u8; 6] = [0x42, 0x07, 0xAA, 0xBB, 0x00, 0x09];
+
+/// The page of a one-byte field `K` with this line.
+fn one_byte(line: &str) -> String {
+    let border = "+-+-+-+-+-+-+-+-+";
+    let head = "A Tag is formatted as follows:\n\n 0\n 0 1 2 3 4 5 6 7\n";
+    format!("{head}{border}\n|       K       |\n{border}\n\nwhere:\n\n{line}\n")
+}
+
+fn blade() -> Vec<u8> {
+    table_of(BLADE).unwrap()
+}
+
+fn refused<T>(number: u32, place: u32) -> Result<T, Refusal> {
+    Err(Refusal { number, place })
+}
+
+#[test]
+fn m1_and_m2_are_listed() {
+    let m1 = "Version: 0 2 1\nOn Loan: 2 1 1\nCells: 3 5 2\nBlade: 8 8 7\nBorrower: 16 16 300\n\
+              Readings: 32 16\nSum: 48 16 9\nbits 64\n";
+    let m2 = "Version: 0 2 1\nOn Loan: 2 1 0\nCells: 3 5 2\nBlade: 8 8 7\nBorrower: absent\n\
+              Readings: 16 16\nSum: 32 16 9\nbits 48\n";
+    assert_eq!(listing(&blade(), &M1), m1.as_bytes());
+    assert_eq!(listing(&blade(), &M2), m2.as_bytes());
+    let mut out = [b'?'; 200];
+    assert_eq!(list_packet(&blade(), &M1, &mut out), Ok(m1.len()));
+    assert_eq!(&out[..m1.len()], m1.as_bytes());
+    assert!(out[m1.len()..].iter().all(|byte| *byte == b'?'));
+    assert_eq!(list_packet(&blade(), &M2, &mut out[..m2.len() - 1]), refused(11, 0));
+    assert_eq!(&out[..m1.len()], m1.as_bytes());
+}
+
+#[test]
+fn m3_to_m7_are_refused() {
+    let table = blade();
+    let mut run = [7; 28];
+    let mut read = |packet: &[u8]| read_packet(&table, packet, &mut run);
+    let longer = [&M1[..], &[0]].concat();
+    let mut version = M1;
+    version[0] = 0x22;
+    assert_eq!(read(&M1[..7]), refused(24, 7));
+    assert_eq!(read(&longer), refused(28, 0));
+    assert_eq!(read(&version), refused(25, 1));
+    assert_eq!(read(&[0x55, 0x07]), refused(25, 3));
+    assert_eq!(read(&[]), refused(24, 1));
+    assert_eq!(run, [7; 28]);
+    assert_eq!(listing(&table, &M1[..7]), b"refused 24 at 7\n");
+    assert_eq!(listing(&table, &longer), b"refused 28 at 0\n");
+}
+
+#[test]
+fn m8_and_m9_expressions() {
+    let read = |constraint: &str| {
+        let page = one_byte(&format!("Kind (K): 8 bits; {constraint}."));
+        fields_of(&table_of(page.as_bytes()).unwrap(), &[0]).map(|fields| fields.len())
+    };
+    for right in ["2+3*4 == 14", "7-2-1 == 4", "65535*65537 == 4294967295"] {
+        assert_eq!(read(right), Ok(1), "{right}");
+    }
+    for fault in ["65536*65536 == 0", "3-5 == 0"] {
+        assert_eq!(read(fault), refused(27, 1), "{fault}");
+    }
+}
+
+#[test]
+fn m10_tag_table_just_fits() {
+    let page = one_byte("Kind (K): 1 byte; K == 7.");
+    let mut out = [0xEE; 44];
+    assert_eq!(write_table(page.as_bytes(), &mut out[..43]), refused(11, 0));
+    assert_eq!(out, [0xEE; 44]);
+    assert_eq!(write_table(page.as_bytes(), &mut out), Ok(44));
+    assert_eq!(out[..13], *b"\x0D\0\x01\0\x08\0\x01\0\x03\0Tag");
+    assert_eq!(out[40..], [4, 0, 5, 0]);
+    assert_eq!(check_table(&out), Ok(()));
+}
+
+#[test]
+fn fields_and_their_bytes() {
+    let table = blade();
+    let fields = fields_of(&table, &M2).unwrap();
+    assert_eq!(fields.len(), 7);
+    assert_eq!(fields[4], Field { present: false, offset: 0, width: 0, value: 0 });
+    assert_eq!(fields[5], Field { present: true, offset: 16, width: 16, value: 0 });
+    assert_eq!(field_bytes(&table, &M1, 4), &M1[2..4]);
+    assert_eq!(field_bytes(&table, &M1, 4).as_ptr(), M1[2..].as_ptr());
+    for empty in [0, 2, 7, usize::MAX] {
+        assert_eq!(field_bytes(&table, &M1, empty), &M1[..0]);
+    }
+    assert_eq!(field_bytes(&table, &M1[..7], 4), b"");
+}
+
+#[test]
+fn names_and_labels() {
+    let table = blade();
+    let labels = ["Version", "On Loan", "Cells", "Blade", "Borrower", "Readings", "Sum"];
+    for (index, label) in labels.iter().enumerate() {
+        assert_eq!(find_field(&table, label.as_bytes()), Ok(index));
+        assert_eq!(field_label(&table, index), Some(label.as_bytes()));
+    }
+    assert_eq!(find_field(&table, b"N"), Ok(2));
+    assert_eq!(find_field(&table, b"n"), refused(30, 0));
+    assert_eq!(field_label(&table, 7), None);
+    assert_eq!(find_field(b"no table", b"N"), refused(21, 0));
+}
+
+#[test]
+fn empty_slices() {
+    assert_eq!(write_table(b"", &mut []), refused(3, 1));
+    assert_eq!(write_table(BLADE, &mut []), refused(11, 0));
+    assert_eq!(check_table(b""), refused(21, 0));
+    assert_eq!(read_packet(b"", b"", &mut []), refused(21, 0));
+    assert_eq!(read_packet(&blade(), &M1, &mut []), refused(23, 0));
+    assert_eq!(field_bytes(b"", b"", 0), b"");
+    assert_eq!(list_packet(b"", b"", &mut []), refused(11, 0));
+    assert_eq!(listing(b"", b""), b"refused 21 at 0\n");
+    assert_eq!(find_field(&blade(), b""), refused(30, 0));
+    assert_eq!(field_label(b"", 0), None);
+}
