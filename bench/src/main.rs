@@ -1,0 +1,127 @@
+//! Prints how long the library takes against the model and against a plain C reader, and how its times grow as
+//! sizes double. UMAREKOZA_ROUNDS is the number of rounds, 21 if not set.
+
+mod cases;
+mod reader;
+mod rounds;
+
+use cases::Case;
+use reader::Accepted;
+use rounds::{times, Call, Spread};
+use std::env;
+use std::hint::black_box;
+
+const ROOM: usize = 1 << 15;
+const RUN: usize = 256;
+
+fn main() {
+    let rounds =
+        env::var("UMAREKOZA_ROUNDS").ok().and_then(|rounds| rounds.parse().ok()).unwrap_or(21).max(1);
+    println!(
+        "Ratios are medians of {rounds} interleaved rounds, quartiles in brackets; CPU times of one thread."
+    );
+    println!(
+        "Lent buffers are made once for each row and not cleared between calls; the model makes its own."
+    );
+    println!("'again' is the library against itself, the noise of the machine.\n");
+    ratios(rounds);
+    println!("\nGrowth of the library's times as sizes double; 2 is linear.\n");
+    growth(rounds);
+}
+
+fn ratios(rounds: usize) {
+    let blade = Case::blade();
+    let fields = Case::constrained(64, 16_384);
+    let long = Case::long(2048);
+    println!("| Call | Case | library, ns | / model | / plain C | / C with constraints | again |");
+    println!("|---|---|---|---|---|---|---|");
+    for case in [&blade, &fields] {
+        ratio_row("check_table", case, &mut [check(case), check(case), model_check(case)], rounds);
+    }
+    for case in [&blade, &fields, &long] {
+        let mut calls = [read(case), read(case), model_read(case), plain(case, false), plain(case, true)];
+        ratio_row("read_packet", case, &mut calls, rounds);
+    }
+    for case in [&blade, &fields] {
+        ratio_row("write_table", case, &mut [write(case), write(case), model_write(case)], rounds);
+    }
+}
+
+/// A row: the library twice, and then what it is compared with.
+fn ratio_row(call: &str, case: &Case, calls: &mut [Call], rounds: usize) {
+    let times = times(calls, rounds);
+    let others = (2..5).map(|other| match calls.get(other) {
+        Some(_) => shown(&times.ratio(0, other)),
+        None => "".to_string(),
+    });
+    let others: Vec<String> = others.collect();
+    let again = shown(&times.ratio(1, 0));
+    println!("| {call} | {} | {:.0} | {} | {again} |", case.name, times.of(0).median, others.join(" | "));
+}
+
+fn shown(Spread { low, median, high }: &Spread) -> String {
+    format!("{median:.2} ({low:.2} to {high:.2})")
+}
+
+fn growth(rounds: usize) {
+    let fields: Vec<Case> =
+        (0..4).map(|doubling| Case::constrained(8 << doubling, 2048 << doubling)).collect();
+    let long: Vec<Case> = (0..4).map(|doubling| Case::long(256 << doubling)).collect();
+    println!("| Call | Sizes | ns | ratio at each doubling |");
+    println!("|---|---|---|---|");
+    growth_row("check_table", "8, 16, 32, 64 fields", fields.iter().map(check), rounds);
+    growth_row("read_packet", "8, 16, 32, 64 fields", fields.iter().map(read), rounds);
+    growth_row("read_packet", "256, 512, 1024, 2048 bytes", long.iter().map(read), rounds);
+    growth_row("write_table", "2, 4, 8, 16 KiB with 8, 16, 32, 64 fields", fields.iter().map(write), rounds);
+}
+
+fn growth_row<'a>(call: &str, sizes: &str, calls: impl Iterator<Item = Call<'a>>, rounds: usize) {
+    let mut calls: Vec<Call> = calls.collect();
+    let times = times(&mut calls, rounds);
+    let each: Vec<String> = (0..calls.len()).map(|size| format!("{:.0}", times.of(size).median)).collect();
+    let ratios: Vec<String> = (1..calls.len()).map(|size| shown(&times.ratio(size, size - 1))).collect();
+    println!("| {call} | {sizes} | {} | {} |", each.join(", "), ratios.join(", "));
+}
+
+fn check(case: &Case) -> Call<'_> {
+    Box::new(|| assert!(black_box(umarekoza::check_table(black_box(&case.table))).is_ok()))
+}
+
+fn model_check(case: &Case) -> Call<'_> {
+    Box::new(|| assert!(black_box(umarekoza_model::check_table(black_box(&case.table))).is_ok()))
+}
+
+fn read(case: &Case) -> Call<'_> {
+    let mut run = vec![0; RUN];
+    Box::new(move || {
+        let bits = umarekoza::read_packet(black_box(&case.table), black_box(&case.packet), &mut run);
+        assert_eq!(black_box(bits), Ok(8 * case.packet.len() as u64));
+    })
+}
+
+fn model_read(case: &Case) -> Call<'_> {
+    Box::new(|| {
+        let reading = umarekoza_model::read_packet(black_box(&case.table), black_box(&case.packet), RUN);
+        assert!(black_box(reading).is_ok());
+    })
+}
+
+fn plain(case: &Case, constraints: bool) -> Call<'_> {
+    let accepted = Accepted::new(&case.table, &case.packet).expect("a case of the bench is accepted");
+    let mut run = vec![0; RUN];
+    Box::new(move || {
+        black_box(black_box(&accepted).read(&mut run, constraints));
+    })
+}
+
+fn write(case: &Case) -> Call<'_> {
+    let mut out = vec![0; ROOM];
+    Box::new(move || {
+        let length = umarekoza::write_table(black_box(&case.page), &mut out);
+        assert_eq!(black_box(length), Ok(case.table.len()));
+    })
+}
+
+fn model_write(case: &Case) -> Call<'_> {
+    Box::new(|| assert!(black_box(umarekoza_model::write_table(black_box(&case.page), ROOM)).is_ok()))
+}

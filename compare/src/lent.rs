@@ -1,0 +1,86 @@
+//! Slices with guards: the slice that is lent stands between numbers that a call must leave alone.
+
+use umarekoza_model::generate::Rng;
+
+const GUARDS: usize = 24;
+
+/// Something that slices are made of.
+pub trait Unit: Copy + PartialEq {
+    fn random(rng: &mut Rng) -> Self;
+}
+
+impl Unit for u8 {
+    fn random(rng: &mut Rng) -> Self {
+        rng.byte()
+    }
+}
+
+impl Unit for u32 {
+    fn random(rng: &mut Rng) -> Self {
+        rng.bits() as u32
+    }
+}
+
+/// A slice between random guards, with what all of it held at first.
+pub struct Lent<T> {
+    now: Vec<T>,
+    before: Vec<T>,
+}
+
+impl<T: Unit> Lent<T> {
+    /// A slice that holds `held`.
+    pub fn holding(rng: &mut Rng, held: &[T]) -> Self {
+        let mut now: Vec<T> = (0..GUARDS).map(|_| T::random(rng)).collect();
+        now.extend_from_slice(held);
+        now.extend((0..GUARDS).map(|_| T::random(rng)));
+        Lent { before: now.clone(), now }
+    }
+
+    /// A slice of `length` random numbers.
+    pub fn random(rng: &mut Rng, length: usize) -> Self {
+        let held: Vec<T> = (0..length).map(|_| T::random(rng)).collect();
+        Lent::holding(rng, &held)
+    }
+
+    pub fn slice(&self) -> &[T] {
+        &self.now[GUARDS..self.now.len() - GUARDS]
+    }
+
+    pub fn slice_mut(&mut self) -> &mut [T] {
+        let end = self.now.len() - GUARDS;
+        &mut self.now[GUARDS..end]
+    }
+
+    /// Whether the slice starts with `written`, and all else, the guards too, is as it was.
+    pub fn has_only(&self, written: &[T]) -> bool {
+        let end = GUARDS + written.len();
+        end <= self.now.len() - GUARDS
+            && self.now[..GUARDS] == self.before[..GUARDS]
+            && self.now[GUARDS..end] == *written
+            && self.now[end..] == self.before[end..]
+    }
+
+    /// Whether nothing has changed.
+    pub fn is_untouched(&self) -> bool {
+        self.has_only(&[])
+    }
+}
+
+#[cfg(test)]
+mod tests {
+    use super::{Lent, GUARDS};
+    use umarekoza_model::generate::Rng;
+
+    #[test]
+    fn changes_are_seen() {
+        let mut lent = Lent::holding(&mut Rng::new(1), &[1u8, 2, 3]);
+        assert!(lent.is_untouched());
+        lent.slice_mut()[0] = 9;
+        assert!(lent.has_only(&[9]));
+        assert!(lent.has_only(&[9, 2, 3]));
+        assert!(!lent.has_only(&[9, 2, 3, 0]));
+        assert!(!lent.is_untouched());
+        lent.now[GUARDS + 3] ^= 1;
+        assert!(!lent.has_only(&[9]));
+    }
+}
