@@ -33,30 +33,43 @@ fn show(word: &[u8]) {
     io::write_all(STDOUT_FILENO, word);
 }
 
-// The listing of a packet by a table.
-fn list_by(table: &[u8], packet: &[u8]) {
-    let mut out = io::buffer();
-    let answer = list_packet(table, packet, &mut out);
-    let ListingAnswer::Written(n) = answer else {
-        show(b"no room\n");
-        return;
-    };
+// The first n bytes.
+fn show_first(out: &[u8], n: usize) {
     if n <= out.len() {
-        show(&out[..n]);
+        show(&out[0..n]);
     }
 }
 
-// The listing of a packet by a page.
-fn list(page: &[u8], packet: &[u8]) {
-    let mut table = table_room();
-    let answer = read_text(page, &mut table);
+// The listing of a packet by a table, by way of an output.
+fn list_into(table: &[u8], packet: &[u8], out: &mut [u8]) {
+    let answer = list_packet(table, packet, out);
+    match answer {
+        ListingAnswer::Written(n) => show_first(out, n),
+        ListingAnswer::NoRoom => show(b"no room\n"),
+    }
+}
+
+// The listing of a packet by the table that the first n bytes are.
+fn list_by(table: &[u8], n: usize, packet: &[u8]) {
+    let mut out = io::buffer();
+    if n <= table.len() {
+        list_into(&table[0..n], packet, &mut out);
+    }
+}
+
+// The listing of a packet by a page, by way of its table.
+fn list_page(page: &[u8], packet: &[u8], table: &mut [u8]) {
+    let answer = read_text(page, table);
     let TextAnswer::Accepted(n) = answer else {
         show(b"the page is refused\n");
         return;
     };
-    if n <= table.len() {
-        list_by(&table[..n], packet);
-    }
+    list_by(table, n, packet);
+}
+
+fn list(page: &[u8], packet: &[u8]) {
+    let mut table = table_room();
+    list_page(page, packet, &mut table);
 }
 
 fn main() {
