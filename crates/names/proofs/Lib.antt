@@ -1,8 +1,10 @@
 -- ClassRules, Spaces, Ends  what the tests of bytes and names need
 -- RepeatLaws                searches for the first repeated thing
 -- PadLaws                   names held as arrays
+-- KeyLaws                   words told apart by their keys
 pub mod ClassRules
 pub mod Spaces
 pub mod Ends
 pub mod RepeatLaws
 pub mod PadLaws
+pub mod KeyLaws

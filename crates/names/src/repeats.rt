@@ -1,5 +1,6 @@
 // Short names held by value, and the first of them that repeats an earlier one.
 use crate::words::same_words;
+use crate::words::word_key;
 ghost use mathlib.Core.Path.{_≡_};
 ghost use Prim.Native.Nat.{_≤_};
 ghost use lib.ListN.{getD};
@@ -35,13 +36,16 @@ pub fn same_name(a: [u8; 8], b: [u8; 8]) -> bool
     if a[0] == 0 {
         return false;
     }
+    if word_key(&a) != word_key(&b) {
+        return false;
+    }
     same_words(&a, &b)
 }
 
 // The first of n names that repeats an earlier one, else n.
-fn repeat_below(names: [[u8; 8]; 64], n: usize) -> usize
+fn repeat_below(names: &[[u8; 8]; 64], n: usize) -> usize
     requires { ⌜ n ≤ 64 ⌝ }
-    ensures { λ r. ⌜ r ≡ firstRepeat (namesAlike names) n ⌝ }
+    ensures { λ r. ⌜ r ≡ firstRepeat (namesAlike (now (names .entry))) n ⌝ }
 {
     let mut j = 0;
     'later: loop {
@@ -64,7 +68,7 @@ pub fn first_repeat(names: [[u8; 8]; 64], n: usize) -> usize
     ensures { λ r. ⌜ r ≡ firstRepeat (namesAlike names) (atMost 64 n) ⌝ }
 {
     if 64 < n {
-        return repeat_below(names, 64);
+        return repeat_below(&names, 64);
     }
-    repeat_below(names, n)
+    repeat_below(&names, n)
 }

@@ -1,7 +1,32 @@
-// Words compared byte by byte, and the reserved words.
+// Words compared byte by byte, their keys, and the reserved words.
 ghost use mathlib.Core.Path.{_≡_};
+ghost use Prim.Native.Nat.{_<_};
 ghost use Rattle.base.specs.Lists.{same};
 ghost use Rattle.rules.specs.Names.{isReserved};
+ghost use Rattle.names.specs.Keys.{wordKey};
+
+// 256 to the seventh power.
+const KEY_PART: u64 = 72057594037927936;
+
+// A byte as a wider number.
+fn wide(b: u8) -> u64
+    ensures { λ r. ⌜ (r ≡ b) × (r < 256) ⌝ }
+{
+    b as u64
+}
+
+// The number that the last 8 bytes of a word make.
+pub fn word_key(w: &[u8]) -> u64
+    ensures { λ r. ⌜ r ≡ wordKey (now (w .entry)) ⌝ }
+{
+    let mut key: u64 = 0;
+    let mut i = 0;
+    while i < w.len() {
+        key = key % KEY_PART * 256 + wide(w[i]);
+        i += 1;
+    }
+    key
+}
 
 pub fn same_words(a: &[u8], b: &[u8]) -> bool
     ensures { λ r. ⌜ r ≡ same (now (a .entry)) (now (b .entry)) ⌝ }

@@ -1,7 +1,8 @@
-use native.Mathlib.Nat.{sub-zero}
 use mathlib.Core.Path.{_≡_, sym, _∙_}
 use Prim.Native.Nat.{_-_, _≤_}
+use native.Mathlib.Nat.{sub-zero}
 use native.Mathlib.Omega.{arith}
+use denote.Ref.{now}
 use Rattle.names.specs.Repeats.{namesAlike, repeats, firstFrom, firstRepeat}
 use Rattle.names.proofs.RepeatLaws.{search-step, search-end, repeats-none, repeats-found}
 use borrow.Author.Needs.{needs}
@@ -12,18 +13,18 @@ use Rattle.names.proofs.repeats.repeat_below.Lts as lts
 use Rattle.names.proofs.repeats.same_name.Reads as same-name-reads
 
 abbrev Inv-loop : tie.InvT-loop
-Inv-loop n names j i₀ i =
+Inv-loop names n j i₀ i =
     (i ≤ j) × (firstFrom (λ k. namesAlike names k j) 0 j ≡ firstFrom (λ k. namesAlike names k j) i (j - i))
 
 abbrev μ-loop : tie.MeasureT-loop
-μ-loop n names j i₀ i = j - i
+μ-loop names n j i₀ i = j - i
 
 abbrev Inv-later : tie.InvT-later
-Inv-later n names j₀ j =
+Inv-later names n j₀ j =
     (j ≤ n) × (firstRepeat (namesAlike names) n ≡ firstFrom (repeats (namesAlike names)) j (n - j))
 
 abbrev μ-later : tie.MeasureT-later
-μ-later n names j₀ j = n - j
+μ-later names n j₀ j = n - j
 
 later-holds : tie.Need-later-holds Inv-loop μ-loop Inv-later μ-later
 later-holds c = (omega arith, rw sub-zero)
@@ -34,14 +35,15 @@ loop-holds c = (omega arith, rw sub-zero)
 mul-same-name : tie.Need-mul-same-name Inv-loop μ-loop Inv-later μ-later
 mul-same-name c = search needs
 
-array-copy-out-same-name : tie.Need-array-copy-out-same-name Inv-loop μ-loop Inv-later μ-later
-array-copy-out-same-name c = search needs
+element-copy-out-same-name : tie.Need-element-copy-out-same-name Inv-loop μ-loop Inv-later μ-later
+element-copy-out-same-name c = search needs
 
 mul-same-name-2 : tie.Need-mul-same-name-2 Inv-loop μ-loop Inv-later μ-later
 mul-same-name-2 c = search needs
 
-array-copy-out-same-name-2 : tie.Need-array-copy-out-same-name-2 Inv-loop μ-loop Inv-later μ-later
-array-copy-out-same-name-2 c = search needs
+element-copy-out-same-name-2 :
+    tie.Need-element-copy-out-same-name-2 Inv-loop μ-loop Inv-later μ-later
+element-copy-out-same-name-2 c = search needs
 
 same-name-requires : tie.Need-same-name-requires Inv-loop μ-loop Inv-later μ-later
 same-name-requires c κs = search needs
@@ -50,50 +52,40 @@ add-i : tie.Need-add-i Inv-loop μ-loop Inv-later μ-later
 add-i c = search needs
 
 loop-less : tie.Need-loop-less Inv-loop μ-loop Inv-later μ-later
-loop-less c = omega arith
+loop-less c = search needs
 
 loop-again : tie.Need-loop-again Inv-loop μ-loop Inv-later μ-later
 loop-again c =
-    let alike = namesAlike (c .before .before .before .before .before .before .before .before .args .t1) in
-    let j = c .before .before .before .before .before .before .before .later .j in
-    let e = sym (c .before .same-name .ensures) ∙ c .if2 .left in (
-      omega arith,
-      c .before .before .before .before .before .loop .inv .1 ∙ search-step (λ k. alike k j)
-          (c .before .before .before .before .before .loop .i) j (omega arith) ∙ simp e,
-    )
+    let alike = namesAlike (now (c .before .before .before .before .before .before .before .before .args .names)) in
+    let other = sym (c .before .same-name .ensures) ∙ c .if2 .left in
+    let step = search-step (λ k. alike k (c .before .before .before .before .before .before .before .later .j)) (c .before .before .before .before .before .loop .i) (c .before .before .before .before .before .before .before .later .j) (omega arith) in
+    (omega arith, c .before .before .before .before .before .loop .inv .1 ∙ step ∙ simp other)
 
 add-j : tie.Need-add-j Inv-loop μ-loop Inv-later μ-later
 add-j c = search needs
 
 later-less : tie.Need-later-less Inv-loop μ-loop Inv-later μ-later
-later-less c = omega arith
+later-less c = search needs
 
 later-again : tie.Need-later-again Inv-loop μ-loop Inv-later μ-later
 later-again c =
-    let alike = namesAlike (c .before .before .before .before .args .t1) in
-    let e = repeats-none alike (c .before .loop .i) (c .before .before .before .later .j) (omega arith) (omega arith)
-    (c .before .loop .inv .1) in (
-      omega arith,
-      c .before .before .before .later .inv .1 ∙ search-step (repeats alike)
-          (c .before .before .before .later .j) (c .before .before .before .before .args .n) (omega arith) ∙ simp e,
-    )
+    let alike = namesAlike (now (c .before .before .before .before .args .names)) in
+    let none = repeats-none alike (c .before .loop .i) (c .before .before .before .later .j) (omega arith) (omega arith) (c .before .loop .inv .1) in
+    let step = search-step (repeats alike) (c .before .before .before .later .j) (c .before .before .before .before .args .n) (omega arith) in
+    (omega arith, c .before .before .before .later .inv .1 ∙ step ∙ simp none)
 
 returns : tie.Need-returns Inv-loop μ-loop Inv-later μ-later
 returns c =
-    let e : c .before .later .j ≡ c .before .before .args .n = omega arith in
-    sym (c .before .later .inv .1 ∙ rw e (search-end (repeats (namesAlike (c .before .before .args .t1)))
-    (c .before .before .args .n)))
+    let end : c .before .later .j ≡ c .before .before .args .n = omega arith in
+    sym (c .before .later .inv .1 ∙ rw end (search-end (repeats (namesAlike (now (c .before .before .args .names)))) (c .before .before .args .n)))
 
 returns-2 : tie.Need-returns-2 Inv-loop μ-loop Inv-later μ-later
 returns-2 c =
-    let alike = namesAlike (c .before .before .before .before .before .before .before .before .args .t1) in
+    let alike = namesAlike (now (c .before .before .before .before .before .before .before .before .args .names)) in
     let same = sym (c .before .same-name .ensures) ∙ c .if2 .taken in
-    let e = repeats-found alike (c .before .before .before .before .before .loop .i)
-    (c .before .before .before .before .before .before .before .later .j) (omega arith)
-    (c .before .before .before .before .before .loop .inv .1) same in
-    sym (c .before .before .before .before .before .before .before .later .inv .1 ∙ search-step (repeats alike)
-    (c .before .before .before .before .before .before .before .later .j)
-    (c .before .before .before .before .before .before .before .before .args .n) (omega arith) ∙ simp e)
+    let found = repeats-found alike (c .before .before .before .before .before .loop .i) (c .before .before .before .before .before .before .before .later .j) (omega arith) (c .before .before .before .before .before .loop .inv .1) same in
+    let step = search-step (repeats alike) (c .before .before .before .before .before .before .before .later .j) (c .before .before .before .before .before .before .before .before .args .n) (omega arith) in
+    sym (c .before .before .before .before .before .before .before .later .inv .1 ∙ step ∙ simp found)
 
 pub repeat-below-spec : {M : Type 1} → statement M
 repeat-below-spec =
@@ -106,9 +98,9 @@ repeat-below-spec =
     later-holds
     loop-holds
     mul-same-name
-    array-copy-out-same-name
+    element-copy-out-same-name
     mul-same-name-2
-    array-copy-out-same-name-2
+    element-copy-out-same-name-2
     same-name-requires
     add-i
     loop-less

@@ -1,11 +1,14 @@
+use mathlib.Core.Path.{sym, _∙_}
 use borrow.Author.Tests.{eq-eqb, ne-eqb}
 use Rattle.names.specs.Repeats.{sameName}
+use Rattle.names.proofs.KeyLaws.{keys-apart}
 use borrow.Author.Needs.{needs}
 use Rattle.names.proofs.repeats.same_name.Statement.{statement}
 use Rattle.names.proofs.repeats.same_name.Tie as tie
 use Rattle.names.proofs.repeats.same_name.Reads as reads
 use Rattle.names.proofs.repeats.same_name.Lts as lts
 use Rattle.names.proofs.words.same_words.Reads as same-words-reads
+use Rattle.names.proofs.words.word_key.Reads as word-key-reads
 
 array-read-if1 : tie.Need-array-read-if1
 array-read-if1 c = search needs
@@ -13,6 +16,24 @@ array-read-if1 c = search needs
 returns : tie.Need-returns
 unfolding sameName
 returns c = rw (eq-eqb _ _ (c .if1 .taken))
+
+slice-aggregate-word-key : tie.Need-slice-aggregate-word-key
+slice-aggregate-word-key c = search needs
+
+word-key-requires : tie.Need-word-key-requires
+word-key-requires c κs = search needs
+
+slice-aggregate-word-key-2 : tie.Need-slice-aggregate-word-key-2
+slice-aggregate-word-key-2 c = search needs
+
+word-key-requires-2 : tie.Need-word-key-requires-2
+word-key-requires-2 c κs = search needs
+
+returns-2 : tie.Need-returns-2
+unfolding sameName
+returns-2 c =
+    let apart = keys-apart (c .before .before .before .before .before .before .args .t1) (c .before .before .before .before .before .before .args .t2) (λ e. c .if2 .taken (c .before .before .before .word-key .ensures ∙ e ∙ sym (c .before .word-key2 .ensures))) in
+    rw (ne-eqb _ _ (c .before .before .before .before .before .if1 .left), apart)
 
 slice-aggregate-same-words : tie.Need-slice-aggregate-same-words
 slice-aggregate-same-words c = search needs
@@ -23,9 +44,9 @@ slice-aggregate-same-words-2 c = search needs
 same-words-requires : tie.Need-same-words-requires
 same-words-requires c κs = search needs
 
-returns-2 : tie.Need-returns-2
+returns-3 : tie.Need-returns-3
 unfolding sameName
-returns-2 c = rw (ne-eqb _ _ (c .before .before .before .if1 .left)) (c .same-words .ensures)
+returns-3 c = rw (ne-eqb _ _ (c .before .before .before .before .before .before .before .before .if1 .left)) (c .same-words .ensures)
 
 pub same-name-spec : {M : Type 1} → statement M
 same-name-spec =
@@ -33,7 +54,12 @@ same-name-spec =
     (tie.spec
     array-read-if1
     returns
+    slice-aggregate-word-key
+    word-key-requires
+    slice-aggregate-word-key-2
+    word-key-requires-2
+    returns-2
     slice-aggregate-same-words
     slice-aggregate-same-words-2
     same-words-requires
-    returns-2)
+    returns-3)
