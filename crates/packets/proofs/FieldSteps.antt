@@ -6,7 +6,7 @@ use Prim.Native.Nat.{ℕ, _+_, _≤_}
 use native.Mathlib.Omega.{arith}
 use lib.Dec.{leb, eqb}
 use lib.ListN.{length}
-use borrow.Author.Tests.{leb-true}
+use borrow.Author.Tests.{leb-true, eqb-true}
 use Rattle.base.specs.Lists.{between}
 use Rattle.base.specs.Places.{twoAt}
 use Rattle.base.proofs.Lists.{and-left, and-right, between-true}
@@ -67,6 +67,15 @@ pub field-next : (w place : ℕ) (ended : Bool) (s : List ℕ) (at : ℕ) (p : P
     → p .next ≤ length s
 unfolding fieldTest
 field-next w place ended s at p h = bounds-next s at p (and-left (boundsTest s at p) _ h)
+
+pub field-ends : (w place : ℕ) (ended : Bool) (s : List ℕ) (at : ℕ) (p : Parts)
+    → fieldTest w place ended s at p ≡ true
+    → at + twoAt s at ≡ p .next
+unfolding fieldTest boundsTest
+field-ends w place ended s at p h =
+    let bounds = and-left (boundsTest s at p) _ h in
+    let rest = and-right (leb (p .next) (length s)) _ bounds in
+    eqb-true _ _ (and-left (eqb (at + twoAt s at) (p .next)) _ rest)
 
 pub inside-of : (s : List ℕ) (at : ℕ) (p : Parts) → p ≡ partsAt s at → boundsTest s at p ≡ true → Inside s p
 inside-of s at p e h =

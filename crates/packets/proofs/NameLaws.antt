@@ -131,12 +131,12 @@ parts-nth s before (f ∷ l) form size at next st (suc i) lt =
     let r = stands-right s at next (storedField f) (joined storedField l) st in
     rw (q .1) (parts-nth s (before ++ (f ∷ [])) l (a .1) (b .1) mid next r i (omega arith))
 
-places-length : (s : List ℕ) (n at : ℕ) → length (placesFrom s n at) ≡ n
+pub places-length : (s : List ℕ) (n at : ℕ) → length (placesFrom s n at) ≡ n
 unfolding placesFrom
 places-length s zero at = refl
 places-length s (suc n) at = ap suc (places-length s n (partsAt s at .next))
 
-getD-shorts : (s l : List ℕ) (i : ℕ) → i < length l → getD (shortsAt s l) i [] ≡ shortAt s (getD l i 0)
+pub getD-shorts : (s l : List ℕ) (i : ℕ) → i < length l → getD (shortsAt s l) i [] ≡ shortAt s (getD l i 0)
 getD-shorts s [] i h = absurd (omega arith)
 getD-shorts s (x ∷ l) zero h = refl
 getD-shorts s (x ∷ l) (suc i) h = getD-shorts s l i (omega arith)

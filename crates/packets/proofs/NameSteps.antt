@@ -1,16 +1,28 @@
--- The places of records and the short names there, gathered one after the other.
+-- The places of records, and the names there, gathered one after the other.
 use mathlib.Core.Path.{_≡_, refl, sym, _∙_, ap}
-use mathlib.Core.List.{List, [], _∷_, _++_, map, append-assoc, append-nil}
+use mathlib.Core.Bool.{Bool, true, false}
+use mathlib.Core.List.{List, [], _∷_, _++_, append-assoc, append-nil}
 use Prim.Native.Nat.{ℕ, suc, _+_, _-_, _<_}
 use native.Mathlib.Omega.{arith}
-use native.Mathlib.Numerals.{add-one}
+use lib.Dec.{ltb}
 use lib.ListN.{length, take, set, getD}
-use lib.Seq.{take-suc, getD-take}
+use lib.Seq.{getD-take, getD-set-same, getD-set-other}
+use borrow.Author.Tests.{ltb-true, ltb-false}
+use Rattle.base.specs.Places.{twoAt}
 use Rattle.names.specs.Repeats.{namesAlike, firstRepeat}
 use Rattle.names.proofs.RepeatLaws.{repeat-same}
 use Rattle.packets.specs.Parts.{partsAt}
 use Rattle.packets.proofs.WalkSteps.{take-own}
-use Rattle.packets.specs.NamesTest.{placesFrom, FieldPlace, FieldPlaces, shortAt, labelsAlike, shortsAt}
+use Rattle.packets.proofs.NameLaws.{getD-shorts}
+use Rattle.packets.specs.NamesTest.{
+  placesFrom,
+  FieldPlace,
+  FieldPlaces,
+  HeldNames,
+  shortAt,
+  labelsAlike,
+  shortsAt,
+}
 
 -- ── places ──
 
@@ -23,6 +35,10 @@ module _ (s : List ℕ) (n i at : ℕ) where
   place-first lt h =
       let p : FieldPlace s (getD (placesFrom s (n - i) at) 0 0) = h 0 (omega arith) in
       rw (places-step lt) at p
+
+  pub place-next : (n' : ℕ) → i < n → FieldPlaces s (n - i) (placesFrom s (n - i) at) → n' ≡ twoAt s at
+      → at + n' ≡ partsAt s at .next
+  place-next n' lt h e = rw e (place-first lt h .ends)
 
   pub places-rest : i < n → FieldPlaces s (n - i) (placesFrom s (n - i) at)
       → FieldPlaces s (n - (i + 1)) (placesFrom s (n - (i + 1)) (partsAt s at .next))
@@ -46,25 +62,19 @@ module _ (s : List ℕ) (n i at : ℕ) where
       let q : take i places ++ [] ≡ all = rw m at h in
       rw e at (sym (append-nil (take i places)) ∙ q)
 
--- ── short names ──
+-- ── what is put into an array, one element after the other ──
 
-map-end : {A B : Type 0} (f : A → B) (l : List A) (x : A) → map f (l ++ (x ∷ [])) ≡ map f l ++ (f x ∷ [])
-map-end f [] x = refl
-map-end f (y ∷ l) x = ap (λ m. f y ∷ m) (map-end f l x)
-
-pub shorts-again : (s places : List ℕ) (names : List (List ℕ)) (i : ℕ) (x : List ℕ)
-    → i < length names → i < length places → take i names ≡ shortsAt s (take i places) → x ≡ shortAt s
-    (getD places i 0)
-    → take (i + 1) (set names i x) ≡ shortsAt s (take (i + 1) places)
-shorts-again s places names i x lt lp e f =
-    rw (
-      take-own names i x lt,
-      add-one i,
-      take-suc places i 0 lp,
-      map-end (shortAt s) (take i places) (getD places i 0),
-      e,
-      f,
-    )
+pub filled-again : {A : Type 0} (f : ℕ → A) (d : A) (l : List A) (i : ℕ) (x : A) → i < length l
+    → ((k : ℕ) → k < i → getD l k d ≡ f k) → x ≡ f i → (k : ℕ) → k < i + 1 → getD (set l i x) k d ≡ f k
+filled-again f d l i x lt h e k le = go (ltb k i) refl
+  where
+    go : (b : Bool) → ltb k i ≡ b → getD (set l i x) k d ≡ f k
+    go true t =
+        let m : k < i = ltb-true k i t in
+        getD-set-other l i k x d (λ q. omega arith) ∙ h k m
+    go false t =
+        let m : k ≡ i = omega (arith, ltb-false k i t) in
+        rw (m, getD-set-same l i x d lt) e
 
 -- ── all of them ──
 
@@ -80,9 +90,9 @@ module _ (s : List ℕ) (n : ℕ) (places all : List ℕ) where
       repeat-same (labelsAlike s places) (labelsAlike s all) n (λ i j p q.
       rw (same-place e i (omega arith), same-place e j q))
 
-  pub all-names : (names : List (List ℕ)) → take n places ≡ all → take n names ≡ shortsAt s (take n places)
+  pub all-names : (names : List (List ℕ)) → take n places ≡ all → length all ≡ n → HeldNames s places n names
       → firstRepeat (namesAlike names) n ≡ firstRepeat (namesAlike (shortsAt s all)) n
-  all-names names e f =
+  all-names names e z h =
       let one : (i : ℕ) → i < n → getD names i [] ≡ getD (shortsAt s all) i [] = λ i lt.
-      sym (getD-take n names i [] lt) ∙ ap (λ (l : List (List ℕ)). getD l i []) (f ∙ ap (shortsAt s) e) in
+      h i lt ∙ ap (shortAt s) (same-place e i lt) ∙ sym (getD-shorts s all i (omega arith)) in
       repeat-same (namesAlike names) (namesAlike (shortsAt s all)) n (λ i j p q. rw (one i (omega arith), one j q))

@@ -19,7 +19,7 @@ use Rattle.packets.specs.Parts.{tableMost, spanAt, partsAt}
 use Rattle.packets.specs.FieldTest.{bytesIn}
 use Rattle.packets.specs.NamesTest.{placesFrom, FieldPlaces}
 use Rattle.packets.specs.TableTest.{walkAt, headTest}
-use Rattle.packets.proofs.FieldSteps.{parts-inside, field-next}
+use Rattle.packets.proofs.FieldSteps.{parts-inside, field-ends, field-next}
 use Rattle.packets.proofs.WalkLaws.{past-bad, walk-parts}
 
 -- ── the first record ──
@@ -79,6 +79,7 @@ walk-places w (suc n) marks place ended s at next short le h zero lt =
     record {
       place = omega arith;
       inside = parts-inside s at (field-next w place ended s at (partsAt s at) (q .0));
+      ends = field-ends w place ended s at (partsAt s at) (q .0);
     }
 walk-places w (suc n) marks place ended s at next short le h (suc i) lt =
     let q = walk-parts w n marks place ended s at next h in

@@ -1,10 +1,13 @@
 -- The test that names are unique. This mirrors the code of src/unique.rt: no public promise rests on this file.
 use mathlib.Core.Bool.{Bool, _&&_}
 use mathlib.Core.List.{List, [], _∷_, map}
-use Prim.Native.Nat.{ℕ, zero, suc, _<_, _≤_}
+use mathlib.Core.Path.{_≡_}
+use Prim.Native.Nat.{ℕ, zero, suc, _+_, _<_, _≤_}
 use lib.Dec.{eqb}
 use lib.ListN.{getD}
 use Rattle.base.specs.Lists.{same}
+use Rattle.base.specs.Places.{twoAt}
+use Rattle.names.specs.Keys.{wordKey}
 use Rattle.names.specs.Repeats.{padTo, namesAlike, firstRepeat}
 use Rattle.packets.specs.Parts.{tableMost, partsAt}
 use Rattle.packets.specs.FieldTest.{bytesIn, Inside}
@@ -14,10 +17,11 @@ unfoldable pub placesFrom : List ℕ → ℕ → ℕ → List ℕ
 placesFrom s zero at = []
 placesFrom s (suc n) at = at ∷ placesFrom s n (partsAt s at .next)
 
--- a record there lies in the table
+-- a record there lies in the table, and ends where its length says
 pub record FieldPlace (s : List ℕ) (at : ℕ) : Type 0 where
   pub place : at ≤ tableMost
   pub inside : Inside s (partsAt s at)
+  pub ends : at + twoAt s at ≡ partsAt s at .next
 
 abbrev pub FieldPlaces : List ℕ → ℕ → List ℕ → Type 0
 FieldPlaces s n places = (i : ℕ) → i < n → FieldPlace s (getD places i 0)
@@ -25,9 +29,20 @@ FieldPlaces s n places = (i : ℕ) → i < n → FieldPlace s (getD places i 0)
 unfoldable pub labelAt : List ℕ → ℕ → List ℕ
 labelAt s at = bytesIn s (partsAt s at .label)
 
+unfoldable pub labelKey : List ℕ → ℕ → ℕ
+labelKey s at = wordKey (labelAt s at)
+
+-- the keys of the labels at the first n places
+abbrev pub LabelKeys : List ℕ → List ℕ → ℕ → List ℕ → Type 0
+LabelKeys s places n keys = (i : ℕ) → i < n → getD keys i 0 ≡ labelKey s (getD places i 0)
+
 -- a short name as it is held
 unfoldable pub shortAt : List ℕ → ℕ → List ℕ
 shortAt s at = padTo 8 (bytesIn s (partsAt s at .short))
+
+-- the short names at the first n places, as they are held
+abbrev pub HeldNames : List ℕ → List ℕ → ℕ → List (List ℕ) → Type 0
+HeldNames s places n names = (i : ℕ) → i < n → getD names i [] ≡ shortAt s (getD places i 0)
 
 abbrev pub labelsAlike : List ℕ → List ℕ → ℕ → ℕ → Bool
 labelsAlike s places i j = same (labelAt s (getD places i 0)) (labelAt s (getD places j 0))

@@ -49,14 +49,21 @@ pub(crate) fn byte_at(s: &[u8], at: usize) -> usize
     0
 }
 
+fn wide(b: u8) -> usize
+    ensures { λ r. ⌜ (r ≡ b) × (r ≤ 255) ⌝ }
+{
+    b as usize
+}
+
 // A number in two bytes, the least first.
 pub(crate) fn two_at(s: &[u8], at: usize) -> usize
     requires { ⌜ at ≤ placeMost ⌝ }
     ensures { λ r. ⌜ (r ≡ twoAt (now (s .entry)) at) × (r ≤ 65535) ⌝ }
 {
-    let low = byte_at(s, at);
-    let high = byte_at(s, at + 1);
-    low + 256 * high
+    if at + 1 < s.len() {
+        return wide(s[at]) + 256 * wide(s[at + 1]);
+    }
+    byte_at(s, at)
 }
 
 // A length, and the part of that length behind it.
@@ -93,6 +100,23 @@ fn width_parts(s: &[u8], kind: usize, at: usize) -> WidthParts
         tree,
         next: at,
     }
+}
+
+// The label of the record at a place.
+pub(crate) fn label_span(s: &[u8], at: usize) -> Span
+    requires { ⌜ at ≤ tableMost ⌝ }
+    ensures { λ r. ⌜ r ≡ partsAt (now (s .entry)) at .label ⌝ }
+{
+    span_at(s, at + 4)
+}
+
+// The short name of the record at a place.
+pub(crate) fn short_span(s: &[u8], at: usize) -> Span
+    requires { ⌜ at ≤ tableMost ⌝ }
+    ensures { λ r. ⌜ r ≡ partsAt (now (s .entry)) at .short ⌝ }
+{
+    let label = span_at(s, at + 4);
+    span_at(s, label.at + label.len)
 }
 
 // The parts of the record at a place.

@@ -1,8 +1,11 @@
 // Labels and short names are unique.
-use crate::records::parts_at;
+use crate::records::label_span;
+use crate::records::short_span;
+use crate::records::two_at;
 use names::repeats::first_repeat;
 use names::repeats::held_name;
 use names::words::same_words;
+use names::words::word_key;
 ghost use mathlib.Core.Path.{_≡_};
 ghost use Prim.Native.Nat.{_≤_};
 ghost use lib.ListN.{length, take, getD};
@@ -14,9 +17,11 @@ ghost use Rattle.packets.specs.NamesTest.{
   FieldPlace,
   FieldPlaces,
   labelAt,
+  labelKey,
+  LabelKeys,
   shortAt,
+  HeldNames,
   labelsAlike,
-  shortsAt,
   namesTest,
 };
 
@@ -31,8 +36,7 @@ fn record_places(s: &[u8], count: usize, from: usize) -> [usize; 64]
     let mut i = 0;
     while i < count {
         places[i] = at;
-        let parts = parts_at(s, at);
-        at = parts.next;
+        at += two_at(s, at);
         i += 1;
     }
     places
@@ -43,16 +47,15 @@ fn short_at(s: &[u8], at: usize) -> [u8; 8]
     requires { ⌜ (length (now s) ≤ tableMost) × FieldPlace (now s) at ⌝ }
     ensures { λ r. ⌜ r ≡ shortAt (now (s .entry)) at ⌝ }
 {
-    let parts = parts_at(s, at);
-    let short = parts.short;
+    let short = short_span(s, at);
     let start = short.at;
     let end = start + short.len;
     held_name(&s[start..end])
 }
 
-fn short_names(s: &[u8], places: [usize; 64], count: usize) -> [[u8; 8]; 64]
-    requires { ⌜ (count ≤ 64) × (length (now s) ≤ tableMost) × FieldPlaces (now s) count places ⌝ }
-    ensures { λ r. ⌜ take count r ≡ shortsAt (now (s .entry)) (take count places) ⌝ }
+fn short_names(s: &[u8], places: &[usize; 64], count: usize) -> [[u8; 8]; 64]
+    requires { ⌜ (count ≤ 64) × (length (now s) ≤ tableMost) × FieldPlaces (now s) count (now places) ⌝ }
+    ensures { λ r. ⌜ HeldNames (now (s .entry)) (now (places .entry)) count r ⌝ }
 {
     let mut names = [[0u8; 8]; 64];
     let mut i = 0;
@@ -63,15 +66,41 @@ fn short_names(s: &[u8], places: [usize; 64], count: usize) -> [[u8; 8]; 64]
     names
 }
 
-// The records at two places have one label.
-fn same_labels(s: &[u8], a: usize, b: usize) -> bool
-    requires { ⌜ (length (now s) ≤ tableMost) × FieldPlace (now s) a × FieldPlace (now s) b ⌝ }
+// The key of the label of the record at a place.
+fn label_key(s: &[u8], at: usize) -> u64
+    requires { ⌜ (length (now s) ≤ tableMost) × FieldPlace (now s) at ⌝ }
+    ensures { λ r. ⌜ r ≡ labelKey (now (s .entry)) at ⌝ }
+{
+    let label = label_span(s, at);
+    let start = label.at;
+    let end = start + label.len;
+    word_key(&s[start..end])
+}
+
+fn label_keys(s: &[u8], places: &[usize; 64], count: usize) -> [u64; 64]
+    requires { ⌜ (count ≤ 64) × (length (now s) ≤ tableMost) × FieldPlaces (now s) count (now places) ⌝ }
+    ensures { λ r. ⌜ LabelKeys (now (s .entry)) (now (places .entry)) count r ⌝ }
+{
+    let mut keys = [0u64; 64];
+    let mut i = 0;
+    while i < count {
+        keys[i] = label_key(s, places[i]);
+        i += 1;
+    }
+    keys
+}
+
+// The records at two places, whose labels have these keys, have one label.
+fn same_labels(s: &[u8], a: usize, b: usize, key: u64, other: u64) -> bool
+    requires { ⌜ (length (now s) ≤ tableMost) × FieldPlace (now s) a × FieldPlace (now s) b
+        × (key ≡ labelKey (now s) a) × (other ≡ labelKey (now s) b) ⌝ }
     ensures { λ r. ⌜ r ≡ same (labelAt (now (s .entry)) a) (labelAt (now (s .entry)) b) ⌝ }
 {
-    let first = parts_at(s, a);
-    let second = parts_at(s, b);
-    let p = first.label;
-    let q = second.label;
+    if key != other {
+        return false;
+    }
+    let p = label_span(s, a);
+    let q = label_span(s, b);
     let a_start = p.at;
     let a_end = a_start + p.len;
     let b_start = q.at;
@@ -80,9 +109,10 @@ fn same_labels(s: &[u8], a: usize, b: usize) -> bool
 }
 
 // The first of the records whose label repeats an earlier one, else their number.
-fn first_label(s: &[u8], places: [usize; 64], n: usize) -> usize
-    requires { ⌜ (n ≤ 64) × (length (now s) ≤ tableMost) × FieldPlaces (now s) n places ⌝ }
-    ensures { λ r. ⌜ r ≡ firstRepeat (labelsAlike (now (s .entry)) places) n ⌝ }
+fn first_label(s: &[u8], places: &[usize; 64], keys: &[u64; 64], n: usize) -> usize
+    requires { ⌜ (n ≤ 64) × (length (now s) ≤ tableMost) × FieldPlaces (now s) n (now places)
+        × LabelKeys (now s) (now places) n (now keys) ⌝ }
+    ensures { λ r. ⌜ r ≡ firstRepeat (labelsAlike (now (s .entry)) (now (places .entry))) n ⌝ }
 {
     let mut j = 0;
     'later: loop {
@@ -91,7 +121,7 @@ fn first_label(s: &[u8], places: [usize; 64], n: usize) -> usize
         }
         let mut i = 0;
         while i < j {
-            if same_labels(s, places[i], places[j]) {
+            if same_labels(s, places[i], places[j], keys[i], keys[j]) {
                 break 'later j;
             }
             i += 1;
@@ -107,9 +137,10 @@ pub(crate) fn has_unique_names(s: &[u8], count: usize, from: usize) -> bool
     ensures { λ r. ⌜ r ≡ namesTest (now (s .entry)) count from ⌝ }
 {
     let places = record_places(s, count, from);
-    if first_label(s, places, count) != count {
+    let keys = label_keys(s, &places, count);
+    if first_label(s, &places, &keys, count) != count {
         return false;
     }
-    let names = short_names(s, places, count);
+    let names = short_names(s, &places, count);
     first_repeat(names, count) == count
 }

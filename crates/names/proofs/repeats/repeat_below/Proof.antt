@@ -56,10 +56,13 @@ loop-less c = search needs
 
 loop-again : tie.Need-loop-again Inv-loop μ-loop Inv-later μ-later
 loop-again c =
-    let alike = namesAlike (now (c .before .before .before .before .before .before .before .before .args .names)) in
+    let a = c .before .before .before .before .before .before .before .before .args in
+    let o = c .before .before .before .before .before .before .before .later in
+    let l = c .before .before .before .before .before .loop in
+    let alike = namesAlike (now (a .names)) in
     let other = sym (c .before .same-name .ensures) ∙ c .if2 .left in
-    let step = search-step (λ k. alike k (c .before .before .before .before .before .before .before .later .j)) (c .before .before .before .before .before .loop .i) (c .before .before .before .before .before .before .before .later .j) (omega arith) in
-    (omega arith, c .before .before .before .before .before .loop .inv .1 ∙ step ∙ simp other)
+    let step = search-step (λ k. alike k (o .j)) (l .i) (o .j) (omega arith) in
+    (omega arith, l .inv .1 ∙ step ∙ simp other)
 
 add-j : tie.Need-add-j Inv-loop μ-loop Inv-later μ-later
 add-j c = search needs
@@ -69,23 +72,29 @@ later-less c = search needs
 
 later-again : tie.Need-later-again Inv-loop μ-loop Inv-later μ-later
 later-again c =
-    let alike = namesAlike (now (c .before .before .before .before .args .names)) in
-    let none = repeats-none alike (c .before .loop .i) (c .before .before .before .later .j) (omega arith) (omega arith) (c .before .loop .inv .1) in
-    let step = search-step (repeats alike) (c .before .before .before .later .j) (c .before .before .before .before .args .n) (omega arith) in
-    (omega arith, c .before .before .before .later .inv .1 ∙ step ∙ simp none)
+    let a = c .before .before .before .before .args in
+    let o = c .before .before .before .later in
+    let alike = namesAlike (now (a .names)) in
+    let none = repeats-none alike (c .before .loop .i) (o .j) (omega arith) (omega arith) (c .before .loop .inv .1) in
+    let step = search-step (repeats alike) (o .j) (a .n) (omega arith) in
+    (omega arith, o .inv .1 ∙ step ∙ simp none)
 
 returns : tie.Need-returns Inv-loop μ-loop Inv-later μ-later
 returns c =
-    let end : c .before .later .j ≡ c .before .before .args .n = omega arith in
-    sym (c .before .later .inv .1 ∙ rw end (search-end (repeats (namesAlike (now (c .before .before .args .names)))) (c .before .before .args .n)))
+    let a = c .before .before .args in
+    let end : c .before .later .j ≡ a .n = omega arith in
+    sym (c .before .later .inv .1 ∙ rw end (search-end (repeats (namesAlike (now (a .names)))) (a .n)))
 
 returns-2 : tie.Need-returns-2 Inv-loop μ-loop Inv-later μ-later
 returns-2 c =
-    let alike = namesAlike (now (c .before .before .before .before .before .before .before .before .args .names)) in
+    let a = c .before .before .before .before .before .before .before .before .args in
+    let o = c .before .before .before .before .before .before .before .later in
+    let l = c .before .before .before .before .before .loop in
+    let alike = namesAlike (now (a .names)) in
     let same = sym (c .before .same-name .ensures) ∙ c .if2 .taken in
-    let found = repeats-found alike (c .before .before .before .before .before .loop .i) (c .before .before .before .before .before .before .before .later .j) (omega arith) (c .before .before .before .before .before .loop .inv .1) same in
-    let step = search-step (repeats alike) (c .before .before .before .before .before .before .before .later .j) (c .before .before .before .before .before .before .before .before .args .n) (omega arith) in
-    sym (c .before .before .before .before .before .before .before .later .inv .1 ∙ step ∙ simp found)
+    let found = repeats-found alike (l .i) (o .j) (omega arith) (l .inv .1) same in
+    let step = search-step (repeats alike) (o .j) (a .n) (omega arith) in
+    sym (o .inv .1 ∙ step ∙ simp found)
 
 pub repeat-below-spec : {M : Type 1} → statement M
 repeat-below-spec =

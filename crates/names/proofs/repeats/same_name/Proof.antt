@@ -32,8 +32,12 @@ word-key-requires-2 c κs = search needs
 returns-2 : tie.Need-returns-2
 unfolding sameName
 returns-2 c =
-    let apart = keys-apart (c .before .before .before .before .before .before .args .t1) (c .before .before .before .before .before .before .args .t2) (λ e. c .if2 .taken (c .before .before .before .word-key .ensures ∙ e ∙ sym (c .before .word-key2 .ensures))) in
-    rw (ne-eqb _ _ (c .before .before .before .before .before .if1 .left), apart)
+    let a = c .before .before .before .before .before .before .args in
+    let if1 = c .before .before .before .before .before .if1 in
+    let word-key = c .before .before .before .word-key in
+    let apart = keys-apart (a .t1) (a .t2) (λ e. c .if2 .taken (word-key .ensures ∙ e ∙ sym
+    (c .before .word-key2 .ensures))) in
+    rw (ne-eqb _ _ (if1 .left), apart)
 
 slice-aggregate-same-words : tie.Need-slice-aggregate-same-words
 slice-aggregate-same-words c = search needs
@@ -46,7 +50,9 @@ same-words-requires c κs = search needs
 
 returns-3 : tie.Need-returns-3
 unfolding sameName
-returns-3 c = rw (ne-eqb _ _ (c .before .before .before .before .before .before .before .before .if1 .left)) (c .same-words .ensures)
+returns-3 c =
+    let if1 = c .before .before .before .before .before .before .before .before .if1 in
+    rw (ne-eqb _ _ (if1 .left)) (c .same-words .ensures)
 
 pub same-name-spec : {M : Type 1} → statement M
 same-name-spec =

@@ -40,13 +40,17 @@ loop-less : tie.Need-loop-less Inv-loop μ-loop
 loop-less c = search needs
 
 loop-again : tie.Need-loop-again Inv-loop μ-loop
-loop-again c = (
-  omega arith,
-  c .before .before .before .loop .inv .1 ∙ key-step (now (c .before .before .before .before .before .args .w)) (c .before .before .before .loop .key) (c .before .before .before .loop .i) _ (omega arith) (c .wide .ensures .0),
-)
+loop-again c =
+    let a = c .before .before .before .before .before .args in
+    let l = c .before .before .before .loop in (
+      omega arith,
+      l .inv .1 ∙ key-step (now (a .w)) (l .key) (l .i) _ (omega arith) (c .wide .ensures .0),
+    )
 
 returns : tie.Need-returns Inv-loop μ-loop
-returns c = sym (c .before .loop .inv .1 ∙ key-end (now (c .before .before .before .args .w)) (c .before .loop .key) (c .before .loop .i) (omega arith))
+returns c =
+    let a = c .before .before .before .args in
+    sym (c .before .loop .inv .1 ∙ key-end (now (a .w)) (c .before .loop .key) (c .before .loop .i) (omega arith))
 
 pub word-key-spec : {M : Type 1} → statement M
 word-key-spec =

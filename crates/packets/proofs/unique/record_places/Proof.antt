@@ -1,17 +1,19 @@
-use mathlib.Core.Path.{_≡_}
+use mathlib.Core.Path.{_≡_, _∙_}
 use mathlib.Core.List.{_++_}
 use Prim.Native.Nat.{_+_, _-_, _≤_}
 use native.Mathlib.Omega.{arith}
 use native.Mathlib.Nat.{sub-zero}
+use denote.Ref.{now}
 use lib.ListN.{length, take}
+use Rattle.packets.specs.Parts.{partsAt}
 use Rattle.packets.specs.NamesTest.{placesFrom, FieldPlaces}
-use Rattle.packets.proofs.NameSteps.{place-first, places-rest, places-again, places-done}
+use Rattle.packets.proofs.NameSteps.{place-first, places-rest, places-again, places-done, place-next}
 use borrow.Author.Needs.{needs}
 use Rattle.packets.proofs.unique.record_places.Statement.{statement}
 use Rattle.packets.proofs.unique.record_places.Tie as tie
 use Rattle.packets.proofs.unique.record_places.Reads as reads
 use Rattle.packets.proofs.unique.record_places.Lts as lts
-use Rattle.packets.proofs.records.parts_at.Reads as parts-at-reads
+use Rattle.packets.proofs.records.two_at.Reads as two-at-reads
 
 abbrev Inv-loop : tie.InvT-loop
 Inv-loop s count from places₀ at₀ i₀ places at i =
@@ -30,24 +32,33 @@ mul-places c = search needs
 array-write-places : tie.Need-array-write-places Inv-loop μ-loop
 array-write-places c = search needs
 
-parts-at-requires : tie.Need-parts-at-requires Inv-loop μ-loop
-parts-at-requires c κs = place-first _ _ (c .before .loop .i) _ (omega arith) (c .before .loop .inv .2) .place
+two-at-requires : tie.Need-two-at-requires Inv-loop μ-loop
+two-at-requires c κs =
+    let p = place-first _ _ (c .before .loop .i) _ (omega arith) (c .before .loop .inv .2) .place in omega arith
+
+add-at : tie.Need-add-at Inv-loop μ-loop
+add-at c =
+    let l = c .before .before .loop in
+    let p = place-first _ _ (l .i) _ (omega arith) (l .inv .2) .place in omega arith
 
 add-i : tie.Need-add-i Inv-loop μ-loop
 add-i c = search needs
 
 loop-less : tie.Need-loop-less Inv-loop μ-loop
-loop-less c = omega arith
+loop-less c = search needs
 
 loop-again : tie.Need-loop-again Inv-loop μ-loop
-loop-again c = (
-  omega arith,
-  search needs,
-  rw (c .parts-at .ensures) (places-rest _ _ (c .before .before .loop .i) _ (omega arith)
-      (c .before .before .loop .inv .2)),
-  rw (c .parts-at .ensures) (places-again _ _ (c .before .before .loop .i) _ (c .before .before .loop .places) _
-      (omega arith) (omega arith) (c .before .before .loop .inv .3)),
-)
+loop-again c =
+    let a = c .before .before .before .before .args in
+    let l = c .before .before .loop in
+    let s = now (a .s) in
+    let next : l .at + c .two-at .result ≡ partsAt s (l .at) .next =
+    place-next s (a .count) (l .i) (l .at) _ (omega arith) (l .inv .2) (c .two-at .ensures .0) in (
+      omega arith,
+      search needs,
+      rw next (places-rest _ _ (l .i) _ (omega arith) (l .inv .2)),
+      rw next (places-again _ _ (l .i) _ (l .places) _ (omega arith) (omega arith) (l .inv .3)),
+    )
 
 returns : tie.Need-returns Inv-loop μ-loop
 returns c = places-done _ _ (c .before .loop .i) _ (c .before .loop .places) _ (omega arith) (c .before .loop .inv .3)
@@ -61,7 +72,8 @@ record-places-spec =
     loop-holds
     mul-places
     array-write-places
-    parts-at-requires
+    two-at-requires
+    add-at
     add-i
     loop-less
     loop-again

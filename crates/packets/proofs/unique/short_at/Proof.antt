@@ -1,5 +1,4 @@
 use mathlib.Core.Path.{sym, _∙_}
-use Prim.Native.Nat.{_-_}
 use native.Mathlib.Omega.{arith}
 use Rattle.packets.specs.NamesTest.{shortAt}
 use borrow.Author.Needs.{needs}
@@ -8,15 +7,15 @@ use Rattle.packets.proofs.unique.short_at.Tie as tie
 use Rattle.packets.proofs.unique.short_at.Reads as reads
 use Rattle.packets.proofs.unique.short_at.Lts as lts
 use Rattle.names.proofs.repeats.held_name.Reads as held-name-reads
-use Rattle.packets.proofs.records.parts_at.Reads as parts-at-reads
+use Rattle.packets.proofs.records.short_span.Reads as short-span-reads
 
-parts-at-requires : tie.Need-parts-at-requires
-parts-at-requires c κs = search needs
+short-span-requires : tie.Need-short-span-requires
+short-span-requires c κs = search needs
 
 add-end : tie.Need-add-end
 add-end c =
-    let z = rw (sym (c .before .before .parts-at .ensures)) at
-    (c .before .before .before .before .pre .1 .inside .short) in omega arith
+    let pre = c .before .before .before .pre in
+    let z = rw (sym (c .before .short-span .ensures)) at (pre .1 .inside .short) in omega arith
 
 sub-held-name : tie.Need-sub-held-name
 sub-held-name c = omega arith
@@ -26,21 +25,21 @@ part-held-name-start c = omega arith
 
 part-held-name-end : tie.Need-part-held-name-end
 part-held-name-end c =
-    let z = rw (sym (c .before .before .parts-at .ensures)) at
-    (c .before .before .before .before .pre .1 .inside .short) in omega arith
+    let pre = c .before .before .before .pre in
+    let z = rw (sym (c .before .short-span .ensures)) at (pre .1 .inside .short) in omega arith
 
 held-name-requires : tie.Need-held-name-requires
 held-name-requires c κs = search needs
 
 returns : tie.Need-returns
 unfolding shortAt
-returns c = c .held-name .ensures ∙ rw (c .before .before .before .before .parts-at .ensures)
+returns c = c .held-name .ensures ∙ rw (c .before .before .before .short-span .ensures)
 
 pub short-at-spec : {M : Type 1} → statement M
 short-at-spec =
     tie.close
     (tie.spec
-    parts-at-requires
+    short-span-requires
     add-end
     sub-held-name
     part-held-name-start

@@ -1,10 +1,11 @@
-use mathlib.Core.Path.{_≡_, refl}
-use Prim.Native.Nat.{_-_, _≤_}
+use mathlib.Core.Path.{_≡_}
+use mathlib.Core.List.{[]}
+use Prim.Native.Nat.{ℕ, _-_, _≤_}
 use native.Mathlib.Omega.{arith}
-use lib.ListN.{length, take}
+use lib.ListN.{length, getD}
 use denote.Ref.{now}
-use Rattle.packets.specs.NamesTest.{shortsAt}
-use Rattle.packets.proofs.NameSteps.{shorts-again}
+use Rattle.packets.specs.NamesTest.{shortAt, HeldNames}
+use Rattle.packets.proofs.NameSteps.{filled-again}
 use borrow.Author.Needs.{needs}
 use Rattle.packets.proofs.unique.short_names.Statement.{statement}
 use Rattle.packets.proofs.unique.short_names.Tie as tie
@@ -13,24 +14,26 @@ use Rattle.packets.proofs.unique.short_names.Lts as lts
 use Rattle.packets.proofs.unique.short_at.Reads as short-at-reads
 
 abbrev Inv-loop : tie.InvT-loop
-Inv-loop s count places names₀ i₀ names i =
-    (i ≤ count) × (length names ≡ 64) × (take i names ≡ shortsAt s (take i places))
+Inv-loop s places count names₀ i₀ names i =
+    (i ≤ count) × (length names ≡ 64) × HeldNames s places i names
 
 abbrev μ-loop : tie.MeasureT-loop
-μ-loop s count places names₀ i₀ names i = count - i
+μ-loop s places count names₀ i₀ names i = count - i
 
 loop-holds : tie.Need-loop-holds Inv-loop μ-loop
-loop-holds c = (omega arith, search needs, refl)
+loop-holds c = (omega arith, search needs, λ k lt. absurd (omega arith))
 
 mul-short-at : tie.Need-mul-short-at Inv-loop μ-loop
 mul-short-at c = search needs
 
-array-read-short-at : tie.Need-array-read-short-at Inv-loop μ-loop
-array-read-short-at c = search needs
+element-copy-out-short-at : tie.Need-element-copy-out-short-at Inv-loop μ-loop
+element-copy-out-short-at c = search needs
 
 short-at-requires : tie.Need-short-at-requires Inv-loop μ-loop
 short-at-requires c κs =
-    (c .before .before .before .pre .1, c .before .before .before .pre .2 (c .before .loop .i) (omega arith))
+    let pre = c .before .before .before .before .pre in
+    let l = c .before .before .loop in
+    (pre .1, pre .2 (l .i) (omega arith))
 
 mul-names : tie.Need-mul-names Inv-loop μ-loop
 mul-names c = search needs
@@ -42,21 +45,23 @@ add-i : tie.Need-add-i Inv-loop μ-loop
 add-i c = search needs
 
 loop-less : tie.Need-loop-less Inv-loop μ-loop
-loop-less c = omega arith
+loop-less c = search needs
 
 loop-again : tie.Need-loop-again Inv-loop μ-loop
-loop-again c = (
-  omega arith,
-  search needs,
-  shorts-again (now (c .before .before .before .before .args .s)) _ (c .before .before .loop .names)
-      (c .before .before .loop .i) _ (omega arith) (search needs) (c .before .before .loop .inv .2)
-      (c .short-at .ensures),
-)
+loop-again c =
+    let a = c .before .before .before .before .before .args in
+    let l = c .before .before .before .loop in
+    let at : ℕ → ℕ = λ k. getD (now (a .places)) k 0 in (
+      omega arith,
+      search needs,
+      filled-again (λ k. shortAt (now (a .s)) (at k)) [] (l .names) (l .i) _ (omega arith) (l .inv .2)
+          (c .short-at .ensures),
+    )
 
 returns : tie.Need-returns Inv-loop μ-loop
 returns c =
-    let e : c .before .loop .i ≡ c .before .before .before .args .count = omega arith in rw e at
-    (c .before .loop .inv .2)
+    let a = c .before .before .before .args in
+    let e : c .before .loop .i ≡ a .count = omega arith in rw e at (c .before .loop .inv .2)
 
 pub short-names-spec : {M : Type 1} → statement M
 short-names-spec =
@@ -66,7 +71,7 @@ short-names-spec =
     μ-loop
     loop-holds
     mul-short-at
-    array-read-short-at
+    element-copy-out-short-at
     short-at-requires
     mul-names
     array-set-from-names
