@@ -8,7 +8,7 @@ use lib.ListN.{length, drop, getD}
 use lib.Seq.{drop-cons, drop-length}
 use Rattle.base.specs.Lists.{same}
 use Rattle.base.proofs.Lists.{fails, same-true}
-use Rattle.names.specs.Keys.{keyPart, keyFrom, wordKey}
+use Rattle.names.specs.Keys.{keyPart, keyFrom}
 
 pub key-step : (w : List ℕ) (key i b : ℕ) → i < length w → b ≡ getD w i 0
     → keyFrom key (drop i w) ≡ keyFrom (key % keyPart * 256 + b) (drop (i + 1) w)
@@ -19,6 +19,6 @@ pub key-end : (w : List ℕ) (key i : ℕ) → i ≡ length w → keyFrom key (d
 unfolding keyFrom
 key-end w key i e = rw (e, drop-length w)
 
--- words of other keys differ
-pub keys-apart : (a b : List ℕ) → (wordKey a ≡ wordKey b → ⊥) → same a b ≡ false
-keys-apart a b h = fails (same a b) (λ e. h (ap wordKey (same-true a b e)))
+-- words that any function of them tells apart differ
+pub keys-apart : (key : List ℕ → ℕ) (a b : List ℕ) → (key a ≡ key b → ⊥) → same a b ≡ false
+keys-apart key a b h = fails (same a b) (λ e. h (ap key (same-true a b e)))

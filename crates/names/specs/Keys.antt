@@ -1,4 +1,5 @@
 -- A number that like words share, by which words that differ are mostly told apart.
+-- This mirrors the code of src/words.rt: no public promise rests on this file.
 use mathlib.Core.List.{List, [], _∷_}
 use Prim.Native.Nat.{ℕ, _+_, _*_, _%_}
 

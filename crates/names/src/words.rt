@@ -16,7 +16,7 @@ fn wide(b: u8) -> u64
 }
 
 // The number that the last 8 bytes of a word make.
-pub fn word_key(w: &[u8]) -> u64
+pub(crate) fn word_key(w: &[u8]) -> u64
     ensures { λ r. ⌜ r ≡ wordKey (now (w .entry)) ⌝ }
 {
     let mut key: u64 = 0;

@@ -5,11 +5,11 @@ use mathlib.Core.List.{List, [], _∷_, _++_, append-assoc, append-nil}
 use Prim.Native.Nat.{ℕ, suc, _+_, _-_, _<_}
 use native.Mathlib.Omega.{arith}
 use lib.Dec.{ltb}
-use lib.ListN.{length, take, set, getD}
+use lib.ListN.{length, take, set, getD, replicate}
 use lib.Seq.{getD-take, getD-set-same, getD-set-other}
 use borrow.Author.Tests.{ltb-true, ltb-false}
 use Rattle.base.specs.Places.{twoAt}
-use Rattle.names.specs.Repeats.{namesAlike, firstRepeat}
+use Rattle.names.specs.Repeats.{padTo, namesAlike, firstRepeat}
 use Rattle.names.proofs.RepeatLaws.{repeat-same}
 use Rattle.packets.specs.Parts.{partsAt}
 use Rattle.packets.proofs.WalkSteps.{take-own}
@@ -75,6 +75,15 @@ filled-again f d l i x lt h e k le = go (ltb k i) refl
     go false t =
         let m : k ≡ i = omega (arith, ltb-false k i t) in
         rw (m, getD-set-same l i x d lt) e
+
+-- ── a record without a short name ──
+
+pub short-none : (s : List ℕ) (at : ℕ) → partsAt s at .short .len ≡ 0 → replicate 8 0 ≡ shortAt s at
+unfolding shortAt padTo
+short-none s at e =
+    let start = partsAt s at .short .at in
+    let none : start + 0 - start ≡ 0 = omega arith in
+    rw (e, none)
 
 -- ── all of them ──
 

@@ -1,13 +1,12 @@
 -- The test that names are unique. This mirrors the code of src/unique.rt: no public promise rests on this file.
-use mathlib.Core.Bool.{Bool, _&&_}
+use mathlib.Core.Bool.{Bool, cond, _&&_}
 use mathlib.Core.List.{List, [], _∷_, map}
 use mathlib.Core.Path.{_≡_}
-use Prim.Native.Nat.{ℕ, zero, suc, _+_, _<_, _≤_}
-use lib.Dec.{eqb}
-use lib.ListN.{getD}
+use Prim.Native.Nat.{ℕ, zero, suc, _+_, _-_, _*_, _/_, _<_, _≤_}
+use lib.Dec.{eqb, ltb}
+use lib.ListN.{length, getD}
 use Rattle.base.specs.Lists.{same}
 use Rattle.base.specs.Places.{twoAt}
-use Rattle.names.specs.Keys.{wordKey}
 use Rattle.names.specs.Repeats.{padTo, namesAlike, firstRepeat}
 use Rattle.packets.specs.Parts.{tableMost, partsAt}
 use Rattle.packets.specs.FieldTest.{bytesIn, Inside}
@@ -29,8 +28,13 @@ FieldPlaces s n places = (i : ℕ) → i < n → FieldPlace s (getD places i 0)
 unfoldable pub labelAt : List ℕ → ℕ → List ℕ
 labelAt s at = bytesIn s (partsAt s at .label)
 
+-- a number that like labels share, by which labels that differ are mostly told apart
+unfoldable pub sampleKey : List ℕ → ℕ
+sampleKey w =
+    cond (ltb (length w) 2) 0 ((256 * length w + getD w (length w / 2) 0) * 65536 + twoAt w (length w - 2))
+
 unfoldable pub labelKey : List ℕ → ℕ → ℕ
-labelKey s at = wordKey (labelAt s at)
+labelKey s at = sampleKey (labelAt s at)
 
 -- the keys of the labels at the first n places
 abbrev pub LabelKeys : List ℕ → List ℕ → ℕ → List ℕ → Type 0

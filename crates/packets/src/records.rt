@@ -49,7 +49,7 @@ pub(crate) fn byte_at(s: &[u8], at: usize) -> usize
     0
 }
 
-fn wide(b: u8) -> usize
+pub(crate) fn wide(b: u8) -> usize
     ensures { λ r. ⌜ (r ≡ b) × (r ≤ 255) ⌝ }
 {
     b as usize

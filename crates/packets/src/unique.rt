@@ -2,10 +2,10 @@
 use crate::records::label_span;
 use crate::records::short_span;
 use crate::records::two_at;
+use crate::records::wide;
 use names::repeats::first_repeat;
 use names::repeats::held_name;
 use names::words::same_words;
-use names::words::word_key;
 ghost use mathlib.Core.Path.{_≡_};
 ghost use Prim.Native.Nat.{_≤_};
 ghost use lib.ListN.{length, take, getD};
@@ -17,6 +17,7 @@ ghost use Rattle.packets.specs.NamesTest.{
   FieldPlace,
   FieldPlaces,
   labelAt,
+  sampleKey,
   labelKey,
   LabelKeys,
   shortAt,
@@ -48,6 +49,9 @@ fn short_at(s: &[u8], at: usize) -> [u8; 8]
     ensures { λ r. ⌜ r ≡ shortAt (now (s .entry)) at ⌝ }
 {
     let short = short_span(s, at);
+    if short.len == 0 {
+        return [0u8; 8];
+    }
     let start = short.at;
     let end = start + short.len;
     held_name(&s[start..end])
@@ -66,22 +70,34 @@ fn short_names(s: &[u8], places: &[usize; 64], count: usize) -> [[u8; 8]; 64]
     names
 }
 
+// The length, the middle byte and the last two bytes of a label, in one number.
+fn sample_key(w: &[u8]) -> usize
+    requires { ⌜ length (now w) ≤ tableMost ⌝ }
+    ensures { λ r. ⌜ r ≡ sampleKey (now (w .entry)) ⌝ }
+{
+    let n = w.len();
+    if n < 2 {
+        return 0;
+    }
+    (256 * n + wide(w[n / 2])) * 65536 + two_at(w, n - 2)
+}
+
 // The key of the label of the record at a place.
-fn label_key(s: &[u8], at: usize) -> u64
+fn label_key(s: &[u8], at: usize) -> usize
     requires { ⌜ (length (now s) ≤ tableMost) × FieldPlace (now s) at ⌝ }
     ensures { λ r. ⌜ r ≡ labelKey (now (s .entry)) at ⌝ }
 {
     let label = label_span(s, at);
     let start = label.at;
     let end = start + label.len;
-    word_key(&s[start..end])
+    sample_key(&s[start..end])
 }
 
-fn label_keys(s: &[u8], places: &[usize; 64], count: usize) -> [u64; 64]
+fn label_keys(s: &[u8], places: &[usize; 64], count: usize) -> [usize; 64]
     requires { ⌜ (count ≤ 64) × (length (now s) ≤ tableMost) × FieldPlaces (now s) count (now places) ⌝ }
     ensures { λ r. ⌜ LabelKeys (now (s .entry)) (now (places .entry)) count r ⌝ }
 {
-    let mut keys = [0u64; 64];
+    let mut keys = [0usize; 64];
     let mut i = 0;
     while i < count {
         keys[i] = label_key(s, places[i]);
@@ -91,7 +107,7 @@ fn label_keys(s: &[u8], places: &[usize; 64], count: usize) -> [u64; 64]
 }
 
 // The records at two places, whose labels have these keys, have one label.
-fn same_labels(s: &[u8], a: usize, b: usize, key: u64, other: u64) -> bool
+fn same_labels(s: &[u8], a: usize, b: usize, key: usize, other: usize) -> bool
     requires { ⌜ (length (now s) ≤ tableMost) × FieldPlace (now s) a × FieldPlace (now s) b
         × (key ≡ labelKey (now s) a) × (other ≡ labelKey (now s) b) ⌝ }
     ensures { λ r. ⌜ r ≡ same (labelAt (now (s .entry)) a) (labelAt (now (s .entry)) b) ⌝ }
@@ -109,7 +125,7 @@ fn same_labels(s: &[u8], a: usize, b: usize, key: u64, other: u64) -> bool
 }
 
 // The first of the records whose label repeats an earlier one, else their number.
-fn first_label(s: &[u8], places: &[usize; 64], keys: &[u64; 64], n: usize) -> usize
+fn first_label(s: &[u8], places: &[usize; 64], keys: &[usize; 64], n: usize) -> usize
     requires { ⌜ (n ≤ 64) × (length (now s) ≤ tableMost) × FieldPlaces (now s) n (now places)
         × LabelKeys (now s) (now places) n (now keys) ⌝ }
     ensures { λ r. ⌜ r ≡ firstRepeat (labelsAlike (now (s .entry)) (now (places .entry))) n ⌝ }

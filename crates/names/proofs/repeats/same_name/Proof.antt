@@ -1,5 +1,6 @@
 use mathlib.Core.Path.{sym, _∙_}
 use borrow.Author.Tests.{eq-eqb, ne-eqb}
+use Rattle.names.specs.Keys.{wordKey}
 use Rattle.names.specs.Repeats.{sameName}
 use Rattle.names.proofs.KeyLaws.{keys-apart}
 use borrow.Author.Needs.{needs}
@@ -35,7 +36,7 @@ returns-2 c =
     let a = c .before .before .before .before .before .before .args in
     let if1 = c .before .before .before .before .before .if1 in
     let word-key = c .before .before .before .word-key in
-    let apart = keys-apart (a .t1) (a .t2) (λ e. c .if2 .taken (word-key .ensures ∙ e ∙ sym
+    let apart = keys-apart wordKey (a .t1) (a .t2) (λ e. c .if2 .taken (word-key .ensures ∙ e ∙ sym
     (c .before .word-key2 .ensures))) in
     rw (ne-eqb _ _ (if1 .left), apart)
 

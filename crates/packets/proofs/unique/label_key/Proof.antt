@@ -1,12 +1,13 @@
 use mathlib.Core.Path.{sym, _∙_}
 use native.Mathlib.Omega.{arith}
+use lib.ListN.{length-take, length-drop}
 use Rattle.packets.specs.NamesTest.{labelAt, labelKey}
 use borrow.Author.Needs.{needs}
 use Rattle.packets.proofs.unique.label_key.Statement.{statement}
 use Rattle.packets.proofs.unique.label_key.Tie as tie
 use Rattle.packets.proofs.unique.label_key.Reads as reads
 use Rattle.packets.proofs.unique.label_key.Lts as lts
-use Rattle.names.proofs.words.word_key.Reads as word-key-reads
+use Rattle.packets.proofs.unique.sample_key.Reads as sample-key-reads
 use Rattle.packets.proofs.records.label_span.Reads as label-span-reads
 
 label-span-requires : tie.Need-label-span-requires
@@ -17,23 +18,26 @@ add-end c =
     let pre = c .before .before .before .pre in
     let z = rw (sym (c .before .label-span .ensures)) at (pre .1 .inside .label) in omega arith
 
-sub-word-key : tie.Need-sub-word-key
-sub-word-key c = omega arith
+sub-sample-key : tie.Need-sub-sample-key
+sub-sample-key c = omega arith
 
-part-word-key-start : tie.Need-part-word-key-start
-part-word-key-start c = omega arith
+part-sample-key-start : tie.Need-part-sample-key-start
+part-sample-key-start c = omega arith
 
-part-word-key-end : tie.Need-part-word-key-end
-part-word-key-end c =
+part-sample-key-end : tie.Need-part-sample-key-end
+part-sample-key-end c =
     let pre = c .before .before .before .pre in
     let z = rw (sym (c .before .label-span .ensures)) at (pre .1 .inside .label) in omega arith
 
-word-key-requires : tie.Need-word-key-requires
-word-key-requires c κs = search needs
+sample-key-requires : tie.Need-sample-key-requires
+sample-key-requires c κs =
+    let pre = c .before .before .before .before .pre in
+    let z = rw (sym (c .before .before .label-span .ensures)) at (pre .1 .inside .label) in
+    simp (length-take, length-drop) (omega arith)
 
 returns : tie.Need-returns
 unfolding labelAt labelKey
-returns c = c .word-key .ensures ∙ rw (c .before .before .before .label-span .ensures)
+returns c = c .sample-key .ensures ∙ rw (c .before .before .before .label-span .ensures)
 
 pub label-key-spec : {M : Type 1} → statement M
 label-key-spec =
@@ -41,8 +45,8 @@ label-key-spec =
     (tie.spec
     label-span-requires
     add-end
-    sub-word-key
-    part-word-key-start
-    part-word-key-end
-    word-key-requires
+    sub-sample-key
+    part-sample-key-start
+    part-sample-key-end
+    sample-key-requires
     returns)

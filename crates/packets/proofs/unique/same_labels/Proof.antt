@@ -1,7 +1,7 @@
 use mathlib.Core.Path.{sym, _∙_}
 use native.Mathlib.Omega.{arith}
 use denote.Ref.{now}
-use Rattle.packets.specs.NamesTest.{labelAt, labelKey}
+use Rattle.packets.specs.NamesTest.{labelAt, sampleKey, labelKey}
 use Rattle.names.proofs.KeyLaws.{keys-apart}
 use borrow.Author.Needs.{needs}
 use Rattle.packets.proofs.unique.same_labels.Statement.{statement}
@@ -17,7 +17,7 @@ returns c =
     let a = c .before .before .args in
     let pre = c .before .before .pre in
     let s = now (a .s) in
-    sym (keys-apart (labelAt s (a .a)) (labelAt s (a .b)) (λ e. c .if1 .taken (pre .3 ∙ e ∙ sym (pre .4))))
+    sym (keys-apart sampleKey (labelAt s (a .a)) (labelAt s (a .b)) (λ e. c .if1 .taken (pre .3 ∙ e ∙ sym (pre .4))))
 
 label-span-requires : tie.Need-label-span-requires
 label-span-requires c κs = search needs
