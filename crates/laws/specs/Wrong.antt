@@ -196,15 +196,15 @@ wrong =
     ∷ labels bladeReport 0 (bytes "On Loan") 58
     ∷ labels bladeReport 0 (bytes "Version") 0
     ∷ labels bladeReport 7 (bytes "Sum") 186
-    -- where a label lies: the empty part; the short name's place; the neighbour's; its own start with another size; with
-    -- its length in front; one beyond the fields
+    -- where a label lies: the empty part; the short name's place; the neighbour's; its own start with another size;
+    -- its length taken in; one beyond the fields
     ∷ placesLabel bladeReport 0 0 0
     ∷ placesLabel bladeReport 0 37 1
     ∷ placesLabel bladeReport 0 58 7
     ∷ placesLabel bladeReport 0 28 12
     ∷ placesLabel bladeReport 0 26 9
     ∷ placesLabel bladeReport 7 186 3
-    -- a number: 24 told as 25; 0 for a refusal; the bit total for 0
+    -- a number: 24 told as 25; 0 for a refusal; the bit total of an accepted packet
     ∷ tellsNumber (Refused BitsMissing 7) 25
     ∷ tellsNumber (Refused BitsMissing 7) 0
     ∷ tellsNumber PacketAnswer.NotGood 0

@@ -1,5 +1,5 @@
--- What an export hands out with the answer of a wrong program (laws, specs/Wrong; texts, specs/WrongTexts). Of each, the
--- export's promise is false (proofs/RuledOutReplies).
+-- What an export hands out with the answer of a wrong program (laws, specs/Wrong; texts, specs/WrongTexts): of each,
+-- the export's promise is false (proofs/RuledOutReplies).
 use mathlib.Core.Path.{_≡_}
 use mathlib.Core.List.{List, [], _∷_}
 use Rattle.rules.specs.Stored.{stored}
