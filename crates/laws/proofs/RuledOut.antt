@@ -39,16 +39,19 @@ use Rattle.rules.specs.Promises.{
   Outcome,
   leaves,
   delivered,
+  partFrom,
   ChecksTable,
   readingAnswer,
   packetOutcome,
   ReadsPacket,
   partBy,
+  PlacesPart,
   HandsPart,
   firstNamed,
   FindsField,
   labelOf,
   labelBy,
+  PlacesLabel,
   HandsLabel,
   readingLines,
   listing,
@@ -62,8 +65,13 @@ use Rattle.laws.specs.Wrong.{
   reads,
   lists,
   hands,
+  placesPart,
   finds,
   labels,
+  placesLabel,
+  tellsNumber,
+  tellsPlace,
+  tellsValue,
   lentOutput,
   Claimed,
   AllFalse,
@@ -93,6 +101,11 @@ pub part-only : (d : Description) (packet : List ℕ) (i : ℕ) (bytes : List �
 unfolding partBy
 part-only d packet i bytes start w p = (p .content (yes (good-stored d w)), p .place (yes (good-stored d w)))
 
+pub part-place-only : (d : Description) (packet : List ℕ) (i start size : ℕ) → Within d
+    → PlacesPart (stored d) packet i start size → partFrom start size ≡ partIn (reading d packet) i
+unfolding partBy
+part-place-only d packet i start size w p = p (yes (good-stored d w))
+
 pub field-only : (d : Description) (name : List ℕ) (r : FieldAnswer) → Within d → FindsField (stored d) name r
     → ofField r ≡ firstNamed name 0 (d .fields)
 field-only d name r w p = p (yes (good-stored d w))
@@ -106,6 +119,11 @@ pub label-only : (d : Description) (i : ℕ) (bytes : List ℕ) (start : ℕ) �
 unfolding labelBy
 label-only d i bytes start w p = (p .content (yes (good-stored d w)), p .place (yes (good-stored d w)))
 
+pub label-place-only : (d : Description) (i start size : ℕ) → Within d → PlacesLabel (stored d) i start size
+    → partFrom start size ≡ labelAt d i
+unfolding labelBy
+label-place-only d i start size w p = p (yes (good-stored d w))
+
 -- ── of other numbers it is false ──
 
 abbrev answerNumbers : Answer → List ℕ
@@ -117,52 +135,80 @@ numbers o = o .answer .number ∷ o .answer .place ∷ o .answer .value ∷ o .b
 abbrev partNumbers : List ℕ → Part → List ℕ
 partNumbers packet part = part .start ∷ partBytes packet part
 
+abbrev placeNumbers : Part → List ℕ
+placeNumbers part = part .start ∷ part .size ∷ []
+
+abbrev single : ℕ → List ℕ
+single n = n ∷ []
+
 -- what a claim says, and what the definitions give, in numbers
 abbrev claimed : Claim → List ℕ
 claimed (checks d r) = answerNumbers (ofTable r)
 claimed (reads d packet r after) = numbers (leaves (ofPacket r) after)
 claimed (lists d packet r after) = numbers (leaves (ofListing r) after)
 claimed (hands d packet i bytes start) = start ∷ bytes
+claimed (placesPart d packet i start size) = placeNumbers (partFrom start size)
 claimed (finds d name r) = answerNumbers (ofField r)
 claimed (labels d i bytes start) = start ∷ bytes
+claimed (placesLabel d i start size) = placeNumbers (partFrom start size)
+claimed (tellsNumber r n) = single n
+claimed (tellsPlace r n) = single n
+claimed (tellsValue r n) = single n
 
 abbrev given : Claim → List ℕ
 given (checks d r) = answerNumbers (accepted (length (stored d)))
 given (reads d packet r after) = numbers (packetOutcome d packet lentRun)
 given (lists d packet r after) = numbers (delivered (listing d packet) lentOutput)
 given (hands d packet i bytes start) = partNumbers packet (partIn (reading d packet) i)
+given (placesPart d packet i start size) = placeNumbers (partIn (reading d packet) i)
 given (finds d name r) = answerNumbers (firstNamed name 0 (d .fields))
 given (labels d i bytes start) = partNumbers (stored d) (labelAt d i)
+given (placesLabel d i start size) = placeNumbers (labelAt d i)
+given (tellsNumber r n) = single (ofPacket r .number)
+given (tellsPlace r n) = single (ofPacket r .place)
+given (tellsValue r n) = single (ofPacket r .value)
 
-abbrev about : Claim → Description
-about (checks d r) = d
-about (reads d packet r after) = d
-about (lists d packet r after) = d
-about (hands d packet i bytes start) = d
-about (finds d name r) = d
-about (labels d i bytes start) = d
+-- what is claimed of a table is of the table of a description within the limits
+abbrev isFitting : Claim → Bool
+isFitting (checks d r) = isWithin d
+isFitting (reads d packet r after) = isWithin d
+isFitting (lists d packet r after) = isWithin d
+isFitting (hands d packet i bytes start) = isWithin d
+isFitting (placesPart d packet i start size) = isWithin d
+isFitting (finds d name r) = isWithin d
+isFitting (labels d i bytes start) = isWithin d
+isFitting (placesLabel d i start size) = isWithin d
+isFitting (tellsNumber r n) = true
+isFitting (tellsPlace r n) = true
+isFitting (tellsValue r n) = true
 
 two-parts : {m n : ℕ} {s t : List ℕ} → (s ≡ t) × (m ≡ n) → m ∷ s ≡ n ∷ t
 two-parts {n = n} {s = s} q = ap (λ (k : ℕ). k ∷ s) (q .1) ∙ ap (λ (l : List ℕ). n ∷ l) (q .0)
 
-pub claim-only : (c : Claim) → Within (about c) → Claimed c → claimed c ≡ given c
-claim-only (checks d r) w p = ap answerNumbers (table-only d r w p)
-claim-only (reads d packet r after) w p = ap numbers (outcome-only d packet lentRun r after w p)
-claim-only (lists d packet r after) w p = ap numbers (listing-only d packet lentOutput r after w p)
-claim-only (hands d packet i bytes start) w p = two-parts (part-only d packet i bytes start w p)
-claim-only (finds d name r) w p = ap answerNumbers (field-only d name r w p)
-claim-only (labels d i bytes start) w p = two-parts (label-only d i bytes start w p)
+pub claim-only : (c : Claim) → isFitting c ≡ true → Claimed c → claimed c ≡ given c
+claim-only (checks d r) h p = ap answerNumbers (table-only d r (within d h) p)
+claim-only (reads d packet r after) h p = ap numbers (outcome-only d packet lentRun r after (within d h) p)
+claim-only (lists d packet r after) h p = ap numbers (listing-only d packet lentOutput r after (within d h) p)
+claim-only (hands d packet i bytes start) h p = two-parts (part-only d packet i bytes start (within d h) p)
+claim-only (placesPart d packet i start size) h p =
+    ap placeNumbers (part-place-only d packet i start size (within d h) p)
+claim-only (finds d name r) h p = ap answerNumbers (field-only d name r (within d h) p)
+claim-only (labels d i bytes start) h p = two-parts (label-only d i bytes start (within d h) p)
+claim-only (placesLabel d i start size) h p = ap placeNumbers (label-place-only d i start size (within d h) p)
+claim-only (tellsNumber r n) h p = ap single p
+claim-only (tellsPlace r n) h p = ap single p
+claim-only (tellsValue r n) h p = ap single p
 
 abbrev isOther : Claim → Bool
-isOther c = isWithin (about c) && not (same (claimed c) (given c))
+isOther c = isFitting c && not (same (claimed c) (given c))
 
 not-same : (s t : List ℕ) → not (same s t) ≡ true → s ≡ t → ⊥
 not-same s t n e = false≢true (sym (ap not (ap (λ u. same u t) e ∙ same-self t)) ∙ n)
 
 pub ruled-out : (c : Claim) → isOther c ≡ true → Claimed c → ⊥
 ruled-out c h p =
-    let e = and-true (isWithin (about c)) (not (same (claimed c) (given c))) h in
-    not-same (claimed c) (given c) (e .1) (claim-only c (within (about c) (e .0)) p)
+    let e = and-true (isFitting c) (not (same (claimed c) (given c))) h in
+    not-same (claimed c) (given c) (e .1) (claim-only c (e .0) p)
 
 all-out : (cs : List Claim) → all isOther cs ≡ true → AllFalse cs
 unfolding all

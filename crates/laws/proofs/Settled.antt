@@ -9,16 +9,24 @@ use Rattle.rules.specs.declared.TableAnswer.{TableAnswer}
 use Rattle.rules.specs.declared.PacketAnswer.{PacketAnswer}
 use Rattle.rules.specs.declared.FieldAnswer.{FieldAnswer}
 use Rattle.rules.specs.declared.ListingAnswer.{ListingAnswer}
-use Rattle.rules.specs.Answers.{Answer, faultNumber, ofTable, ofPacket, ofField, ofListing}
+use Rattle.rules.specs.declared.TextAnswer.{TextAnswer}
+use Rattle.rules.specs.Reading.{Part}
+use Rattle.rules.specs.Answers.{Answer, faultNumber, ofTable, ofPacket, ofField, ofListing, ofText}
 use Rattle.rules.specs.Promises.{
   Outcome,
+  leaves,
+  partFrom,
   ChecksTable,
   ReadsPacket,
+  PlacesPart,
   HandsPart,
   ListsPacket,
   FindsField,
+  PlacesLabel,
   HandsLabel,
+  ReadsText,
 }
+use Rattle.rules.specs.Results.{AnswersUnique}
 use Rattle.laws.proofs.Decidable.{good-decidable}
 
 -- ── an answer is known by its number, place and value ──
@@ -73,11 +81,43 @@ unfolding listingOf ofListing
 listing-back (ListingAnswer.Written n) = refl
 listing-back ListingAnswer.NoRoom = refl
 
+textOf : Answer → TextAnswer
+textOf a =
+    cond (eqb (a .number) 0) (TextAnswer.Accepted (a .value))
+    (cond (eqb (a .number) 1) TextAnswer.TooLong
+    (cond (eqb (a .number) 2) TextAnswer.BadByte
+    (cond (eqb (a .number) 3) (TextAnswer.BadLine (a .place))
+    (cond (eqb (a .number) 4) TextAnswer.TooMany
+    (cond (eqb (a .number) 5) (TextAnswer.BadForm (a .place))
+    (cond (eqb (a .number) 6) (TextAnswer.OverLimit (a .place))
+    (cond (eqb (a .number) 7) (TextAnswer.Mismatch (a .place))
+    (cond (eqb (a .number) 8) (TextAnswer.Repeated (a .place))
+    (cond (eqb (a .number) 9) (TextAnswer.BadName (a .place))
+    (cond (eqb (a .number) 10) (TextAnswer.BadRest (a .place)) TextAnswer.NoRoom))))))))))
+
+text-back : (r : TextAnswer) → textOf (ofText r) ≡ r
+unfolding textOf ofText
+text-back (TextAnswer.Accepted n) = refl
+text-back TextAnswer.TooLong = refl
+text-back TextAnswer.BadByte = refl
+text-back (TextAnswer.BadLine p) = refl
+text-back TextAnswer.TooMany = refl
+text-back (TextAnswer.BadForm p) = refl
+text-back (TextAnswer.OverLimit p) = refl
+text-back (TextAnswer.Mismatch p) = refl
+text-back (TextAnswer.Repeated p) = refl
+text-back (TextAnswer.BadName p) = refl
+text-back (TextAnswer.BadRest p) = refl
+text-back TextAnswer.NoRoom = refl
+
 pub table-number : (a b : TableAnswer) → ofTable a ≡ ofTable b → a ≡ b
 table-number a b e = sym (table-back a) ∙ ap tableOf e ∙ table-back b
 
 pub packet-number : (a b : PacketAnswer) → ofPacket a ≡ ofPacket b → a ≡ b
 packet-number a b e = sym (packet-back a) ∙ ap packetOf e ∙ packet-back b
+
+pub text-number : (a b : TextAnswer) → ofText a ≡ ofText b → a ≡ b
+text-number a b e = sym (text-back a) ∙ ap textOf e ∙ text-back b
 
 -- ── one answer for each input ──
 
@@ -99,6 +139,16 @@ part-settled table packet i bytes others start other p q =
     let g = good-decidable table in
     (p .content g ∙ sym (q .content g), p .place g ∙ sym (q .place g))
 
+same-place : (start size other count : ℕ) → partFrom start size ≡ partFrom other count
+    → (start ≡ other) × (size ≡ count)
+same-place start size other count e = (ap (λ (x : Part). x .start) e, ap (λ (x : Part). x .size) e)
+
+pub part-place-settled : (table packet : List ℕ) (i start size other count : ℕ)
+    → PlacesPart table packet i start size → PlacesPart table packet i other count → (start ≡ other) × (size ≡ count)
+part-place-settled table packet i start size other count p q =
+    let g = good-decidable table in
+    same-place start size other count (p g ∙ sym (q g))
+
 pub listing-settled : (table packet out : List ℕ) (a b : ListingAnswer) (after other : List ℕ)
     → ListsPacket table packet out a after → ListsPacket table packet out b other → (a ≡ b) × (after ≡ other)
 listing-settled table packet out a b after other p q =
@@ -118,3 +168,16 @@ pub label-settled : (table : List ℕ) (i : ℕ) (bytes others : List ℕ) (star
 label-settled table i bytes others start other p q =
     let g = good-decidable table in
     (p .content g ∙ sym (q .content g), p .place g ∙ sym (q .place g))
+
+pub label-place-settled : (table : List ℕ) (i start size other count : ℕ) → PlacesLabel table i start size
+    → PlacesLabel table i other count → (start ≡ other) × (size ≡ count)
+label-place-settled table i start size other count p q =
+    let g = good-decidable table in
+    same-place start size other count (p g ∙ sym (q g))
+
+-- a text, whose outcome is the only one (texts, TextResults)
+pub text-settled : AnswersUnique → (text out : List ℕ) (a b : TextAnswer) (after other : List ℕ)
+    → ReadsText text out a after → ReadsText text out b other → (a ≡ b) × (after ≡ other)
+text-settled unique text out a b after other p q =
+    let e = unique text out (leaves (ofText a) after) (leaves (ofText b) other) p q in
+    (text-number a b (ap (λ (o : Outcome). o .answer) e), ap (λ (o : Outcome). o .buffer) e)

@@ -1,5 +1,6 @@
 -- Answers of wrong programs: of each, what is claimed is a promise, and it is false (proofs/RuledOut). A program that
 -- keeps the promises is none of these. [01, How the promises are judged] [01, Easy ways to go wrong]
+use mathlib.Core.Path.{_≡_}
 use mathlib.Core.List.{List, [], _∷_, _++_}
 use mathlib.Core.Option.{none, some}
 use Prim.Native.Nat.{ℕ}
@@ -18,12 +19,23 @@ use Rattle.rules.specs.Trees.{num, read, two}
 use Rattle.rules.specs.Fields.{fixed, Description}
 use Rattle.rules.specs.Stored.{stored}
 use Rattle.rules.specs.Reading.{Entry, absent, numbersOf}
-use Rattle.rules.specs.Promises.{written, ChecksTable, ReadsPacket, HandsPart, FindsField, HandsLabel, ListsPacket}
+use Rattle.rules.specs.Answers.{ofPacket}
+use Rattle.rules.specs.Promises.{
+  written,
+  ChecksTable,
+  ReadsPacket,
+  PlacesPart,
+  HandsPart,
+  FindsField,
+  PlacesLabel,
+  HandsLabel,
+  ListsPacket,
+}
 use Rattle.rules.specs.Cases.{lentRun, named, unnamed, entry}
 use Rattle.rules.specs.Marked.{bladeReport, m1, m1Listing}
 use Rattle.rules.specs.Pages.{page, isNine, flagged, m2, m3}
 
--- ── claims of a description's stored table ──
+-- ── claims of a description's stored table, and of a packet's answer ──
 
 pub data Claim : Type 0 where
   -- the answer to the table
@@ -34,10 +46,18 @@ pub data Claim : Type 0 where
   lists : Description → List ℕ → ListingAnswer → List ℕ → Claim
   -- the bytes of the field of an index, and where in the packet they begin
   hands : Description → List ℕ → ℕ → List ℕ → ℕ → Claim
+  -- where they begin, and how many they are
+  placesPart : Description → List ℕ → ℕ → ℕ → ℕ → Claim
   -- the answer to a name that is looked for
   finds : Description → List ℕ → FieldAnswer → Claim
   -- the label of the field of an index, and where in the table it begins
   labels : Description → ℕ → List ℕ → ℕ → Claim
+  -- where it begins, and its length
+  placesLabel : Description → ℕ → ℕ → ℕ → Claim
+  -- 01's number, place and value of a packet's answer
+  tellsNumber : PacketAnswer → ℕ → Claim
+  tellsPlace : PacketAnswer → ℕ → Claim
+  tellsValue : PacketAnswer → ℕ → Claim
 
 abbrev pub lentOutput : List ℕ
 lentOutput = replicate 120 9
@@ -47,8 +67,13 @@ Claimed (checks d r) = ChecksTable (stored d) r
 Claimed (reads d packet r after) = ReadsPacket (stored d) packet lentRun r after
 Claimed (lists d packet r after) = ListsPacket (stored d) packet lentOutput r after
 Claimed (hands d packet i part start) = HandsPart (stored d) packet i part start
+Claimed (placesPart d packet i start size) = PlacesPart (stored d) packet i start size
 Claimed (finds d name r) = FindsField (stored d) name r
 Claimed (labels d i label start) = HandsLabel (stored d) i label start
+Claimed (placesLabel d i start size) = PlacesLabel (stored d) i start size
+Claimed (tellsNumber r n) = n ≡ ofPacket r .number
+Claimed (tellsPlace r n) = n ≡ ofPacket r .place
+Claimed (tellsValue r n) = n ≡ ofPacket r .value
 
 abbrev pub AllFalse : List Claim → Type 0
 AllFalse [] = Unit {0}
@@ -147,6 +172,15 @@ wrong =
     ∷ hands bladeReport m1 0 (0x62 ∷ []) 0
     ∷ hands bladeReport m2 4 (0xAA ∷ 0xBB ∷ []) 2
     ∷ hands bladeReport m3 3 (0x07 ∷ []) 1
+    -- where a part lies: the empty one for Readings; its neighbour's place; its own start with another size; in bits
+    ∷ placesPart bladeReport m1 5 0 0
+    ∷ placesPart bladeReport m1 5 6 2
+    ∷ placesPart bladeReport m1 5 4 4
+    ∷ placesPart bladeReport m1 5 32 16
+    -- a place for a field that has no part: of bits, absent, of a refused packet
+    ∷ placesPart bladeReport m1 0 0 1
+    ∷ placesPart bladeReport m2 4 2 2
+    ∷ placesPart bladeReport m3 3 1 1
     -- a field by name: no name found; labels or short names passed over; indexes from 1; case ignored; a prefix taken
     ∷ finds bladeReport (bytes "V") FieldAnswer.Unknown
     ∷ finds bladeReport (bytes "Blade") FieldAnswer.Unknown
@@ -162,4 +196,27 @@ wrong =
     ∷ labels bladeReport 0 (bytes "On Loan") 58
     ∷ labels bladeReport 0 (bytes "Version") 0
     ∷ labels bladeReport 7 (bytes "Sum") 186
+    -- where a label lies: the empty part; the short name's place; the neighbour's; its own start with another size;
+    -- its length taken in; one beyond the fields
+    ∷ placesLabel bladeReport 0 0 0
+    ∷ placesLabel bladeReport 0 37 1
+    ∷ placesLabel bladeReport 0 58 7
+    ∷ placesLabel bladeReport 0 28 12
+    ∷ placesLabel bladeReport 0 26 9
+    ∷ placesLabel bladeReport 7 186 3
+    -- a number: 24 told as 25; 0 for a refusal; the bit total of an accepted packet
+    ∷ tellsNumber (Refused BitsMissing 7) 25
+    ∷ tellsNumber (Refused BitsMissing 7) 0
+    ∷ tellsNumber PacketAnswer.NotGood 0
+    ∷ tellsNumber (Accepted 64) 64
+    -- a place: fields counted from 0; no place for a field's fault; one for an accepted packet, or for bits left over
+    ∷ tellsPlace (Refused BitsMissing 7) 6
+    ∷ tellsPlace (Refused BitsMissing 7) 0
+    ∷ tellsPlace (Accepted 64) 7
+    ∷ tellsPlace LeftOver 7
+    -- a value: one for a refusal; none, or bytes for bits, for an accepted packet
+    ∷ tellsValue (Refused BitsMissing 7) 56
+    ∷ tellsValue LeftOver 72
+    ∷ tellsValue (Accepted 64) 0
+    ∷ tellsValue (Accepted 64) 8
     ∷ []

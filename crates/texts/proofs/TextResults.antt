@@ -1,5 +1,12 @@
--- The main results on texts: no text spells two descriptions, and each text and output has one outcome.
+-- The main results on texts: no text spells two descriptions, and each text and output has one outcome, so that the
+-- promise of a text settles the answer and the output.
+use mathlib.Core.Path.{_≡_}
+use mathlib.Core.List.{List}
+use Prim.Native.Nat.{ℕ}
+use Rattle.rules.specs.declared.TextAnswer.{TextAnswer}
+use Rattle.rules.specs.Promises.{ReadsText}
 use Rattle.rules.specs.Results.{SpellingUnique, AnswersTotal, AnswersUnique}
+use Rattle.laws.proofs.Settled as Settled
 use Rattle.texts.proofs.FormExact.{form-unique, form-decidable}
 use Rattle.texts.proofs.FrameExact.{frame-unique, frame-decidable}
 use Rattle.texts.proofs.FrameRight.{right-unique, right-total}
@@ -16,3 +23,7 @@ answers-total =
 pub answers-unique : AnswersUnique
 answers-unique =
     Answered.answers-unique frame-unique frame-decidable form-unique form-decidable right-unique right-total
+
+pub text-settled : (text out : List ℕ) (a b : TextAnswer) (after other : List ℕ) → ReadsText text out a after
+    → ReadsText text out b other → (a ≡ b) × (after ≡ other)
+text-settled = Settled.text-settled answers-unique

@@ -17,7 +17,7 @@ packet-reply-requires : tie.Need-packet-reply-requires
 packet-reply-requires c κs =
     let a = c .before .before .before .before .before .before .before .args in
     let read-packet = c .before .before .read-packet in
-    let low = place-low (now (a .table)) (now (a .packet)) (now (a .run)) (ofPacket (read-packet .result))
+    let low = place-low (now (a .table)) _ (now (a .run)) (ofPacket (read-packet .result))
     (read-packet .last .1 .1 .0) (read-packet .ensures) in
     omega (arith, low)
 

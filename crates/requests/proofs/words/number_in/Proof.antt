@@ -38,7 +38,7 @@ returns-2 c = (
   omega arith,
   number-full (c .before .before .before .before .before .loop .number) _ (now (c .before .before .before .before
       .before .before .before .args .line)) (c .before .before .before .before .before .loop .i) (omega arith) (c
-      .before .before .digit .ensures .0) (omega arith) (c .if2 .taken) (c .before .before .before .before .before
+      .before .before .digit .ensures .0) (omega arith) (omega arith) (c .before .before .before .before .before
       .loop .inv .2),
 )
 
