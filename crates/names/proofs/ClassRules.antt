@@ -1,10 +1,12 @@
 -- What the class numbers say of a byte: each law is one test over the 256 values.
 use mathlib.Core.Path.{_≡_, refl}
 use mathlib.Core.Bool.{Bool, true, false, _||_}
+use mathlib.Core.List.{List}
 use Prim.Native.Nat.{ℕ, _<_}
 use lib.Dec.{eqb}
+use lib.ListN.{getD}
 use Rattle.base.specs.Lists.{any}
-use Rattle.base.proofs.Tables.{agree}
+use Rattle.base.proofs.Tables.{agree, getD-tabulate}
 use Rattle.rules.specs.Operators.{operator, operators}
 use Rattle.rules.specs.Names.{
   isLetter,
@@ -16,22 +18,24 @@ use Rattle.rules.specs.Names.{
   isLabelByte,
   isNameByte,
 }
+use Rattle.names.specs.Classes.{classTable, isWordClass}
 
 pub class-letter : (b : ℕ) → b < 256 → eqb (classOf b) 1 ≡ isLetter b
 unfolding any operator operators isLetter isDigit isOperator isSpace classOf
 class-letter = agree (λ b. eqb (classOf b) 1) isLetter 256 refl
 
-pub class-operator : (b : ℕ) → b < 256 → eqb (classOf b) 3 ≡ isOperator b
-unfolding any operator operators isLetter isDigit isOperator isSpace classOf
-class-operator = agree (λ b. eqb (classOf b) 3) isOperator 256 refl
+class-word : (b : ℕ) → b < 256 → isWordClass (classOf b) ≡ isWordByte b
+unfolding any operator operators isLetter isDigit isOperator isSpace classOf isWordByte isWordClass
+class-word = agree (λ b. isWordClass (classOf b)) isWordByte 256 refl
 
-pub class-space : (b : ℕ) → b < 256 → eqb (classOf b) 4 ≡ isSpace b
-unfolding any operator operators isLetter isDigit isOperator isSpace classOf
-class-space = agree (λ b. eqb (classOf b) 4) isSpace 256 refl
+-- what a lent table says of a byte
+module _ (classes : List ℕ) (known : classes ≡ classTable) (b : ℕ) (fits : b < 256) where
+  pub class-in : getD classes b 0 ≡ classOf b
+  unfolding classTable
+  class-in = rw known (getD-tabulate classOf 256 b fits)
 
-pub class-word : (b : ℕ) → b < 256 → (eqb (classOf b) 1 || eqb (classOf b) 2) ≡ isWordByte b
-unfolding any operator operators isLetter isDigit isOperator isSpace classOf isWordByte
-class-word = agree (λ b. eqb (classOf b) 1 || eqb (classOf b) 2) isWordByte 256 refl
+  pub word-in : isWordClass (getD classes b 0) ≡ isWordByte b
+  word-in = rw class-in (class-word b fits)
 
 pub name-word : (label : Bool) (b : ℕ) → isWordByte b ≡ true → isNameByte label b ≡ true
 unfolding isLabelByte

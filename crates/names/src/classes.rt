@@ -1,6 +1,8 @@
 // The class of every byte value, in one constant table.
 ghost use mathlib.Core.Path.{_≡_};
-ghost use Rattle.rules.specs.Names.{classOf, isLetter, isOperator, isSpace, isWordByte, isNameByte};
+ghost use lib.ListN.{getD};
+ghost use Rattle.rules.specs.Names.{classOf, isLetter, isNameByte};
+ghost use Rattle.names.specs.Classes.{classTable, isWordClass};
 
 pub const LETTER: u8 = 1;
 
@@ -269,36 +271,35 @@ const CLASSES: [u8; 256] = [
     0,
 ];
 
+// Each use of the constant makes the table anew: a loop over bytes has it made once, and lends it to its tests.
+pub fn class_table() -> [u8; 256]
+    ensures { λ r. ⌜ r ≡ classTable ⌝ }
+{
+    CLASSES
+}
+
 pub fn class_of(b: u8) -> u8
     ensures { λ r. ⌜ r ≡ classOf b ⌝ }
 {
+    let table = class_table();
     let i = b as usize;
-    CLASSES[i]
+    table[i]
 }
 
-pub fn is_letter(b: u8) -> bool
+pub(crate) fn is_letter_in(classes: &[u8; 256], b: u8) -> bool
+    requires { ⌜ now classes ≡ classTable ⌝ }
     ensures { λ r. ⌜ r ≡ isLetter b ⌝ }
 {
-    class_of(b) == LETTER
+    let i = b as usize;
+    classes[i] == LETTER
 }
 
-pub fn is_operator(b: u8) -> bool
-    ensures { λ r. ⌜ r ≡ isOperator b ⌝ }
+// The class that a lent table has of the byte is that of a letter or digit.
+pub fn is_word_in(classes: &[u8; 256], b: u8) -> bool
+    ensures { λ r. ⌜ r ≡ isWordClass (getD (now (classes .entry)) b 0) ⌝ }
 {
-    class_of(b) == OPERATOR
-}
-
-pub fn is_space(b: u8) -> bool
-    ensures { λ r. ⌜ r ≡ isSpace b ⌝ }
-{
-    class_of(b) == SPACE
-}
-
-// A letter or digit.
-pub fn is_word_byte(b: u8) -> bool
-    ensures { λ r. ⌜ r ≡ isWordByte b ⌝ }
-{
-    let class = class_of(b);
+    let i = b as usize;
+    let class = classes[i];
     if class == LETTER {
         return true;
     }
@@ -306,10 +307,11 @@ pub fn is_word_byte(b: u8) -> bool
 }
 
 // What may stand in a label: a letter, digit, space or hyphen; in a short name: a letter or digit.
-pub fn is_name_byte(b: u8, label: bool) -> bool
+pub(crate) fn is_name_in(classes: &[u8; 256], b: u8, label: bool) -> bool
+    requires { ⌜ now classes ≡ classTable ⌝ }
     ensures { λ r. ⌜ r ≡ isNameByte label b ⌝ }
 {
-    if is_word_byte(b) {
+    if is_word_in(classes, b) {
         return true;
     }
     if label {

@@ -1,21 +1,24 @@
 // Labels and short names.
-use crate::classes::is_letter;
-use crate::classes::is_name_byte;
-use crate::classes::is_word_byte;
+use crate::classes::class_table;
+use crate::classes::is_letter_in;
+use crate::classes::is_name_in;
+use crate::classes::is_word_in;
 use crate::words::is_reserved;
 use rules::LABEL_MOST;
 use rules::SHORT_MOST;
 ghost use mathlib.Core.Path.{_≡_};
 ghost use Rattle.base.specs.Lists.{all};
 ghost use Rattle.rules.specs.Names.{isNameByte, noTwoSpaces, hasWordEnds, isLabel, isShort};
+ghost use Rattle.names.specs.Classes.{classTable};
 
 // Each byte may stand in a label, or else in a short name.
-fn all_bytes(w: &[u8], label: bool) -> bool
+fn all_bytes(classes: &[u8; 256], w: &[u8], label: bool) -> bool
+    requires { ⌜ now classes ≡ classTable ⌝ }
     ensures { λ r. ⌜ r ≡ all (isNameByte label) (now (w .entry)) ⌝ }
 {
     let mut i = 0;
     while i < w.len() {
-        if !is_name_byte(w[i], label) {
+        if !is_name_in(classes, w[i], label) {
             return false;
         }
         i += 1;
@@ -39,17 +42,18 @@ fn no_two_spaces(w: &[u8]) -> bool
 }
 
 // A letter or digit at each end.
-fn has_word_ends(w: &[u8]) -> bool
+fn has_word_ends(classes: &[u8; 256], w: &[u8]) -> bool
+    requires { ⌜ now classes ≡ classTable ⌝ }
     ensures { λ r. ⌜ r ≡ hasWordEnds (now (w .entry)) ⌝ }
 {
     let n = w.len();
     if n == 0 {
         return false;
     }
-    if !is_word_byte(w[0]) {
+    if !is_word_in(classes, w[0]) {
         return false;
     }
-    is_word_byte(w[n - 1])
+    is_word_in(classes, w[n - 1])
 }
 
 pub fn is_label(w: &[u8]) -> bool
@@ -58,10 +62,11 @@ pub fn is_label(w: &[u8]) -> bool
     if LABEL_MOST < w.len() {
         return false;
     }
-    if !all_bytes(w, true) {
+    let classes = class_table();
+    if !all_bytes(&classes, w, true) {
         return false;
     }
-    if !has_word_ends(w) {
+    if !has_word_ends(&classes, w) {
         return false;
     }
     no_two_spaces(w)
@@ -73,13 +78,14 @@ pub fn is_short(w: &[u8]) -> bool
     if w.len() == 0 {
         return false;
     }
-    if !is_letter(w[0]) {
+    let classes = class_table();
+    if !is_letter_in(&classes, w[0]) {
         return false;
     }
     if SHORT_MOST < w.len() {
         return false;
     }
-    if !all_bytes(w, false) {
+    if !all_bytes(&classes, w, false) {
         return false;
     }
     !is_reserved(w)

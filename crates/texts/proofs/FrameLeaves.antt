@@ -69,17 +69,15 @@ or-false : (x : Bool) → (x || false) ≡ x
 or-false true = refl
 or-false false = refl
 
-pub allowed-feed : (b : ℕ) → b ≡ 10 → true ≡ isAllowed b
+pub allowed-low : (b : ℕ) → b < 32 → eqb b 10 ≡ isAllowed b
 unfolding isAllowed isPrintable
-allowed-feed b e = rw e refl
+allowed-low b lt = rw (lt-leb 32 b lt) refl
 
-pub allowed-low : (b : ℕ) → (b ≡ 10 → ⊥) → b < 32 → false ≡ isAllowed b
+pub allowed-high : (b : ℕ) → 32 ≤ b → leb b 126 ≡ isAllowed b
 unfolding isAllowed isPrintable
-allowed-low b n lt = rw (lt-leb 32 b lt, ne-eqb b 10 n) refl
-
-pub allowed-high : (b : ℕ) → (b ≡ 10 → ⊥) → 32 ≤ b → leb b 126 ≡ isAllowed b
-unfolding isAllowed isPrintable
-allowed-high b n le = rw (le-leb 32 b le, ne-eqb b 10 n, or-false (leb b 126)) refl
+allowed-high b le =
+    let n : b ≡ 10 → ⊥ = λ e. omega arith in
+    rw (le-leb 32 b le, ne-eqb b 10 n, or-false (leb b 126)) refl
 
 -- ── rulers ──
 

@@ -24,7 +24,6 @@
 -- ExprSigns, ExprLeaves    operators and words at a place of a text, as the code reads them
 -- ExprSteps                expressions at a place of a text
 -- PieceBytes, PieceSteps, PieceExprs   expressions in their stored form, as the code makes them
--- PieceKinds               their kinds, and which names their stored form depends on
 -- FieldWords, FieldNames   phrases, units, labels and short names at a place of a text
 -- FieldClauses             constraint and condition at a place of a text
 -- FrameLeaves              bytes, lines, rulers and the opening line, as the code reads them
@@ -94,7 +93,6 @@ pub mod ExprSteps
 pub mod PieceBytes
 pub mod PieceSteps
 pub mod PieceExprs
-pub mod PieceKinds
 pub mod FieldWords
 pub mod FieldNames
 pub mod FieldClauses

@@ -45,11 +45,14 @@ shortIn text p = take (p .short .len) (drop (p .line .at + p .short .at) text)
 unfoldable pub heldShort : List ℕ → Bool → Parts → List ℕ
 heldShort text fixed p = padTo 8 (cond (fixed && not (eqb (p .kind) 2)) [] (shortIn text p))
 
--- a line and an earlier one have one label or one short name; names are the held ones
+-- two lines have one label or one short name; a and b are the held names
+abbrev pub linesClash : List ℕ → Parts → Parts → List ℕ → List ℕ → Bool
+linesClash text p q a b = same (labelIn text p) (labelIn text q) || sameName a b
+
+-- a line and an earlier one clash; names are the held ones
 unfoldable pub clashAt : List ℕ → List Parts → List (List ℕ) → ℕ → ℕ → Bool
 clashAt text rows names i j =
-    same (labelIn text (rowAt rows j)) (labelIn text (rowAt rows i))
-    || sameName (getD names j []) (getD names i [])
+    linesClash text (rowAt rows j) (rowAt rows i) (getD names j []) (getD names i [])
 
 -- ── kinds ──
 

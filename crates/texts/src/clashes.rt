@@ -3,12 +3,12 @@ use crate::parts::Parts;
 use names::repeats::same_name;
 use names::words::same_words;
 ghost use mathlib.Core.Path.{_≡_};
-ghost use Prim.Native.Nat.{_+_, _≤_, _<_};
+ghost use Prim.Native.Nat.{_+_, _≤_};
 ghost use lib.ListN.{length};
 ghost use Rattle.base.specs.Lists.{same};
 ghost use Rattle.names.specs.Repeats.{firstRepeat};
 ghost use Rattle.texts.specs.LinePlaces.{RowsFit};
-ghost use Rattle.texts.specs.LineTests.{labelIn, clashAt};
+ghost use Rattle.texts.specs.LineTests.{labelIn, linesClash, clashAt};
 
 fn same_labels(text: &[u8], p: Parts, q: Parts) -> bool
     requires { ⌜ (p .line .at + p .label ≤ length (now text)) × (q .line .at + q .label ≤ length (now text)) ⌝ }
@@ -23,15 +23,15 @@ fn same_labels(text: &[u8], p: Parts, q: Parts) -> bool
     same_words(&text[a..b], &text[c..d])
 }
 
-// The line j and the earlier line i have one label or one short name.
-fn clash(text: &[u8], rows: [Parts; 64], names: &[[u8; 8]; 64], i: usize, j: usize) -> bool
-    requires { ⌜ (i < j) × (j < 64) × RowsFit (length (now text)) rows (j + 1) ⌝ }
-    ensures { λ r. ⌜ r ≡ clashAt (now (text .entry)) rows (now (names .entry)) i j ⌝ }
+// Two lines have one label or one short name, p's held in a and q's in b.
+fn clash(text: &[u8], p: Parts, q: Parts, a: [u8; 8], b: [u8; 8]) -> bool
+    requires { ⌜ (p .line .at + p .label ≤ length (now text)) × (q .line .at + q .label ≤ length (now text)) ⌝ }
+    ensures { λ r. ⌜ r ≡ linesClash (now (text .entry)) p q a b ⌝ }
 {
-    if same_labels(text, rows[j], rows[i]) {
+    if same_labels(text, p, q) {
         return true;
     }
-    same_name(names[j], names[i])
+    same_name(a, b)
 }
 
 // The first of n lines that clashes with an earlier one, else n.
@@ -46,7 +46,7 @@ pub(crate) fn first_clash(text: &[u8], rows: [Parts; 64], names: &[[u8; 8]; 64],
         }
         let mut i = 0;
         while i < j {
-            if clash(text, rows, names, i, j) {
+            if clash(text, rows[j], rows[i], names[j], names[i]) {
                 break 'later j;
             }
             i += 1;

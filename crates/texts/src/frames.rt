@@ -37,11 +37,8 @@ pub(crate) fn line_end(text: &[u8], at: usize) -> usize
 fn is_allowed(b: u8) -> bool
     ensures { λ r. ⌜ r ≡ isAllowed b ⌝ }
 {
-    if b == b'\n' {
-        return true;
-    }
     if b < b' ' {
-        return false;
+        return b == b'\n';
     }
     b <= b'~'
 }

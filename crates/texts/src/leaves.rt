@@ -1,11 +1,12 @@
 // Words of letters and digits at a place of a text: short names and numbers.
 use names::classes::DIGIT;
-use names::classes::class_of;
-use names::classes::is_word_byte;
+use names::classes::class_table;
+use names::classes::is_word_in;
 use names::labels::is_short;
 ghost use mathlib.Core.Path.{_≡_};
 ghost use Prim.Native.Nat.{ℕ, _+_, _≤_};
 ghost use lib.ListN.{length, drop};
+ghost use Rattle.names.specs.Classes.{classTable};
 ghost use Rattle.rules.specs.Names.{isDigit};
 ghost use Rattle.rules.specs.Reader.{behind, isNumberWord};
 ghost use Rattle.texts.specs.ExprPlaces.{LeafAt, Within};
@@ -22,9 +23,10 @@ pub(crate) fn word_end(s: &[u8], at: usize) -> usize
     ensures place { λ r. ⌜ (at ≤ r) × (r ≤ length (now (s .entry))) ⌝ }
     ensures rest { λ r. ⌜ drop r (now (s .entry)) ≡ behind (drop at (now (s .entry))) ⌝ }
 {
+    let classes = class_table();
     let mut i = at;
     while i < s.len() {
-        if !is_word_byte(s[i]) {
+        if !is_word_in(&classes, s[i]) {
             return i;
         }
         i += 1;
@@ -32,10 +34,12 @@ pub(crate) fn word_end(s: &[u8], at: usize) -> usize
     i
 }
 
-fn is_digit(b: u8) -> bool
+fn is_digit(classes: &[u8; 256], b: u8) -> bool
+    requires { ⌜ now classes ≡ classTable ⌝ }
     ensures { λ r. ⌜ r ≡ isDigit b ⌝ }
 {
-    class_of(b) == DIGIT
+    let i = b as usize;
+    classes[i] == DIGIT
 }
 
 // Digits without a leading 0, at most 4,294,967,295.
@@ -48,11 +52,12 @@ pub(crate) fn is_number(w: &[u8]) -> bool
     if w[0] == b'0' {
         return w.len() == 1;
     }
+    let classes = class_table();
     let mut v: u64 = 0;
     let mut i = 0;
     while i < w.len() {
         let c = w[i];
-        if !is_digit(c) {
+        if !is_digit(&classes, c) {
             return false;
         }
         v = v * 10 + (c as u64 - 48);

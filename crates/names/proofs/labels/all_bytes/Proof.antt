@@ -12,26 +12,26 @@ use Rattle.names.proofs.labels.all_bytes.Statement.{statement}
 use Rattle.names.proofs.labels.all_bytes.Tie as tie
 use Rattle.names.proofs.labels.all_bytes.Reads as reads
 use Rattle.names.proofs.labels.all_bytes.Lts as lts
-use Rattle.names.proofs.classes.is_name_byte.Reads as is-name-byte-reads
+use Rattle.names.proofs.classes.is_name_in.Reads as is-name-in-reads
 
 abbrev Inv-loop : tie.InvT-loop
-Inv-loop w label i₀ i = (i ≤ length w) × (all (isNameByte label) w ≡ all (isNameByte label) (drop i w))
+Inv-loop classes w label i₀ i = (i ≤ length w) × (all (isNameByte label) w ≡ all (isNameByte label) (drop i w))
 
 abbrev μ-loop : tie.MeasureT-loop
-μ-loop w label i₀ i = length w - i
+μ-loop classes w label i₀ i = length w - i
 
 loop-holds : tie.Need-loop-holds Inv-loop μ-loop
 loop-holds c = (omega arith, refl)
 
-shared-slice-read-is-name-byte : tie.Need-shared-slice-read-is-name-byte Inv-loop μ-loop
-shared-slice-read-is-name-byte c = search needs
+shared-slice-read-is-name-in : tie.Need-shared-slice-read-is-name-in Inv-loop μ-loop
+shared-slice-read-is-name-in c = search needs
 
-is-name-byte-requires : tie.Need-is-name-byte-requires Inv-loop μ-loop
-is-name-byte-requires c κs = search needs
+is-name-in-requires : tie.Need-is-name-in-requires Inv-loop μ-loop
+is-name-in-requires c κs = search needs
 
 returns : tie.Need-returns Inv-loop μ-loop
 returns c =
-    let e = sym (c .before .is-name-byte .ensures) ∙ not-true (c .before .is-name-byte .result) (c .if1 .taken) in
+    let e = sym (c .before .is-name-in .ensures) ∙ not-true (c .before .is-name-in .result) (c .if1 .taken) in
     sym (c .before .before .before .before .loop .inv .1 ∙ all-step (isNameByte
     (c .before .before .before .before .before .before .args .label)) (now
     (c .before .before .before .before .before .before .args .w)) (c .before .before .before .before .loop .i)
@@ -45,7 +45,7 @@ loop-less c = search needs
 
 loop-again : tie.Need-loop-again Inv-loop μ-loop
 loop-again c =
-    let e = sym (c .before .is-name-byte .ensures) ∙ not-false (c .before .is-name-byte .result) (c .if1 .left) in (
+    let e = sym (c .before .is-name-in .ensures) ∙ not-false (c .before .is-name-in .result) (c .if1 .left) in (
       omega arith,
       c .before .before .before .before .loop .inv .1 ∙ all-step (isNameByte
           (c .before .before .before .before .before .before .args .label)) (now
@@ -66,8 +66,8 @@ all-bytes-spec =
     Inv-loop
     μ-loop
     loop-holds
-    shared-slice-read-is-name-byte
-    is-name-byte-requires
+    shared-slice-read-is-name-in
+    is-name-in-requires
     returns
     add-i
     loop-less

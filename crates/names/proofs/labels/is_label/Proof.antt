@@ -8,6 +8,7 @@ use Rattle.names.proofs.labels.is_label.Statement.{statement}
 use Rattle.names.proofs.labels.is_label.Tie as tie
 use Rattle.names.proofs.labels.is_label.Reads as reads
 use Rattle.names.proofs.labels.is_label.Lts as lts
+use Rattle.names.proofs.classes.class_table.Reads as class-table-reads
 use Rattle.names.proofs.labels.all_bytes.Reads as all-bytes-reads
 use Rattle.names.proofs.labels.has_word_ends.Reads as has-word-ends-reads
 use Rattle.names.proofs.labels.no_two_spaces.Reads as no-two-spaces-reads
@@ -16,14 +17,18 @@ returns : tie.Need-returns
 unfolding isLabel
 returns c = rw (lt-leb (length (now (c .before .before .args .w))) 40 (c .if1 .taken))
 
+class-table-requires : tie.Need-class-table-requires
+class-table-requires c κs = search needs
+
 all-bytes-requires : tie.Need-all-bytes-requires
 all-bytes-requires c κs = search needs
 
 returns-2 : tie.Need-returns-2
 unfolding isLabel
 returns-2 c =
+    let s = c .before .before .before .before .before .before in
     let a = sym (c .before .all-bytes .ensures) ∙ not-true (c .before .all-bytes .result) (c .if2 .taken) in
-    rw (le-leb (length (now (c .before .before .before .before .args .w))) 40 (c .before .before .if1 .left), a)
+    rw (le-leb (length (now (s .args .w))) 40 (c .before .before .before .before .if1 .left), a)
 
 has-word-ends-requires : tie.Need-has-word-ends-requires
 has-word-ends-requires c κs = search needs
@@ -31,12 +36,13 @@ has-word-ends-requires c κs = search needs
 returns-3 : tie.Need-returns-3
 unfolding isLabel
 returns-3 c =
-    let a = sym (c .before .before .before .all-bytes .ensures) ∙ not-false
-    (c .before .before .before .all-bytes .result) (c .before .before .if2 .left) in
+    let s = c .before .before .before .before .before .before .before .before .before in
+    let a = sym (c .before .before .before .before .all-bytes .ensures)
+    ∙ not-false (c .before .before .before .before .all-bytes .result) (c .before .before .before .if2 .left) in
     let e = sym (c .before .has-word-ends .ensures) ∙ not-true (c .before .has-word-ends .result) (c .if3 .taken) in
     rw (
-      le-leb (length (now (c .before .before .before .before .before .before .args .w))) 40
-          (c .before .before .before .before .if1 .left),
+      le-leb (length (now (s .args .w))) 40 (c .before .before .before .before .before .before .before .if1
+          .left),
       a,
       e,
     )
@@ -47,13 +53,15 @@ no-two-spaces-requires c κs = search needs
 returns-4 : tie.Need-returns-4
 unfolding isLabel
 returns-4 c =
-    let a = sym (c .before .before .before .before .all-bytes .ensures) ∙ not-false
-    (c .before .before .before .before .all-bytes .result) (c .before .before .before .if2 .left) in
-    let e = sym (c .before .before .has-word-ends .ensures) ∙ not-false (c .before .before .has-word-ends .result)
-    (c .before .if3 .left) in
+    let s = c .before .before .before .before .before .before .before .before .before .before in
+    let a = sym (c .before .before .before .before .before .all-bytes .ensures)
+    ∙ not-false (c .before .before .before .before .before .all-bytes .result)
+    (c .before .before .before .before .if2 .left) in
+    let e = sym (c .before .before .has-word-ends .ensures) ∙ not-false
+    (c .before .before .has-word-ends .result) (c .before .if3 .left) in
     rw (
-      le-leb (length (now (c .before .before .before .before .before .before .before .args .w))) 40
-          (c .before .before .before .before .before .if1 .left),
+      le-leb (length (now (s .args .w))) 40 (c .before .before .before .before .before .before .before
+          .before .if1 .left),
       a,
       e,
     ) (c .no-two-spaces .ensures)
@@ -63,6 +71,7 @@ is-label-spec =
     tie.close
     (tie.spec
     returns
+    class-table-requires
     all-bytes-requires
     returns-2
     has-word-ends-requires

@@ -9,30 +9,35 @@ use Rattle.names.proofs.labels.is_short.Statement.{statement}
 use Rattle.names.proofs.labels.is_short.Tie as tie
 use Rattle.names.proofs.labels.is_short.Reads as reads
 use Rattle.names.proofs.labels.is_short.Lts as lts
-use Rattle.names.proofs.classes.is_letter.Reads as is-letter-reads
+use Rattle.names.proofs.classes.class_table.Reads as class-table-reads
+use Rattle.names.proofs.classes.is_letter_in.Reads as is-letter-in-reads
 use Rattle.names.proofs.labels.all_bytes.Reads as all-bytes-reads
 use Rattle.names.proofs.words.is_reserved.Reads as is-reserved-reads
 
 returns : tie.Need-returns
 returns c = sym (no-short (now (c .before .before .args .w)) (c .if1 .taken))
 
-shared-slice-read-is-letter : tie.Need-shared-slice-read-is-letter
-shared-slice-read-is-letter c = search needs
+class-table-requires : tie.Need-class-table-requires
+class-table-requires c κs = search needs
 
-is-letter-requires : tie.Need-is-letter-requires
-is-letter-requires c κs = search needs
+shared-slice-read-is-letter-in : tie.Need-shared-slice-read-is-letter-in
+shared-slice-read-is-letter-in c = search needs
+
+is-letter-in-requires : tie.Need-is-letter-in-requires
+is-letter-in-requires c κs = search needs
 
 returns-2 : tie.Need-returns-2
 returns-2 c =
-    let w = now (c .before .before .before .before .before .args .w) in
-    let a = sym (c .before .is-letter .ensures) ∙ not-true (c .before .is-letter .result) (c .if2 .taken) in
+    let w = now (c .before .before .before .before .before .before .before .args .w) in
+    let a = sym (c .before .is-letter-in .ensures) ∙ not-true (c .before .is-letter-in .result) (c .if2 .taken) in
     sym (short-is w (omega arith) ∙ rw a)
 
 returns-3 : tie.Need-returns-3
 returns-3 c =
-    let w = now (c .before .before .before .before .before .before .args .w) in
-    let a = sym (c .before .before .is-letter .ensures) ∙ not-false (c .before .before .is-letter .result)
-    (c .before .if2 .left) in
+    let s = c .before .before .before .before .before .before .before .before in
+    let w = now (s .args .w) in
+    let a = sym (c .before .before .is-letter-in .ensures) ∙ not-false
+    (c .before .before .is-letter-in .result) (c .before .if2 .left) in
     sym (short-is w (omega arith) ∙ rw (a, lt-leb (length w) 8 (c .if3 .taken)))
 
 all-bytes-requires : tie.Need-all-bytes-requires
@@ -40,26 +45,30 @@ all-bytes-requires c κs = search needs
 
 returns-4 : tie.Need-returns-4
 returns-4 c =
-    let w = now (c .before .before .before .before .before .before .before .before .args .w) in
-    let a = sym (c .before .before .before .before .is-letter .ensures) ∙ not-false
-    (c .before .before .before .before .is-letter .result) (c .before .before .before .if2 .left) in
+    let s = c .before .before .before .before .before .before .before .before .before .before .before in
+    let w = now (s .args .w) in
+    let a = sym (c .before .before .before .before .before .is-letter-in .ensures)
+    ∙ not-false (c .before .before .before .before .before .is-letter-in .result)
+    (c .before .before .before .before .if2 .left) in
     let b = sym (c .before .all-bytes .ensures) ∙ not-true (c .before .all-bytes .result) (c .if4 .taken) in
-    sym (short-is w (omega arith) ∙ rw (a, le-leb (length w) 8 (c .before .before .if3 .left), b))
+    sym (short-is w (omega arith) ∙ rw (a, le-leb (length w) 8 (c .before .before .before .if3 .left), b))
 
 is-reserved-requires : tie.Need-is-reserved-requires
 is-reserved-requires c κs = search needs
 
 returns-5 : tie.Need-returns-5
 returns-5 c =
-    let w = now (c .before .before .before .before .before .before .before .before .before .args .w) in
-    let a = sym (c .before .before .before .before .before .is-letter .ensures) ∙ not-false
-    (c .before .before .before .before .before .is-letter .result)
-    (c .before .before .before .before .if2 .left) in
+    let s = c .before .before .before .before .before .before .before .before .before .before .before .before in
+    let w = now (s .args .w) in
+    let a = sym (c .before .before .before .before .before .before .is-letter-in .ensures)
+    ∙ not-false (c .before .before .before .before .before .before .is-letter-in .result)
+    (c .before .before .before .before .before .if2 .left) in
     let b = sym (c .before .before .all-bytes .ensures) ∙ not-false (c .before .before .all-bytes .result)
     (c .before .if4 .left) in
     sym (short-is w (omega arith) ∙ rw (
       a,
-      le-leb (length w) 8 (c .before .before .before .if3 .left),
+      le-leb (length w) 8
+          (c .before .before .before .before .if3 .left),
       b,
       ← c .is-reserved .ensures,
     ))
@@ -69,8 +78,9 @@ is-short-spec =
     tie.close
     (tie.spec
     returns
-    shared-slice-read-is-letter
-    is-letter-requires
+    class-table-requires
+    shared-slice-read-is-letter-in
+    is-letter-in-requires
     returns-2
     returns-3
     all-bytes-requires

@@ -1,11 +1,15 @@
 use mathlib.Core.Path.{_≡_, refl, sym, _∙_}
-use Prim.Native.Nat.{_-_, _≤_, _+_, _<_}
+use mathlib.Core.List.{List, []}
+use Prim.Native.Nat.{ℕ, _-_, _≤_, _+_, _<_}
 use native.Mathlib.Omega.{arith}
 use native.Mathlib.Nat.{sub-zero}
+use lib.ListN.{getD}
 use denote.Ref.{now}
 use Rattle.names.specs.Repeats.{repeats, firstFrom, firstRepeat}
 use Rattle.names.proofs.RepeatLaws.{search-step, search-end, repeats-none, repeats-found}
-use Rattle.texts.specs.LineTests.{clashAt}
+use Rattle.texts.specs.LinePlaces.{rowAt}
+use Rattle.texts.specs.LineTests.{linesClash, clashAt}
+use Rattle.texts.specs.declared.parts.Parts.{Parts}
 use borrow.Author.Needs.{needs}
 use Rattle.texts.proofs.clashes.first_clash.Statement.{statement}
 use Rattle.texts.proofs.clashes.first_clash.Tie as tie
@@ -13,21 +17,27 @@ use Rattle.texts.proofs.clashes.first_clash.Reads as reads
 use Rattle.texts.proofs.clashes.first_clash.Lts as lts
 use Rattle.texts.proofs.clashes.clash.Reads as clash-reads
 
+clash-lines : (text : List ℕ) (rows : List Parts) (names : List (List ℕ)) (i j : ℕ)
+    → clashAt text rows names i j
+    ≡ linesClash text (rowAt rows j) (rowAt rows i) (getD names j []) (getD names i [])
+unfolding clashAt
+clash-lines text rows names i j = refl
+
 abbrev Inv-loop : tie.InvT-loop
-Inv-loop text rows names n j i₀ i =
+Inv-loop text names n rows j i₀ i =
     (i ≤ j) × (firstFrom (λ k. clashAt text rows names k j) 0 j ≡ firstFrom (λ k. clashAt text rows names k j) i (j
     - i))
 
 abbrev μ-loop : tie.MeasureT-loop
-μ-loop text rows names n j i₀ i = j - i
+μ-loop text names n rows j i₀ i = j - i
 
 abbrev Inv-later : tie.InvT-later
-Inv-later text rows names n j₀ j =
+Inv-later text names n rows j₀ j =
     (j ≤ n) ×
     (firstRepeat (clashAt text rows names) n ≡ firstFrom (repeats (clashAt text rows names)) j (n - j))
 
 abbrev μ-later : tie.MeasureT-later
-μ-later text rows names n j₀ j = n - j
+μ-later text names n rows j₀ j = n - j
 
 later-holds : tie.Need-later-holds Inv-loop μ-loop Inv-later μ-later
 later-holds c = (omega arith, rw sub-zero)
@@ -35,10 +45,38 @@ later-holds c = (omega arith, rw sub-zero)
 loop-holds : tie.Need-loop-holds Inv-loop μ-loop Inv-later μ-later
 loop-holds c = (omega arith, rw sub-zero)
 
+mul-clash : tie.Need-mul-clash Inv-loop μ-loop Inv-later μ-later
+mul-clash c = search needs
+
+array-copy-out-clash : tie.Need-array-copy-out-clash Inv-loop μ-loop Inv-later μ-later
+array-copy-out-clash c = search needs
+
+mul-clash-2 : tie.Need-mul-clash-2 Inv-loop μ-loop Inv-later μ-later
+mul-clash-2 c = search needs
+
+array-copy-out-clash-2 : tie.Need-array-copy-out-clash-2 Inv-loop μ-loop Inv-later μ-later
+array-copy-out-clash-2 c = search needs
+
+mul-clash-3 : tie.Need-mul-clash-3 Inv-loop μ-loop Inv-later μ-later
+mul-clash-3 c = search needs
+
+element-copy-out-clash : tie.Need-element-copy-out-clash Inv-loop μ-loop Inv-later μ-later
+element-copy-out-clash c = search needs
+
+mul-clash-4 : tie.Need-mul-clash-4 Inv-loop μ-loop Inv-later μ-later
+mul-clash-4 c = search needs
+
+element-copy-out-clash-2 : tie.Need-element-copy-out-clash-2 Inv-loop μ-loop Inv-later μ-later
+element-copy-out-clash-2 c = search needs
+
 clash-requires : tie.Need-clash-requires Inv-loop μ-loop Inv-later μ-later
 clash-requires c κs =
-    let f = c .before .before .before .before .before .pre .1 in
-    (omega arith, omega arith, λ k lt. f k (omega arith))
+    let f = c .before .before .before .before .before .before .before .before .before .pre .1 in
+    let p = f (c .before .before .before .before .before .before .before .later .j) (omega arith) in
+    let q = f (c .before .before .before .before .before .loop .i) (omega arith) in
+    let a = p .1 .label in
+    let b = q .1 .label in
+    (omega arith, omega arith)
 
 add-i : tie.Need-add-i Inv-loop μ-loop Inv-later μ-later
 add-i c = search needs
@@ -48,11 +86,12 @@ loop-less c = omega arith
 
 loop-again : tie.Need-loop-again Inv-loop μ-loop Inv-later μ-later
 loop-again c =
-    let a = c .before .before .before .before .before .before .before .args in
-    let o = c .before .before .before .before .before .later in
-    let l = c .before .before .before .loop in
-    let alike = clashAt (now (a .text)) (a .rows) (now (a .names)) in
-    let other = sym (c .before .clash .ensures) ∙ c .if2 .left in
+    let a = c .before .before .before .before .before .before .before .before .before .before .before .args in
+    let o = c .before .before .before .before .before .before .before .before .before .later in
+    let l = c .before .before .before .before .before .before .before .loop in
+    let alike = clashAt (now (a .text)) (a .t2) (now (a .names)) in
+    let lines = clash-lines (now (a .text)) (a .t2) (now (a .names)) (l .i) (o .j) in
+    let other = lines ∙ sym (c .before .clash .ensures) ∙ c .if2 .left in
     let step = search-step (λ k. alike k (o .j)) (l .i) (o .j) (omega arith) in
     (omega arith, l .inv .1 ∙ step ∙ simp other)
 
@@ -67,7 +106,7 @@ later-again c =
     let a = c .before .before .before .before .before .args in
     let o = c .before .before .before .later in
     let l = c .before .loop in
-    let alike = clashAt (now (a .text)) (a .rows) (now (a .names)) in
+    let alike = clashAt (now (a .text)) (a .t2) (now (a .names)) in
     let none = repeats-none alike (l .i) (o .j) (omega arith) (omega arith) (l .inv .1) in
     let step = search-step (repeats alike) (o .j) (a .n) (omega arith) in
     (omega arith, o .inv .1 ∙ step ∙ simp none)
@@ -77,15 +116,16 @@ returns c =
     let a = c .before .before .before .args in
     let o = c .before .later in
     let end : o .j ≡ a .n = omega arith in
-    sym (o .inv .1 ∙ rw end (search-end (repeats (clashAt (now (a .text)) (a .rows) (now (a .names)))) (a .n)))
+    sym (o .inv .1 ∙ rw end (search-end (repeats (clashAt (now (a .text)) (a .t2) (now (a .names)))) (a .n)))
 
 returns-2 : tie.Need-returns-2 Inv-loop μ-loop Inv-later μ-later
 returns-2 c =
-    let a = c .before .before .before .before .before .before .before .args in
-    let o = c .before .before .before .before .before .later in
-    let l = c .before .before .before .loop in
-    let alike = clashAt (now (a .text)) (a .rows) (now (a .names)) in
-    let same = sym (c .before .clash .ensures) ∙ c .if2 .taken in
+    let a = c .before .before .before .before .before .before .before .before .before .before .before .args in
+    let o = c .before .before .before .before .before .before .before .before .before .later in
+    let l = c .before .before .before .before .before .before .before .loop in
+    let alike = clashAt (now (a .text)) (a .t2) (now (a .names)) in
+    let lines = clash-lines (now (a .text)) (a .t2) (now (a .names)) (l .i) (o .j) in
+    let same = lines ∙ sym (c .before .clash .ensures) ∙ c .if2 .taken in
     let found = repeats-found alike (l .i) (o .j) (omega arith) (l .inv .1) same in
     let step = search-step (repeats alike) (o .j) (a .n) (omega arith) in
     sym (o .inv .1 ∙ step ∙ simp found)
@@ -100,6 +140,14 @@ first-clash-spec =
     μ-later
     later-holds
     loop-holds
+    mul-clash
+    array-copy-out-clash
+    mul-clash-2
+    array-copy-out-clash-2
+    mul-clash-3
+    element-copy-out-clash
+    mul-clash-4
+    element-copy-out-clash-2
     clash-requires
     add-i
     loop-less

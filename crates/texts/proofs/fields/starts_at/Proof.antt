@@ -40,9 +40,11 @@ shared-slice-read-if2-2 c = search needs
 
 returns-2 : tie.Need-returns-2 Inv-loop μ-loop
 returns-2 c =
+    let s = c .before .before .before .before .before .before in
     let l = c .before .before .before .before .loop in
-    let a = c .before .before .before .before .before .before .args in
-    let n = begins-stop (a .word .now) (a .s .now) (l .i) (a .at + l .i) (omega arith) (omega arith) (c .if2 .taken) in
+    let a = s .args in
+    let n = begins-stop (a .word .now) (a .s .now) (l .i) (a .at + l .i) (omega arith) (omega arith)
+    (c .if2 .taken) in
     sym (l .inv .2 ∙ n)
 
 add-i : tie.Need-add-i Inv-loop μ-loop

@@ -1,4 +1,4 @@
-use Rattle.texts.proofs.FrameLeaves.{allowed-feed, allowed-low, allowed-high}
+use Rattle.texts.proofs.FrameLeaves.{allowed-low, allowed-high}
 use borrow.Author.Needs.{needs}
 use Rattle.texts.proofs.frames.is_allowed.Statement.{statement}
 use Rattle.texts.proofs.frames.is_allowed.Tie as tie
@@ -6,13 +6,10 @@ use Rattle.texts.proofs.frames.is_allowed.Reads as reads
 use Rattle.texts.proofs.frames.is_allowed.Lts as lts
 
 returns : tie.Need-returns
-returns c = allowed-feed (c .before .args .b) (c .if1 .taken)
+returns c = allowed-low (c .before .args .b) (c .if1 .taken)
 
 returns-2 : tie.Need-returns-2
-returns-2 c = allowed-low (c .before .before .args .b) (c .before .if1 .left) (c .if2 .taken)
-
-returns-3 : tie.Need-returns-3
-returns-3 c = allowed-high (c .before .before .args .b) (c .before .if1 .left) (c .if2 .left)
+returns-2 c = allowed-high (c .before .args .b) (c .if1 .left)
 
 pub is-allowed-spec : {M : Type 1} → statement M
-is-allowed-spec = tie.close (tie.spec returns returns-2 returns-3)
+is-allowed-spec = tie.close (tie.spec returns returns-2)

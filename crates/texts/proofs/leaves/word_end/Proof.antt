@@ -2,40 +2,47 @@ use mathlib.Core.Path.{_≡_, refl, sym, _∙_}
 use native.Mathlib.Omega.{arith}
 use borrow.Author.Tests.{not-true, not-false}
 use Prim.Native.Nat.{_≤_, _-_, _+_, _*_, _<_}
-use mathlib.Core.Bool.{true, false}
 use lib.ListN.{length, drop, getD}
 use Rattle.rules.specs.Reader.{behind}
-use Rattle.rules.specs.Names.{isWordByte}
+use Rattle.names.proofs.ClassRules.{word-in}
 use Rattle.texts.proofs.ExprLeaves.{behind-end, behind-stop, behind-step}
 use borrow.Author.Needs.{needs}
 use Rattle.texts.proofs.leaves.word_end.Statement.{statement}
 use Rattle.texts.proofs.leaves.word_end.Tie as tie
 use Rattle.texts.proofs.leaves.word_end.Reads as reads
 use Rattle.texts.proofs.leaves.word_end.Lts as lts
-use Rattle.names.proofs.classes.is_word_byte.Reads as is-word-byte-reads
+use Rattle.names.proofs.classes.class_table.Reads as class-table-reads
+use Rattle.names.proofs.classes.is_word_in.Reads as is-word-in-reads
 
 abbrev Inv-loop : tie.InvT-loop
-Inv-loop s at i₀ i = (at ≤ i) × (i ≤ length s) × (behind (drop at s) ≡ behind (drop i s))
+Inv-loop s at classes i₀ i = (at ≤ i) × (i ≤ length s) × (behind (drop at s) ≡ behind (drop i s))
 
 abbrev μ-loop : tie.MeasureT-loop
-μ-loop s at i₀ i = length s - i
+μ-loop s at classes i₀ i = length s - i
+
+class-table-requires : tie.Need-class-table-requires Inv-loop μ-loop
+class-table-requires c κs = search needs
 
 loop-holds : tie.Need-loop-holds Inv-loop μ-loop
 loop-holds c = (omega arith, omega arith, refl)
 
-shared-slice-read-is-word-byte : tie.Need-shared-slice-read-is-word-byte Inv-loop μ-loop
-shared-slice-read-is-word-byte c = search needs
+shared-slice-read-is-word-in : tie.Need-shared-slice-read-is-word-in Inv-loop μ-loop
+shared-slice-read-is-word-in c = search needs
 
-is-word-byte-requires : tie.Need-is-word-byte-requires Inv-loop μ-loop
-is-word-byte-requires c κs = search needs
+is-word-in-requires : tie.Need-is-word-in-requires Inv-loop μ-loop
+is-word-in-requires c κs = search needs
 
 returns : tie.Need-returns Inv-loop μ-loop
 returns c =
-    let s = c .before .before .before .before .before .before .args .s .now in
-    let i = c .before .before .before .before .loop .i in
-    let n : isWordByte (getD s i 0) ≡ false = sym (c .before .is-word-byte .ensures) ∙ not-true
-    (c .before .is-word-byte .result) (c .if1 .taken) in
-    (omega arith, behind-stop s i (omega arith) n ∙ sym (c .before .before .before .before .loop .inv .2))
+    let s = c .before .before .before .before .before .before .before .before .args .s .now in
+    let loop = c .before .before .before .before .before .loop in
+    let i = loop .i in
+    let byte : getD s i 0 < 256 = omega (arith, c .before .before .shared-slice-known2 .given i) in
+    let table = c .before .before .before .before .before .before .class-table in
+    let word = word-in (table .result) (table .ensures) (getD s i 0) byte in
+    let n = sym word ∙ sym (c .before .is-word-in .ensures) ∙ not-true (c .before .is-word-in .result)
+    (c .if1 .taken) in
+    (omega arith, behind-stop s i (omega arith) n ∙ sym (loop .inv .2))
 
 add-i : tie.Need-add-i Inv-loop μ-loop
 add-i c = search needs
@@ -45,15 +52,19 @@ loop-less c = search needs
 
 loop-again : tie.Need-loop-again Inv-loop μ-loop
 loop-again c =
-    let s = c .before .before .before .before .before .before .args .s .now in
-    let i = c .before .before .before .before .loop .i in
-    let y : isWordByte (getD s i 0) ≡ true = sym (c .before .is-word-byte .ensures) ∙ not-false
-    (c .before .is-word-byte .result) (c .if1 .left) in
-    (omega arith, omega arith, c .before .before .before .before .loop .inv .2 ∙ behind-step s i (omega arith) y)
+    let s = c .before .before .before .before .before .before .before .before .args .s .now in
+    let loop = c .before .before .before .before .before .loop in
+    let i = loop .i in
+    let byte : getD s i 0 < 256 = omega (arith, c .before .before .shared-slice-known2 .given i) in
+    let table = c .before .before .before .before .before .before .class-table in
+    let word = word-in (table .result) (table .ensures) (getD s i 0) byte in
+    let y = sym word ∙ sym (c .before .is-word-in .ensures) ∙ not-false (c .before .is-word-in .result)
+    (c .if1 .left) in
+    (omega arith, omega arith, loop .inv .2 ∙ behind-step s i (omega arith) y)
 
 returns-2 : tie.Need-returns-2 Inv-loop μ-loop
 returns-2 c =
-    let s = c .before .before .before .args .s .now in
+    let s = c .before .before .before .before .args .s .now in
     let i = c .before .loop .i in
     (omega arith, behind-end s i (omega arith) (omega arith) ∙ sym (c .before .loop .inv .2))
 
@@ -63,9 +74,10 @@ word-end-spec =
     (tie.spec
     Inv-loop
     μ-loop
+    class-table-requires
     loop-holds
-    shared-slice-read-is-word-byte
-    is-word-byte-requires
+    shared-slice-read-is-word-in
+    is-word-in-requires
     returns
     add-i
     loop-less
