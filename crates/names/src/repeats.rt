@@ -64,11 +64,11 @@ fn repeat_below(names: &[[u8; 8]; 64], n: usize) -> usize
 }
 
 // The first of the first n names that repeats an earlier one; else n, or 64 where n is more.
-pub fn first_repeat(names: [[u8; 8]; 64], n: usize) -> usize
-    ensures { λ r. ⌜ r ≡ firstRepeat (namesAlike names) (atMost 64 n) ⌝ }
+pub fn first_repeat(names: &[[u8; 8]; 64], n: usize) -> usize
+    ensures { λ r. ⌜ r ≡ firstRepeat (namesAlike (now (names .entry))) (atMost 64 n) ⌝ }
 {
     if 64 < n {
-        return repeat_below(&names, 64);
+        return repeat_below(names, 64);
     }
-    repeat_below(&names, n)
+    repeat_below(names, n)
 }

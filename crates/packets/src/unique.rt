@@ -27,12 +27,11 @@ ghost use Rattle.packets.specs.NamesTest.{
 };
 
 // The places of the first records.
-fn record_places(s: &[u8], count: usize, from: usize) -> [usize; 64]
-    requires { ⌜ (count ≤ 64) × (length (now s) ≤ tableMost)
+fn record_places(s: &[u8], count: usize, from: usize, places: &mut [usize])
+    requires { ⌜ (count ≤ length (now places)) × (length (now s) ≤ tableMost)
         × FieldPlaces (now s) count (placesFrom (now s) count from) ⌝ }
-    ensures { λ r. ⌜ take count r ≡ placesFrom (now (s .entry)) count from ⌝ }
+    ensures { λ r. ⌜ take count (now (places .exit)) ≡ placesFrom (now (s .entry)) count from ⌝ }
 {
-    let mut places = [0usize; 64];
     let mut at = from;
     let mut i = 0;
     while i < count {
@@ -40,7 +39,6 @@ fn record_places(s: &[u8], count: usize, from: usize) -> [usize; 64]
         at += two_at(s, at);
         i += 1;
     }
-    places
 }
 
 // The short name of the record at a place.
@@ -57,17 +55,17 @@ fn short_at(s: &[u8], at: usize) -> [u8; 8]
     held_name(&s[start..end])
 }
 
-fn short_names(s: &[u8], places: &[usize; 64], count: usize) -> [[u8; 8]; 64]
-    requires { ⌜ (count ≤ 64) × (length (now s) ≤ tableMost) × FieldPlaces (now s) count (now places) ⌝ }
-    ensures { λ r. ⌜ HeldNames (now (s .entry)) (now (places .entry)) count r ⌝ }
+// The short names of the records at the first places.
+fn short_names(s: &[u8], places: &[usize; 64], count: usize, names: &mut [[u8; 8]; 64])
+    requires { ⌜ (count ≤ 64) × (length (now s) ≤ tableMost) × FieldPlaces (now s) count (now places)
+        × (length (now names) ≡ 64) ⌝ }
+    ensures { λ r. ⌜ HeldNames (now (s .entry)) (now (places .entry)) count (now (names .exit)) ⌝ }
 {
-    let mut names = [[0u8; 8]; 64];
     let mut i = 0;
     while i < count {
         names[i] = short_at(s, places[i]);
         i += 1;
     }
-    names
 }
 
 // The length, the middle byte and the last two bytes of a label, in one number.
@@ -93,17 +91,17 @@ fn label_key(s: &[u8], at: usize) -> usize
     sample_key(&s[start..end])
 }
 
-fn label_keys(s: &[u8], places: &[usize; 64], count: usize) -> [usize; 64]
-    requires { ⌜ (count ≤ 64) × (length (now s) ≤ tableMost) × FieldPlaces (now s) count (now places) ⌝ }
-    ensures { λ r. ⌜ LabelKeys (now (s .entry)) (now (places .entry)) count r ⌝ }
+// The keys of the labels of the records at the first places.
+fn label_keys(s: &[u8], places: &[usize; 64], count: usize, keys: &mut [usize])
+    requires { ⌜ (count ≤ 64) × (length (now s) ≤ tableMost) × FieldPlaces (now s) count (now places)
+        × (count ≤ length (now keys)) ⌝ }
+    ensures { λ r. ⌜ LabelKeys (now (s .entry)) (now (places .entry)) count (now (keys .exit)) ⌝ }
 {
-    let mut keys = [0usize; 64];
     let mut i = 0;
     while i < count {
         keys[i] = label_key(s, places[i]);
         i += 1;
     }
-    keys
 }
 
 // The records at two places, whose labels have these keys, have one label.
@@ -152,11 +150,14 @@ pub(crate) fn has_unique_names(s: &[u8], count: usize, from: usize) -> bool
         × FieldPlaces (now s) count (placesFrom (now s) count from) ⌝ }
     ensures { λ r. ⌜ r ≡ namesTest (now (s .entry)) count from ⌝ }
 {
-    let places = record_places(s, count, from);
-    let keys = label_keys(s, &places, count);
+    let mut places = [0usize; 64];
+    record_places(s, count, from, &mut places);
+    let mut keys = [0usize; 64];
+    label_keys(s, &places, count, &mut keys);
     if first_label(s, &places, &keys, count) != count {
         return false;
     }
-    let names = short_names(s, &places, count);
-    first_repeat(names, count) == count
+    let mut names = [[0u8; 8]; 64];
+    short_names(s, &places, count, &mut names);
+    first_repeat(&names, count) == count
 }

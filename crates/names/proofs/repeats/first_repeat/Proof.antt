@@ -11,19 +11,13 @@ repeat-below-requires : tie.Need-repeat-below-requires
 repeat-below-requires c κs = search needs
 
 returns : tie.Need-returns
-returns c =
-    let a = c .before .before .before .args in
-    let if1 = c .before .before .if1 in
-    rw (lt-ltb 64 (a .n) (if1 .taken)) (c .repeat-below .ensures)
+returns c = rw (lt-ltb 64 (c .before .before .args .n) (c .before .if1 .taken)) (c .repeat-below .ensures)
 
 repeat-below-requires-2 : tie.Need-repeat-below-requires-2
 repeat-below-requires-2 c κs = search needs
 
 returns-2 : tie.Need-returns-2
-returns-2 c =
-    let a = c .before .before .before .args in
-    let if1 = c .before .before .if1 in
-    rw (le-ltb 64 (a .n) (if1 .left)) (c .repeat-below2 .ensures)
+returns-2 c = rw (le-ltb 64 (c .before .before .args .n) (c .before .if1 .left)) (c .repeat-below2 .ensures)
 
 pub first-repeat-spec : {M : Type 1} → statement M
 first-repeat-spec =

@@ -1,5 +1,5 @@
-use mathlib.Core.Path.{_≡_}
-use Prim.Native.Nat.{ℕ, _-_, _≤_, _<_}
+use mathlib.Core.Path.{_≡_, refl}
+use Prim.Native.Nat.{ℕ, _-_, _≤_}
 use native.Mathlib.Omega.{arith}
 use lib.ListN.{length, getD}
 use denote.Ref.{now}
@@ -14,13 +14,13 @@ use Rattle.packets.proofs.unique.label_key.Reads as label-key-reads
 
 abbrev Inv-loop : tie.InvT-loop
 Inv-loop s places count keys₀ i₀ keys i =
-    (i ≤ count) × (length keys ≡ 64) × LabelKeys s places i keys
+    (i ≤ count) × (length keys ≡ length keys₀) × LabelKeys s places i keys
 
 abbrev μ-loop : tie.MeasureT-loop
 μ-loop s places count keys₀ i₀ keys i = count - i
 
 loop-holds : tie.Need-loop-holds Inv-loop μ-loop
-loop-holds c = (omega arith, search needs, λ k lt. absurd (omega arith))
+loop-holds c = (omega arith, refl, λ k lt. absurd (omega arith))
 
 mul-label-key : tie.Need-mul-label-key Inv-loop μ-loop
 mul-label-key c = search needs
@@ -30,15 +30,15 @@ element-copy-out-label-key c = search needs
 
 label-key-requires : tie.Need-label-key-requires Inv-loop μ-loop
 label-key-requires c κs =
-    let pre = c .before .before .before .before .pre in
+    let pre = c .before .before .before .before .before .pre in
     let l = c .before .before .loop in
     (pre .1, pre .2 (l .i) (omega arith))
 
 mul-keys : tie.Need-mul-keys Inv-loop μ-loop
 mul-keys c = search needs
 
-array-write-keys : tie.Need-array-write-keys Inv-loop μ-loop
-array-write-keys c = search needs
+slice-write-keys : tie.Need-slice-write-keys Inv-loop μ-loop
+slice-write-keys c = search needs
 
 add-i : tie.Need-add-i Inv-loop μ-loop
 add-i c = search needs
@@ -48,7 +48,7 @@ loop-less c = search needs
 
 loop-again : tie.Need-loop-again Inv-loop μ-loop
 loop-again c =
-    let a = c .before .before .before .before .before .args in
+    let a = c .before .before .before .before .before .before .args in
     let l = c .before .before .before .loop in
     let at : ℕ → ℕ = λ k. getD (now (a .places)) k 0 in (
       omega arith,
@@ -57,9 +57,12 @@ loop-again c =
           (c .label-key .ensures),
     )
 
+same-length : tie.Need-same-length Inv-loop μ-loop
+same-length c = search needs
+
 returns : tie.Need-returns Inv-loop μ-loop
 returns c =
-    let a = c .before .before .before .args in
+    let a = c .before .before .before .before .args in
     let e : c .before .loop .i ≡ a .count = omega arith in rw e at (c .before .loop .inv .2)
 
 pub label-keys-spec : {M : Type 1} → statement M
@@ -73,8 +76,9 @@ label-keys-spec =
     element-copy-out-label-key
     label-key-requires
     mul-keys
-    array-write-keys
+    slice-write-keys
     add-i
     loop-less
     loop-again
+    same-length
     returns)

@@ -1,4 +1,4 @@
-use mathlib.Core.Path.{_≡_, _∙_}
+use mathlib.Core.Path.{_≡_, refl}
 use mathlib.Core.List.{_++_}
 use Prim.Native.Nat.{_+_, _-_, _≤_}
 use native.Mathlib.Omega.{arith}
@@ -17,20 +17,20 @@ use Rattle.packets.proofs.records.two_at.Reads as two-at-reads
 
 abbrev Inv-loop : tie.InvT-loop
 Inv-loop s count from places₀ at₀ i₀ places at i =
-    (i ≤ count) × (length places ≡ 64) × FieldPlaces s (count - i) (placesFrom s (count - i) at)
+    (i ≤ count) × (length places ≡ length places₀) × FieldPlaces s (count - i) (placesFrom s (count - i) at)
     × (take i places ++ placesFrom s (count - i) at ≡ placesFrom s count from)
 
 abbrev μ-loop : tie.MeasureT-loop
 μ-loop s count from places₀ at₀ i₀ places at i = count - i
 
 loop-holds : tie.Need-loop-holds Inv-loop μ-loop
-loop-holds c = (omega arith, search needs, rw sub-zero (c .before .pre .2), rw sub-zero)
+loop-holds c = (omega arith, refl, rw sub-zero (c .before .before .pre .2), rw sub-zero)
 
 mul-places : tie.Need-mul-places Inv-loop μ-loop
 mul-places c = search needs
 
-array-write-places : tie.Need-array-write-places Inv-loop μ-loop
-array-write-places c = search needs
+slice-write-places : tie.Need-slice-write-places Inv-loop μ-loop
+slice-write-places c = search needs
 
 two-at-requires : tie.Need-two-at-requires Inv-loop μ-loop
 two-at-requires c κs =
@@ -49,7 +49,7 @@ loop-less c = search needs
 
 loop-again : tie.Need-loop-again Inv-loop μ-loop
 loop-again c =
-    let a = c .before .before .before .before .args in
+    let a = c .before .before .before .before .before .args in
     let l = c .before .before .loop in
     let s = now (a .s) in
     let next : l .at + c .two-at .result ≡ partsAt s (l .at) .next =
@@ -59,6 +59,9 @@ loop-again c =
       rw next (places-rest _ _ (l .i) _ (omega arith) (l .inv .2)),
       rw next (places-again _ _ (l .i) _ (l .places) _ (omega arith) (omega arith) (l .inv .3)),
     )
+
+same-length : tie.Need-same-length Inv-loop μ-loop
+same-length c = search needs
 
 returns : tie.Need-returns Inv-loop μ-loop
 returns c = places-done _ _ (c .before .loop .i) _ (c .before .loop .places) _ (omega arith) (c .before .loop .inv .3)
@@ -71,10 +74,11 @@ record-places-spec =
     μ-loop
     loop-holds
     mul-places
-    array-write-places
+    slice-write-places
     two-at-requires
     add-at
     add-i
     loop-less
     loop-again
+    same-length
     returns)

@@ -1,4 +1,4 @@
-use mathlib.Core.Path.{_≡_}
+use mathlib.Core.Path.{_≡_, refl}
 use mathlib.Core.List.{[]}
 use Prim.Native.Nat.{ℕ, _-_, _≤_}
 use native.Mathlib.Omega.{arith}
@@ -15,13 +15,13 @@ use Rattle.packets.proofs.unique.short_at.Reads as short-at-reads
 
 abbrev Inv-loop : tie.InvT-loop
 Inv-loop s places count names₀ i₀ names i =
-    (i ≤ count) × (length names ≡ 64) × HeldNames s places i names
+    (i ≤ count) × (length names ≡ length names₀) × HeldNames s places i names
 
 abbrev μ-loop : tie.MeasureT-loop
 μ-loop s places count names₀ i₀ names i = count - i
 
 loop-holds : tie.Need-loop-holds Inv-loop μ-loop
-loop-holds c = (omega arith, search needs, λ k lt. absurd (omega arith))
+loop-holds c = (omega arith, refl, λ k lt. absurd (omega arith))
 
 mul-short-at : tie.Need-mul-short-at Inv-loop μ-loop
 mul-short-at c = search needs
@@ -35,11 +35,11 @@ short-at-requires c κs =
     let l = c .before .before .loop in
     (pre .1, pre .2 (l .i) (omega arith))
 
-mul-names : tie.Need-mul-names Inv-loop μ-loop
-mul-names c = search needs
+mul-t12 : tie.Need-mul-t12 Inv-loop μ-loop
+mul-t12 c = search needs
 
-array-set-from-names : tie.Need-array-set-from-names Inv-loop μ-loop
-array-set-from-names c = search needs
+element-set-from-names : tie.Need-element-set-from-names Inv-loop μ-loop
+element-set-from-names c = search needs
 
 add-i : tie.Need-add-i Inv-loop μ-loop
 add-i c = search needs
@@ -73,8 +73,8 @@ short-names-spec =
     mul-short-at
     element-copy-out-short-at
     short-at-requires
-    mul-names
-    array-set-from-names
+    mul-t12
+    element-set-from-names
     add-i
     loop-less
     loop-again
