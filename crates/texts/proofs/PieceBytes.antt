@@ -7,7 +7,7 @@ use native.Mathlib.Omega.{arith}
 use native.Mathlib.Nat.{add-zero}
 use native.Mathlib.Numerals.{add-one}
 use lib.Dec.{eqb, ltb}
-use lib.ListN.{length, take, drop, getD, set}
+use lib.ListN.{length, take, getD, set}
 use lib.Seq.{take-suc, take-suc-set}
 use borrow.Author.Tests.{eqb-true, eq-eqb, ne-eqb}
 use Rattle.base.specs.Lists.{all}
@@ -29,19 +29,7 @@ put-more out d src at i lo hi e =
     rw (q, take-suc-set out (at + i) (getD src i 0) lo, e, add-one i, take-suc src i 0 hi)
     (append-assoc (take at d) (take i src) (getD src i 0 ∷ []))
 
--- the first byte was written over
-pub led-is : (l src : List ℕ) (n c : ℕ) → 0 < length src → take (1 + n) l ≡ take 1 src ++ take n src
-    → take (1 + n) (set l 0 c) ≡ c ∷ take n src
-led-is l [] n c lt e = absurd (omega arith)
-led-is [] (x ∷ src) n c lt e =
-    let q : 1 + n ≡ suc n = omega arith in
-    let z : _≡_ {A = ℕ} 0 (suc (length (take n (x ∷ src)))) = ap length (rw q at e) in
-    absurd (omega arith)
-led-is (y ∷ l) (x ∷ src) n c lt e =
-    let q : 1 + n ≡ suc n = omega arith in
-    let z : take n l ≡ take n (x ∷ src) = ap (λ (m : List ℕ). drop 1 m) (rw q at e) in
-    rw q (ap (λ (m : List ℕ). c ∷ m) z)
-
+-- a byte and the first bytes of two lists
 pub two-bytes : (r f a b : List ℕ) (x y c : ℕ) → take (1 + x) f ≡ c ∷ take x a
     → take (1 + x + y) r ≡ take (1 + x) f ++ take y b → take (1 + (x + y)) r ≡ c ∷ (take x a ++ take y b)
 two-bytes r f a b x y c p e =

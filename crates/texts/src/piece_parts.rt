@@ -5,10 +5,10 @@ use rules::Op;
 ghost use mathlib.Core.Path.{_≡_};
 ghost use mathlib.Core.Bool.{cond};
 ghost use mathlib.Core.List.{[], _∷_, _++_};
-ghost use Prim.Native.Nat.{_+_, _*_, _≤_, _<_};
+ghost use Prim.Native.Nat.{_+_, _*_, _≤_};
 ghost use Rattle.rules.specs.Limits.{textMost};
 ghost use lib.Dec.{ltb};
-ghost use lib.ListN.{length, take};
+ghost use lib.ListN.{take};
 ghost use Rattle.rules.specs.Operators.{code, takes, gives, numberCode, fieldCode};
 ghost use Rattle.rules.specs.Trees.{le4};
 ghost use Rattle.texts.specs.Pieces.{kindCode};
@@ -26,27 +26,22 @@ pub(crate) fn none() -> Piece
     }
 }
 
-// The first n bytes of src, put at a place of dst.
-fn put_at(dst: [u8; 120], at: usize, src: [u8; 120], n: usize) -> [u8; 120]
-    requires { ⌜ at + n ≤ 120 ⌝ }
-    ensures { λ r. ⌜ take (at + n) r ≡ take at dst ++ take n src ⌝ }
+// A byte, the first x bytes of a and the first y bytes of b.
+fn joined(c: u8, a: [u8; 120], x: usize, b: [u8; 120], y: usize) -> [u8; 120]
+    requires { ⌜ 1 + (x + y) ≤ 120 ⌝ }
+    ensures { λ r. ⌜ take (1 + (x + y)) r ≡ c ∷ (take x a ++ take y b) ⌝ }
 {
-    let mut out = dst;
+    let mut out = [c; 120];
     let mut i = 0;
-    while i < n {
-        out[at + i] = src[i];
+    while i < x {
+        out[1 + i] = a[i];
         i += 1;
     }
-    out
-}
-
-// A byte, and the first n bytes of src behind it.
-fn led_by(c: u8, src: [u8; 120], n: usize) -> [u8; 120]
-    requires { ⌜ n < 120 ⌝ }
-    ensures { λ r. ⌜ take (1 + n) r ≡ c ∷ take n src ⌝ }
-{
-    let mut out = put_at(src, 1, src, n);
-    out[0] = c;
+    let mut j = 0;
+    while j < y {
+        out[1 + x + j] = b[j];
+        j += 1;
+    }
     out
 }
 
@@ -153,7 +148,7 @@ pub(crate) fn not_piece(p: Piece, next: usize) -> Piece
     let len = 1 + n;
     let inner = p.bytes;
     if len <= 120 {
-        let bytes = led_by(0x32, inner, n);
+        let bytes = joined(0x32, inner, n, inner, 0);
         return Piece {
             next: next,
             kind: kind,
@@ -182,8 +177,7 @@ pub(crate) fn two_piece(o: Op, a: Piece, b: Piece) -> Piece
     let left = a.bytes;
     let right = b.bytes;
     if len <= 120 {
-        let front = led_by(code_of(o), left, x);
-        let bytes = put_at(front, 1 + x, right, y);
+        let bytes = joined(code_of(o), left, x, right, y);
         return Piece {
             next: next,
             kind: kind,

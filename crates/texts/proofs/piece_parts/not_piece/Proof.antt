@@ -1,11 +1,13 @@
 use mathlib.Core.Path.{refl}
+use mathlib.Core.List.{append-nil}
+use native.Mathlib.Nat.{add-zero}
 use native.Mathlib.Omega.{arith}
 use borrow.Author.Needs.{needs}
 use Rattle.texts.proofs.piece_parts.not_piece.Statement.{statement}
 use Rattle.texts.proofs.piece_parts.not_piece.Tie as tie
 use Rattle.texts.proofs.piece_parts.not_piece.Reads as reads
 use Rattle.texts.proofs.piece_parts.not_piece.Lts as lts
-use Rattle.texts.proofs.piece_parts.led_by.Reads as led-by-reads
+use Rattle.texts.proofs.piece_parts.joined.Reads as joined-reads
 use Rattle.texts.proofs.piece_parts.not_kind.Reads as not-kind-reads
 
 not-kind-requires : tie.Need-not-kind-requires
@@ -14,11 +16,16 @@ not-kind-requires c κs = search needs
 add-len : tie.Need-add-len
 add-len c = search needs
 
-led-by-requires : tie.Need-led-by-requires
-led-by-requires c κs = search needs
+joined-requires : tie.Need-joined-requires
+joined-requires c κs = search needs
 
 returns : tie.Need-returns
-returns c = search needs
+returns c = record {
+  next = refl;
+  kind = c .before .before .before .not-kind .ensures;
+  len = refl;
+  bytes = λ h. simp (add-zero, append-nil) at (c .joined .ensures);
+}
 
 returns-2 : tie.Need-returns-2
 returns-2 c = record {
@@ -29,4 +36,4 @@ returns-2 c = record {
 }
 
 pub not-piece-spec : {M : Type 1} → statement M
-not-piece-spec = tie.close (tie.spec not-kind-requires add-len led-by-requires returns returns-2)
+not-piece-spec = tie.close (tie.spec not-kind-requires add-len joined-requires returns returns-2)
