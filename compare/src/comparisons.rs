@@ -64,8 +64,8 @@ fn compare_listing(calls: &mut Calls, table: &[u8], packet: &[u8]) -> Result<(),
     Ok(())
 }
 
-/// Lengths of a lent slice that needs `needed`: exactly that, one less, none, some more, and as the safe crate lends
-/// it, who doubles `first` until it is enough.
+/// Lengths of a lent slice that needs `needed`: exactly that, one less, none, some more, and `first`, doubled until it
+/// is enough, as the safe crate does.
 fn rooms(rng: &mut Rng, needed: usize, first: usize) -> [usize; 5] {
     let doubled = needed.next_power_of_two().max(first);
     [needed, needed.saturating_sub(1), 0, needed + rng.between(1, 300), doubled]
