@@ -1,6 +1,7 @@
 /* Umarekoza: packet diagrams as tables, and packets read by them.
 
-   Link libumarekoza.a (x86-64 Linux). Numbers, places and bytes are those of document 01.
+   Link libumarekoza.a (x86-64 Linux). Numbers, places and bytes are those of document 01; only 30, for a name that no
+   field has, is not there: document 02 gives it where there is no such field.
 
    Each function has a proved promise, which holds for all bytes and lengths: it settles the answer, and what every
    lent buffer holds afterwards. A buffer that is not written is left as it was, and so is any byte beyond what is
@@ -8,7 +9,9 @@
 
    No promise covers the caller's side:
    - each pointer is valid for its length (in bytes; for a run in numbers), and a run is aligned as uint32_t is;
-   - no buffer that is written overlaps another buffer of the same call, and nothing else writes them meanwhile;
+   - no buffer that is written overlaps another buffer of the same call;
+   - while the call runs, nothing else writes any of its buffers, those that it only reads too, or reads one that it
+     writes;
    - NULL with length 0 is taken as an empty buffer: nothing is read or written through it;
    - there is stack enough: a call may need some tens of kilobytes. */
 #ifndef UMAREKOZA_H
@@ -21,7 +24,7 @@
 extern "C" {
 #endif
 
-/* Number 0: accepted, with a length. Else refused: 01's number and place, and length 0. */
+/* Number 0: accepted, with place 0 and a length. Else refused: the number and place of the refusal, and length 0. */
 struct umarekoza_answer {
     uint32_t number;
     uint32_t place;

@@ -10,8 +10,8 @@ const SETTING: &str = "UMAREKOZA_LIB_DIR";
 fn main() {
     println!("cargo:rerun-if-env-changed={SETTING}");
     let folder = match env::var_os(SETTING) {
-        Some(folder) => PathBuf::from(folder),
-        None => PathBuf::from("../target/staticlib"),
+        Some(folder) if !folder.is_empty() => PathBuf::from(folder),
+        _ => PathBuf::from("../target/staticlib"),
     };
     let folder = Path::new(env!("CARGO_MANIFEST_DIR")).join(folder);
     let library = folder.join("libumarekoza.a");

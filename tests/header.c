@@ -1,8 +1,11 @@
-/* The header as a C program sees it: sizes, empty buffers, the Tag text of document 01 and a packet by its table. */
+/* The header as a C program sees it: the sizes, and each function with an accepted and a refused answer and with NULL
+   and length 0 for each buffer. Texts, tables, packets and answers are those of document 01, number 30 that of 02. */
 #include <stdio.h>
 #include <string.h>
 
 #include "umarekoza.h"
+
+#define BYTES(string) (const uint8_t *)(string), sizeof(string) - 1
 
 static const char tag[] =
     "A Tag is formatted as follows:\n"
@@ -22,6 +25,50 @@ static const uint8_t tag_table[44] = {
     0x02, 0x00, 0x04, 0x00, 0x4B, 0x69, 0x6E, 0x64, 0x01, 0x00, 0x4B, 0x08, 0x00, 0x08, 0x00,
     0x20, 0x02, 0x00, 0x01, 0x07, 0x00, 0x00, 0x00, 0x00, 0x00, 0x04, 0x00, 0x05, 0x00};
 
+static const char blade[] =
+    "A Blade Report is formatted as follows:\n"
+    "\n"
+    " 0                   1\n"
+    " 0 1 2 3 4 5 6 7 8 9 0 1 2 3 4 5\n"
+    "+-+-+-+-+-+-+-+-+-+-+-+-+-+-+-+-+\n"
+    "| V |L|  Cells  |     Blade     |\n"
+    "+-+-+-+-+-+-+-+-+-+-+-+-+-+-+-+-+\n"
+    "|           Borrower            |\n"
+    "+-+-+-+-+-+-+-+-+-+-+-+-+-+-+-+-+\n"
+    ":            Readings           :\n"
+    "+-+-+-+-+-+-+-+-+-+-+-+-+-+-+-+-+\n"
+    "|             Sum               |\n"
+    "+-+-+-+-+-+-+-+-+-+-+-+-+-+-+-+-+\n"
+    "\n"
+    "where:\n"
+    "\n"
+    "Version (V): 2 bits; V == 1.\n"
+    "On Loan (L): 1 bit.\n"
+    "Cells (N): 5 bits; N <= 20.\n"
+    "Blade: 1 byte.\n"
+    "Borrower (Bor): 2 bytes; present only when L == 1.\n"
+    "Readings: N bytes.\n"
+    "Sum: 2 bytes.\n";
+
+static const uint8_t m1[8] = {0x62, 0x07, 0x01, 0x2C, 0xAA, 0xBB, 0x00, 0x09};
+
+static const char m1_listing[] =
+    "Version: 0 2 1\n"
+    "On Loan: 2 1 1\n"
+    "Cells: 3 5 2\n"
+    "Blade: 8 8 7\n"
+    "Borrower: 16 16 300\n"
+    "Readings: 32 16\n"
+    "Sum: 48 16 9\n"
+    "bits 64\n";
+
+static const uint32_t m1_numbers[28] = {
+    1, 0, 2, 1, 1, 2, 1, 1, 1, 3, 5, 2, 1, 8, 8, 7, 1, 16, 16, 300, 1, 32, 16, 0, 1, 48, 16, 9};
+
+/* The blade report's table, written by the library: its records have 22, 30, 22, 28, 19, 33, 26, 17 and 4 bytes. */
+static uint8_t table[201];
+static const size_t table_len = 201;
+
 static int failed;
 
 static void expect(int holds, const char *what)
@@ -37,23 +84,117 @@ static int is(struct umarekoza_answer a, uint32_t number, uint32_t place, uint64
     return a.number == number && a.place == place && a.length == length;
 }
 
-int main(void)
+static int lies(struct umarekoza_span s, uint64_t offset, uint64_t length)
+{
+    return s.offset == offset && s.length == length;
+}
+
+/* Whether all bytes from here to there are 9. */
+static int nines(const void *buffer, size_t from, size_t to)
+{
+    const uint8_t *bytes = (const uint8_t *)buffer;
+    for (; from < to; from++)
+        if (bytes[from] != 9)
+            return 0;
+    return 1;
+}
+
+static void write_table(void)
 {
     uint8_t out[64];
-    uint32_t run[4];
-    const uint8_t packet[1] = {7};
+    memset(out, 9, sizeof out);
+    expect(is(umarekoza_write_table(NULL, 0, NULL, 0), 3, 1, 0), "no text and no output");
+    expect(is(umarekoza_write_table(NULL, 0, out, 64), 3, 1, 0), "no text");
+    expect(is(umarekoza_write_table(BYTES(tag), NULL, 0), 11, 0, 0), "no output");
+    expect(is(umarekoza_write_table(BYTES(tag), out, 43), 11, 0, 0), "an output too short");
+    expect(nines(out, 0, 64), "an output after refusals");
+    expect(is(umarekoza_write_table(BYTES(tag), out, 64), 0, 0, 44), "the Tag text");
+    expect(memcmp(out, tag_table, 44) == 0, "the Tag table");
+    expect(nines(out, 44, 64), "what lies beyond the table");
+    expect(is(umarekoza_write_table(BYTES(blade), table, table_len), 0, 0, table_len), "the blade report's text");
+}
 
+static void check_table(void)
+{
+    expect(is(umarekoza_check_table(NULL, 0), 21, 0, 0), "no table to check");
+    expect(is(umarekoza_check_table(tag_table, 43), 21, 0, 0), "a part of the Tag table");
+    expect(is(umarekoza_check_table(tag_table, 44), 0, 0, 44), "the Tag table checked");
+    expect(is(umarekoza_check_table(table, table_len), 0, 0, table_len), "the blade report's table checked");
+}
+
+static void read_packet(void)
+{
+    uint32_t run[30];
+    memset(run, 9, sizeof run);
+    expect(is(umarekoza_read_packet(NULL, 0, NULL, 0, NULL, 0), 21, 0, 0), "reading nothing");
+    expect(is(umarekoza_read_packet(NULL, 0, m1, 8, run, 30), 21, 0, 0), "reading by no table");
+    expect(is(umarekoza_read_packet(table, table_len, m1, 8, NULL, 0), 23, 0, 0), "reading to no run");
+    expect(is(umarekoza_read_packet(table, table_len, NULL, 0, run, 30), 24, 1, 0), "M7 read");
+    expect(is(umarekoza_read_packet(table, table_len, m1, 7, run, 30), 24, 7, 0), "M3 read");
+    expect(nines(run, 0, sizeof run), "a run after refusals");
+    expect(is(umarekoza_read_packet(table, table_len, m1, 8, run, 30), 0, 0, 64), "M1 read");
+    expect(memcmp(run, m1_numbers, sizeof m1_numbers) == 0, "M1's numbers");
+    expect(nines(run, sizeof m1_numbers, sizeof run), "what lies beyond M1's numbers");
+}
+
+static void field_bytes(void)
+{
+    expect(lies(umarekoza_field_bytes(NULL, 0, NULL, 0, 0), 0, 0), "bytes of nothing");
+    expect(lies(umarekoza_field_bytes(NULL, 0, m1, 8, 5), 0, 0), "bytes by no table");
+    expect(lies(umarekoza_field_bytes(table, table_len, NULL, 0, 5), 0, 0), "bytes of M7");
+    expect(lies(umarekoza_field_bytes(table, table_len, m1, 7, 5), 0, 0), "bytes of M3");
+    expect(lies(umarekoza_field_bytes(table, table_len, m1, 8, 2), 0, 0), "bytes of M1's Cells");
+    expect(lies(umarekoza_field_bytes(table, table_len, m1, 8, 7), 0, 0), "bytes of no field");
+    expect(lies(umarekoza_field_bytes(table, table_len, m1, 8, 5), 4, 2), "bytes of M1's Readings");
+}
+
+static void list_packet(void)
+{
+    const size_t m1_len = sizeof m1_listing - 1;
+    uint8_t out[200];
+    memset(out, 9, sizeof out);
+    expect(is(umarekoza_list_packet(NULL, 0, NULL, 0, NULL, 0), 11, 0, 0), "a listing of nothing");
+    expect(is(umarekoza_list_packet(table, table_len, m1, 8, NULL, 0), 11, 0, 0), "a listing to no output");
+    expect(is(umarekoza_list_packet(table, table_len, m1, 8, out, m1_len - 1), 11, 0, 0), "a listing too long");
+    expect(nines(out, 0, 200), "an output after refused listings");
+    expect(is(umarekoza_list_packet(table, table_len, m1, 8, out, 200), 0, 0, m1_len), "M1 listed");
+    expect(memcmp(out, m1_listing, m1_len) == 0 && nines(out, m1_len, 200), "M1's listing");
+    expect(is(umarekoza_list_packet(table, table_len, m1, 7, out, 200), 0, 0, 16), "M3 listed");
+    expect(memcmp(out, "refused 24 at 7\n", 16) == 0, "M3's listing");
+    expect(is(umarekoza_list_packet(table, table_len, NULL, 0, out, 200), 0, 0, 16), "M7 listed");
+    expect(memcmp(out, "refused 24 at 1\n", 16) == 0, "M7's listing");
+    expect(is(umarekoza_list_packet(NULL, 0, m1, 8, out, 200), 0, 0, 16), "M1 listed by no table");
+    expect(memcmp(out, "refused 21 at 0\n", 16) == 0, "a listing by no table");
+}
+
+static void find_field(void)
+{
+    expect(is(umarekoza_find_field(NULL, 0, NULL, 0), 21, 0, 0), "no name in no table");
+    expect(is(umarekoza_find_field(NULL, 0, BYTES("Bor")), 21, 0, 0), "a name in no table");
+    expect(is(umarekoza_find_field(table, table_len, NULL, 0), 30, 0, 0), "no name");
+    expect(is(umarekoza_find_field(table, table_len, BYTES("bor")), 30, 0, 0), "an unknown name");
+    expect(is(umarekoza_find_field(table, table_len, BYTES("Bor")), 0, 0, 4), "a short name");
+    expect(is(umarekoza_find_field(table, table_len, BYTES("Sum")), 0, 0, 6), "a label");
+}
+
+static void field_label(void)
+{
+    expect(lies(umarekoza_field_label(NULL, 0, 0), 0, 0), "a label in no table");
+    expect(lies(umarekoza_field_label(tag_table, 43, 0), 0, 0), "a label in a part of the Tag table");
+    expect(lies(umarekoza_field_label(tag_table, 44, 1), 0, 0), "the label of no field");
+    expect(lies(umarekoza_field_label(tag_table, 44, 0), 19, 4), "the label Kind");
+}
+
+int main(void)
+{
     expect(sizeof(struct umarekoza_answer) == 16, "size of an answer");
     expect(sizeof(struct umarekoza_span) == 16, "size of a span");
-    expect(is(umarekoza_write_table(NULL, 0, NULL, 0), 3, 1, 0), "an empty text");
-    expect(is(umarekoza_check_table(NULL, 0), 21, 0, 0), "an empty table");
-
-    memset(out, 9, sizeof out);
-    expect(is(umarekoza_write_table((const uint8_t *)tag, sizeof tag - 1, out, 64), 0, 0, 44), "the Tag text");
-    expect(memcmp(out, tag_table, 44) == 0, "the Tag table");
-    expect(out[44] == 9 && out[63] == 9, "what lies beyond the table");
-    expect(is(umarekoza_read_packet(out, 44, packet, 1, run, 4), 0, 0, 8), "a packet");
-    expect(run[0] == 1 && run[1] == 0 && run[2] == 8 && run[3] == 7, "its field");
-    expect(is(umarekoza_read_packet(out, 44, NULL, 0, run, 4), 24, 1, 0), "an empty packet");
+    write_table();
+    check_table();
+    read_packet();
+    field_bytes();
+    list_packet();
+    find_field();
+    field_label();
     return failed;
 }

@@ -1,102 +1,164 @@
-//! The calls of the library on slices with guards. Each answers what the library answered and what it wrote, or
-//! says what it did to a slice that it must not do.
+//! The seven calls, each on slices between guards. Of each is compared: the answer as it is, number, place and
+//! length or offset and length; what was written; and that everything else that was lent is as it was.
 
+use crate::exports::{Answer, Exports, Span};
 use crate::lent::{Lent, Unit};
-use umarekoza::Refusal;
+use crate::tally::Tally;
+use std::fmt::{Arguments, Debug};
 use umarekoza_model::generate::Rng;
+use umarekoza_model::{Reading, Refusal};
 
 /// What the library did wrong.
 pub type Wrong = String;
 
-/// A table and a packet, or a table and a name, lent for reading.
-pub struct Pair {
-    table: Lent<u8>,
-    other: Lent<u8>,
+/// What goes with an acceptance, or the refusal.
+pub type Settled<T> = Result<T, Refusal>;
+
+/// The functions that are called, what lent slices are filled from, and the comparisons so far.
+pub struct Calls {
+    exports: Exports,
+    pub rng: Rng,
+    pub tally: Tally,
 }
 
-impl Pair {
-    pub fn new(rng: &mut Rng, table: &[u8], other: &[u8]) -> Self {
-        Pair { table: Lent::holding(rng, table), other: Lent::holding(rng, other) }
+impl Calls {
+    pub fn new(exports: Exports, seed: u64) -> Self {
+        Calls { exports, rng: Rng::new(seed), tally: Tally::default() }
     }
 
-    fn kept<T>(&self, answer: T) -> Result<T, Wrong> {
-        if self.table.is_untouched() && self.other.is_untouched() {
-            return Ok(answer);
-        }
-        Err("changed what it may only read".to_string())
+    /// The length is the table's.
+    pub fn write_table(&mut self, text: &[u8], room: usize, due: &Settled<Vec<u8>>) -> Result<(), Wrong> {
+        let (mut text, mut out) = (self.lent(text), self.room(room));
+        let due_answer = self.due(due, |table| table.len() as u64);
+        // SAFETY: what is lent is valid for its length.
+        let answer = unsafe { (self.exports.write_table)(text.start(), text.len(), out.start(), out.len()) };
+        let found = same(answer, due_answer).and(wrote(&out, due.as_deref())).and(kept(&[&text]));
+        self.counted(found, format_args!("write_table to {room}"))
+    }
+
+    /// The length is the table's.
+    pub fn check_table(&mut self, table: &[u8], due: &Settled<()>) -> Result<(), Wrong> {
+        let mut table = self.lent(table);
+        let due_answer = self.due(due, |()| table.len() as u64);
+        // SAFETY: what is lent is valid for its length.
+        let answer = unsafe { (self.exports.check_table)(table.start(), table.len()) };
+        self.counted(same(answer, due_answer).and(kept(&[&table])), format_args!("check_table"))
+    }
+
+    /// The length is the bit total.
+    pub fn read_packet(
+        &mut self,
+        (table, packet): (&[u8], &[u8]),
+        run_len: usize,
+        due: &Settled<Reading>,
+    ) -> Result<(), Wrong> {
+        let (mut table, mut packet, mut run) = (self.lent(table), self.lent(packet), self.room(run_len));
+        let due_answer = self.due(due, |reading| u64::from(reading.total));
+        let call = self.exports.read_packet;
+        let (table_at, packet_at) = (table.start(), packet.start());
+        // SAFETY: what is lent is valid for its length.
+        let answer = unsafe { call(table_at, table.len(), packet_at, packet.len(), run.start(), run.len()) };
+        let numbers = due.as_ref().map(|reading| reading.fields.as_flattened());
+        let found = same(answer, due_answer).and(wrote(&run, numbers)).and(kept(&[&table, &packet]));
+        self.counted(found, format_args!("read_packet to {run_len}"))
+    }
+
+    pub fn field_bytes(
+        &mut self,
+        (table, packet): (&[u8], &[u8]),
+        index: usize,
+        due: (usize, usize),
+    ) -> Result<(), Wrong> {
+        let (mut table, mut packet) = (self.lent(table), self.lent(packet));
+        let call = self.exports.field_bytes;
+        // SAFETY: what is lent is valid for its length.
+        let part = unsafe { call(table.start(), table.len(), packet.start(), packet.len(), index) };
+        let found = same(part, span(due)).and(kept(&[&table, &packet]));
+        self.counted(found, format_args!("field_bytes {index}"))
+    }
+
+    /// The length is the listing's.
+    pub fn list_packet(
+        &mut self,
+        (table, packet): (&[u8], &[u8]),
+        room: usize,
+        due: &Settled<Vec<u8>>,
+    ) -> Result<(), Wrong> {
+        let (mut table, mut packet, mut out) = (self.lent(table), self.lent(packet), self.room(room));
+        let due_answer = self.due(due, |listing| listing.len() as u64);
+        let call = self.exports.list_packet;
+        let (table_at, packet_at) = (table.start(), packet.start());
+        // SAFETY: what is lent is valid for its length.
+        let answer = unsafe { call(table_at, table.len(), packet_at, packet.len(), out.start(), out.len()) };
+        let found = same(answer, due_answer).and(wrote(&out, due.as_deref())).and(kept(&[&table, &packet]));
+        self.counted(found, format_args!("list_packet to {room}"))
+    }
+
+    /// The length is the field's index.
+    pub fn find_field(&mut self, table: &[u8], name: &[u8], due: &Settled<usize>) -> Result<(), Wrong> {
+        let (mut table, mut lent_name) = (self.lent(table), self.lent(name));
+        let due_answer = self.due(due, |index| *index as u64);
+        let call = self.exports.find_field;
+        // SAFETY: what is lent is valid for its length.
+        let answer = unsafe { call(table.start(), table.len(), lent_name.start(), lent_name.len()) };
+        let found = same(answer, due_answer).and(kept(&[&table, &lent_name]));
+        self.counted(found, format_args!("find_field {name:02x?}"))
+    }
+
+    pub fn field_label(&mut self, table: &[u8], index: usize, due: (usize, usize)) -> Result<(), Wrong> {
+        let mut table = self.lent(table);
+        // SAFETY: what is lent is valid for its length.
+        let label = unsafe { (self.exports.field_label)(table.start(), table.len(), index) };
+        self.counted(same(label, span(due)).and(kept(&[&table])), format_args!("field_label {index}"))
+    }
+
+    fn lent(&mut self, bytes: &[u8]) -> Lent<u8> {
+        Lent::holding(&mut self.rng, bytes)
+    }
+
+    fn room<T: Unit>(&mut self, length: usize) -> Lent<T> {
+        Lent::random(&mut self.rng, length)
+    }
+
+    /// The answer that is due, with the length that goes with an acceptance.
+    fn due<T>(&mut self, due: &Settled<T>, length: impl Fn(&T) -> u64) -> Answer {
+        let answer = match due {
+            Ok(accepted) => Answer { number: 0, place: 0, length: length(accepted) },
+            Err(Refusal { number, place }) => Answer { number: *number, place: *place, length: 0 },
+        };
+        *self.tally.numbers.entry(answer.number).or_default() += 1;
+        answer
+    }
+
+    fn counted(&mut self, found: Result<(), Wrong>, call: Arguments<'_>) -> Result<(), Wrong> {
+        found.map_err(|wrong| format!("{call}: the library {wrong}"))?;
+        self.tally.comparisons += 1;
+        Ok(())
     }
 }
 
-/// What was written, if the answer is its length and nothing else has changed; or the refusal, if nothing has.
-fn written<T: Unit>(answer: Result<usize, Refusal>, out: &Lent<T>) -> Result<Result<Vec<T>, Refusal>, Wrong> {
-    match answer {
-        Ok(length) => {
-            let Some(start) = out.slice().get(..length) else {
-                return Err(format!("answered a length of {length}, more than there is room for"));
-            };
-            let start = start.to_vec();
-            if out.has_only(&start) {
-                return Ok(Ok(start));
-            }
-            Err("changed something beyond what it wrote".to_string())
-        }
-        Err(refusal) if out.is_untouched() => Ok(Err(refusal)),
-        Err(refusal) => Err(format!("{refusal}, but changed the output or its guards")),
+fn span((start, length): (usize, usize)) -> Span {
+    Span { offset: start as u64, length: length as u64 }
+}
+
+fn same<T: PartialEq + Debug>(answer: T, due: T) -> Result<(), Wrong> {
+    if answer == due {
+        return Ok(());
     }
+    Err(format!("answers {answer:?}, where {due:?} is due"))
 }
 
-pub fn write_table(rng: &mut Rng, text: &[u8], room: usize) -> Result<Result<Vec<u8>, Refusal>, Wrong> {
-    let text = Lent::holding(rng, text);
-    let mut out = Lent::random(rng, room);
-    let answer = umarekoza::write_table(text.slice(), out.slice_mut());
-    if !text.is_untouched() {
-        return Err("changed the text".to_string());
+/// What was to be written stands at the start of the output, and nothing else has changed; after a refusal nothing.
+fn wrote<T: Unit>(out: &Lent<T>, due: Result<&[T], &Refusal>) -> Result<(), Wrong> {
+    if out.has_only(due.unwrap_or_default()) {
+        return Ok(());
     }
-    written(answer, &out)
+    Err("wrote something else than is due, or changed something beyond it".to_string())
 }
 
-pub fn check_table(rng: &mut Rng, table: &[u8]) -> Result<Result<(), Refusal>, Wrong> {
-    let pair = Pair::new(rng, table, b"");
-    pair.kept(umarekoza::check_table(pair.table.slice()))
-}
-
-/// The numbers of `fields` fields and the bits, with a run of `run_len` numbers.
-pub fn read_packet(
-    rng: &mut Rng,
-    pair: &Pair,
-    fields: usize,
-    run_len: usize,
-) -> Result<Result<(Vec<u32>, u64), Refusal>, Wrong> {
-    let mut run = Lent::random(rng, run_len);
-    let answer = umarekoza::read_packet(pair.table.slice(), pair.other.slice(), run.slice_mut());
-    let numbers = written(answer.map(|_| 4 * fields), &run)?;
-    pair.kept(numbers.and_then(|numbers| Ok((numbers, answer?))))
-}
-
-/// Start and length in the packet of the bytes of a field.
-pub fn field_bytes(pair: &Pair, index: usize) -> Result<(usize, usize), Wrong> {
-    let packet = pair.other.slice();
-    let part = umarekoza::field_bytes(pair.table.slice(), packet, index);
-    pair.kept((part.as_ptr() as usize - packet.as_ptr() as usize, part.len()))
-}
-
-pub fn list_packet(rng: &mut Rng, pair: &Pair, room: usize) -> Result<Result<Vec<u8>, Refusal>, Wrong> {
-    let mut out = Lent::random(rng, room);
-    let answer = umarekoza::list_packet(pair.table.slice(), pair.other.slice(), out.slice_mut());
-    pair.kept(written(answer, &out)?)
-}
-
-/// The index of the field whose name is the other part of the pair.
-pub fn find_field(pair: &Pair) -> Result<Result<usize, Refusal>, Wrong> {
-    pair.kept(umarekoza::find_field(pair.table.slice(), pair.other.slice()))
-}
-
-/// Start and length in the table of the label of a field; 0, 0 for none.
-pub fn field_label(pair: &Pair, index: usize) -> Result<(usize, usize), Wrong> {
-    let table = pair.table.slice();
-    let span = match umarekoza::field_label(table, index) {
-        Some(label) => (label.as_ptr() as usize - table.as_ptr() as usize, label.len()),
-        None => (0, 0),
-    };
-    pair.kept(span)
+fn kept(lent: &[&Lent<u8>]) -> Result<(), Wrong> {
+    if lent.iter().all(|lent| lent.is_untouched()) {
+        return Ok(());
+    }
+    Err("changed what it may only read, or what stands around it".to_string())
 }

@@ -32,7 +32,8 @@ impl fmt::Display for Case {
 }
 
 fn noise(rng: &mut Rng) -> Vec<u8> {
-    (0..rng.below(60)).map(|_| rng.byte()).collect()
+    let most = rng.pick([0, 60]);
+    (0..rng.between(0, most)).map(|_| rng.byte()).collect()
 }
 
 /// Bytes at the limit of a packet.

@@ -1,4 +1,5 @@
-//! Slices with guards: the slice that is lent stands between numbers that a call must leave alone.
+//! Slices with guards: the slice that is lent, an empty one too, stands between numbers that a call must leave
+//! alone.
 
 use umarekoza_model::generate::Rng;
 
@@ -42,19 +43,19 @@ impl<T: Unit> Lent<T> {
         Lent::holding(rng, &held)
     }
 
-    pub fn slice(&self) -> &[T] {
-        &self.now[GUARDS..self.now.len() - GUARDS]
+    pub fn len(&self) -> usize {
+        self.now.len() - 2 * GUARDS
     }
 
-    pub fn slice_mut(&mut self) -> &mut [T] {
-        let end = self.now.len() - GUARDS;
-        &mut self.now[GUARDS..end]
+    /// Where the slice starts, right behind its first guards, whatever its length. The guards may be reached too.
+    pub fn start(&mut self) -> *mut T {
+        self.now.as_mut_ptr().wrapping_add(GUARDS)
     }
 
     /// Whether the slice starts with `written`, and all else, the guards too, is as it was.
     pub fn has_only(&self, written: &[T]) -> bool {
         let end = GUARDS + written.len();
-        end <= self.now.len() - GUARDS
+        written.len() <= self.len()
             && self.now[..GUARDS] == self.before[..GUARDS]
             && self.now[GUARDS..end] == *written
             && self.now[end..] == self.before[end..]
@@ -75,12 +76,20 @@ mod tests {
     fn changes_are_seen() {
         let mut lent = Lent::holding(&mut Rng::new(1), &[1u8, 2, 3]);
         assert!(lent.is_untouched());
-        lent.slice_mut()[0] = 9;
+        lent.now[GUARDS] = 9;
         assert!(lent.has_only(&[9]));
         assert!(lent.has_only(&[9, 2, 3]));
         assert!(!lent.has_only(&[9, 2, 3, 0]));
         assert!(!lent.is_untouched());
         lent.now[GUARDS + 3] ^= 1;
         assert!(!lent.has_only(&[9]));
+    }
+
+    #[test]
+    fn an_empty_slice_starts_between_its_guards() {
+        let mut lent = Lent::holding(&mut Rng::new(1), &[0u32; 0]);
+        assert_eq!((lent.len(), lent.start().cast_const()), (0, lent.now[GUARDS..].as_ptr()));
+        lent.now[GUARDS] ^= 1;
+        assert!(!lent.is_untouched());
     }
 }

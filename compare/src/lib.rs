@@ -1,12 +1,15 @@
 //! The proved library compared with the model of document 01, over generated and stored cases.
 //!
-//! `lent` has slices with guards round them, `calls` the calls of the library on such slices, `cases` what is
-//! generated, `comparisons` the comparisons of a case, `vectors` those of the stored cases, and `runs` the whole
-//! run in a thread with a small stack.
+//! `exports` declares the functions that are compared, `lent` has slices with guards round them, `calls` each call
+//! on such slices with what is compared of it, `cases` what is generated, `comparisons` the comparisons of a case,
+//! `vectors` those of the stored cases, `tally` their numbers, and `runs` the whole run in a thread with a small
+//! stack.
 
 mod calls;
 mod cases;
 mod comparisons;
+pub mod exports;
 mod lent;
 pub mod runs;
+mod tally;
 mod vectors;

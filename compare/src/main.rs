@@ -2,6 +2,7 @@
 //! of generated cases, UMAREKOZA_SEED their seed.
 
 use std::process::ExitCode;
+use umarekoza_compare::exports::LIBRARY;
 use umarekoza_compare::runs::{run, Outcome, Settings};
 
 fn main() -> ExitCode {
@@ -16,11 +17,11 @@ fn main() -> ExitCode {
 
 fn compared(settings: Settings) -> Result<(), String> {
     println!("{} cases from seed {}", settings.cases, settings.seed);
-    let Outcome { stored, generated } = run(settings)?;
-    for (cases, tally) in [("stored", stored), ("generated", generated)] {
+    let Outcome { stored, generated } = run(settings, LIBRARY)?;
+    for (sort, tally) in [("stored", stored), ("generated", generated)] {
         println!(
-            "{} comparisons of {cases} cases agree; refusal numbers: {:?}",
-            tally.comparisons, tally.numbers
+            "{} comparisons of {} {sort} cases agree; refusal numbers: {:?}",
+            tally.comparisons, tally.cases, tally.numbers
         );
     }
     Ok(())

@@ -1,13 +1,14 @@
 //! A whole run: all stored cases and as many generated ones as are asked for, in a thread with a small stack.
 
-use crate::calls::Wrong;
+use crate::calls::{Calls, Wrong};
 use crate::cases::Case;
-pub use crate::comparisons::Tally;
+use crate::comparisons::compare;
+use crate::exports::Exports;
+pub use crate::tally::Tally;
 use crate::vectors;
 use std::env;
 use std::thread;
 use std::time::{SystemTime, UNIX_EPOCH};
-use umarekoza_model::generate::Rng;
 
 const STACK: usize = 256 * 1024;
 const CASES: u64 = 100_000;
@@ -41,23 +42,37 @@ fn setting(name: &str, default: u64) -> Result<u64, String> {
     }
 }
 
-/// Compares the library with the model, every call in a thread with a stack of 256 KiB. A disagreement says which
-/// case it was, in hex.
-pub fn run(settings: Settings) -> Result<Outcome, Wrong> {
-    let thread = thread::Builder::new().name("compare".to_string()).stack_size(STACK);
-    let handle = thread.spawn(move || compare_all(settings)).map_err(|error| error.to_string())?;
-    handle.join().map_err(|_| "the library or the model panicked".to_string())?
+/// Compares seven functions with the stored cases and the model.
+pub fn run(settings: Settings, exports: Exports) -> Result<Outcome, Wrong> {
+    let stored = stored(settings.seed, exports)?;
+    Ok(Outcome { stored, generated: generated(settings, exports)? })
 }
 
-fn compare_all(settings: Settings) -> Result<Outcome, Wrong> {
-    let stored = vectors::compare_all(&mut Rng::new(settings.seed))?;
-    let mut rng = Rng::new(settings.seed);
-    let mut generated = Tally::default();
-    for number in 0..settings.cases {
-        let case = Case::random(&mut rng);
-        generated
-            .compare(&mut rng, &case)
-            .map_err(|wrong| format!("seed {}, case {number}: {wrong}\n{case}", settings.seed))?;
-    }
-    Ok(Outcome { stored, generated })
+/// Compares them on the stored cases.
+pub fn stored(seed: u64, exports: Exports) -> Result<Tally, Wrong> {
+    with_small_stack(move || {
+        let mut calls = Calls::new(exports, seed);
+        vectors::compare_all(&mut calls)?;
+        Ok(calls.tally)
+    })
+}
+
+/// Compares them on generated cases. A disagreement says which case it was, in hex.
+pub fn generated(settings: Settings, exports: Exports) -> Result<Tally, Wrong> {
+    with_small_stack(move || {
+        let mut calls = Calls::new(exports, settings.seed);
+        for number in 0..settings.cases {
+            let case = Case::random(&mut calls.rng);
+            compare(&mut calls, &case)
+                .map_err(|wrong| format!("seed {}, case {number}: {wrong}\n{case}", settings.seed))?;
+        }
+        Ok(calls.tally)
+    })
+}
+
+/// What comparisons find in a thread with a stack of 256 KiB.
+fn with_small_stack(compare: impl FnOnce() -> Result<Tally, Wrong> + Send + 'static) -> Result<Tally, Wrong> {
+    let thread = thread::Builder::new().name("compare".to_string()).stack_size(STACK);
+    let handle = thread.spawn(compare).map_err(|error| error.to_string())?;
+    handle.join().map_err(|_| "the library or the model panicked".to_string())?
 }

@@ -1,38 +1,35 @@
 //! The stored cases of `vectors/`: the library answers every request as it stands there, and as the model does.
 
-use crate::calls::{self, Pair, Wrong};
+use crate::calls::{Calls, Settled, Wrong};
 use crate::cases::Case;
-use crate::comparisons::Tally;
+use crate::comparisons::compare;
 use std::fs;
 use std::path::Path;
-use umarekoza::Refusal;
-use umarekoza_model::generate::Rng;
-use umarekoza_model::protocol::{from_hex, to_hex};
+use umarekoza_model::protocol::from_hex;
+use umarekoza_model::{Reading, Refusal};
 
 const FILES: [&str; 5] = ["spelled.tsv", "edge.tsv", "mutated.tsv", "tables.tsv", "packets.tsv"];
 
 /// Compares all requests.
-pub fn compare_all(rng: &mut Rng) -> Result<Tally, Wrong> {
+pub fn compare_all(calls: &mut Calls) -> Result<(), Wrong> {
     let folder = Path::new(env!("CARGO_MANIFEST_DIR")).join("../vectors");
-    let mut tally = Tally::default();
     for file in FILES {
         let lines =
             fs::read_to_string(folder.join(file)).map_err(|error| format!("vectors/{file}: {error}"))?;
         for (number, line) in lines.lines().enumerate() {
-            compare_line(&mut tally, rng, line)
+            compare_line(calls, line)
                 .map_err(|wrong| format!("vectors/{file}, line {}: {wrong}\n{line}", number + 1))?;
         }
     }
-    Ok(tally)
+    Ok(())
 }
 
-fn compare_line(tally: &mut Tally, rng: &mut Rng, line: &str) -> Result<(), Wrong> {
-    let no_request = || "no request".to_string();
-    let (request, expected) = line.split_once('\t').ok_or_else(no_request)?;
+fn compare_line(calls: &mut Calls, line: &str) -> Result<(), Wrong> {
+    let no_request = || "no request with its answer".to_string();
+    let (request, answer) = line.split_once('\t').ok_or_else(no_request)?;
     let words: Vec<&str> = request.split(' ').collect();
-    let answer = answer(rng, &words).ok_or_else(no_request)?;
-    tally.same("as it stands", answer, expected.to_string())?;
-    tally.compare(rng, &case(&words).ok_or_else(no_request)?)
+    compare_stored(calls, &words, answer).ok_or_else(no_request)??;
+    compare(calls, &case(&words).ok_or_else(no_request)?)
 }
 
 /// The texts, tables and packets of a request.
@@ -47,43 +44,50 @@ fn case(words: &[&str]) -> Option<Case> {
     })
 }
 
-/// The library's answer to a request; none if it is no request.
-fn answer(rng: &mut Rng, words: &[&str]) -> Option<Result<String, Wrong>> {
+/// Compares what the library does on a request with the answer that stands there; none if these are none.
+fn compare_stored(calls: &mut Calls, words: &[&str], answer: &str) -> Option<Result<(), Wrong>> {
     Some(match *words {
-        ["text", room, text] => calls::write_table(rng, &from_hex(text)?, room.parse().ok()?)
-            .map(|answer| settled(answer.map(|table| format!("ok {}", to_hex(&table))))),
-        ["table", table] => calls::check_table(rng, &from_hex(table)?)
-            .map(|answer| settled(answer.map(|()| "ok".to_string()))),
+        ["text", room, text] => {
+            calls.write_table(&from_hex(text)?, room.parse().ok()?, &settled(answer, from_hex)?)
+        }
+        ["table", table] => {
+            let good = |rest: &str| rest.is_empty().then_some(());
+            calls.check_table(&from_hex(table)?, &settled(answer, good)?)
+        }
         ["read", run_len, table, packet] => {
-            let table = from_hex(table)?;
-            let fields = (0..64).take_while(|index| umarekoza::field_label(&table, *index).is_some()).count();
-            let pair = Pair::new(rng, &table, &from_hex(packet)?);
-            calls::read_packet(rng, &pair, fields, run_len.parse().ok()?)
-                .map(|answer| settled(answer.map(|(numbers, total)| reading_line(&numbers, total))))
+            let (table, packet) = (from_hex(table)?, from_hex(packet)?);
+            calls.read_packet((&table, &packet), run_len.parse().ok()?, &settled(answer, reading)?)
         }
         ["part", index, table, packet] => {
-            let pair = Pair::new(rng, &from_hex(table)?, &from_hex(packet)?);
-            calls::field_bytes(&pair, index.parse().ok()?)
-                .map(|(start, length)| format!("part {start} {length}"))
+            let (table, packet) = (from_hex(table)?, from_hex(packet)?);
+            let (start, length) = answer.strip_prefix("part ")?.split_once(' ')?;
+            let part = (start.parse().ok()?, length.parse().ok()?);
+            calls.field_bytes((&table, &packet), index.parse().ok()?, part)
         }
         ["list", table, packet] => {
-            let pair = Pair::new(rng, &from_hex(table)?, &from_hex(packet)?);
-            calls::list_packet(rng, &pair, 1 << 14)
-                .map(|answer| settled(answer.map(|listing| to_hex(&listing))))
+            let (table, packet) = (from_hex(table)?, from_hex(packet)?);
+            calls.list_packet((&table, &packet), 1 << 14, &Ok(from_hex(answer)?))
         }
         _ => return None,
     })
 }
 
-fn settled(answer: Result<String, Refusal>) -> String {
-    answer.unwrap_or_else(|Refusal { number, place }| format!("refused {number} {place}"))
+/// The refusal `refused N P`, or what stands behind `ok`.
+fn settled<T>(answer: &str, accepted: impl Fn(&str) -> Option<T>) -> Option<Settled<T>> {
+    if let Some(rest) = answer.strip_prefix("ok") {
+        return accepted(rest.trim_start()).map(Ok);
+    }
+    let (number, place) = answer.strip_prefix("refused ")?.split_once(' ')?;
+    Some(Err(Refusal { number: number.parse().ok()?, place: place.parse().ok()? }))
 }
 
-fn reading_line(numbers: &[u32], total: u64) -> String {
-    let mut line = format!("ok {total}");
-    for four in numbers.chunks(4) {
-        let words: Vec<String> = four.iter().map(u32::to_string).collect();
-        line.push_str(&format!(" {}", words.join(",")));
-    }
-    line
+/// The bits, and then four numbers for each field.
+fn reading(words: &str) -> Option<Reading> {
+    let mut words = words.split(' ');
+    let total = words.next()?.parse().ok()?;
+    let four = |word: &str| -> Option<[u32; 4]> {
+        let numbers: Option<Vec<u32>> = word.split(',').map(|number| number.parse().ok()).collect();
+        numbers?.try_into().ok()
+    };
+    Some(Reading { fields: words.map(four).collect::<Option<_>>()?, total })
 }

@@ -1,8 +1,8 @@
 //! The functions of the static library, each behind a safe one of the same name. All unsafe code is here.
 //!
-//! A slice crosses as a pointer and a length. An empty one crosses as a pointer to a byte or number that is
-//! there, with the length 0. The library reads the shared slices only, writes within the lent ones only, and
-//! keeps no pointer; Rust's borrows see to it that no two overlap.
+//! A slice crosses as its own pointer and its length; that of an empty one is not null, aligned, and valid for the
+//! length 0. The library reads the shared slices only, writes within the lent ones only, and keeps no pointer;
+//! Rust's borrows see to it that no two overlap.
 
 use crate::Refusal;
 
@@ -82,65 +82,43 @@ mod library {
     }
 }
 
-/// The pointer of shared bytes, for no bytes that of a byte.
-fn shared(bytes: &[u8]) -> *const u8 {
-    static NOTHING: u8 = 0;
-    if bytes.is_empty() {
-        &NOTHING
-    } else {
-        bytes.as_ptr()
-    }
-}
-
-/// The pointer of a lent slice, for an empty one that of `spare`.
-fn lent<T>(slice: &mut [T], spare: &mut T) -> *mut T {
-    if slice.is_empty() {
-        spare
-    } else {
-        slice.as_mut_ptr()
-    }
-}
-
 pub fn write_table(text: &[u8], out: &mut [u8]) -> Answer {
-    let (room, mut spare) = (out.len(), 0);
-    let out = lent(out, &mut spare);
+    let (out, room) = (out.as_mut_ptr(), out.len());
     // SAFETY: both pointers are valid for their lengths, and `out` is lent for the call alone.
-    unsafe { library::umarekoza_write_table(shared(text), text.len(), out, room) }
+    unsafe { library::umarekoza_write_table(text.as_ptr(), text.len(), out, room) }
 }
 
 pub fn check_table(table: &[u8]) -> Answer {
     // SAFETY: the pointer is valid for its length.
-    unsafe { library::umarekoza_check_table(shared(table), table.len()) }
+    unsafe { library::umarekoza_check_table(table.as_ptr(), table.len()) }
 }
 
 pub fn read_packet(table: &[u8], packet: &[u8], run: &mut [u32]) -> Answer {
-    let (run_len, mut spare) = (run.len(), 0);
-    let run = lent(run, &mut spare);
-    let (table_at, packet_at) = (shared(table), shared(packet));
+    let (run, run_len) = (run.as_mut_ptr(), run.len());
+    let (table_at, packet_at) = (table.as_ptr(), packet.as_ptr());
     // SAFETY: all pointers are valid for their lengths, and `run` is aligned and lent for the call alone.
     unsafe { library::umarekoza_read_packet(table_at, table.len(), packet_at, packet.len(), run, run_len) }
 }
 
 pub fn field_bytes(table: &[u8], packet: &[u8], index: usize) -> Span {
-    let (table_at, packet_at) = (shared(table), shared(packet));
+    let (table_at, packet_at) = (table.as_ptr(), packet.as_ptr());
     // SAFETY: both pointers are valid for their lengths.
     unsafe { library::umarekoza_field_bytes(table_at, table.len(), packet_at, packet.len(), index) }
 }
 
 pub fn list_packet(table: &[u8], packet: &[u8], out: &mut [u8]) -> Answer {
-    let (room, mut spare) = (out.len(), 0);
-    let out = lent(out, &mut spare);
-    let (table_at, packet_at) = (shared(table), shared(packet));
+    let (out, room) = (out.as_mut_ptr(), out.len());
+    let (table_at, packet_at) = (table.as_ptr(), packet.as_ptr());
     // SAFETY: all pointers are valid for their lengths, and `out` is lent for the call alone.
     unsafe { library::umarekoza_list_packet(table_at, table.len(), packet_at, packet.len(), out, room) }
 }
 
 pub fn find_field(table: &[u8], name: &[u8]) -> Answer {
     // SAFETY: both pointers are valid for their lengths.
-    unsafe { library::umarekoza_find_field(shared(table), table.len(), shared(name), name.len()) }
+    unsafe { library::umarekoza_find_field(table.as_ptr(), table.len(), name.as_ptr(), name.len()) }
 }
 
 pub fn field_label(table: &[u8], index: usize) -> Span {
     // SAFETY: the pointer is valid for its length.
-    unsafe { library::umarekoza_field_label(shared(table), table.len(), index) }
+    unsafe { library::umarekoza_field_label(table.as_ptr(), table.len(), index) }
 }

@@ -1,8 +1,11 @@
 //! Packet diagrams as a person writes them, turned into field tables, and packets read by a table: safe calls of
-//! the proved static library `libumarekoza.a`. Document 01 has the rules, the numbers and the places.
+//! the proved static library `libumarekoza.a`. Document 01 has the rules, the numbers and the places; [`Refusal`]
+//! names the one number that it does not have.
 //!
 //! Every function answers for every input and panics for none. Functions that write to a lent slice change no
 //! byte of it where they refuse, and nothing beyond what they write where they accept.
+//!
+//! The library uses the stack of the thread that calls it: a call may need some tens of kilobytes.
 //!
 //! ```
 //! let page = "\

@@ -1,8 +1,7 @@
 use crate::{calls, grown, Refusal};
 
-/// The numbers of a run that is long enough for most tables.
+/// The numbers of a run that is long enough for every table: four for each of 64 fields.
 const RUN: usize = 256;
-const RUN_TOO_SHORT: u32 = 23;
 
 /// One field of a reading. Offset and width are in bits; an absent field has 0 for all, a long one the value 0.
 #[derive(Clone, Copy, Debug, PartialEq, Eq, Hash)]
@@ -55,13 +54,8 @@ pub fn read_packet(table: &[u8], packet: &[u8], run: &mut [u32]) -> Result<u64, 
 /// ```
 pub fn fields_of(table: &[u8], packet: &[u8]) -> Result<Vec<Field>, Refusal> {
     const UNTOUCHED: u32 = u32::MAX;
-    let mut run = vec![UNTOUCHED; RUN];
-    while let Err(refusal) = read_packet(table, packet, &mut run) {
-        if refusal.number != RUN_TOO_SHORT {
-            return Err(refusal);
-        }
-        run.resize(2 * run.len(), UNTOUCHED);
-    }
+    let mut run = [UNTOUCHED; RUN];
+    read_packet(table, packet, &mut run)?;
     let fours = run.chunks_exact(4).map(|four| [four[0], four[1], four[2], four[3]]);
     Ok(fours.take_while(|four| four[0] != UNTOUCHED).map(Field::from).collect())
 }
@@ -82,6 +76,29 @@ pub fn field_bytes<'a>(table: &[u8], packet: &'a [u8], index: usize) -> &'a [u8]
 
 /// Writes the listing of a packet to the start of `out` and answers its length. The listing of a refused packet
 /// is the line of its refusal. Refuses only by 11, if `out` is too short.
+///
+/// ```
+/// use umarekoza::{list_packet, Refusal};
+/// # let page = include_bytes!("../../examples/pages/blade-report.txt");
+/// # let table = umarekoza::table_of(page)?;
+/// let packet = [0x62, 0x07, 0x01, 0x2C, 0xAA, 0xBB, 0x00, 0x09];
+/// let listing = "\
+/// Version: 0 2 1
+/// On Loan: 2 1 1
+/// Cells: 3 5 2
+/// Blade: 8 8 7
+/// Borrower: 16 16 300
+/// Readings: 32 16
+/// Sum: 48 16 9
+/// bits 64
+/// ";
+/// let mut out = [b'?'; 200];
+/// let length = list_packet(&table, &packet, &mut out)?;
+/// assert_eq!(&out[..length], listing.as_bytes());
+/// assert!(out[length..].iter().all(|byte| *byte == b'?'));
+/// assert_eq!(list_packet(&table, &packet, &mut out[..length - 1]), Err(Refusal { number: 11, place: 0 }));
+/// # Ok::<(), umarekoza::Refusal>(())
+/// ```
 pub fn list_packet(table: &[u8], packet: &[u8], out: &mut [u8]) -> Result<usize, Refusal> {
     calls::list_packet(table, packet, out).settled().map(|length| length as usize)
 }

@@ -1,4 +1,5 @@
-//! The marked cases M1 to M10 of document 01, empty slices, and what lent slices hold afterwards.
+//! The marked cases M1 to M10 of document 01, as many fields as may be, empty slices, and what lent slices hold
+//! afterwards.
 
 use umarekoza::*;
 
@@ -94,6 +95,22 @@ fn fields_and_their_bytes() {
         assert_eq!(field_bytes(&table, &M1, empty), &M1[..0]);
     }
     assert_eq!(field_bytes(&table, &M1[..7], 4), b"");
+}
+
+#[test]
+fn sixty_four_fields() {
+    let border = format!("{}+\n", "+-".repeat(16));
+    let cell = |number: usize| format!("|{:3}", format!("F{number}"));
+    let row = |first: usize| format!("{}|\n{border}", (first..first + 8).map(cell).collect::<String>());
+    let rows: String = (1..=64).step_by(8).map(row).collect();
+    let lines: String = (1..=64).map(|number| format!("F{number}: 2 bits.\n")).collect();
+    let rulers = " 0                   1\n 0 1 2 3 4 5 6 7 8 9 0 1 2 3 4 5\n";
+    let page = format!("A Full is formatted as follows:\n\n{rulers}{border}{rows}\nwhere:\n\n{lines}");
+    let fields = fields_of(&table_of(page.as_bytes()).unwrap(), &[0b11_10_01_00; 16]).unwrap();
+    assert_eq!(fields.len(), 64);
+    for (field, index) in fields.into_iter().zip(0..) {
+        assert_eq!(field, Field { present: true, offset: 2 * index, width: 2, value: 3 - index % 4 });
+    }
 }
 
 #[test]

@@ -25,7 +25,8 @@ ghost use Rattle.rules.specs.Promises.{
 };
 ghost use Rattle.umarekoza.specs.Exports.{shown};
 
-// Number 0 is acceptance, with the length that is answered; else document 01's number and place.
+// Number 0 is acceptance, with place 0 and the length that is answered; else the number and place of the refusal, with
+// length 0. They are document 01's; only 30, for a name that no field has, is document 02's for no such field.
 #[repr(C)]
 pub struct Reply {
     pub number: u32,

@@ -1,0 +1,66 @@
+//! The seven exports as the header declares them, with all that they answer. The safe crate `umarekoza` is here for
+//! linking alone: it drops parts of an answer, so its functions are left to its own tests.
+
+use umarekoza as _;
+
+/// Number 0: accepted, with place 0 and a length. Else a refusal, with length 0.
+#[repr(C)]
+#[derive(Clone, Copy, Debug, PartialEq, Eq)]
+pub struct Answer {
+    pub number: u32,
+    pub place: u32,
+    pub length: u64,
+}
+
+/// A part of a lent slice.
+#[repr(C)]
+#[derive(Clone, Copy, Debug, PartialEq, Eq)]
+pub struct Span {
+    pub offset: u64,
+    pub length: u64,
+}
+
+type Check = unsafe extern "C" fn(*const u8, usize) -> Answer;
+type Write = unsafe extern "C" fn(*const u8, usize, *mut u8, usize) -> Answer;
+type Find = unsafe extern "C" fn(*const u8, usize, *const u8, usize) -> Answer;
+type Read = unsafe extern "C" fn(*const u8, usize, *const u8, usize, *mut u32, usize) -> Answer;
+type List = unsafe extern "C" fn(*const u8, usize, *const u8, usize, *mut u8, usize) -> Answer;
+type Part = unsafe extern "C" fn(*const u8, usize, *const u8, usize, usize) -> Span;
+type Label = unsafe extern "C" fn(*const u8, usize, usize) -> Span;
+
+/// Seven functions that are compared with the model.
+#[derive(Clone, Copy)]
+pub struct Exports {
+    pub write_table: Write,
+    pub check_table: Check,
+    pub read_packet: Read,
+    pub field_bytes: Part,
+    pub list_packet: List,
+    pub find_field: Find,
+    pub field_label: Label,
+}
+
+/// Those of the library.
+pub const LIBRARY: Exports = Exports {
+    write_table: umarekoza_write_table,
+    check_table: umarekoza_check_table,
+    read_packet: umarekoza_read_packet,
+    field_bytes: umarekoza_field_bytes,
+    list_packet: umarekoza_list_packet,
+    find_field: umarekoza_find_field,
+    field_label: umarekoza_field_label,
+};
+
+#[rustfmt::skip]
+extern "C" {
+    fn umarekoza_write_table(text: *const u8, text_len: usize, out: *mut u8, out_len: usize) -> Answer;
+    fn umarekoza_check_table(table: *const u8, table_len: usize) -> Answer;
+    fn umarekoza_read_packet(table: *const u8, table_len: usize, packet: *const u8, packet_len: usize,
+                             run: *mut u32, run_len: usize) -> Answer;
+    fn umarekoza_field_bytes(table: *const u8, table_len: usize, packet: *const u8, packet_len: usize,
+                             index: usize) -> Span;
+    fn umarekoza_list_packet(table: *const u8, table_len: usize, packet: *const u8, packet_len: usize,
+                             out: *mut u8, out_len: usize) -> Answer;
+    fn umarekoza_find_field(table: *const u8, table_len: usize, name: *const u8, name_len: usize) -> Answer;
+    fn umarekoza_field_label(table: *const u8, table_len: usize, index: usize) -> Span;
+}

@@ -1,0 +1,77 @@
+//! The stored cases of `vectors/`: every function that has requests there answers each as it stands.
+
+use std::fs;
+use std::path::Path;
+use umarekoza::*;
+
+/// The bytes of a hex word, `-` for none.
+fn bytes(word: &str) -> Vec<u8> {
+    let word = word.trim_start_matches('-');
+    (0..word.len()).step_by(2).map(|at| u8::from_str_radix(&word[at..at + 2], 16).unwrap()).collect()
+}
+
+fn hex(bytes: &[u8]) -> String {
+    bytes.iter().map(|byte| format!("{byte:02x}")).collect()
+}
+
+fn number(word: &str) -> usize {
+    word.parse().unwrap()
+}
+
+fn settled(answer: Result<String, Refusal>) -> String {
+    answer.unwrap_or_else(|Refusal { number, place }| format!("refused {number} {place}"))
+}
+
+/// The answer to `text`; with room enough, `table_of` gives the same.
+fn written(room: usize, text: &[u8]) -> String {
+    let mut out = vec![0; room];
+    let written = write_table(text, &mut out).map(|length| out[..length].to_vec());
+    if !matches!(written, Err(Refusal { number: 11, .. })) {
+        assert_eq!(table_of(text), written);
+    }
+    settled(written.map(|table| format!("ok {}", hex(&table))))
+}
+
+/// The answer to `read`; with a run that is long enough, `fields_of` answers the same.
+fn read(run_len: usize, table: &[u8], packet: &[u8]) -> Result<String, Refusal> {
+    let mut run = vec![0; run_len];
+    let (answer, fields) = (read_packet(table, packet, &mut run), fields_of(table, packet));
+    if !matches!(answer, Err(Refusal { number: 23, .. })) {
+        assert_eq!(fields.as_ref().err(), answer.as_ref().err());
+    }
+    let mut line = format!("ok {}", answer?);
+    for (field, four) in fields?.into_iter().zip(run.chunks_exact(4)) {
+        assert_eq!(field, Field::from([four[0], four[1], four[2], four[3]]));
+        line.push_str(&format!(" {},{},{},{}", four[0], four[1], four[2], four[3]));
+    }
+    Ok(line)
+}
+
+fn answer(request: &str) -> String {
+    let words: Vec<&str> = request.split(' ').collect();
+    match *words {
+        ["text", room, text] => written(number(room), &bytes(text)),
+        ["table", table] => settled(check_table(&bytes(table)).map(|()| "ok".to_string())),
+        ["read", run_len, table, packet] => settled(read(number(run_len), &bytes(table), &bytes(packet))),
+        ["part", index, table, packet] => {
+            let packet = bytes(packet);
+            let part = field_bytes(&bytes(table), &packet, number(index));
+            format!("part {} {}", part.as_ptr() as usize - packet.as_ptr() as usize, part.len())
+        }
+        ["list", table, packet] => hex(&listing(&bytes(table), &bytes(packet))),
+        _ => panic!("no request: {request}"),
+    }
+}
+
+#[test]
+fn stored_cases_are_answered() {
+    let folder = Path::new(env!("CARGO_MANIFEST_DIR")).join("../vectors");
+    for file in ["spelled.tsv", "edge.tsv", "mutated.tsv", "tables.tsv", "packets.tsv"] {
+        let lines = fs::read_to_string(folder.join(file)).unwrap();
+        assert_eq!(lines.lines().count(), 600, "{file}");
+        for (line, at) in lines.lines().zip(1..) {
+            let (request, expected) = line.split_once('\t').unwrap();
+            assert_eq!(answer(request), expected, "{file}, line {at}");
+        }
+    }
+}
