@@ -1,7 +1,7 @@
 // The class of every byte value, in one constant table.
 ghost use mathlib.Core.Path.{_≡_};
 ghost use lib.ListN.{getD};
-ghost use Rattle.rules.specs.Names.{classOf, isLetter, isNameByte};
+ghost use Rattle.rules.specs.Names.{isLetter, isNameByte};
 ghost use Rattle.names.specs.Classes.{classTable, isWordClass};
 
 pub const LETTER: u8 = 1;
@@ -276,14 +276,6 @@ pub fn class_table() -> [u8; 256]
     ensures { λ r. ⌜ r ≡ classTable ⌝ }
 {
     CLASSES
-}
-
-pub fn class_of(b: u8) -> u8
-    ensures { λ r. ⌜ r ≡ classOf b ⌝ }
-{
-    let table = class_table();
-    let i = b as usize;
-    table[i]
 }
 
 pub(crate) fn is_letter_in(classes: &[u8; 256], b: u8) -> bool
