@@ -1,10 +1,12 @@
 -- ClassRules, Spaces, Ends  what the tests of bytes and names need
 -- RepeatLaws                searches for the first repeated thing
+-- PairLaws                  loops over pairs that look for it
 -- PadLaws                   names held as arrays
 -- KeyLaws                   words told apart by their keys
 pub mod ClassRules
 pub mod Spaces
 pub mod Ends
 pub mod RepeatLaws
+pub mod PairLaws
 pub mod PadLaws
 pub mod KeyLaws

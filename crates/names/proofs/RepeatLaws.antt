@@ -6,7 +6,7 @@ use native.Mathlib.Numerals.{add-one}
 use native.Mathlib.Nat.{sub-self}
 use native.Mathlib.Omega.{arith}
 use lib.Dec.{ltb}
-use borrow.Author.Tests.{ltb-true, ltb-false, le-ltb, lt-ltb}
+use borrow.Author.Tests.{ltb-true, ltb-false, le-ltb}
 use Rattle.names.specs.Repeats.{firstFrom, repeats, firstRepeat}
 
 -- one index of a search, and the rest of it; and no index left
@@ -71,22 +71,6 @@ repeat-none alike n h =
     le-ltb (firstFrom (λ i. alike i j) 0 j) j (omega (arith, e)) in
     let r = none-passes (repeats alike) 0 n (λ j p q. none j (omega arith)) in
     omega (arith, r)
-
--- ── a loop over the earlier ones ──
-
-module _ (alike : ℕ → ℕ → Bool) (i j : ℕ) where
-  pub repeats-none : i ≤ j → j ≤ i → firstFrom (λ k. alike k j) 0 j ≡ firstFrom (λ k. alike k j) i (j - i)
-      → repeats alike j ≡ false
-  repeats-none p q e =
-      let s : i ≡ j = omega arith in
-      let f : firstFrom (λ k. alike k j) 0 j ≡ j = e ∙ rw s (search-end (λ k. alike k j) j) in
-      le-ltb (firstFrom (λ k. alike k j) 0 j) j (omega (arith, f))
-
-  pub repeats-found : i < j → firstFrom (λ k. alike k j) 0 j ≡ firstFrom (λ k. alike k j) i (j - i)
-      → alike i j ≡ true → repeats alike j ≡ true
-  repeats-found p e t =
-      let f : firstFrom (λ k. alike k j) 0 j ≡ i = e ∙ search-step (λ k. alike k j) i j p ∙ simp t in
-      lt-ltb (firstFrom (λ k. alike k j) 0 j) j (omega (arith, f))
 
 -- ── searches by tests that agree ──
 

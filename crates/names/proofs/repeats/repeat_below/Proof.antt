@@ -1,10 +1,9 @@
 use mathlib.Core.Path.{_≡_, sym, _∙_}
 use Prim.Native.Nat.{_-_, _≤_}
-use native.Mathlib.Nat.{sub-zero}
 use native.Mathlib.Omega.{arith}
 use denote.Ref.{now}
-use Rattle.names.specs.Repeats.{namesAlike, repeats, firstFrom, firstRepeat}
-use Rattle.names.proofs.RepeatLaws.{search-step, search-end, repeats-none, repeats-found}
+use Rattle.names.specs.Repeats.{namesAlike}
+use Rattle.names.proofs.PairLaws.{Inner, Later, inner-starts, later-starts, inner-on, later-on, later-found, later-ends}
 use borrow.Author.Needs.{needs}
 use Rattle.names.proofs.repeats.repeat_below.Statement.{statement}
 use Rattle.names.proofs.repeats.repeat_below.Tie as tie
@@ -13,24 +12,24 @@ use Rattle.names.proofs.repeats.repeat_below.Lts as lts
 use Rattle.names.proofs.repeats.same_name.Reads as same-name-reads
 
 abbrev Inv-loop : tie.InvT-loop
-Inv-loop names n j i₀ i =
-    (i ≤ j) × (firstFrom (λ k. namesAlike names k j) 0 j ≡ firstFrom (λ k. namesAlike names k j) i (j - i))
+Inv-loop names n j i₀ i = Inner (namesAlike names) j i
 
 abbrev μ-loop : tie.MeasureT-loop
 μ-loop names n j i₀ i = j - i
 
 abbrev Inv-later : tie.InvT-later
-Inv-later names n j₀ j =
-    (j ≤ n) × (firstRepeat (namesAlike names) n ≡ firstFrom (repeats (namesAlike names)) j (n - j))
+Inv-later names n j₀ j = Later (namesAlike names) n j
 
 abbrev μ-later : tie.MeasureT-later
 μ-later names n j₀ j = n - j
 
 later-holds : tie.Need-later-holds Inv-loop μ-loop Inv-later μ-later
-later-holds c = (omega arith, rw sub-zero)
+later-holds c =
+    later-starts (namesAlike (now (c .args .names))) (c .args .n)
 
 loop-holds : tie.Need-loop-holds Inv-loop μ-loop Inv-later μ-later
-loop-holds c = (omega arith, rw sub-zero)
+loop-holds c =
+    inner-starts (namesAlike (now (c .before .before .args .names))) (c .before .later .j)
 
 mul-same-name : tie.Need-mul-same-name Inv-loop μ-loop Inv-later μ-later
 mul-same-name c = search needs
@@ -60,9 +59,7 @@ loop-again c =
     let o = c .before .before .before .before .before .before .before .later in
     let l = c .before .before .before .before .before .loop in
     let alike = namesAlike (now (a .names)) in
-    let other = sym (c .before .same-name .ensures) ∙ c .if2 .left in
-    let step = search-step (λ k. alike k (o .j)) (l .i) (o .j) (omega arith) in
-    (omega arith, l .inv .1 ∙ step ∙ simp other)
+    inner-on alike (a .n) (o .j) (l .i) (l .inv) (omega arith) (sym (c .before .same-name .ensures) ∙ c .if2 .left)
 
 add-j : tie.Need-add-j Inv-loop μ-loop Inv-later μ-later
 add-j c = search needs
@@ -75,15 +72,12 @@ later-again c =
     let a = c .before .before .before .before .args in
     let o = c .before .before .before .later in
     let alike = namesAlike (now (a .names)) in
-    let none = repeats-none alike (c .before .loop .i) (o .j) (omega arith) (omega arith) (c .before .loop .inv .1) in
-    let step = search-step (repeats alike) (o .j) (a .n) (omega arith) in
-    (omega arith, o .inv .1 ∙ step ∙ simp none)
+    later-on alike (a .n) (o .j) (c .before .loop .i) (c .before .loop .inv) (omega arith) (omega arith) (o .inv)
 
 returns : tie.Need-returns Inv-loop μ-loop Inv-later μ-later
 returns c =
-    let a = c .before .before .args in
-    let end : c .before .later .j ≡ a .n = omega arith in
-    sym (c .before .later .inv .1 ∙ rw end (search-end (repeats (namesAlike (now (a .names)))) (a .n)))
+    let alike = namesAlike (now (c .before .before .args .names)) in
+    later-ends alike (c .before .before .args .n) (c .before .later .j) (omega arith) (c .before .later .inv)
 
 returns-2 : tie.Need-returns-2 Inv-loop μ-loop Inv-later μ-later
 returns-2 c =
@@ -91,10 +85,8 @@ returns-2 c =
     let o = c .before .before .before .before .before .before .before .later in
     let l = c .before .before .before .before .before .loop in
     let alike = namesAlike (now (a .names)) in
-    let same = sym (c .before .same-name .ensures) ∙ c .if2 .taken in
-    let found = repeats-found alike (l .i) (o .j) (omega arith) (l .inv .1) same in
-    let step = search-step (repeats alike) (o .j) (a .n) (omega arith) in
-    sym (o .inv .1 ∙ step ∙ simp found)
+    let like = sym (c .before .same-name .ensures) ∙ c .if2 .taken in
+    later-found alike (a .n) (o .j) (l .i) (l .inv) (omega arith) (omega arith) like (o .inv)
 
 pub repeat-below-spec : {M : Type 1} → statement M
 repeat-below-spec =

@@ -1,11 +1,9 @@
 use mathlib.Core.Path.{_≡_, sym, _∙_}
 use Prim.Native.Nat.{_-_, _≤_}
 use native.Mathlib.Omega.{arith}
-use native.Mathlib.Nat.{sub-zero}
 use denote.Ref.{now}
 use Rattle.packets.specs.NamesTest.{labelsAlike}
-use Rattle.names.specs.Repeats.{repeats, firstFrom, firstRepeat}
-use Rattle.names.proofs.RepeatLaws.{search-step, search-end, repeats-none, repeats-found}
+use Rattle.names.proofs.PairLaws.{Inner, Later, inner-starts, later-starts, inner-on, later-on, later-found, later-ends}
 use borrow.Author.Needs.{needs}
 use Rattle.packets.proofs.unique.first_label.Statement.{statement}
 use Rattle.packets.proofs.unique.first_label.Tie as tie
@@ -14,24 +12,25 @@ use Rattle.packets.proofs.unique.first_label.Lts as lts
 use Rattle.packets.proofs.unique.same_labels.Reads as same-labels-reads
 
 abbrev Inv-loop : tie.InvT-loop
-Inv-loop s places keys n j i₀ i =
-    (i ≤ j) × (firstFrom (λ k. labelsAlike s places k j) 0 j ≡ firstFrom (λ k. labelsAlike s places k j) i (j - i))
+Inv-loop s places keys n j i₀ i = Inner (labelsAlike s places) j i
 
 abbrev μ-loop : tie.MeasureT-loop
 μ-loop s places keys n j i₀ i = j - i
 
 abbrev Inv-later : tie.InvT-later
-Inv-later s places keys n j₀ j =
-    (j ≤ n) × (firstRepeat (labelsAlike s places) n ≡ firstFrom (repeats (labelsAlike s places)) j (n - j))
+Inv-later s places keys n j₀ j = Later (labelsAlike s places) n j
 
 abbrev μ-later : tie.MeasureT-later
 μ-later s places keys n j₀ j = n - j
 
 later-holds : tie.Need-later-holds Inv-loop μ-loop Inv-later μ-later
-later-holds c = (omega arith, rw sub-zero)
+later-holds c =
+    later-starts (labelsAlike (now (c .before .args .s)) (now (c .before .args .places))) (c .before .args .n)
 
 loop-holds : tie.Need-loop-holds Inv-loop μ-loop Inv-later μ-later
-loop-holds c = (omega arith, rw sub-zero)
+loop-holds c =
+    let a = c .before .before .before .args in
+    inner-starts (labelsAlike (now (a .s)) (now (a .places))) (c .before .later .j)
 
 mul-same-labels : tie.Need-mul-same-labels Inv-loop μ-loop Inv-later μ-later
 mul-same-labels c = search needs
@@ -85,9 +84,7 @@ loop-again c =
     let o = c .before .before .before .before .before .before .before .before .before .later in
     let l = c .before .before .before .before .before .before .before .loop in
     let alike = labelsAlike (now (a .s)) (now (a .places)) in
-    let other = sym (c .before .same-labels .ensures) ∙ c .if2 .left in
-    let step = search-step (λ k. alike k (o .j)) (l .i) (o .j) (omega arith) in
-    (omega arith, l .inv .1 ∙ step ∙ simp other)
+    inner-on alike (a .n) (o .j) (l .i) (l .inv) (omega arith) (sym (c .before .same-labels .ensures) ∙ c .if2 .left)
 
 add-j : tie.Need-add-j Inv-loop μ-loop Inv-later μ-later
 add-j c = search needs
@@ -100,16 +97,13 @@ later-again c =
     let a = c .before .before .before .before .before .args in
     let o = c .before .before .before .later in
     let alike = labelsAlike (now (a .s)) (now (a .places)) in
-    let none = repeats-none alike (c .before .loop .i) (o .j) (omega arith) (omega arith) (c .before .loop .inv .1) in
-    let step = search-step (repeats alike) (o .j) (a .n) (omega arith) in
-    (omega arith, o .inv .1 ∙ step ∙ simp none)
+    later-on alike (a .n) (o .j) (c .before .loop .i) (c .before .loop .inv) (omega arith) (omega arith) (o .inv)
 
 returns : tie.Need-returns Inv-loop μ-loop Inv-later μ-later
 returns c =
     let a = c .before .before .before .args in
     let alike = labelsAlike (now (a .s)) (now (a .places)) in
-    let end : c .before .later .j ≡ a .n = omega arith in
-    sym (c .before .later .inv .1 ∙ rw end (search-end (repeats alike) (a .n)))
+    later-ends alike (a .n) (c .before .later .j) (omega arith) (c .before .later .inv)
 
 returns-2 : tie.Need-returns-2 Inv-loop μ-loop Inv-later μ-later
 returns-2 c =
@@ -117,10 +111,8 @@ returns-2 c =
     let o = c .before .before .before .before .before .before .before .before .before .later in
     let l = c .before .before .before .before .before .before .before .loop in
     let alike = labelsAlike (now (a .s)) (now (a .places)) in
-    let same = sym (c .before .same-labels .ensures) ∙ c .if2 .taken in
-    let found = repeats-found alike (l .i) (o .j) (omega arith) (l .inv .1) same in
-    let step = search-step (repeats alike) (o .j) (a .n) (omega arith) in
-    sym (o .inv .1 ∙ step ∙ simp found)
+    let like = sym (c .before .same-labels .ensures) ∙ c .if2 .taken in
+    later-found alike (a .n) (o .j) (l .i) (l .inv) (omega arith) (omega arith) like (o .inv)
 
 pub first-label-spec : {M : Type 1} → statement M
 first-label-spec =

@@ -2,11 +2,9 @@ use mathlib.Core.Path.{_≡_, refl, sym, _∙_}
 use mathlib.Core.List.{List, []}
 use Prim.Native.Nat.{ℕ, _-_, _≤_, _+_, _<_}
 use native.Mathlib.Omega.{arith}
-use native.Mathlib.Nat.{sub-zero}
 use lib.ListN.{getD}
 use denote.Ref.{now}
-use Rattle.names.specs.Repeats.{repeats, firstFrom, firstRepeat}
-use Rattle.names.proofs.RepeatLaws.{search-step, search-end, repeats-none, repeats-found}
+use Rattle.names.proofs.PairLaws.{Inner, Later, inner-starts, later-starts, inner-on, later-on, later-found, later-ends}
 use Rattle.texts.specs.LinePlaces.{rowAt}
 use Rattle.texts.specs.LineTests.{linesClash, clashAt}
 use Rattle.texts.specs.declared.parts.Parts.{Parts}
@@ -24,26 +22,26 @@ unfolding clashAt
 clash-lines text rows names i j = refl
 
 abbrev Inv-loop : tie.InvT-loop
-Inv-loop text names n rows j i₀ i =
-    (i ≤ j) × (firstFrom (λ k. clashAt text rows names k j) 0 j ≡ firstFrom (λ k. clashAt text rows names k j) i (j
-    - i))
+Inv-loop text names n rows j i₀ i = Inner (clashAt text rows names) j i
 
 abbrev μ-loop : tie.MeasureT-loop
 μ-loop text names n rows j i₀ i = j - i
 
 abbrev Inv-later : tie.InvT-later
-Inv-later text names n rows j₀ j =
-    (j ≤ n) ×
-    (firstRepeat (clashAt text rows names) n ≡ firstFrom (repeats (clashAt text rows names)) j (n - j))
+Inv-later text names n rows j₀ j = Later (clashAt text rows names) n j
 
 abbrev μ-later : tie.MeasureT-later
 μ-later text names n rows j₀ j = n - j
 
 later-holds : tie.Need-later-holds Inv-loop μ-loop Inv-later μ-later
-later-holds c = (omega arith, rw sub-zero)
+later-holds c =
+    later-starts (clashAt (now (c .before .args .text)) (c .before .args .t2) (now (c .before .args .names)))
+    (c .before .args .n)
 
 loop-holds : tie.Need-loop-holds Inv-loop μ-loop Inv-later μ-later
-loop-holds c = (omega arith, rw sub-zero)
+loop-holds c =
+    let a = c .before .before .before .args in
+    inner-starts (clashAt (now (a .text)) (a .t2) (now (a .names))) (c .before .later .j)
 
 mul-clash : tie.Need-mul-clash Inv-loop μ-loop Inv-later μ-later
 mul-clash c = search needs
@@ -91,9 +89,8 @@ loop-again c =
     let l = c .before .before .before .before .before .before .before .loop in
     let alike = clashAt (now (a .text)) (a .t2) (now (a .names)) in
     let lines = clash-lines (now (a .text)) (a .t2) (now (a .names)) (l .i) (o .j) in
-    let other = lines ∙ sym (c .before .clash .ensures) ∙ c .if2 .left in
-    let step = search-step (λ k. alike k (o .j)) (l .i) (o .j) (omega arith) in
-    (omega arith, l .inv .1 ∙ step ∙ simp other)
+    inner-on alike (a .n) (o .j) (l .i) (l .inv) (omega arith) (lines ∙ sym (c .before .clash .ensures)
+    ∙ c .if2 .left)
 
 add-j : tie.Need-add-j Inv-loop μ-loop Inv-later μ-later
 add-j c = search needs
@@ -105,18 +102,14 @@ later-again : tie.Need-later-again Inv-loop μ-loop Inv-later μ-later
 later-again c =
     let a = c .before .before .before .before .before .args in
     let o = c .before .before .before .later in
-    let l = c .before .loop in
     let alike = clashAt (now (a .text)) (a .t2) (now (a .names)) in
-    let none = repeats-none alike (l .i) (o .j) (omega arith) (omega arith) (l .inv .1) in
-    let step = search-step (repeats alike) (o .j) (a .n) (omega arith) in
-    (omega arith, o .inv .1 ∙ step ∙ simp none)
+    later-on alike (a .n) (o .j) (c .before .loop .i) (c .before .loop .inv) (omega arith) (omega arith) (o .inv)
 
 returns : tie.Need-returns Inv-loop μ-loop Inv-later μ-later
 returns c =
     let a = c .before .before .before .args in
-    let o = c .before .later in
-    let end : o .j ≡ a .n = omega arith in
-    sym (o .inv .1 ∙ rw end (search-end (repeats (clashAt (now (a .text)) (a .t2) (now (a .names)))) (a .n)))
+    let alike = clashAt (now (a .text)) (a .t2) (now (a .names)) in
+    later-ends alike (a .n) (c .before .later .j) (omega arith) (c .before .later .inv)
 
 returns-2 : tie.Need-returns-2 Inv-loop μ-loop Inv-later μ-later
 returns-2 c =
@@ -125,10 +118,8 @@ returns-2 c =
     let l = c .before .before .before .before .before .before .before .loop in
     let alike = clashAt (now (a .text)) (a .t2) (now (a .names)) in
     let lines = clash-lines (now (a .text)) (a .t2) (now (a .names)) (l .i) (o .j) in
-    let same = lines ∙ sym (c .before .clash .ensures) ∙ c .if2 .taken in
-    let found = repeats-found alike (l .i) (o .j) (omega arith) (l .inv .1) same in
-    let step = search-step (repeats alike) (o .j) (a .n) (omega arith) in
-    sym (o .inv .1 ∙ step ∙ simp found)
+    let like = lines ∙ sym (c .before .clash .ensures) ∙ c .if2 .taken in
+    later-found alike (a .n) (o .j) (l .i) (l .inv) (omega arith) (omega arith) like (o .inv)
 
 pub first-clash-spec : {M : Type 1} → statement M
 first-clash-spec =
