@@ -1,5 +1,5 @@
-//! The rules that make a description one within the limits [01, Expressions, Fields, The stored table]. Those
-//! that a text can break one by one are functions of a field among its fields.
+//! The rules that make a description one within the limits [01, Expressions] [01, Fields] [01, The stored table].
+//! Those that a text can break one by one are functions of a field among its fields.
 
 use crate::descriptions::{Description, Field, Width};
 use crate::names::{is_label, is_short_name};

@@ -2,6 +2,7 @@
 use mathlib.Core.Path.{_≡_, refl, sym, _∙_, ap}
 use mathlib.Core.Bool.{cond}
 use mathlib.Core.List.{List}
+use native.Mathlib.Omega.{arith}
 use Prim.Native.Nat.{ℕ}
 use lib.Dec.{eqb}
 use Rattle.rules.specs.declared.Fault.{Fault}
@@ -19,11 +20,14 @@ use Rattle.rules.specs.Promises.{
   ChecksTable,
   ReadsPacket,
   PlacesPart,
+  movedBy,
   HandsPart,
+  LendsPart,
   ListsPacket,
   FindsField,
   PlacesLabel,
   HandsLabel,
+  LendsLabel,
   ReadsText,
 }
 use Rattle.rules.specs.Results.{AnswersUnique}
@@ -143,6 +147,22 @@ same-place : (start size other count : ℕ) → partFrom start size ≡ partFrom
     → (start ≡ other) × (size ≡ count)
 same-place start size other count e = (ap (λ (x : Part). x .start) e, ap (λ (x : Part). x .size) e)
 
+-- the part that is lent, and its place
+pub lent-part-settled : (table packet : List ℕ) (i : ℕ) (bytes others : List ℕ) (from at other : ℕ × ℕ)
+    → LendsPart table packet i bytes from at → LendsPart table packet i others from other
+    → (bytes ≡ others) × (at ≡ other)
+lent-part-settled table packet i bytes others from at other p q =
+    let both = part-settled table packet i bytes others (p .0) (q .0) (p .1) (q .1) in
+    (both .0, p .2 ∙ ap (λ (n : ℕ). movedBy n from) (both .1) ∙ sym (q .2))
+
+moved-back : (n m : ℕ) (from : ℕ × ℕ) → movedBy n from ≡ movedBy m from → n ≡ m
+moved-back n m from e = omega (arith, ap (λ (p : ℕ × ℕ). p .1) e)
+
+-- what is lent at a place is handed back from there, so what is ruled out of the one is ruled out of the other
+pub lends-hands : (table packet : List ℕ) (i : ℕ) (bytes : List ℕ) (start : ℕ) (from : ℕ × ℕ)
+    → LendsPart table packet i bytes from (movedBy start from) → HandsPart table packet i bytes start
+lends-hands table packet i bytes start from p = rw (moved-back start (p .0) from (p .2)) (p .1)
+
 pub part-place-settled : (table packet : List ℕ) (i start size other count : ℕ)
     → PlacesPart table packet i start size → PlacesPart table packet i other count → (start ≡ other) × (size ≡ count)
 part-place-settled table packet i start size other count p q =
@@ -168,6 +188,16 @@ pub label-settled : (table : List ℕ) (i : ℕ) (bytes others : List ℕ) (star
 label-settled table i bytes others start other p q =
     let g = good-decidable table in
     (p .content g ∙ sym (q .content g), p .place g ∙ sym (q .place g))
+
+pub lent-label-settled : (table : List ℕ) (i : ℕ) (bytes others : List ℕ) (from at other : ℕ × ℕ)
+    → LendsLabel table i bytes from at → LendsLabel table i others from other → (bytes ≡ others) × (at ≡ other)
+lent-label-settled table i bytes others from at other p q =
+    let both = label-settled table i bytes others (p .0) (q .0) (p .1) (q .1) in
+    (both .0, p .2 ∙ ap (λ (n : ℕ). movedBy n from) (both .1) ∙ sym (q .2))
+
+pub lends-hands-label : (table : List ℕ) (i : ℕ) (bytes : List ℕ) (start : ℕ) (from : ℕ × ℕ)
+    → LendsLabel table i bytes from (movedBy start from) → HandsLabel table i bytes start
+lends-hands-label table i bytes start from p = rw (moved-back start (p .0) from (p .2)) (p .1)
 
 pub label-place-settled : (table : List ℕ) (i start size other count : ℕ) → PlacesLabel table i start size
     → PlacesLabel table i other count → (start ≡ other) × (size ≡ count)

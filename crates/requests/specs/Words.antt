@@ -1,4 +1,5 @@
--- The words of a request line, parted by spaces: places, numbers in decimal and bytes in hex.
+-- The words of a request line, parted by spaces: places, numbers in decimal and bytes in hex. 01 has no rule for them:
+-- these definitions follow the code of src/words.rt, and the promises of this crate alone rest on them.
 use mathlib.Core.Path.{_≡_}
 use mathlib.Core.Bool.{cond}
 use mathlib.Core.List.{List, [], _∷_, _++_}

@@ -111,7 +111,7 @@ pub record FrameOf (text : List ℕ) (f : Frame) : Type 0 where
   pub isFramed : isFrame f ≡ true
   pub isText : frameText f ≡ text
 
--- the number, from 1, of the field line of an index
+-- the number, from 1, of the field line of an index [01, Refusal numbers]
 abbrev pub lineNumber : Frame → ℕ → ℕ
 lineNumber f i = suc (length (headLines f)) + i
 
@@ -130,6 +130,6 @@ shownIn (longRow c) = record { long = true; bits = c .bits; text = c .text } ∷
 unfoldable pub cells : Frame → List Shown
 cells f = joined shownIn (f .rows)
 
--- over 64 cells or field lines
+-- over 64 cells or field lines [01, Refusal numbers]
 abbrev pub isOverfull : Frame → Bool
 isOverfull f = ltb fieldsMost (length (cells f)) || ltb fieldsMost (length (f .lines))
