@@ -8,7 +8,7 @@ use native.Mathlib.Omega.{arith}
 use lib.Dec.{leb}
 use lib.ListN.{length, take, getD, set}
 use lib.Seq.{take-all, take-suc-set}
-use borrow.Author.Tests.{ne-eqb, leb-true}
+use borrow.Author.Tests.{eq-eqb, ne-eqb, leb-true}
 use Rattle.base.specs.Lists.{all, same, headIs, between}
 use Rattle.base.proofs.Lists.{not-both, same-self, between-true}
 use Rattle.base.proofs.Breaks.{and-true, or-true, all-cons}
@@ -89,6 +89,11 @@ held-same (x ∷ a) b p q =
     let k = short-held b q .0 in
     let z = word-byte x (all-cons isWordByte x a (h .bytes) .0) in
     rw (ne-eqb x 0 (λ e. omega arith)) (pad-same 8 (x ∷ a) b (h .bytes) (k .bytes) (h .size) (k .size))
+
+-- a held name whose first byte is 0 is like none
+pub none-like : (a b : List ℕ) → getD a 0 0 ≡ 0 → false ≡ sameName a b
+unfolding sameName
+none-like a b e = rw (eq-eqb _ _ e)
 
 pub none-first : (b : List ℕ) → sameName (padTo 8 []) b ≡ false
 unfolding sameName padTo

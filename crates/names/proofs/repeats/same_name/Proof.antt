@@ -1,8 +1,9 @@
 use mathlib.Core.Path.{sym, _∙_}
-use borrow.Author.Tests.{eq-eqb, ne-eqb}
+use borrow.Author.Tests.{ne-eqb}
 use Rattle.names.specs.Keys.{wordKey}
 use Rattle.names.specs.Repeats.{sameName}
 use Rattle.names.proofs.KeyLaws.{keys-apart}
+use Rattle.names.proofs.PadLaws.{none-like}
 use borrow.Author.Needs.{needs}
 use Rattle.names.proofs.repeats.same_name.Statement.{statement}
 use Rattle.names.proofs.repeats.same_name.Tie as tie
@@ -15,8 +16,7 @@ array-read-if1 : tie.Need-array-read-if1
 array-read-if1 c = search needs
 
 returns : tie.Need-returns
-unfolding sameName
-returns c = rw (eq-eqb _ _ (c .if1 .taken))
+returns c = none-like (c .before .args .t1) (c .before .args .t2) (c .if1 .taken)
 
 slice-aggregate-word-key : tie.Need-slice-aggregate-word-key
 slice-aggregate-word-key c = search needs
