@@ -2,7 +2,7 @@
 -- [01, The form for each place]
 use mathlib.Core.Bool.{Bool, cond, _&&_, not}
 use mathlib.Core.List.{List, [], _∷_}
-use Prim.Native.Nat.{ℕ, zero, suc}
+use Prim.Native.Nat.{ℕ, zero, suc, _%_}
 use lib.Dec.{ltb, eqb}
 use lib.ListN.{getD}
 use Rattle.base.specs.Lists.{same}
@@ -19,6 +19,10 @@ repeats alike j = ltb (firstFrom (λ i. alike i j) 0 j) j
 -- the first index below n whose thing repeats an earlier one, else n
 abbrev pub firstRepeat : (ℕ → ℕ → Bool) → ℕ → ℕ
 firstRepeat alike n = firstFrom (repeats alike) 0 n
+
+-- where a search for what is like j begins, that has a key: at j where no key of its remainder by 61 was seen
+unfoldable pub startOf : List ℕ → ℕ → ℕ → ℕ
+startOf seen key j = cond (eqb (getD seen (key % 61) 0) 0) j 0
 
 -- the first n bytes of a name, with zeros behind its end
 unfoldable pub padTo : ℕ → List ℕ → List ℕ

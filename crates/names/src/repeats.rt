@@ -4,7 +4,8 @@ use crate::words::word_key;
 ghost use mathlib.Core.Path.{_≡_};
 ghost use Prim.Native.Nat.{_≤_};
 ghost use lib.ListN.{getD};
-ghost use Rattle.names.specs.Repeats.{padTo, sameName, namesAlike, firstRepeat, atMost};
+ghost use Rattle.names.specs.Keys.{wordKey};
+ghost use Rattle.names.specs.Repeats.{padTo, sameName, namesAlike, firstRepeat, startOf, atMost};
 
 // A byte, 0 behind the end.
 fn byte_of(w: &[u8], i: usize) -> u8
@@ -29,6 +30,12 @@ pub fn held_name(w: &[u8]) -> [u8; 8]
     name
 }
 
+fn name_key(name: [u8; 8]) -> usize
+    ensures { λ r. ⌜ r ≡ wordKey name ⌝ }
+{
+    word_key(&name)
+}
+
 // Both are the same name; one whose first byte is 0 is none.
 pub fn same_name(a: [u8; 8], b: [u8; 8]) -> bool
     ensures { λ r. ⌜ r ≡ sameName a b ⌝ }
@@ -36,10 +43,22 @@ pub fn same_name(a: [u8; 8], b: [u8; 8]) -> bool
     if a[0] == 0 {
         return false;
     }
-    if word_key(&a) != word_key(&b) {
+    if name_key(a) != name_key(b) {
         return false;
     }
     same_words(&a, &b)
+}
+
+// Where the earlier ones begin that can be like the one of index j: at j itself if none of them has such a key. What
+// keys were seen is told by their remainders.
+pub fn start_of(seen: &[u8; 61], key: usize, j: usize) -> usize
+    ensures { λ r. ⌜ r ≡ startOf (now (seen .entry)) key j ⌝ }
+{
+    let rest = key % 61;
+    if seen[rest] == 0 {
+        return j;
+    }
+    0
 }
 
 // The first of n names that repeats an earlier one, else n.
@@ -47,18 +66,21 @@ fn repeat_below(names: &[[u8; 8]; 64], n: usize) -> usize
     requires { ⌜ n ≤ 64 ⌝ }
     ensures { λ r. ⌜ r ≡ firstRepeat (namesAlike (now (names .entry))) n ⌝ }
 {
+    let mut seen = [0u8; 61];
     let mut j = 0;
     'later: loop {
         if j >= n {
             break 'later n;
         }
-        let mut i = 0;
+        let key = name_key(names[j]);
+        let mut i = start_of(&seen, key, j);
         while i < j {
             if same_name(names[i], names[j]) {
                 break 'later j;
             }
             i += 1;
         }
+        seen[key % 61] = 1;
         j += 1;
     }
 }

@@ -6,20 +6,20 @@ ghost use Rattle.rules.specs.Names.{isReserved};
 ghost use Rattle.names.specs.Keys.{wordKey};
 
 // 256 to the seventh power.
-const KEY_PART: u64 = 72057594037927936;
+const KEY_PART: usize = 72057594037927936;
 
 // A byte as a wider number.
-fn wide(b: u8) -> u64
+fn wide(b: u8) -> usize
     ensures { λ r. ⌜ (r ≡ b) × (r < 256) ⌝ }
 {
-    b as u64
+    b as usize
 }
 
 // The number that the last 8 bytes of a word make.
-pub(crate) fn word_key(w: &[u8]) -> u64
+pub(crate) fn word_key(w: &[u8]) -> usize
     ensures { λ r. ⌜ r ≡ wordKey (now (w .entry)) ⌝ }
 {
-    let mut key: u64 = 0;
+    let mut key: usize = 0;
     let mut i = 0;
     while i < w.len() {
         key = key % KEY_PART * 256 + wide(w[i]);

@@ -11,6 +11,7 @@ use borrow.Author.Tests.{ltb-true, ltb-false}
 use Rattle.base.specs.Places.{twoAt}
 use Rattle.names.specs.Repeats.{padTo, namesAlike, firstRepeat}
 use Rattle.names.proofs.RepeatLaws.{repeat-same}
+use Rattle.names.proofs.KeyLaws.{keys-apart}
 use Rattle.packets.specs.Parts.{partsAt}
 use Rattle.packets.proofs.WalkSteps.{take-own}
 use Rattle.packets.proofs.NameLaws.{getD-shorts}
@@ -18,6 +19,10 @@ use Rattle.packets.specs.NamesTest.{
   placesFrom,
   FieldPlace,
   FieldPlaces,
+  labelAt,
+  sampleKey,
+  labelKey,
+  LabelKeys,
   HeldNames,
   shortAt,
   labelsAlike,
@@ -75,6 +80,15 @@ filled-again f d l i x lt h e k le = go (ltb k i) refl
     go false t =
         let m : k ≡ i = omega (arith, ltb-false k i t) in
         rw (m, getD-set-same l i x d lt) e
+
+-- ── labels of other keys ──
+
+pub labels-apart : (s places keys : List ℕ) (n i j : ℕ) → LabelKeys s places n keys → i < n → j < n
+    → (getD keys i 0 ≡ getD keys j 0 → ⊥) → labelsAlike s places i j ≡ false
+unfolding labelKey
+labels-apart s places keys n i j h p q apart =
+    keys-apart sampleKey (labelAt s (getD places i 0)) (labelAt s (getD places j 0))
+    (λ e. apart (h i p ∙ e ∙ sym (h j q)))
 
 -- ── a record without a short name ──
 

@@ -5,6 +5,7 @@ use crate::records::two_at;
 use crate::records::wide;
 use names::repeats::first_repeat;
 use names::repeats::held_name;
+use names::repeats::start_of;
 use names::words::same_words;
 ghost use mathlib.Core.Path.{_≡_};
 ghost use Prim.Native.Nat.{_≤_};
@@ -128,18 +129,21 @@ fn first_label(s: &[u8], places: &[usize; 64], keys: &[usize; 64], n: usize) -> 
         × LabelKeys (now s) (now places) n (now keys) ⌝ }
     ensures { λ r. ⌜ r ≡ firstRepeat (labelsAlike (now (s .entry)) (now (places .entry))) n ⌝ }
 {
+    let mut seen = [0u8; 61];
     let mut j = 0;
     'later: loop {
         if j >= n {
             break 'later n;
         }
-        let mut i = 0;
+        let key = keys[j];
+        let mut i = start_of(&seen, key, j);
         while i < j {
-            if same_labels(s, places[i], places[j], keys[i], keys[j]) {
+            if same_labels(s, places[i], places[j], keys[i], key) {
                 break 'later j;
             }
             i += 1;
         }
+        seen[key % 61] = 1;
         j += 1;
     }
 }

@@ -9,8 +9,8 @@ use Rattle.names.proofs.repeats.same_name.Statement.{statement}
 use Rattle.names.proofs.repeats.same_name.Tie as tie
 use Rattle.names.proofs.repeats.same_name.Reads as reads
 use Rattle.names.proofs.repeats.same_name.Lts as lts
+use Rattle.names.proofs.repeats.name_key.Reads as name-key-reads
 use Rattle.names.proofs.words.same_words.Reads as same-words-reads
-use Rattle.names.proofs.words.word_key.Reads as word-key-reads
 
 array-read-if1 : tie.Need-array-read-if1
 array-read-if1 c = search needs
@@ -18,26 +18,20 @@ array-read-if1 c = search needs
 returns : tie.Need-returns
 returns c = none-like (c .before .args .t1) (c .before .args .t2) (c .if1 .taken)
 
-slice-aggregate-word-key : tie.Need-slice-aggregate-word-key
-slice-aggregate-word-key c = search needs
+name-key-requires : tie.Need-name-key-requires
+name-key-requires c κs = search needs
 
-word-key-requires : tie.Need-word-key-requires
-word-key-requires c κs = search needs
-
-slice-aggregate-word-key-2 : tie.Need-slice-aggregate-word-key-2
-slice-aggregate-word-key-2 c = search needs
-
-word-key-requires-2 : tie.Need-word-key-requires-2
-word-key-requires-2 c κs = search needs
+name-key-requires-2 : tie.Need-name-key-requires-2
+name-key-requires-2 c κs = search needs
 
 returns-2 : tie.Need-returns-2
 unfolding sameName
 returns-2 c =
-    let a = c .before .before .before .before .before .before .args in
-    let if1 = c .before .before .before .before .before .if1 in
-    let word-key = c .before .before .before .word-key in
-    let apart = keys-apart wordKey (a .t1) (a .t2) (λ e. c .if2 .taken (word-key .ensures ∙ e ∙ sym
-    (c .before .word-key2 .ensures))) in
+    let a = c .before .before .before .before .args in
+    let if1 = c .before .before .before .if1 in
+    let name-key = c .before .before .name-key in
+    let apart = keys-apart wordKey (a .t1) (a .t2) (λ e. c .if2 .taken (name-key .ensures ∙ e ∙ sym
+    (c .before .name-key2 .ensures))) in
     rw (ne-eqb _ _ (if1 .left), apart)
 
 slice-aggregate-same-words : tie.Need-slice-aggregate-same-words
@@ -51,9 +45,7 @@ same-words-requires c κs = search needs
 
 returns-3 : tie.Need-returns-3
 unfolding sameName
-returns-3 c =
-    let if1 = c .before .before .before .before .before .before .before .before .if1 in
-    rw (ne-eqb _ _ (if1 .left)) (c .same-words .ensures)
+returns-3 c = rw (ne-eqb _ _ (c .before .before .before .before .before .before .if1 .left)) (c .same-words .ensures)
 
 pub same-name-spec : {M : Type 1} → statement M
 same-name-spec =
@@ -61,10 +53,8 @@ same-name-spec =
     (tie.spec
     array-read-if1
     returns
-    slice-aggregate-word-key
-    word-key-requires
-    slice-aggregate-word-key-2
-    word-key-requires-2
+    name-key-requires
+    name-key-requires-2
     returns-2
     slice-aggregate-same-words
     slice-aggregate-same-words-2
