@@ -1,4 +1,5 @@
--- Nested loops over pairs, that stop at the first thing which is like an earlier one: what is left of each loop decides.
+-- Nested loops over pairs, that stop at the first thing which is like an earlier one: what is left of each loop
+-- decides.
 use mathlib.Core.Path.{_≡_, refl, sym, _∙_, ap}
 use mathlib.Core.Bool.{Bool, true, false, cond}
 use mathlib.Core.List.{List}
