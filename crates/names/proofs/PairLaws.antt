@@ -10,7 +10,7 @@ use lib.Dec.{ltb, eqb}
 use lib.ListN.{length, getD, set}
 use lib.Seq.{getD-set-same, getD-set-other}
 use borrow.Author.Tests.{le-ltb, lt-ltb, ltb-true, ltb-false, eqb-true, eqb-false}
-use Rattle.names.specs.Repeats.{firstFrom, repeats, firstRepeat, startOf}
+use Rattle.names.specs.Repeats.{firstFrom, repeats, firstRepeat, remainders, startOf}
 use Rattle.names.proofs.RepeatLaws.{search-step, search-end, none-passes}
 
 -- the things before i are not like j; nothing before j repeats an earlier one
@@ -22,30 +22,31 @@ Later alike n j = (j ≤ n) × (firstRepeat alike n ≡ firstFrom (repeats alike
 
 -- the remainders of the keys before j are marked
 abbrev pub Seen : (ℕ → ℕ) → ℕ → List ℕ → Type 0
-Seen key j seen = (k : ℕ) → k < j → getD seen (key k % 61) 0 ≡ 1
+Seen key j seen = (k : ℕ) → k < j → getD seen (key k % remainders) 0 ≡ 1
 
 pub seen-starts : (key : ℕ → ℕ) (seen : List ℕ) → Seen key 0 seen
 seen-starts key seen k lt = absurd (omega arith)
 
-pub seen-on : (key : ℕ → ℕ) (j : ℕ) (seen : List ℕ) → length seen ≡ 61 → Seen key j seen
-    → Seen key (j + 1) (set seen (key j % 61) 1)
-seen-on key j seen size h k lt = go (eqb (key k % 61) (key j % 61)) refl
+pub seen-on : (key : ℕ → ℕ) (j : ℕ) (seen : List ℕ) → length seen ≡ remainders → Seen key j seen
+    → Seen key (j + 1) (set seen (key j % remainders) 1)
+seen-on key j seen size h k lt = go (eqb (key k % remainders) (key j % remainders)) refl
   where
-    go : (b : Bool) → eqb (key k % 61) (key j % 61) ≡ b → getD (set seen (key j % 61) 1) (key k % 61) 0 ≡ 1
+    go : (b : Bool) → eqb (key k % remainders) (key j % remainders) ≡ b
+        → getD (set seen (key j % remainders) 1) (key k % remainders) 0 ≡ 1
     go true t =
-        let e : key k % 61 ≡ key j % 61 = eqb-true _ _ t in
-        let fits : key j % 61 < length seen = omega arith in
-        rw (e, getD-set-same seen (key j % 61) 1 0 fits)
+        let e : key k % remainders ≡ key j % remainders = eqb-true _ _ t in
+        let fits : key j % remainders < length seen = omega arith in
+        rw (e, getD-set-same seen (key j % remainders) 1 0 fits)
     go false t =
-        let other : key k % 61 ≡ key j % 61 → ⊥ = eqb-false _ _ t in
+        let other : key k % remainders ≡ key j % remainders → ⊥ = eqb-false _ _ t in
         let before : k < j = last (ltb k j) refl other in
-        getD-set-other seen (key j % 61) (key k % 61) 1 0 other ∙ h k before
+        getD-set-other seen (key j % remainders) (key k % remainders) 1 0 other ∙ h k before
       where
-        last : (b : Bool) → ltb k j ≡ b → (key k % 61 ≡ key j % 61 → ⊥) → k < j
+        last : (b : Bool) → ltb k j ≡ b → (key k % remainders ≡ key j % remainders → ⊥) → k < j
         last true u other = ltb-true k j u
         last false u other =
             let e : k ≡ j = omega (arith, ltb-false k j u) in
-            absurd (other (ap (λ (x : ℕ). key x % 61) e))
+            absurd (other (ap (λ (x : ℕ). key x % remainders) e))
 
 module _ (alike : ℕ → ℕ → Bool) where
   pub inner-starts : (j : ℕ) → Inner alike j 0
@@ -84,14 +85,14 @@ module _ (alike : ℕ → ℕ → Bool) where
       → ((k : ℕ) → k < j → (key k ≡ key j → ⊥) → alike k j ≡ false) → Seen key j seen
       → Inner alike j (startOf seen (key j) j)
   unfolding startOf
-  inner-from key seen j apart h = go (eqb (getD seen (key j % 61) 0) 0) refl
+  inner-from key seen j apart h = go (eqb (getD seen (key j % remainders) 0) 0) refl
     where
-      none : getD seen (key j % 61) 0 ≡ 0 → (k : ℕ) → k < j → alike k j ≡ false
+      none : getD seen (key j % remainders) 0 ≡ 0 → (k : ℕ) → k < j → alike k j ≡ false
       none z k lt = apart k lt (λ e.
-          let one : getD seen (key j % 61) 0 ≡ 1 = rw e at (h k lt) in
+          let one : getD seen (key j % remainders) 0 ≡ 1 = rw e at (h k lt) in
           omega arith)
 
-      go : (b : Bool) → eqb (getD seen (key j % 61) 0) 0 ≡ b → Inner alike j (cond b j 0)
+      go : (b : Bool) → eqb (getD seen (key j % remainders) 0) 0 ≡ b → Inner alike j (cond b j 0)
       go true t =
           let f : ℕ → Bool = λ k. alike k j in
           let z = eqb-true _ _ t in

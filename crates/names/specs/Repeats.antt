@@ -20,9 +20,13 @@ repeats alike j = ltb (firstFrom (λ i. alike i j) 0 j) j
 abbrev pub firstRepeat : (ℕ → ℕ → Bool) → ℕ → ℕ
 firstRepeat alike n = firstFrom (repeats alike) 0 n
 
--- where a search for what is like j begins, that has a key: at j where no key of its remainder by 61 was seen
+-- how many remainders of keys are told apart
+abbrev pub remainders : ℕ
+remainders = 61
+
+-- where a search for what is like j begins, that has a key: at j where no key of its remainder was seen
 unfoldable pub startOf : List ℕ → ℕ → ℕ → ℕ
-startOf seen key j = cond (eqb (getD seen (key % 61) 0) 0) j 0
+startOf seen key j = cond (eqb (getD seen (key % remainders) 0) 0) j 0
 
 -- the first n bytes of a name, with zeros behind its end
 unfoldable pub padTo : ℕ → List ℕ → List ℕ

@@ -7,6 +7,9 @@ ghost use lib.ListN.{getD};
 ghost use Rattle.names.specs.Keys.{wordKey};
 ghost use Rattle.names.specs.Repeats.{padTo, sameName, namesAlike, firstRepeat, startOf, atMost};
 
+// How many remainders of keys are told apart.
+pub const REMAINDERS: usize = 61;
+
 // A byte, 0 behind the end.
 fn byte_of(w: &[u8], i: usize) -> u8
     ensures { λ r. ⌜ r ≡ getD (now (w .entry)) i 0 ⌝ }
@@ -51,10 +54,10 @@ pub fn same_name(a: [u8; 8], b: [u8; 8]) -> bool
 
 // Where the earlier ones begin that can be like the one of index j: at j itself if none of them has such a key. What
 // keys were seen is told by their remainders.
-pub fn start_of(seen: &[u8; 61], key: usize, j: usize) -> usize
+pub fn start_of(seen: &[u8; REMAINDERS], key: usize, j: usize) -> usize
     ensures { λ r. ⌜ r ≡ startOf (now (seen .entry)) key j ⌝ }
 {
-    let rest = key % 61;
+    let rest = key % REMAINDERS;
     if seen[rest] == 0 {
         return j;
     }
@@ -66,7 +69,7 @@ fn repeat_below(names: &[[u8; 8]; 64], n: usize) -> usize
     requires { ⌜ n ≤ 64 ⌝ }
     ensures { λ r. ⌜ r ≡ firstRepeat (namesAlike (now (names .entry))) n ⌝ }
 {
-    let mut seen = [0u8; 61];
+    let mut seen = [0u8; REMAINDERS];
     let mut j = 0;
     'later: loop {
         if j >= n {
@@ -80,7 +83,7 @@ fn repeat_below(names: &[[u8; 8]; 64], n: usize) -> usize
             }
             i += 1;
         }
-        seen[key % 61] = 1;
+        seen[key % REMAINDERS] = 1;
         j += 1;
     }
 }

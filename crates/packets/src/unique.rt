@@ -3,6 +3,7 @@ use crate::records::label_span;
 use crate::records::short_span;
 use crate::records::two_at;
 use crate::records::wide;
+use names::repeats::REMAINDERS;
 use names::repeats::first_repeat;
 use names::repeats::held_name;
 use names::repeats::start_of;
@@ -129,7 +130,7 @@ fn first_label(s: &[u8], places: &[usize; 64], keys: &[usize; 64], n: usize) -> 
         × LabelKeys (now s) (now places) n (now keys) ⌝ }
     ensures { λ r. ⌜ r ≡ firstRepeat (labelsAlike (now (s .entry)) (now (places .entry))) n ⌝ }
 {
-    let mut seen = [0u8; 61];
+    let mut seen = [0u8; REMAINDERS];
     let mut j = 0;
     'later: loop {
         if j >= n {
@@ -143,7 +144,7 @@ fn first_label(s: &[u8], places: &[usize; 64], keys: &[usize; 64], n: usize) -> 
             }
             i += 1;
         }
-        seen[key % 61] = 1;
+        seen[key % REMAINDERS] = 1;
         j += 1;
     }
 }

@@ -5,7 +5,7 @@ use native.Mathlib.Omega.{arith}
 use denote.Ref.{now}
 use lib.ListN.{length, getD}
 use Rattle.names.specs.Keys.{wordKey}
-use Rattle.names.specs.Repeats.{namesAlike}
+use Rattle.names.specs.Repeats.{namesAlike, remainders}
 use Rattle.names.proofs.KeyLaws.{names-apart}
 use Rattle.names.proofs.PairLaws.{Inner, Later, Seen, later-starts, inner-from}
 use Rattle.names.proofs.PairLaws.{inner-on, later-on, seen-on, later-found, later-ends}
@@ -26,7 +26,7 @@ abbrev μ-loop : tie.MeasureT-loop
 
 abbrev Inv-later : tie.InvT-later
 Inv-later names n seen₀ j₀ seen j =
-    Later (namesAlike names) n j × (length seen ≡ 61) × Seen (λ k. wordKey (getD names k [])) j seen
+    Later (namesAlike names) n j × (length seen ≡ remainders) × Seen (λ k. wordKey (getD names k [])) j seen
 
 abbrev μ-later : tie.MeasureT-later
 μ-later names n seen₀ j₀ seen j = n - j

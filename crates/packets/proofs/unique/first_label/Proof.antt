@@ -3,6 +3,7 @@ use Prim.Native.Nat.{ℕ, _-_}
 use native.Mathlib.Omega.{arith}
 use denote.Ref.{now}
 use lib.ListN.{length, getD}
+use Rattle.names.specs.Repeats.{remainders}
 use Rattle.packets.specs.NamesTest.{labelsAlike}
 use Rattle.packets.proofs.NameSteps.{labels-apart}
 use Rattle.names.proofs.PairLaws.{Inner, Later, Seen, later-starts, inner-from}
@@ -23,7 +24,7 @@ abbrev μ-loop : tie.MeasureT-loop
 
 abbrev Inv-later : tie.InvT-later
 Inv-later s places keys n seen₀ j₀ seen j =
-    Later (labelsAlike s places) n j × (length seen ≡ 61) × Seen (λ k. getD keys k 0) j seen
+    Later (labelsAlike s places) n j × (length seen ≡ remainders) × Seen (λ k. getD keys k 0) j seen
 
 abbrev μ-later : tie.MeasureT-later
 μ-later s places keys n seen₀ j₀ seen j = n - j
