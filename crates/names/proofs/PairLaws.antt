@@ -9,7 +9,7 @@ use native.Mathlib.Omega.{arith}
 use lib.Dec.{ltb, eqb}
 use lib.ListN.{length, getD, set}
 use lib.Seq.{getD-set-same, getD-set-other}
-use borrow.Author.Tests.{le-ltb, lt-ltb, ltb-true, ltb-false, eqb-true, eqb-false}
+use borrow.Author.Tests.{le-ltb, lt-ltb, ltb-true, ltb-false, eqb-true, eqb-false, eq-eqb, ne-eqb}
 use Rattle.names.specs.Repeats.{firstFrom, repeats, firstRepeat, remainders, startOf}
 use Rattle.names.proofs.RepeatLaws.{search-step, search-end, none-passes}
 
@@ -19,6 +19,15 @@ Inner alike j i = (i ≤ j) × (firstFrom (λ k. alike k j) 0 j ≡ firstFrom (�
 
 abbrev pub Later : (ℕ → ℕ → Bool) → ℕ → ℕ → Type 0
 Later alike n j = (j ≤ n) × (firstRepeat alike n ≡ firstFrom (repeats alike) j (n - j))
+
+-- a search begins at j where its remainder is not marked, else at the first
+pub start-fresh : (seen : List ℕ) (key j : ℕ) → getD seen (key % remainders) 0 ≡ 0 → j ≡ startOf seen key j
+unfolding startOf
+start-fresh seen key j e = rw (eq-eqb _ _ e)
+
+pub start-marked : (seen : List ℕ) (key j : ℕ) → (getD seen (key % remainders) 0 ≡ 0 → ⊥) → 0 ≡ startOf seen key j
+unfolding startOf
+start-marked seen key j n = rw (ne-eqb _ _ n)
 
 -- the remainders of the keys before j are marked
 abbrev pub Seen : (ℕ → ℕ) → ℕ → List ℕ → Type 0
