@@ -79,22 +79,22 @@ blade-spelled = record {
   row = refl;
   shown = refl also refl also refl also refl also refl also refl also refl also tt;
   lines =
-      line-of _ (bytes "2 bits") (bytes "; V == 1") [] [] refl (fixed-as 2 tt bits-word)
-      (bytes "V == 1", refl, operated (bytes "V") true Eq true (bytes "1") tt (field (_, refl, refl)) (numeral 1 tt))
+      line-of _ (bytes "2 bits") (bytes "; V == 1") [] [] (fixed-as 2 refl bits-word)
+      (bytes "V == 1", refl, operated (bytes "V") true Eq true (bytes "1") tt (field (_, refl, refl)) (numeral 1 refl))
       refl (inl refl)
-      also line-of _ (bytes "1 bit") [] [] [] refl (fixed-as 1 tt bit-word) refl refl (inl refl)
-      also line-of _ (bytes "5 bits") (bytes "; N <= 20") [] [] refl (fixed-as 5 tt bits-word) (
+      also line-of _ (bytes "1 bit") [] [] [] (fixed-as 1 refl bit-word) refl refl (inl refl)
+      also line-of _ (bytes "5 bits") (bytes "; N <= 20") [] [] (fixed-as 5 refl bits-word) (
         bytes "N <= 20",
         refl,
-        operated (bytes "N") true Le true (bytes "20") tt (field (_, refl, refl)) (numeral 20 tt),
+        operated (bytes "N") true Le true (bytes "20") tt (field (_, refl, refl)) (numeral 20 refl),
       )
       refl (inl refl)
-      also line-of _ (bytes "1 byte") [] [] [] refl (fixed-as 1 tt byte-word) refl refl (inl refl)
-      also line-of _ (bytes "2 bytes") [] (bytes "; present only when L == 1") [] refl (fixed-as 2 tt bytes-word) refl
-      (bytes "L == 1", refl, operated (bytes "L") true Eq true (bytes "1") tt (field (_, refl, refl)) (numeral 1 tt))
+      also line-of _ (bytes "1 byte") [] [] [] (fixed-as 1 refl byte-word) refl refl (inl refl)
+      also line-of _ (bytes "2 bytes") [] (bytes "; present only when L == 1") [] (fixed-as 2 refl bytes-word) refl
+      (bytes "L == 1", refl, operated (bytes "L") true Eq true (bytes "1") tt (field (_, refl, refl)) (numeral 1 refl))
       (inl refl)
-      also line-of _ (bytes "N bytes") [] [] [] refl (measured-as (bytes "N") (field (_, refl, refl)) bytes-word)
+      also line-of _ (bytes "N bytes") [] [] [] (measured-as (bytes "N") (field (_, refl, refl)) bytes-word)
       refl refl (inl refl)
-      also line-of _ (bytes "2 bytes") [] [] [] refl (fixed-as 2 tt bytes-word) refl refl (inl refl)
+      also line-of _ (bytes "2 bytes") [] [] [] (fixed-as 2 refl bytes-word) refl refl (inl refl)
       also tt;
 }

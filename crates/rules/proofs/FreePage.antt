@@ -84,7 +84,7 @@ Says t s = SpellsTree (NameOf (freePage .fields)) t s
 below-hundred : Says (two Lt (read 1) (num 100)) (bytes "(S)<100")
 unfolding digits operator any same
 below-hundred = operated (bytes "(S)") false Lt false (bytes "100") tt
-    (enclosed (bytes "S") (field (_, refl, refl))) (numeral 100 tt)
+    (enclosed (bytes "S") (field (_, refl, refl))) (numeral 100 refl)
 
 either : Says
     (two Or (two And (two Eq (read 1) (num 3)) (negation (two Eq (read 0) (num 1)))) (two Ne (read 2) (num 0)))
@@ -92,10 +92,10 @@ either : Says
 unfolding digits operator any same
 either = operated (bytes "S ==3 && !(F== 1)") false Or false (bytes "K != 0") tt
     (operated (bytes "S ==3") true And true (bytes "!(F== 1)") tt
-    (operated (bytes "S") true Eq false (bytes "3") tt (field (_, refl, refl)) (numeral 3 tt))
+    (operated (bytes "S") true Eq false (bytes "3") tt (field (_, refl, refl)) (numeral 3 refl))
     (opposed (bytes "F== 1")
-    (operated (bytes "F") false Eq true (bytes "1") tt (field (_, refl, refl)) (numeral 1 tt))))
-    (operated (bytes "K") true Ne true (bytes "0") tt (field (_, refl, refl)) (numeral 0 tt))
+    (operated (bytes "F") false Eq true (bytes "1") tt (field (_, refl, refl)) (numeral 1 refl))))
+    (operated (bytes "K") true Ne true (bytes "0") tt (field (_, refl, refl)) (numeral 0 refl))
 
 twice : Says (two Sub (two Mul (two Add (read 1) (num 1)) (num 2)) (num 1)) (bytes "((S +1)* 2) - 1")
 unfolding digits operator any same
@@ -103,9 +103,9 @@ twice = operated (bytes "((S +1)* 2)") true Sub true (bytes "1") tt
     (enclosed (bytes "(S +1)* 2")
     (operated (bytes "(S +1)") false Mul true (bytes "2") tt
     (enclosed (bytes "S +1")
-    (operated (bytes "S") true Add false (bytes "1") tt (field (_, refl, refl)) (numeral 1 tt)))
-    (numeral 2 tt)))
-    (numeral 1 tt)
+    (operated (bytes "S") true Add false (bytes "1") tt (field (_, refl, refl)) (numeral 1 refl)))
+    (numeral 2 refl)))
+    (numeral 1 refl)
 
 flagged-or-large : Says
     (two Or (two And (two Eq (read 0) (num 1)) (two Lt (read 1) (num 9))) (two Gt (read 1) (num 2)))
@@ -113,34 +113,34 @@ flagged-or-large : Says
 unfolding digits operator any same
 flagged-or-large = operated (bytes "F == 1 && S<9") false Or false (bytes "(S>2)") tt
     (operated (bytes "F == 1") true And true (bytes "S<9") tt
-    (operated (bytes "F") true Eq true (bytes "1") tt (field (_, refl, refl)) (numeral 1 tt))
-    (operated (bytes "S") false Lt false (bytes "9") tt (field (_, refl, refl)) (numeral 9 tt)))
+    (operated (bytes "F") true Eq true (bytes "1") tt (field (_, refl, refl)) (numeral 1 refl))
+    (operated (bytes "S") false Lt false (bytes "9") tt (field (_, refl, refl)) (numeral 9 refl)))
     (enclosed (bytes "S>2")
-    (operated (bytes "S") false Gt false (bytes "2") tt (field (_, refl, refl)) (numeral 2 tt)))
+    (operated (bytes "S") false Gt false (bytes "2") tt (field (_, refl, refl)) (numeral 2 refl)))
 
 both : Says (two And (two Ge (read 0) (num 0)) (two Le (read 1) (num 127))) (bytes "F>=0 && S<=127")
 unfolding digits operator any same
 both = operated (bytes "F>=0") true And true (bytes "S<=127") tt
-    (operated (bytes "F") false Ge false (bytes "0") tt (field (_, refl, refl)) (numeral 0 tt))
-    (operated (bytes "S") false Le false (bytes "127") tt (field (_, refl, refl)) (numeral 127 tt))
+    (operated (bytes "F") false Ge false (bytes "0") tt (field (_, refl, refl)) (numeral 0 refl))
+    (operated (bytes "S") false Le false (bytes "127") tt (field (_, refl, refl)) (numeral 127 refl))
 
 not-none : Says (negation (two Eq (read 0) (num 0))) (bytes "!((F == 0))")
 unfolding digits operator any same
 not-none = opposed (bytes "(F == 0)")
     (enclosed (bytes "F == 0")
-    (operated (bytes "F") true Eq true (bytes "0") tt (field (_, refl, refl)) (numeral 0 tt)))
+    (operated (bytes "F") true Eq true (bytes "0") tt (field (_, refl, refl)) (numeral 0 refl)))
 
 at-most : Says (two Ge (two Sub (two Sub (num 10) (num 2)) (num 1)) (read 7)) (bytes "10-2 - 1 >=Z")
 unfolding digits operator any same
 at-most = operated (bytes "10-2 - 1") true Ge false (bytes "Z") tt
     (operated (bytes "10-2") true Sub true (bytes "1") tt
-    (operated (bytes "10") false Sub false (bytes "2") tt (numeral 10 tt) (numeral 2 tt))
-    (numeral 1 tt))
+    (operated (bytes "10") false Sub false (bytes "2") tt (numeral 10 refl) (numeral 2 refl))
+    (numeral 1 refl))
     (field (_, refl, refl))
 
 thirty-two : Says (num 32) (bytes "((32))")
 unfolding digits
-thirty-two = enclosed (bytes "(32)") (enclosed (bytes "32") (numeral 32 tt))
+thirty-two = enclosed (bytes "(32)") (enclosed (bytes "32") (numeral 32 refl))
 
 pub free-spelled : Spells freeText freePage
 unfolding digits all any same lastIs sum joined tabulate firstBreak operator isLetter isDigit isSpace
@@ -154,21 +154,21 @@ free-spelled = record {
   row = refl;
   shown = refl also refl also refl also refl also refl also refl also refl also refl also tt;
   lines =
-      line-of _ (bytes "1 bit") [] [] [] refl (fixed-as 1 tt bit-word) refl refl (inl refl)
-      also line-of _ (bytes "7 bits") (bytes "; (S)<100") [] [] refl (fixed-as 7 tt bits-word)
+      line-of _ (bytes "1 bit") [] [] [] (fixed-as 1 refl bit-word) refl refl (inl refl)
+      also line-of _ (bytes "7 bits") (bytes "; (S)<100") [] [] (fixed-as 7 refl bits-word)
       (_, refl, below-hundred) refl (inl refl)
       also line-of _ (bytes "1 byte") (bytes "; S ==3 && !(F== 1)||K != 0") []
-      (bytes " A remark: (any) signs; 2nd.") refl (fixed-as 1 tt byte-word)
+      (bytes " A remark: (any) signs; 2nd.") (fixed-as 1 refl byte-word)
       (_, refl, either) refl (inr (bytes "A remark: (any) signs; 2nd.", refl, refl))
-      also line-of _ (bytes "2 bytes") [] [] (bytes " ") refl (fixed-as 2 tt bytes-word) refl refl
+      also line-of _ (bytes "2 bytes") [] [] (bytes " ") (fixed-as 2 refl bytes-word) refl refl
       (inr ([], refl, refl))
-      also line-of _ (bytes "((S +1)* 2) - 1 bytes") [] (bytes "; present only when F == 1 && S<9||(S>2)") [] refl
+      also line-of _ (bytes "((S +1)* 2) - 1 bytes") [] (bytes "; present only when F == 1 && S<9||(S>2)") []
       (measured-as (bytes "((S +1)* 2) - 1") twice bytes-word) refl (_, refl, flagged-or-large) (inl refl)
-      also line-of _ (bytes "S bit") [] [] [] refl (measured-as (bytes "S") (field (_, refl, refl)) bit-word) refl refl
+      also line-of _ (bytes "S bit") [] [] [] (measured-as (bytes "S") (field (_, refl, refl)) bit-word) refl refl
       (inl refl)
       also line-of _ (bytes "variable") (bytes "; F>=0 && S<=127") (bytes "; present only when !((F == 0))") []
-      refl refl (_, refl, both) (_, refl, not-none) (inl refl)
-      also line-of _ (bytes "((32)) bits") (bytes "; 10-2 - 1 >=Z") [] [] refl
+      refl (_, refl, both) (_, refl, not-none) (inl refl)
+      also line-of _ (bytes "((32)) bits") (bytes "; 10-2 - 1 >=Z") [] []
       (1, 32, refl, measured-as (bytes "((32))") thirty-two bits-word) (_, refl, at-most) refl (inl refl)
       also tt;
 }

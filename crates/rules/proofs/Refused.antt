@@ -206,9 +206,13 @@ tag-form = named "Kind" "K" (fixed 8) (some (two Eq (read (bytes "K")) (num 7)))
 tag-formed : SpellsField Written tag-form tag-line
 unfolding tag-form isLetter isDigit isSpace isWordByte isLabelByte noTwoSpaces isLabel reserved isReserved
     isShort all any same lastIs isInRange digits operator
-tag-formed = line-of tag-form (bytes "1 byte") (bytes "; K == 7") [] [] refl (fixed-as 1 tt byte-word)
-    (bytes "K == 7", refl, operated (bytes "K") true Eq true (bytes "7") tt (field (refl, refl)) (numeral 7 tt))
-    refl (inl refl)
+tag-formed = record {
+  formed = refl;
+  line =
+      line-of tag-form (bytes "1 byte") (bytes "; K == 7") [] [] (fixed-as 1 refl byte-word)
+      (bytes "K == 7", refl, operated (bytes "K") true Eq true (bytes "7") tt (field (refl, refl)) (numeral 7 refl))
+      refl (inl refl);
+}
 
 -- every line of a form has a period
 abbrev has-period : List ℕ → Bool
@@ -237,8 +241,8 @@ period-within a b c d e f g = period-behind a _ (period-behind b _ (period-behin
 no-period : (s : List ℕ) → has-period s ≡ false → Formless s
 no-period s e x w =
     let p = period-within
-    (x .label) (shortText (x .short)) (bytes ": ") (w .width) (w .constraint) (w .condition) (w .remark) in
-    false≢true (sym e ∙ (ap has-period (w .isText) ∙ p))
+    (x .label) (shortText (x .short)) (bytes ": ") (w .line .width) (w .line .constraint) (w .line .condition) (w .line .remark) in
+    false≢true (sym e ∙ (ap has-period (w .line .isText) ∙ p))
 
 tag-forms : (n : ℕ) → Each (SpellsField Written) (replicate n tag-form) (replicate n tag-line)
 tag-forms zero = tt

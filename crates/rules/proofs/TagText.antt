@@ -25,7 +25,7 @@ use Rattle.rules.specs.Trees.{depth, le4, storedTree, isInRange, hasType
 use Rattle.rules.specs.Fields.{Field, fixed}
 use Rattle.rules.specs.Within.{rowsFit}
 use Rattle.rules.specs.Expressions.{SpellsTree, field}
-use Rattle.rules.specs.Lines.{byte-word, SpellsField}
+use Rattle.rules.specs.Lines.{byte-word, SpellsLine}
 use Rattle.rules.specs.Frames.{
   Frame,
   bitRow,
@@ -65,13 +65,12 @@ kind = record {
 -- `K == 7`
 constraint : SpellsTree (NameOf (tag .fields)) (two Eq (read 0) (num 7)) (bytes "K == 7")
 unfolding operator digits any same kind
-constraint = operated (bytes "K") true Eq true (bytes "7") tt (field (kind, refl, refl)) (numeral 7 tt)
+constraint = operated (bytes "K") true Eq true (bytes "7") tt (field (kind, refl, refl)) (numeral 7 refl)
 
-line : SpellsField (NameOf (tag .fields)) kind (bytes "Kind (K): 1 byte; K == 7.")
+line : SpellsLine (NameOf (tag .fields)) kind (bytes "Kind (K): 1 byte; K == 7.")
 unfolding kind isLetter isDigit isSpace isWordByte isLabelByte noTwoSpaces isLabel reserved isReserved isShort
     all any same lastIs isInRange digits
 line = record {
-  formed = refl;
   width = bytes "1 byte";
   constraint = bytes "; K == 7";
   condition = [];
@@ -85,7 +84,7 @@ line = record {
       expression = bytes "1";
       word = bytes "byte";
       isText = refl;
-      spelled = numeral 1 tt;
+      spelled = numeral 1 refl;
       unit = byte-word;
     },
   );

@@ -107,7 +107,7 @@ is-33 s z m e =
     let p : s ++ z ≡ m .expression ++ (bytes " " ++ (m .word ++ z)) =
     ap (λ (v : List ℕ). v ++ z) (m .isText) ∙ append-assoc (m .expression) (bytes " " ++ m .word) z in
     unique-front (m .expression) (bytes "33") (bytes " " ++ (m .word ++ z)) (bytes " bits.") (m .spelled)
-    (numeral 33 tt) (word-stops (m .unit) z) (stop-word 0 98 (bytes "its.") refl) (sym p ∙ e) .0
+    (numeral 33 refl) (word-stops (m .unit) z) (stop-word 0 98 (bytes "its.") refl) (sym p ∙ e) .0
 
 abbrev number-of : Tree (List ℕ) → ℕ
 number-of (num n) = n
@@ -149,8 +149,9 @@ wide-formless x w =
     and-right (isLabel (x .label)) (ifAny isShort (x .short) && c) (w .formed) in
     let r : isWidth (x .width) ≡ true =
     and-left (isWidth (x .width)) (all isInRange (trees x)) (and-right (ifAny isShort (x .short)) c q) in
-    no-width (x .width) (w .width) (w .constraint ++ (w .condition ++ (bytes "." ++ w .remark))) r (w .isWidth)
-    (behind-colon (x .label) (x .short) _ (label-bytes (x .label) p) (w .isText))
+    let l = w .line in
+    no-width (x .width) (l .width) (l .constraint ++ (l .condition ++ (bytes "." ++ l .remark))) r (l .isWidth)
+    (behind-colon (x .label) (x .short) _ (label-bytes (x .label) p) (l .isText))
 
 pub too-wide-line : Refuses (tagHead ++ bytes "Kind: 33 bits.\n") (refused 5 11)
 unfolding isFrame tag-frame isLabel all any lastIs sum isWordByte isLabelByte isLetter isDigit isSpace

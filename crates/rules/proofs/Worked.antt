@@ -25,7 +25,7 @@ use Rattle.rules.specs.Trees.{Tree, depth, le2, le4, storedTree, isInRan
 use Rattle.rules.specs.Values.{apply, decides, evaluate}
 use Rattle.rules.specs.Fields.{Description}
 use Rattle.rules.specs.Within.{rowsFit}
-use Rattle.rules.specs.Stored.{stored, storedField, fieldBody, headBody}
+use Rattle.rules.specs.Stored.{storedIn, storedFieldIn, stored, fieldBody, headBody}
 use Rattle.rules.specs.Expressions.{SpellsTree}
 use Rattle.rules.specs.Lines.{Written}
 use Rattle.rules.specs.Frames.{tens, units, border, cellText, rowLines, isFrame, headLines, cells}
@@ -40,7 +40,7 @@ use Rattle.rules.specs.Promises.{
   readingAnswer,
   packetOutcome,
   readingLines,
-  Answers,
+  ReadsText,
   spelled,
   refuses,
 }
@@ -116,13 +116,13 @@ none-found s e u q = false≢true (sym e ∙ ap isWholeTree (found-whole q))
 
 -- what a text that spells a description delivers
 delivers : (text out : List ℕ) (d : Description) (o : Outcome) → T (leb (length text) textMost) → Spells text d
-    → delivered (stored d) out ≡ o → Answers text out o
-delivers text out d o t s e = subst (λ (p : Outcome). Answers text out p) e (spelled (leb→le _ textMost t) s)
+    → delivered (stored d) out ≡ o → ReadsText text out o
+delivers text out d o t s e = subst (λ (p : Outcome). ReadsText text out p) e (spelled (leb→le _ textMost t) s)
 
 pub all-worked : AllHold worked
 unfolding digits all any same lastIs sum joined tabulate firstBreak isLetter isDigit isSpace isWordByte
     isLabelByte noTwoSpaces isLabel reserved isReserved isShort operator depth le2 le4 storedTree isInRange
-    hasType apply decides evaluate rowsFit stored storedField fieldBody headBody bitsAt valueIn readField
+    hasType apply decides evaluate rowsFit storedIn storedFieldIn fieldBody headBody bitsAt valueIn readField
     readFields reading entryLines linesText faultNumber ofTable ofPacket ofText ofListing delivered
     readingAnswer packetOutcome readingLines tens units border cellText rowLines isFrame headLines cells
     mismatch ruleBroken manyFields notTimes andTimes operators after firstOf insert longestFirst order skip

@@ -1,5 +1,7 @@
 -- The limits of document 01, each in one place.
+use mathlib.Core.Bool.{Bool}
 use Prim.Native.Nat.{ℕ}
+use lib.Dec.{leb}
 
 -- [01, Refusal numbers] bytes of a text, fields, bytes of a packet
 abbrev pub textMost : ℕ
@@ -21,6 +23,10 @@ shortMost = 8
 -- [01, Expressions] a number, open parentheses, a tree's depth, the bytes of its stored form
 abbrev pub numberMost : ℕ
 numberMost = 4_294_967_295
+
+-- 01's 'values': the numbers of the range
+abbrev pub isValue : ℕ → Bool
+isValue n = leb n numberMost
 
 abbrev pub openMost : ℕ
 openMost = 12
