@@ -18,17 +18,19 @@ use Rattle.rules.specs.declared.ListingAnswer.the-variants.{Written}
 use Rattle.rules.specs.Trees.{num, read, two}
 use Rattle.rules.specs.Fields.{fixed, Description}
 use Rattle.rules.specs.Stored.{stored}
-use Rattle.rules.specs.Reading.{Entry, absent, numbersOf}
-use Rattle.rules.specs.Answers.{ofPacket}
+use Rattle.rules.specs.Reading.{Entry, absent, numbersOf, Part}
+use Rattle.rules.specs.Answers.{ofTable, ofPacket, ofField, ofListing}
 use Rattle.rules.specs.Promises.{
+  leaves,
   written,
   ChecksTable,
   ReadsPacket,
+  movedBy,
   PlacesPart,
-  HandsPart,
+  LendsPart,
   FindsField,
   PlacesLabel,
-  HandsLabel,
+  LendsLabel,
   ListsPacket,
 }
 use Rattle.rules.specs.Cases.{lentRun, named, unnamed, entry}
@@ -47,13 +49,13 @@ pub data Claim : Type 0 where
   -- the bytes of the field of an index, and where in the packet they begin
   hands : Description → List ℕ → ℕ → List ℕ → ℕ → Claim
   -- where they begin, and how many they are
-  placesPart : Description → List ℕ → ℕ → ℕ → ℕ → Claim
+  placesPart : Description → List ℕ → ℕ → Part → Claim
   -- the answer to a name that is looked for
   finds : Description → List ℕ → FieldAnswer → Claim
   -- the label of the field of an index, and where in the table it begins
   labels : Description → ℕ → List ℕ → ℕ → Claim
   -- where it begins, and its length
-  placesLabel : Description → ℕ → ℕ → ℕ → Claim
+  placesLabel : Description → ℕ → Part → Claim
   -- 01's number, place and value of a packet's answer
   tellsNumber : PacketAnswer → ℕ → Claim
   tellsPlace : PacketAnswer → ℕ → Claim
@@ -63,14 +65,14 @@ abbrev pub lentOutput : List ℕ
 lentOutput = replicate 120 9
 
 abbrev pub Claimed : Claim → Type 0
-Claimed (checks d r) = ChecksTable (stored d) r
-Claimed (reads d packet r after) = ReadsPacket (stored d) packet lentRun r after
-Claimed (lists d packet r after) = ListsPacket (stored d) packet lentOutput r after
-Claimed (hands d packet i part start) = HandsPart (stored d) packet i part start
-Claimed (placesPart d packet i start size) = PlacesPart (stored d) packet i start size
-Claimed (finds d name r) = FindsField (stored d) name r
-Claimed (labels d i label start) = HandsLabel (stored d) i label start
-Claimed (placesLabel d i start size) = PlacesLabel (stored d) i start size
+Claimed (checks d r) = ChecksTable (stored d) (ofTable r)
+Claimed (reads d packet r after) = ReadsPacket (stored d) packet lentRun (leaves (ofPacket r) after)
+Claimed (lists d packet r after) = ListsPacket (stored d) packet lentOutput (leaves (ofListing r) after)
+Claimed (hands d packet i part start) = (from : ℕ × ℕ) × LendsPart (stored d) packet i from part (movedBy start from)
+Claimed (placesPart d packet i part) = PlacesPart (stored d) packet i part
+Claimed (finds d name r) = FindsField (stored d) name (ofField r)
+Claimed (labels d i label start) = (from : ℕ × ℕ) × LendsLabel (stored d) i from label (movedBy start from)
+Claimed (placesLabel d i part) = PlacesLabel (stored d) i part
 Claimed (tellsNumber r n) = n ≡ ofPacket r .number
 Claimed (tellsPlace r n) = n ≡ ofPacket r .place
 Claimed (tellsValue r n) = n ≡ ofPacket r .value
@@ -79,7 +81,10 @@ abbrev pub AllFalse : List Claim → Type 0
 AllFalse [] = Unit {0}
 AllFalse (c ∷ cs) = (Claimed c → ⊥) × AllFalse cs
 
--- ── short ways to write what was left in a buffer ──
+-- ── short ways to write a part, and what was left in a buffer ──
+
+abbrev pub partFrom : ℕ → ℕ → Part
+partFrom start size = record { start = start; size = size }
 
 abbrev pub runOf : List Entry → List ℕ
 runOf entries = written (joined numbersOf entries) lentRun
@@ -173,14 +178,14 @@ wrong =
     ∷ hands bladeReport m2 4 (0xAA ∷ 0xBB ∷ []) 2
     ∷ hands bladeReport m3 3 (0x07 ∷ []) 1
     -- where a part lies: the empty one for Readings; its neighbour's place; its own start with another size; in bits
-    ∷ placesPart bladeReport m1 5 0 0
-    ∷ placesPart bladeReport m1 5 6 2
-    ∷ placesPart bladeReport m1 5 4 4
-    ∷ placesPart bladeReport m1 5 32 16
+    ∷ placesPart bladeReport m1 5 (partFrom 0 0)
+    ∷ placesPart bladeReport m1 5 (partFrom 6 2)
+    ∷ placesPart bladeReport m1 5 (partFrom 4 4)
+    ∷ placesPart bladeReport m1 5 (partFrom 32 16)
     -- a place for a field that has no part: of bits, absent, of a refused packet
-    ∷ placesPart bladeReport m1 0 0 1
-    ∷ placesPart bladeReport m2 4 2 2
-    ∷ placesPart bladeReport m3 3 1 1
+    ∷ placesPart bladeReport m1 0 (partFrom 0 1)
+    ∷ placesPart bladeReport m2 4 (partFrom 2 2)
+    ∷ placesPart bladeReport m3 3 (partFrom 1 1)
     -- a field by name: no name found; labels or short names passed over; indexes from 1; case ignored; a prefix taken
     ∷ finds bladeReport (bytes "V") FieldAnswer.Unknown
     ∷ finds bladeReport (bytes "Blade") FieldAnswer.Unknown
@@ -198,12 +203,12 @@ wrong =
     ∷ labels bladeReport 7 (bytes "Sum") 186
     -- where a label lies: the empty part; the short name's place; the neighbour's; its own start with another size;
     -- its length taken in; one beyond the fields
-    ∷ placesLabel bladeReport 0 0 0
-    ∷ placesLabel bladeReport 0 37 1
-    ∷ placesLabel bladeReport 0 58 7
-    ∷ placesLabel bladeReport 0 28 12
-    ∷ placesLabel bladeReport 0 26 9
-    ∷ placesLabel bladeReport 7 186 3
+    ∷ placesLabel bladeReport 0 (partFrom 0 0)
+    ∷ placesLabel bladeReport 0 (partFrom 37 1)
+    ∷ placesLabel bladeReport 0 (partFrom 58 7)
+    ∷ placesLabel bladeReport 0 (partFrom 28 12)
+    ∷ placesLabel bladeReport 0 (partFrom 26 9)
+    ∷ placesLabel bladeReport 7 (partFrom 186 3)
     -- a number: 24 told as 25; 0 for a refusal; the bit total of an accepted packet
     ∷ tellsNumber (Refused BitsMissing 7) 25
     ∷ tellsNumber (Refused BitsMissing 7) 0
