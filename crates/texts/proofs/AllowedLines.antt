@@ -162,16 +162,16 @@ module _ {N : Type 0} {R : N → List ℕ → Type 0} (short : (a : N) (w : List
       let names = formed-names x (h .formed) in
       let label : printable (x .label) ≡ true = label-is-printable (x .label) (names .0) in
       let name : printable (shortText (x .short)) ≡ true = short-printable (x .short) (names .1) in
-      let wide : printable (h .width) ≡ true = width-printable (x .width) (h .width) (h .isWidth) in
-      let own : printable (h .constraint) ≡ true =
-      maybe-printable (bytes "; ") (phrases .0) (x .constraint) (h .constraint) (h .isConstraint) in
-      let when : printable (h .condition) ≡ true =
-      maybe-printable (bytes "; present only when ") (phrases .1) (x .condition) (h .condition) (h .isCondition) in
-      rw (h .isText)
+      let wide : printable (h .line .width) ≡ true = width-printable (x .width) (h .line .width) (h .line .isWidth) in
+      let own : printable (h .line .constraint) ≡ true =
+      maybe-printable (bytes "; ") (phrases .0) (x .constraint) (h .line .constraint) (h .line .isConstraint) in
+      let when : printable (h .line .condition) ≡ true =
+      maybe-printable (bytes "; present only when ") (phrases .1) (x .condition) (h .line .condition) (h .line .isCondition) in
+      rw (h .line .isText)
       (printable-both (x .label) _ label
       (printable-both (shortText (x .short)) _ name
       (printable-both (bytes ": ") _ (phrases .2)
-      (printable-both (h .width) _ wide
-      (printable-both (h .constraint) _ own
-      (printable-both (h .condition) _ when
-      (printable-both (bytes ".") (h .remark) (phrases .3) (remark-printable (h .remark) (h .isRemark)))))))))
+      (printable-both (h .line .width) _ wide
+      (printable-both (h .line .constraint) _ own
+      (printable-both (h .line .condition) _ when
+      (printable-both (bytes ".") (h .line .remark) (phrases .3) (remark-printable (h .line .remark) (h .line .isRemark)))))))))

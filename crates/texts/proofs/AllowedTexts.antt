@@ -41,6 +41,7 @@ use Rattle.rules.specs.Spelling.{Spells, NameOf}
 use Rattle.texts.proofs.NamedRules.{name-short}
 use Rattle.texts.proofs.Resolve.{frame-parts}
 use Rattle.texts.proofs.AllowedLines.{printable, printable-both, label-is-printable, field-printable}
+use Rattle.texts.proofs.FormedLines.{formed-lines}
 
 -- ── rulers and borders ──
 
@@ -184,4 +185,4 @@ spelled-allowed text d s =
     (lines-allowed (headLines (s .frame) ++ s .frame .lines)
     (all-append printable (headLines (s .frame)) (s .frame .lines) (head-printable text (s .frame) (s .isFrameOf))
     (lines-printable (NameOf (d .fields)) (name-short (d .fields) (s .within .form)) (d .fields) (s .frame .lines)
-    (s .lines))))
+    (formed-lines (NameOf (d .fields)) [] (d .fields) (s .frame .lines) (s .within .form) (s .lines)))))

@@ -33,8 +33,8 @@ use Rattle.rules.specs.Refusals.{
   form,
   rule,
 }
-use Rattle.rules.specs.Promises.{Outcome, leaves, delivered, Answers, spelled, refuses}
-use Rattle.rules.specs.Results.{SpellingUnique, AnswersTotal, AnswersUnique}
+use Rattle.rules.specs.Promises.{Outcome, leaves, delivered, ReadsText, spelled, refuses}
+use Rattle.rules.specs.Results.{SpellingUnique, TextTotal, TextUnique}
 use Rattle.texts.proofs.NamedForms.{FormsOf, forms-named, description-settled}
 use Rattle.texts.proofs.Resolve.{resolved}
 use Rattle.texts.proofs.AllowedTexts.{spelled-allowed}
@@ -72,7 +72,7 @@ Formed lines = (forms : List Form) × Each (SpellsField Written) forms lines
 
 -- an outcome there is
 abbrev Answered : List ℕ → List ℕ → Type 0
-Answered text out = (o : Outcome) × Answers text out o
+Answered text out = (o : Outcome) × ReadsText text out o
 
 -- ── what an outcome says of the text, one stage after the other ──
 
@@ -170,7 +170,7 @@ module _
           let last : Fifth text out f (leaves a out) = inr (forms, h, inl (a, e, refl)) in
           inr (p .plain .size, inr (p .plain .bytes, inr (f, p .isFrameOf, inr (p .few, last))))
 
-      seen : (o : Outcome) → Answers text out o → First text out o
+      seen : (o : Outcome) → ReadsText text out o → First text out o
       seen o (spelled {d = d} le s) =
           let p = forms-named text d s in
           inr (
@@ -233,8 +233,8 @@ module _
       only-first o p (inr x) (inl y) = absurd (let a : textMost < length text = y .0 in let b = x .0 in omega arith)
       only-first o p (inr x) (inr y) = only-second o p (x .1) (y .1)
 
-    pub answers-unique : AnswersUnique
-    answers-unique text out o p a b = only-first text out o p (seen text out o a) (seen text out p b)
+    pub text-unique : TextUnique
+    text-unique text out o p a b = only-first text out o p (seen text out o a) (seen text out p b)
 
     -- ── an outcome there is ──
 
@@ -273,8 +273,8 @@ module _
     by-bytes text out le true e = by-frame text out (record { size = le; bytes = e }) (frame-decidable text)
     by-bytes text out le false e = refusal text out (refused 2 0) (byte le e)
 
-    pub answers-total : AnswersTotal
-    answers-total text out = go (decLt textMost (length text))
+    pub text-total : TextTotal
+    text-total text out = go (decLt textMost (length text))
       where
         go : Dec (textMost < length text) → Answered text out
         go (yes h) = refusal text out (refused 1 0) (long h)

@@ -33,7 +33,7 @@ module _ {N : Type 0} {Names : N → List ℕ → Type 0} where
   -- a tree that is spelled has only numbers in range
   pub tree-in-range : {k b : ℕ} {t : Tree N} {s : List ℕ} → SpellsAt Names k b t s → isInRange t ≡ true
   unfolding isInRange
-  tree-in-range (number {n = n} le e) = le-leb n numberMost le
+  tree-in-range (number v e) = v
   tree-in-range (field h) = refl
   tree-in-range (two-sided {x = x} {y = y} g h l p q) =
       and-both (isInRange x) (isInRange y) (tree-in-range p) (tree-in-range q)
@@ -81,15 +81,17 @@ module _ (s : List ℕ) where
         (all-append isInRange (listOf (x .constraint)) (listOf (x .condition))
         (maybe-in-range Written (bytes "; ") (x .constraint) (c .0) (c .2))
         (maybe-in-range Written (bytes "; present only when ") (x .condition) (d .0) (d .2))))));
-    width = w .0;
-    constraint = c .0;
-    condition = d .0;
-    remark = s₇;
-    isText = rw (l .0, h .0, e, w .1, c .1, d .1, f) refl;
-    isWidth = w .2;
-    isConstraint = c .2;
-    isCondition = d .2;
-    isRemark = m;
+    line = record {
+      width = w .0;
+      constraint = c .0;
+      condition = d .0;
+      remark = s₇;
+      isText = rw (l .0, h .0, e, w .1, c .1, d .1, f) refl;
+      isWidth = w .2;
+      isConstraint = c .2;
+      isCondition = d .2;
+      isRemark = m;
+    };
   }
 
   field-sound : Holds (FormFront s) (readField s)
@@ -152,8 +154,9 @@ field-finds x w c d r h W C D =
 
 pub form-complete : (l : List ℕ) (x : Form) → SpellsField Written x l → readForm l ≡ some x
 unfolding readForm
-form-complete l x p =
-    rw (p .isText) (rw (field-finds x (p .width) (p .constraint) (p .condition) (p .remark) (p .formed) (p .isWidth)
+form-complete l x q =
+    let p = q .line in
+    rw (p .isText) (rw (field-finds x (p .width) (p .constraint) (p .condition) (p .remark) (q .formed) (p .isWidth)
     (p .isConstraint) (p .isCondition)) (rw (remark-finds (p .remark) (p .isRemark))))
 
 -- ── unique and decidable ──

@@ -65,6 +65,7 @@ pub mod LineTrees
 pub mod LinePhrases
 pub mod LineWidths
 pub mod LinePrintable
+pub mod FormedLines
 pub mod FormExact
 pub mod SplitLaws
 pub mod RowCells

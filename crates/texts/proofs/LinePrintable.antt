@@ -136,21 +136,21 @@ module _ {N : Type 0} (Names : N → List ℕ → Type 0)
         let h : isLabel (f .label) ≡ true = and-left (isLabel (f .label)) _ (p .formed) in
         let k : (ifAny isShort (f .short) && (isWidth (f .width) && all isInRange (trees f))) ≡ true =
         and-right (isLabel (f .label)) _ (p .formed) in
-        let s₄ : List ℕ = bytes "." ++ p .remark in
-        let s₃ : List ℕ = p .condition ++ s₄ in
-        let s₂ : List ℕ = p .constraint ++ s₃ in
-        let s₁ : List ℕ = p .width ++ s₂ in
-        rw (p .isText)
+        let s₄ : List ℕ = bytes "." ++ p .line .remark in
+        let s₃ : List ℕ = p .line .condition ++ s₄ in
+        let s₂ : List ℕ = p .line .constraint ++ s₃ in
+        let s₁ : List ℕ = p .line .width ++ s₂ in
+        rw (p .line .isText)
         (joined (f .label) (shortText (f .short) ++ (bytes ": " ++ s₁)) (label-printable (f .label) h)
         (joined (shortText (f .short)) (bytes ": " ++ s₁)
         (short-printable (f .short) (and-left (ifAny isShort (f .short)) _ k))
         (joined (bytes ": ") s₁ refl
-        (joined (p .width) s₂ (width-printable (f .width) (p .width) (p .isWidth))
-        (joined (p .constraint) s₃
-        (maybe-printable (bytes "; ") (f .constraint) (p .constraint) refl (p .isConstraint))
-        (joined (p .condition) s₄
-        (maybe-printable (bytes "; present only when ") (f .condition) (p .condition) refl (p .isCondition))
-        (joined (bytes ".") (p .remark) refl (remark-printable (p .remark) (p .isRemark)))))))))
+        (joined (p .line .width) s₂ (width-printable (f .width) (p .line .width) (p .line .isWidth))
+        (joined (p .line .constraint) s₃
+        (maybe-printable (bytes "; ") (f .constraint) (p .line .constraint) refl (p .line .isConstraint))
+        (joined (p .line .condition) s₄
+        (maybe-printable (bytes "; present only when ") (f .condition) (p .line .condition) refl (p .line .isCondition))
+        (joined (bytes ".") (p .line .remark) refl (remark-printable (p .line .remark) (p .line .isRemark)))))))))
 
 -- a name that is not yet resolved is made of letters and digits
 pub written-bytes : (w s : List ℕ) → Written w s → all isWordByte s ≡ true

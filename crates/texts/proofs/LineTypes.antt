@@ -80,9 +80,9 @@ pub record ShortNames (x : Form) : Type 0 where
 
 pub spelled-short : (x : Form) (l : List ℕ) → SpellsField Written x l → ShortNames x
 spelled-short x l h = record {
-  width = width-short (x .width) (h .width) (h .isWidth);
-  constraint = maybe-short _ (x .constraint) (h .constraint) (h .isConstraint);
-  condition = maybe-short _ (x .condition) (h .condition) (h .isCondition);
+  width = width-short (x .width) (h .line .width) (h .line .isWidth);
+  constraint = maybe-short _ (x .constraint) (h .line .constraint) (h .line .isConstraint);
+  condition = maybe-short _ (x .condition) (h .line .condition) (h .line .isCondition);
 }
 
 width-same : (f g : List ℕ → Bool) → ((w : List ℕ) → isShort w ≡ true → f w ≡ g w) → (v : Width (List ℕ))

@@ -223,15 +223,15 @@ module _ {N : Type 0} {R : N → List ℕ → Type 0} where
   pub spelled-field : (short : (a : N) (w : List ℕ) → R a w → isShort w ≡ true) (x : Field N) (s : List ℕ)
       → SpellsField R x s → (y : Form) × NamedField R x y × SpellsField Written y s
   spelled-field short x s h =
-      let w = spelled-width short (x .width) (h .width) (h .isWidth) in
-      let c = spelled-maybe short (bytes "; ") (x .constraint) (h .constraint) (h .isConstraint) in
-      let d = spelled-maybe short (bytes "; present only when ") (x .condition) (h .condition) (h .isCondition) in
+      let w = spelled-width short (x .width) (h .line .width) (h .line .isWidth) in
+      let c = spelled-maybe short (bytes "; ") (x .constraint) (h .line .constraint) (h .line .isConstraint) in
+      let d = spelled-maybe short (bytes "; present only when ") (x .condition) (h .line .condition) (h .line .isCondition) in
       go (w .0) (c .0) (d .0) (w .1) (c .1) (d .1) (w .2) (c .2) (d .2)
     where
       go : (w : Width (List ℕ)) (c d : Option (Tree (List ℕ))) → NamedWidth R (x .width) w
-          → NamedMaybe R (x .constraint) c → NamedMaybe R (x .condition) d → SpellsWidth Written w (h .width)
-          → SpellsMaybe Written (bytes "; ") c (h .constraint)
-          → SpellsMaybe Written (bytes "; present only when ") d (h .condition)
+          → NamedMaybe R (x .constraint) c → NamedMaybe R (x .condition) d → SpellsWidth Written w (h .line .width)
+          → SpellsMaybe Written (bytes "; ") c (h .line .constraint)
+          → SpellsMaybe Written (bytes "; present only when ") d (h .line .condition)
           → (y : Form) × NamedField R x y × SpellsField Written y s
       go w c d p q r sw sc sd =
           let y : Form = record { label = x .label; short = x .short; width = w; constraint = c; condition = d } in
@@ -241,15 +241,17 @@ module _ {N : Type 0} {R : N → List ℕ → Type 0} where
             n,
             record {
               formed = sym (same-formed x y n) ∙ h .formed;
-              width = h .width;
-              constraint = h .constraint;
-              condition = h .condition;
-              remark = h .remark;
-              isText = h .isText;
-              isWidth = sw;
-              isConstraint = sc;
-              isCondition = sd;
-              isRemark = h .isRemark;
+              line = record {
+                width = h .line .width;
+                constraint = h .line .constraint;
+                condition = h .line .condition;
+                remark = h .line .remark;
+                isText = h .line .isText;
+                isWidth = sw;
+                isConstraint = sc;
+                isCondition = sd;
+                isRemark = h .line .isRemark;
+              };
             },
           )
 
@@ -257,17 +259,19 @@ module _ {N : Type 0} {R : N → List ℕ → Type 0} where
       → SpellsField R x s
   named-field-spelled x y s n h = record {
     formed = same-formed x y n ∙ h .formed;
-    width = h .width;
-    constraint = h .constraint;
-    condition = h .condition;
-    remark = h .remark;
-    isText = rw (n .label, n .short) (h .isText);
-    isWidth = named-width (x .width) (y .width) (h .width) (n .width) (h .isWidth);
-    isConstraint = named-maybe (bytes "; ") (x .constraint) (y .constraint) (h .constraint) (n .constraint)
-        (h .isConstraint);
-    isCondition = named-maybe (bytes "; present only when ") (x .condition) (y .condition) (h .condition)
-        (n .condition) (h .isCondition);
-    isRemark = h .isRemark;
+    line = record {
+      width = h .line .width;
+      constraint = h .line .constraint;
+      condition = h .line .condition;
+      remark = h .line .remark;
+      isText = rw (n .label, n .short) (h .line .isText);
+      isWidth = named-width (x .width) (y .width) (h .line .width) (n .width) (h .line .isWidth);
+      isConstraint = named-maybe (bytes "; ") (x .constraint) (y .constraint) (h .line .constraint) (n .constraint)
+          (h .line .isConstraint);
+      isCondition = named-maybe (bytes "; present only when ") (x .condition) (y .condition) (h .line .condition)
+          (n .condition) (h .line .isCondition);
+      isRemark = h .line .isRemark;
+    };
   }
 
   pub field-exact : (short : (a : N) (w : List ℕ) → R a w → isShort w ≡ true) (x : Field N) (s : List ℕ)

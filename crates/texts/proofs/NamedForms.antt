@@ -13,7 +13,7 @@ use Rattle.rules.specs.Limits.{fieldsMost}
 use Rattle.rules.specs.Names.{isShort}
 use Rattle.rules.specs.Fields.{Field, Form, Description}
 use Rattle.rules.specs.Within.{Within, keepsNames}
-use Rattle.rules.specs.Lines.{SpellsField, Written}
+use Rattle.rules.specs.Lines.{SpellsLine, SpellsField, Written}
 use Rattle.rules.specs.Frames.{Frame, cells, isOverfull}
 use Rattle.rules.specs.Spelling.{Spells, NameOf, shows}
 use Rattle.rules.specs.Refusals.{ruleBroken}
@@ -29,6 +29,7 @@ use Rattle.texts.proofs.NamedRules.{
   each-mismatch,
 }
 use Rattle.texts.proofs.NamedKinds.{Kept, kept-rules, same-kinds}
+use Rattle.texts.proofs.FormedLines.{formed-lines}
 
 -- ── forms there are ──
 
@@ -53,7 +54,7 @@ named-kept f d w shown forms h =
       size = sym (same-sizes R (d .fields) forms h) ∙ w .size;
       shown = sym (same-mismatch R 0 (cells f) (d .fields) forms h) ∙ each-mismatch 0 (cells f) (d .fields) shown;
       names = sym (same-unique R (d .fields) forms h) ∙ w .names;
-      kinds = sym (same-kinds (d .fields) forms (w .names) h) ∙ w .kinds;
+      kinds = sym (same-kinds (d .fields) forms (w .names) h) ∙ w .types;
       rests = sym (same-rests R (d .fields) forms h) ∙ w .rests;
     }
 
@@ -64,7 +65,7 @@ spelled-few : (text : List ℕ) (d : Description) (s : Spells text d) → isOver
 spelled-few text d s =
     let n = between-true 1 (length (d .fields)) fieldsMost (s .within .count) in
     let p = each-length (λ c x. shows c x ≡ true) (cells (s .frame)) (d .fields) (s .shown) in
-    let q = each-length (SpellsField (NameOf (d .fields))) (d .fields) (s .frame .lines) (s .lines) in
+    let q = each-length (SpellsLine (NameOf (d .fields))) (d .fields) (s .frame .lines) (s .lines) in
     few (s .frame) (rw p (n .1)) (rw (← q) (n .1))
 
 -- what a text that spells a description has
@@ -78,7 +79,7 @@ pub record FormsOf (d : Description) (f : Frame) : Type 0 where
 pub forms-named : (text : List ℕ) (d : Description) (s : Spells text d) → FormsOf d (s .frame)
 forms-named text d s =
     let p = forms-for (NameOf (d .fields)) (name-short (d .fields) (s .within .form)) (d .fields) (s .frame .lines)
-    (s .lines) in
+    (formed-lines (NameOf (d .fields)) [] (d .fields) (s .frame .lines) (s .within .form) (s .lines)) in
     record {
       forms = p .0;
       named = p .1;

@@ -15,6 +15,7 @@ use Rattle.rules.specs.Limits.{textMost, depthMost, storedMost}
 use Rattle.rules.specs.Trees.{Tree, num, read, two, negation, depth, le2, le4, storedTree, storedLength, isSmall}
 use Rattle.rules.specs.Fields.{Width, fixed, measured, rest, Form, trees, widthTrees}
 use Rattle.rules.specs.Stored.{
+  storedFieldIn,
   counted,
   kindNumber,
   storedExpression,
@@ -255,7 +256,7 @@ module _ (s : List ℕ) (x : Form) (p : Parts) (is : PartsAre s x p) where
         ))
 
     pub field-length : length (storedField (indexed names i x)) ≡ fieldSize p
-    unfolding storedField
+    unfolding storedFieldIn
     field-length =
         let f = indexed names i x in
         rw (

@@ -39,6 +39,7 @@ use Rattle.texts.proofs.NamedFields.{
 use Rattle.texts.proofs.NamedRules.{same-sizes, same-unique, same-rests, same-mismatch, mismatch-each}
 use Rattle.texts.proofs.NamedKinds.{any-element, Kept, rules-kept, same-kinds}
 use Rattle.texts.proofs.ResolveRows.{rows-fit}
+use Rattle.texts.proofs.FormedLines.{bare-lines}
 
 -- ── names to indexes ──
 
@@ -170,7 +171,7 @@ module _ (text : List ℕ) (f : Frame) (forms : List Form) (frame : FrameOf text
             (λ b i x e. each-left (SpellsField R) (resolve forms) (f .lines) lines i x e .2 .formed);
         size = same-sizes R (resolve forms) forms named ∙ kept .size;
         names = unique;
-        kinds = same-kinds (resolve forms) forms unique named ∙ kept .kinds;
+        types = same-kinds (resolve forms) forms unique named ∙ kept .kinds;
         rests = same-rests R (resolve forms) forms named ∙ kept .rests;
         rows = rows-fit (f .rowWidth) (f .rows) (framed .2) 0 (resolve forms) (zero-mod (f .rowWidth)) shown;
       }
@@ -183,7 +184,7 @@ module _ (text : List ℕ) (f : Frame) (forms : List Form) (frame : FrameOf text
     name = refl;
     row = refl;
     shown = shown;
-    lines = lines;
+    lines = bare-lines (NameOf (resolve forms)) (resolve forms) (f .lines) lines;
   }
 
 pub resolved-spells : (text : List ℕ) (f : Frame) (forms : List Form) → FrameOf text f → isOverfull f ≡ false

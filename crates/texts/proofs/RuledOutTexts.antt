@@ -11,9 +11,9 @@ use Rattle.base.proofs.Lists.{same-self}
 use Rattle.rules.specs.Limits.{textMost}
 use Rattle.rules.specs.Operators.{operator}
 use Rattle.rules.specs.Trees.{le2, le4, storedTree}
-use Rattle.rules.specs.Stored.{stored, storedField, fieldBody, headBody}
+use Rattle.rules.specs.Stored.{storedFieldIn, storedIn, stored, storedField, fieldBody, headBody}
 use Rattle.rules.specs.Answers.{ofText}
-use Rattle.rules.specs.Promises.{Outcome, delivered, Answers, spelled, refuses}
+use Rattle.rules.specs.Promises.{Outcome, delivered, ReadsText, spelled, refuses}
 use Rattle.rules.specs.Marked.{bladeReport, tag, tagText}
 use Rattle.rules.specs.Pages.{bladeText, freePage, freeText, notTimes}
 use Rattle.rules.proofs.Written.{_also_}
@@ -31,7 +31,7 @@ use Rattle.rules.proofs.Refused.{
 }
 use Rattle.texts.specs.WrongTexts.{AllFalse, wrongTexts}
 use Rattle.texts.proofs.PairTexts.{pairs-refused}
-use Rattle.texts.proofs.TextResults.{answers-unique}
+use Rattle.texts.proofs.TextResults.{text-unique}
 
 -- ── another outcome than the one there is ──
 
@@ -41,25 +41,25 @@ numbers o = o .answer .number ∷ o .answer .place ∷ o .answer .value ∷ o .b
 not-same : (s t : List ℕ) → not (same s t) ≡ true → s ≡ t → ⊥
 not-same s t n e = false≢true (sym (ap not (ap (λ u. same u t) e ∙ same-self t)) ∙ n)
 
-pub other : {text out : List ℕ} {o p : Outcome} → Answers text out o → not (same (numbers p) (numbers o)) ≡ true
-    → Answers text out p → ⊥
+pub other : {text out : List ℕ} {o p : Outcome} → ReadsText text out o → not (same (numbers p) (numbers o)) ≡ true
+    → ReadsText text out p → ⊥
 other {text} {out} {o} {p} known differs claim =
-    not-same (numbers p) (numbers o) differs (ap numbers (answers-unique text out p o claim known))
+    not-same (numbers p) (numbers o) differs (ap numbers (text-unique text out p o claim known))
 
 -- ── the outcomes of three texts ──
 
-tag-known : {out : List ℕ} → Answers tagText out (delivered (stored tag) out)
+tag-known : {out : List ℕ} → ReadsText tagText out (delivered (stored tag) out)
 tag-known = spelled (leb→le _ textMost tt) tag-spelled
 
-blade-known : {out : List ℕ} → Answers bladeText out (delivered (stored bladeReport) out)
+blade-known : {out : List ℕ} → ReadsText bladeText out (delivered (stored bladeReport) out)
 blade-known = spelled (leb→le _ textMost tt) blade-spelled
 
-free-known : {out : List ℕ} → Answers freeText out (delivered (stored freePage) out)
+free-known : {out : List ℕ} → ReadsText freeText out (delivered (stored freePage) out)
 free-known = spelled (leb→le _ textMost tt) free-spelled
 
 -- each wrong program's answer is ruled out
 pub texts-ruled-out : AllFalse wrongTexts
-unfolding digits same joined operator le2 le4 storedTree stored storedField fieldBody headBody ofText
+unfolding digits same joined operator le2 le4 storedTree storedIn storedFieldIn fieldBody headBody ofText
     delivered notTimes
 texts-ruled-out =
     other tag-known refl

@@ -18,7 +18,7 @@ use Rattle.rules.specs.Lines.{SpellsField, Written}
 use Rattle.rules.specs.Frames.{Frame, lineNumber, cells}
 use Rattle.rules.specs.Answers.{ofText}
 use Rattle.rules.specs.Refusals.{Formless, FirstFormless, form}
-use Rattle.rules.specs.Promises.{ReadsText, refuses}
+use Rattle.rules.specs.Promises.{ReadsText, refuses, leaves}
 use Rattle.names.specs.Repeats.{firstFrom}
 use Rattle.texts.specs.LineReader.{readForm}
 use Rattle.texts.specs.LinePlaces.{rowAt, spanIn, WidthIs, PartsAre, PartsFor, RowIs, RowsAre, RowsFor}
@@ -102,7 +102,7 @@ module _ (text out : List ℕ) (w top n : ℕ) (rows : List Parts) (f : Frame) (
   -- ── 5 ──
 
   pub answers-5 : (i : ℕ) → i ≡ firstFrom (breaksAt HasForm rows) 0 n → i < n
-      → ReadsText text out (TextAnswer.BadForm (top + 1 + i)) out
+      → ReadsText text out (leaves (ofText (TextAnswer.BadForm (top + 1 + i))) out)
   unfolding ofText
   answers-5 i e lt =
       let hit : breaksAt HasForm rows i ≡ true =

@@ -30,7 +30,7 @@ use Rattle.rules.specs.Refusals.{
   many,
   form,
 }
-use Rattle.rules.specs.Promises.{ReadsText, refuses}
+use Rattle.rules.specs.Promises.{ReadsText, refuses, leaves}
 use Rattle.names.specs.Repeats.{firstFrom}
 use Rattle.names.proofs.RepeatLaws.{search-most}
 use Rattle.texts.specs.LineReader.{readForm}
@@ -55,12 +55,12 @@ use Rattle.texts.proofs.TableIndexes.{search-hit}
 -- ── 1 to 3 ──
 
 module _ (text out : List ℕ) where
-  pub answers-1 : textMost < length text → ReadsText text out TextAnswer.TooLong out
+  pub answers-1 : textMost < length text → ReadsText text out (leaves (ofText TextAnswer.TooLong) out)
   unfolding ofText
   answers-1 h = refuses (long h)
 
   pub answers-2 : length text ≤ textMost → (b : Bool) → b ≡ false → b ≡ all isAllowed text → ReadsText text out
-      TextAnswer.BadByte out
+      (leaves (ofText TextAnswer.BadByte) out)
   unfolding ofText
   answers-2 le b e h = refuses (byte le (sym h ∙ e))
 
@@ -101,7 +101,7 @@ module _ (text out : List ℕ) where
   wrong-most r k h q = omega (arith, walked-wrong (readFrame text) refl r k h q .1, right-most)
 
   pub answers-3 : Plain text → (r : Walked) (k : ℕ) → WalkedAs text (readFrame text) r → r ≡ walked.Wrong k
-      → ReadsText text out (TextAnswer.BadLine (k + 1)) out
+      → ReadsText text out (leaves (ofText (TextAnswer.BadLine (k + 1))) out)
   unfolding ofText
   answers-3 p r k h q =
       let w = walked-wrong (readFrame text) refl r k h q in
@@ -133,7 +133,7 @@ module _ (text out : List ℕ) where
   frame-seen p r w rows k n h q = walked-right (readFrame text) refl p r w rows k n h q
 
   module _ (w rows k n : ℕ) (f : Frame) (s : FrameSeen text w rows k n f) where
-    pub answers-4 : isOverfull f ≡ true → ReadsText text out TextAnswer.TooMany out
+    pub answers-4 : isOverfull f ≡ true → ReadsText text out (leaves (ofText TextAnswer.TooMany) out)
     unfolding ofText
     answers-4 h = refuses (many (s .plain) (s .isFrameOf) h)
 

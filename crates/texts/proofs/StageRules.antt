@@ -20,7 +20,7 @@ use Rattle.rules.specs.Frames.{Frame, Shown, lineNumber, cells, isOverfull}
 use Rattle.rules.specs.Spelling.{shows, mismatch}
 use Rattle.rules.specs.Answers.{Answer, refused, ofText}
 use Rattle.rules.specs.Refusals.{ruleBroken, rule}
-use Rattle.rules.specs.Promises.{ReadsText, refuses}
+use Rattle.rules.specs.Promises.{ReadsText, refuses, leaves}
 use Rattle.names.specs.Repeats.{firstFrom, firstRepeat}
 use Rattle.texts.specs.FrameWalk.{SkippedTo}
 use Rattle.texts.specs.LinePlaces.{rowAt, spanIn, Fits, LineOf, RowsFor, RowsFit}
@@ -149,7 +149,7 @@ module _ (text : List ℕ) (w top n : ℕ) (rows : List Parts) (k : FormsSeen te
   module _ (out : List ℕ) where
     -- an answer by a rule's number
     by-rule : (number i : ℕ) (r : TextAnswer) → ofText r ≡ refused number (top + 1 + i)
-        → Breaks (k .frame) (k .forms) i number → ReadsText text out r out
+        → Breaks (k .frame) (k .forms) i number → ReadsText text out (leaves (ofText r) out)
     by-rule number i r e h =
         let q : top + 1 + i ≡ lineNumber (k .frame) i = omega (arith, k .seen .head) in
         rw (e, q) (refuses (rule (k .forms) (k .seen .framed) (k .spelled) h))
@@ -160,7 +160,7 @@ module _ (text : List ℕ) (w top n : ℕ) (rows : List Parts) (k : FormsSeen te
     size-is = rw form-count at (size-breaks text (k .forms) rows (k .parts))
 
     pub answers-6 : (i : ℕ) → i ≡ firstFrom (breaksAt Size rows) 0 n → i < n
-        → ReadsText text out (TextAnswer.OverLimit (top + 1 + i)) out
+        → ReadsText text out (leaves (ofText (TextAnswer.OverLimit (top + 1 + i))) out)
     unfolding ofText
     answers-6 i e lt =
         by-rule 6 i (TextAnswer.OverLimit (top + 1 + i)) refl
@@ -183,7 +183,7 @@ module _ (text : List ℕ) (w top n : ℕ) (rows : List Parts) (s : SizesKept te
       (form-count text w top n rows k) (k .parts)
 
   pub answers-7 : (from r : ℕ) → SkippedTo text 5 from → MismatchIs text from rows n r → r ≤ n
-      → ReadsText text out (TextAnswer.Mismatch (top + 1 + r)) out
+      → ReadsText text out (leaves (ofText (TextAnswer.Mismatch (top + 1 + r))) out)
   unfolding ofText k
   answers-7 from r h m le =
       by-rule text w top n rows k out 7 r (TextAnswer.Mismatch (top + 1 + r)) refl
@@ -209,7 +209,7 @@ module _ (text : List ℕ) (w top n : ℕ) (rows : List Parts) (s : SizesKept te
         (λ i lt. held i (omega (arith, form-count text w top n rows k))))
 
     pub answers-8 : (i : ℕ) → i ≡ firstRepeat (clashAt text rows names) n → i < n
-        → ReadsText text out (TextAnswer.Repeated (top + 1 + i)) out
+        → ReadsText text out (leaves (ofText (TextAnswer.Repeated (top + 1 + i))) out)
     unfolding ofText k
     answers-8 i e lt =
         by-rule text w top n rows k out 8 i (TextAnswer.Repeated (top + 1 + i)) refl
@@ -252,7 +252,7 @@ module _ (text : List ℕ) (w top n : ℕ) (rows : List Parts) (s : NamesKept te
       (λ i lt. held i (omega (arith, count))) (forms-short text w top n rows known) f is)
 
   pub answers-9 : (r : ℕ) → FirstWrong text rows names n r → r < n
-      → ReadsText text out (TextAnswer.BadName (top + 1 + r)) out
+      → ReadsText text out (leaves (ofText (TextAnswer.BadName (top + 1 + r))) out)
   unfolding ofText known
   answers-9 r h lt =
       by-rule text w top n rows known out 9 r (TextAnswer.BadName (top + 1 + r)) refl
@@ -270,7 +270,7 @@ module _ (text : List ℕ) (w top n : ℕ) (rows : List Parts) (s : NamesKept te
         rw (form-count text w top n rows known) at (rest-breaks text (known .forms) rows (known .parts))
 
     pub answers-10 : (i : ℕ) → i ≡ firstFrom (breaksAt Rest rows) 0 n → i < n
-        → ReadsText text out (TextAnswer.BadRest (top + 1 + i)) out
+        → ReadsText text out (leaves (ofText (TextAnswer.BadRest (top + 1 + i))) out)
     unfolding ofText known
     answers-10 i e lt =
         by-rule text w top n rows known out 10 i (TextAnswer.BadRest (top + 1 + i)) refl

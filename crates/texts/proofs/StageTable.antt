@@ -19,7 +19,7 @@ use Rattle.rules.specs.Within.{keepsSize}
 use Rattle.rules.specs.Frames.{Frame, FrameOf}
 use Rattle.rules.specs.Spelling.{Spells}
 use Rattle.rules.specs.Answers.{refused, accepted, ofText}
-use Rattle.rules.specs.Promises.{leaves, written, delivered, Answers, ReadsText, spelled}
+use Rattle.rules.specs.Promises.{leaves, written, delivered, ReadsText, spelled}
 use Rattle.texts.specs.Resolving.{described}
 use Rattle.texts.specs.LinePlaces.{rowAt, spanIn}
 use Rattle.texts.specs.Records.{sizeFrom, Sized, tableOf, LineSmall, AllSmall}
@@ -101,7 +101,7 @@ module _ (text out : List ℕ) (w top n : ℕ) (rows : List Parts) (names : List
         rests = s .rests;
       }))
 
-  outcome : Answers text out (delivered (stored d) out)
+  outcome : ReadsText text out (delivered (stored d) out)
   outcome = spelled text-most spells
 
   module _ (name : List ℕ) (is : (f : Frame) → FrameOf text f → name ≡ f .name) where
@@ -119,7 +119,7 @@ module _ (text out : List ℕ) (w top n : ℕ) (rows : List Parts) (names : List
         ap length (sym table-is) ∙ table-length text rows names name w forms all-small ∙ rw count refl
 
     pub answers-11 : (size : ℕ) → size ≡ 14 + length name + sizeFrom rows 0 n → length out < size
-        → ReadsText text out TextAnswer.NoRoom out
+        → ReadsText text out (leaves (ofText TextAnswer.NoRoom) out)
     unfolding ofText
     answers-11 size e lt =
         rw (short-output (stored d) out (omega (arith, e, size-is))) at outcome
@@ -127,7 +127,7 @@ module _ (text out : List ℕ) (w top n : ℕ) (rows : List Parts) (names : List
     pub answers-table : (size : ℕ) → size ≡ 14 + length name + sizeFrom rows 0 n → size ≤ length out
         → (after : List ℕ) (r : ℕ)
         → ((l : List Form) → length l ≡ n → AllSmall text rows l → Writes out 0 (tableOf names name w l) after r)
-        → ReadsText text out (TextAnswer.Accepted size) after
+        → ReadsText text out (leaves (ofText (TextAnswer.Accepted size)) after)
     unfolding ofText
     answers-table size e le after r h =
         let a : after ≡ written (stored d) out =

@@ -23,10 +23,11 @@ use Rattle.rules.specs.declared.TextAnswer.the-variants.{
 use Rattle.rules.specs.Trees.{Tree, num, read, two, negation}
 use Rattle.rules.specs.Fields.{fixed, rest, Field, Description}
 use Rattle.rules.specs.Stored.{stored}
-use Rattle.rules.specs.Promises.{written, ReadsText}
+use Rattle.rules.specs.Promises.{written, ReadsText, leaves}
 use Rattle.rules.specs.Cases.{named, unnamed}
 use Rattle.rules.specs.Marked.{bladeReport, tagText, tagTable}
 use Rattle.rules.specs.Pages.{bladeText, freePage, freeText, tagLines, tagUnended, notTimes}
+use Rattle.rules.specs.Answers.{ofText}
 
 -- ── claims of a text ──
 
@@ -35,7 +36,7 @@ pub data Claim : Type 0 where
   reads : List ℕ → List ℕ → TextAnswer → List ℕ → Claim
 
 abbrev pub Claimed : Claim → Type 0
-Claimed (reads text out r after) = ReadsText text out r after
+Claimed (reads text out r after) = ReadsText text out (leaves (ofText r) after)
 
 abbrev pub AllFalse : List Claim → Type 0
 AllFalse [] = Unit {0}

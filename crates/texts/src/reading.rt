@@ -19,8 +19,9 @@ use rules::TEXT_MOST;
 use rules::TextAnswer;
 ghost use Rattle.rules.specs.Frames.{Frame};
 ghost use Rattle.rules.specs.Refusals.{Plain};
-ghost use Rattle.rules.specs.Promises.{ReadsText};
+ghost use Rattle.rules.specs.Promises.{ReadsText, leaves};
 ghost use Rattle.texts.specs.Stages.{FrameSeen, LinesSeen, FormsSeen, SizesKept, NamesKept, AllKept};
+ghost use Rattle.rules.specs.Answers.{ofText};
 
 // All rules are kept: the table is written where the output has room for it.
 fn write_table(
@@ -33,7 +34,7 @@ fn write_table(
     n: usize,
 ) -> TextAnswer
     requires { ⌜ AllKept (now text) w head n rows (now names) ⌝ }
-    ensures { λ r. ⌜ ReadsText (now (text .entry)) (now (out .entry)) r (now (out .exit)) ⌝ }
+    ensures { λ r. ⌜ ReadsText (now (text .entry)) (now (out .entry)) (leaves (ofText r) (now (out .exit))) ⌝ }
 {
     let name = name_span(text);
     let from = name.at;
@@ -56,7 +57,7 @@ fn read_names(
     n: usize,
 ) -> TextAnswer
     requires { ⌜ NamesKept (now text) w head n rows ⌝ }
-    ensures { λ r. ⌜ ReadsText (now (text .entry)) (now (out .entry)) r (now (out .exit)) ⌝ }
+    ensures { λ r. ⌜ ReadsText (now (text .entry)) (now (out .entry)) (leaves (ofText r) (now (out .exit))) ⌝ }
 {
     let names = short_names(text, rows, n, true);
     let wrong = first_wrong(text, rows, &names, n);
@@ -80,7 +81,7 @@ fn read_cells(
     n: usize,
 ) -> TextAnswer
     requires { ⌜ SizesKept (now text) w head n rows ⌝ }
-    ensures { λ r. ⌜ ReadsText (now (text .entry)) (now (out .entry)) r (now (out .exit)) ⌝ }
+    ensures { λ r. ⌜ ReadsText (now (text .entry)) (now (out .entry)) (leaves (ofText r) (now (out .exit))) ⌝ }
 {
     let from = skip_lines(text, 5);
     let other = first_mismatch(text, from, rows, n);
@@ -105,7 +106,7 @@ fn read_sizes(
     n: usize,
 ) -> TextAnswer
     requires { ⌜ FormsSeen (now text) w head n rows ⌝ }
-    ensures { λ r. ⌜ ReadsText (now (text .entry)) (now (out .entry)) r (now (out .exit)) ⌝ }
+    ensures { λ r. ⌜ ReadsText (now (text .entry)) (now (out .entry)) (leaves (ofText r) (now (out .exit))) ⌝ }
 {
     let large = first_line(rows, n, Rule::Size);
     if large < n {
@@ -124,7 +125,7 @@ fn read_lines(
     n: usize,
 ) -> TextAnswer
     requires { ⌜ ((f : Frame) × LinesSeen (now text) w head n rows f) ⌝ }
-    ensures { λ r. ⌜ ReadsText (now (text .entry)) (now (out .entry)) r (now (out .exit)) ⌝ }
+    ensures { λ r. ⌜ ReadsText (now (text .entry)) (now (out .entry)) (leaves (ofText r) (now (out .exit))) ⌝ }
 {
     let bad = first_line(rows, n, Rule::Form);
     if bad < n {
@@ -143,7 +144,7 @@ fn read_frame(
     n: usize,
 ) -> TextAnswer
     requires { ⌜ ((f : Frame) × FrameSeen (now text) w rows cells n f) ⌝ }
-    ensures { λ r. ⌜ ReadsText (now (text .entry)) (now (out .entry)) r (now (out .exit)) ⌝ }
+    ensures { λ r. ⌜ ReadsText (now (text .entry)) (now (out .entry)) (leaves (ofText r) (now (out .exit))) ⌝ }
 {
     if FIELDS_MOST < cells {
         return TextAnswer::TooMany;
@@ -160,7 +161,7 @@ fn read_frame(
 // 3.
 fn read_plain(text: &[u8], out: &mut [u8]) -> TextAnswer
     requires { ⌜ Plain (now text) ⌝ }
-    ensures { λ r. ⌜ ReadsText (now (text .entry)) (now (out .entry)) r (now (out .exit)) ⌝ }
+    ensures { λ r. ⌜ ReadsText (now (text .entry)) (now (out .entry)) (leaves (ofText r) (now (out .exit))) ⌝ }
 {
     let walked = walk(text);
     match walked {
@@ -171,7 +172,7 @@ fn read_plain(text: &[u8], out: &mut [u8]) -> TextAnswer
 
 // A text read into an output: its table at the output's start, or the refusal.
 pub fn read_text(text: &[u8], out: &mut [u8]) -> TextAnswer
-    ensures { λ r. ⌜ ReadsText (now (text .entry)) (now (out .entry)) r (now (out .exit)) ⌝ }
+    ensures { λ r. ⌜ ReadsText (now (text .entry)) (now (out .entry)) (leaves (ofText r) (now (out .exit))) ⌝ }
 {
     if TEXT_MOST < text.len() {
         return TextAnswer::TooLong;

@@ -32,7 +32,7 @@ use Rattle.rules.specs.Refusals.{
   form,
   rule,
 }
-use Rattle.rules.specs.Promises.{Outcome, leaves, written, delivered, Answers, spelled, refuses}
+use Rattle.rules.specs.Promises.{Outcome, leaves, written, delivered, ReadsText, spelled, refuses}
 
 -- ── lines ──
 
@@ -160,11 +160,11 @@ delivered-low w out = go (ltb (length out) (length w))
     go true = omega arith
     go false = omega arith
 
-outcome-low : (text out : List ℕ) (o : Outcome) → Answers text out o → o .answer .place ≤ most
+outcome-low : (text out : List ℕ) (o : Outcome) → ReadsText text out o → o .answer .place ≤ most
 outcome-low text out o (spelled {d = d} le s) = delivered-low (stored d) out
 outcome-low text out o (refuses {a = a} r) = refuses-low text a r
 
 -- the place of an answer that keeps the promise
-pub text-place-low : (text out : List ℕ) (a : Answer) (after : List ℕ) → Answers text out (leaves a after)
+pub text-place-low : (text out : List ℕ) (a : Answer) (after : List ℕ) → ReadsText text out (leaves a after)
     → a .place < 4294967296
 text-place-low text out a after h = omega (arith, outcome-low text out (leaves a after) h)

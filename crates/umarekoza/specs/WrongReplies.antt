@@ -7,13 +7,13 @@ use Rattle.rules.specs.Answers.{ofTable, ofPacket, ofField, ofListing, ofText}
 use Rattle.rules.specs.Promises.{
   leaves,
   partFrom,
-  TableGives,
-  PacketGives,
+  ChecksTable,
+  ReadsPacket,
   PlacesPart,
-  NameGives,
+  FindsField,
   PlacesLabel,
-  ListingGives,
-  Answers,
+  ListsPacket,
+  ReadsText,
 }
 use Rattle.rules.specs.Cases.{lentRun}
 use Rattle.laws.specs.Wrong.{
@@ -68,12 +68,12 @@ Shows (tellsValue r n) q = ⊥
 
 -- it keeps the export's promise
 abbrev pub Keeps : (c : Claim) → Handed c → Type 0
-Keeps (checks d r) q = TableGives (stored d) (shown q)
-Keeps (reads d packet r after) q = PacketGives (stored d) packet lentRun (leaves (shown q) after)
-Keeps (lists d packet r after) q = ListingGives (stored d) packet lentOutput (leaves (shown q) after)
+Keeps (checks d r) q = ChecksTable (stored d) (shown q)
+Keeps (reads d packet r after) q = ReadsPacket (stored d) packet lentRun (leaves (shown q) after)
+Keeps (lists d packet r after) q = ListsPacket (stored d) packet lentOutput (leaves (shown q) after)
 Keeps (hands d packet i part start) q = ⊥
 Keeps (placesPart d packet i start size) q = PlacesPart (stored d) packet i (q .offset) (q .length)
-Keeps (finds d name r) q = NameGives (stored d) name (shown q)
+Keeps (finds d name r) q = FindsField (stored d) name (shown q)
 Keeps (labels d i label start) q = ⊥
 Keeps (placesLabel d i start size) q = PlacesLabel (stored d) i (q .offset) (q .length)
 Keeps (tellsNumber r n) q = ⊥
@@ -90,7 +90,7 @@ abbrev pub ShowsText : Texts.Claim → Reply → Type 0
 ShowsText (Texts.reads text out r after) q = shown q ≡ ofText r
 
 abbrev pub KeepsText : Texts.Claim → Reply → Type 0
-KeepsText (Texts.reads text out r after) q = Answers text out (leaves (shown q) after)
+KeepsText (Texts.reads text out r after) q = ReadsText text out (leaves (shown q) after)
 
 abbrev pub NoneKeepsText : List Texts.Claim → Type 0
 NoneKeepsText [] = Unit {0}
