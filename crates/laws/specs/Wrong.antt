@@ -18,7 +18,7 @@ use Rattle.rules.specs.declared.ListingAnswer.the-variants.{Written}
 use Rattle.rules.specs.Trees.{num, read, two}
 use Rattle.rules.specs.Fields.{fixed, Description}
 use Rattle.rules.specs.Stored.{stored}
-use Rattle.rules.specs.Reading.{Entry, absent, numbersOf, Part}
+use Rattle.rules.specs.Reading.{Entry, absent, numbersOf, Part, partFrom}
 use Rattle.rules.specs.Answers.{ofTable, ofPacket, ofField, ofListing}
 use Rattle.rules.specs.Promises.{
   leaves,
@@ -81,10 +81,7 @@ abbrev pub AllFalse : List Claim → Type 0
 AllFalse [] = Unit {0}
 AllFalse (c ∷ cs) = (Claimed c → ⊥) × AllFalse cs
 
--- ── short ways to write a part, and what was left in a buffer ──
-
-abbrev pub partFrom : ℕ → ℕ → Part
-partFrom start size = record { start = start; size = size }
+-- ── short ways to write what was left in a buffer ──
 
 abbrev pub runOf : List Entry → List ℕ
 runOf entries = written (joined numbersOf entries) lentRun

@@ -13,16 +13,7 @@ use Rattle.rules.specs.Names.{isShort}
 use Rattle.rules.specs.Trees.{Tree, isSmall, isNumber, le2}
 use Rattle.rules.specs.Fields.{Width, fixed, measured, rest, Field, widthTrees, trees}
 use Rattle.rules.specs.Within.{isWidth, isFormed}
-use Rattle.rules.specs.Stored.{
-  counted,
-  kindNumber,
-  storedExpression,
-  storedWidth,
-  storedName,
-  storedMaybe,
-  fieldBody,
-  storedField,
-}
+use Rattle.rules.specs.Stored.{counted, kindNumber, storedExpression, storedWidth, storedName, storedMaybe, fieldBody, storedField, storedFieldIn}
 use Rattle.laws.proofs.PlacesOfNumbers.{length-le2}
 use Rattle.laws.proofs.ReadsTrees.{small-bounds, length-stored}
 use Rattle.laws.proofs.ReadsFields.{label-length, short-length, unit-bound, fixed-bound, formed-parts}
@@ -113,7 +104,7 @@ body-size f z =
     )
 
 pub record-size : (f : Field ℕ) → length (storedField f) ≡ 4 + length (fieldBody f)
-unfolding storedField
+unfolding storedFieldIn
 record-size f =
     omega (
       arith,

@@ -31,6 +31,7 @@ use Rattle.packets.proofs.ListingTexts.{
   entries-length,
   one-line,
 }
+use Rattle.laws.proofs.Readings.{reading-told}
 
 module _ (s packet : List ℕ) (d : Description) (w : Within d) (is : stored d ≡ s) (run : List ℕ) (a : PacketAnswer)
     (h : RunHolds (reading d packet) packet a run) where
@@ -58,7 +59,7 @@ module _ (s packet : List ℕ) (d : Description) (w : Within d) (is : stored d �
       → linesFrom s run 0 (twoAt s 6) (twoAt s 0) ++ (bitsLine (ofPacket a .value) ++ (10 ∷ [])) ≡ listing d packet
   unfolding readingAnswer
   listed-accepted n =
-      let c = accepted-entries (reading d packet) packet (sym (ap (λ (x : Answer). x .number) (h .answer)) ∙ n) in
+      let c = accepted-entries (reading d packet) (reading-told d packet) packet (sym (ap (λ (x : Answer). x .number) (h .answer)) ∙ n) in
       let v : ofPacket a .value ≡ bitTotal packet
       = ap (λ (x : Answer). x .value) (h .answer) ∙ rw (c .1, readingAnswer) refl in
       ap (λ (n : ℕ). linesFrom s run 0 (twoAt s 6) (twoAt s 0) ++ (bitsLine n ++ (10 ∷ []))) v
@@ -80,7 +81,7 @@ good-answer table r n e (yes g) h = (g, refl)
 good-answer table r n e (no b) h = let z : _≡_ {A = Answer} (accepted n) notGood = rw (e, ofTable) at h in
     let q : _≡_ {A = ℕ} 0 21 = ap (λ (x : Answer). x .number) z in absurd (omega arith)
 
-pub into-good : (table packet before after : List ℕ) (next : ℕ) (r : TableAnswer) (n : ℕ) → ChecksTable table r
+pub into-good : (table packet before after : List ℕ) (next : ℕ) (r : TableAnswer) (n : ℕ) → ChecksTable table (ofTable r)
     → r ≡ TableAnswer.Good n → ListsStored table packet before after next → ListsInto table packet before after next
 into-good table packet before after next r n c e l = record { text = go; inside = l .inside }
   where
@@ -89,7 +90,7 @@ into-good table packet before after next r n c e l = record { text = go; inside 
     go (yes g) = l .text (g .description) (g .within) (g .isStored)
     go (no b) = let w = good-answer table r n e (no b) (c (no b)) in absurd (b (w .0))
 
-pub into-bad : (table packet before after : List ℕ) (next : ℕ) (r : TableAnswer) → ChecksTable table r
+pub into-bad : (table packet before after : List ℕ) (next : ℕ) (r : TableAnswer) → ChecksTable table (ofTable r)
     → r ≡ TableAnswer.NotGood → Writes before 0 (refusedLine 21 0 ++ (10 ∷ [])) after next → next ≤ length before
     → ListsInto table packet before after next
 unfolding ofTable

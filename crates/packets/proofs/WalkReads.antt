@@ -154,7 +154,7 @@ walk-all d w s packet run e room =
     let few : ltb 64 (length (d .fields)) ≡ false = le-ltb 64 (length (d .fields)) (h .few) in
     rw (h .count, few)
     (walk-reads s packet (d .fields) [] [] run 0 (twoAt s 0) (h .end) refl refl (omega (arith, h .few)) (w .form)
-    (w .size) (w .kinds) (h .fields) (h .short))
+    (w .size) (w .types) (h .fields) (h .short))
 
 -- ── a packet read into a run ──
 

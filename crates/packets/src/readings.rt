@@ -10,9 +10,11 @@ ghost use mathlib.Core.List.{_++_};
 ghost use Prim.Native.Nat.{_*_, _≤_, _<_};
 ghost use denote.Ref.{ptr};
 ghost use lib.ListN.{length, take, drop};
-ghost use Rattle.rules.specs.Promises.{ReadsPacket, PlacesPart, LendsPart};
+ghost use Rattle.rules.specs.Reading.{partFrom};
+ghost use Rattle.rules.specs.Promises.{ReadsPacket, PlacesPart, LendsPart, leaves};
 ghost use Rattle.packets.specs.RunRead.{ReadsRun};
 ghost use Rattle.packets.specs.FieldParts.{isAccepted, partAt, OnPacket};
+ghost use Rattle.rules.specs.Answers.{ofPacket};
 
 // Where a part lies: its start, and its size.
 pub struct Bytes {
@@ -58,7 +60,7 @@ fn copy_numbers(dst: &mut [u32], src: &[u32], n: usize)
 
 // A packet read by a table: four numbers a field into the run.
 pub fn read_packet(table: &[u8], packet: &[u8], run: &mut [u32]) -> PacketAnswer
-    ensures { λ r. ⌜ ReadsPacket (now (table .entry)) (now (packet .entry)) (now (run .entry)) r (now (run .exit)) ⌝ }
+    ensures { λ r. ⌜ ReadsPacket (now (table .entry)) (now (packet .entry)) (now (run .entry)) (leaves (ofPacket r) (now (run .exit))) ⌝ }
 {
     let checked = check_table(table);
     let TableAnswer::Good(size) = checked else {
@@ -123,7 +125,7 @@ fn find_part(table: &[u8], packet: &[u8], index: usize) -> Bytes
 
 // Where the bytes of the field of an index lie in the packet.
 pub fn field_place(table: &[u8], packet: &[u8], index: usize) -> Bytes
-    ensures { λ r. ⌜ PlacesPart (now (table .entry)) (now (packet .entry)) index (r .start) (r .size) ⌝ }
+    ensures { λ r. ⌜ PlacesPart (now (table .entry)) (now (packet .entry)) index (partFrom (r .start) (r .size)) ⌝ }
 {
     find_part(table, packet, index)
 }
@@ -131,7 +133,7 @@ pub fn field_place(table: &[u8], packet: &[u8], index: usize) -> Bytes
 // The bytes of the field of an index, as that part of the packet.
 pub fn field_bytes<'a>(table: &[u8], packet: &'a [u8], index: usize) -> &'a [u8]
     ensures { λ r. ⌜ LendsPart (now (table .entry)) (now (packet .entry)) index
-        (now r) (ptr (packet .entry)) (ptr r) ⌝ }
+        (ptr (packet .entry)) (now r) (ptr r) ⌝ }
 {
     let part = find_part(table, packet, index);
     let start = part.start;

@@ -20,6 +20,7 @@ ghost use Rattle.rules.specs.Within.{isRowWidth};
 ghost use Rattle.rules.specs.Promises.{ChecksTable};
 ghost use Rattle.packets.specs.Parts.{placeMost, tableMost};
 ghost use Rattle.packets.specs.TableTest.{walkAt, headTest, lastTest, tableTest};
+ghost use Rattle.rules.specs.Answers.{ofTable};
 
 const HEAD: usize = 1;
 
@@ -138,7 +139,7 @@ fn is_table(table: &[u8]) -> bool
 
 // Good, with its length, exactly where the bytes are the stored form of a description within the limits.
 pub fn check_table(table: &[u8]) -> TableAnswer
-    ensures { λ r. ⌜ ChecksTable (now (table .entry)) r ⌝ }
+    ensures { λ r. ⌜ ChecksTable (now (table .entry)) (ofTable r) ⌝ }
 {
     if is_table(table) {
         return TableAnswer::Good(table.len());
