@@ -30,7 +30,7 @@ use Rattle.rules.specs.Within.{rowsFit, Within}
 use Rattle.rules.specs.Stored.{storedIn, storedFieldIn, stored, fieldBody, headBody, Good}
 use Rattle.rules.specs.Reading.{Part, partIn, partBytes, bitsAt, valueIn, readField, readFields, reading}
 use Rattle.rules.specs.Listing.{entryLines, linesText}
-use Rattle.rules.specs.Answers.{Answer, accepted, faultNumber, ofTable, ofPacket, ofField, ofListing}
+use Rattle.rules.specs.Answers.{Answer, accepted, faultNumber, ofPacket}
 use Rattle.rules.specs.Promises.{
   Outcome,
   leaves,
@@ -115,7 +115,7 @@ pub field-only : (d : Description) (name : List ℕ) (a : Answer) → Within d �
     → a ≡ firstNamed name 0 (d .fields)
 field-only d name a w p = p (yes (good-stored d w))
 
-abbrev labelAt : Description → ℕ → Part
+abbrev pub labelAt : Description → ℕ → Part
 labelAt d i = labelOf d i (getElem? (d .fields) i)
 
 pub label-only : (d : Description) (i : ℕ) (from : ℕ × ℕ) (bytes : List ℕ) (start : ℕ) → Within d
@@ -132,36 +132,36 @@ label-place-only d i part w p = p (yes (good-stored d w))
 
 -- ── of other numbers it is false ──
 
-abbrev answerNumbers : Answer → List ℕ
+abbrev pub answerNumbers : Answer → List ℕ
 answerNumbers a = a .number ∷ a .place ∷ a .value ∷ []
 
-abbrev numbers : Outcome → List ℕ
+abbrev pub numbers : Outcome → List ℕ
 numbers o = o .answer .number ∷ o .answer .place ∷ o .answer .value ∷ o .buffer
 
-abbrev partNumbers : List ℕ → Part → List ℕ
+abbrev pub partNumbers : List ℕ → Part → List ℕ
 partNumbers packet part = part .start ∷ partBytes packet part
 
-abbrev placeNumbers : Part → List ℕ
+abbrev pub placeNumbers : Part → List ℕ
 placeNumbers part = part .start ∷ part .size ∷ []
 
-abbrev single : ℕ → List ℕ
+abbrev pub single : ℕ → List ℕ
 single n = n ∷ []
 
 -- what a claim says, and what the definitions give, in numbers
-abbrev claimed : Claim → List ℕ
-claimed (checks d r) = answerNumbers (ofTable r)
-claimed (reads d packet r after) = numbers (leaves (ofPacket r) after)
-claimed (lists d packet r after) = numbers (leaves (ofListing r) after)
+abbrev pub claimed : Claim → List ℕ
+claimed (checks d a) = answerNumbers a
+claimed (reads d packet a after) = numbers (leaves a after)
+claimed (lists d packet a after) = numbers (leaves a after)
 claimed (hands d packet i bytes start) = start ∷ bytes
 claimed (placesPart d packet i part) = placeNumbers part
-claimed (finds d name r) = answerNumbers (ofField r)
+claimed (finds d name a) = answerNumbers a
 claimed (labels d i bytes start) = start ∷ bytes
 claimed (placesLabel d i part) = placeNumbers part
 claimed (tellsNumber r n) = single n
 claimed (tellsPlace r n) = single n
 claimed (tellsValue r n) = single n
 
-abbrev given : Claim → List ℕ
+abbrev pub given : Claim → List ℕ
 given (checks d r) = answerNumbers (accepted (length (stored d)))
 given (reads d packet r after) = numbers (packetOutcome d packet lentRun)
 given (lists d packet r after) = numbers (delivered (listing d packet) lentOutput)
@@ -175,7 +175,7 @@ given (tellsPlace r n) = single (ofPacket r .place)
 given (tellsValue r n) = single (ofPacket r .value)
 
 -- what is claimed of a table is of the table of a description within the limits
-abbrev isFitting : Claim → Bool
+abbrev pub isFitting : Claim → Bool
 isFitting (checks d r) = isWithin d
 isFitting (reads d packet r after) = isWithin d
 isFitting (lists d packet r after) = isWithin d
@@ -192,21 +192,20 @@ two-parts : {m n : ℕ} {s t : List ℕ} → (s ≡ t) × (m ≡ n) → m ∷ s 
 two-parts {n = n} {s = s} q = ap (λ (k : ℕ). k ∷ s) (q .1) ∙ ap (λ (l : List ℕ). n ∷ l) (q .0)
 
 pub claim-only : (c : Claim) → isFitting c ≡ true → Claimed c → claimed c ≡ given c
-claim-only (checks d r) h p = ap answerNumbers (table-only d (ofTable r) (within d h) p)
-claim-only (reads d packet r after) h p =
-    ap numbers (outcome-only d packet lentRun (leaves (ofPacket r) after) (within d h) p)
-claim-only (lists d packet r after) h p =
-    ap numbers (listing-only d packet lentOutput (leaves (ofListing r) after) (within d h) p)
+claim-only (checks d a) h p = ap answerNumbers (table-only d a (within d h) p)
+claim-only (reads d packet a after) h p = ap numbers (outcome-only d packet lentRun (leaves a after) (within d h) p)
+claim-only (lists d packet a after) h p =
+    ap numbers (listing-only d packet lentOutput (leaves a after) (within d h) p)
 claim-only (hands d packet i bytes start) h p = two-parts (part-only d packet i (p .0) bytes start (within d h) (p .1))
 claim-only (placesPart d packet i part) h p = ap placeNumbers (part-place-only d packet i part (within d h) p)
-claim-only (finds d name r) h p = ap answerNumbers (field-only d name (ofField r) (within d h) p)
+claim-only (finds d name a) h p = ap answerNumbers (field-only d name a (within d h) p)
 claim-only (labels d i bytes start) h p = two-parts (label-only d i (p .0) bytes start (within d h) (p .1))
 claim-only (placesLabel d i part) h p = ap placeNumbers (label-place-only d i part (within d h) p)
 claim-only (tellsNumber r n) h p = ap single p
 claim-only (tellsPlace r n) h p = ap single p
 claim-only (tellsValue r n) h p = ap single p
 
-abbrev isOther : Claim → Bool
+abbrev pub isOther : Claim → Bool
 isOther c = isFitting c && not (same (claimed c) (given c))
 
 not-same : (s t : List ℕ) → not (same s t) ≡ true → s ≡ t → ⊥
@@ -217,7 +216,7 @@ ruled-out c h p =
     let e = and-true (isFitting c) (not (same (claimed c) (given c))) h in
     not-same (claimed c) (given c) (e .1) (claim-only c (e .0) p)
 
-all-out : (cs : List Claim) → all isOther cs ≡ true → AllFalse cs
+pub all-out : (cs : List Claim) → all isOther cs ≡ true → AllFalse cs
 unfolding all
 all-out [] h = tt
 all-out (c ∷ cs) h = let e = and-true (isOther c) (all isOther cs) h in (ruled-out c (e .0), all-out cs (e .1))
@@ -227,7 +226,7 @@ pub all-ruled-out : AllFalse wrong
 unfolding digits all any same lastIs sum joined firstBreak operator isLetter isDigit isSpace isWordByte
     isLabelByte noTwoSpaces isLabel reserved isReserved isShort depth le2 le4 storedTree isInRange hasType
     apply decides evaluate rowsFit storedIn storedFieldIn fieldBody headBody bitsAt valueIn readField readFields
-    reading entryLines linesText faultNumber ofTable ofPacket ofField ofListing delivered readingAnswer
+    reading entryLines linesText faultNumber ofPacket delivered readingAnswer
     packetOutcome readingLines firstNamed
 all-ruled-out = all-out wrong refl
 

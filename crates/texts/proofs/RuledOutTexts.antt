@@ -48,7 +48,7 @@ other {text} {out} {o} {p} known differs claim =
 
 -- ── the outcomes of three texts ──
 
-tag-known : {out : List ℕ} → ReadsText tagText out (delivered (stored tag) out)
+pub tag-known : {out : List ℕ} → ReadsText tagText out (delivered (stored tag) out)
 tag-known = spelled (leb→le _ textMost tt) tag-spelled
 
 blade-known : {out : List ℕ} → ReadsText bladeText out (delivered (stored bladeReport) out)

@@ -23,7 +23,7 @@ ghost use Rattle.rules.specs.Promises.{
   ListsPacket,
   ReadsText,
 };
-ghost use Rattle.umarekoza.specs.Exports.{shown};
+ghost use Rattle.umarekoza.specs.Exports.{shown, spanned};
 
 // Number 0 is acceptance, with place 0 and the length that is answered; else the number and place of the refusal, with
 // length 0. They are document 01's; only 30, for a name that no field has, is document 02's for no such field.
@@ -69,7 +69,7 @@ pub extern "C" fn umarekoza_read_packet(table: &[u8], packet: &[u8], run: &mut [
 // Where the bytes of the field of an index lie in the packet.
 #[no_mangle]
 pub extern "C" fn umarekoza_field_bytes(table: &[u8], packet: &[u8], index: usize) -> Span
-    ensures { λ r. ⌜ PlacesPart (now (table .entry)) (now (packet .entry)) index (r .offset) (r .length) ⌝ }
+    ensures { λ r. ⌜ PlacesPart (now (table .entry)) (now (packet .entry)) index (spanned r) ⌝ }
 {
     let part = field_place(table, packet, index);
     Span {
@@ -98,7 +98,7 @@ pub extern "C" fn umarekoza_find_field(table: &[u8], name: &[u8]) -> Reply
 // Where the label of the field of an index lies in the table.
 #[no_mangle]
 pub extern "C" fn umarekoza_field_label(table: &[u8], index: usize) -> Span
-    ensures { λ r. ⌜ PlacesLabel (now (table .entry)) index (r .offset) (r .length) ⌝ }
+    ensures { λ r. ⌜ PlacesLabel (now (table .entry)) index (spanned r) ⌝ }
 {
     let part = label_place(table, index);
     Span {
