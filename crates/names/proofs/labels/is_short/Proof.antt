@@ -3,6 +3,7 @@ use lib.ListN.{length}
 use denote.Ref.{now}
 use native.Mathlib.Omega.{arith}
 use borrow.Author.Tests.{lt-leb, le-leb, not-true, not-false}
+use Rattle.rules.specs.Limits.{shortMost}
 use Rattle.names.proofs.Ends.{no-short, short-is}
 use borrow.Author.Needs.{needs}
 use Rattle.names.proofs.labels.is_short.Statement.{statement}
@@ -38,7 +39,7 @@ returns-3 c =
     let w = now (s .args .w) in
     let a = sym (c .before .before .is-letter-in .ensures) ∙ not-false
     (c .before .before .is-letter-in .result) (c .before .if2 .left) in
-    sym (short-is w (omega arith) ∙ rw (a, lt-leb (length w) 8 (c .if3 .taken)))
+    sym (short-is w (omega arith) ∙ rw (a, lt-leb (length w) shortMost (c .if3 .taken)))
 
 all-bytes-requires : tie.Need-all-bytes-requires
 all-bytes-requires c κs = search needs
@@ -51,7 +52,7 @@ returns-4 c =
     ∙ not-false (c .before .before .before .before .before .is-letter-in .result)
     (c .before .before .before .before .if2 .left) in
     let b = sym (c .before .all-bytes .ensures) ∙ not-true (c .before .all-bytes .result) (c .if4 .taken) in
-    sym (short-is w (omega arith) ∙ rw (a, le-leb (length w) 8 (c .before .before .before .if3 .left), b))
+    sym (short-is w (omega arith) ∙ rw (a, le-leb (length w) shortMost (c .before .before .before .if3 .left), b))
 
 is-reserved-requires : tie.Need-is-reserved-requires
 is-reserved-requires c κs = search needs
@@ -67,7 +68,7 @@ returns-5 c =
     (c .before .if4 .left) in
     sym (short-is w (omega arith) ∙ rw (
       a,
-      le-leb (length w) 8
+      le-leb (length w) shortMost
           (c .before .before .before .before .if3 .left),
       b,
       ← c .is-reserved .ensures,
