@@ -1,3 +1,4 @@
+use Rattle.rules.specs.Operators.{operator}
 use Rattle.rules.specs.Values.{decides}
 use borrow.Author.Needs.{needs}
 use Rattle.packets.proofs.trees.settles.Statement.{statement}
@@ -39,47 +40,47 @@ enum-told-11 : tie.Need-enum-told-11
 enum-told-11 c = search needs
 
 returns : tie.Need-returns
-unfolding decides
+unfolding decides operator
 returns c = rw (c .enum-told .given .1)
 
 returns-2 : tie.Need-returns-2
-unfolding decides
+unfolding decides operator
 returns-2 c = rw (c .enum-told2 .given .1)
 
 returns-3 : tie.Need-returns-3
-unfolding decides
+unfolding decides operator
 returns-3 c = rw (c .enum-told3 .given .1)
 
 returns-4 : tie.Need-returns-4
-unfolding decides
+unfolding decides operator
 returns-4 c = rw (c .enum-told4 .given .1)
 
 returns-5 : tie.Need-returns-5
-unfolding decides
+unfolding decides operator
 returns-5 c = rw (c .enum-told5 .given .1)
 
 returns-6 : tie.Need-returns-6
-unfolding decides
+unfolding decides operator
 returns-6 c = rw (c .enum-told6 .given .1)
 
 returns-7 : tie.Need-returns-7
-unfolding decides
+unfolding decides operator
 returns-7 c = rw (c .enum-told7 .given .1)
 
 returns-8 : tie.Need-returns-8
-unfolding decides
+unfolding decides operator
 returns-8 c = rw (c .enum-told8 .given .1)
 
 returns-9 : tie.Need-returns-9
-unfolding decides
+unfolding decides operator
 returns-9 c = rw (c .enum-told9 .given .1)
 
 returns-10 : tie.Need-returns-10
-unfolding decides
+unfolding decides operator
 returns-10 c = rw (c .enum-told10 .given .1)
 
 returns-11 : tie.Need-returns-11
-unfolding decides
+unfolding decides operator
 returns-11 c = rw (c .enum-told11 .given .1)
 
 pub settles-spec : {M : Type 1} → statement M
