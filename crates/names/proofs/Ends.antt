@@ -8,6 +8,7 @@ use lib.Dec.{leb}
 use lib.ListN.{length, getD}
 use Rattle.base.specs.Lists.{all}
 use Rattle.base.proofs.Scans.{head-getD, last-getD}
+use Rattle.rules.specs.Limits.{shortMost}
 use Rattle.rules.specs.Names.{isLetter, isWordByte, isReserved, hasWordEnds, isShort}
 
 pub or-false : (b : Bool) → (b || false) ≡ b
@@ -29,9 +30,9 @@ no-short (x ∷ l) h = absurd (omega arith)
 
 -- in the order in which the code tests
 pub short-is : (l : List ℕ) → 0 < length l
-    → isShort l ≡ (isLetter (getD l 0 0) && (leb (length l) 8 && (all isWordByte l && not (isReserved l))))
+    → isShort l ≡ (isLetter (getD l 0 0) && (leb (length l) shortMost && (all isWordByte l && not (isReserved l))))
 unfolding isShort
-short-is l h = rw (head-getD isLetter l h) (swap (isLetter (getD l 0 0)) (all isWordByte l) (leb (length l) 8))
+short-is l h = rw (head-getD isLetter l h) (swap (isLetter (getD l 0 0)) (all isWordByte l) (leb (length l) shortMost))
   where
     swap : (a b c : Bool) → (a && (b && (c && not (isReserved l)))) ≡ (a && (c && (b && not (isReserved l))))
     swap false b c = refl

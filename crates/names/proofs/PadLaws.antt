@@ -34,9 +34,9 @@ pub pad-set : (name w : List ℕ) (i x : ℕ) → i < length name → take i nam
     → take (i + 1) (set name i x) ≡ padTo (i + 1) w
 pad-set name w i x lt e f = rw (add-one i, take-suc-set name i x lt, pad-suc i w, e, f)
 
-pub pad-whole : (name w : List ℕ) (i : ℕ) → i ≡ 8 → length name ≡ 8 → take i name ≡ padTo i w → name ≡ padTo 8 w
+pub pad-whole : (name w : List ℕ) (i : ℕ) → i ≡ shortMost → length name ≡ shortMost → take i name ≡ padTo i w → name ≡ padTo shortMost w
 pad-whole name w i e l h =
-    let t : take 8 name ≡ name = take-all 8 name (omega arith) in
+    let t : take shortMost name ≡ name = take-all shortMost name (omega arith) in
     sym t ∙ rw e at h
 
 -- ── bytes of a short name are not 0 ──
@@ -51,7 +51,7 @@ word-byte b h =
 
 pub record Held (w : List ℕ) : Type 0 where
   pub bytes : all isWordByte w ≡ true
-  pub size : length w ≤ 8
+  pub size : length w ≤ shortMost
 
 pub short-held : (w : List ℕ) → isShort w ≡ true → Held w × (headIs isLetter w ≡ true)
 unfolding isShort
@@ -81,25 +81,25 @@ pad-same (suc n) (x ∷ a) (y ∷ b) p q l m =
     rw (pad-same n a b (all-cons isWordByte x a p .1) (all-cons isWordByte y b q .1) (omega arith) (omega arith))
 
 -- two short names that are held; and none is like nothing
-pub held-same : (a b : List ℕ) → isShort a ≡ true → isShort b ≡ true → sameName (padTo 8 a) (padTo 8 b) ≡ same a b
+pub held-same : (a b : List ℕ) → isShort a ≡ true → isShort b ≡ true → sameName (padTo shortMost a) (padTo shortMost b) ≡ same a b
 unfolding sameName padTo
 held-same [] b p q = absurd (not-both false (short-held [] p .1) refl)
 held-same (x ∷ a) b p q =
     let h = short-held (x ∷ a) p .0 in
     let k = short-held b q .0 in
     let z = word-byte x (all-cons isWordByte x a (h .bytes) .0) in
-    rw (ne-eqb x 0 (λ e. omega arith)) (pad-same 8 (x ∷ a) b (h .bytes) (k .bytes) (h .size) (k .size))
+    rw (ne-eqb x 0 (λ e. omega arith)) (pad-same shortMost (x ∷ a) b (h .bytes) (k .bytes) (h .size) (k .size))
 
 -- a held name whose first byte is 0 is like none
 pub none-like : (a b : List ℕ) → getD a 0 0 ≡ 0 → false ≡ sameName a b
 unfolding sameName
 none-like a b e = rw (eq-eqb _ _ e)
 
-pub none-first : (b : List ℕ) → sameName (padTo 8 []) b ≡ false
+pub none-first : (b : List ℕ) → sameName (padTo shortMost []) b ≡ false
 unfolding sameName padTo
 none-first b = refl
 
-pub none-second : (a : List ℕ) → isShort a ≡ true → sameName (padTo 8 a) (padTo 8 []) ≡ false
+pub none-second : (a : List ℕ) → isShort a ≡ true → sameName (padTo shortMost a) (padTo shortMost []) ≡ false
 unfolding sameName padTo same
 none-second [] p = refl
 none-second (x ∷ a) p =

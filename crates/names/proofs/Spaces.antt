@@ -5,7 +5,6 @@ use mathlib.Core.List.{List, [], _∷_}
 use Prim.Native.Nat.{ℕ, zero, suc, _+_, _-_, _≤_, _<_}
 use native.Mathlib.Omega.{arith}
 use lib.ListN.{length, drop, getD}
-use borrow.Author.Tests.{eq-eqb, ne-eqb}
 use lib.Seq.{drop-cons}
 use Rattle.rules.specs.Names.{isSpace, noTwoSpaces}
 
@@ -31,15 +30,13 @@ module _ (l : List ℕ) (i : ℕ) (from : 1 ≤ i) (inside : i < length l) where
   step = let e : suc (i - 1) ≡ i = omega arith in
       rw e at (spaces-step l (i - 1) (omega arith))
 
-  pub spaces-pair : getD l (i - 1) 0 ≡ 32 → getD l i 0 ≡ 32 → noTwoSpaces (drop (i - 1) l) ≡ false
-  unfolding isSpace
-  spaces-pair e f = step ∙ rw (eq-eqb _ _ e, eq-eqb _ _ f)
+  pub spaces-pair : isSpace (getD l (i - 1) 0) ≡ true → isSpace (getD l i 0) ≡ true
+      → noTwoSpaces (drop (i - 1) l) ≡ false
+  spaces-pair e f = step ∙ rw (e, f)
 
-  pub spaces-first : (getD l (i - 1) 0 ≡ 32 → ⊥) → noTwoSpaces (drop (i - 1) l) ≡ noTwoSpaces (drop i l)
-  unfolding isSpace
-  spaces-first n = step ∙ rw (ne-eqb _ _ n)
+  pub spaces-first : isSpace (getD l (i - 1) 0) ≡ false → noTwoSpaces (drop (i - 1) l) ≡ noTwoSpaces (drop i l)
+  spaces-first e = step ∙ rw e
 
-  pub spaces-second : getD l (i - 1) 0 ≡ 32 → (getD l i 0 ≡ 32 → ⊥) → noTwoSpaces (drop (i - 1) l) ≡ noTwoSpaces
-      (drop i l)
-  unfolding isSpace
-  spaces-second e n = step ∙ rw (eq-eqb _ _ e, ne-eqb _ _ n)
+  pub spaces-second : isSpace (getD l (i - 1) 0) ≡ true → isSpace (getD l i 0) ≡ false
+      → noTwoSpaces (drop (i - 1) l) ≡ noTwoSpaces (drop i l)
+  spaces-second e f = step ∙ rw (e, f)

@@ -1,16 +1,23 @@
 // The class of every byte value, in one constant table.
 ghost use mathlib.Core.Path.{_≡_};
-ghost use lib.ListN.{getD};
-ghost use Rattle.rules.specs.Names.{isLetter, isNameByte};
-ghost use Rattle.names.specs.Classes.{classTable, isWordClass};
+ghost use Rattle.names.specs.Classes.{
+  letterClass,
+  digitClass,
+  operatorClass,
+  spaceClass,
+  classTable,
+  hasClass,
+  isWordIn,
+};
+ghost use Rattle.names.specs.NameBytes.{isNameByte};
 
-pub const LETTER: u8 = 1;
+const LETTER: u8 = 1;
 
-pub const DIGIT: u8 = 2;
+const DIGIT: u8 = 2;
 
-pub const OPERATOR: u8 = 3;
+const OPERATOR: u8 = 3;
 
-pub const SPACE: u8 = 4;
+const SPACE: u8 = 4;
 
 const CLASSES: [u8; 256] = [
     0,
@@ -278,24 +285,46 @@ pub fn class_table() -> [u8; 256]
     CLASSES
 }
 
-pub(crate) fn is_letter_in(classes: &[u8; 256], b: u8) -> bool
-    requires { ⌜ now classes ≡ classTable ⌝ }
-    ensures { λ r. ⌜ r ≡ isLetter b ⌝ }
+// The tests below go by the class that a lent table has of the byte.
+fn has_class(classes: &[u8; 256], b: u8, class: u8) -> bool
+    ensures { λ r. ⌜ r ≡ hasClass class (now (classes .entry)) b ⌝ }
 {
     let i = b as usize;
-    classes[i] == LETTER
+    classes[i] == class
 }
 
-// The class that a lent table has of the byte is that of a letter or digit.
-pub fn is_word_in(classes: &[u8; 256], b: u8) -> bool
-    ensures { λ r. ⌜ r ≡ isWordClass (getD (now (classes .entry)) b 0) ⌝ }
+pub(crate) fn is_letter_in(classes: &[u8; 256], b: u8) -> bool
+    ensures { λ r. ⌜ r ≡ hasClass letterClass (now (classes .entry)) b ⌝ }
 {
-    let i = b as usize;
-    let class = classes[i];
-    if class == LETTER {
+    has_class(classes, b, LETTER)
+}
+
+pub fn is_digit_in(classes: &[u8; 256], b: u8) -> bool
+    ensures { λ r. ⌜ r ≡ hasClass digitClass (now (classes .entry)) b ⌝ }
+{
+    has_class(classes, b, DIGIT)
+}
+
+pub fn is_operator_in(classes: &[u8; 256], b: u8) -> bool
+    ensures { λ r. ⌜ r ≡ hasClass operatorClass (now (classes .entry)) b ⌝ }
+{
+    has_class(classes, b, OPERATOR)
+}
+
+pub fn is_space_in(classes: &[u8; 256], b: u8) -> bool
+    ensures { λ r. ⌜ r ≡ hasClass spaceClass (now (classes .entry)) b ⌝ }
+{
+    has_class(classes, b, SPACE)
+}
+
+// A letter or digit.
+pub fn is_word_in(classes: &[u8; 256], b: u8) -> bool
+    ensures { λ r. ⌜ r ≡ isWordIn (now (classes .entry)) b ⌝ }
+{
+    if is_letter_in(classes, b) {
         return true;
     }
-    class == DIGIT
+    is_digit_in(classes, b)
 }
 
 // What may stand in a label: a letter, digit, space or hyphen; in a short name: a letter or digit.
@@ -307,7 +336,7 @@ pub(crate) fn is_name_in(classes: &[u8; 256], b: u8, label: bool) -> bool
         return true;
     }
     if label {
-        if b == b' ' {
+        if is_space_in(classes, b) {
             return true;
         }
         return b == b'-';

@@ -2,14 +2,16 @@
 use crate::classes::class_table;
 use crate::classes::is_letter_in;
 use crate::classes::is_name_in;
+use crate::classes::is_space_in;
 use crate::classes::is_word_in;
 use crate::words::is_reserved;
 use rules::LABEL_MOST;
 use rules::SHORT_MOST;
 ghost use mathlib.Core.Path.{_≡_};
 ghost use Rattle.base.specs.Lists.{all};
-ghost use Rattle.rules.specs.Names.{isNameByte, noTwoSpaces, hasWordEnds, isLabel, isShort};
+ghost use Rattle.rules.specs.Names.{noTwoSpaces, hasWordEnds, isLabel, isShort};
 ghost use Rattle.names.specs.Classes.{classTable};
+ghost use Rattle.names.specs.NameBytes.{isNameByte};
 
 // Each byte may stand in a label, or else in a short name.
 fn all_bytes(classes: &[u8; 256], w: &[u8], label: bool) -> bool
@@ -26,13 +28,14 @@ fn all_bytes(classes: &[u8; 256], w: &[u8], label: bool) -> bool
     true
 }
 
-fn no_two_spaces(w: &[u8]) -> bool
+fn no_two_spaces(classes: &[u8; 256], w: &[u8]) -> bool
+    requires { ⌜ now classes ≡ classTable ⌝ }
     ensures { λ r. ⌜ r ≡ noTwoSpaces (now (w .entry)) ⌝ }
 {
     let mut i = 1;
     while i < w.len() {
-        if w[i - 1] == b' ' {
-            if w[i] == b' ' {
+        if is_space_in(classes, w[i - 1]) {
+            if is_space_in(classes, w[i]) {
                 return false;
             }
         }
@@ -69,7 +72,7 @@ pub fn is_label(w: &[u8]) -> bool
     if !has_word_ends(&classes, w) {
         return false;
     }
-    no_two_spaces(w)
+    no_two_spaces(&classes, w)
 }
 
 pub fn is_short(w: &[u8]) -> bool

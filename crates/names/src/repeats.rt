@@ -1,9 +1,12 @@
 // Short names held by value, and the first of them that repeats an earlier one.
 use crate::words::same_words;
 use crate::words::word_key;
+use rules::FIELDS_MOST;
+use rules::SHORT_MOST;
 ghost use mathlib.Core.Path.{_≡_};
 ghost use Prim.Native.Nat.{_≤_};
 ghost use lib.ListN.{getD};
+ghost use Rattle.rules.specs.Limits.{fieldsMost, shortMost};
 ghost use Rattle.names.specs.Keys.{wordKey};
 ghost use Rattle.names.specs.Repeats.{padTo, sameName, namesAlike, firstRepeat, startOf, atMost};
 
@@ -20,27 +23,27 @@ fn byte_of(w: &[u8], i: usize) -> u8
     0
 }
 
-// The first 8 bytes of a name, with zeros behind its end.
-pub fn held_name(w: &[u8]) -> [u8; 8]
-    ensures { λ r. ⌜ r ≡ padTo 8 (now (w .entry)) ⌝ }
+// A name of at most SHORT_MOST bytes, with zeros behind its end; of a longer one its first bytes.
+pub fn held_name(w: &[u8]) -> [u8; SHORT_MOST]
+    ensures { λ r. ⌜ r ≡ padTo shortMost (now (w .entry)) ⌝ }
 {
-    let mut name = [0u8; 8];
+    let mut name = [0u8; SHORT_MOST];
     let mut i = 0;
-    while i < 8 {
+    while i < SHORT_MOST {
         name[i] = byte_of(w, i);
         i += 1;
     }
     name
 }
 
-fn name_key(name: [u8; 8]) -> usize
+fn name_key(name: [u8; SHORT_MOST]) -> usize
     ensures { λ r. ⌜ r ≡ wordKey name ⌝ }
 {
     word_key(&name)
 }
 
 // Both are the same name; one whose first byte is 0 is none.
-pub fn same_name(a: [u8; 8], b: [u8; 8]) -> bool
+pub fn same_name(a: [u8; SHORT_MOST], b: [u8; SHORT_MOST]) -> bool
     ensures { λ r. ⌜ r ≡ sameName a b ⌝ }
 {
     if a[0] == 0 {
@@ -65,8 +68,8 @@ pub fn start_of(seen: &[u8; REMAINDERS], key: usize, j: usize) -> usize
 }
 
 // The first of n names that repeats an earlier one, else n.
-fn repeat_below(names: &[[u8; 8]; 64], n: usize) -> usize
-    requires { ⌜ n ≤ 64 ⌝ }
+fn repeat_below(names: &[[u8; SHORT_MOST]; FIELDS_MOST], n: usize) -> usize
+    requires { ⌜ n ≤ fieldsMost ⌝ }
     ensures { λ r. ⌜ r ≡ firstRepeat (namesAlike (now (names .entry))) n ⌝ }
 {
     let mut seen = [0u8; REMAINDERS];
@@ -88,12 +91,12 @@ fn repeat_below(names: &[[u8; 8]; 64], n: usize) -> usize
     }
 }
 
-// The first of the first n names that repeats an earlier one; else n, or 64 where n is more.
-pub fn first_repeat(names: &[[u8; 8]; 64], n: usize) -> usize
-    ensures { λ r. ⌜ r ≡ firstRepeat (namesAlike (now (names .entry))) (atMost 64 n) ⌝ }
+// The first of the first n names that repeats an earlier one; else n, or FIELDS_MOST where n is more.
+pub fn first_repeat(names: &[[u8; SHORT_MOST]; FIELDS_MOST], n: usize) -> usize
+    ensures { λ r. ⌜ r ≡ firstRepeat (namesAlike (now (names .entry))) (atMost fieldsMost n) ⌝ }
 {
-    if 64 < n {
-        return repeat_below(names, 64);
+    if FIELDS_MOST < n {
+        return repeat_below(names, FIELDS_MOST);
     }
     repeat_below(names, n)
 }

@@ -19,7 +19,7 @@ use Rattle.rules.specs.Names.{isLetter, isDigit, isOperator, isSpace, classOf, 
 use Rattle.rules.specs.Trees.{depth, storedTree, le4}
 use Rattle.rules.specs.Reader.{word, behind, scan, value, isNumeral, isNumberWord, leaf}
 use Rattle.rules.proofs.ReaderWords.{word-behind}
-use Rattle.texts.specs.ExprPlaces.{Same, Within, LeafAt}
+use Rattle.texts.specs.ExprPlaces.{SameRead, WithinRead, LeafAt}
 use Rattle.texts.specs.declared.leaves.Read.{Read}
 use Rattle.texts.specs.declared.leaves.Read.the-variants.{Nothing, At}
 
@@ -144,22 +144,22 @@ module _ (s : List ℕ) (at end : ℕ) (lo : at ≤ end) (hi : end ≤ length s)
           absurd (omega arith)
 
   abbrev pub Leaf : Read → Type 0
-  Leaf r = Within s (at + 1) at 0 0 r × LeafAt s at r
+  Leaf r = WithinRead s (at + 1) at 0 0 r × LeafAt s at r
 
   pub leaf-short : isShort (take (end - at) (drop at s)) ≡ true → Leaf (At end 1 2)
-  unfolding Within Same leaf isShort depth storedTree
+  unfolding WithinRead SameRead leaf isShort depth storedTree
   leaf-short y =
       let u : at + 1 ≤ end = longer isShort refl y in
       ((u, hi, omega arith, omega arith), rw (rw part-is at y, leaf) (end, refl, e))
 
   pub leaf-number : isShort (take (end - at) (drop at s)) ≡ false
       → isNumberWord (take (end - at) (drop at s)) ≡ true → Leaf (At end 1 5)
-  unfolding Within Same leaf isNumberWord isNumeral depth storedTree le4
+  unfolding WithinRead SameRead leaf isNumberWord isNumeral depth storedTree le4
   leaf-number n y =
       let u : at + 1 ≤ end = longer isNumberWord refl y in
       ((u, hi, omega arith, omega arith), rw (rw part-is at n, leaf, rw part-is at y) (end, refl, e))
 
   pub leaf-neither : isShort (take (end - at) (drop at s)) ≡ false
       → isNumberWord (take (end - at) (drop at s)) ≡ false → Leaf Nothing
-  unfolding Within Same leaf isNumberWord
+  unfolding WithinRead SameRead leaf isNumberWord
   leaf-neither n y = (tt, rw (rw part-is at n, leaf, rw part-is at y) refl)

@@ -15,7 +15,7 @@ use Rattle.rules.specs.Trees.{Tree, two, negation, depth, storedTree, storedLen
 use Rattle.rules.specs.Reader.{Out, fail, got, Found, missing, found, operatorAt, close, inside, atom, step}
 use Rattle.rules.specs.Reader.{andThen}
 use Rattle.rules.specs.Reader.{expr, more}
-use Rattle.texts.specs.ExprPlaces.{Same, Within, SameSign, Adds, LeafAt, ExprAt, AtomAt}
+use Rattle.texts.specs.ExprPlaces.{SameRead, WithinRead, SameSign, Adds, LeafAt, ExprAt, AtomAt}
 use Rattle.texts.specs.ExprPlaces.{ClosedAt, InsideAt, MoreAt, NextAt, WithinNext}
 use Rattle.texts.specs.declared.expressions.Next.{Next}
 use Rattle.texts.specs.declared.expressions.Next.the-variants as next
@@ -27,8 +27,8 @@ use Rattle.texts.proofs.ExprSigns.{sign-none, sign-some, right-is}
 
 -- ── the code's answer tells the reader's ──
 
-pub same-fail : (s : List ℕ) (o : Out) (r : Read) → r ≡ Nothing → Same s o r → o ≡ fail
-unfolding Same
+pub same-fail : (s : List ℕ) (o : Out) (r : Read) → r ≡ Nothing → SameRead s o r → o ≡ fail
+unfolding SameRead
 same-fail s fail r e w = refl
 same-fail s (got t q) r e w = let e′ = w .1 in cc
 
@@ -38,31 +38,31 @@ pub record Is (s : List ℕ) (o : Out) (n d z : ℕ) : Type 0 where
   pub depth-is : depth tree ≡ d
   pub length-is : storedLength tree ≡ z
 
-pub same-got : (s : List ℕ) (o : Out) (r : Read) (n d z : ℕ) → r ≡ At n d z → Same s o r → Is s o n d z
-unfolding Same
+pub same-got : (s : List ℕ) (o : Out) (r : Read) (n d z : ℕ) → r ≡ At n d z → SameRead s o r → Is s o n d z
+unfolding SameRead
 same-got s fail r n d z e w = let q : _≡_ {A = ℕ} 0 1 = cc in absurd (omega arith)
 same-got s (got t q) r n d z e w = let e′ = w .1 in let f = w .2 in
     record { tree = t; is = cc; depth-is = cc; length-is = cc }
 
-pub within-got : (s : List ℕ) (lo at d z : ℕ) (r : Read) (n e v : ℕ) → r ≡ At n e v → Within s lo at d z r
+pub within-got : (s : List ℕ) (lo at d z : ℕ) (r : Read) (n e v : ℕ) → r ≡ At n e v → WithinRead s lo at d z r
     → (lo ≤ n) × (n ≤ length s) × (e + at ≤ d + n) × (v + 5 * at ≤ z + 5 * n)
-unfolding Within
+unfolding WithinRead
 within-got s lo at d z r n e v p w = rw p at w
 
-pub within-fail : (s : List ℕ) (lo at d z : ℕ) → Within s lo at d z Nothing
-unfolding Within
+pub within-fail : (s : List ℕ) (lo at d z : ℕ) → WithinRead s lo at d z Nothing
+unfolding WithinRead
 within-fail s lo at d z = tt
 
 pub within-here : (s : List ℕ)
     (lo at d z n e v : ℕ) → lo ≤ n → n ≤ length s → e + at ≤ d + n → v + 5 * at ≤ z + 5 * n
-    → Within s lo at d z (At n e v)
-unfolding Within
+    → WithinRead s lo at d z (At n e v)
+unfolding WithinRead
 within-here s lo at d z n e v a b c f = (a, b, c, f)
 
 -- from a later place on
 pub within-up : (s : List ℕ) (lo at d z lo′ at′ d′ z′ : ℕ) (r : Read) → lo′ ≤ lo → d + at′ ≤ d′ + at
-    → z + 5 * at′ ≤ z′ + 5 * at → Within s lo at d z r → Within s lo′ at′ d′ z′ r
-unfolding Within
+    → z + 5 * at′ ≤ z′ + 5 * at → WithinRead s lo at d z r → WithinRead s lo′ at′ d′ z′ r
+unfolding WithinRead
 within-up s lo at d z lo′ at′ d′ z′ Nothing a b c w = tt
 within-up s lo at d z lo′ at′ d′ z′ (At n e v) a b c w =
     let p : lo ≤ n = w .0 in
@@ -94,7 +94,7 @@ two-length o x y z v p q =
 
 module _ (s : List ℕ) (at k b : ℕ) (r : Read) (A : AtomAt s at b r) where
   pub expr-fail : r ≡ Nothing → ExprAt s at k b Nothing
-  unfolding expr andThen Same
+  unfolding expr andThen SameRead
   expr-fail e zero lt = absurd (omega arith)
   expr-fail e (suc f) lt = rw (same-fail s (atom (expr f 0) b (drop at s)) r e (A f lt)) refl
 
@@ -111,13 +111,13 @@ module _ (s : List ℕ) (at k b : ℕ) (r : Read) (A : AtomAt s at b r) where
 
 module _ (s : List ℕ) (at k h b d z : ℕ) (g : Sign) (w : SameSign s (operatorAt (drop at s)) g) where
   pub more-none : g ≡ sign.Nothing → MoreAt s at k h b d z (At at d z)
-  unfolding more step Same
+  unfolding more step SameRead
   more-none e t zero dt zt lt = absurd (omega arith)
   more-none e t (suc f) dt zt lt = rw (sign-none s (operatorAt (drop at s)) g e w) (at, rw (dt, zt) refl, refl)
 
   pub more-stop : (o : Op) (n : ℕ) → g ≡ sign.At o n → (leb k (level o) && leb (leftLevel o) h) ≡ false
       → MoreAt s at k h b d z (At at d z)
-  unfolding more step Same
+  unfolding more step SameRead
   more-stop o n p out t zero dt zt lt = absurd (omega arith)
   more-stop o n p out t (suc f) dt zt lt =
       rw (sign-some s (operatorAt (drop at s)) g o n p w, out) (at, rw (dt, zt) refl, refl)
@@ -149,7 +149,7 @@ module _ (s : List ℕ) (at k h b d z : ℕ) (g : Sign) (w : SameSign s (operato
   lower-to m le f lt = simp length-drop (omega (arith, simp length-drop at lt))
 
   pub more-fail : y ≡ Nothing → MoreAt s at k h b d z Nothing
-  unfolding andThen Same
+  unfolding andThen SameRead
   more-fail ye t zero dt zt lt = absurd (omega arith)
   more-fail ye t (suc f) dt zt lt =
       let i = sign-some s (operatorAt (drop at s)) g o n p w in
@@ -181,7 +181,7 @@ stop-left k l e h le lt = rw (le-leb k l le, lt-leb e h lt) refl
 
 module _ (s : List ℕ) (at b : ℕ) where
   pub atom-end : at ≡ length s → AtomAt s at b Nothing
-  unfolding atom Same
+  unfolding atom SameRead
   atom-end e f lt = rw (e, drop-length) refl
 
   pub atom-bang : at < length s → getD s at 0 ≡ 33 → (r : Read) → InsideAt s (at + 1) b 1 r → AtomAt s at b r
@@ -207,11 +207,11 @@ module _ (s : List ℕ) (at b : ℕ) where
 
 module _ (s : List ℕ) (at b n : ℕ) where
   pub in-end : at ≡ length s → InsideAt s at b n Nothing
-  unfolding inside Same
+  unfolding inside SameRead
   in-end e w f a lt = rw (e, drop-length) refl
 
   pub in-zero : at < length s → b ≡ 0 → InsideAt s at b n Nothing
-  unfolding inside Same
+  unfolding inside SameRead
   in-zero hi e w f a lt = rw (drop-cons s at 0 hi, e) refl
 
 -- the parenthesis is there, b is not 0, and the expression behind it was read
@@ -231,22 +231,22 @@ in-other s at (suc b) hi e w f = rw (drop-cons s at 0 hi, ne-eqb (getD s at 0) 4
 
 module _ (s : List ℕ) (at over d z : ℕ) where
   pub closed-end : at ≡ length s → ClosedAt s at over d z Nothing
-  unfolding close Same
+  unfolding close SameRead
   closed-end q w t a dt zt = rw (q, drop-length) refl
 
   pub closed-yes : at < length s → getD s at 0 ≡ 41 → ClosedAt s at over d z (At (at + 1) (over + d) (over + z))
-  unfolding close Same Adds
+  unfolding close SameRead Adds
   closed-yes lt q w t a dt zt =
       let u = a t in
       rw (drop-cons s at 0 lt, q) (at + 1, rw (u .0, u .1, dt, zt) refl, rw add-one refl)
 
   pub closed-no : at < length s → (getD s at 0 ≡ 41 → ⊥) → ClosedAt s at over d z Nothing
-  unfolding close Same
+  unfolding close SameRead
   closed-no lt q w t a dt zt = rw (drop-cons s at 0 lt, ne-eqb (getD s at 0) 41 q, close) refl
 
 module _ (s : List ℕ) (at b over : ℕ) (hi : at < length s) where
   pub in-wrong : (getD s at 0 ≡ 40 → ⊥) → InsideAt s at b over Nothing
-  unfolding Same
+  unfolding SameRead
   in-wrong e w f a lt = rw (in-other s at b hi e w f) refl
 
   module _ (nz : b ≡ 0 → ⊥) (e : getD s at 0 ≡ 40) (r : Read) (E : ExprAt s (at + 1) 0 (b - 1) r) where
@@ -254,7 +254,7 @@ module _ (s : List ℕ) (at b over : ℕ) (hi : at < length s) where
     lower f lt = simp length-drop (omega (arith, simp length-drop at lt))
 
     pub in-fail : r ≡ Nothing → InsideAt s at b over Nothing
-    unfolding close Same
+    unfolding close SameRead
     in-fail p w f a lt = rw (
       in-rest s at b hi nz e w f,
       same-fail s (expr f 0 (b - 1) (drop (at + 1) s)) r p (E f (lower f lt)),

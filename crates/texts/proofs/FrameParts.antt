@@ -12,7 +12,7 @@ use Rattle.rules.specs.Fields.{Form}
 use Rattle.rules.specs.Frames.{tens, units, border, Row, rowLines, isLine, headLines, ended, frameText, FrameOf, Frame}
 use Rattle.rules.specs.Frames.{cells}
 use Rattle.rules.specs.Spelling.{mismatch}
-use Rattle.texts.specs.LinePlaces.{RowsFor}
+use Rattle.texts.specs.LinePlaces.{LinesFor}
 use Rattle.texts.specs.FrameWalk.{SkippedTo}
 use Rattle.texts.specs.Mismatches.{indexOr, RowsAt, MismatchIs}
 use Rattle.texts.specs.declared.parts.Parts.{Parts}
@@ -77,7 +77,7 @@ module _ (text : List ℕ) (f : Frame) (o : FrameOf text f) where
 
   -- the first mismatch of the frame's cells
   pub mismatch-at : (from : ℕ) (parts : List Parts) (n r : ℕ) (forms : List Form) → SkippedTo text 5 from
-      → MismatchIs text from parts n r → length forms ≡ n → RowsFor text forms parts
+      → MismatchIs text from parts n r → length forms ≡ n → LinesFor text forms parts
       → r ≡ indexOr n (mismatch 0 (cells f) forms)
   unfolding cells
   mismatch-at from parts n r forms s m k p =

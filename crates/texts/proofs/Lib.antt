@@ -15,25 +15,25 @@
 -- FrameExact     the frame of a text: sound, complete, unique, decidable
 -- FrameAhead     the lines of a state begin a frame
 -- FrameRight     how many lines are right: one number for each text
--- Named, NamedFields      trees and fields over names: the same spellings, depth, size and kind
--- NamedRules, NamedKinds   the rules that a description's fields and the forms of its lines keep alike
+-- Named, NamedFields      trees and fields over names: the same spellings, depth, size and type
+-- NamedRules, NamedTypes   the rules that a description's fields and the forms of its lines keep alike
 -- NamedForms               what spells a description has forms that keep 6 to 10 and settle the description
 -- Resolve, ResolveRows     forms that keep 6 to 10 resolve to a description that the text spells
 -- AllowedLines, AllowedTexts   the bytes of a text that spells a description are allowed
 -- Answered, TextResults    no text spells two descriptions; exactly one outcome for each text and output
 -- ExprSigns, ExprLeaves    operators and words at a place of a text, as the code reads them
 -- ExprSteps                expressions at a place of a text
--- PieceBytes, PieceSteps, PieceExprs   expressions in their stored form, as the code makes them
+-- StoredBytes, StoredSteps, StoredExprs   expressions in their stored form, as the code makes them
 -- FieldWords, FieldNames   phrases, units, labels and short names at a place of a text
 -- FieldClauses             constraint and condition at a place of a text
 -- FrameLeaves              bytes, lines, rulers and the opening line, as the code reads them
 -- RowLeaves                cells and long rows, as the code reads them
--- LineKinds                the kinds of a line's expressions, by the pieces that the code makes of them
+-- TreeTypes                the types of a line's expressions, by the stored forms that the code makes
 -- LineSearches             searches over the field lines that the code holds
 -- FirstBreaks              the first line that breaks a rule, by a search over indexes
 -- LineRules                what the code tests of the lines says which rule their forms break
 -- LineClashes              the names that the code holds of the lines are those of their forms
--- LineTypes                the kinds that the code tests are those that rule 9 asks of the forms
+-- LineTypes                the types that the code tests are those that rule 9 asks of the forms
 -- TableIndexes             the table that the code writes is that of the description that the lines give
 -- StageFrames, StageForms  the first stages of reading a text: 1 to 5
 -- StageRules               the stages that follow: 6 to 10
@@ -44,7 +44,7 @@
 -- FieldWidths              widths at a place of a text
 -- FieldEnds                what stands behind the width, at a place of a text
 -- FieldParts               the parts of a whole field line
--- LineRows                 the parts of all field lines of a text
+-- FieldLines                 the parts of all field lines of a text
 -- SplitSteps               the pieces of a text from a place on
 -- RowTally                 the number of cells of a row, as the code counts them
 -- FrameViews               what the code sees of a state, line by line
@@ -80,7 +80,7 @@ pub mod FrameRight
 pub mod Named
 pub mod NamedFields
 pub mod NamedRules
-pub mod NamedKinds
+pub mod NamedTypes
 pub mod NamedForms
 pub mod ResolveRows
 pub mod Resolve
@@ -91,15 +91,15 @@ pub mod TextResults
 pub mod ExprSigns
 pub mod ExprLeaves
 pub mod ExprSteps
-pub mod PieceBytes
-pub mod PieceSteps
-pub mod PieceExprs
+pub mod StoredBytes
+pub mod StoredSteps
+pub mod StoredExprs
 pub mod FieldWords
 pub mod FieldNames
 pub mod FieldClauses
 pub mod FrameLeaves
 pub mod RowLeaves
-pub mod LineKinds
+pub mod TreeTypes
 pub mod LineSearches
 pub mod FirstBreaks
 pub mod LineRules
@@ -116,7 +116,7 @@ pub mod NumberTrees
 pub mod FieldWidths
 pub mod FieldEnds
 pub mod FieldParts
-pub mod LineRows
+pub mod FieldLines
 pub mod SplitSteps
 pub mod RowTally
 pub mod FrameViews

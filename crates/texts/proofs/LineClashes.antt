@@ -1,4 +1,5 @@
 -- The names that the code holds of the lines are those of their forms: repeated ones, and those that may be read.
+use Rattle.rules.specs.Limits.{shortMost}
 use mathlib.Core.Path.{_≡_, refl, sym, _∙_, ap}
 use mathlib.Core.Bool.{Bool, true, false, cond, _&&_, _||_, not, and-false}
 use mathlib.Core.List.{List, [], _∷_, _++_}
@@ -16,9 +17,9 @@ use Rattle.rules.specs.Stored.{storedName}
 use Rattle.rules.specs.Within.{isFormed, keepsNames, clash, sameShort, nameReadable}
 use Rattle.names.specs.Repeats.{firstFrom, repeats, firstRepeat, padTo, sameName}
 use Rattle.names.proofs.PadLaws.{held-same, none-first, none-second}
-use Rattle.texts.specs.LinePlaces.{rowAt, spanIn, ShortIs, LineOf, RowsFor}
+use Rattle.texts.specs.LinePlaces.{lineAt, spanIn, ShortIs, LineOf, LinesFor}
 use Rattle.texts.specs.LineTests.{labelIn, shortIn, heldShort, clashAt}
-use Rattle.texts.specs.Pieces.{isHeld, lookUp, mayRead}
+use Rattle.texts.specs.StoredTrees.{isHeld, lookUp, mayRead}
 use Rattle.texts.specs.declared.parts.Span.{Span}
 use Rattle.texts.specs.declared.parts.Parts.{Parts}
 use Rattle.texts.proofs.LineRules.{line-fixed, element-in}
@@ -62,27 +63,27 @@ pub formed-short : (x : Form) → isFormed x ≡ true → ifAny isShort (x .shor
 formed-short x h = and-left (ifAny isShort (x .short)) _ (and-right (isLabel (x .label)) _ h)
 
 held-alike : (a b : Option (List ℕ)) → ifAny isShort a ≡ true → ifAny isShort b ≡ true
-    → sameName (padTo 8 (storedName a)) (padTo 8 (storedName b)) ≡ sameShort a b
-held-alike none b p q = none-first (padTo 8 (storedName b))
+    → sameName (padTo shortMost (storedName a)) (padTo shortMost (storedName b)) ≡ sameShort a b
+held-alike none b p q = none-first (padTo shortMost (storedName b))
 held-alike (some a) none p q = none-second a p
 held-alike (some a) (some b) p q = held-same a b p q
 
-module _ (text : List ℕ) (forms : List Form) (rows : List Parts) (h : RowsFor text forms rows)
+module _ (text : List ℕ) (forms : List Form) (lines : List Parts) (h : LinesFor text forms lines)
     (formed : (i : ℕ) (x : Form) → getElem? forms i ≡ some x → isFormed x ≡ true) (names : List (List ℕ)) where
   -- ── 8 ──
 
-  module _ (held : (i : ℕ) → i < length forms → getD names i [] ≡ heldShort text false (rowAt rows i)) where
-    held-all : (i : ℕ) (x : Form) → getElem? forms i ≡ some x → getD names i [] ≡ padTo 8 (storedName (x .short))
+  module _ (held : (i : ℕ) → i < length forms → getD names i [] ≡ heldShort text false (lineAt lines i)) where
+    held-all : (i : ℕ) (x : Form) → getElem? forms i ≡ some x → getD names i [] ≡ padTo shortMost (storedName (x .short))
     unfolding heldShort
-    held-all i x e = held i (element-in forms i x e) ∙ rw (line-short text x (rowAt rows i) (h i x e)) refl
+    held-all i x e = held i (element-in forms i x e) ∙ rw (line-short text x (lineAt lines i) (h i x e)) refl
 
     clash-is : (i j : ℕ) (x y : Form) → getElem? forms i ≡ some x → getElem? forms j ≡ some y
-        → clashAt text rows names j i ≡ clash x y
+        → clashAt text lines names j i ≡ clash x y
     unfolding clashAt
     clash-is i j x y e f =
         rw (
-          line-label text x (rowAt rows i) (h i x e),
-          line-label text y (rowAt rows j) (h j y f),
+          line-label text x (lineAt lines i) (h i x e),
+          line-label text y (lineAt lines j) (h j y f),
           held-all i x e,
           held-all j y f,
           held-alike (x .short) (y .short) (formed-short x (formed i x e)) (formed-short y (formed j y f)),
@@ -90,23 +91,23 @@ module _ (text : List ℕ) (forms : List Form) (rows : List Parts) (h : RowsFor 
         refl
 
     pub names-breaks : firstBreak keepsNames [] forms
-        ≡ below (firstRepeat (clashAt text rows names) (length forms)) (length forms)
-    names-breaks = breaks-search keepsNames (repeats (clashAt text rows names)) forms (λ i x e.
+        ≡ below (firstRepeat (clashAt text lines names) (length forms)) (length forms)
+    names-breaks = breaks-search keepsNames (repeats (clashAt text lines names)) forms (λ i x e.
         let lt = element-in forms i x e in
-        ap not (sym (any-search (clash x) (λ k. clashAt text rows names k i) forms i (omega arith)
+        ap not (sym (any-search (clash x) (λ k. clashAt text lines names k i) forms i (omega arith)
         (λ k y lk f. clash-is i k x y e f))))
 
   -- ── names that may be read ──
 
-  module _ (held : (i : ℕ) → i < length forms → getD names i [] ≡ heldShort text true (rowAt rows i)) where
+  module _ (held : (i : ℕ) → i < length forms → getD names i [] ≡ heldShort text true (lineAt lines i)) where
     fixed-name : (x : Form) (w : List ℕ) → ifAny isShort (x .short) ≡ true → isShort w ≡ true
-        → sameName (padTo 8 w) (padTo 8 (cond (not (isFixed x)) [] (storedName (x .short))))
+        → sameName (padTo shortMost w) (padTo shortMost (cond (not (isFixed x)) [] (storedName (x .short))))
         ≡ (isFixed x && any (same w) (readNames x))
     unfolding any
     fixed-name x w p q = go (isFixed x) (x .short) p
       where
         go : (b : Bool) (o : Option (List ℕ)) → ifAny isShort o ≡ true
-            → sameName (padTo 8 w) (padTo 8 (cond (not b) [] (storedName o))) ≡ (b && any (same w) (listOf o))
+            → sameName (padTo shortMost w) (padTo shortMost (cond (not b) [] (storedName o))) ≡ (b && any (same w) (listOf o))
         go false o p = none-second w q
         go true none p = none-second w q
         go true (some v) p = held-same w v q p ∙ or-false (same w v)
@@ -121,8 +122,8 @@ module _ (text : List ℕ) (forms : List Form) (rows : List Parts) (h : RowsFor 
     held-fixed i x w e q =
         rw (
           held i (element-in forms i x e),
-          line-fixed text x (rowAt rows i) (h i x e),
-          line-short text x (rowAt rows i) (h i x e),
+          line-fixed text x (lineAt lines i) (h i x e),
+          line-short text x (lineAt lines i) (h i x e),
         )
         (fixed-name x w (formed-short x (formed i x e)) q)
 

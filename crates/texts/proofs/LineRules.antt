@@ -13,12 +13,12 @@ use Rattle.rules.specs.Trees.{Tree}
 use Rattle.rules.specs.Fields.{Width, fixed, measured, rest, Form, isFixed, isFixedWidth, isRest, isRestWidth}
 use Rattle.rules.specs.Within.{keepsSize, keepsRest}
 use Rattle.names.specs.Repeats.{firstFrom}
-use Rattle.texts.specs.LinePlaces.{rowAt, MaybeIs, WidthIs, LineOf, RowsFor}
+use Rattle.texts.specs.LinePlaces.{lineAt, MaybeIs, WidthIs, LineOf, LinesFor}
 use Rattle.texts.specs.LineTests.{anyRest, breaksAt}
 use Rattle.texts.specs.declared.parts.TreeAt.{TreeAt}
 use Rattle.texts.specs.declared.parts.Parts.{Parts}
 use Rattle.texts.specs.declared.line_rules.Rule.the-variants.{Size, Rest}
-use Rattle.texts.proofs.LineKinds.{stored-some}
+use Rattle.texts.proofs.TreeTypes.{stored-some}
 use Rattle.texts.proofs.FirstBreaks.{below, breaks-search, any-search}
 
 -- ── kinds and conditions, as the code holds them ──
@@ -77,17 +77,17 @@ element-in [] i x e = absurd (let z : _≡_ {A = ℕ} 0 1 = cc in omega arith)
 element-in (y ∷ l) zero x e = omega arith
 element-in (y ∷ l) (suc i) x e = let q = element-in l i x e in omega arith
 
-module _ (text : List ℕ) (forms : List Form) (rows : List Parts) (h : RowsFor text forms rows) where
+module _ (text : List ℕ) (forms : List Form) (lines : List Parts) (h : LinesFor text forms lines) where
   -- ── 6 ──
 
-  pub size-breaks : firstBreak keepsSize [] forms ≡ below (firstFrom (breaksAt Size rows) 0 (length forms)) (length
+  pub size-breaks : firstBreak keepsSize [] forms ≡ below (firstFrom (breaksAt Size lines) 0 (length forms)) (length
       forms)
-  size-breaks = breaks-search keepsSize (breaksAt Size rows) forms (λ i x e.
-      sym (h i x e .parts .small) ∙ sym (not-not (rowAt rows i .small)))
+  size-breaks = breaks-search keepsSize (breaksAt Size lines) forms (λ i x e.
+      sym (h i x e .parts .small) ∙ sym (not-not (lineAt lines i .small)))
 
   -- ── 10 ──
 
-  rest-before : (i : ℕ) → i ≤ length forms → anyRest rows i ≡ any isRest (take i forms)
+  rest-before : (i : ℕ) → i ≤ length forms → anyRest lines i ≡ any isRest (take i forms)
   unfolding anyRest any
   rest-before zero le = refl
   rest-before (suc i) le =
@@ -95,7 +95,7 @@ module _ (text : List ℕ) (forms : List Form) (rows : List Parts) (h : RowsFor 
       rw (
         rest-before i (omega arith),
         any-end isRest forms i (e .0) (e .1),
-        line-rest text (e .0) (rowAt rows i) (h
+        line-rest text (e .0) (lineAt lines i) (h
             i (e .0) (e .1)),
       )
       refl
@@ -105,10 +105,10 @@ module _ (text : List ℕ) (forms : List Form) (rows : List Parts) (h : RowsFor 
   rest-line true false = refl
   rest-line false b = refl
 
-  pub rest-breaks : firstBreak keepsRest [] forms ≡ below (firstFrom (breaksAt Rest rows) 0 (length forms)) (length
+  pub rest-breaks : firstBreak keepsRest [] forms ≡ below (firstFrom (breaksAt Rest lines) 0 (length forms)) (length
       forms)
-  rest-breaks = breaks-search keepsRest (breaksAt Rest rows) forms (λ i x e.
+  rest-breaks = breaks-search keepsRest (breaksAt Rest lines) forms (λ i x e.
       let q = element-in forms i x e in
       let p = h i x e in
-      rw (rest-before i (omega arith), line-fixed text x (rowAt rows i) p, line-bare text x (rowAt rows i) p)
+      rw (rest-before i (omega arith), line-fixed text x (lineAt lines i) p, line-bare text x (lineAt lines i) p)
       (rest-line (any isRest (take i forms)) (isFixed x && isNone (x .condition))))

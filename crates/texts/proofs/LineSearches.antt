@@ -1,4 +1,5 @@
 -- Searches over the field lines that the code holds, and the names that it holds of them.
+use Rattle.rules.specs.Limits.{shortMost}
 use mathlib.Core.Path.{_≡_, refl, sym, _∙_}
 use mathlib.Core.Bool.{Bool, true, false, cond, _&&_, _||_, not}
 use mathlib.Core.List.{List, []}
@@ -12,7 +13,7 @@ use borrow.Author.Tests.{ltb-true, ltb-false}
 use Rattle.base.specs.Lists.{same}
 use Rattle.names.specs.Repeats.{firstFrom, padTo, sameName}
 use Rattle.names.proofs.RepeatLaws.{search-step, search-end}
-use Rattle.texts.specs.LinePlaces.{rowAt}
+use Rattle.texts.specs.LinePlaces.{lineAt}
 use Rattle.texts.specs.LineTests.{anyRest, labelIn, shortIn, heldShort, clashAt}
 use Rattle.texts.specs.declared.parts.Parts.{Parts}
 
@@ -35,20 +36,20 @@ search-none f n i le le′ so = let e : i ≡ n = omega arith in sym (so ∙ rw 
 
 -- ── rest fields ──
 
-pub rest-next : (rows : List Parts) (i : ℕ) (x y : Bool) → x ≡ anyRest rows i
-    → y ≡ (x || eqb (rowAt rows i .kind) 4) → y ≡ anyRest rows (i + 1)
+pub rest-next : (lines : List Parts) (i : ℕ) (x y : Bool) → x ≡ anyRest lines i
+    → y ≡ (x || eqb (lineAt lines i .kind) 4) → y ≡ anyRest lines (i + 1)
 unfolding anyRest
-rest-next rows i x y h k = rw (add-one i, ← h) k
+rest-next lines i x y h k = rw (add-one i, ← h) k
 
 -- ── names ──
 
 module _ (text : List ℕ) (fixed : Bool) (p : Parts) where
-  pub held-none : (fixed && not (eqb (p .kind) 2)) ≡ true → padTo 8 [] ≡ heldShort text fixed p
+  pub held-none : (fixed && not (eqb (p .kind) 2)) ≡ true → padTo shortMost [] ≡ heldShort text fixed p
   unfolding heldShort
   held-none h = rw h refl
 
   pub held-some : (a : ℕ) → a ≡ p .line .at + p .short .at → (fixed && not (eqb (p .kind) 2)) ≡ false
-      → padTo 8 (take (a + p .short .len - a) (drop a text)) ≡ heldShort text fixed p
+      → padTo shortMost (take (a + p .short .len - a) (drop a text)) ≡ heldShort text fixed p
   unfolding heldShort
   held-some a e h = rw (h, part-text text a (p .short .len), e) refl
 

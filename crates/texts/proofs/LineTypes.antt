@@ -1,4 +1,4 @@
--- The kinds that the code tests are those that rule 9 asks of the forms; and the index that it finds for a name.
+-- The types that the code tests are those that rule 9 asks of the forms; and the index that it finds for a name.
 use mathlib.Core.Path.{_≡_, refl, sym, _∙_, ap}
 use mathlib.Core.Bool.{Bool, true, false, _&&_, _||_, not}
 use mathlib.Core.List.{List, [], _∷_, _++_}
@@ -19,11 +19,11 @@ use Rattle.rules.specs.Within.{keepsTypes, widthHasType, nameReadable, isFormed
 use Rattle.rules.specs.Expressions.{SpellsAt, number, field, two-sided, negated, parentheses}
 use Rattle.rules.specs.Lines.{SpellsWidth, SpellsMaybe, SpellsField, Written}
 use Rattle.names.specs.Repeats.{firstFrom}
-use Rattle.texts.specs.LinePlaces.{rowAt, RowsFor}
-use Rattle.texts.specs.LineTests.{heldShort, kindsKept}
-use Rattle.texts.specs.Pieces.{mayRead}
+use Rattle.texts.specs.LinePlaces.{lineAt, LinesFor}
+use Rattle.texts.specs.LineTests.{heldShort, typesKept}
+use Rattle.texts.specs.StoredTrees.{mayRead}
 use Rattle.texts.specs.declared.parts.Parts.{Parts}
-use Rattle.texts.proofs.LineKinds.{isWrong}
+use Rattle.texts.proofs.TreeTypes.{isWrong}
 use Rattle.texts.proofs.LineRules.{element-in}
 use Rattle.texts.proofs.LineClashes.{may-read}
 use Rattle.texts.proofs.FirstBreaks.{below, breaks-search}
@@ -104,16 +104,16 @@ take-end (y ∷ l) (suc i) x e = ap (λ m. y ∷ m) (take-end l i x e)
 
 -- ── 9 ──
 
-module _ (text : List ℕ) (forms : List Form) (rows : List Parts) (h : RowsFor text forms rows)
+module _ (text : List ℕ) (forms : List Form) (lines : List Parts) (h : LinesFor text forms lines)
     (formed : (i : ℕ) (x : Form) → getElem? forms i ≡ some x → isFormed x ≡ true) (names : List (List ℕ))
-    (held : (i : ℕ) → i < length forms → getD names i [] ≡ heldShort text true (rowAt rows i))
+    (held : (i : ℕ) → i < length forms → getD names i [] ≡ heldShort text true (lineAt lines i))
     (short : (i : ℕ) (x : Form) → getElem? forms i ≡ some x → ShortNames x) where
   may : (k : ℕ) → k ≤ length forms → (w : List ℕ) → isShort w ≡ true → nameReadable (take k forms) w ≡ mayRead names k w
-  may k le w q = sym (may-read text forms rows h formed names held k w le q)
+  may k le w q = sym (may-read text forms lines h formed names held k w le q)
 
-  pub line-kinds : (i : ℕ) (x : Form) → getElem? forms i ≡ some x
-      → keepsTypes nameReadable (take i forms) x ≡ kindsKept names i x
-  line-kinds i x e =
+  pub line-types : (i : ℕ) (x : Form) → getElem? forms i ≡ some x
+      → keepsTypes nameReadable (take i forms) x ≡ typesKept names i x
+  line-types i x e =
       let lt = element-in forms i x e in
       let s = short i x e in
       let own : (w : List ℕ) → isShort w ≡ true
@@ -133,7 +133,7 @@ module _ (text : List ℕ) (forms : List Form) (rows : List Parts) (h : RowsFor 
       → firstBreak (keepsTypes nameReadable) [] forms
       ≡ below (firstFrom (isWrong names f) 0 (length forms)) (length forms)
   types-breaks f is = breaks-search (keepsTypes nameReadable) (isWrong names f) forms (λ i x e.
-      line-kinds i x e ∙ sym (twice (kindsKept names i x)) ∙ ap (λ (y : Form). not (not (kindsKept names i y)))
+      line-types i x e ∙ sym (twice (typesKept names i x)) ∙ ap (λ (y : Form). not (not (typesKept names i y)))
       (sym (is i x e)))
     where
       twice : (b : Bool) → not (not b) ≡ b

@@ -20,7 +20,7 @@ use Rattle.rules.specs.Frames.{shownIn}
 use Rattle.rules.specs.Spelling.{shows, mismatch}
 use Rattle.texts.specs.FrameReader.{pieces, rest, leftTrim, rightTrim, cellOf}
 use Rattle.texts.specs.FramePlaces.{upTo}
-use Rattle.texts.specs.LinePlaces.{RowsFor, rowAt}
+use Rattle.texts.specs.LinePlaces.{LinesFor, lineAt}
 use Rattle.texts.specs.Mismatches.{shownOf, ShowsIs, endIndex, indexOr, RowsAt, MismatchIs}
 use Rattle.texts.specs.declared.parts.Parts.{Parts}
 use Rattle.texts.proofs.RowReader.{rowLine, rowLines-one, row-line}
@@ -215,8 +215,8 @@ module _ (text line : List ℕ) (at a i w : ℕ) (m : Option ℕ) (ms : List (Li
           let d : m ≡ some i = decided ∙ rw (no-form forms i (omega (arith, k, ge))) refl in
           ap (indexOr n) (sym d)
 
-      module _ (n : ℕ) (k : length forms ≡ n) (below : i < n) (parts : List Parts) (f : RowsFor text forms parts) where
-        one : (y : Bool) → ShowsIs chars long text (rowAt parts i) y
+      module _ (n : ℕ) (k : length forms ≡ n) (below : i < n) (parts : List Parts) (f : LinesFor text forms parts) where
+        one : (y : Bool) → ShowsIs chars long text (lineAt parts i) y
             → m ≡ cond y (mismatch (suc i) (cellsIn line (b + 1) ++ joined shownIn (x .rows)) (drop (suc i) forms))
             (some i)
         unfolding mismatch
@@ -225,10 +225,10 @@ module _ (text line : List ℕ) (at a i w : ℕ) (m : Option ℕ) (ms : List (Li
             let z : y ≡ shows (shownOf long chars) (o .0) = s (o .0) (f i (o .0) (o .1)) labelled in
             decided ∙ rw (o .2, z) refl
 
-        cells-differ : ShowsIs chars long text (rowAt parts i) false → i ≡ indexOr n m
+        cells-differ : ShowsIs chars long text (lineAt parts i) false → i ≡ indexOr n m
         cells-differ s = ap (indexOr n) (sym (one false s))
 
-        cells-agree : ShowsIs chars long text (rowAt parts i) true → CellsLeft text line at (b + 1) (i + 1) w m ms forms
+        cells-agree : ShowsIs chars long text (lineAt parts i) true → CellsLeft text line at (b + 1) (i + 1) w m ms forms
         unfolding all
         cells-agree s = record {
           row = x .row;
@@ -278,12 +278,12 @@ module _ (text line : List ℕ) (at a i w : ℕ) (m : Option ℕ) (ms : List (Li
 
 abbrev pub AllRows : List ℕ → ℕ → List Parts → ℕ → ℕ → ℕ → Type 0
 AllRows text from parts n at i = (w : ℕ) (rs : List Row) (ms : List (List ℕ)) (forms : List Form)
-    → RowsAt text from w rs ms → length forms ≡ n → RowsFor text forms parts
+    → RowsAt text from w rs ms → length forms ≡ n → LinesFor text forms parts
     → RowsLeft text at i w (mismatch 0 (joined shownIn rs) forms) ms forms
 
 abbrev pub AllCells : List ℕ → ℕ → List Parts → ℕ → List ℕ → ℕ → ℕ → ℕ → Type 0
 AllCells text from parts n line at a i = (w : ℕ) (rs : List Row) (ms : List (List ℕ)) (forms : List Form)
-    → RowsAt text from w rs ms → length forms ≡ n → RowsFor text forms parts
+    → RowsAt text from w rs ms → length forms ≡ n → LinesFor text forms parts
     → CellsLeft text line at a i w (mismatch 0 (joined shownIn rs) forms) ms forms
 
 module _ (text : List ℕ) (from : ℕ) (parts : List Parts) (n : ℕ) where
@@ -309,19 +309,19 @@ module _ (text : List ℕ) (from : ℕ) (parts : List Parts) (n : ℕ) where
             le n k ge
 
         pub all-differ : i < n → (y : Bool) → ShowsIs (take (b - a) (drop a line)) (eqb (getD line 0 0) 58) text
-            (rowAt parts i) y → y ≡ false → MismatchIs text from parts n i
+            (lineAt parts i) y → y ≡ false → MismatchIs text from parts n i
         all-differ below y s z w rs ms forms g k f =
             cells-differ text line at a i w (mismatch 0 (joined shownIn rs) forms) ms forms (p w rs ms forms g k f) b h
             lt le n k below parts f
-            (subst (λ (v : Bool). ShowsIs (take (b - a) (drop a line)) (eqb (getD line 0 0) 58) text (rowAt parts i)
+            (subst (λ (v : Bool). ShowsIs (take (b - a) (drop a line)) (eqb (getD line 0 0) 58) text (lineAt parts i)
             v) z s)
 
         pub all-agree : i < n → (y : Bool) → ShowsIs (take (b - a) (drop a line)) (eqb (getD line 0 0) 58) text
-            (rowAt parts i) y → y ≡ true → AllCells text from parts n line at (b + 1) (i + 1)
+            (lineAt parts i) y → y ≡ true → AllCells text from parts n line at (b + 1) (i + 1)
         all-agree below y s z w rs ms forms g k f =
             cells-agree text line at a i w (mismatch 0 (joined shownIn rs) forms) ms forms (p w rs ms forms g k f) b h
             lt le n k below parts f
-            (subst (λ (v : Bool). ShowsIs (take (b - a) (drop a line)) (eqb (getD line 0 0) 58) text (rowAt parts i)
+            (subst (λ (v : Bool). ShowsIs (take (b - a) (drop a line)) (eqb (getD line 0 0) 58) text (lineAt parts i)
             v) z s)
 
     module _ (ge : length line ≤ a) (s : ℕ)

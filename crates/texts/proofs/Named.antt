@@ -1,4 +1,4 @@
--- Trees over names and trees over what the names stand for: the same spellings, and the same depth, size and kind.
+-- Trees over names and trees over what the names stand for: the same spellings, and the same depth, size and type.
 use mathlib.Core.Path.{_≡_, refl, ap, ap₂, subst}
 use mathlib.Core.Bool.{Bool, true, _&&_}
 use mathlib.Core.Logic.{_↔_}
@@ -103,7 +103,7 @@ module _ {N : Type 0} {R : N → List ℕ → Type 0} where
   pub named-of-number : {n : ℕ} {u : Tree (List ℕ)} → Named R (num n) u → num n ≡ u
   named-of-number named-number = refl
 
-  -- the kinds agree where what may be read does
+  -- the types agree where what may be read does
   pub named-type : (may : N → Bool) (say : List ℕ → Bool) → ((a : N) (w : List ℕ) → R a w → may a ≡ say w)
       → (k : ValueType) {t : Tree N} {u : Tree (List ℕ)} → Named R t u → hasType may k t ≡ hasType say k u
   unfolding hasType

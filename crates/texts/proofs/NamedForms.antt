@@ -28,7 +28,7 @@ use Rattle.texts.proofs.NamedRules.{
   same-mismatch,
   each-mismatch,
 }
-use Rattle.texts.proofs.NamedKinds.{Kept, kept-rules, same-kinds}
+use Rattle.texts.proofs.NamedTypes.{Kept, kept-rules, same-types}
 use Rattle.texts.proofs.FormedLines.{formed-lines}
 
 -- ── forms there are ──
@@ -54,7 +54,7 @@ named-kept f d w shown forms h =
       size = sym (same-sizes R (d .fields) forms h) ∙ w .size;
       shown = sym (same-mismatch R 0 (cells f) (d .fields) forms h) ∙ each-mismatch 0 (cells f) (d .fields) shown;
       names = sym (same-unique R (d .fields) forms h) ∙ w .names;
-      kinds = sym (same-kinds (d .fields) forms (w .names) h) ∙ w .types;
+      types = sym (same-types (d .fields) forms (w .names) h) ∙ w .types;
       rests = sym (same-rests R (d .fields) forms h) ∙ w .rests;
     }
 

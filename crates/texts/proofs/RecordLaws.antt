@@ -16,12 +16,12 @@ use Rattle.rules.specs.Stored.{storedFieldIn, counted, storedWidth, storedName,
 use Rattle.texts.specs.LineReader.{hit, readTree}
 use Rattle.texts.specs.Resolving.{renameTree, renameWidth}
 use Rattle.texts.specs.LinePlaces.{MaybeIs, WidthIs, ShortIs, PartsAre}
-use Rattle.texts.specs.Pieces.{lookUp, PieceFor}
+use Rattle.texts.specs.StoredTrees.{lookUp, StoredFor}
 use Rattle.texts.specs.Records.{widthSize, fieldSize, indexed}
 use Rattle.texts.specs.declared.parts.TreeAt.{TreeAt}
 use Rattle.texts.specs.declared.parts.Parts.{Parts}
-use Rattle.texts.specs.declared.pieces.Piece.{Piece}
-use Rattle.texts.proofs.LineKinds.{stored-some, partOf, part-span}
+use Rattle.texts.specs.declared.stored_trees.StoredTree.{StoredTree}
+use Rattle.texts.proofs.TreeTypes.{stored-some, partOf, part-span}
 use Rattle.texts.proofs.RecordSizes.{
   stored-renamed,
   stored-length,
@@ -68,14 +68,14 @@ module _ {a b : List ℕ} {at next : ℕ} where
   tree-none s p g e w (some t) h = absurd (omega (arith, e, h .size, stored-some (λ a. 0) t))
 
   pub tree-some : (s : List ℕ) (p : TreeAt) (names : List (List ℕ)) (n : ℕ) → (p .size ≡ 0 → ⊥)
-      → p .size ≤ storedMost → (r : Piece) → PieceFor names n (readTree (drop (p .at) s)) r
+      → p .size ≤ storedMost → (r : StoredTree) → StoredFor names n (readTree (drop (p .at) s)) r
       → Writes a at (counted (take (p .size - 0) (r .bytes))) b next
       → (o : Option (Tree (List ℕ))) → MaybeIs s o p
       → Writes a at (counted (storedMaybe (Option·map (renameTree (lookUp names n)) o))) b next
-  unfolding PieceFor
+  unfolding StoredFor
   tree-some s p names n e le r q w none h = absurd (e h)
   tree-some s p names n e le r q w (some t) h =
-      let u : PieceFor names n (hit t (h .behind)) r = rw (h .isRead) at q in
+      let u : StoredFor names n (hit t (h .behind)) r = rw (h .isRead) at q in
       let m : p .size - 0 ≡ r .len = omega (arith, h .size, u .len) in
       let k : take (p .size - 0) (r .bytes) ≡ storedTree (lookUp names n) t =
       rw m (u .bytes (omega (arith, h .size, le))) in
@@ -95,12 +95,12 @@ module _ {a b : List ℕ} {at next : ℕ} where
 
 -- the bytes of a piece are as many as the expression's size
 pub piece-room : (s : List ℕ) (p : TreeAt) (names : List (List ℕ)) (n : ℕ) → (p .size ≡ 0 → ⊥) → p .size ≤ storedMost
-    → (r : Piece) → PieceFor names n (readTree (drop (p .at) s)) r
+    → (r : StoredTree) → StoredFor names n (readTree (drop (p .at) s)) r
     → (o : Option (Tree (List ℕ))) → MaybeIs s o p → p .size ≤ length (r .bytes)
-unfolding PieceFor
+unfolding StoredFor
 piece-room s p names n e le r q none h = absurd (e h)
 piece-room s p names n e le r q (some t) h =
-    let u : PieceFor names n (hit t (h .behind)) r = rw (h .isRead) at q in
+    let u : StoredFor names n (hit t (h .behind)) r = rw (h .isRead) at q in
     let k : take (r .len) (r .bytes) ≡ storedTree (lookUp names n) t = u .bytes (omega (arith, h .size, le)) in
     let l : length (take (r .len) (r .bytes)) ≡ storedLength t = rw k (stored-length (lookUp names n) t) in
     omega (arith, l, length-take (r .len) (r .bytes), u .len, h .size)

@@ -28,10 +28,10 @@ use Rattle.rules.specs.Stored.{
 use Rattle.texts.specs.Resolving.{renameTree, renameWidth}
 use Rattle.texts.specs.LinePlaces.{MaybeIs, WidthIs, ShortIs, PartsAre, spanIn}
 use Rattle.texts.specs.Records.{widthSize, fieldSize, indexed, Sized, LineSmall}
-use Rattle.texts.specs.Pieces.{lookUp}
+use Rattle.texts.specs.StoredTrees.{lookUp}
 use Rattle.texts.specs.declared.parts.TreeAt.{TreeAt}
 use Rattle.texts.specs.declared.parts.Parts.{Parts}
-use Rattle.texts.proofs.LineKinds.{part-span, part-length}
+use Rattle.texts.proofs.TreeTypes.{part-span, part-length}
 
 -- ── trees ──
 
@@ -162,11 +162,11 @@ pub size-sum : (p : Parts)
 unfolding fieldSize
 size-sum p = refl
 
-width-bound : (p : Parts) → p .width .size ≤ storedMost → widthSize p ≤ 124
+width-bound : (p : Parts) → p .width .size ≤ storedMost → widthSize p ≤ 4 + storedMost
 unfolding widthSize
 width-bound p le = go (eqb (p .kind) 2) (eqb (p .kind) 3)
   where
-    go : (a b : Bool) → cond a 2 (cond b (4 + p .width .size) 0) ≤ 124
+    go : (a b : Bool) → cond a 2 (cond b (4 + p .width .size) 0) ≤ 4 + storedMost
     go true b = omega arith
     go false true = omega (arith, le)
     go false false = omega arith

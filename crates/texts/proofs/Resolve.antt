@@ -37,7 +37,7 @@ use Rattle.texts.proofs.NamedFields.{
   named-field-spelled,
 }
 use Rattle.texts.proofs.NamedRules.{same-sizes, same-unique, same-rests, same-mismatch, mismatch-each}
-use Rattle.texts.proofs.NamedKinds.{any-element, Kept, rules-kept, same-kinds}
+use Rattle.texts.proofs.NamedTypes.{any-element, Kept, rules-kept, same-types}
 use Rattle.texts.proofs.ResolveRows.{rows-fit}
 use Rattle.texts.proofs.FormedLines.{bare-lines}
 
@@ -142,7 +142,7 @@ frame-parts text f h = parts (isLabel (f .name)) (isRowWidth (f .rowWidth)) (not
 module _ (text : List ℕ) (f : Frame) (forms : List Form) (frame : FrameOf text f) (few : isOverfull f ≡ false)
     (spelled : Each (SpellsField Written) forms (f .lines)) (kept : Kept f forms) where
   named : Each (NamedField (NameOf (resolve forms))) (resolve forms) forms
-  named = resolved-named forms (kept .kinds)
+  named = resolved-named forms (kept .types)
 
   shown : Each (λ c x. shows c x ≡ true) (cells f) (resolve forms)
   shown = mismatch-each 0 (cells f) (resolve forms)
@@ -171,7 +171,7 @@ module _ (text : List ℕ) (f : Frame) (forms : List Form) (frame : FrameOf text
             (λ b i x e. each-left (SpellsField R) (resolve forms) (f .lines) lines i x e .2 .formed);
         size = same-sizes R (resolve forms) forms named ∙ kept .size;
         names = unique;
-        types = same-kinds (resolve forms) forms unique named ∙ kept .kinds;
+        types = same-types (resolve forms) forms unique named ∙ kept .types;
         rests = same-rests R (resolve forms) forms named ∙ kept .rests;
         rows = rows-fit (f .rowWidth) (f .rows) (framed .2) 0 (resolve forms) (zero-mod (f .rowWidth)) shown;
       }

@@ -21,7 +21,7 @@ use Rattle.rules.specs.Refusals.{Formless, FirstFormless, form}
 use Rattle.rules.specs.Promises.{ReadsText, refuses, leaves}
 use Rattle.names.specs.Repeats.{firstFrom}
 use Rattle.texts.specs.LineReader.{readForm}
-use Rattle.texts.specs.LinePlaces.{rowAt, spanIn, WidthIs, PartsAre, PartsFor, RowIs, RowsAre, RowsFor}
+use Rattle.texts.specs.LinePlaces.{lineAt, spanIn, WidthIs, PartsAre, PartsFor, LineIs, LinesAre, LinesFor}
 use Rattle.texts.specs.LineTests.{breaksAt}
 use Rattle.texts.specs.Stages.{LinesSeen, FormsSeen}
 use Rattle.texts.specs.declared.parts.TreeAt.{TreeAt}
@@ -41,7 +41,7 @@ some-kind s (fixed n) k b p h = rw (h .0) refl
 some-kind s (measured u t) k b p h = rw (h .0) refl
 some-kind s rest k b p h = rw (h .0) refl
 
-module _ (text l : List ℕ) (p : Parts) (h : RowIs text l p) where
+module _ (text l : List ℕ) (p : Parts) (h : LineIs text l p) where
   no-form : (o : Option Form) → PartsFor l o p → eqb (p .kind) 0 ≡ true → o ≡ none
   no-form none q e = refl
   no-form (some x) q e =
@@ -81,16 +81,16 @@ forms-of (l ∷ lines) f =
       spelled = (form-sound l (here .0) (here .1), more .spelled);
     }
 
-module _ (text out : List ℕ) (w top n : ℕ) (rows : List Parts) (f : Frame) (s : LinesSeen text w top n rows f) where
-  row : (i : ℕ) → i < n → RowIs text (getD (f .lines) i []) (rowAt rows i)
-  row i lt = s .parts i (omega (arith, s .lines))
+module _ (text out : List ℕ) (w top n : ℕ) (lines : List Parts) (f : Frame) (s : LinesSeen text w top n lines f) where
+  row : (i : ℕ) → i < n → LineIs text (getD (f .lines) i []) (lineAt lines i)
+  row i lt = s .parts i (omega (arith, s .count))
 
   -- counts, so that places can be reckoned
   pub lines-few : n ≤ fieldsMost
   lines-few =
       omega (
         arith,
-        s .lines,
+        s .count,
         ltb-false fieldsMost (length (f .lines)) (or-false-right (ltb fieldsMost (length (cells f)))
             (ltb fieldsMost (length (f .lines))) (s .framed .few)),
       )
@@ -101,30 +101,30 @@ module _ (text out : List ℕ) (w top n : ℕ) (rows : List Parts) (f : Frame) (
 
   -- ── 5 ──
 
-  pub answers-5 : (i : ℕ) → i ≡ firstFrom (breaksAt HasForm rows) 0 n → i < n
+  pub answers-5 : (i : ℕ) → i ≡ firstFrom (breaksAt HasForm lines) 0 n → i < n
       → ReadsText text out (leaves (ofText (TextAnswer.BadForm (top + 1 + i))) out)
   unfolding ofText
   answers-5 i e lt =
-      let hit : breaksAt HasForm rows i ≡ true =
-      rw (← e) at (search-hit (breaksAt HasForm rows) 0 n (omega (arith, e))) in
+      let hit : breaksAt HasForm lines i ≡ true =
+      rw (← e) at (search-hit (breaksAt HasForm lines) 0 n (omega (arith, e))) in
       let q : top + 1 + i ≡ lineNumber f i = omega (arith, s .head) in
       rw q (refuses (form {i = i} (s .framed) (record {
-        there = omega (arith, s .lines);
-        formless = line-formless text (getD (f .lines) i []) (rowAt rows i) (row i lt) hit;
+        there = omega (arith, s .count);
+        formless = line-formless text (getD (f .lines) i []) (lineAt lines i) (row i lt) hit;
         earlier = λ j lj z.
-            let x = line-formed text (getD (f .lines) j []) (rowAt rows j) (row j (omega arith))
-            (search-earlier (breaksAt HasForm rows) 0 n j (omega arith) (omega (arith, e))) in
+            let x = line-formed text (getD (f .lines) j []) (lineAt lines j) (row j (omega arith))
+            (search-earlier (breaksAt HasForm lines) 0 n j (omega arith) (omega (arith, e))) in
             z (x .0) (form-sound (getD (f .lines) j []) (x .0) (x .1));
       })))
 
   -- ── every line has a form ──
 
-  pub forms-seen : (r : ℕ) → r ≡ firstFrom (breaksAt HasForm rows) 0 n → n ≤ r → FormsSeen text w top n rows
+  pub forms-seen : (r : ℕ) → r ≡ firstFrom (breaksAt HasForm lines) 0 n → n ≤ r → FormsSeen text w top n lines
   forms-seen r q le = go (forms-of (f .lines) (λ i lt.
-      line-formed text (getD (f .lines) i []) (rowAt rows i) (s .parts i lt)
-      (search-earlier (breaksAt HasForm rows) 0 n i (omega arith) (omega (arith, q, s .lines)))))
+      line-formed text (getD (f .lines) i []) (lineAt lines i) (s .parts i lt)
+      (search-earlier (breaksAt HasForm lines) 0 n i (omega arith) (omega (arith, q, s .count)))))
     where
-      go : FormsOf (f .lines) → FormsSeen text w top n rows
+      go : FormsOf (f .lines) → FormsSeen text w top n lines
       go z = record {
         frame = f;
         forms = z .forms;

@@ -36,7 +36,7 @@ use Rattle.names.proofs.RepeatLaws.{search-most}
 use Rattle.texts.specs.LineReader.{readForm}
 use Rattle.texts.specs.FrameReader.{linesOf, readFrame, rightLines, begun}
 use Rattle.texts.specs.FrameWalk.{SkippedTo, WalkedAs}
-use Rattle.texts.specs.LinePlaces.{rowAt, spanIn, TreeIs, WidthIs, PartsFor, RowIs, RowsAre, RowsFor}
+use Rattle.texts.specs.LinePlaces.{lineAt, spanIn, TreeIs, WidthIs, PartsFor, LineIs, LinesAre, LinesFor}
 use Rattle.texts.specs.LineTests.{breaksAt}
 use Rattle.texts.specs.Stages.{FrameSeen, LinesSeen, FormsSeen}
 use Rattle.texts.specs.declared.parts.TreeAt.{TreeAt}
@@ -177,7 +177,7 @@ module _ (text : List ℕ) (w rows k n : ℕ) (f : Frame) (s : FrameSeen text w 
       ∙ lines-joined (f .lines) (frame-kept f (s .isFrameOf .isFramed) .lines)
 
   pub lines-seen : isOverfull f ≡ false → (from : ℕ) → SkippedTo text (8 + 2 * rows) from → (parts : List Parts)
-      → (length (linesOf (drop from text)) ≡ n → RowsAre text (linesOf (drop from text)) parts)
+      → (length (linesOf (drop from text)) ≡ n → LinesAre text (linesOf (drop from text)) parts)
       → LinesSeen text w (8 + 2 * rows) n parts f
   lines-seen few from h parts r =
       let e = field-lines from h in
@@ -185,6 +185,6 @@ module _ (text : List ℕ) (w rows k n : ℕ) (f : Frame) (s : FrameSeen text w 
         framed = record { plain = s .plain; isFrameOf = s .isFrameOf; few = few };
         width = s .width;
         head = rw (s .rows) (sym (head-count f));
-        lines = s .lines;
+        count = s .lines;
         parts = rw e at (r (ap length e ∙ sym (s .lines)));
       }

@@ -23,7 +23,7 @@ use Rattle.rules.specs.Refusals.{ruleBroken, rule}
 use Rattle.rules.specs.Promises.{ReadsText, refuses, leaves}
 use Rattle.names.specs.Repeats.{firstFrom, firstRepeat}
 use Rattle.texts.specs.FrameWalk.{SkippedTo}
-use Rattle.texts.specs.LinePlaces.{rowAt, spanIn, Fits, LineOf, RowsFor, RowsFit}
+use Rattle.texts.specs.LinePlaces.{lineAt, spanIn, Fits, LineOf, LinesFor, LinesFit}
 use Rattle.texts.specs.LineTests.{breaksAt, heldShort, clashAt, FirstWrong}
 use Rattle.texts.specs.Mismatches.{indexOr, MismatchIs}
 use Rattle.texts.specs.Stages.{FormsSeen, SizesKept, NamesKept, AllKept}
@@ -99,9 +99,9 @@ module _ (f : Frame) (forms : List Form) (i : ℕ) where
 
 -- ── what the forms are ──
 
-module _ (text : List ℕ) (w top n : ℕ) (rows : List Parts) (k : FormsSeen text w top n rows) where
+module _ (text : List ℕ) (w top n : ℕ) (lines : List Parts) (k : FormsSeen text w top n lines) where
   pub form-count : length (k .forms) ≡ n
-  form-count = each-length (SpellsField Written) (k .forms) (k .frame .lines) (k .spelled) ∙ sym (k .seen .lines)
+  form-count = each-length (SpellsField Written) (k .forms) (k .frame .lines) (k .spelled) ∙ sym (k .seen .count)
 
   form-spelled : (i : ℕ) (x : Form) → getElem? (k .forms) i ≡ some x → (l : List ℕ) × SpellsField Written x l
   form-spelled i x e =
@@ -113,14 +113,14 @@ module _ (text : List ℕ) (w top n : ℕ) (rows : List Parts) (k : FormsSeen te
   pub forms-short : (i : ℕ) (x : Form) → getElem? (k .forms) i ≡ some x → ShortNames x
   forms-short i x e = let s = form-spelled i x e in spelled-short x (s .0) (s .1)
 
-  pub line-at : (i : ℕ) → i < n → (x : Form) × (getElem? (k .forms) i ≡ some x) × LineOf text x (rowAt rows i)
+  pub line-at : (i : ℕ) → i < n → (x : Form) × (getElem? (k .forms) i ≡ some x) × LineOf text x (lineAt lines i)
   line-at i lt =
       let x = element-at (k .forms) i (omega (arith, form-count)) in (x .0, x .1, k .parts i (x .0) (x .1))
 
-  pub rows-fit : RowsFit (length text) rows n
+  pub rows-fit : LinesFit (length text) lines n
   rows-fit i lt =
       let x = line-at i lt in
-      let q = line-length text (rowAt rows i) (x .2 .within) in
+      let q = line-length text (lineAt lines i) (x .2 .within) in
       (x .2 .within, rw q at (x .2 .parts .fits))
 
   -- counts, so that places can be reckoned
@@ -131,7 +131,7 @@ module _ (text : List ℕ) (w top n : ℕ) (rows : List Parts) (k : FormsSeen te
       few h =
           omega (
             arith,
-            k .seen .lines,
+            k .seen .count,
             ltb-false fieldsMost (length (k .frame .lines)) (or-false-right (ltb fieldsMost (length (cells (k .frame))))
                 (ltb fieldsMost (length (k .frame .lines))) h),
           )
@@ -156,66 +156,66 @@ module _ (text : List ℕ) (w top n : ℕ) (rows : List Parts) (k : FormsSeen te
 
     -- ── 6 ──
 
-    size-is : firstBreak keepsSize [] (k .forms) ≡ below (firstFrom (breaksAt Size rows) 0 n) n
-    size-is = rw form-count at (size-breaks text (k .forms) rows (k .parts))
+    size-is : firstBreak keepsSize [] (k .forms) ≡ below (firstFrom (breaksAt Size lines) 0 n) n
+    size-is = rw form-count at (size-breaks text (k .forms) lines (k .parts))
 
-    pub answers-6 : (i : ℕ) → i ≡ firstFrom (breaksAt Size rows) 0 n → i < n
+    pub answers-6 : (i : ℕ) → i ≡ firstFrom (breaksAt Size lines) 0 n → i < n
         → ReadsText text out (leaves (ofText (TextAnswer.OverLimit (top + 1 + i))) out)
     unfolding ofText
     answers-6 i e lt =
         by-rule 6 i (TextAnswer.OverLimit (top + 1 + i)) refl
         (broken-6 (k .frame) (k .forms) i (below-some i n _ (rw (← e) at size-is) lt))
 
-    pub sizes-kept : (i : ℕ) → i ≡ firstFrom (breaksAt Size rows) 0 n → n ≤ i → SizesKept text w top n rows
+    pub sizes-kept : (i : ℕ) → i ≡ firstFrom (breaksAt Size lines) 0 n → n ≤ i → SizesKept text w top n lines
     sizes-kept i e le = record { known = k; size = below-none i n _ (rw (← e) at size-is) le }
 
 -- ── 7 and 8 ──
 
-module _ (text : List ℕ) (w top n : ℕ) (rows : List Parts) (s : SizesKept text w top n rows) (out : List ℕ) where
-  k : FormsSeen text w top n rows
+module _ (text : List ℕ) (w top n : ℕ) (lines : List Parts) (s : SizesKept text w top n lines) (out : List ℕ) where
+  k : FormsSeen text w top n lines
   k = s .known
 
-  shown-is : (from r : ℕ) → SkippedTo text 5 from → MismatchIs text from rows n r
+  shown-is : (from r : ℕ) → SkippedTo text 5 from → MismatchIs text from lines n r
       → r ≡ indexOr n (mismatch 0 (cells (k .frame)) (k .forms))
   unfolding k
   shown-is from r h m =
-      mismatch-at text (k .frame) (k .seen .framed .isFrameOf) from rows n r (k .forms) h m
-      (form-count text w top n rows k) (k .parts)
+      mismatch-at text (k .frame) (k .seen .framed .isFrameOf) from lines n r (k .forms) h m
+      (form-count text w top n lines k) (k .parts)
 
-  pub answers-7 : (from r : ℕ) → SkippedTo text 5 from → MismatchIs text from rows n r → r ≤ n
+  pub answers-7 : (from r : ℕ) → SkippedTo text 5 from → MismatchIs text from lines n r → r ≤ n
       → ReadsText text out (leaves (ofText (TextAnswer.Mismatch (top + 1 + r))) out)
   unfolding ofText k
   answers-7 from r h m le =
-      by-rule text w top n rows k out 7 r (TextAnswer.Mismatch (top + 1 + r)) refl
+      by-rule text w top n lines k out 7 r (TextAnswer.Mismatch (top + 1 + r)) refl
       (broken-7 (k .frame) (k .forms) r (s .size) (index-some n r _ (shown-is from r h m) le))
 
-  pub shown-kept : (from r : ℕ) → SkippedTo text 5 from → MismatchIs text from rows n r → n < r
+  pub shown-kept : (from r : ℕ) → SkippedTo text 5 from → MismatchIs text from lines n r → n < r
       → mismatch 0 (cells (s .known .frame)) (s .known .forms) ≡ none
   unfolding k
   shown-kept from r h m lt =
       index-none n r _ (λ j e. omega (
         arith,
         mismatch-most 0 (cells (k .frame)) (k .forms) j e,
-        form-count text w top n rows k,
+        form-count text w top n lines k,
       )) (shown-is from r h m) lt
 
-  module _ (names : List (List ℕ)) (held : (i : ℕ) → i < n → getD names i [] ≡ heldShort text false (rowAt rows i))
+  module _ (names : List (List ℕ)) (held : (i : ℕ) → i < n → getD names i [] ≡ heldShort text false (lineAt lines i))
       (shown : mismatch 0 (cells (s .known .frame)) (s .known .forms) ≡ none) where
-    names-is : firstBreak keepsNames [] (k .forms) ≡ below (firstRepeat (clashAt text rows names) n) n
+    names-is : firstBreak keepsNames [] (k .forms) ≡ below (firstRepeat (clashAt text lines names) n) n
     unfolding k
     names-is =
-        rw (form-count text w top n rows k) at
-        (names-breaks text (k .forms) rows (k .parts) (forms-formed text w top n rows k) names
-        (λ i lt. held i (omega (arith, form-count text w top n rows k))))
+        rw (form-count text w top n lines k) at
+        (names-breaks text (k .forms) lines (k .parts) (forms-formed text w top n lines k) names
+        (λ i lt. held i (omega (arith, form-count text w top n lines k))))
 
-    pub answers-8 : (i : ℕ) → i ≡ firstRepeat (clashAt text rows names) n → i < n
+    pub answers-8 : (i : ℕ) → i ≡ firstRepeat (clashAt text lines names) n → i < n
         → ReadsText text out (leaves (ofText (TextAnswer.Repeated (top + 1 + i))) out)
     unfolding ofText k
     answers-8 i e lt =
-        by-rule text w top n rows k out 8 i (TextAnswer.Repeated (top + 1 + i)) refl
+        by-rule text w top n lines k out 8 i (TextAnswer.Repeated (top + 1 + i)) refl
         (broken-8 (k .frame) (k .forms) i (s .size) shown (below-some i n _ (rw (← e) at names-is) lt))
 
-    pub names-kept : (i : ℕ) → i ≡ firstRepeat (clashAt text rows names) n → n ≤ i → NamesKept text w top n rows
+    pub names-kept : (i : ℕ) → i ≡ firstRepeat (clashAt text lines names) n → n ≤ i → NamesKept text w top n lines
     unfolding k
     names-kept i e le = record {
       sizes = s;
@@ -234,54 +234,54 @@ form-is [] i x e = absurd (let z : _≡_ {A = ℕ} 0 1 = cc in omega arith)
 form-is (y ∷ forms) zero x e = Option·some-injective y x e
 form-is (y ∷ forms) (suc i) x e = form-is forms i x e
 
-module _ (text : List ℕ) (w top n : ℕ) (rows : List Parts) (s : NamesKept text w top n rows) (out : List ℕ)
-    (names : List (List ℕ)) (held : (i : ℕ) → i < n → getD names i [] ≡ heldShort text true (rowAt rows i)) where
-  known : FormsSeen text w top n rows
+module _ (text : List ℕ) (w top n : ℕ) (lines : List Parts) (s : NamesKept text w top n lines) (out : List ℕ)
+    (names : List (List ℕ)) (held : (i : ℕ) → i < n → getD names i [] ≡ heldShort text true (lineAt lines i)) where
+  known : FormsSeen text w top n lines
   known = s .sizes .known
 
-  types-is : (r : ℕ) → FirstWrong text rows names n r
+  types-is : (r : ℕ) → FirstWrong text lines names n r
       → firstBreak (keepsTypes nameReadable) [] (known .forms) ≡ below r n
   unfolding known
   types-is r h =
       let f = formAt (known .forms) in
-      let count = form-count text w top n rows known in
+      let count = form-count text w top n lines known in
       let is : (i : ℕ) (x : Form) → getElem? (known .forms) i ≡ some x → f i ≡ x = form-is (known .forms) in
-      let e = h f (λ i lt. let x = line-at text w top n rows known i lt in rw (is i (x .0) (x .1)) (x .2)) in
+      let e = h f (λ i lt. let x = line-at text w top n lines known i lt in rw (is i (x .0) (x .1)) (x .2)) in
       rw (count, ← e) at
-      (types-breaks text (known .forms) rows (known .parts) (forms-formed text w top n rows known) names
-      (λ i lt. held i (omega (arith, count))) (forms-short text w top n rows known) f is)
+      (types-breaks text (known .forms) lines (known .parts) (forms-formed text w top n lines known) names
+      (λ i lt. held i (omega (arith, count))) (forms-short text w top n lines known) f is)
 
-  pub answers-9 : (r : ℕ) → FirstWrong text rows names n r → r < n
+  pub answers-9 : (r : ℕ) → FirstWrong text lines names n r → r < n
       → ReadsText text out (leaves (ofText (TextAnswer.BadName (top + 1 + r))) out)
   unfolding ofText known
   answers-9 r h lt =
-      by-rule text w top n rows known out 9 r (TextAnswer.BadName (top + 1 + r)) refl
+      by-rule text w top n lines known out 9 r (TextAnswer.BadName (top + 1 + r)) refl
       (broken-9 (known .frame) (known .forms) r (s .sizes .size) (s .shown) (s .names)
       (below-some r n _ (types-is r h) lt))
 
-  module _ (r : ℕ) (wrong : FirstWrong text rows names n r) (le : n ≤ r) where
-    kinds : firstBreak (keepsTypes nameReadable) [] (s .sizes .known .forms) ≡ none
+  module _ (r : ℕ) (wrong : FirstWrong text lines names n r) (le : n ≤ r) where
+    types : firstBreak (keepsTypes nameReadable) [] (s .sizes .known .forms) ≡ none
     unfolding known
-    kinds = below-none r n _ (types-is r wrong) le
+    types = below-none r n _ (types-is r wrong) le
 
-    rests-is : firstBreak keepsRest [] (known .forms) ≡ below (firstFrom (breaksAt Rest rows) 0 n) n
+    rests-is : firstBreak keepsRest [] (known .forms) ≡ below (firstFrom (breaksAt Rest lines) 0 n) n
     unfolding known
     rests-is =
-        rw (form-count text w top n rows known) at (rest-breaks text (known .forms) rows (known .parts))
+        rw (form-count text w top n lines known) at (rest-breaks text (known .forms) lines (known .parts))
 
-    pub answers-10 : (i : ℕ) → i ≡ firstFrom (breaksAt Rest rows) 0 n → i < n
+    pub answers-10 : (i : ℕ) → i ≡ firstFrom (breaksAt Rest lines) 0 n → i < n
         → ReadsText text out (leaves (ofText (TextAnswer.BadRest (top + 1 + i))) out)
     unfolding ofText known
     answers-10 i e lt =
-        by-rule text w top n rows known out 10 i (TextAnswer.BadRest (top + 1 + i)) refl
-        (broken-10 (known .frame) (known .forms) i (s .sizes .size) (s .shown) (s .names) kinds
+        by-rule text w top n lines known out 10 i (TextAnswer.BadRest (top + 1 + i)) refl
+        (broken-10 (known .frame) (known .forms) i (s .sizes .size) (s .shown) (s .names) types
         (below-some i n _ (rw (← e) at rests-is) lt))
 
-    pub all-kept : (i : ℕ) → i ≡ firstFrom (breaksAt Rest rows) 0 n → n ≤ i → AllKept text w top n rows names
+    pub all-kept : (i : ℕ) → i ≡ firstFrom (breaksAt Rest lines) 0 n → n ≤ i → AllKept text w top n lines names
     unfolding known
     all-kept i e le′ = record {
       kept = s;
       held = held;
-      kinds = kinds;
+      types = types;
       rests = below-none i n _ (rw (← e) at rests-is) le′;
     }

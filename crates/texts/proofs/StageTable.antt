@@ -11,7 +11,7 @@ use borrow.Author.Tests.{lt-ltb, le-ltb}
 use Rattle.base.specs.Lists.{all}
 use Rattle.base.specs.Writes.{Writes}
 use Rattle.rules.specs.declared.TextAnswer.{TextAnswer}
-use Rattle.rules.specs.Limits.{textMost}
+use Rattle.rules.specs.Limits.{textMost, fieldsMost}
 use Rattle.rules.specs.Trees.{isSmall}
 use Rattle.rules.specs.Fields.{Form, Description, trees}
 use Rattle.rules.specs.Stored.{stored}
@@ -21,12 +21,12 @@ use Rattle.rules.specs.Spelling.{Spells}
 use Rattle.rules.specs.Answers.{refused, accepted, ofText}
 use Rattle.rules.specs.Promises.{leaves, written, delivered, ReadsText, spelled}
 use Rattle.texts.specs.Resolving.{described}
-use Rattle.texts.specs.LinePlaces.{rowAt, spanIn}
+use Rattle.texts.specs.LinePlaces.{lineAt, spanIn}
 use Rattle.texts.specs.Records.{sizeFrom, Sized, tableOf, LineSmall, AllSmall}
 use Rattle.texts.specs.Stages.{FormsSeen, AllKept}
 use Rattle.texts.specs.declared.parts.Span.{Span}
 use Rattle.texts.specs.declared.parts.Parts.{Parts}
-use Rattle.texts.proofs.NamedKinds.{kept-rules}
+use Rattle.texts.proofs.NamedTypes.{kept-rules}
 use Rattle.texts.proofs.Resolve.{resolved-spells}
 use Rattle.texts.proofs.RecordSizes.{line-sized}
 use Rattle.texts.proofs.TableLaws.{table-length}
@@ -51,9 +51,9 @@ writes-all out w after r h =
     let t : take r after ≡ w = h .text in
     sym (take-append-drop r after) ∙ rw (t, h .beyond, e) refl
 
-module _ (text out : List ℕ) (w top n : ℕ) (rows : List Parts) (names : List (List ℕ))
-    (s : AllKept text w top n rows names) where
-  known : FormsSeen text w top n rows
+module _ (text out : List ℕ) (w top n : ℕ) (lines : List Parts) (names : List (List ℕ))
+    (s : AllKept text w top n lines names) where
+  known : FormsSeen text w top n lines
   known = s .kept .sizes .known
 
   forms : List Form
@@ -70,22 +70,22 @@ module _ (text out : List ℕ) (w top n : ℕ) (rows : List Parts) (names : List
 
   -- ── the lines ──
 
-  all-small : AllSmall text rows forms
+  all-small : AllSmall text lines forms
   unfolding forms known
-  all-small = record { lines = known .parts; small = λ i x e. each-kept keepsSize forms (s .kept .sizes .size) i x e }
+  all-small = record { parts = known .parts; small = λ i x e. each-kept keepsSize forms (s .kept .sizes .size) i x e }
 
-  pub lines-small : (i : ℕ) → i < n → LineSmall text (rowAt rows i)
+  pub lines-small : (i : ℕ) → i < n → LineSmall text (lineAt lines i)
   unfolding known forms
   lines-small i lt =
-      let x = line-at text w top n rows known i lt in
+      let x = line-at text w top n lines known i lt in
       (x .0, x .2, each-kept keepsSize forms (s .kept .sizes .size) i (x .0) (x .1))
 
-  pub lines-sized : (i : ℕ) → i < n → Sized (rowAt rows i)
-  lines-sized i lt = line-sized text (rowAt rows i) text-most (lines-small i lt)
+  pub lines-sized : (i : ℕ) → i < n → Sized (lineAt lines i)
+  lines-sized i lt = line-sized text (lineAt lines i) text-most (lines-small i lt)
 
   count : length forms ≡ n
   unfolding forms
-  count = form-count text w top n rows known
+  count = form-count text w top n lines known
 
   -- ── the table ──
 
@@ -97,12 +97,12 @@ module _ (text out : List ℕ) (w top n : ℕ) (rows : List Parts) (names : List
         size = s .kept .sizes .size;
         shown = s .kept .shown;
         names = s .kept .names;
-        kinds = s .kinds;
+        types = s .types;
         rests = s .rests;
       }))
 
-  outcome : ReadsText text out (delivered (stored d) out)
-  outcome = spelled text-most spells
+  outcome : ReadsText text out (leaves (ofText (delivered (stored d) out))
+  outcome) = spelled text-most spells
 
   module _ (name : List ℕ) (is : (f : Frame) → FrameOf text f → name ≡ f .name) where
     table-is : tableOf names name w forms ≡ stored d
@@ -110,23 +110,23 @@ module _ (text out : List ℕ) (w top n : ℕ) (rows : List Parts) (names : List
     table-is =
         ap (λ (m : List ℕ). tableOf names m w forms) (is (known .frame) (known .seen .framed .isFrameOf))
         ∙ ap (λ (v : ℕ). tableOf names (known .frame .name) v forms) (known .seen .width)
-        ∙ table-same text forms rows (known .parts) (forms-formed text w top n rows known) names
-        (λ i lt. s .held i (omega (arith, count))) (forms-short text w top n rows known) (s .kept .names) (s .kinds)
+        ∙ table-same text forms lines (known .parts) (forms-formed text w top n lines known) names
+        (λ i lt. s .held i (omega (arith, count))) (forms-short text w top n lines known) (s .kept .names) (s .types)
         (known .frame)
 
-    size-is : length (stored d) ≡ 14 + length name + sizeFrom rows 0 n
+    size-is : length (stored d) ≡ 14 + length name + sizeFrom lines 0 n
     size-is =
-        ap length (sym table-is) ∙ table-length text rows names name w forms all-small ∙ rw count refl
+        ap length (sym table-is) ∙ table-length text lines names name w forms all-small ∙ rw count refl
 
-    pub answers-11 : (size : ℕ) → size ≡ 14 + length name + sizeFrom rows 0 n → length out < size
+    pub answers-11 : (size : ℕ) → size ≡ 14 + length name + sizeFrom lines 0 n → length out < size
         → ReadsText text out (leaves (ofText TextAnswer.NoRoom) out)
     unfolding ofText
     answers-11 size e lt =
         rw (short-output (stored d) out (omega (arith, e, size-is))) at outcome
 
-    pub answers-table : (size : ℕ) → size ≡ 14 + length name + sizeFrom rows 0 n → size ≤ length out
+    pub answers-table : (size : ℕ) → size ≡ 14 + length name + sizeFrom lines 0 n → size ≤ length out
         → (after : List ℕ) (r : ℕ)
-        → ((l : List Form) → length l ≡ n → AllSmall text rows l → Writes out 0 (tableOf names name w l) after r)
+        → ((l : List Form) → length l ≡ n → AllSmall text lines l → Writes out 0 (tableOf names name w l) after r)
         → ReadsText text out (leaves (ofText (TextAnswer.Accepted size)) after)
     unfolding ofText
     answers-table size e le after r h =
@@ -135,11 +135,11 @@ module _ (text out : List ℕ) (w top n : ℕ) (rows : List Parts) (names : List
         let z : size ≡ length (stored d) = omega (arith, e, size-is) in
         rw (a, z) (rw (long-output (stored d) out (omega (arith, z))) at outcome)
 
-  pub lines-few : n ≤ 64
-  lines-few = few-lines text w top n rows known
+  pub lines-few : n ≤ fieldsMost
+  lines-few = few-lines text w top n lines known
 
   -- the table's length with the name in a span
-  pub size-of : (p : Span) → p .at + p .len ≤ length text → (size : ℕ) → size ≡ 14 + p .len + sizeFrom rows 0 n
-      → size ≡ 14 + length (spanIn text p) + sizeFrom rows 0 n
+  pub size-of : (p : Span) → p .at + p .len ≤ length text → (size : ℕ) → size ≡ 14 + p .len + sizeFrom lines 0 n
+      → size ≡ 14 + length (spanIn text p) + sizeFrom lines 0 n
   size-of p le size e =
       let q = length-take-le (p .len) (drop (p .at) text) (omega (arith, length-drop (p .at) text)) in rw q e

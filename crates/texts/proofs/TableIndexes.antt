@@ -23,16 +23,16 @@ use Rattle.rules.specs.Within.{keepsNames, keepsTypes, widthHasType, nameReadab
 use Rattle.rules.specs.Frames.{Frame}
 use Rattle.names.specs.Repeats.{firstFrom}
 use Rattle.texts.specs.Resolving.{firstIndex, indexOf, renameTree, renameWidth, renameField, resolve, described}
-use Rattle.texts.specs.LinePlaces.{rowAt, RowsFor}
-use Rattle.texts.specs.LineTests.{heldShort, kindsKept}
-use Rattle.texts.specs.Pieces.{isHeld, lookUp, mayRead}
+use Rattle.texts.specs.LinePlaces.{lineAt, LinesFor}
+use Rattle.texts.specs.LineTests.{heldShort, typesKept}
+use Rattle.texts.specs.StoredTrees.{isHeld, lookUp, mayRead}
 use Rattle.texts.specs.Records.{indexed, storedFrom, tableOf}
 use Rattle.texts.specs.declared.parts.Parts.{Parts}
 use Rattle.texts.proofs.NamedRules.{NameIn, name-unique}
-use Rattle.texts.proofs.NamedKinds.{any-element}
+use Rattle.texts.proofs.NamedTypes.{any-element}
 use Rattle.texts.proofs.LineRules.{element-at, element-in}
 use Rattle.texts.proofs.LineClashes.{held-fixed}
-use Rattle.texts.proofs.LineTypes.{allNames, ShortNames, line-kinds}
+use Rattle.texts.proofs.LineTypes.{allNames, ShortNames, line-types}
 
 -- ── trees whose names are renamed alike ──
 
@@ -91,9 +91,9 @@ each-kept {A} keeps l h i x e = let s = element-parts l i x e in go (s .0) (s .1
         let t : take i l ≡ b = rw (q, ← n) (take-append-seam b (x ∷ a)) in
         rw t (kept-at keeps b x a (rw q at h))
 
-module _ (text : List ℕ) (forms : List Form) (rows : List Parts) (h : RowsFor text forms rows)
+module _ (text : List ℕ) (forms : List Form) (lines : List Parts) (h : LinesFor text forms lines)
     (formed : (i : ℕ) (x : Form) → getElem? forms i ≡ some x → isFormed x ≡ true) (names : List (List ℕ))
-    (held : (i : ℕ) → i < length forms → getD names i [] ≡ heldShort text true (rowAt rows i))
+    (held : (i : ℕ) → i < length forms → getD names i [] ≡ heldShort text true (lineAt lines i))
     (short : (i : ℕ) (x : Form) → getElem? forms i ≡ some x → ShortNames x)
     (unique : firstBreak keepsNames [] forms ≡ none)
     (types : firstBreak (keepsTypes nameReadable) [] forms ≡ none) where
@@ -107,7 +107,7 @@ module _ (text : List ℕ) (forms : List Form) (rows : List Parts) (h : RowsFor 
       let lt : j < k = ltb-true j k m in
       let hit : isHeld names w j ≡ true = search-hit (isHeld names w) 0 k (omega arith) in
       let x = element-at forms j (omega arith) in
-      let is = sym (held-fixed text forms rows h formed names held j (x .0) w (x .1) q) ∙ hit in
+      let is = sym (held-fixed text forms lines h formed names held j (x .0) w (x .1) q) ∙ hit in
       let named : any (same w) (readNames (x .0)) ≡ true =
       and-right (isFixed (x .0)) (any (same w) (readNames (x .0))) is in
       let found = element-any (λ (y : Form). any (same w) (readNames y)) forms j (x .0) (x .1) named in
@@ -118,7 +118,7 @@ module _ (text : List ℕ) (forms : List Form) (rows : List Parts) (h : RowsFor 
 
   field-same : (i : ℕ) (x : Form) → getElem? forms i ≡ some x → indexed names i x ≡ renameField (indexOf forms) x
   field-same i x e =
-      let k = sym (line-kinds text forms rows h formed names held short i x e)
+      let k = sym (line-types text forms lines h formed names held short i x e)
       ∙ each-kept (keepsTypes nameReadable) forms types i x e in
       let lt : i < length forms = element-in forms i x e in
       let s = short i x e in

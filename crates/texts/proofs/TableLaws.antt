@@ -12,28 +12,28 @@ use Rattle.base.proofs.Writing.{writes-none, writes-join}
 use Rattle.rules.specs.Trees.{le2}
 use Rattle.rules.specs.Fields.{Form}
 use Rattle.rules.specs.Stored.{counted, recordOf, storedField}
-use Rattle.texts.specs.LinePlaces.{rowAt, spanIn}
+use Rattle.texts.specs.LinePlaces.{lineAt, spanIn}
 use Rattle.texts.specs.Records.{fieldSize, sizeFrom, indexed, storedFrom, tableOf, AllSmall}
 use Rattle.texts.specs.declared.parts.Parts.{Parts}
 use Rattle.texts.proofs.RecordSizes.{two-length, counted-length, field-length}
 
 -- ── sizes of n lines ──
 
-pub size-none : (rows : List Parts) (i : ℕ) → sizeFrom rows i 0 ≡ 0
+pub size-none : (lines : List Parts) (i : ℕ) → sizeFrom lines i 0 ≡ 0
 unfolding sizeFrom
-size-none rows i = refl
+size-none lines i = refl
 
-pub size-step : (rows : List Parts) (n i : ℕ) → i < n
-    → sizeFrom rows i (n - i) ≡ fieldSize (rowAt rows i) + sizeFrom rows (i + 1) (n - (i + 1))
+pub size-step : (lines : List Parts) (n i : ℕ) → i < n
+    → sizeFrom lines i (n - i) ≡ fieldSize (lineAt lines i) + sizeFrom lines (i + 1) (n - (i + 1))
 unfolding sizeFrom
-size-step rows n i lt =
+size-step lines n i lt =
     let e : n - i ≡ suc (n - (i + 1)) = omega arith in
     rw (e, add-one i) refl
 
-pub size-end : (rows : List Parts) (n i : ℕ) → n ≤ i → sizeFrom rows i (n - i) ≡ 0
-size-end rows n i le =
+pub size-end : (lines : List Parts) (n i : ℕ) → n ≤ i → sizeFrom lines i (n - i) ≡ 0
+size-end lines n i le =
     let e : n - i ≡ 0 = omega arith in
-    rw e (size-none rows i)
+    rw e (size-none lines i)
 
 -- ── records of n lines ──
 
@@ -117,31 +117,31 @@ unfolding tableOf
 table-writes names name w n forms e p q r s =
     rw (e, append-nil (le2 5)) (writes-join p (writes-join q (writes-join r s)))
 
--- lengths of the records, the first of which is the k-th of the rows
-from-length : (text : List ℕ) (rows : List Parts) (names : List (List ℕ)) (k : ℕ) (forms : List Form)
+-- lengths of the records, the first of which is the k-th of the lines
+from-length : (text : List ℕ) (lines : List Parts) (names : List (List ℕ)) (k : ℕ) (forms : List Form)
     → ((i : ℕ) (x : Form) → getElem? forms i ≡ some x
-    → length (storedField (indexed names (k + i) x)) ≡ fieldSize (rowAt rows (k + i)))
-    → length (storedFrom names k forms) ≡ sizeFrom rows k (length forms)
+    → length (storedField (indexed names (k + i) x)) ≡ fieldSize (lineAt lines (k + i)))
+    → length (storedFrom names k forms) ≡ sizeFrom lines k (length forms)
 unfolding storedFrom sizeFrom
-from-length text rows names k [] h = refl
-from-length text rows names k (x ∷ l) h =
+from-length text lines names k [] h = refl
+from-length text lines names k (x ∷ l) h =
     let z : k + 0 ≡ k = omega arith in
-    let e : length (storedField (indexed names k x)) ≡ fieldSize (rowAt rows k) = rw z at (h 0 x refl) in
-    let r = from-length text rows names (suc k) l (λ i y f.
+    let e : length (storedField (indexed names k x)) ≡ fieldSize (lineAt lines k) = rw z at (h 0 x refl) in
+    let r = from-length text lines names (suc k) l (λ i y f.
     let s : suc k + i ≡ k + suc i = omega arith in rw s (h (suc i) y f)) in
     rw (length-append (storedField (indexed names k x)) (storedFrom names (suc k) l), e, r) refl
 
-pub table-length : (text : List ℕ) (rows : List Parts) (names : List (List ℕ)) (name : List ℕ) (w : ℕ)
-    (forms : List Form) → AllSmall text rows forms
-    → length (tableOf names name w forms) ≡ 14 + length name + sizeFrom rows 0 (length forms)
+pub table-length : (text : List ℕ) (lines : List Parts) (names : List (List ℕ)) (name : List ℕ) (w : ℕ)
+    (forms : List Form) → AllSmall text lines forms
+    → length (tableOf names name w forms) ≡ 14 + length name + sizeFrom lines 0 (length forms)
 unfolding tableOf
-table-length text rows names name w forms s =
+table-length text lines names name w forms s =
     let body = le2 w ++ (le2 (length forms) ++ counted name) in
     let last = recordOf 5 [] in
-    let q = from-length text rows names 0 forms (λ i x e.
+    let q = from-length text lines names 0 forms (λ i x e.
     let z : 0 + i ≡ i = omega arith in
-    let l = s .lines i x e in
-    rw z (field-length (spanIn text (rowAt rows i .line)) x (rowAt rows i) (l .parts) names i)) in
+    let l = s .parts i x e in
+    rw z (field-length (spanIn text (lineAt lines i .line)) x (lineAt lines i) (l .parts) names i)) in
     rw (
       length-append (recordOf 1 body) (storedFrom names 0 forms ++ last),
       length-append (storedFrom names 0 forms)

@@ -44,15 +44,15 @@ WithinSign s at (sign.At o n) = (at < n) × (n ≤ length s)
 -- ── expressions ──
 
 -- the code's answer r is that of the reader in the text s, with the tree's depth and stored length
-unfoldable pub Same : List ℕ → Out → Read → Type 0
-Same s fail r = r ≡ read.Nothing
-Same s (got t q) r = (n : ℕ) × (r ≡ read.At n (depth t) (storedLength t)) × (drop n s ≡ q)
+unfoldable pub SameRead : List ℕ → Out → Read → Type 0
+SameRead s fail r = r ≡ read.Nothing
+SameRead s (got t q) r = (n : ℕ) × (r ≡ read.At n (depth t) (storedLength t)) × (drop n s ≡ q)
 
 -- an answered place stands at `lo` or behind it, within the text; from `at` on, where a tree of depth d and stored
 -- length z was read, each byte of text made the tree at most 1 deeper and 5 longer
-unfoldable pub Within : List ℕ → ℕ → ℕ → ℕ → ℕ → Read → Type 0
-Within s lo at d z read.Nothing = Unit {0}
-Within s lo at d z (read.At n e v) = (lo ≤ n) × (n ≤ length s) × (e + at ≤ d + n) × (v + 5 * at ≤ z + 5 * n)
+unfoldable pub WithinRead : List ℕ → ℕ → ℕ → ℕ → ℕ → Read → Type 0
+WithinRead s lo at d z read.Nothing = Unit {0}
+WithinRead s lo at d z (read.At n e v) = (lo ≤ n) × (n ≤ length s) × (e + at ≤ d + n) × (v + 5 * at ≤ z + 5 * n)
 
 -- w makes each tree n deeper and longer
 unfoldable pub Adds : ℕ → (Tree (List ℕ) → Tree (List ℕ)) → Type 0
@@ -61,29 +61,29 @@ Adds n w = (t : Tree (List ℕ)) → (depth (w t) ≡ n + depth t) × (storedLen
 -- ── what the code promises at the place `at` of the text s, whatever fuel the reader has, if it is enough ──
 
 abbrev pub LeafAt : List ℕ → ℕ → Read → Type 0
-LeafAt s at r = Same s (leaf (word (drop at s)) (behind (drop at s))) r
+LeafAt s at r = SameRead s (leaf (word (drop at s)) (behind (drop at s))) r
 
 -- an expression at level k and tighter, with b parentheses that may be opened
 abbrev pub ExprAt : List ℕ → ℕ → ℕ → ℕ → Read → Type 0
-ExprAt s at k b r = (f : ℕ) → length (drop at s) < f → Same s (expr f k b (drop at s)) r
+ExprAt s at k b r = (f : ℕ) → length (drop at s) < f → SameRead s (expr f k b (drop at s)) r
 
 abbrev pub AtomAt : List ℕ → ℕ → ℕ → Read → Type 0
-AtomAt s at b r = (f : ℕ) → length (drop at s) < suc f → Same s (atom (expr f 0) b (drop at s)) r
+AtomAt s at b r = (f : ℕ) → length (drop at s) < suc f → SameRead s (atom (expr f 0) b (drop at s)) r
 
 -- parentheses, of a whole that is n deeper and longer than what stands in them
 abbrev pub InsideAt : List ℕ → ℕ → ℕ → ℕ → Read → Type 0
 InsideAt s at b n r = (w : Tree (List ℕ) → Tree (List ℕ)) (f : ℕ) → Adds n w → length (drop at s) < suc f
-    → Same s (inside (expr f 0) b w (drop at s)) r
+    → SameRead s (inside (expr f 0) b w (drop at s)) r
 
 -- the closing parenthesis behind a tree of depth d and stored length z
 abbrev pub ClosedAt : List ℕ → ℕ → ℕ → ℕ → ℕ → Read → Type 0
 ClosedAt s at n d z r = (w : Tree (List ℕ) → Tree (List ℕ)) (t : Tree (List ℕ)) → Adds n w → depth t ≡ d
-    → storedLength t ≡ z → Same s (close w (got t (drop at s))) r
+    → storedLength t ≡ z → SameRead s (close w (got t (drop at s))) r
 
 -- what goes on behind a tree of level h, depth d and stored length z
 abbrev pub MoreAt : List ℕ → ℕ → ℕ → ℕ → ℕ → ℕ → ℕ → Read → Type 0
 MoreAt s at k h b d z r = (t : Tree (List ℕ)) (f : ℕ) → depth t ≡ d → storedLength t ≡ z → length (drop at s) < f
-    → Same s (more f k h b t (drop at s)) r
+    → SameRead s (more f k h b t (drop at s)) r
 
 -- one operator and its right operand: what goes on behind them goes on behind the tree before them
 unfoldable pub NextAt : List ℕ → ℕ → ℕ → ℕ → ℕ → ℕ → ℕ → Next → Type 0

@@ -8,11 +8,11 @@
 -- LinePlaces  where the parts of field lines stand, as the code holds them
 -- PartPlaces  widths and what stands behind them, at places of a text
 -- Mismatches  cells held against field lines
--- Pieces  expressions in their stored form, with their kinds, as the code makes them
+-- StoredTrees  expressions in their stored form, with their types, as the code makes them
 -- LineTests  what the code tests of the field lines that it holds
 -- Records  the records that the code writes of the lines that it holds
 -- Stages  what is known of a text at each stage of reading it
--- PiecePlaces  how pieces are made, and what is promised of them at places of a text
+-- StoredPlaces  how stored expressions are made, and what is promised of them at places of a text
 -- WrongTexts  answers of wrong programs to texts, of which the promise is false
 pub mod LineReader
 pub mod FrameReader
@@ -24,9 +24,9 @@ pub mod FrameWalk
 pub mod LinePlaces
 pub mod PartPlaces
 pub mod Mismatches
-pub mod Pieces
+pub mod StoredTrees
 pub mod LineTests
 pub mod Records
 pub mod Stages
-pub mod PiecePlaces
+pub mod StoredPlaces
 pub mod WrongTexts

@@ -86,16 +86,16 @@ PartsFor s (some x) p = PartsAre s x p
 -- ── the parts of all field lines of a text ──
 
 -- the line l of the text and its parts
-pub record RowIs (text l : List ℕ) (p : Parts) : Type 0 where
+pub record LineIs (text l : List ℕ) (p : Parts) : Type 0 where
   pub within : p .line .at + p .line .len ≤ length text
   pub isLine : spanIn text (p .line) ≡ l
   pub parts : PartsFor l (readForm l) p
 
-abbrev pub rowAt : List Parts → ℕ → Parts
-rowAt rows i = getD rows i (noParts (spanOf 0 0))
+abbrev pub lineAt : List Parts → ℕ → Parts
+lineAt lines i = getD lines i (noParts (spanOf 0 0))
 
-abbrev pub RowsAre : List ℕ → List (List ℕ) → List Parts → Type 0
-RowsAre text lines rows = (i : ℕ) → i < length lines → RowIs text (getD lines i []) (rowAt rows i)
+abbrev pub LinesAre : List ℕ → List (List ℕ) → List Parts → Type 0
+LinesAre text texts lines = (i : ℕ) → i < length texts → LineIs text (getD texts i []) (lineAt lines i)
 
 -- the parts of a line of the text, of the form x
 pub record LineOf (text : List ℕ) (x : Form) (p : Parts) : Type 0 where
@@ -103,10 +103,10 @@ pub record LineOf (text : List ℕ) (x : Form) (p : Parts) : Type 0 where
   pub parts : PartsAre (spanIn text (p .line)) x p
 
 -- the same for each line
-abbrev pub RowsFor : List ℕ → List Form → List Parts → Type 0
-RowsFor text forms rows = (i : ℕ) (x : Form) → getElem? forms i ≡ some x → LineOf text x (rowAt rows i)
+abbrev pub LinesFor : List ℕ → List Form → List Parts → Type 0
+LinesFor text forms lines = (i : ℕ) (x : Form) → getElem? forms i ≡ some x → LineOf text x (lineAt lines i)
 
 -- n lines lie in a text of m bytes, with their parts
-abbrev pub RowsFit : ℕ → List Parts → ℕ → Type 0
-RowsFit m rows n = (i : ℕ) → i < n
-    → (rowAt rows i .line .at + rowAt rows i .line .len ≤ m) × Fits (rowAt rows i .line .len) (rowAt rows i)
+abbrev pub LinesFit : ℕ → List Parts → ℕ → Type 0
+LinesFit m lines n = (i : ℕ) → i < n
+    → (lineAt lines i .line .at + lineAt lines i .line .len ≤ m) × Fits (lineAt lines i .line .len) (lineAt lines i)

@@ -7,13 +7,13 @@ use Prim.Native.Nat.{ℕ, _+_, _/_, _≤_}
 use lib.Dec.{eqb}
 use lib.ListN.{length, take, drop}
 use Rattle.base.specs.Lists.{all, same, joined}
-use Rattle.rules.specs.Limits.{textMost}
+use Rattle.rules.specs.Limits.{textMost, fieldsMost}
 use Rattle.rules.specs.Names.{isLabel}
 use Rattle.rules.specs.Fields.{Form}
 use Rattle.rules.specs.Frames.{border, Row, rowLines, isRow, ended, Shown, shownIn}
 use Rattle.rules.specs.Spelling as spelling
 use Rattle.texts.specs.FrameReader.{leftTrim, rightTrim}
-use Rattle.texts.specs.LinePlaces.{spanIn, Fits, LineOf, RowsFor, RowsFit}
+use Rattle.texts.specs.LinePlaces.{spanIn, Fits, LineOf, LinesFor, LinesFit}
 use Rattle.texts.specs.declared.parts.Parts.{Parts}
 
 -- what the characters between two bars show
@@ -55,10 +55,10 @@ pub record RowsAt (text : List ℕ) (from w : ℕ) (rows : List Row) (ms : List 
 
 -- the n lines with these parts, and the place, lie within m bytes
 abbrev pub InText : ℕ → ℕ → List Parts → ℕ → Type 0
-InText m from parts n = (m ≤ textMost) × (from ≤ m) × (n ≤ 64) × RowsFit m parts n
+InText m from parts n = (m ≤ textMost) × (from ≤ m) × (n ≤ fieldsMost) × LinesFit m parts n
 
 -- the first index at which the rows' cells and the fields disagree, or one of them is missing
 abbrev pub MismatchIs : List ℕ → ℕ → List Parts → ℕ → ℕ → Type 0
 MismatchIs text from parts n r = (w : ℕ) (rows : List Row) (ms : List (List ℕ)) (forms : List Form)
-    → RowsAt text from w rows ms → length forms ≡ n → RowsFor text forms parts
+    → RowsAt text from w rows ms → length forms ≡ n → LinesFor text forms parts
     → r ≡ indexOr n (spelling.mismatch 0 (joined shownIn rows) forms)

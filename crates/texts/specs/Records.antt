@@ -13,8 +13,8 @@ use Rattle.rules.specs.Trees.{le2, isSmall}
 use Rattle.rules.specs.Fields.{Field, Form, trees}
 use Rattle.rules.specs.Stored.{counted, recordOf, storedField}
 use Rattle.texts.specs.Resolving.{renameTree, renameWidth}
-use Rattle.texts.specs.LinePlaces.{rowAt, PartsAre, LineOf, RowsFor}
-use Rattle.texts.specs.Pieces.{lookUp}
+use Rattle.texts.specs.LinePlaces.{lineAt, PartsAre, LineOf, LinesFor}
+use Rattle.texts.specs.StoredTrees.{lookUp}
 use Rattle.texts.specs.declared.parts.Parts.{Parts}
 
 -- ── lengths ──
@@ -28,8 +28,8 @@ fieldSize p = 12 + p .label + p .short .len + widthSize p + p .constraint .size 
 
 -- of n records from an index on
 unfoldable pub sizeFrom : List Parts → ℕ → ℕ → ℕ
-sizeFrom rows i zero = 0
-sizeFrom rows i (suc n) = fieldSize (rowAt rows i) + sizeFrom rows (suc i) n
+sizeFrom lines i zero = 0
+sizeFrom lines i (suc n) = fieldSize (lineAt lines i) + sizeFrom lines (suc i) n
 
 -- parts of lengths that a text and small expressions allow
 pub record Sized (p : Parts) : Type 0 where
@@ -82,6 +82,6 @@ abbrev pub LineSmall : List ℕ → Parts → Type 0
 LineSmall text p = (x : Form) × LineOf text x p × (all isSmall (trees x) ≡ true)
 
 -- each form is that of a line, and its expressions are small
-pub record AllSmall (text : List ℕ) (rows : List Parts) (forms : List Form) : Type 0 where
-  pub lines : RowsFor text forms rows
+pub record AllSmall (text : List ℕ) (lines : List Parts) (forms : List Form) : Type 0 where
+  pub parts : LinesFor text forms lines
   pub small : (i : ℕ) (x : Form) → getElem? forms i ≡ some x → all isSmall (trees x) ≡ true

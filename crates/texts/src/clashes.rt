@@ -2,12 +2,15 @@
 use crate::parts::Parts;
 use names::repeats::same_name;
 use names::words::same_words;
+use rules::FIELDS_MOST;
+use rules::SHORT_MOST;
 ghost use mathlib.Core.Path.{_≡_};
 ghost use Prim.Native.Nat.{_+_, _≤_};
 ghost use lib.ListN.{length};
 ghost use Rattle.base.specs.Lists.{same};
+ghost use Rattle.rules.specs.Limits.{fieldsMost};
 ghost use Rattle.names.specs.Repeats.{firstRepeat};
-ghost use Rattle.texts.specs.LinePlaces.{RowsFit};
+ghost use Rattle.texts.specs.LinePlaces.{LinesFit};
 ghost use Rattle.texts.specs.LineTests.{labelIn, linesClash, clashAt};
 
 fn same_labels(text: &[u8], p: Parts, q: Parts) -> bool
@@ -24,7 +27,7 @@ fn same_labels(text: &[u8], p: Parts, q: Parts) -> bool
 }
 
 // Two lines have one label or one short name, p's held in a and q's in b.
-fn clash(text: &[u8], p: Parts, q: Parts, a: [u8; 8], b: [u8; 8]) -> bool
+fn clash(text: &[u8], p: Parts, q: Parts, a: [u8; SHORT_MOST], b: [u8; SHORT_MOST]) -> bool
     requires { ⌜ (p .line .at + p .label ≤ length (now text)) × (q .line .at + q .label ≤ length (now text)) ⌝ }
     ensures { λ r. ⌜ r ≡ linesClash (now (text .entry)) p q a b ⌝ }
 {
@@ -35,9 +38,14 @@ fn clash(text: &[u8], p: Parts, q: Parts, a: [u8; 8], b: [u8; 8]) -> bool
 }
 
 // The first of n lines that clashes with an earlier one, else n.
-pub(crate) fn first_clash(text: &[u8], rows: [Parts; 64], names: &[[u8; 8]; 64], n: usize) -> usize
-    requires { ⌜ (n ≤ 64) × RowsFit (length (now text)) rows n ⌝ }
-    ensures { λ r. ⌜ r ≡ firstRepeat (clashAt (now (text .entry)) rows (now (names .entry))) n ⌝ }
+pub(crate) fn first_clash(
+    text: &[u8],
+    lines: [Parts; FIELDS_MOST],
+    names: &[[u8; SHORT_MOST]; FIELDS_MOST],
+    n: usize,
+) -> usize
+    requires { ⌜ (n ≤ fieldsMost) × LinesFit (length (now text)) lines n ⌝ }
+    ensures { λ r. ⌜ r ≡ firstRepeat (clashAt (now (text .entry)) lines (now (names .entry))) n ⌝ }
 {
     let mut j = 0;
     'later: loop {
@@ -46,7 +54,7 @@ pub(crate) fn first_clash(text: &[u8], rows: [Parts; 64], names: &[[u8; 8]; 64],
         }
         let mut i = 0;
         while i < j {
-            if clash(text, rows[j], rows[i], names[j], names[i]) {
+            if clash(text, lines[j], lines[i], names[j], names[i]) {
                 break 'later j;
             }
             i += 1;

@@ -2,8 +2,8 @@
 use crate::field_clauses::Clause;
 use crate::field_clauses::condition_at;
 use crate::field_clauses::constraint_at;
-use crate::fields::remark_ok;
-use crate::fields::starts_at;
+use crate::phrases::remark_ok;
+use crate::phrases::starts_at;
 ghost use Prim.Native.Nat.{_≤_};
 ghost use lib.ListN.{length};
 ghost use Rattle.rules.specs.Limits.{textMost};

@@ -9,7 +9,7 @@ ghost use mathlib.Core.Path.{_≡_};
 ghost use Prim.Native.Nat.{_+_, _*_, _≤_, max};
 ghost use lib.ListN.{length};
 ghost use Rattle.rules.specs.Limits.{textMost};
-ghost use Rattle.texts.specs.ExprPlaces.{Within, ExprAt, AtomAt, ClosedAt, InsideAt, MoreAt, WithinNext, NextAt};
+ghost use Rattle.texts.specs.ExprPlaces.{WithinRead, ExprAt, AtomAt, ClosedAt, InsideAt, MoreAt, WithinNext, NextAt};
 
 // What an operator and its right operand make of the tree before them: the place behind them, the level, the depth
 // and the stored length of the whole; or no operator that may stand there, or no right operand.
@@ -28,7 +28,7 @@ fn larger(a: usize, b: usize) -> usize
 // The closing parenthesis behind a tree of depth `d` and stored length `z`.
 fn closed(s: &[u8], at: usize, over: usize, d: usize, z: usize) -> Read
     requires { ⌜ (at ≤ length (now s)) × (length (now s) ≤ textMost) × (over ≤ 1) × (d ≤ at) × (z ≤ 5 * at) ⌝ }
-    ensures place { λ r. ⌜ Within (now (s .entry)) (at + 1) at d z r ⌝ }
+    ensures place { λ r. ⌜ WithinRead (now (s .entry)) (at + 1) at d z r ⌝ }
     ensures same { λ r. ⌜ ClosedAt (now (s .entry)) at over d z r ⌝ }
 {
     if at == s.len() {
@@ -44,7 +44,7 @@ fn closed(s: &[u8], at: usize, over: usize, d: usize, z: usize) -> Read
 // At level `k` and tighter, with `b` parentheses that may be opened.
 pub(crate) fn expr(s: &[u8], at: usize, k: u8, b: u8) -> Read
     requires { ⌜ (at ≤ length (now s)) × (length (now s) ≤ textMost) ⌝ }
-    ensures place { λ r. ⌜ Within (now (s .entry)) (at + 1) at 0 0 r ⌝ }
+    ensures place { λ r. ⌜ WithinRead (now (s .entry)) (at + 1) at 0 0 r ⌝ }
     ensures same { λ r. ⌜ ExprAt (now (s .entry)) at k b r ⌝ }
 {
     let a = atom(s, at, b);
@@ -57,7 +57,7 @@ pub(crate) fn expr(s: &[u8], at: usize, k: u8, b: u8) -> Read
 // `!(`, `(` or a word.
 fn atom(s: &[u8], at: usize, b: u8) -> Read
     requires { ⌜ (at ≤ length (now s)) × (length (now s) ≤ textMost) ⌝ }
-    ensures place { λ r. ⌜ Within (now (s .entry)) (at + 1) at 0 0 r ⌝ }
+    ensures place { λ r. ⌜ WithinRead (now (s .entry)) (at + 1) at 0 0 r ⌝ }
     ensures same { λ r. ⌜ AtomAt (now (s .entry)) at b r ⌝ }
 {
     if at == s.len() {
@@ -76,7 +76,7 @@ fn atom(s: &[u8], at: usize, b: u8) -> Read
 // An expression in parentheses; the whole is `over` deeper and longer than what stands in them.
 fn inside(s: &[u8], at: usize, b: u8, over: usize) -> Read
     requires { ⌜ (at ≤ length (now s)) × (length (now s) ≤ textMost) × (over ≤ 1) ⌝ }
-    ensures place { λ r. ⌜ Within (now (s .entry)) (at + 1) at 0 0 r ⌝ }
+    ensures place { λ r. ⌜ WithinRead (now (s .entry)) (at + 1) at 0 0 r ⌝ }
     ensures same { λ r. ⌜ InsideAt (now (s .entry)) at b over r ⌝ }
 {
     if at == s.len() {
@@ -123,7 +123,7 @@ fn step(s: &[u8], at: usize, k: u8, h: u8, b: u8, d: usize, z: usize) -> Next
 // All that goes on behind a tree of level `h`, depth `d` and stored length `z`.
 fn more(s: &[u8], at: usize, k: u8, h: u8, b: u8, d: usize, z: usize) -> Read
     requires { ⌜ (at ≤ length (now s)) × (length (now s) ≤ textMost) × (d ≤ at) × (z ≤ 5 * at) ⌝ }
-    ensures place { λ r. ⌜ Within (now (s .entry)) at at d z r ⌝ }
+    ensures place { λ r. ⌜ WithinRead (now (s .entry)) at at d z r ⌝ }
     ensures same { λ r. ⌜ MoreAt (now (s .entry)) at k h b d z r ⌝ }
 {
     let mut place = at;

@@ -1,7 +1,8 @@
 // The constraint and the condition of a field line, at a place of a text.
 use crate::expressions::expr;
-use crate::fields::starts_at;
 use crate::leaves::Read;
+use crate::phrases::starts_at;
+use rules::OPEN_MOST;
 ghost use Prim.Native.Nat.{_≤_};
 ghost use lib.ListN.{length, drop};
 ghost use Rattle.rules.specs.Limits.{textMost};
@@ -20,7 +21,7 @@ fn tree_at(s: &[u8], at: usize) -> Clause
     ensures place { λ r. ⌜ WithinClause (now (s .entry)) at r ⌝ }
     ensures same { λ r. ⌜ SameClause (now (s .entry)) (treeClause (drop at (now (s .entry)))) r ⌝ }
 {
-    let e = expr(s, at, 0, 12);
+    let e = expr(s, at, 0, OPEN_MOST);
     match e {
         Read::Nothing => Clause::Nothing,
         Read::At(n, d, z) => Clause::At(at, n, d, z),

@@ -1,6 +1,6 @@
 // The label and the short name of a field line, at a place of a text.
-use crate::fields::starts_at;
 use crate::leaves::word_end;
+use crate::phrases::starts_at;
 use names::labels::is_label;
 use names::labels::is_short;
 ghost use mathlib.Core.Path.{_≡_};

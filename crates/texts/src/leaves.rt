@@ -3,13 +3,14 @@ use names::classes::DIGIT;
 use names::classes::class_table;
 use names::classes::is_word_in;
 use names::labels::is_short;
+use rules::NUMBER_MOST;
 ghost use mathlib.Core.Path.{_≡_};
 ghost use Prim.Native.Nat.{ℕ, _+_, _≤_};
 ghost use lib.ListN.{length, drop};
 ghost use Rattle.names.specs.Classes.{classTable};
 ghost use Rattle.rules.specs.Names.{isDigit};
 ghost use Rattle.rules.specs.Reader.{behind, isNumberWord};
-ghost use Rattle.texts.specs.ExprPlaces.{LeafAt, Within};
+ghost use Rattle.texts.specs.ExprPlaces.{LeafAt, WithinRead};
 
 // The place behind an expression, its depth and the length of its stored form.
 pub(crate) enum Read {
@@ -42,7 +43,7 @@ fn is_digit(classes: &[u8; 256], b: u8) -> bool
     classes[i] == DIGIT
 }
 
-// Digits without a leading 0, at most 4,294,967,295.
+// Digits without a leading 0, at most NUMBER_MOST.
 pub(crate) fn is_number(w: &[u8]) -> bool
     ensures { λ r. ⌜ r ≡ isNumberWord (now (w .entry)) ⌝ }
 {
@@ -53,15 +54,15 @@ pub(crate) fn is_number(w: &[u8]) -> bool
         return w.len() == 1;
     }
     let classes = class_table();
-    let mut v: u64 = 0;
+    let mut v: usize = 0;
     let mut i = 0;
     while i < w.len() {
         let c = w[i];
         if !is_digit(&classes, c) {
             return false;
         }
-        v = v * 10 + (c as u64 - 48);
-        if v > 4294967295 {
+        v = v * 10 + (c as usize - 48);
+        if v > NUMBER_MOST {
             return false;
         }
         i += 1;
@@ -72,7 +73,7 @@ pub(crate) fn is_number(w: &[u8]) -> bool
 // The short name or number at `at`.
 pub(crate) fn leaf_at(s: &[u8], at: usize) -> Read
     requires { ⌜ at ≤ length (now s) ⌝ }
-    ensures place { λ r. ⌜ Within (now (s .entry)) (at + 1) at 0 0 r ⌝ }
+    ensures place { λ r. ⌜ WithinRead (now (s .entry)) (at + 1) at 0 0 r ⌝ }
     ensures same { λ r. ⌜ LeafAt (now (s .entry)) at r ⌝ }
 {
     let end = word_end(s, at);

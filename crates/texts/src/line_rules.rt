@@ -1,9 +1,11 @@
 // The first field line that breaks a rule.
 use crate::parts::Parts;
+use rules::FIELDS_MOST;
 ghost use mathlib.Core.Bool.{_&&_, _||_, not};
 ghost use mathlib.Core.Path.{_≡_};
 ghost use Prim.Native.Nat.{_≤_};
 ghost use lib.Dec.{eqb};
+ghost use Rattle.rules.specs.Limits.{fieldsMost};
 ghost use Rattle.names.specs.Repeats.{firstFrom};
 ghost use Rattle.texts.specs.LineTests.{breaksRule, breaksAt};
 
@@ -50,14 +52,14 @@ fn breaks(p: Parts, rule: Rule, rested: bool) -> bool
 }
 
 // The first of n lines that breaks the rule, else n.
-pub(crate) fn first_line(rows: [Parts; 64], n: usize, rule: Rule) -> usize
-    requires { ⌜ n ≤ 64 ⌝ }
-    ensures { λ r. ⌜ r ≡ firstFrom (breaksAt rule rows) 0 n ⌝ }
+pub(crate) fn first_line(lines: [Parts; FIELDS_MOST], n: usize, rule: Rule) -> usize
+    requires { ⌜ n ≤ fieldsMost ⌝ }
+    ensures { λ r. ⌜ r ≡ firstFrom (breaksAt rule lines) 0 n ⌝ }
 {
     let mut rested = false;
     let mut i = 0;
     while i < n {
-        let p = rows[i];
+        let p = lines[i];
         if breaks(p, rule, rested) {
             return i;
         }

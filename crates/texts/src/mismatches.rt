@@ -1,15 +1,16 @@
-// The cells of the rows, held against the field lines.
-use crate::frames::line_end;
-use crate::frames::part_end;
+// The cells of the lines, held against the field lines.
 use crate::parts::Parts;
 use crate::rows::spaces_end;
 use crate::rows::trimmed;
+use crate::text_bytes::line_end;
+use crate::text_bytes::part_end;
 use crate::walks::skip_lines;
 use names::words::same_words;
+use rules::FIELDS_MOST;
 ghost use mathlib.Core.Path.{_≡_};
 ghost use Prim.Native.Nat.{_≤_};
 ghost use lib.ListN.{length};
-ghost use Rattle.rules.specs.Limits.{textMost};
+ghost use Rattle.rules.specs.Limits.{textMost, fieldsMost};
 ghost use Rattle.texts.specs.LinePlaces.{Fits};
 ghost use Rattle.texts.specs.Mismatches.{isNameIn, isPlaceIn, LineFits, ShowsIs, endIndex, InText, MismatchIs};
 
@@ -55,7 +56,7 @@ fn shows(chars: &[u8], long: bool, text: &[u8], p: Parts) -> bool
 
 // The answer where no cell is left.
 fn end_index(i: usize, n: usize) -> usize
-    requires { ⌜ n ≤ 64 ⌝ }
+    requires { ⌜ n ≤ fieldsMost ⌝ }
     ensures { λ r. ⌜ r ≡ endIndex i n ⌝ }
 {
     if i == n {
@@ -65,9 +66,14 @@ fn end_index(i: usize, n: usize) -> usize
 }
 
 // The first index at which a cell and a line of the first `n` disagree or one of them is missing, or `n + 1`.
-pub(crate) fn first_mismatch(text: &[u8], from: usize, rows: [Parts; 64], n: usize) -> usize
-    requires { ⌜ InText (length (now text)) from rows n ⌝ }
-    ensures { λ r. ⌜ MismatchIs (now (text .entry)) from rows n r ⌝ }
+pub(crate) fn first_mismatch(
+    text: &[u8],
+    from: usize,
+    lines: [Parts; FIELDS_MOST],
+    n: usize,
+) -> usize
+    requires { ⌜ InText (length (now text)) from lines n ⌝ }
+    ensures { λ r. ⌜ MismatchIs (now (text .entry)) from lines n r ⌝ }
 {
     let mut at = from;
     let mut i = 0;
@@ -84,7 +90,7 @@ pub(crate) fn first_mismatch(text: &[u8], from: usize, rows: [Parts; 64], n: usi
             if i >= n {
                 break 'rows i;
             }
-            if !shows(&line[a..b], bar == b':', text, rows[i]) {
+            if !shows(&line[a..b], bar == b':', text, lines[i]) {
                 break 'rows i;
             }
             i += 1;

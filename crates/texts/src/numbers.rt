@@ -1,4 +1,5 @@
 // The value of a number word.
+use rules::NUMBER_MOST;
 ghost use mathlib.Core.Bool.{true};
 ghost use mathlib.Core.Path.{_≡_};
 ghost use Prim.Native.Nat.{_≤_};
@@ -21,7 +22,7 @@ pub(crate) fn word_value(w: &[u8]) -> usize
             return 0;
         }
         v = v * 10 + (c as usize - 48);
-        if v > 4294967295 {
+        if v > NUMBER_MOST {
             return 0;
         }
         i += 1;

@@ -1,13 +1,46 @@
-// Where the name stands in a text's opening line.
-use crate::frames::line_end;
+// The opening line of a text, and where the name stands in it.
 use crate::parts::Span;
+use crate::text_bytes::line_end;
+use names::labels::is_label;
+use names::words::same_words;
 ghost use mathlib.Core.Bool.{cond};
 ghost use mathlib.Core.Path.{_≡_};
 ghost use Prim.Native.Nat.{_+_, _≤_, _<_};
 ghost use lib.Dec.{eqb};
 ghost use lib.ListN.{length, getD};
 ghost use Rattle.rules.specs.Frames.{Frame, FrameOf};
+ghost use Rattle.texts.specs.FrameReader.{readName, opened};
+ghost use Rattle.texts.specs.FramePlaces.{isSome};
 ghost use Rattle.texts.specs.LinePlaces.{spanIn};
+
+// A name and the closing words of an opening line.
+fn is_named(s: &[u8]) -> bool
+    ensures { λ r. ⌜ r ≡ isSome (readName (now (s .entry))) ⌝ }
+{
+    if s.len() < 25 {
+        return false;
+    }
+    let n = s.len() - 25;
+    if !same_words(&s[n..], b" is formatted as follows:") {
+        return false;
+    }
+    is_label(&s[0..n])
+}
+
+pub(crate) fn is_opening(line: &[u8]) -> bool
+    ensures { λ r. ⌜ r ≡ isSome (opened (now (line .entry))) ⌝ }
+{
+    if line.len() < 3 {
+        return false;
+    }
+    if same_words(&line[0..3], b"An ") {
+        return is_named(&line[3..]);
+    }
+    if same_words(&line[0..2], b"A ") {
+        return is_named(&line[2..]);
+    }
+    false
+}
 
 // The length of `A ` or `An `.
 fn article_length(text: &[u8]) -> usize

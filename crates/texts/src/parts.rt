@@ -1,11 +1,11 @@
 // The parts of a field line.
 use crate::ends::Ends;
 use crate::ends::ends_at;
-use crate::fields::starts_at;
 use crate::labels::Label;
 use crate::labels::Short;
 use crate::labels::label_at;
 use crate::labels::short_at;
+use crate::phrases::starts_at;
 use crate::widths::Width;
 use crate::widths::width_at;
 use rules::DEPTH_MOST;

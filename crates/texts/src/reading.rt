@@ -1,20 +1,21 @@
 // A description text is read, and its table is written.
 use crate::clashes::first_clash;
-use crate::frames::is_allowed_text;
+use crate::field_lines::field_lines;
 use crate::held_names::short_names;
-use crate::line_kinds::first_wrong;
-use crate::line_rows::line_rows;
 use crate::line_rules::Rule;
 use crate::line_rules::first_line;
+use crate::line_types::first_wrong;
 use crate::mismatches::first_mismatch;
 use crate::openings::name_span;
 use crate::parts::Parts;
 use crate::tables::put_table;
 use crate::tables::table_size;
+use crate::text_bytes::is_allowed_text;
 use crate::walks::Walked;
 use crate::walks::skip_lines;
 use crate::walks::walk;
 use rules::FIELDS_MOST;
+use rules::SHORT_MOST;
 use rules::TEXT_MOST;
 use rules::TextAnswer;
 ghost use Rattle.rules.specs.Frames.{Frame};
@@ -29,21 +30,21 @@ fn write_table(
     out: &mut [u8],
     w: usize,
     head: usize,
-    rows: [Parts; 64],
-    names: &[[u8; 8]; 64],
+    lines: [Parts; FIELDS_MOST],
+    names: &[[u8; SHORT_MOST]; FIELDS_MOST],
     n: usize,
 ) -> TextAnswer
-    requires { ⌜ AllKept (now text) w head n rows (now names) ⌝ }
+    requires { ⌜ AllKept (now text) w head n lines (now names) ⌝ }
     ensures { λ r. ⌜ ReadsText (now (text .entry)) (now (out .entry)) (leaves (ofText r) (now (out .exit))) ⌝ }
 {
     let name = name_span(text);
     let from = name.at;
     let to = from + name.len;
-    let size = table_size(rows, n, name.len);
+    let size = table_size(lines, n, name.len);
     if out.len() < size {
         return TextAnswer::NoRoom;
     }
-    put_table(out, text, from, to, w, rows, names, n);
+    put_table(out, text, from, to, w, lines, names, n);
     TextAnswer::Accepted(size)
 }
 
@@ -53,22 +54,22 @@ fn read_names(
     out: &mut [u8],
     w: usize,
     head: usize,
-    rows: [Parts; 64],
+    lines: [Parts; FIELDS_MOST],
     n: usize,
 ) -> TextAnswer
-    requires { ⌜ NamesKept (now text) w head n rows ⌝ }
+    requires { ⌜ NamesKept (now text) w head n lines ⌝ }
     ensures { λ r. ⌜ ReadsText (now (text .entry)) (now (out .entry)) (leaves (ofText r) (now (out .exit))) ⌝ }
 {
-    let names = short_names(text, rows, n, true);
-    let wrong = first_wrong(text, rows, &names, n);
+    let names = short_names(text, lines, n, true);
+    let wrong = first_wrong(text, lines, &names, n);
     if wrong < n {
         return TextAnswer::BadName(head + 1 + wrong);
     }
-    let late = first_line(rows, n, Rule::Rest);
+    let late = first_line(lines, n, Rule::Rest);
     if late < n {
         return TextAnswer::BadRest(head + 1 + late);
     }
-    write_table(text, out, w, head, rows, &names, n)
+    write_table(text, out, w, head, lines, &names, n)
 }
 
 // 7 and 8.
@@ -77,23 +78,23 @@ fn read_cells(
     out: &mut [u8],
     w: usize,
     head: usize,
-    rows: [Parts; 64],
+    lines: [Parts; FIELDS_MOST],
     n: usize,
 ) -> TextAnswer
-    requires { ⌜ SizesKept (now text) w head n rows ⌝ }
+    requires { ⌜ SizesKept (now text) w head n lines ⌝ }
     ensures { λ r. ⌜ ReadsText (now (text .entry)) (now (out .entry)) (leaves (ofText r) (now (out .exit))) ⌝ }
 {
     let from = skip_lines(text, 5);
-    let other = first_mismatch(text, from, rows, n);
+    let other = first_mismatch(text, from, lines, n);
     if other <= n {
         return TextAnswer::Mismatch(head + 1 + other);
     }
-    let names = short_names(text, rows, n, false);
-    let again = first_clash(text, rows, &names, n);
+    let names = short_names(text, lines, n, false);
+    let again = first_clash(text, lines, &names, n);
     if again < n {
         return TextAnswer::Repeated(head + 1 + again);
     }
-    read_names(text, out, w, head, rows, n)
+    read_names(text, out, w, head, lines, n)
 }
 
 // 6.
@@ -102,17 +103,17 @@ fn read_sizes(
     out: &mut [u8],
     w: usize,
     head: usize,
-    rows: [Parts; 64],
+    lines: [Parts; FIELDS_MOST],
     n: usize,
 ) -> TextAnswer
-    requires { ⌜ FormsSeen (now text) w head n rows ⌝ }
+    requires { ⌜ FormsSeen (now text) w head n lines ⌝ }
     ensures { λ r. ⌜ ReadsText (now (text .entry)) (now (out .entry)) (leaves (ofText r) (now (out .exit))) ⌝ }
 {
-    let large = first_line(rows, n, Rule::Size);
+    let large = first_line(lines, n, Rule::Size);
     if large < n {
         return TextAnswer::OverLimit(head + 1 + large);
     }
-    read_cells(text, out, w, head, rows, n)
+    read_cells(text, out, w, head, lines, n)
 }
 
 // 5.
@@ -121,17 +122,17 @@ fn read_lines(
     out: &mut [u8],
     w: usize,
     head: usize,
-    rows: [Parts; 64],
+    lines: [Parts; FIELDS_MOST],
     n: usize,
 ) -> TextAnswer
-    requires { ⌜ ((f : Frame) × LinesSeen (now text) w head n rows f) ⌝ }
+    requires { ⌜ ((f : Frame) × LinesSeen (now text) w head n lines f) ⌝ }
     ensures { λ r. ⌜ ReadsText (now (text .entry)) (now (out .entry)) (leaves (ofText r) (now (out .exit))) ⌝ }
 {
-    let bad = first_line(rows, n, Rule::Form);
+    let bad = first_line(lines, n, Rule::Form);
     if bad < n {
         return TextAnswer::BadForm(head + 1 + bad);
     }
-    read_sizes(text, out, w, head, rows, n)
+    read_sizes(text, out, w, head, lines, n)
 }
 
 // 4: a frame of row width w, with so many rows, cells and field lines.
@@ -154,8 +155,8 @@ fn read_frame(
     }
     let head = 8 + 2 * rows;
     let from = skip_lines(text, head);
-    let parts = line_rows(text, from, n);
-    read_lines(text, out, w, head, parts, n)
+    let lines = field_lines(text, from, n);
+    read_lines(text, out, w, head, lines, n)
 }
 
 // 3.

@@ -1,19 +1,21 @@
 // The record of a field, written from its line.
 use crate::parts::Parts;
 use crate::parts::TreeAt;
-use crate::pieces::tree_piece;
+use crate::stored_trees::stored_tree;
+use rules::FIELDS_MOST;
+use rules::SHORT_MOST;
 ghost use mathlib.Core.List.{List, _++_};
 ghost use mathlib.Core.Option.{Option, Option·map};
 ghost use mathlib.Core.Path.{_≡_};
 ghost use Prim.Native.Nat.{ℕ, _+_, _≤_, _<_};
 ghost use lib.ListN.{length};
 ghost use Rattle.base.specs.Writes.{Writes};
-ghost use Rattle.rules.specs.Limits.{textMost};
+ghost use Rattle.rules.specs.Limits.{textMost, fieldsMost, storedMost};
 ghost use Rattle.rules.specs.Trees.{Tree, le2};
 ghost use Rattle.rules.specs.Stored.{counted, storedWidth, storedName, storedMaybe, fieldBody, storedField};
 ghost use Rattle.texts.specs.Resolving.{renameTree, renameWidth};
 ghost use Rattle.texts.specs.LinePlaces.{MaybeIs};
-ghost use Rattle.texts.specs.Pieces.{lookUp};
+ghost use Rattle.texts.specs.StoredTrees.{lookUp};
 ghost use Rattle.texts.specs.Records.{widthSize, fieldSize, indexed, Sized, IsSmall, WritesEach};
 
 // Writes a word at a place, and answers the place behind it.
@@ -54,10 +56,10 @@ fn put_tree(
     at: usize,
     line: &[u8],
     t: TreeAt,
-    names: &[[u8; 8]; 64],
+    names: &[[u8; SHORT_MOST]; FIELDS_MOST],
     n: usize,
 ) -> usize
-    requires { ⌜ (t .at ≤ length (now line)) × (length (now line) ≤ textMost) × (n ≤ 64) × (t .size ≤ 120)
+    requires { ⌜ (t .at ≤ length (now line)) × (length (now line) ≤ textMost) × (n ≤ fieldsMost) × (t .size ≤ storedMost)
         × (at + (2 + t .size) ≤ length (now out)) × ((o : Option (Tree (List ℕ))) × MaybeIs (now line) o t) ⌝ }
     ensures { λ r. ⌜ ((o : Option (Tree (List ℕ))) → MaybeIs (now (line .entry)) o t → Writes (now (out .entry)) at
         (counted (storedMaybe (Option·map (renameTree (lookUp (now (names .entry)) n)) o))) (now (out .exit)) r) ⌝ }
@@ -66,7 +68,7 @@ fn put_tree(
     if size == 0 {
         return put_two(out, at, 0);
     }
-    let p = tree_piece(line, t.at, names, n);
+    let p = stored_tree(line, t.at, names, n);
     let bytes = p.bytes;
     put_counted(out, at, &bytes[0..size])
 }
@@ -76,10 +78,10 @@ fn put_width(
     at: usize,
     line: &[u8],
     p: Parts,
-    names: &[[u8; 8]; 64],
+    names: &[[u8; SHORT_MOST]; FIELDS_MOST],
     i: usize,
 ) -> usize
-    requires { ⌜ (length (now line) ≤ textMost) × (i < 64) × IsSmall (now line) p
+    requires { ⌜ (length (now line) ≤ textMost) × (i < fieldsMost) × IsSmall (now line) p
         × (at + widthSize p ≤ length (now out)) ⌝ }
     ensures { λ r. ⌜ WritesEach (now (line .entry)) p (now (out .entry)) at
         (λ x. storedWidth (renameWidth (lookUp (now (names .entry)) i) (x .width))) (now (out .exit)) r ⌝ }
@@ -100,10 +102,10 @@ fn put_clauses(
     at: usize,
     line: &[u8],
     p: Parts,
-    names: &[[u8; 8]; 64],
+    names: &[[u8; SHORT_MOST]; FIELDS_MOST],
     i: usize,
 ) -> usize
-    requires { ⌜ (length (now line) ≤ textMost) × (i < 64) × IsSmall (now line) p
+    requires { ⌜ (length (now line) ≤ textMost) × (i < fieldsMost) × IsSmall (now line) p
         × (at + (4 + p .constraint .size + p .condition .size) ≤ length (now out)) ⌝ }
     ensures { λ r. ⌜ WritesEach (now (line .entry)) p (now (out .entry)) at
         (λ x. counted (storedMaybe (indexed (now (names .entry)) i x .constraint))
@@ -133,10 +135,10 @@ fn put_body(
     at: usize,
     line: &[u8],
     p: Parts,
-    names: &[[u8; 8]; 64],
+    names: &[[u8; SHORT_MOST]; FIELDS_MOST],
     i: usize,
 ) -> usize
-    requires { ⌜ (length (now line) ≤ textMost) × (i < 64) × IsSmall (now line) p
+    requires { ⌜ (length (now line) ≤ textMost) × (i < fieldsMost) × IsSmall (now line) p
         × (at + fieldSize p ≤ length (now out) + 4) ⌝ }
     ensures { λ r. ⌜ WritesEach (now (line .entry)) p (now (out .entry)) at
         (λ x. fieldBody (indexed (now (names .entry)) i x)) (now (out .exit)) r ⌝ }
@@ -148,8 +150,8 @@ fn put_body(
 
 // The length of a width's bytes.
 fn width_size(p: Parts) -> usize
-    requires { ⌜ p .width .size ≤ 120 ⌝ }
-    ensures { λ r. ⌜ (r ≡ widthSize p) × (r ≤ 124) ⌝ }
+    requires { ⌜ p .width .size ≤ storedMost ⌝ }
+    ensures { λ r. ⌜ (r ≡ widthSize p) × (r ≤ 4 + storedMost) ⌝ }
 {
     if p.kind == 2 {
         return 2;
@@ -178,10 +180,10 @@ pub(crate) fn put_field(
     at: usize,
     line: &[u8],
     p: Parts,
-    names: &[[u8; 8]; 64],
+    names: &[[u8; SHORT_MOST]; FIELDS_MOST],
     i: usize,
 ) -> usize
-    requires { ⌜ (length (now line) ≤ textMost) × (i < 64) × IsSmall (now line) p
+    requires { ⌜ (length (now line) ≤ textMost) × (i < fieldsMost) × IsSmall (now line) p
         × (at + fieldSize p ≤ length (now out)) ⌝ }
     ensures { λ r. ⌜ WritesEach (now (line .entry)) p (now (out .entry)) at
         (λ x. storedField (indexed (now (names .entry)) i x)) (now (out .exit)) r ⌝ }

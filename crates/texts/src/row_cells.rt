@@ -1,7 +1,7 @@
 // The number of cells of a row.
-use crate::frames::part_end;
 use crate::rows::is_cell;
 use crate::rows::is_long;
+use crate::text_bytes::part_end;
 ghost use mathlib.Core.Path.{_≡_};
 ghost use Prim.Native.Nat.{_≤_};
 ghost use Rattle.texts.specs.FrameReader.{readRow};

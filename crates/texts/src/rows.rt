@@ -1,5 +1,5 @@
 // The cells of a row, and a long row.
-use crate::frames::part_end;
+use crate::text_bytes::part_end;
 use names::labels::is_label;
 ghost use mathlib.Core.Path.{_≡_};
 ghost use Prim.Native.Nat.{_≤_};

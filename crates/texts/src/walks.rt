@@ -1,10 +1,10 @@
 // The walk over the lines of a text, line by line.
-use crate::frames::is_opening;
-use crate::frames::line_end;
+use crate::openings::is_opening;
 use crate::row_cells::row_cells;
 use crate::rulers::is_border;
 use crate::rulers::is_units;
 use crate::rulers::ruler_width;
+use crate::text_bytes::line_end;
 use names::words::same_words;
 ghost use mathlib.Core.Path.{_≡_};
 ghost use Prim.Native.Nat.{_≤_};

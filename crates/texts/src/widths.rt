@@ -1,12 +1,13 @@
 // The width of a field line, at a place of a text.
 use crate::expressions::expr;
-use crate::fields::starts_at;
 use crate::leaves::Read;
 use crate::leaves::word_end;
 use crate::numbers::word_value;
+use crate::phrases::starts_at;
 use crate::units::Bits;
 use crate::units::unit_at;
 use rules::FIXED_MOST;
+use rules::OPEN_MOST;
 ghost use mathlib.Core.Bool.{true, _&&_};
 ghost use mathlib.Core.List.{List};
 ghost use mathlib.Core.Path.{_≡_};
@@ -110,7 +111,7 @@ fn measure_at(s: &[u8], at: usize) -> Width
     ensures place { λ r. ⌜ WithinWidth (now (s .entry)) at r ⌝ }
     ensures same { λ r. ⌜ SameWidth (now (s .entry)) (readMeasure (drop at (now (s .entry)))) r ⌝ }
 {
-    let e = expr(s, at, 0, 12);
+    let e = expr(s, at, 0, OPEN_MOST);
     match e {
         Read::Nothing => Width::Nothing,
         Read::At(n, d, z) => {

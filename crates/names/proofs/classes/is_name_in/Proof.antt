@@ -1,12 +1,12 @@
 use mathlib.Core.Path.{_≡_, refl, sym, _∙_}
 use denote.Ref.{now}
-use borrow.Author.Tests.{eq-eqb, ne-eqb}
-use Rattle.names.proofs.ClassRules.{word-in, name-word, name-label}
+use Rattle.names.proofs.ClassRules.{word-in, space-in, name-word, name-label}
 use borrow.Author.Needs.{needs}
 use Rattle.names.proofs.classes.is_name_in.Statement.{statement}
 use Rattle.names.proofs.classes.is_name_in.Tie as tie
 use Rattle.names.proofs.classes.is_name_in.Reads as reads
 use Rattle.names.proofs.classes.is_name_in.Lts as lts
+use Rattle.names.proofs.classes.is_space_in.Reads as is-space-in-reads
 use Rattle.names.proofs.classes.is_word_in.Reads as is-word-in-reads
 
 is-word-in-requires : tie.Need-is-word-in-requires
@@ -14,32 +14,31 @@ is-word-in-requires c κs = search needs
 
 returns : tie.Need-returns
 returns c =
-    let s = c .before .before in
-    let w = word-in (now (s .args .classes)) (s .pre) (s .args .b) (s .fits .b .fits) in
-    let y = sym w ∙ sym (c .before .is-word-in .ensures) ∙ c .if1 .taken in
-    sym (name-word (s .args .label) (s .args .b) y)
+    let w = word-in (now (c .before .before .args .classes)) (c .before .before .pre) (c .before .before .args .b) (c .before .before .fits .b .fits) in
+    sym (name-word (c .before .before .args .label) (c .before .before .args .b) (sym w ∙ sym (c .before .is-word-in .ensures) ∙ c .if1 .taken))
+
+is-space-in-requires : tie.Need-is-space-in-requires
+is-space-in-requires c κs = search needs
 
 returns-2 : tie.Need-returns-2
 returns-2 c =
-    let s = c .before .before .before .before in
-    let w = word-in (now (s .args .classes)) (s .pre) (s .args .b) (s .fits .b .fits) in
-    let n = sym w ∙ sym (c .before .before .before .is-word-in .ensures) ∙ c .before .before .if1 .left in
-    rw (name-label (s .args .label) (s .args .b) n (c .before .if2 .taken), eq-eqb (s .args .b) 32 (c .if3 .taken))
+    let w = word-in (now (c .before .before .before .before .before .args .classes)) (c .before .before .before .before .before .pre) (c .before .before .before .before .before .args .b) (c .before .before .before .before .before .fits .b .fits) in
+    let n = sym w ∙ sym (c .before .before .before .before .is-word-in .ensures) ∙ c .before .before .before .if1 .left in
+    let k = space-in (now (c .before .before .before .before .before .args .classes)) (c .before .before .before .before .before .pre) (c .before .before .before .before .before .args .b) (c .before .before .before .before .before .fits .b .fits) in
+    rw (name-label (c .before .before .before .before .before .args .label) (c .before .before .before .before .before .args .b) n (c .before .before .if2 .taken), sym k ∙ sym (c .before .is-space-in .ensures) ∙ c .if3 .taken)
 
 returns-3 : tie.Need-returns-3
 returns-3 c =
-    let s = c .before .before .before .before in
-    let w = word-in (now (s .args .classes)) (s .pre) (s .args .b) (s .fits .b .fits) in
-    let n = sym w ∙ sym (c .before .before .before .is-word-in .ensures) ∙ c .before .before .if1 .left in
-    rw (name-label (s .args .label) (s .args .b) n (c .before .if2 .taken), ne-eqb (s .args .b) 32 (c .if3 .left))
+    let w = word-in (now (c .before .before .before .before .before .args .classes)) (c .before .before .before .before .before .pre) (c .before .before .before .before .before .args .b) (c .before .before .before .before .before .fits .b .fits) in
+    let n = sym w ∙ sym (c .before .before .before .before .is-word-in .ensures) ∙ c .before .before .before .if1 .left in
+    let k = space-in (now (c .before .before .before .before .before .args .classes)) (c .before .before .before .before .before .pre) (c .before .before .before .before .before .args .b) (c .before .before .before .before .before .fits .b .fits) in
+    rw (name-label (c .before .before .before .before .before .args .label) (c .before .before .before .before .before .args .b) n (c .before .before .if2 .taken), sym k ∙ sym (c .before .is-space-in .ensures) ∙ c .if3 .left)
 
 returns-4 : tie.Need-returns-4
 returns-4 c =
-    let s = c .before .before .before in
-    let w = word-in (now (s .args .classes)) (s .pre) (s .args .b) (s .fits .b .fits) in
-    let n = sym w ∙ sym (c .before .before .is-word-in .ensures) ∙ c .before .if1 .left in
-    rw (c .if2 .left, n)
+    let w = word-in (now (c .before .before .before .args .classes)) (c .before .before .before .pre) (c .before .before .before .args .b) (c .before .before .before .fits .b .fits) in
+    rw (c .if2 .left, sym w ∙ sym (c .before .before .is-word-in .ensures) ∙ c .before .if1 .left)
 
 pub is-name-in-spec : {M : Type 1} → statement M
 is-name-in-spec =
-    tie.close (tie.spec is-word-in-requires returns returns-2 returns-3 returns-4)
+    tie.close (tie.spec is-word-in-requires returns is-space-in-requires returns-2 returns-3 returns-4)

@@ -1,28 +1,23 @@
-use mathlib.Core.Path.{_≡_, refl}
-use lib.ListN.{getD}
-use denote.Ref.{now}
-use borrow.Author.Tests.{eq-eqb, ne-eqb}
-use Rattle.names.specs.Classes.{isWordClass}
+use mathlib.Core.Path.{_≡_, refl, sym, _∙_}
 use borrow.Author.Needs.{needs}
 use Rattle.names.proofs.classes.is_word_in.Statement.{statement}
 use Rattle.names.proofs.classes.is_word_in.Tie as tie
 use Rattle.names.proofs.classes.is_word_in.Reads as reads
 use Rattle.names.proofs.classes.is_word_in.Lts as lts
+use Rattle.names.proofs.classes.is_digit_in.Reads as is-digit-in-reads
+use Rattle.names.proofs.classes.is_letter_in.Reads as is-letter-in-reads
 
-element-copy-out-class : tie.Need-element-copy-out-class
-element-copy-out-class c = search needs
+is-letter-in-requires : tie.Need-is-letter-in-requires
+is-letter-in-requires c κs = search needs
 
 returns : tie.Need-returns
-unfolding isWordClass
-returns c =
-    let s = c .before .before in
-    rw (eq-eqb (getD (now (s .args .classes)) (s .args .b) 0) 1 (c .if1 .taken))
+returns c = rw (sym (c .before .is-letter-in .ensures) ∙ c .if1 .taken) refl
+
+is-digit-in-requires : tie.Need-is-digit-in-requires
+is-digit-in-requires c κs = search needs
 
 returns-2 : tie.Need-returns-2
-unfolding isWordClass
-returns-2 c =
-    let s = c .before .before in
-    rw (ne-eqb (getD (now (s .args .classes)) (s .args .b) 0) 1 (c .if1 .left))
+returns-2 c = rw (sym (c .before .before .is-letter-in .ensures) ∙ c .before .if1 .left) (c .is-digit-in .ensures)
 
 pub is-word-in-spec : {M : Type 1} → statement M
-is-word-in-spec = tie.close (tie.spec element-copy-out-class returns returns-2)
+is-word-in-spec = tie.close (tie.spec is-letter-in-requires returns is-digit-in-requires returns-2)

@@ -6,7 +6,7 @@ use denote.Ref.{now}
 use borrow.Author.Tests.{not-true, not-false}
 use Rattle.base.specs.Lists.{all}
 use Rattle.base.proofs.Scans.{all-step, all-end}
-use Rattle.rules.specs.Names.{isNameByte}
+use Rattle.names.specs.NameBytes.{isNameByte}
 use borrow.Author.Needs.{needs}
 use Rattle.names.proofs.labels.all_bytes.Statement.{statement}
 use Rattle.names.proofs.labels.all_bytes.Tie as tie

@@ -2,6 +2,7 @@ use mathlib.Core.Path.{_≡_, refl, sym, _∙_}
 use lib.ListN.{length}
 use denote.Ref.{now}
 use borrow.Author.Tests.{lt-leb, le-leb, not-true, not-false}
+use Rattle.rules.specs.Limits.{labelMost}
 use Rattle.rules.specs.Names.{isLabel}
 use borrow.Author.Needs.{needs}
 use Rattle.names.proofs.labels.is_label.Statement.{statement}
@@ -15,7 +16,7 @@ use Rattle.names.proofs.labels.no_two_spaces.Reads as no-two-spaces-rea
 
 returns : tie.Need-returns
 unfolding isLabel
-returns c = rw (lt-leb (length (now (c .before .before .args .w))) 40 (c .if1 .taken))
+returns c = rw (lt-leb (length (now (c .before .before .args .w))) labelMost (c .if1 .taken))
 
 class-table-requires : tie.Need-class-table-requires
 class-table-requires c κs = search needs
@@ -28,7 +29,7 @@ unfolding isLabel
 returns-2 c =
     let s = c .before .before .before .before .before .before in
     let a = sym (c .before .all-bytes .ensures) ∙ not-true (c .before .all-bytes .result) (c .if2 .taken) in
-    rw (le-leb (length (now (s .args .w))) 40 (c .before .before .before .before .if1 .left), a)
+    rw (le-leb (length (now (s .args .w))) labelMost (c .before .before .before .before .if1 .left), a)
 
 has-word-ends-requires : tie.Need-has-word-ends-requires
 has-word-ends-requires c κs = search needs
@@ -41,7 +42,7 @@ returns-3 c =
     ∙ not-false (c .before .before .before .before .all-bytes .result) (c .before .before .before .if2 .left) in
     let e = sym (c .before .has-word-ends .ensures) ∙ not-true (c .before .has-word-ends .result) (c .if3 .taken) in
     rw (
-      le-leb (length (now (s .args .w))) 40 (c .before .before .before .before .before .before .before .if1
+      le-leb (length (now (s .args .w))) labelMost (c .before .before .before .before .before .before .before .if1
           .left),
       a,
       e,
@@ -53,18 +54,9 @@ no-two-spaces-requires c κs = search needs
 returns-4 : tie.Need-returns-4
 unfolding isLabel
 returns-4 c =
-    let s = c .before .before .before .before .before .before .before .before .before .before in
-    let a = sym (c .before .before .before .before .before .all-bytes .ensures)
-    ∙ not-false (c .before .before .before .before .before .all-bytes .result)
-    (c .before .before .before .before .if2 .left) in
-    let e = sym (c .before .before .has-word-ends .ensures) ∙ not-false
-    (c .before .before .has-word-ends .result) (c .before .if3 .left) in
-    rw (
-      le-leb (length (now (s .args .w))) 40 (c .before .before .before .before .before .before .before
-          .before .if1 .left),
-      a,
-      e,
-    ) (c .no-two-spaces .ensures)
+    let a = sym (c .before .before .before .before .before .before .all-bytes .ensures) ∙ not-false (c .before .before .before .before .before .before .all-bytes .result) (c .before .before .before .before .before .if2 .left) in
+    let e = sym (c .before .before .before .has-word-ends .ensures) ∙ not-false (c .before .before .before .has-word-ends .result) (c .before .before .if3 .left) in
+    rw (le-leb (length (now (c .before .before .before .before .before .before .before .before .before .before .before .args .w))) labelMost (c .before .before .before .before .before .before .before .before .before .if1 .left), a, e) (c .no-two-spaces .ensures)
 
 pub is-label-spec : {M : Type 1} → statement M
 is-label-spec =

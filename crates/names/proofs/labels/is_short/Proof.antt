@@ -1,8 +1,10 @@
 use mathlib.Core.Path.{_≡_, refl, sym, _∙_}
-use lib.ListN.{length}
+use lib.ListN.{length, getD}
 use denote.Ref.{now}
 use native.Mathlib.Omega.{arith}
 use borrow.Author.Tests.{lt-leb, le-leb, not-true, not-false}
+use Rattle.rules.specs.Limits.{shortMost}
+use Rattle.names.proofs.ClassRules.{letter-in}
 use Rattle.names.proofs.Ends.{no-short, short-is}
 use borrow.Author.Needs.{needs}
 use Rattle.names.proofs.labels.is_short.Statement.{statement}
@@ -29,49 +31,38 @@ is-letter-in-requires c κs = search needs
 returns-2 : tie.Need-returns-2
 returns-2 c =
     let w = now (c .before .before .before .before .before .before .before .args .w) in
-    let a = sym (c .before .is-letter-in .ensures) ∙ not-true (c .before .is-letter-in .result) (c .if2 .taken) in
+    let first = letter-in _ (c .before .before .before .before .class-table .ensures) (getD w 0 0) (omega (arith, c .before .before .shared-slice-known2 .given 0)) in
+    let a = sym first ∙ sym (c .before .is-letter-in .ensures) ∙ not-true (c .before .is-letter-in .result) (c .if2 .taken) in
     sym (short-is w (omega arith) ∙ rw a)
 
 returns-3 : tie.Need-returns-3
 returns-3 c =
-    let s = c .before .before .before .before .before .before .before .before in
-    let w = now (s .args .w) in
-    let a = sym (c .before .before .is-letter-in .ensures) ∙ not-false
-    (c .before .before .is-letter-in .result) (c .before .if2 .left) in
-    sym (short-is w (omega arith) ∙ rw (a, lt-leb (length w) 8 (c .if3 .taken)))
+    let w = now (c .before .before .before .before .before .before .before .before .args .w) in
+    let first = letter-in _ (c .before .before .before .before .before .class-table .ensures) (getD w 0 0) (omega (arith, c .before .before .before .shared-slice-known2 .given 0)) in
+    let a = sym first ∙ sym (c .before .before .is-letter-in .ensures) ∙ not-false (c .before .before .is-letter-in .result) (c .before .if2 .left) in
+    sym (short-is w (omega arith) ∙ rw (a, lt-leb (length w) shortMost (c .if3 .taken)))
 
 all-bytes-requires : tie.Need-all-bytes-requires
 all-bytes-requires c κs = search needs
 
 returns-4 : tie.Need-returns-4
 returns-4 c =
-    let s = c .before .before .before .before .before .before .before .before .before .before .before in
-    let w = now (s .args .w) in
-    let a = sym (c .before .before .before .before .before .is-letter-in .ensures)
-    ∙ not-false (c .before .before .before .before .before .is-letter-in .result)
-    (c .before .before .before .before .if2 .left) in
+    let w = now (c .before .before .before .before .before .before .before .before .before .before .before .args .w) in
+    let first = letter-in _ (c .before .before .before .before .before .before .before .before .class-table .ensures) (getD w 0 0) (omega (arith, c .before .before .before .before .before .before .shared-slice-known2 .given 0)) in
+    let a = sym first ∙ sym (c .before .before .before .before .before .is-letter-in .ensures) ∙ not-false (c .before .before .before .before .before .is-letter-in .result) (c .before .before .before .before .if2 .left) in
     let b = sym (c .before .all-bytes .ensures) ∙ not-true (c .before .all-bytes .result) (c .if4 .taken) in
-    sym (short-is w (omega arith) ∙ rw (a, le-leb (length w) 8 (c .before .before .before .if3 .left), b))
+    sym (short-is w (omega arith) ∙ rw (a, le-leb (length w) shortMost (c .before .before .before .if3 .left), b))
 
 is-reserved-requires : tie.Need-is-reserved-requires
 is-reserved-requires c κs = search needs
 
 returns-5 : tie.Need-returns-5
 returns-5 c =
-    let s = c .before .before .before .before .before .before .before .before .before .before .before .before in
-    let w = now (s .args .w) in
-    let a = sym (c .before .before .before .before .before .before .is-letter-in .ensures)
-    ∙ not-false (c .before .before .before .before .before .before .is-letter-in .result)
-    (c .before .before .before .before .before .if2 .left) in
-    let b = sym (c .before .before .all-bytes .ensures) ∙ not-false (c .before .before .all-bytes .result)
-    (c .before .if4 .left) in
-    sym (short-is w (omega arith) ∙ rw (
-      a,
-      le-leb (length w) 8
-          (c .before .before .before .before .if3 .left),
-      b,
-      ← c .is-reserved .ensures,
-    ))
+    let w = now (c .before .before .before .before .before .before .before .before .before .before .before .before .args .w) in
+    let first = letter-in _ (c .before .before .before .before .before .before .before .before .before .class-table .ensures) (getD w 0 0) (omega (arith, c .before .before .before .before .before .before .before .shared-slice-known2 .given 0)) in
+    let a = sym first ∙ sym (c .before .before .before .before .before .before .is-letter-in .ensures) ∙ not-false (c .before .before .before .before .before .before .is-letter-in .result) (c .before .before .before .before .before .if2 .left) in
+    let b = sym (c .before .before .all-bytes .ensures) ∙ not-false (c .before .before .all-bytes .result) (c .before .if4 .left) in
+    sym (short-is w (omega arith) ∙ rw (a, le-leb (length w) shortMost (c .before .before .before .before .if3 .left), b, ← c .is-reserved .ensures))
 
 pub is-short-spec : {M : Type 1} → statement M
 is-short-spec =

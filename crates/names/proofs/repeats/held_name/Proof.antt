@@ -3,6 +3,7 @@ use Prim.Native.Nat.{_-_, _≤_}
 use native.Mathlib.Omega.{arith}
 use lib.ListN.{length, take}
 use denote.Ref.{now}
+use Rattle.rules.specs.Limits.{shortMost}
 use Rattle.names.specs.Repeats.{padTo}
 use Rattle.names.proofs.PadLaws.{pad-set, pad-whole}
 use borrow.Author.Needs.{needs}
@@ -13,10 +14,10 @@ use Rattle.names.proofs.repeats.held_name.Lts as lts
 use Rattle.names.proofs.repeats.byte_of.Reads as byte-of-reads
 
 abbrev Inv-loop : tie.InvT-loop
-Inv-loop w name₀ i₀ name i = (i ≤ 8) × (length name ≡ 8) × (take i name ≡ padTo i w)
+Inv-loop w name₀ i₀ name i = (i ≤ shortMost) × (length name ≡ shortMost) × (take i name ≡ padTo i w)
 
 abbrev μ-loop : tie.MeasureT-loop
-μ-loop w name₀ i₀ name i = 8 - i
+μ-loop w name₀ i₀ name i = shortMost - i
 
 loop-holds : tie.Need-loop-holds Inv-loop μ-loop
 unfolding padTo

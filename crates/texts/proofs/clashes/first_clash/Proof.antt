@@ -5,7 +5,7 @@ use native.Mathlib.Omega.{arith}
 use lib.ListN.{getD}
 use denote.Ref.{now}
 use Rattle.names.proofs.PairLaws.{Inner, Later, inner-starts, later-starts, inner-on, later-on, later-found, later-ends}
-use Rattle.texts.specs.LinePlaces.{rowAt}
+use Rattle.texts.specs.LinePlaces.{lineAt}
 use Rattle.texts.specs.LineTests.{linesClash, clashAt}
 use Rattle.texts.specs.declared.parts.Parts.{Parts}
 use borrow.Author.Needs.{needs}
@@ -15,23 +15,23 @@ use Rattle.texts.proofs.clashes.first_clash.Reads as reads
 use Rattle.texts.proofs.clashes.first_clash.Lts as lts
 use Rattle.texts.proofs.clashes.clash.Reads as clash-reads
 
-clash-lines : (text : List ℕ) (rows : List Parts) (names : List (List ℕ)) (i j : ℕ)
-    → clashAt text rows names i j
-    ≡ linesClash text (rowAt rows j) (rowAt rows i) (getD names j []) (getD names i [])
+clash-lines : (text : List ℕ) (lines : List Parts) (names : List (List ℕ)) (i j : ℕ)
+    → clashAt text lines names i j
+    ≡ linesClash text (lineAt lines j) (lineAt lines i) (getD names j []) (getD names i [])
 unfolding clashAt
-clash-lines text rows names i j = refl
+clash-lines text lines names i j = refl
 
 abbrev Inv-loop : tie.InvT-loop
-Inv-loop text names n rows j i₀ i = Inner (clashAt text rows names) j i
+Inv-loop text names n lines j i₀ i = Inner (clashAt text lines names) j i
 
 abbrev μ-loop : tie.MeasureT-loop
-μ-loop text names n rows j i₀ i = j - i
+μ-loop text names n lines j i₀ i = j - i
 
 abbrev Inv-later : tie.InvT-later
-Inv-later text names n rows j₀ j = Later (clashAt text rows names) n j
+Inv-later text names n lines j₀ j = Later (clashAt text lines names) n j
 
 abbrev μ-later : tie.MeasureT-later
-μ-later text names n rows j₀ j = n - j
+μ-later text names n lines j₀ j = n - j
 
 later-holds : tie.Need-later-holds Inv-loop μ-loop Inv-later μ-later
 later-holds c =

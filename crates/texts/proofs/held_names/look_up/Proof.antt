@@ -1,10 +1,11 @@
+use Rattle.rules.specs.Limits.{shortMost}
 use mathlib.Core.Path.{_≡_, refl, sym, _∙_}
 use Prim.Native.Nat.{_-_, _≤_, _+_, _<_}
 use native.Mathlib.Omega.{arith}
 use native.Mathlib.Nat.{sub-zero}
 use denote.Ref.{now}
 use Rattle.names.specs.Repeats.{firstFrom, padTo}
-use Rattle.texts.specs.Pieces.{isHeld, lookUp}
+use Rattle.texts.specs.StoredTrees.{isHeld, lookUp}
 use Rattle.texts.proofs.LineSearches.{search-found, search-next, search-none}
 use borrow.Author.Needs.{needs}
 use Rattle.texts.proofs.held_names.look_up.Statement.{statement}
@@ -16,7 +17,7 @@ use Rattle.names.proofs.repeats.same_name.Reads as same-name-reads
 
 abbrev Inv-loop : tie.InvT-loop
 Inv-loop names n w held i₀ i =
-    (i ≤ n) × (held ≡ padTo 8 w) × (firstFrom (isHeld names w) 0 n ≡ firstFrom (isHeld names w) i (n - i))
+    (i ≤ n) × (held ≡ padTo shortMost w) × (firstFrom (isHeld names w) 0 n ≡ firstFrom (isHeld names w) i (n - i))
 
 abbrev μ-loop : tie.MeasureT-loop
 μ-loop names n w held i₀ i = n - i

@@ -1,3 +1,4 @@
+use Rattle.rules.specs.Limits.{fieldsMost}
 use mathlib.Core.Path.{_≡_, refl, sym, _∙_}
 use Prim.Native.Nat.{_-_, _≤_, _+_, _<_}
 use native.Mathlib.Omega.{arith}
@@ -6,7 +7,7 @@ use denote.Ref.{now}
 use mathlib.Core.List.{[]}
 use Prim.Native.Nat.{ℕ}
 use lib.ListN.{length, getD}
-use Rattle.texts.specs.LinePlaces.{rowAt}
+use Rattle.texts.specs.LinePlaces.{lineAt}
 use Rattle.texts.specs.LineTests.{heldShort}
 use Rattle.texts.proofs.LineSearches.{names-next}
 use borrow.Author.Needs.{needs}
@@ -17,11 +18,11 @@ use Rattle.texts.proofs.held_names.short_names.Lts as lts
 use Rattle.texts.proofs.held_names.short_of.Reads as short-of-reads
 
 abbrev Inv-loop : tie.InvT-loop
-Inv-loop text n fixed rows names₀ i₀ names i =
-    (i ≤ n) × (length names ≡ 64) × ((k : ℕ) → k < i → getD names k [] ≡ heldShort text fixed (rowAt rows k))
+Inv-loop text n fixed lines names₀ i₀ names i =
+    (i ≤ n) × (length names ≡ fieldsMost) × ((k : ℕ) → k < i → getD names k [] ≡ heldShort text fixed (lineAt lines k))
 
 abbrev μ-loop : tie.MeasureT-loop
-μ-loop text n fixed rows names₀ i₀ names i = n - i
+μ-loop text n fixed lines names₀ i₀ names i = n - i
 
 loop-holds : tie.Need-loop-holds Inv-loop μ-loop
 loop-holds c = (omega arith, search needs, λ k lt. absurd (omega arith))
@@ -53,7 +54,7 @@ loop-again c =
     let l = c .before .before .before .loop in (
       omega arith,
       search needs,
-      names-next (l .names) (λ k. heldShort (now (a .text)) (a .fixed) (rowAt (a .t2) k)) (l .i) _
+      names-next (l .names) (λ k. heldShort (now (a .text)) (a .fixed) (lineAt (a .t2) k)) (l .i) _
           (omega arith) (c .short-of .ensures) (l .inv .2),
     )
 

@@ -6,7 +6,7 @@ use Rattle.texts.proofs.labels.label_ends.Statement.{statement}
 use Rattle.texts.proofs.labels.label_ends.Tie as tie
 use Rattle.texts.proofs.labels.label_ends.Reads as reads
 use Rattle.texts.proofs.labels.label_ends.Lts as lts
-use Rattle.texts.proofs.fields.starts_at.Reads as starts-at-reads
+use Rattle.texts.proofs.phrases.starts_at.Reads as starts-at-reads
 
 slice-aggregate-starts-at : tie.Need-slice-aggregate-starts-at
 slice-aggregate-starts-at c = search needs

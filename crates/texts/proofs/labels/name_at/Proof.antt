@@ -6,7 +6,7 @@ use Rattle.texts.proofs.labels.name_at.Tie as tie
 use Rattle.texts.proofs.labels.name_at.Reads as reads
 use Rattle.texts.proofs.labels.name_at.Lts as lts
 use Rattle.names.proofs.labels.is_short.Reads as is-short-reads
-use Rattle.texts.proofs.fields.starts_at.Reads as starts-at-reads
+use Rattle.texts.proofs.phrases.starts_at.Reads as starts-at-reads
 use Rattle.texts.proofs.leaves.word_end.Reads as word-end-reads
 
 word-end-requires : tie.Need-word-end-requires

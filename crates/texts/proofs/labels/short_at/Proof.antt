@@ -6,7 +6,7 @@ use Rattle.texts.proofs.labels.short_at.Statement.{statement}
 use Rattle.texts.proofs.labels.short_at.Tie as tie
 use Rattle.texts.proofs.labels.short_at.Reads as reads
 use Rattle.texts.proofs.labels.short_at.Lts as lts
-use Rattle.texts.proofs.fields.starts_at.Reads as starts-at-reads
+use Rattle.texts.proofs.phrases.starts_at.Reads as starts-at-reads
 use Rattle.texts.proofs.labels.name_at.Reads as name-at-reads
 
 slice-aggregate-starts-at : tie.Need-slice-aggregate-starts-at

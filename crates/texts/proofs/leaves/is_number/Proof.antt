@@ -1,3 +1,4 @@
+use Rattle.rules.specs.Limits.{numberMost}
 use mathlib.Core.Path.{_≡_, refl, sym, _∙_}
 use native.Mathlib.Omega.{arith}
 use borrow.Author.Tests.{not-true, not-false}
@@ -18,7 +19,7 @@ use Rattle.names.proofs.classes.class_table.Reads as class-table-reads
 use Rattle.texts.proofs.leaves.is_digit.Reads as is-digit-reads
 
 abbrev Inv-loop : tie.InvT-loop
-Inv-loop w classes v₀ i₀ v i = (i ≤ length w) × (v ≤ 4294967295) × (value w ≡ scan v (drop i w)) ×
+Inv-loop w classes v₀ i₀ v i = (i ≤ length w) × (v ≤ numberMost) × (value w ≡ scan v (drop i w)) ×
     (all isDigit w ≡ all isDigit (drop i w))
 
 abbrev μ-loop : tie.MeasureT-loop

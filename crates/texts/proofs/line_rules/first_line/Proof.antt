@@ -15,12 +15,12 @@ use Rattle.texts.proofs.line_rules.breaks.Reads as breaks-reads
 use Rattle.texts.proofs.line_rules.rests.Reads as rests-reads
 
 abbrev Inv-loop : tie.InvT-loop
-Inv-loop n rule rows rested₀ i₀ rested i =
-    (i ≤ n) × (rested ≡ anyRest rows i) ×
-    (firstFrom (breaksAt rule rows) 0 n ≡ firstFrom (breaksAt rule rows) i (n - i))
+Inv-loop n rule lines rested₀ i₀ rested i =
+    (i ≤ n) × (rested ≡ anyRest lines i) ×
+    (firstFrom (breaksAt rule lines) 0 n ≡ firstFrom (breaksAt rule lines) i (n - i))
 
 abbrev μ-loop : tie.MeasureT-loop
-μ-loop n rule rows rested₀ i₀ rested i = n - i
+μ-loop n rule lines rested₀ i₀ rested i = n - i
 
 loop-holds : tie.Need-loop-holds Inv-loop μ-loop
 loop-holds c = unfold anyRest in (omega arith, refl, rw sub-zero)

@@ -12,24 +12,24 @@ use Rattle.texts.proofs.mismatches.first_mismatch.Statement.{statement}
 use Rattle.texts.proofs.mismatches.first_mismatch.Tie as tie
 use Rattle.texts.proofs.mismatches.first_mismatch.Reads as reads
 use Rattle.texts.proofs.mismatches.first_mismatch.Lts as lts
-use Rattle.texts.proofs.frames.line_end.Reads as line-end-reads
-use Rattle.texts.proofs.frames.part_end.Reads as part-end-reads
+use Rattle.texts.proofs.text_bytes.line_end.Reads as line-end-reads
+use Rattle.texts.proofs.text_bytes.part_end.Reads as part-end-reads
 use Rattle.texts.proofs.mismatches.end_index.Reads as end-index-reads
 use Rattle.texts.proofs.mismatches.shows.Reads as shows-reads
 use Rattle.texts.proofs.walks.skip_lines.Reads as skip-lines-reads
 
 abbrev Inv-loop : tie.InvT-loop
-Inv-loop text from n rows at i₀ e line bar a₀ i a = (a ≤ length line + 1) × (i ≤ n) × AllCells text from rows n line
+Inv-loop text from n lines at i₀ e line bar a₀ i a = (a ≤ length line + 1) × (i ≤ n) × AllCells text from lines n line
     at a i
 
 abbrev μ-loop : tie.MeasureT-loop
-μ-loop text from n rows at i₀ e line bar a₀ i a = length line - a
+μ-loop text from n lines at i₀ e line bar a₀ i a = length line - a
 
 abbrev Inv-rows : tie.InvT-rows
-Inv-rows text from n rows at₀ i₀ at i = (at ≤ length text) × (i ≤ n) × AllRows text from rows n at i
+Inv-rows text from n lines at₀ i₀ at i = (at ≤ length text) × (i ≤ n) × AllRows text from lines n at i
 
 abbrev μ-rows : tie.MeasureT-rows
-μ-rows text from n rows at₀ i₀ at i = length text - at
+μ-rows text from n lines at₀ i₀ at i = length text - at
 
 rows-holds : tie.Need-rows-holds Inv-loop μ-loop Inv-rows μ-rows
 rows-holds c =

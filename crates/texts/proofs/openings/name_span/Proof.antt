@@ -9,7 +9,7 @@ use Rattle.texts.proofs.openings.name_span.Statement.{statement}
 use Rattle.texts.proofs.openings.name_span.Tie as tie
 use Rattle.texts.proofs.openings.name_span.Reads as reads
 use Rattle.texts.proofs.openings.name_span.Lts as lts
-use Rattle.texts.proofs.frames.line_end.Reads as line-end-reads
+use Rattle.texts.proofs.text_bytes.line_end.Reads as line-end-reads
 use Rattle.texts.proofs.openings.article_length.Reads as article-length-reads
 
 article-length-requires : tie.Need-article-length-requires

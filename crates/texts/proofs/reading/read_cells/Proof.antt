@@ -37,83 +37,83 @@ first-mismatch-requires c κs =
       f .seen .framed .plain .size,
       c .skip-lines .ensures .0,
       few-lines (now (a .text)) (a .w) (a .head) (a .n) (a
-          .rows) f,
-      rows-fit (now (a .text)) (a .w) (a .head) (a .n) (a .rows) f,
+          .lines) f,
+      rows-fit (now (a .text)) (a .w) (a .head) (a .n) (a .lines) f,
     )
 
 add-t12 : tie.Need-add-t12
 add-t12 c =
     let a = c .before .before .before .before .before .args in
     let k = c .before .before .before .before .before .pre in
-    let m = top-most (now (a .text)) (a .w) (a .head) (a .n) (a .rows) (k .known) in
+    let m = top-most (now (a .text)) (a .w) (a .head) (a .n) (a .lines) (k .known) in
     search (needs, m)
 
 add-t13 : tie.Need-add-t13
 add-t13 c =
     let a = c .before .before .before .before .before .args in
     let k = c .before .before .before .before .before .pre in
-    let m = top-most (now (a .text)) (a .w) (a .head) (a .n) (a .rows) (k .known) in
-    let f = few-lines (now (a .text)) (a .w) (a .head) (a .n) (a .rows) (k .known) in
+    let m = top-most (now (a .text)) (a .w) (a .head) (a .n) (a .lines) (k .known) in
+    let f = few-lines (now (a .text)) (a .w) (a .head) (a .n) (a .lines) (k .known) in
     search (needs, m, f)
 
 returns : tie.Need-returns
 returns c =
     let a = c .before .before .before .before .before .args in
     let k = c .before .before .before .before .before .pre in
-    answers-7 (now (a .text)) (a .w) (a .head) (a .n) (a .rows) k (now (a .out)) _ _ (c .before .before .skip-lines
+    answers-7 (now (a .text)) (a .w) (a .head) (a .n) (a .lines) k (now (a .out)) _ _ (c .before .before .skip-lines
     .ensures .1) (c .before .first-mismatch .ensures) (omega arith)
 
 short-names-requires : tie.Need-short-names-requires
 short-names-requires c κs =
     let a = c .before .before .before .before .before .args in
     let k = c .before .before .before .before .before .pre in (
-      few-lines (now (a .text)) (a .w) (a .head) (a .n) (a .rows) (k .known),
+      few-lines (now (a .text)) (a .w) (a .head) (a .n) (a .lines) (k .known),
       rows-fit (now (a .text)) (a .w) (a
-          .head) (a .n) (a .rows) (k .known),
+          .head) (a .n) (a .lines) (k .known),
     )
 
 first-clash-requires : tie.Need-first-clash-requires
 first-clash-requires c κs =
     let a = c .before .before .before .before .before .before .before .args in
     let k = c .before .before .before .before .before .before .before .pre in (
-      few-lines (now (a .text)) (a .w) (a .head) (a .n) (a .rows) (k .known),
+      few-lines (now (a .text)) (a .w) (a .head) (a .n) (a .lines) (k .known),
       rows-fit (now (a .text)) (a .w) (a
-          .head) (a .n) (a .rows) (k .known),
+          .head) (a .n) (a .lines) (k .known),
     )
 
 add-t16 : tie.Need-add-t16
 add-t16 c =
     let a = c .before .before .before .before .before .before .before .before .before .args in
     let k = c .before .before .before .before .before .before .before .before .before .pre in
-    let m = top-most (now (a .text)) (a .w) (a .head) (a .n) (a .rows) (k .known) in
+    let m = top-most (now (a .text)) (a .w) (a .head) (a .n) (a .lines) (k .known) in
     search (needs, m)
 
 add-t17 : tie.Need-add-t17
 add-t17 c =
     let a = c .before .before .before .before .before .before .before .before .before .args in
     let k = c .before .before .before .before .before .before .before .before .before .pre in
-    let m = top-most (now (a .text)) (a .w) (a .head) (a .n) (a .rows) (k .known) in
-    let f = few-lines (now (a .text)) (a .w) (a .head) (a .n) (a .rows) (k .known) in
+    let m = top-most (now (a .text)) (a .w) (a .head) (a .n) (a .lines) (k .known) in
+    let f = few-lines (now (a .text)) (a .w) (a .head) (a .n) (a .lines) (k .known) in
     search (needs, m, f)
 
 returns-2 : tie.Need-returns-2
 returns-2 c =
     let a = c .before .before .before .before .before .before .before .before .before .args in
     let k = c .before .before .before .before .before .before .before .before .before .pre in
-    let h = shown-kept (now (a .text)) (a .w) (a .head) (a .n) (a .rows) k (now (a .out)) _ _ (c .before .before
+    let h = shown-kept (now (a .text)) (a .w) (a .head) (a .n) (a .lines) k (now (a .out)) _ _ (c .before .before
     .before .before .before .before .skip-lines .ensures .1) (c .before .before .before .before .before
     .first-mismatch .ensures) (omega arith) in
-    answers-8 (now (a .text)) (a .w) (a .head) (a .n) (a .rows) k (now (a .out)) _ (c .before .before .before
+    answers-8 (now (a .text)) (a .w) (a .head) (a .n) (a .lines) k (now (a .out)) _ (c .before .before .before
     .short-names .ensures) h _ (c .before .first-clash .ensures) (omega arith)
 
 read-names-requires : tie.Need-read-names-requires
 read-names-requires c κs =
     let a = c .before .before .before .before .before .before .before .before .before .before .args in
     let k = c .before .before .before .before .before .before .before .before .before .before .pre in
-    let h = shown-kept (now (a .text)) (a .w) (a .head) (a .n) (a .rows) k (now (a .out)) _ _ (c .before .before
+    let h = shown-kept (now (a .text)) (a .w) (a .head) (a .n) (a .lines) k (now (a .out)) _ _ (c .before .before
     .before .before .before .before .before .skip-lines .ensures .1) (c .before .before .before .before .before
     .before .first-mismatch .ensures) (omega arith) in
-    names-kept (now (a .text)) (a .w) (a .head) (a .n) (a .rows) k (now (a .out)) _ (c .before .before .before
+    names-kept (now (a .text)) (a .w) (a .head) (a .n) (a .lines) k (now (a .out)) _ (c .before .before .before
     .before .short-names .ensures) h _ (c .before .before .first-clash .ensures) (omega arith)
 
 same-length : tie.Need-same-length

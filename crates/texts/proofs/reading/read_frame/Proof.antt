@@ -17,7 +17,7 @@ use Rattle.texts.proofs.reading.read_frame.Statement.{statement}
 use Rattle.texts.proofs.reading.read_frame.Tie as tie
 use Rattle.texts.proofs.reading.read_frame.Reads as reads
 use Rattle.texts.proofs.reading.read_frame.Lts as lts
-use Rattle.texts.proofs.line_rows.line_rows.Reads as line-rows-reads
+use Rattle.texts.proofs.field_lines.field_lines.Reads as field-lines-reads
 use Rattle.texts.proofs.reading.read_lines.Reads as read-lines-reads
 use Rattle.texts.proofs.walks.skip_lines.Reads as skip-lines-reads
 
@@ -57,8 +57,8 @@ skip-lines-requires c κs =
     let k = c .before .before .before .before .pre in
     k .1 .plain .size
 
-line-rows-requires : tie.Need-line-rows-requires
-line-rows-requires c κs =
+field-lines-requires : tie.Need-field-lines-requires
+field-lines-requires c κs =
     let a = c .before .before .before .before .before .args in
     let k = c .before .before .before .before .before .pre in
     (c .skip-lines .ensures .0, k .1 .plain .size, omega arith)
@@ -71,7 +71,7 @@ read-lines-requires c κs =
       lines-seen (now (a .text)) (a .w) (a .rows) (a .cells) (a .n) (k .0) (k .1) (few-lines (now (a .text))
           (now (a .out)) (a .w) (a .rows) (a .cells) (a .n) (k .0) (k .1) (λ h. absurd (omega arith)) (λ h. absurd
           (omega arith))) (c .before .before .skip-lines .result) (c .before .before .skip-lines .ensures .1) _ (c
-          .before .line-rows .ensures),
+          .before .field-lines .ensures),
     )
 
 same-length : tie.Need-same-length
@@ -89,7 +89,7 @@ read-frame-spec =
     mul-head
     add-head
     skip-lines-requires
-    line-rows-requires
+    field-lines-requires
     read-lines-requires
     same-length
     returns-3)

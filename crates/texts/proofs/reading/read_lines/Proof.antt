@@ -16,35 +16,35 @@ first-line-requires : tie.Need-first-line-requires
 first-line-requires c κs =
     let a = c .before .before .args in
     let k = c .before .before .pre in
-    lines-few (now (a .text)) (now (a .out)) (a .w) (a .head) (a .n) (a .rows) (k .0) (k .1)
+    lines-few (now (a .text)) (now (a .out)) (a .w) (a .head) (a .n) (a .lines) (k .0) (k .1)
 
 add-t10 : tie.Need-add-t10
 add-t10 c =
     let a = c .before .before .before .before .args in
     let k = c .before .before .before .before .pre in
-    let m = lines-top (now (a .text)) (now (a .out)) (a .w) (a .head) (a .n) (a .rows) (k .0) (k .1) in
+    let m = lines-top (now (a .text)) (now (a .out)) (a .w) (a .head) (a .n) (a .lines) (k .0) (k .1) in
     search (needs, m)
 
 add-t11 : tie.Need-add-t11
 add-t11 c =
     let a = c .before .before .before .before .args in
     let k = c .before .before .before .before .pre in
-    let m = lines-top (now (a .text)) (now (a .out)) (a .w) (a .head) (a .n) (a .rows) (k .0) (k .1) in
-    let f = lines-few (now (a .text)) (now (a .out)) (a .w) (a .head) (a .n) (a .rows) (k .0) (k .1) in
+    let m = lines-top (now (a .text)) (now (a .out)) (a .w) (a .head) (a .n) (a .lines) (k .0) (k .1) in
+    let f = lines-few (now (a .text)) (now (a .out)) (a .w) (a .head) (a .n) (a .lines) (k .0) (k .1) in
     search (needs, m, f)
 
 returns : tie.Need-returns
 returns c =
     let a = c .before .before .before .before .args in
     let k = c .before .before .before .before .pre in
-    answers-5 (now (a .text)) (now (a .out)) (a .w) (a .head) (a .n) (a .rows) (k .0) (k .1) _ (c .before
+    answers-5 (now (a .text)) (now (a .out)) (a .w) (a .head) (a .n) (a .lines) (k .0) (k .1) _ (c .before
     .first-line .ensures) (omega arith)
 
 read-sizes-requires : tie.Need-read-sizes-requires
 read-sizes-requires c κs =
     let a = c .before .before .before .before .before .args in
     let k = c .before .before .before .before .before .pre in
-    forms-seen (now (a .text)) (now (a .out)) (a .w) (a .head) (a .n) (a .rows) (k .0) (k .1) _ (c .before .before
+    forms-seen (now (a .text)) (now (a .out)) (a .w) (a .head) (a .n) (a .lines) (k .0) (k .1) _ (c .before .before
     .first-line .ensures) (omega arith)
 
 same-length : tie.Need-same-length

@@ -16,35 +16,35 @@ first-line-requires : tie.Need-first-line-requires
 first-line-requires c κs =
     let a = c .before .before .args in
     let k = c .before .before .pre in
-    few-lines (now (a .text)) (a .w) (a .head) (a .n) (a .rows) k
+    few-lines (now (a .text)) (a .w) (a .head) (a .n) (a .lines) k
 
 add-t10 : tie.Need-add-t10
 add-t10 c =
     let a = c .before .before .before .before .args in
     let k = c .before .before .before .before .pre in
-    let m = top-most (now (a .text)) (a .w) (a .head) (a .n) (a .rows) k in
+    let m = top-most (now (a .text)) (a .w) (a .head) (a .n) (a .lines) k in
     search (needs, m)
 
 add-t11 : tie.Need-add-t11
 add-t11 c =
     let a = c .before .before .before .before .args in
     let k = c .before .before .before .before .pre in
-    let m = top-most (now (a .text)) (a .w) (a .head) (a .n) (a .rows) k in
-    let f = few-lines (now (a .text)) (a .w) (a .head) (a .n) (a .rows) k in
+    let m = top-most (now (a .text)) (a .w) (a .head) (a .n) (a .lines) k in
+    let f = few-lines (now (a .text)) (a .w) (a .head) (a .n) (a .lines) k in
     search (needs, m, f)
 
 returns : tie.Need-returns
 returns c =
     let a = c .before .before .before .before .args in
     let k = c .before .before .before .before .pre in
-    answers-6 (now (a .text)) (a .w) (a .head) (a .n) (a .rows) k (now (a .out)) _ (c .before .first-line .ensures)
+    answers-6 (now (a .text)) (a .w) (a .head) (a .n) (a .lines) k (now (a .out)) _ (c .before .first-line .ensures)
     (omega arith)
 
 read-cells-requires : tie.Need-read-cells-requires
 read-cells-requires c κs =
     let a = c .before .before .before .before .before .args in
     let k = c .before .before .before .before .before .pre in
-    sizes-kept (now (a .text)) (a .w) (a .head) (a .n) (a .rows) k (now (a .out)) _ (c .before .before .first-line
+    sizes-kept (now (a .text)) (a .w) (a .head) (a .n) (a .lines) k (now (a .out)) _ (c .before .before .first-line
     .ensures) (omega arith)
 
 same-length : tie.Need-same-length

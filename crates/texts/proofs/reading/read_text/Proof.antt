@@ -9,7 +9,7 @@ use Rattle.texts.proofs.reading.read_text.Statement.{statement}
 use Rattle.texts.proofs.reading.read_text.Tie as tie
 use Rattle.texts.proofs.reading.read_text.Reads as reads
 use Rattle.texts.proofs.reading.read_text.Lts as lts
-use Rattle.texts.proofs.frames.is_allowed_text.Reads as is-allowed-text-reads
+use Rattle.texts.proofs.text_bytes.is_allowed_text.Reads as is-allowed-text-reads
 use Rattle.texts.proofs.reading.read_plain.Reads as read-plain-reads
 
 returns : tie.Need-returns

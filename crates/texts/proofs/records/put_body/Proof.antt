@@ -1,5 +1,5 @@
 use native.Mathlib.Omega.{arith}
-use Rattle.texts.specs.Pieces.{lookUp}
+use Rattle.texts.specs.StoredTrees.{lookUp}
 use denote.Ref.{now}
 use Rattle.texts.proofs.RecordLaws.{names-end, width-end, body-writes}
 use Rattle.texts.proofs.RecordSizes.{size-sum}

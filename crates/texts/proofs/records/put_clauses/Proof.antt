@@ -1,6 +1,6 @@
 use Prim.Native.Nat.{_+_}
 use native.Mathlib.Omega.{arith}
-use Rattle.texts.specs.Pieces.{lookUp}
+use Rattle.texts.specs.StoredTrees.{lookUp}
 use denote.Ref.{now}
 use Rattle.base.proofs.Writing.{writes-join}
 use Rattle.texts.proofs.RecordLaws.{maybe-end}

@@ -2,7 +2,7 @@ use Prim.Native.Nat.{_-_}
 use native.Mathlib.Omega.{arith}
 use denote.Ref.{now}
 use lib.ListN.{take}
-use Rattle.texts.proofs.LineKinds.{part-length}
+use Rattle.texts.proofs.TreeTypes.{part-length}
 use Rattle.texts.proofs.RecordLaws.{counted-end, label-part, names-writes}
 use borrow.Author.Needs.{needs}
 use Rattle.texts.proofs.records.put_names.Statement.{statement}

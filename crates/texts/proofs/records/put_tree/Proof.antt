@@ -1,12 +1,12 @@
 use denote.Ref.{now}
-use Rattle.texts.specs.Pieces.{lookUp}
+use Rattle.texts.specs.StoredTrees.{lookUp}
 use Rattle.texts.proofs.RecordLaws.{tree-none, tree-some, piece-room}
 use borrow.Author.Needs.{needs}
 use Rattle.texts.proofs.records.put_tree.Statement.{statement}
 use Rattle.texts.proofs.records.put_tree.Tie as tie
 use Rattle.texts.proofs.records.put_tree.Reads as reads
 use Rattle.texts.proofs.records.put_tree.Lts as lts
-use Rattle.texts.proofs.pieces.tree_piece.Reads as tree-piece-reads
+use Rattle.texts.proofs.stored_trees.stored_tree.Reads as stored-tree-reads
 use Rattle.texts.proofs.records.put_counted.Reads as put-counted-reads
 use Rattle.texts.proofs.records.put_two.Reads as put-two-reads
 
@@ -22,8 +22,8 @@ returns c =
     tree-none (now (a .line)) (a .t) (lookUp (now (a .names)) (a .n)) (c .before .before .before .before .if1 .taken)
     (c .before .before .put-two .ensures)
 
-tree-piece-requires : tie.Need-tree-piece-requires
-tree-piece-requires c κs = search needs
+stored-tree-requires : tie.Need-stored-tree-requires
+stored-tree-requires c κs = search needs
 
 sub-put-counted : tie.Need-sub-put-counted
 sub-put-counted c = search needs
@@ -35,9 +35,9 @@ part-put-counted-end : tie.Need-part-put-counted-end
 part-put-counted-end c =
     let a = c .before .before .before .before .before .before .before .args in
     piece-room (now (a .line)) (a .t) (now (a .names)) (a .n) (c .before .before .before .before .if1 .left) (c
-    .before .before .before .before .before .before .before .pre .3) (c .before .before .before .tree-piece
+    .before .before .before .before .before .before .before .pre .3) (c .before .before .before .stored-tree
     .result)
-    (c .before .before .before .tree-piece .ensures) (c .before .before .before .before .before .before .before .pre
+    (c .before .before .before .stored-tree .ensures) (c .before .before .before .before .before .before .before .pre
     .5 .0) (c .before .before .before .before .before .before .before .pre .5 .1)
 
 put-counted-requires : tie.Need-put-counted-requires
@@ -51,8 +51,8 @@ returns-2 c =
     let a = c .before .before .before .before .before .before .before .before .before .before .before .args in
     tree-some (now (a .line)) (a .t) (now (a .names)) (a .n) (c .before .before .before .before .before .before
     .before .before .if1 .left) (c .before .before .before .before .before .before .before .before .before
-    .before .before .pre .3) (c .before .before .before .before .before .before .before .tree-piece .result)
-    (c .before .before .before .before .before .before .before .tree-piece .ensures) (c .before .before .put-counted
+    .before .before .pre .3) (c .before .before .before .before .before .before .before .stored-tree .result)
+    (c .before .before .before .before .before .before .before .stored-tree .ensures) (c .before .before .put-counted
     .ensures)
 
 pub put-tree-spec : {M : Type 1} → statement M
@@ -62,7 +62,7 @@ put-tree-spec =
     put-two-requires
     same-length
     returns
-    tree-piece-requires
+    stored-tree-requires
     sub-put-counted
     part-put-counted-start
     part-put-counted-end

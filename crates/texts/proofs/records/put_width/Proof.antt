@@ -1,6 +1,6 @@
 use native.Mathlib.Omega.{arith}
 use denote.Ref.{now}
-use Rattle.texts.specs.Pieces.{lookUp}
+use Rattle.texts.specs.StoredTrees.{lookUp}
 use Rattle.texts.proofs.RecordLaws.{two-end, rest-writes, fixed-writes, measured-writes}
 use Rattle.texts.proofs.RecordSizes.{width-some, measured-size, width-most, width-tree}
 use borrow.Author.Needs.{needs}

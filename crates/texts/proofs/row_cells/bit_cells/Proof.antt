@@ -13,7 +13,7 @@ use Rattle.texts.proofs.row_cells.bit_cells.Statement.{statement}
 use Rattle.texts.proofs.row_cells.bit_cells.Tie as tie
 use Rattle.texts.proofs.row_cells.bit_cells.Reads as reads
 use Rattle.texts.proofs.row_cells.bit_cells.Lts as lts
-use Rattle.texts.proofs.frames.part_end.Reads as part-end-reads
+use Rattle.texts.proofs.text_bytes.part_end.Reads as part-end-reads
 use Rattle.texts.proofs.rows.is_cell.Reads as is-cell-reads
 
 abbrev Inv-loop : tie.InvT-loop

@@ -5,7 +5,7 @@ use Rattle.texts.proofs.rows.is_long.Statement.{statement}
 use Rattle.texts.proofs.rows.is_long.Tie as tie
 use Rattle.texts.proofs.rows.is_long.Reads as reads
 use Rattle.texts.proofs.rows.is_long.Lts as lts
-use Rattle.texts.proofs.frames.part_end.Reads as part-end-reads
+use Rattle.texts.proofs.text_bytes.part_end.Reads as part-end-reads
 use Rattle.texts.proofs.rows.is_cell.Reads as is-cell-reads
 
 part-end-requires : tie.Need-part-end-requires

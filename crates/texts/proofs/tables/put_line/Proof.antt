@@ -1,6 +1,6 @@
 use native.Mathlib.Omega.{arith}
 use denote.Ref.{now}
-use Rattle.texts.proofs.LineKinds.{part-span, part-length}
+use Rattle.texts.proofs.TreeTypes.{part-span, part-length}
 use borrow.Author.Needs.{needs}
 use Rattle.texts.proofs.tables.put_line.Statement.{statement}
 use Rattle.texts.proofs.tables.put_line.Tie as tie

@@ -8,7 +8,7 @@ use lib.ListN.{length, take}
 use lib.Seq.{take-length}
 use Rattle.base.specs.Writes.{Writes}
 use Rattle.rules.specs.Fields.{Form}
-use Rattle.texts.specs.LinePlaces.{rowAt, spanIn}
+use Rattle.texts.specs.LinePlaces.{lineAt, spanIn}
 use Rattle.texts.specs.Records.{sizeFrom, storedFrom, AllSmall}
 use Rattle.texts.proofs.LineRules.{element-at}
 use Rattle.texts.proofs.RecordLaws.{field-end}
@@ -21,15 +21,15 @@ use Rattle.texts.proofs.tables.put_lines.Lts as lts
 use Rattle.texts.proofs.tables.put_line.Reads as put-line-reads
 
 abbrev Inv-loop : tie.InvT-loop
-Inv-loop out₀ at text names n rows next₀ i₀ out next i =
+Inv-loop out₀ at text names n lines next₀ i₀ out next i =
     (i ≤ n) ×
     (length out ≡ length out₀) ×
-    (next + sizeFrom rows i (n - i) ≡ at + sizeFrom rows 0 n) ×
-    ((forms : List Form) → length forms ≡ n → AllSmall text rows forms
+    (next + sizeFrom lines i (n - i) ≡ at + sizeFrom lines 0 n) ×
+    ((forms : List Form) → length forms ≡ n → AllSmall text lines forms
     → Writes out₀ at (storedFrom names 0 (take i forms)) out next)
 
 abbrev μ-loop : tie.MeasureT-loop
-μ-loop out₀ at text names n rows next₀ i₀ out next i = n - i
+μ-loop out₀ at text names n lines next₀ i₀ out next i = n - i
 
 loop-holds : tie.Need-loop-holds Inv-loop μ-loop
 loop-holds c =
@@ -63,7 +63,7 @@ loop-again : tie.Need-loop-again Inv-loop μ-loop
 loop-again c =
     let a = c .before .before .before .before .before .before .before .before .before .args in
     let l = c .before .before .before .before .before .before .loop in
-    let p = rowAt (a .t4) (l .i) in
+    let p = lineAt (a .t4) (l .i) in
     let x = c .before .before .before .before .before .before .before .before .before .pre .2 (l .i) (omega arith) in
     let w = c .before .before .put-line .ensures (x .0) (x .1) (x .2) in
     let f = field-end (now (a .names)) (l .i) (spanIn (now (a .text)) (p .line)) (x .0) p (x .1 .parts) w in
@@ -74,7 +74,7 @@ loop-again c =
       λ forms e k.
           let y = element-at forms (l .i) (omega (arith, e)) in
           lines-step (now (a .names)) (l .i) forms (y .0) (y .1) (l .inv .3 forms e k)
-          (c .before .before .put-line .ensures (y .0) (k .lines (l .i) (y .0) (y .1)) (k .small (l .i) (y .0) (y
+          (c .before .before .put-line .ensures (y .0) (k .parts (l .i) (y .0) (y .1)) (k .small (l .i) (y .0) (y
           .1))),
     )
 

@@ -2,7 +2,7 @@ use mathlib.Core.Path.{_≡_, refl}
 use Prim.Native.Nat.{_+_, _-_, _*_, _≤_}
 use native.Mathlib.Nat.{sub-zero}
 use native.Mathlib.Omega.{arith}
-use Rattle.texts.specs.LinePlaces.{rowAt}
+use Rattle.texts.specs.LinePlaces.{lineAt}
 use Rattle.texts.specs.Records.{sizeFrom}
 use Rattle.texts.proofs.RecordSizes.{size-most}
 use Rattle.texts.proofs.TableLaws.{size-step, size-end}
@@ -14,13 +14,13 @@ use Rattle.texts.proofs.tables.table_size.Lts as lts
 use Rattle.texts.proofs.records.field_size.Reads as field-size-reads
 
 abbrev Inv-loop : tie.InvT-loop
-Inv-loop n name rows size₀ i₀ size i =
+Inv-loop n name lines size₀ i₀ size i =
     (i ≤ n) ×
-    (size + sizeFrom rows i (n - i) ≡ 14 + name + sizeFrom rows 0 n) ×
+    (size + sizeFrom lines i (n - i) ≡ 14 + name + sizeFrom lines 0 n) ×
     (size ≤ 16398 + 33144 * i)
 
 abbrev μ-loop : tie.MeasureT-loop
-μ-loop n name rows size₀ i₀ size i = n - i
+μ-loop n name lines size₀ i₀ size i = n - i
 
 add-size : tie.Need-add-size Inv-loop μ-loop
 add-size c = search needs
@@ -43,7 +43,7 @@ add-size-2 : tie.Need-add-size-2 Inv-loop μ-loop
 add-size-2 c =
     let a = c .before .before .before .before .args in
     let l = c .before .before .before .loop in
-    let m = size-most (rowAt (a .t1) (l .i)) (c .before .before .before .before .pre .2 (l .i) (omega arith)) in
+    let m = size-most (lineAt (a .t1) (l .i)) (c .before .before .before .before .pre .2 (l .i) (omega arith)) in
     omega (arith, m, c .field-size .ensures, l .inv .2, c .before .before .before .before .pre .0)
 
 add-i : tie.Need-add-i Inv-loop μ-loop
@@ -56,7 +56,7 @@ loop-again : tie.Need-loop-again Inv-loop μ-loop
 loop-again c =
     let a = c .before .before .before .before .args in
     let l = c .before .before .before .loop in
-    let m = size-most (rowAt (a .t1) (l .i)) (c .before .before .before .before .pre .2 (l .i) (omega arith)) in
+    let m = size-most (lineAt (a .t1) (l .i)) (c .before .before .before .before .pre .2 (l .i) (omega arith)) in
     let s = size-step (a .t1) (a .n) (l .i) (omega arith) in (
       omega arith,
       omega (arith, l .inv .1, s, c .field-size .ensures),

@@ -8,7 +8,7 @@ use Rattle.texts.proofs.walks.skip_lines.Statement.{statement}
 use Rattle.texts.proofs.walks.skip_lines.Tie as tie
 use Rattle.texts.proofs.walks.skip_lines.Reads as reads
 use Rattle.texts.proofs.walks.skip_lines.Lts as lts
-use Rattle.texts.proofs.frames.line_end.Reads as line-end-reads
+use Rattle.texts.proofs.text_bytes.line_end.Reads as line-end-reads
 
 abbrev Inv-loop : tie.InvT-loop
 Inv-loop text k at₀ i₀ at i = (at ≤ length text) × (i ≤ k) × Skipped text k i at

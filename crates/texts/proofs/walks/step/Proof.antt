@@ -9,7 +9,7 @@ use Rattle.texts.proofs.walks.step.Tie as tie
 use Rattle.texts.proofs.walks.step.Reads as reads
 use Rattle.texts.proofs.walks.step.Lts as lts
 use Rattle.names.proofs.words.same_words.Reads as same-words-reads
-use Rattle.texts.proofs.frames.is_opening.Reads as is-opening-reads
+use Rattle.texts.proofs.openings.is_opening.Reads as is-opening-reads
 use Rattle.texts.proofs.rulers.is_border.Reads as is-border-reads
 use Rattle.texts.proofs.rulers.is_units.Reads as is-units-reads
 use Rattle.texts.proofs.rulers.ruler_width.Reads as ruler-width-reads

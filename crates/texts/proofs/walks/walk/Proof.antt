@@ -16,7 +16,7 @@ use Rattle.texts.proofs.walks.walk.Statement.{statement}
 use Rattle.texts.proofs.walks.walk.Tie as tie
 use Rattle.texts.proofs.walks.walk.Reads as reads
 use Rattle.texts.proofs.walks.walk.Lts as lts
-use Rattle.texts.proofs.frames.line_end.Reads as line-end-reads
+use Rattle.texts.proofs.text_bytes.line_end.Reads as line-end-reads
 use Rattle.texts.proofs.walks.is_wrong.Reads as is-wrong-reads
 use Rattle.texts.proofs.walks.last.Reads as last-reads
 use Rattle.texts.proofs.walks.step.Reads as step-reads

@@ -6,7 +6,7 @@ use Rattle.texts.proofs.widths.unit_behind.Statement.{statement}
 use Rattle.texts.proofs.widths.unit_behind.Tie as tie
 use Rattle.texts.proofs.widths.unit_behind.Reads as reads
 use Rattle.texts.proofs.widths.unit_behind.Lts as lts
-use Rattle.texts.proofs.fields.starts_at.Reads as starts-at-reads
+use Rattle.texts.proofs.phrases.starts_at.Reads as starts-at-reads
 use Rattle.texts.proofs.units.unit_at.Reads as unit-at-reads
 
 slice-aggregate-starts-at : tie.Need-slice-aggregate-starts-at

@@ -1,0 +1,160 @@
+-- The code that makes the stored forms of expressions, step by step, against the reader over what is left of the text.
+use mathlib.Core.Path.{_≡_, refl, ap, _∙_}
+use mathlib.Core.Bool.{Bool, true, false, _&&_}
+use mathlib.Core.List.{List, _∷_}
+use Prim.Native.Nat.{ℕ, zero, suc, _+_, _-_, _≤_, _<_}
+use native.Mathlib.Omega.{arith}
+use native.Mathlib.Numerals.{add-one}
+use lib.Dec.{leb}
+use lib.ListN.{length, drop, getD, length-drop}
+use lib.Seq.{drop-cons, drop-length}
+use borrow.Author.Tests.{ne-eqb}
+use Rattle.rules.specs.declared.Op.{Op}
+use Rattle.rules.specs.Operators.{level, leftLevel}
+use Rattle.rules.specs.Trees.{two}
+use Rattle.rules.specs.Limits.{openMost}
+use Rattle.rules.specs.Reader.{Out, fail, got, operatorAt, close, inside, atom, step, andThen, expr, more}
+use Rattle.texts.specs.ExprPlaces.{SameSign}
+use Rattle.texts.specs.LineReader.{ofOut, readTree}
+use Rattle.texts.specs.StoredTrees.{SameStored, StoredFor}
+use Rattle.texts.specs.StoredPlaces.{TwoMade, wrapOf, LeafStored, ExprStored, AtomStored, InsideStored, ClosedStored}
+use Rattle.texts.specs.StoredPlaces.{MoreStored}
+use Rattle.texts.specs.declared.operators.Sign.{Sign}
+use Rattle.texts.specs.declared.operators.Sign.the-variants as sign
+use Rattle.texts.specs.declared.stored_trees.StoredTree.{StoredTree}
+use Rattle.texts.proofs.ExprSigns.{sign-none, sign-some}
+use Rattle.texts.proofs.ExprSteps.{more-at, in-rest, in-other}
+use Rattle.texts.proofs.StoredSteps.{is-two, stored-fail, stored-got, same-none, same-here}
+
+module _ (names : List (List ℕ)) (n : ℕ) (s : List ℕ) where
+  -- ── expr ──
+
+  module _ (at k b : ℕ) (a : StoredTree) (A : AtomStored names n s at b a) where
+    pub expr-fail : a .len ≡ 0 → ExprStored names n s at k b a
+    unfolding expr andThen
+    expr-fail e zero lt = absurd (omega arith)
+    expr-fail e (suc f) lt =
+        rw (stored-fail names n s (atom (expr f 0) b (drop at s)) a e (A f lt)) (same-none names n s a e)
+
+    pub expr-go : (a .len ≡ 0 → ⊥) → at < a .next → a .next ≤ length s → (r : StoredTree)
+        → MoreStored names n s (a .next) k 5 b a r → ExprStored names n s at k b r
+    unfolding expr andThen
+    expr-go e lo hi r M zero lt = absurd (omega arith)
+    expr-go e lo hi r M (suc f) lt =
+        let w = stored-got names n s (atom (expr f 0) b (drop at s)) a e (A f lt) in
+        let lt′ : length (drop (a .next) s) < f = simp length-drop (omega (arith, simp length-drop at lt)) in
+        rw (w .is) (M (w .tree) f (w .held) lt′)
+
+  -- ── more ──
+
+  module _ (at k h b : ℕ) (p : StoredTree) (g : Sign) (w : SameSign s (operatorAt (drop at s)) g) where
+    pub more-none : g ≡ sign.Nothing → p .next ≡ at → MoreStored names n s at k h b p p
+    unfolding more step
+    more-none e q t zero x lt = absurd (omega arith)
+    more-none e q t (suc f) x lt =
+        rw (sign-none s (operatorAt (drop at s)) g e w) (same-here names n s t (drop at s) p x (rw q refl))
+
+    pub more-stop : (o : Op) (end : ℕ) → g ≡ sign.At o end → (leb k (level o) && leb (leftLevel o) h) ≡ false
+        → p .next ≡ at → MoreStored names n s at k h b p p
+    unfolding more step
+    more-stop o end i out q t zero x lt = absurd (omega arith)
+    more-stop o end i out q t (suc f) x lt =
+        rw (sign-some s (operatorAt (drop at s)) g o end i w, out)
+        (same-here names n s t (drop at s) p x (rw q refl))
+
+    module _ (o : Op) (end l : ℕ) (i : g ≡ sign.At o end) (lv : level o ≡ l) (kl : k ≤ l) (eh : leftLevel o ≤ h)
+        (lo : at < end) (hi : end ≤ length s) (y : StoredTree) (E : ExprStored names n s end (l + 1) b y) where
+      lower-to : (m : ℕ) → end ≤ m → (f : ℕ) → length (drop at s) < suc f → length (drop m s) < f
+      lower-to m le f lt = simp length-drop (omega (arith, simp length-drop at lt))
+
+      pub more-fail : y .len ≡ 0 → MoreStored names n s at k h b p y
+      unfolding andThen
+      more-fail e t zero x lt = absurd (omega arith)
+      more-fail e t (suc f) x lt =
+          let j = sign-some s (operatorAt (drop at s)) g o end i w in
+          let q = stored-fail names n s (expr f (l + 1) b (drop end s)) y e (E f (lower-to end (omega arith) f lt)) in
+          rw (more-at s at k h b end o l t f fail j lv kl eh q) (same-none names n s y e)
+
+      pub more-go : (y .len ≡ 0 → ⊥) → end < y .next → y .next ≤ length s → (z : StoredTree) → TwoMade o p y z → (r : StoredTree)
+          → MoreStored names n s (z .next) k l b z r → MoreStored names n s at k h b p r
+      unfolding andThen
+      more-go e lo′ hi′ z m r M t zero x lt = absurd (omega arith)
+      more-go e lo′ hi′ z m r M t (suc f) x lt =
+          let j = sign-some s (operatorAt (drop at s)) g o end i w in
+          let u = stored-got names n s (expr f (l + 1) b (drop end s)) y e
+          (E f (lower-to end (omega arith) f lt)) in
+          let lt′ : length (drop (z .next) s) < f = rw (m .next) (lower-to (y .next) (omega arith) f lt) in
+          let v = M (two o t (u .tree)) f (is-two names n o p y z t (u .tree) m x (u .held)) lt′ in
+          rw (more-at s at k h b end o l t f (got (u .tree) (drop (y .next) s)) j lv kl eh (u .is))
+          (rw (m .next) at v)
+
+  -- ── atom ──
+
+  module _ (at b : ℕ) (r : StoredTree) where
+    pub atom-end : at ≡ length s → r .len ≡ 0 → AtomStored names n s at b r
+    unfolding atom
+    atom-end e z f lt = rw (e, drop-length) (same-none names n s r z)
+
+    pub atom-bang : at < length s → getD s at 0 ≡ 33 → InsideStored names n s (at + 1) b true r
+        → AtomStored names n s at b r
+    unfolding atom
+    atom-bang hi e I f lt =
+        let lt′ : length (drop (at + 1) s) < suc f = simp length-drop (omega (arith, simp length-drop at lt)) in
+        rw (drop-cons s at 0 hi, e) (rw add-one at (I f lt′))
+
+    pub atom-paren : at < length s → getD s at 0 ≡ 40 → InsideStored names n s at b false r
+        → AtomStored names n s at b r
+    unfolding atom
+    atom-paren hi e I f lt =
+        let q : drop at s ≡ 40 ∷ drop (suc at) s = drop-cons s at 0 hi ∙ ap (λ (x : ℕ). x ∷ drop (suc at) s) e in
+        rw q (rw q at (I f lt))
+
+    pub atom-word : at < length s → (getD s at 0 ≡ 33 → ⊥) → (getD s at 0 ≡ 40 → ⊥) → LeafStored names n s at r
+        → AtomStored names n s at b r
+    unfolding atom
+    atom-word hi n33 n40 L f lt =
+        let q = drop-cons s at 0 hi in
+        rw (q, ne-eqb (getD s at 0) 33 n33, ne-eqb (getD s at 0) 40 n40, atom) (rw q at L)
+
+  -- ── inside ──
+
+  module _ (at b : ℕ) (neg : Bool) (r : StoredTree) where
+    pub in-end : at ≡ length s → r .len ≡ 0 → InsideStored names n s at b neg r
+    unfolding inside
+    in-end e z f lt = rw (e, drop-length) (same-none names n s r z)
+
+    pub in-zero : at < length s → b ≡ 0 → r .len ≡ 0 → InsideStored names n s at b neg r
+    unfolding inside
+    in-zero hi e z f lt = rw (drop-cons s at 0 hi, e) (same-none names n s r z)
+
+    pub in-wrong : at < length s → (getD s at 0 ≡ 40 → ⊥) → r .len ≡ 0 → InsideStored names n s at b neg r
+    in-wrong hi e z f lt = rw (in-other s at b hi e (wrapOf neg) f) (same-none names n s r z)
+
+  module _ (at b : ℕ) (neg : Bool) (hi : at < length s) (nz : b ≡ 0 → ⊥) (e : getD s at 0 ≡ 40) (y : StoredTree)
+      (E : ExprStored names n s (at + 1) 0 (b - 1) y) where
+    lower : (f : ℕ) → length (drop at s) < suc f → length (drop (at + 1) s) < f
+    lower f lt = simp length-drop (omega (arith, simp length-drop at lt))
+
+    pub in-fail : y .len ≡ 0 → InsideStored names n s at b neg y
+    unfolding close
+    in-fail p f lt = rw (
+      in-rest s at b hi nz e (wrapOf neg) f,
+      stored-fail names n s (expr f 0 (b - 1) (drop (at + 1) s)) y p (E f (lower f lt)),
+    ) (same-none names n s y p)
+
+    pub in-go : (y .len ≡ 0 → ⊥) → (r : StoredTree) → ClosedStored s neg y r → InsideStored names n s at b neg r
+    in-go p r C f lt =
+        let v = stored-got names n s (expr f 0 (b - 1) (drop (at + 1) s)) y p (E f (lower f lt)) in
+        rw (in-rest s at b hi nz e (wrapOf neg) f, v .is) (C names n (v .tree) (v .held))
+
+  -- ── the whole ──
+
+  pub whole-stored : (at : ℕ) (r : StoredTree) → ExprStored names n s at 0 openMost r
+      → StoredFor names n (readTree (drop at s)) r
+  unfolding readTree SameStored StoredFor
+  whole-stored at r E = go (expr (suc (length (drop at s))) 0 openMost (drop at s))
+      (E (suc (length (drop at s))) (omega arith))
+    where
+      go : (o : Out) → SameStored names n s o r → StoredFor names n (ofOut o) r
+      go fail w = w
+      go (got t q) w = w .0

@@ -1,0 +1,223 @@
+-- The steps of the code that makes stored expressions, against those of the reader over what is left of the text.
+use mathlib.Core.Path.{_≡_, refl, ap, sym, _∙_}
+use mathlib.Core.Bool.{Bool, true, false, cond}
+use mathlib.Core.List.{List, [], _∷_, _++_}
+use Prim.Native.Nat.{ℕ, suc, _+_, _*_, _-_, _≤_, _<_}
+use native.Mathlib.Omega.{arith}
+use native.Mathlib.Numerals.{add-one}
+use lib.Dec.{ltb}
+use lib.ListN.{length, take, drop, getD}
+use lib.Seq.{drop-cons, drop-length}
+use borrow.Author.Tests.{ne-eqb}
+use Rattle.rules.specs.declared.Op.{Op}
+use Rattle.rules.specs.Operators.{code, numberCode, fieldCode}
+use Rattle.rules.specs.Names.{isShort}
+use Rattle.rules.specs.Trees.{Tree, num, read, two, negation, storedTree, storedLength, le4}
+use Rattle.rules.specs.Reader.{Out, fail, got, word, behind, value, isNumeral, isNumberWord, leaf}
+use Rattle.rules.specs.Reader.{close}
+use Rattle.texts.specs.StoredTrees.{lookUp, typeOf, StoredIs, SameStored}
+use Rattle.texts.specs.StoredPlaces.{Made, NotMade, TwoMade, WithinStored, wrapOf, LeafStored}
+use Rattle.texts.specs.StoredPlaces.{ClosedStored}
+use Rattle.texts.specs.declared.stored_trees.StoredTree.{StoredTree}
+use Rattle.texts.proofs.ExprSteps.{two-length}
+use Rattle.texts.proofs.ExprLeaves.{word-part, longer}
+
+-- ── a stored expression that holds a tree ──
+
+some-length : (t : Tree (List ℕ)) → 0 < storedLength t
+unfolding storedTree
+some-length (num n) = omega arith
+some-length (read w) = omega arith
+some-length (two o a b) = omega arith
+some-length (negation a) = omega arith
+
+stored-two : (f : List ℕ → ℕ) (o : Op) (t u : Tree (List ℕ)) (a b : List ℕ) → a ≡ storedTree f t → b ≡ storedTree f u
+    → code o ∷ (a ++ b) ≡ storedTree f (two o t u)
+unfolding storedTree
+stored-two f o t u a b p q = rw (p, q) refl
+
+module _ (names : List (List ℕ)) (n : ℕ) where
+  pub is-name : (w : List ℕ) (at : ℕ) (r : StoredTree)
+      → Made at (cond (ltb (lookUp names n w) n) 1 0) 2 (fieldCode ∷ lookUp names n w ∷ []) r
+      → StoredIs names n (read w) r
+  unfolding storedTree typeOf
+  is-name w at r m = record { len = m .len; gives = m .gives; bytes = λ h. rw (m .len) (m .bytes (omega arith)) }
+
+  pub is-number : (v at : ℕ) (r : StoredTree) → Made at 1 5 (numberCode ∷ le4 v) r → StoredIs names n (num v) r
+  unfolding storedTree typeOf le4
+  is-number v at r m = record { len = m .len; gives = m .gives; bytes = λ h. rw (m .len) (m .bytes (omega arith)) }
+
+  pub is-not : (p : StoredTree) (at : ℕ) (r : StoredTree) (t : Tree (List ℕ)) → NotMade p at r → StoredIs names n t p
+      → StoredIs names n (negation t) r
+  unfolding storedTree typeOf
+  is-not p at r t m x =
+      let e : p .len ≡ storedLength t = x .len in
+      record {
+        len = m .len ∙ rw e (omega arith);
+        gives = m .gives ∙ rw (x .gives) refl;
+        bytes = λ h. rw (m .len) (m .bytes (omega arith) ∙ rw (x .bytes (omega arith)) refl);
+      }
+
+  pub is-two : (o : Op) (a b r : StoredTree) (t u : Tree (List ℕ)) → TwoMade o a b r → StoredIs names n t a
+      → StoredIs names n u b → StoredIs names n (two o t u) r
+  unfolding typeOf
+  is-two o a b r t u m x y =
+      let l : storedLength (two o t u) ≡ 1 + (a .len + b .len) =
+      two-length o t u (a .len) (b .len) (sym (x .len)) (sym (y .len)) in
+      let lx : a .len ≡ storedLength t = x .len in
+      let ly : b .len ≡ storedLength u = y .len in
+      record {
+        len = m .len ∙ sym l;
+        gives = m .gives ∙ rw (x .gives, y .gives) refl;
+        bytes = λ h. rw (m .len) (m .bytes (omega (arith, h, l)) ∙ stored-two (lookUp names n) o t u _ _
+            (x .bytes (omega (arith, h, l))) (y .bytes (omega (arith, h, l))));
+      }
+
+  -- the same expression, that ends elsewhere
+  pub is-moved : (p r : StoredTree) (t : Tree (List ℕ)) → r .gives ≡ p .gives → r .len ≡ p .len → r .bytes ≡ p .bytes
+      → StoredIs names n t p → StoredIs names n t r
+  is-moved p r t k l b x = record { len = l ∙ x .len; gives = k ∙ x .gives; bytes = λ h. rw (l, b) (x .bytes h) }
+
+  -- ── the code's answer tells the reader's ──
+
+  pub stored-fail : (s : List ℕ) (o : Out) (r : StoredTree) → r .len ≡ 0 → SameStored names n s o r → o ≡ fail
+  unfolding SameStored
+  stored-fail s fail r e w = refl
+  stored-fail s (got t q) r e w =
+      let l : r .len ≡ storedLength t = w .0 .len in
+      let g = some-length t in
+      absurd (omega arith)
+
+  pub record Held (s : List ℕ) (o : Out) (r : StoredTree) : Type 0 where
+    pub tree : Tree (List ℕ)
+    pub is : o ≡ got tree (drop (r .next) s)
+    pub held : StoredIs names n tree r
+
+  pub stored-got : (s : List ℕ) (o : Out) (r : StoredTree) → (r .len ≡ 0 → ⊥) → SameStored names n s o r → Held s o r
+  unfolding SameStored
+  stored-got s fail r e w = absurd (e w)
+  stored-got s (got t q) r e w = record { tree = t; is = ap (λ (l : List ℕ). got t l) (sym (w .1)); held = w .0 }
+
+  pub same-none : (s : List ℕ) (r : StoredTree) → r .len ≡ 0 → SameStored names n s fail r
+  unfolding SameStored
+  same-none s r e = e
+
+  pub same-here : (s : List ℕ) (t : Tree (List ℕ)) (q : List ℕ) (r : StoredTree) → StoredIs names n t r → drop (r .next) s ≡ q
+      → SameStored names n s (got t q) r
+  unfolding SameStored
+  same-here s t q r x e = (x, e)
+
+-- ── places ──
+
+pub none-within : (s : List ℕ) (lo at z : ℕ) (r : StoredTree) → r .len ≡ 0 → WithinStored s lo at z r
+none-within s lo at z r e = record {
+  low = λ h. absurd (omega (arith, e));
+  high = λ h. absurd (omega (arith, e));
+  grown = λ h. absurd (omega (arith, e));
+}
+
+pub here-within : (s : List ℕ) (lo at z : ℕ) (r : StoredTree) → lo ≤ r .next → r .next ≤ length s
+    → r .len + 5 * at ≤ z + 5 * r .next → WithinStored s lo at z r
+here-within s lo at z r a b c = record { low = λ h. a; high = λ h. b; grown = λ h. c }
+
+-- from a later place on
+pub up-within : (s : List ℕ) (lo at z lo′ at′ z′ : ℕ) (r : StoredTree) → lo′ ≤ lo → z + 5 * at′ ≤ z′ + 5 * at
+    → WithinStored s lo at z r → WithinStored s lo′ at′ z′ r
+up-within s lo at z lo′ at′ z′ r a b w = record {
+  low = λ h. (let p = w .low h in omega arith);
+  high = w .high;
+  grown = λ h. (let p = w .grown h in omega arith);
+}
+
+-- where there is an expression
+pub got-within : (s : List ℕ) (lo at z : ℕ) (r : StoredTree) → (r .len ≡ 0 → ⊥) → WithinStored s lo at z r
+    → (lo ≤ r .next) × (r .next ≤ length s) × (r .len + 5 * at ≤ z + 5 * r .next)
+got-within s lo at z r e w = let h : 0 < r .len = omega (arith, e) in (w .low h, w .high h, w .grown h)
+
+-- ── a leaf ──
+
+module _ (names : List (List ℕ)) (n : ℕ) (s : List ℕ) (at end : ℕ) (lo : at ≤ end) (hi : end ≤ length s)
+    (e : drop end s ≡ behind (drop at s)) where
+  part-is : take (end - at) (drop at s) ≡ word (drop at s)
+  part-is = word-part s at end lo hi e
+
+  abbrev pub LeafMade : StoredTree → Type 0
+  LeafMade r = WithinStored s (at + 1) at 0 r × LeafStored names n s at r
+
+  pub leaf-name : (i : ℕ) (r : StoredTree) → isShort (take (end - at) (drop at s)) ≡ true
+      → i ≡ lookUp names n (take (end - at) (drop at s)) → Made end (cond (ltb i n) 1 0) 2 (fieldCode ∷ i ∷ []) r
+      → LeafMade r
+  unfolding leaf isShort
+  leaf-name i r y q m =
+      let u : at + 1 ≤ end = longer s at end lo hi e isShort refl y in
+      let x : StoredIs names n (read (word (drop at s))) r = is-name names n (word (drop at s)) end r
+      (rw part-is at (rw q at m)) in
+      let d : drop (r .next) s ≡ behind (drop at s) = rw (m .next) e in (
+        here-within s (at + 1) at 0 r (rw (m .next) u) (rw (m .next) hi) (rw (m .next, m .len) (omega arith)),
+        rw (rw part-is at y, leaf) (same-here names n s (read (word (drop at s))) (behind (drop at s)) r x d),
+      )
+
+  pub leaf-number : (v : ℕ) (r : StoredTree) → isShort (take (end - at) (drop at s)) ≡ false
+      → isNumberWord (take (end - at) (drop at s)) ≡ true
+      → (isNumberWord (take (end - at) (drop at s)) ≡ true → v ≡ value (take (end - at) (drop at s)))
+      → Made end 1 5 (numberCode ∷ le4 v) r → LeafMade r
+  unfolding leaf isNumberWord isNumeral
+  leaf-number v r k y q m =
+      let u : at + 1 ≤ end = longer s at end lo hi e isNumberWord refl y in
+      let x : StoredIs names n (num (value (word (drop at s)))) r = is-number names n (value (word (drop at s))) end r
+      (rw part-is at (rw (q y) at m)) in
+      let d : drop (r .next) s ≡ behind (drop at s) = rw (m .next) e in (
+        here-within s (at + 1) at 0 r (rw (m .next) u) (rw (m .next) hi) (rw (m .next, m .len) (omega arith)),
+        rw (rw part-is at k, leaf, rw part-is at y)
+            (same-here names n s (num (value (word (drop at s)))) (behind (drop at s)) r x d),
+      )
+
+  pub leaf-none : (r : StoredTree) → isShort (take (end - at) (drop at s)) ≡ false
+      → isNumberWord (take (end - at) (drop at s)) ≡ false → r .len ≡ 0 → LeafMade r
+  unfolding leaf isNumberWord
+  leaf-none r k y z =
+      (none-within s (at + 1) at 0 r z, rw (rw part-is at k, leaf, rw part-is at y) (same-none names n s r z))
+
+-- ── the closing parenthesis ──
+
+module _ (s : List ℕ) (p r : StoredTree) (neg : Bool) where
+  abbrev pub ClosedMade : Type 0
+  ClosedMade = WithinStored s (p .next + 1) (p .next) (p .len) r × ClosedStored s neg p r
+
+  pub close-end : p .next ≡ length s → r .len ≡ 0 → ClosedMade
+  unfolding close
+  close-end q e = (
+    none-within s (p .next + 1) (p .next) (p .len) r e,
+    λ names n t x. rw (q, drop-length) (same-none names n s r e),
+  )
+
+  pub close-no : p .next < length s → (getD s (p .next) 0 ≡ 41 → ⊥) → r .len ≡ 0 → ClosedMade
+  unfolding close
+  close-no lt q e = (
+    none-within s (p .next + 1) (p .next) (p .len) r e,
+    λ names n t x. rw (drop-cons s (p .next) 0 lt, ne-eqb (getD s (p .next) 0) 41 q, close) (same-none names n s r e),
+  )
+
+  -- what stands behind the parenthesis
+  close-yes : (names : List (List ℕ)) (n : ℕ) (t : Tree (List ℕ)) → p .next < length s → getD s (p .next) 0 ≡ 41
+      → r .next ≡ p .next + 1 → StoredIs names n (wrapOf neg t) r
+      → SameStored names n s (close (wrapOf neg) (got t (drop (p .next) s))) r
+  unfolding close
+  close-yes names n t lt q e x =
+      rw (drop-cons s (p .next) 0 lt, q)
+      (same-here names n s (wrapOf neg t) (drop (suc (p .next)) s) r x (rw (e, add-one (p .next)) refl))
+
+  pub close-not : p .next < length s → getD s (p .next) 0 ≡ 41 → neg ≡ true → NotMade p (p .next + 1) r → ClosedMade
+  close-not lt q y m = (
+    here-within s (p .next + 1) (p .next) (p .len) r (rw (m .next) (omega arith)) (rw (m .next) (omega arith))
+        (rw (m .next, m .len) (omega arith)),
+    λ names n t x. close-yes names n t lt q (m .next) (rw y (is-not names n p (p .next + 1) r t m x)),
+  )
+
+  pub close-same : p .next < length s → getD s (p .next) 0 ≡ 41 → neg ≡ false → r .next ≡ p .next + 1
+      → r .gives ≡ p .gives → r .len ≡ p .len → r .bytes ≡ p .bytes → ClosedMade
+  close-same lt q y e k l b = (
+    here-within s (p .next + 1) (p .next) (p .len) r (rw e (omega arith)) (rw e (omega arith))
+        (rw (e, l) (omega arith)),
+    λ names n t x. close-yes names n t lt q e (rw y (is-moved names n p r t k l b x)),
+  )

@@ -1,0 +1,53 @@
+use mathlib.Core.Path.{refl, _∙_}
+use native.Mathlib.Omega.{arith}
+use borrow.Author.Needs.{needs}
+use Rattle.texts.proofs.stored_nodes.two_node.Statement.{statement}
+use Rattle.texts.proofs.stored_nodes.two_node.Tie as tie
+use Rattle.texts.proofs.stored_nodes.two_node.Reads as reads
+use Rattle.texts.proofs.stored_nodes.two_node.Lts as lts
+use Rattle.texts.proofs.stored_nodes.code_of.Reads as code-of-reads
+use Rattle.texts.proofs.stored_nodes.joined.Reads as joined-reads
+use Rattle.texts.proofs.stored_nodes.two_type.Reads as two-type-reads
+
+two-type-requires : tie.Need-two-type-requires
+two-type-requires c κs = search needs
+
+add-len : tie.Need-add-len
+add-len c = search needs
+
+add-len-2 : tie.Need-add-len-2
+add-len-2 c = search needs
+
+code-of-requires : tie.Need-code-of-requires
+code-of-requires c κs = search needs
+
+joined-requires : tie.Need-joined-requires
+joined-requires c κs = search needs
+
+returns : tie.Need-returns
+returns c = record {
+  next = refl;
+  gives = c .before .before .before .before .before .two-type .ensures;
+  len = refl;
+  bytes = λ h. c .joined .ensures ∙ rw (c .before .code-of .ensures) refl;
+}
+
+returns-2 : tie.Need-returns-2
+returns-2 c = record {
+  next = refl;
+  gives = c .before .before .before .two-type .ensures;
+  len = refl;
+  bytes = λ h. absurd (omega (arith, h));
+}
+
+pub two-node-spec : {M : Type 1} → statement M
+two-node-spec =
+    tie.close
+    (tie.spec
+    two-type-requires
+    add-len
+    add-len-2
+    code-of-requires
+    joined-requires
+    returns
+    returns-2)

@@ -1,0 +1,66 @@
+use mathlib.Core.Path.{refl}
+use native.Mathlib.Omega.{arith}
+use Rattle.texts.proofs.StoredSteps.{close-end, close-not, close-same, close-no}
+use borrow.Author.Needs.{needs}
+use Rattle.texts.proofs.stored_trees.stored_closed.Statement.{statement}
+use Rattle.texts.proofs.stored_trees.stored_closed.Tie as tie
+use Rattle.texts.proofs.stored_trees.stored_closed.Reads as reads
+use Rattle.texts.proofs.stored_trees.stored_closed.Lts as lts
+use Rattle.texts.proofs.stored_nodes.no_tree.Reads as no-tree-reads
+use Rattle.texts.proofs.stored_nodes.not_node.Reads as not-node-reads
+
+no-tree-requires : tie.Need-no-tree-requires
+no-tree-requires c κs = search needs
+
+returns : tie.Need-returns
+returns c =
+    let a = c .before .before .before .args in
+    close-end (a .s .now) (a .p) _ (a .neg) (c .before .if1 .taken) (c .no-tree .ensures)
+
+shared-slice-read-if2 : tie.Need-shared-slice-read-if2
+shared-slice-read-if2 c = search needs
+
+add-not-node : tie.Need-add-not-node
+add-not-node c = search needs
+
+not-node-requires : tie.Need-not-node-requires
+not-node-requires c κs = search needs
+
+returns-2 : tie.Need-returns-2
+returns-2 c =
+    let a = c .before .before .before .before .before .before .args in
+    close-not (a .s .now) (a .p) _ (a .neg) (omega arith) (c .before .before .if2 .taken) (c .before .if3 .taken)
+    (c .not-node .ensures)
+
+add-t12 : tie.Need-add-t12
+add-t12 c = search needs
+
+returns-3 : tie.Need-returns-3
+returns-3 c =
+    let a = c .before .before .before .before .before .before .args in
+    close-same (a .s .now) (a .p) _ (a .neg) (omega arith) (c .before .before .if2 .taken) (c .before .if3 .left)
+    refl refl
+    refl refl
+
+no-tree-requires-2 : tie.Need-no-tree-requires-2
+no-tree-requires-2 c κs = search needs
+
+returns-4 : tie.Need-returns-4
+returns-4 c =
+    let a = c .before .before .before .before .before .args in
+    close-no (a .s .now) (a .p) _ (a .neg) (omega arith) (c .before .if2 .left) (c .no-tree2 .ensures)
+
+pub stored-closed-spec : {M : Type 1} → statement M
+stored-closed-spec =
+    tie.close
+    (tie.spec
+    no-tree-requires
+    returns
+    shared-slice-read-if2
+    add-not-node
+    not-node-requires
+    returns-2
+    add-t12
+    returns-3
+    no-tree-requires-2
+    returns-4)

@@ -1,0 +1,146 @@
+use mathlib.Core.Path.{_≡_, sym, _∙_}
+use mathlib.Core.Bool.{true, false}
+use Prim.Native.Nat.{_-_}
+use lib.ListN.{take, drop}
+use Rattle.rules.specs.Names.{isShort}
+use Rattle.rules.specs.Reader.{isNumberWord}
+use Rattle.texts.proofs.StoredSteps.{leaf-name, leaf-number, leaf-none}
+use borrow.Author.Needs.{needs}
+use Rattle.texts.proofs.stored_trees.stored_leaf.Statement.{statement}
+use Rattle.texts.proofs.stored_trees.stored_leaf.Tie as tie
+use Rattle.texts.proofs.stored_trees.stored_leaf.Reads as reads
+use Rattle.texts.proofs.stored_trees.stored_leaf.Lts as lts
+use Rattle.names.proofs.labels.is_short.Reads as is-short-reads
+use Rattle.texts.proofs.held_names.look_up.Reads as look-up-reads
+use Rattle.texts.proofs.leaves.is_number.Reads as is-number-reads
+use Rattle.texts.proofs.leaves.word_end.Reads as word-end-reads
+use Rattle.texts.proofs.numbers.word_value.Reads as word-value-reads
+use Rattle.texts.proofs.stored_nodes.field_node.Reads as field-node-reads
+use Rattle.texts.proofs.stored_nodes.no_tree.Reads as no-tree-reads
+use Rattle.texts.proofs.stored_nodes.number_node.Reads as number-node-reads
+
+word-end-requires : tie.Need-word-end-requires
+word-end-requires c κs = search needs
+
+sub-is-short : tie.Need-sub-is-short
+sub-is-short c = search needs
+
+part-is-short-start : tie.Need-part-is-short-start
+part-is-short-start c = search needs
+
+part-is-short-end : tie.Need-part-is-short-end
+part-is-short-end c = search needs
+
+is-short-requires : tie.Need-is-short-requires
+is-short-requires c κs = search needs
+
+sub-look-up : tie.Need-sub-look-up
+sub-look-up c = search needs
+
+part-look-up-start : tie.Need-part-look-up-start
+part-look-up-start c = search needs
+
+part-look-up-end : tie.Need-part-look-up-end
+part-look-up-end c = search needs
+
+look-up-requires : tie.Need-look-up-requires
+look-up-requires c κs = search needs
+
+field-node-requires : tie.Need-field-node-requires
+field-node-requires c κs = search needs
+
+returns : tie.Need-returns
+returns c =
+    let a = c .before .before .before .before .before .before .before .before .args in
+    let s = a .s .now in
+    let end = c .before .before .before .before .before .before .word-end .result in
+    let w = c .before .before .before .before .before .before .word-end .ensures in
+    let y : isShort (take (end - a .at) (drop (a .at) s)) ≡ true =
+    sym (c .before .before .before .before .is-short .ensures) ∙ c .before .before .before .if1 .taken in
+    leaf-name (a .names .now) (a .n) s (a .at) end (w .0 .0) (w .0 .1) (w .1) _ _ y (c .before .look-up .ensures .1)
+    (c .field-node .ensures)
+
+sub-is-number : tie.Need-sub-is-number
+sub-is-number c = search needs
+
+part-is-number-start : tie.Need-part-is-number-start
+part-is-number-start c = search needs
+
+part-is-number-end : tie.Need-part-is-number-end
+part-is-number-end c = search needs
+
+is-number-requires : tie.Need-is-number-requires
+is-number-requires c κs = search needs
+
+sub-word-value : tie.Need-sub-word-value
+sub-word-value c = search needs
+
+part-word-value-start : tie.Need-part-word-value-start
+part-word-value-start c = search needs
+
+part-word-value-end : tie.Need-part-word-value-end
+part-word-value-end c = search needs
+
+word-value-requires : tie.Need-word-value-requires
+word-value-requires c κs = search needs
+
+number-node-requires : tie.Need-number-node-requires
+number-node-requires c κs = search needs
+
+returns-2 : tie.Need-returns-2
+returns-2 c =
+    let a = c .before .before .before .before .before .before .before .before .before .before .before .args in
+    let s = a .s .now in
+    let end = c .before .before .before .before .before .before .before .before .before .word-end .result in
+    let w = c .before .before .before .before .before .before .before .before .before .word-end .ensures in
+    let k : isShort (take (end - a .at) (drop (a .at) s)) ≡ false =
+    sym (c .before .before .before .before .before .before .before .is-short .ensures) ∙
+    c .before .before .before .before .before .before .if1 .left in
+    let y : isNumberWord (take (end - a .at) (drop (a .at) s)) ≡ true =
+    sym (c .before .before .before .before .is-number .ensures) ∙ c .before .before .before .if2 .taken in
+    leaf-number (a .names .now) (a .n) s (a .at) end (w .0 .0) (w .0 .1) (w .1) _ _ k y
+    (c .before .word-value .ensures .1) (c .number-node .ensures)
+
+no-tree-requires : tie.Need-no-tree-requires
+no-tree-requires c κs = search needs
+
+returns-3 : tie.Need-returns-3
+returns-3 c =
+    let a = c .before .before .before .before .before .before .before .before .before .args in
+    let s = a .s .now in
+    let end = c .before .before .before .before .before .before .before .word-end .result in
+    let w = c .before .before .before .before .before .before .before .word-end .ensures in
+    let k : isShort (take (end - a .at) (drop (a .at) s)) ≡ false =
+    sym (c .before .before .before .before .before .is-short .ensures) ∙ c .before .before .before .before .if1 .left
+    in
+    let y : isNumberWord (take (end - a .at) (drop (a .at) s)) ≡ false =
+    sym (c .before .before .is-number .ensures) ∙ c .before .if2 .left in
+    leaf-none (a .names .now) (a .n) s (a .at) end (w .0 .0) (w .0 .1) (w .1) _ k y (c .no-tree .ensures)
+
+pub stored-leaf-spec : {M : Type 1} → statement M
+stored-leaf-spec =
+    tie.close
+    (tie.spec
+    word-end-requires
+    sub-is-short
+    part-is-short-start
+    part-is-short-end
+    is-short-requires
+    sub-look-up
+    part-look-up-start
+    part-look-up-end
+    look-up-requires
+    field-node-requires
+    returns
+    sub-is-number
+    part-is-number-start
+    part-is-number-end
+    is-number-requires
+    sub-word-value
+    part-word-value-start
+    part-word-value-end
+    word-value-requires
+    number-node-requires
+    returns-2
+    no-tree-requires
+    returns-3)

@@ -1,0 +1,62 @@
+-- An expression in its stored form, with its type, as the code makes it: mirrors the code, no public promise rests on
+-- it.
+use mathlib.Core.Path.{_≡_}
+use mathlib.Core.Bool.{Bool, cond, _&&_}
+use mathlib.Core.List.{List, []}
+use Prim.Native.Nat.{ℕ, _≤_}
+use lib.Dec.{eqb, ltb}
+use lib.ListN.{length, take, drop, getD}
+use Rattle.rules.specs.declared.ValueType.{ValueType}
+use Rattle.rules.specs.declared.ValueType.the-variants.{Number, YesNo}
+use Rattle.rules.specs.Limits.{storedMost, shortMost}
+use Rattle.rules.specs.Operators.{takes, gives}
+use Rattle.rules.specs.Trees.{Tree, num, read, two, negation, storedTree, storedLength}
+use Rattle.rules.specs.Reader.{Out, fail, got}
+use Rattle.names.specs.Repeats.{firstFrom, padTo, sameName}
+use Rattle.texts.specs.LineReader.{Got, miss, hit}
+use Rattle.texts.specs.declared.stored_trees.StoredTree.{StoredTree}
+
+-- ── names that may be read, held by value ──
+
+-- the held name of an index is w
+abbrev pub isHeld : List (List ℕ) → List ℕ → ℕ → Bool
+isHeld names w i = sameName (padTo shortMost w) (getD names i [])
+
+-- the index of the name among the first n held names, else n
+unfoldable pub lookUp : List (List ℕ) → ℕ → List ℕ → ℕ
+lookUp names n w = firstFrom (isHeld names w) 0 n
+
+abbrev pub mayRead : List (List ℕ) → ℕ → List ℕ → Bool
+mayRead names n w = ltb (lookUp names n w) n
+
+-- ── types ──
+
+-- 1 for a number, 2 for yes or no; 0 where operands have wrong types or a name may not be read
+unfoldable pub typeCode : ValueType → ℕ
+typeCode Number = 1
+typeCode YesNo = 2
+
+unfoldable pub typeOf : {N : Type 0} → (N → Bool) → Tree N → ℕ
+typeOf may (num n) = 1
+typeOf may (read a) = cond (may a) 1 0
+typeOf may (two o a b) =
+    cond (eqb (typeOf may a) (typeCode (takes o)) && eqb (typeOf may b) (typeCode (takes o))) (typeCode (gives o)) 0
+typeOf may (negation a) = cond (eqb (typeOf may a) 2) 2 0
+
+-- ── stored expressions ──
+
+-- r holds the tree t, whose names are those of the first n held ones; its bytes, if there are not too many
+pub record StoredIs (names : List (List ℕ)) (n : ℕ) (t : Tree (List ℕ)) (r : StoredTree) : Type 0 where
+  pub len : r .len ≡ storedLength t
+  pub gives : r .gives ≡ typeOf (mayRead names n) t
+  pub bytes : storedLength t ≤ storedMost → take (r .len) (r .bytes) ≡ storedTree (lookUp names n) t
+
+-- the code's answer r is that of the reader in the text s; the length 0 stands for none
+unfoldable pub SameStored : List (List ℕ) → ℕ → List ℕ → Out → StoredTree → Type 0
+SameStored names n s fail r = r .len ≡ 0
+SameStored names n s (got t q) r = StoredIs names n t r × (drop (r .next) s ≡ q)
+
+-- the same for a whole expression
+unfoldable pub StoredFor : List (List ℕ) → ℕ → Got (Tree (List ℕ)) → StoredTree → Type 0
+StoredFor names n miss r = r .len ≡ 0
+StoredFor names n (hit t q) r = StoredIs names n t r
