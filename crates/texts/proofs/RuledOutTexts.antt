@@ -48,14 +48,14 @@ other {text} {out} {o} {p} known differs claim =
 
 -- ── the outcomes of three texts ──
 
-pub tag-known : {out : List ℕ} → ReadsText tagText out (leaves (ofText (delivered (stored tag) out))
-tag)-known = spelled (leb→le _ textMost tt) tag-spelled
+pub tag-known : {out : List ℕ} → ReadsText tagText out (delivered (stored tag) out)
+tag-known = spelled (leb→le _ textMost tt) tag-spelled
 
-blade-known : {out : List ℕ} → ReadsText bladeText out (leaves (ofText (delivered (stored bladeReport) out))
-blade)-known = spelled (leb→le _ textMost tt) blade-spelled
+blade-known : {out : List ℕ} → ReadsText bladeText out (delivered (stored bladeReport) out)
+blade-known = spelled (leb→le _ textMost tt) blade-spelled
 
-free-known : {out : List ℕ} → ReadsText freeText out (leaves (ofText (delivered (stored freePage) out))
-free)-known = spelled (leb→le _ textMost tt) free-spelled
+free-known : {out : List ℕ} → ReadsText freeText out (delivered (stored freePage) out)
+free-known = spelled (leb→le _ textMost tt) free-spelled
 
 -- each wrong program's answer is ruled out
 pub texts-ruled-out : AllFalse wrongTexts
