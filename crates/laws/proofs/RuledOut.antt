@@ -55,7 +55,7 @@ use Rattle.rules.specs.Promises.{
   ListsPacket,
 }
 use Rattle.rules.specs.Cases.{lentRun}
-use Rattle.rules.proofs.Limits.{isWithin, within}
+use Rattle.laws.proofs.WithinTest.{isWithin, within}
 use Rattle.laws.specs.Wrong.{
   Claim,
   checks,

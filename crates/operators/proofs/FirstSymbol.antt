@@ -12,7 +12,7 @@ use Rattle.base.specs.Lists.{all, same}
 use Rattle.base.proofs.Lists.{and-left, and-right, same-true, fails, not-both}
 use Rattle.rules.specs.declared.Op.{Op}
 use Rattle.rules.specs.Operators.{operator, operators, symbol}
-use Rattle.rules.specs.Reader.{Found, missing, found, foundOr, after, firstOf, insert, longestFirst, order}
+use Rattle.text_laws.specs.Reader.{Found, missing, found, foundOr, after, firstOf, insert, longestFirst, order}
 use Rattle.operators.specs.declared.symbols.Symbol.{Symbol}
 use Rattle.operators.specs.Symbols.{symbolIn, symbolOf}
 use Rattle.operators.proofs.SymbolLaws.{ofLength, symbol-of-length}

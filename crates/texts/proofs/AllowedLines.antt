@@ -45,8 +45,8 @@ use Rattle.rules.specs.Lines.{
   SpellsMaybe,
   SpellsField,
 }
-use Rattle.rules.proofs.OperatorTable.{each}
-use Rattle.rules.proofs.ReaderWords.{number-bytes, short-bytes}
+use Rattle.text_laws.proofs.OperatorTable.{each}
+use Rattle.text_laws.proofs.ReaderWords.{number-bytes, short-bytes}
 use Rattle.texts.proofs.NamedFields.{formed-names}
 
 -- each byte may stand in a line

@@ -17,8 +17,8 @@ use Rattle.rules.specs.Limits.{numberMost}
 use Rattle.rules.specs.Operators.{operator, operators}
 use Rattle.rules.specs.Names.{isLetter, isDigit, isOperator, isSpace, classOf, isWordByte, isShort}
 use Rattle.rules.specs.Trees.{depth, storedTree, le4}
-use Rattle.rules.specs.Reader.{word, behind, scan, value, isNumeral, isNumberWord, leaf}
-use Rattle.rules.proofs.ReaderWords.{word-behind}
+use Rattle.text_laws.specs.Reader.{word, behind, scan, value, isNumeral, isNumberWord, leaf}
+use Rattle.text_laws.proofs.ReaderWords.{word-behind}
 use Rattle.texts.specs.ExprPlaces.{SameRead, WithinRead, LeafAt}
 use Rattle.texts.specs.declared.leaves.Read.{Read}
 use Rattle.texts.specs.declared.leaves.Read.the-variants.{Nothing, At}

@@ -15,9 +15,9 @@ use Rattle.rules.specs.declared.Op.{Op}
 use Rattle.rules.specs.declared.Op.the-variants.{Or, And, Eq, Ne, Lt, Le, Gt, Ge, Add, Sub, Mul}
 use Rattle.rules.specs.Operators.{operator, operators, symbol, level, leftLevel, rightLevel}
 use Rattle.rules.specs.Names.{isSpace}
-use Rattle.rules.specs.Reader.{Found, missing, found, after, foundOr, firstOf, insert, longestFirst, order}
-use Rattle.rules.specs.Reader.{skip, skipBehind, operatorAt}
-use Rattle.rules.proofs.OperatorTable.{each}
+use Rattle.text_laws.specs.Reader.{Found, missing, found, after, foundOr, firstOf, insert, longestFirst, order}
+use Rattle.text_laws.specs.Reader.{skip, skipBehind, operatorAt}
+use Rattle.text_laws.proofs.OperatorTable.{each}
 use Rattle.texts.specs.ExprPlaces.{longs, shorts, foundBy, SameSign, WithinSign}
 use Rattle.texts.specs.declared.operators.Mark.{Mark}
 use Rattle.texts.specs.declared.operators.Mark.the-variants as mark

@@ -9,7 +9,7 @@ use lib.ListN.{length, drop}
 use Rattle.base.specs.Bytes.{bytes}
 use Rattle.rules.specs.Limits.{openMost}
 use Rattle.rules.specs.Trees.{Tree, depth, storedLength}
-use Rattle.rules.specs.Reader.{fail, got, expr}
+use Rattle.text_laws.specs.Reader.{fail, got, expr}
 use Rattle.texts.specs.LineReader.{Got, miss, hit, literal, begins, readTree, readPhrase, readMaybe}
 use Rattle.texts.specs.LineReader.{isCondition, isConstraint, readConstraint, readCondition}
 use Rattle.texts.specs.ExprPlaces.{ExprAt}

@@ -12,7 +12,7 @@ use Rattle.base.specs.Bytes.{bytes}
 use Rattle.base.specs.Lists.{isNone}
 use Rattle.base.proofs.Places.{drop-more}
 use Rattle.rules.specs.Names.{isLabel, isShort}
-use Rattle.rules.specs.Reader.{after, word, behind}
+use Rattle.text_laws.specs.Reader.{after, word, behind}
 use Rattle.texts.specs.LineReader.{miss, hit, passed, literal, begins, labelEnds, labelText, labelBehind}
 use Rattle.texts.specs.LineReader.{readLabel, readName, readShort}
 use Rattle.texts.specs.FieldPlaces.{SameLabel, WithinLabel, NameIs, SameShort, WithinShort}

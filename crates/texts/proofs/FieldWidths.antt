@@ -16,7 +16,7 @@ use Rattle.rules.specs.Limits.{openMost, fixedMost}
 use Rattle.rules.specs.Trees.{Tree, num, read, two, negation, depth, storedTree, storedLength, isNumber, le4}
 use Rattle.rules.specs.Fields.{Width, fixed, measured, rest}
 use Rattle.rules.specs.Within.{isWidth}
-use Rattle.rules.specs.Reader.{fail, got, expr, word, behind}
+use Rattle.text_laws.specs.Reader.{fail, got, expr, word, behind}
 use Rattle.texts.specs.LineReader.{Got, miss, hit, bind, keep, literal, begins, readTree, unitOf, readUnit}
 use Rattle.texts.specs.LineReader.{widthOf, readMeasure, readWidth}
 use Rattle.texts.specs.ExprPlaces.{ExprAt}

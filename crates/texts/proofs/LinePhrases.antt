@@ -9,8 +9,8 @@ use Rattle.base.specs.Bytes.{bytes}
 use Rattle.base.specs.Lists.{isNone}
 use Rattle.rules.specs.Trees.{Tree}
 use Rattle.rules.specs.Lines.{SpellsMaybe, Written}
-use Rattle.rules.specs.Reader.{after}
-use Rattle.rules.proofs.ReaderComplete.{Stop, stop-semicolon, stop-dot}
+use Rattle.text_laws.specs.Reader.{after}
+use Rattle.text_laws.proofs.ReaderComplete.{Stop, stop-semicolon, stop-dot}
 use Rattle.texts.specs.LineReader.{hit, bind, literal, begins, readTree, readPhrase}
 use Rattle.texts.specs.LineReader.{readMaybe, isCondition, isConstraint, readConstraint, readCondition}
 use Rattle.texts.proofs.Combine.{Holds, holds-cond, holds-bind, literal-sound, literal-finds}

@@ -14,10 +14,10 @@ use Rattle.rules.specs.Names.{isLetter, isDigit, isWordByte, isShort, isReserve
 use Rattle.rules.specs.Trees.{Tree}
 use Rattle.rules.specs.Expressions.{SpellsTree}
 use Rattle.rules.specs.Lines.{Written}
-use Rattle.rules.specs.Reader.{word, isNumeral, isNumberWord, Out, fail, got, andThen, leaf, atom, expr}
-use Rattle.rules.proofs.ReaderComplete.{Stop}
-use Rattle.rules.proofs.ReaderUnique.{found-is}
-use Rattle.rules.proofs.ReaderSound.{Good, sound}
+use Rattle.text_laws.specs.Reader.{word, isNumeral, isNumberWord, Out, fail, got, andThen, leaf, atom, expr}
+use Rattle.text_laws.proofs.ReaderComplete.{Stop}
+use Rattle.text_laws.proofs.ReaderUnique.{found-is}
+use Rattle.text_laws.proofs.ReaderSound.{Good, sound}
 use Rattle.texts.specs.LineReader.{miss, hit, begins, ofOut, readTree}
 use Rattle.texts.proofs.Combine.{Holds}
 use Rattle.texts.proofs.Combine.{begins-split}

@@ -15,9 +15,9 @@ use Rattle.rules.specs.Fields.{Width, fixed, measured, rest}
 use Rattle.rules.specs.Within.{isWidth}
 use Rattle.rules.specs.Expressions.{SpellsTree}
 use Rattle.rules.specs.Lines.{UnitWord, bit-word, bits-word, byte-word, bytes-word, Measure, SpellsWidth, Written}
-use Rattle.rules.specs.Reader.{after, word, behind}
-use Rattle.rules.proofs.ReaderWords.{Ends, word-behind, word-is, behind-is}
-use Rattle.rules.proofs.ReaderComplete.{Stop, stop-word}
+use Rattle.text_laws.specs.Reader.{after, word, behind}
+use Rattle.text_laws.proofs.ReaderWords.{Ends, word-behind, word-is, behind-is}
+use Rattle.text_laws.proofs.ReaderComplete.{Stop, stop-word}
 use Rattle.texts.specs.LineReader.{hit, bind, keep, literal, begins, readTree, unitOf, readUnit}
 use Rattle.texts.specs.LineReader.{widthOf, readMeasure, readWidth}
 use Rattle.texts.proofs.Combine.{Holds, holds-keep, holds-cond, holds-given, holds-bind, literal-sound}

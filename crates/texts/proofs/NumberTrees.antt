@@ -14,8 +14,8 @@ use Rattle.rules.specs.Limits.{openMost}
 use Rattle.rules.specs.Names.{isShort}
 use Rattle.rules.specs.Operators.{level, leftLevel, rightLevel, atomLevel}
 use Rattle.rules.specs.Trees.{Tree, num, read, two, negation}
-use Rattle.rules.specs.Reader.{Out, fail, got, Found, missing, found, word, behind, value, isNumberWord, leaf}
-use Rattle.rules.specs.Reader.{close, inside, atom, step, andThen, expr, more, operatorAt}
+use Rattle.text_laws.specs.Reader.{Out, fail, got, Found, missing, found, word, behind, value, isNumberWord, leaf}
+use Rattle.text_laws.specs.Reader.{close, inside, atom, step, andThen, expr, more, operatorAt}
 use Rattle.texts.specs.LineReader.{hit, ofOut, readTree}
 use Rattle.texts.specs.PartPlaces.{pastOpen}
 use Rattle.texts.proofs.ExprLeaves.{word-part}

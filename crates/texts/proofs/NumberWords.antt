@@ -11,7 +11,7 @@ use Rattle.base.specs.Lists.{all}
 use Rattle.base.proofs.Lists.{and-left, and-right, not-both}
 use Rattle.rules.specs.Limits.{numberMost}
 use Rattle.rules.specs.Names.{isDigit}
-use Rattle.rules.specs.Reader.{scan, value, isNumberWord}
+use Rattle.text_laws.specs.Reader.{scan, value, isNumberWord}
 use Rattle.texts.proofs.ExprLeaves.{digit-range, scan-step, scan-end, scan-ge, number-other, number-large}
 
 word-digits : (w : List ℕ) → isNumberWord w ≡ true → all isDigit w ≡ true

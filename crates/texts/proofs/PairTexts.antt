@@ -43,7 +43,7 @@ use Rattle.rules.specs.Frames.{
 }
 use Rattle.rules.specs.Spelling.{mismatch}
 use Rattle.rules.specs.Refusals.{Formless, FirstFormless, ruleBroken, line, form, rule, Refuses}
-use Rattle.rules.specs.Reader.{
+use Rattle.text_laws.specs.Reader.{
   after,
   firstOf,
   insert,
@@ -67,7 +67,7 @@ use Rattle.rules.specs.Reader.{
   expr,
   more,
 }
-use Rattle.rules.proofs.Refused.{plain-text}
+use Rattle.text_laws.proofs.Refused.{plain-text}
 use Rattle.texts.specs.LineReader.{
   literal,
   begins,

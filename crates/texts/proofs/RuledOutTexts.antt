@@ -16,11 +16,11 @@ use Rattle.rules.specs.Answers.{ofText}
 use Rattle.rules.specs.Promises.{Outcome, delivered, ReadsText, spelled, refuses, leaves}
 use Rattle.rules.specs.Marked.{bladeReport, tag, tagText}
 use Rattle.rules.specs.Pages.{bladeText, freePage, freeText, notTimes}
-use Rattle.rules.proofs.Written.{_also_}
-use Rattle.rules.proofs.TagText.{tag-spelled}
-use Rattle.rules.proofs.BladeText.{blade-spelled}
-use Rattle.rules.proofs.FreePage.{free-spelled}
-use Rattle.rules.proofs.Refused.{
+use Rattle.base.proofs.Also.{_also_}
+use Rattle.text_laws.proofs.TagText.{tag-spelled}
+use Rattle.text_laws.proofs.BladeText.{blade-spelled}
+use Rattle.text_laws.proofs.FreePage.{free-spelled}
+use Rattle.text_laws.proofs.Refused.{
   too-long,
   bad-byte,
   empty-refused,

@@ -13,7 +13,7 @@ use borrow.Author.Tests.{eqb-true, eq-eqb, ne-eqb}
 use Rattle.base.specs.Lists.{all}
 use Rattle.rules.specs.declared.Op.{Op}
 use Rattle.rules.specs.Operators.{operator, operators, level, takes, gives}
-use Rattle.rules.proofs.OperatorTable.{each}
+use Rattle.text_laws.proofs.OperatorTable.{each}
 use Rattle.texts.specs.StoredTrees.{typeCode}
 
 -- no byte was put there yet

@@ -13,7 +13,7 @@ use Rattle.rules.specs.declared.Op.{Op}
 use Rattle.rules.specs.Operators.{level, leftLevel}
 use Rattle.rules.specs.Trees.{two}
 use Rattle.rules.specs.Limits.{openMost}
-use Rattle.rules.specs.Reader.{Out, fail, got, operatorAt, close, inside, atom, step, andThen, expr, more}
+use Rattle.text_laws.specs.Reader.{Out, fail, got, operatorAt, close, inside, atom, step, andThen, expr, more}
 use Rattle.texts.specs.ExprPlaces.{SameSign}
 use Rattle.texts.specs.LineReader.{ofOut, readTree}
 use Rattle.texts.specs.StoredTrees.{SameStored, StoredFor}

@@ -13,8 +13,8 @@ use Rattle.rules.specs.declared.Op.{Op}
 use Rattle.rules.specs.Operators.{code, numberCode, fieldCode}
 use Rattle.rules.specs.Names.{isShort}
 use Rattle.rules.specs.Trees.{Tree, num, read, two, negation, storedTree, storedLength, le4}
-use Rattle.rules.specs.Reader.{Out, fail, got, word, behind, value, isNumeral, isNumberWord, leaf}
-use Rattle.rules.specs.Reader.{close}
+use Rattle.text_laws.specs.Reader.{Out, fail, got, word, behind, value, isNumeral, isNumberWord, leaf}
+use Rattle.text_laws.specs.Reader.{close}
 use Rattle.texts.specs.StoredTrees.{lookUp, typeOf, StoredIs, SameStored}
 use Rattle.texts.specs.StoredPlaces.{Made, NotMade, TwoMade, WithinStored, wrapOf, LeafStored}
 use Rattle.texts.specs.StoredPlaces.{ClosedStored}

@@ -6,8 +6,8 @@ use lib.ListN.{length, drop}
 use Rattle.rules.specs.declared.Op.{Op}
 use Rattle.rules.specs.declared.Op.the-variants.{Or, And, Eq, Ne, Lt, Le, Gt, Ge, Add, Sub, Mul}
 use Rattle.rules.specs.Trees.{Tree, depth, storedLength}
-use Rattle.rules.specs.Reader.{Out, fail, got, Found, missing, found, word, behind, leaf, close, inside, atom, expr}
-use Rattle.rules.specs.Reader.{more}
+use Rattle.text_laws.specs.Reader.{Out, fail, got, Found, missing, found, word, behind, leaf, close, inside, atom, expr}
+use Rattle.text_laws.specs.Reader.{more}
 use Rattle.texts.specs.declared.leaves.Read.{Read}
 use Rattle.texts.specs.declared.leaves.Read.the-variants as read
 use Rattle.texts.specs.declared.expressions.Next.{Next}

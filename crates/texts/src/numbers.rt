@@ -4,7 +4,7 @@ ghost use mathlib.Core.Bool.{true};
 ghost use mathlib.Core.Path.{_≡_};
 ghost use Prim.Native.Nat.{_≤_};
 ghost use Rattle.rules.specs.Limits.{numberMost};
-ghost use Rattle.rules.specs.Reader.{isNumberWord, value};
+ghost use Rattle.text_laws.specs.Reader.{isNumberWord, value};
 
 // The value of a word of digits that is a number; of another word, some number.
 pub(crate) fn word_value(w: &[u8]) -> usize

@@ -5,7 +5,7 @@ ghost use mathlib.Core.List.{List, _∷_};
 ghost use Prim.Native.Nat.{ℕ, _+_, _≤_};
 ghost use lib.ListN.{length, drop};
 ghost use Rattle.rules.specs.Operators.{level, leftLevel};
-ghost use Rattle.rules.specs.Reader.{firstOf, order, skip, operatorAt};
+ghost use Rattle.text_laws.specs.Reader.{firstOf, order, skip, operatorAt};
 ghost use Rattle.texts.specs.ExprPlaces.{longs, shorts, foundBy, SameSign, WithinSign};
 
 // The operator that one or two bytes are.

@@ -4,7 +4,7 @@ use mathlib.Core.Path.{_≡_, refl, sym, _∙_}
 use native.Mathlib.Omega.{arith}
 use lib.ListN.{length}
 use Rattle.rules.specs.Operators.{level, leftLevel}
-use Rattle.rules.proofs.OperatorTable.{level-lt}
+use Rattle.text_laws.proofs.OperatorTable.{level-lt}
 use Rattle.texts.proofs.ExprSigns.{sign-within}
 use Rattle.texts.proofs.ExprSteps.{within-got, within-up, within-fail, within-here, expr-fail, expr-go}
 use Rattle.texts.proofs.ExprSteps.{max-most}

@@ -6,7 +6,7 @@ use Prim.Native.Nat.{_≤_, _-_, _+_, _*_, _<_}
 use mathlib.Core.Bool.{true, false}
 use lib.ListN.{length, drop, getD}
 use Rattle.base.specs.Lists.{all}
-use Rattle.rules.specs.Reader.{scan, value}
+use Rattle.text_laws.specs.Reader.{scan, value}
 use Rattle.rules.specs.Names.{isDigit}
 use Rattle.texts.proofs.ExprLeaves.{digit-range, all-step, all-stop, all-end, scan-step, scan-end, scan-ge}
 use Rattle.texts.proofs.ExprLeaves.{number-empty, number-zero, number-other, number-large, number-yes}

@@ -4,7 +4,7 @@ use native.Mathlib.Omega.{arith}
 use Prim.Native.Nat.{_≤_, _-_, _+_, _*_}
 use lib.ListN.{length, getD}
 use Rattle.rules.specs.Limits.{numberMost}
-use Rattle.rules.specs.Reader.{isNumberWord}
+use Rattle.text_laws.specs.Reader.{isNumberWord}
 use Rattle.texts.proofs.NumberWords.{Upto, upto-start, upto-digit, upto-step, upto-large, upto-end}
 use borrow.Author.Needs.{needs}
 use Rattle.texts.proofs.numbers.word_value.Statement.{statement}

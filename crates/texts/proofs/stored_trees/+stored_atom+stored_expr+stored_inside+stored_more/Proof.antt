@@ -4,7 +4,7 @@ use Prim.Native.Nat.{ℕ, _<_, _≤_, _+_, _*_, _-_}
 use native.Mathlib.Omega.{arith}
 use lib.ListN.{length}
 use Rattle.rules.specs.Operators.{level, leftLevel}
-use Rattle.rules.proofs.OperatorTable.{level-lt}
+use Rattle.text_laws.proofs.OperatorTable.{level-lt}
 use Rattle.texts.proofs.ExprSigns.{sign-within}
 use Rattle.texts.proofs.ExprSteps.{stop-level, stop-left}
 use Rattle.texts.proofs.StoredSteps.{none-within, here-within, up-within, got-within}

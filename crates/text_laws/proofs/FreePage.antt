@@ -39,20 +39,12 @@ use Rattle.rules.specs.Frames.{
   frameText,
   cells,
 }
 use Rattle.rules.specs.Spelling.{NameOf, Spells}
 use Rattle.rules.specs.Sheets.{cell}
 use Rattle.rules.specs.Pages.{freePage, freeText}
-use Rattle.rules.proofs.Limits.{within}
-use Rattle.rules.proofs.Written.{
-  numeral,
-  operated,
-  enclosed,
-  opposed,
-  measured-as,
-  fixed-as,
-  line-of,
-  _also_,
-}
+use Rattle.laws.proofs.WithinTest.{within}
+use Rattle.base.proofs.Also.{_also_}
+use Rattle.text_laws.proofs.Written.{numeral, operated, enclosed, opposed, measured-as, fixed-as, line-of}
 
 frame : Frame
 frame = record {

@@ -50,13 +50,13 @@ use Rattle.rules.specs.Frames.{
   frameText,
   cells,
 }
 use Rattle.rules.specs.Answers.{refused}
 use Rattle.rules.specs.Refusals.{Formless, Refuses, form}
 use Rattle.rules.specs.Pages.{tagHead}
-use Rattle.rules.proofs.ReaderComplete.{Stop, stop-word}
-use Rattle.rules.proofs.ReaderUnique.{unique-front}
-use Rattle.rules.proofs.Written.{numeral}
-use Rattle.rules.proofs.Refused.{tag-frame, plain-text, any-behind}
+use Rattle.text_laws.proofs.ReaderComplete.{Stop, stop-word}
+use Rattle.text_laws.proofs.ReaderUnique.{unique-front}
+use Rattle.text_laws.proofs.Written.{numeral}
+use Rattle.text_laws.proofs.Refused.{tag-frame, plain-text, any-behind}
 
 abbrev wide-line : List ℕ
 wide-line = bytes "Kind: 33 bits."

@@ -44,8 +44,8 @@ use Rattle.rules.specs.Promises.{
   spelled,
   refuses,
 }
 use Rattle.rules.specs.Cases.{SpellsOnly, AllHold}
-use Rattle.rules.specs.Reader.{
+use Rattle.text_laws.specs.Reader.{
   after,
   firstOf,
   insert,
@@ -72,15 +72,15 @@ use Rattle.rules.specs.Reader.{
   expr,
   more,
 }
 use Rattle.rules.specs.Pages.{manyFields, notTimes, andTimes}
 use Rattle.rules.specs.Marked.{tag}
-use Rattle.rules.specs.Worked.{worked}
-use Rattle.rules.proofs.Limits.{within, outside}
-use Rattle.rules.proofs.Written.{_also_}
-use Rattle.rules.proofs.TagText.{tag-spelled}
-use Rattle.rules.proofs.BladeText.{blade-spelled}
-use Rattle.rules.proofs.FreePage.{free-spelled}
-use Rattle.rules.proofs.Refused.{
+use Rattle.cases.specs.Worked.{worked}
+use Rattle.laws.proofs.WithinTest.{within, outside}
+use Rattle.base.proofs.Also.{_also_}
+use Rattle.text_laws.proofs.TagText.{tag-spelled}
+use Rattle.text_laws.proofs.BladeText.{blade-spelled}
+use Rattle.text_laws.proofs.FreePage.{free-spelled}
+use Rattle.text_laws.proofs.Refused.{
   too-long,
   long-enough,
   bad-byte,
@@ -94,9 +94,9 @@ use Rattle.rules.proofs.Refused.{
   empty-line,
   no-full-stop,
 }
-use Rattle.rules.proofs.WideLine.{too-wide-line}
-use Rattle.rules.proofs.ReaderUnique.{tree-unique, found-whole}
-use Rattle.rules.proofs.ReaderExact.{exact}
+use Rattle.text_laws.proofs.WideLine.{too-wide-line}
+use Rattle.text_laws.proofs.ReaderUnique.{tree-unique, found-whole}
+use Rattle.text_laws.proofs.ReaderExact.{exact}
 
 -- what the reader finds in a text is spelled by it, and nothing else is
 found-only : (s : List ℕ) (t : Tree (List ℕ)) → expr (suc (length s)) 0 openMost s ≡ got t [] → SpellsOnly t s

@@ -39,10 +39,10 @@ use Rattle.rules.specs.Frames.{
   frameText,
   cells,
 }
 use Rattle.rules.specs.Spelling.{mismatch, NameOf, Spells}
 use Rattle.rules.specs.Marked.{tag, tagText}
-use Rattle.rules.proofs.Limits.{within}
-use Rattle.rules.proofs.Written.{numeral, operated}
+use Rattle.laws.proofs.WithinTest.{within}
+use Rattle.text_laws.proofs.Written.{numeral, operated}
 
 frame : Frame
 frame = record {

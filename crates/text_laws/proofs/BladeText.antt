@@ -38,12 +38,13 @@ use Rattle.rules.specs.Frames.{
   frameText,
   cells,
 }
 use Rattle.rules.specs.Spelling.{Spells}
 use Rattle.rules.specs.Marked.{bladeReport}
 use Rattle.rules.specs.Sheets.{cell}
 use Rattle.rules.specs.Pages.{bladeText}
-use Rattle.rules.proofs.Limits.{within}
-use Rattle.rules.proofs.Written.{numeral, operated, measured-as, fixed-as, line-of, _also_}
+use Rattle.laws.proofs.WithinTest.{within}
+use Rattle.base.proofs.Also.{_also_}
+use Rattle.text_laws.proofs.Written.{numeral, operated, measured-as, fixed-as, line-of}
 
 frame : Frame
 frame = record {

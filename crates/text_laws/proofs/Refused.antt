@@ -64,10 +64,10 @@ use Rattle.rules.specs.Refusals.{
   byte,
   line,
 }
 use Rattle.rules.specs.Cases.{named}
 use Rattle.rules.specs.Pages.{tagHead, tagLines, tagUnended, crowded}
 use Rattle.rules.specs.Sheets.{cell, framed}
-use Rattle.rules.proofs.Written.{numeral, operated, fixed-as, line-of}
+use Rattle.text_laws.proofs.Written.{numeral, operated, fixed-as, line-of}
 
 -- ── a frame's text begins with `A` and ends in LF ──
 
