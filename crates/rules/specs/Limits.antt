@@ -1,5 +1,6 @@
 -- The limits of document 01, each in one place.
 use mathlib.Core.Bool.{Bool}
+use mathlib.Core.List.{List, [], _∷_}
 use Prim.Native.Nat.{ℕ}
 use lib.Dec.{leb}
 
@@ -40,3 +41,18 @@ storedMost = 120
 -- [01, Fields] the bits of a fixed field
 abbrev pub fixedMost : ℕ
 fixedMost = 32
+
+-- all of them, in this order
+abbrev pub limits : List ℕ
+limits =
+    textMost
+    ∷ fieldsMost
+    ∷ packetMost
+    ∷ labelMost
+    ∷ shortMost
+    ∷ numberMost
+    ∷ openMost
+    ∷ depthMost
+    ∷ storedMost
+    ∷ fixedMost
+    ∷ []
