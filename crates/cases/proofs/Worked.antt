@@ -27,7 +27,7 @@ use Rattle.rules.specs.Fields.{Description}
 use Rattle.rules.specs.Within.{rowsFit}
 use Rattle.rules.specs.Stored.{storedIn, storedFieldIn, stored, fieldBody, headBody}
 use Rattle.rules.specs.Expressions.{SpellsTree}
-use Rattle.rules.specs.Lines.{Written}
+use Rattle.rules.specs.Lines.{Unresolved}
 use Rattle.rules.specs.Frames.{tens, units, border, cellText, rowLines, isFrame, headLines, cells}
 use Rattle.rules.specs.Spelling.{mismatch, Spells}
 use Rattle.rules.specs.Refusals.{ruleBroken}
@@ -57,7 +57,7 @@ use Rattle.text_laws.specs.Reader.{
   word,
   behind,
   scan,
-  value,
+  wordValue,
   isNumeral,
   isNumberWord,
   Out,
@@ -101,7 +101,7 @@ use Rattle.text_laws.proofs.ReaderExact.{exact}
 -- what the reader finds in a text is spelled by it, and nothing else is
 found-only : (s : List ℕ) (t : Tree (List ℕ)) → expr (suc (length s)) 0 openMost s ≡ got t [] → SpellsOnly t s
 found-only s t e =
-    let p : SpellsTree Written t s = exact openMost s t .0 e in
+    let p : SpellsTree Unresolved t s = exact openMost s t .0 e in
     (p, λ (u : Tree (List ℕ)) q. tree-unique q p)
 
 -- where the reader finds no whole tree, none is spelled
@@ -111,7 +111,7 @@ isWholeTree (got t []) = true
 isWholeTree (got t (b ∷ r)) = false
 
 none-found : (s : List ℕ) → isWholeTree (expr (suc (length s)) 0 openMost s) ≡ false
-    → (u : Tree (List ℕ)) → SpellsTree Written u s → ⊥
+    → (u : Tree (List ℕ)) → SpellsTree Unresolved u s → ⊥
 none-found s e u q = false≢true (sym e ∙ ap isWholeTree (found-whole q))
 
 -- what a text that spells a description delivers
@@ -126,7 +126,7 @@ unfolding digits all any same lastIs sum joined tabulate firstBreak isLetter isD
     readFields reading entryLines linesText faultNumber ofTable ofPacket ofText ofListing delivered
     readingAnswer packetOutcome readingLines tens units border cellText rowLines isFrame headLines cells
     mismatch ruleBroken manyFields notTimes andTimes operators after firstOf insert longestFirst order skip
-    skipBehind operatorAt word behind scan value isNumeral isNumberWord andThen leaf close inside atom step
+    skipBehind operatorAt word behind scan wordValue isNumeral isNumberWord andThen leaf close inside atom step
     expr more
 all-worked =
     (within _ refl, refl)

@@ -55,7 +55,7 @@ fault-large Fault.OutOfRange = omega arith
 -- a refusal has a number of 22 or more, and no value
 abbrev pub Told : Reading → Type 0
 Told (complete entries) = Unit {0}
-Told (refusing a) = (21 < a .number) × (a .value ≡ 0)
+Told (refusing a) = (21 < a .number) × (a .amount ≡ 0)
 
 at-end : (entries : List Entry) (b : Bool) → Told (cond b (complete entries) leftOver)
 at-end entries true = tt

@@ -68,7 +68,7 @@ use Rattle.laws.specs.Wrong.{
   placesLabel,
   tellsNumber,
   tellsPlace,
-  tellsValue,
+  tellsAmount,
   lentOutput,
   Claimed,
   AllFalse,
@@ -133,10 +133,10 @@ label-place-only d i part w p = p (yes (good-stored d w))
 -- ── of other numbers it is false ──
 
 abbrev pub answerNumbers : Answer → List ℕ
-answerNumbers a = a .number ∷ a .place ∷ a .value ∷ []
+answerNumbers a = a .number ∷ a .place ∷ a .amount ∷ []
 
 abbrev pub numbers : Outcome → List ℕ
-numbers o = o .answer .number ∷ o .answer .place ∷ o .answer .value ∷ o .buffer
+numbers o = o .answer .number ∷ o .answer .place ∷ o .answer .amount ∷ o .buffer
 
 abbrev pub partNumbers : List ℕ → Part → List ℕ
 partNumbers packet part = part .start ∷ partBytes packet part
@@ -159,7 +159,7 @@ claimed (labels d i bytes start) = start ∷ bytes
 claimed (placesLabel d i part) = placeNumbers part
 claimed (tellsNumber r n) = single n
 claimed (tellsPlace r n) = single n
-claimed (tellsValue r n) = single n
+claimed (tellsAmount r n) = single n
 
 abbrev pub given : Claim → List ℕ
 given (checks d r) = answerNumbers (accepted (length (stored d)))
@@ -172,7 +172,7 @@ given (labels d i bytes start) = partNumbers (stored d) (labelAt d i)
 given (placesLabel d i part) = placeNumbers (labelAt d i)
 given (tellsNumber r n) = single (ofPacket r .number)
 given (tellsPlace r n) = single (ofPacket r .place)
-given (tellsValue r n) = single (ofPacket r .value)
+given (tellsAmount r n) = single (ofPacket r .amount)
 
 -- what is claimed of a table is of the table of a description within the limits
 abbrev pub isFitting : Claim → Bool
@@ -186,7 +186,7 @@ isFitting (labels d i bytes start) = isWithin d
 isFitting (placesLabel d i part) = isWithin d
 isFitting (tellsNumber r n) = true
 isFitting (tellsPlace r n) = true
-isFitting (tellsValue r n) = true
+isFitting (tellsAmount r n) = true
 
 two-parts : {m n : ℕ} {s t : List ℕ} → (s ≡ t) × (m ≡ n) → m ∷ s ≡ n ∷ t
 two-parts {n = n} {s = s} q = ap (λ (k : ℕ). k ∷ s) (q .1) ∙ ap (λ (l : List ℕ). n ∷ l) (q .0)
@@ -203,7 +203,7 @@ claim-only (labels d i bytes start) h p = two-parts (label-only d i (p .0) bytes
 claim-only (placesLabel d i part) h p = ap placeNumbers (label-place-only d i part (within d h) p)
 claim-only (tellsNumber r n) h p = ap single p
 claim-only (tellsPlace r n) h p = ap single p
-claim-only (tellsValue r n) h p = ap single p
+claim-only (tellsAmount r n) h p = ap single p
 
 abbrev pub isOther : Claim → Bool
 isOther c = isFitting c && not (same (claimed c) (given c))

@@ -32,7 +32,7 @@ use Rattle.laws.proofs.RuledOut.{table-only, outcome-only}
 
 -- accepted with the packet's bit total; or refused, with the run as it was
 record Fair (packet run : List ℕ) (o : Outcome) : Type 0 where
-  total : o .answer .number ≡ 0 → o .answer .value ≡ bitTotal packet
+  total : o .answer .number ≡ 0 → o .answer .amount ≡ bitTotal packet
   keeps : (o .answer .number ≡ 0 → ⊥) → o .buffer ≡ run
 
 refused-fair : (packet run : List ℕ) (n p : ℕ) → 0 < n → Fair packet run (leaves (refused n p) run)
@@ -70,7 +70,7 @@ module _ (table packet run after : List ℕ) where
       let good = good-decidable table in
       let e = p good in
       let f = table-fair table packet run good in
-      ap (λ (o : Outcome). o .answer .value) e ∙ f .total (sym (ap (λ (o : Outcome). o .answer .number) e))
+      ap (λ (o : Outcome). o .answer .amount) e ∙ f .total (sym (ap (λ (o : Outcome). o .answer .number) e))
 
   -- a refusal changes nothing
   pub refusal-keeps : (r : PacketAnswer) → (ofPacket r .number ≡ 0 → ⊥) → ReadsPacket table packet run (leaves (ofPacket r) after)

@@ -46,7 +46,7 @@ module _ (d : Description) (packet run after : List ℕ) (n : ℕ) where
       let back : entriesIn (length (d .fields)) after ≡ es = rw (← k, b) (entries-back es _) in
       let o = cover-in-order d packet es h in
       record {
-        total = ap (λ (x : Outcome). x .answer .value) e;
+        total = ap (λ (x : Outcome). x .answer .amount) e;
         once = λ bit lt. rw back (cover-unique d packet es h bit lt);
         ordered = rw back (o .0);
         widths = rw back (o .1);

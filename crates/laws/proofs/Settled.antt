@@ -35,7 +35,7 @@ use Rattle.laws.proofs.Decidable.{good-decidable}
 -- ── an answer is known by its number, place and value ──
 
 tableOf : Answer → TableAnswer
-tableOf a = cond (eqb (a .number) 0) (TableAnswer.Good (a .value)) TableAnswer.NotGood
+tableOf a = cond (eqb (a .number) 0) (TableAnswer.Good (a .amount)) TableAnswer.NotGood
 
 table-back : (r : TableAnswer) → tableOf (ofTable r) ≡ r
 unfolding tableOf ofTable
@@ -44,7 +44,7 @@ table-back TableAnswer.NotGood = refl
 
 packetOf : Answer → PacketAnswer
 packetOf a =
-    cond (eqb (a .number) 0) (PacketAnswer.Accepted (a .value))
+    cond (eqb (a .number) 0) (PacketAnswer.Accepted (a .amount))
     (cond (eqb (a .number) 21) PacketAnswer.NotGood
     (cond (eqb (a .number) 22) PacketAnswer.TooLong
     (cond (eqb (a .number) 23) PacketAnswer.ShortRun
@@ -67,7 +67,7 @@ packet-back PacketAnswer.LeftOver = refl
 
 fieldOf : Answer → FieldAnswer
 fieldOf a =
-    cond (eqb (a .number) 0) (FieldAnswer.At (a .value)) (cond (eqb
+    cond (eqb (a .number) 0) (FieldAnswer.At (a .amount)) (cond (eqb
     (a .number) 21) FieldAnswer.NotGood FieldAnswer.Unknown)
 
 field-back : (r : FieldAnswer) → fieldOf (ofField r) ≡ r
@@ -77,7 +77,7 @@ field-back FieldAnswer.NotGood = refl
 field-back FieldAnswer.Unknown = refl
 
 listingOf : Answer → ListingAnswer
-listingOf a = cond (eqb (a .number) 0) (ListingAnswer.Written (a .value)) ListingAnswer.NoRoom
+listingOf a = cond (eqb (a .number) 0) (ListingAnswer.Written (a .amount)) ListingAnswer.NoRoom
 
 listing-back : (r : ListingAnswer) → listingOf (ofListing r) ≡ r
 unfolding listingOf ofListing
@@ -86,7 +86,7 @@ listing-back ListingAnswer.NoRoom = refl
 
 textOf : Answer → TextAnswer
 textOf a =
-    cond (eqb (a .number) 0) (TextAnswer.Accepted (a .value))
+    cond (eqb (a .number) 0) (TextAnswer.Accepted (a .amount))
     (cond (eqb (a .number) 1) TextAnswer.TooLong
     (cond (eqb (a .number) 2) TextAnswer.BadByte
     (cond (eqb (a .number) 3) (TextAnswer.BadLine (a .place))

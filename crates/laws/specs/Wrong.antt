@@ -18,7 +18,7 @@ use Rattle.rules.specs.Reading.{Entry, absent, numbersOf, Part, partFrom}
 use Rattle.rules.specs.Answers.{Answer, accepted, refused, ofPacket}
 use Rattle.rules.specs.Promises.{
   leaves,
-  written,
+  overlaid,
   notGood,
   ChecksTable,
   ReadsPacket,
@@ -53,10 +53,10 @@ pub data Claim : Type 0 where
   labels : Description → ℕ → List ℕ → ℕ → Claim
   -- where it begins, and its length
   placesLabel : Description → ℕ → Part → Claim
-  -- 01's number, place and value of a packet's answer
+  -- 01's number, place and amount of a packet's answer
   tellsNumber : PacketAnswer → ℕ → Claim
   tellsPlace : PacketAnswer → ℕ → Claim
-  tellsValue : PacketAnswer → ℕ → Claim
+  tellsAmount : PacketAnswer → ℕ → Claim
 
 abbrev pub lentOutput : List ℕ
 lentOutput = replicate 120 9
@@ -72,7 +72,7 @@ Claimed (labels d i label start) = (from : ℕ × ℕ) × LendsLabel (stored d) 
 Claimed (placesLabel d i part) = PlacesLabel (stored d) i part
 Claimed (tellsNumber r n) = n ≡ ofPacket r .number
 Claimed (tellsPlace r n) = n ≡ ofPacket r .place
-Claimed (tellsValue r n) = n ≡ ofPacket r .value
+Claimed (tellsAmount r n) = n ≡ ofPacket r .amount
 
 abbrev pub AllFalse : List Claim → Type 0
 AllFalse [] = Unit {0}
@@ -81,10 +81,10 @@ AllFalse (c ∷ cs) = (Claimed c → ⊥) × AllFalse cs
 -- ── short ways to write what was left in a buffer ──
 
 abbrev pub runOf : List Entry → List ℕ
-runOf entries = written (joined numbersOf entries) lentRun
+runOf entries = overlaid (joined numbersOf entries) lentRun
 
 abbrev pub outputOf : List ℕ → List ℕ
-outputOf text = written text lentOutput
+outputOf text = overlaid text lentOutput
 
 -- the first six entries of M1, and all
 abbrev pub m1Six : List Entry
@@ -214,8 +214,8 @@ wrong =
     ∷ tellsPlace (Accepted 64) 7
     ∷ tellsPlace LeftOver 7
     -- a value: one for a refusal; none, or bytes for bits, for an accepted packet
-    ∷ tellsValue (Refused BitsMissing 7) 56
-    ∷ tellsValue LeftOver 72
-    ∷ tellsValue (Accepted 64) 0
-    ∷ tellsValue (Accepted 64) 8
+    ∷ tellsAmount (Refused BitsMissing 7) 56
+    ∷ tellsAmount LeftOver 72
+    ∷ tellsAmount (Accepted 64) 0
+    ∷ tellsAmount (Accepted 64) 8
     ∷ []

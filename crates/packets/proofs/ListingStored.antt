@@ -56,12 +56,12 @@ module _ (s packet : List ℕ) (d : Description) (w : Within d) (is : stored d �
       (entries-length d packet es e) l (fields-stand d s is w) (entries-in es e))
 
   pub listed-accepted : ofPacket a .number ≡ 0
-      → linesFrom s run 0 (twoAt s 6) (twoAt s 0) ++ (bitsLine (ofPacket a .value) ++ (10 ∷ [])) ≡ listing d packet
+      → linesFrom s run 0 (twoAt s 6) (twoAt s 0) ++ (bitsLine (ofPacket a .amount) ++ (10 ∷ [])) ≡ listing d packet
   unfolding readingAnswer
   listed-accepted n =
       let c = accepted-entries (reading d packet) (reading-told d packet) packet (sym (ap (λ (x : Answer). x .number) (h .answer)) ∙ n) in
-      let v : ofPacket a .value ≡ bitTotal packet
-      = ap (λ (x : Answer). x .value) (h .answer) ∙ rw (c .1, readingAnswer) refl in
+      let v : ofPacket a .amount ≡ bitTotal packet
+      = ap (λ (x : Answer). x .amount) (h .answer) ∙ rw (c .1, readingAnswer) refl in
       ap (λ (n : ℕ). linesFrom s run 0 (twoAt s 6) (twoAt s 0) ++ (bitsLine n ++ (10 ∷ []))) v
       ∙ ap (λ (l : List ℕ). l ++ (bitsLine (bitTotal packet) ++ (10 ∷ []))) (lines-are (c .0) (c .1))
       ∙ sym (listing-lines d packet (c .0) (c .1))

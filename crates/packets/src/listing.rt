@@ -1,7 +1,7 @@
 // A packet's listing, written into a lent buffer.
 use crate::answers::number_of;
 use crate::answers::place_of;
-use crate::answers::value_of;
+use crate::answers::amount_of;
 use crate::lines::put_line;
 use crate::readings::read_run;
 use crate::records::TABLE_MOST;
@@ -92,7 +92,7 @@ fn put_listing(out: &mut [u8], table: &[u8], packet: &[u8]) -> usize
         }
         let first = two_at(table, 0);
         let lines = put_lines(out, 0, table, first, &run, n);
-        let total = value_of(answer);
+        let total = amount_of(answer);
         return put_bits(out, lines, total);
     }
     let place = place_of(answer);

@@ -3,7 +3,7 @@ ghost use mathlib.Core.Path.{_≡_};
 ghost use Prim.Native.Nat.{_+_, _≤_};
 ghost use lib.ListN.{length, take, drop};
 ghost use Rattle.base.specs.Bytes.{digits};
-ghost use Rattle.rules.specs.Promises.{written};
+ghost use Rattle.rules.specs.Promises.{overlaid};
 ghost use Rattle.base.specs.Writes.{Writes};
 
 // Writes a word at a place, and answers the place behind it.
@@ -39,7 +39,7 @@ pub(crate) fn put_digits(out: &mut [u8], at: usize, number: usize, places: usize
 // The first n bytes of a buffer, written at the start of the output.
 pub(crate) fn copy_out(out: &mut [u8], from: &[u8], n: usize)
     requires { ⌜ (n ≤ length (now out)) × (n ≤ length (now from)) ⌝ }
-    ensures { λ r. ⌜ now (out .exit) ≡ written (take n (now (from .entry))) (now (out .entry)) ⌝ }
+    ensures { λ r. ⌜ now (out .exit) ≡ overlaid (take n (now (from .entry))) (now (out .entry)) ⌝ }
 {
     let mut i = 0;
     while i < n {

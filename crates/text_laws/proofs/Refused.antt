@@ -31,7 +31,7 @@ use Rattle.rules.specs.Names.{
 use Rattle.rules.specs.Trees.{num, read, two, depth, le4, storedTree, isInRange, hasType}
 use Rattle.rules.specs.Fields.{fixed, Form}
 use Rattle.rules.specs.Expressions.{field}
-use Rattle.rules.specs.Lines.{byte-word, shortText, SpellsField, Written}
+use Rattle.rules.specs.Lines.{byte-word, shortText, SpellsField, Unresolved}
 use Rattle.rules.specs.Frames.{
   Frame,
   bitRow,
@@ -203,7 +203,7 @@ long-enough = wrong-start _ (plain-text _ tt refl) refl
 tag-form : Form
 tag-form = named "Kind" "K" (fixed 8) (some (two Eq (read (bytes "K")) (num 7))) none
 
-tag-formed : SpellsField Written tag-form tag-line
+tag-formed : SpellsField Unresolved tag-form tag-line
 unfolding tag-form isLetter isDigit isSpace isWordByte isLabelByte noTwoSpaces isLabel reserved isReserved
     isShort all any same lastIs isInRange digits operator
 tag-formed = record {
@@ -244,7 +244,7 @@ no-period s e x w =
     (x .label) (shortText (x .short)) (bytes ": ") (w .line .width) (w .line .constraint) (w .line .condition) (w .line .remark) in
     false≢true (sym e ∙ (ap has-period (w .line .isText) ∙ p))
 
-tag-forms : (n : ℕ) → Each (SpellsField Written) (replicate n tag-form) (replicate n tag-line)
+tag-forms : (n : ℕ) → Each (SpellsField Unresolved) (replicate n tag-form) (replicate n tag-line)
 tag-forms zero = tt
 tag-forms (suc n) = (tag-formed, tag-forms n)
 

@@ -37,7 +37,7 @@ use Rattle.rules.specs.Lines.{
   shortText,
   Measure,
   SpellsWidth,
-  Written,
+  Unresolved,
 }
 use Rattle.rules.specs.Frames.{
   tens,
@@ -101,7 +101,7 @@ word-stops bits-word z = stop-word 0 98 _ refl
 word-stops byte-word z = stop-word 0 98 _ refl
 word-stops bytes-word z = stop-word 0 98 _ refl
 
-is-33 : {u : ℕ} {t : Tree (List ℕ)} (s z : List ℕ) → Measure Written u t s → s ++ z ≡ bytes "33 bits." → t ≡ num 33
+is-33 : {u : ℕ} {t : Tree (List ℕ)} (s z : List ℕ) → Measure Unresolved u t s → s ++ z ≡ bytes "33 bits." → t ≡ num 33
 unfolding isWordByte isLetter isDigit digits
 is-33 s z m e =
     let p : s ++ z ≡ m .expression ++ (bytes " " ++ (m .word ++ z)) =
@@ -122,7 +122,7 @@ too-wide bits-word = refl
 too-wide byte-word = refl
 too-wide bytes-word = refl
 
-no-width : (width : Width (List ℕ)) (s z : List ℕ) → isWidth width ≡ true → SpellsWidth Written width s
+no-width : (width : Width (List ℕ)) (s z : List ℕ) → isWidth width ≡ true → SpellsWidth Unresolved width s
     → s ++ z ≡ bytes "33 bits." → ⊥
 no-width (fixed n) s z f p e =
     let m : p .1 ≡ 33 = ap number-of (is-33 s z (p .3) e) in

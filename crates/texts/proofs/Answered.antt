@@ -14,7 +14,7 @@ use Rattle.rules.specs.Limits.{textMost}
 use Rattle.rules.specs.Names.{isAllowed}
 use Rattle.rules.specs.Fields.{Form, Description}
 use Rattle.rules.specs.Stored.{stored}
-use Rattle.rules.specs.Lines.{SpellsField, Written}
+use Rattle.rules.specs.Lines.{SpellsField, Unresolved}
 use Rattle.rules.specs.Frames.{Frame, FrameOf, lineNumber, isOverfull}
 use Rattle.rules.specs.Spelling.{Spells}
 use Rattle.rules.specs.Answers.{Answer, refused}
@@ -50,7 +50,7 @@ first-unique lines i j p q = go (decLt i j) (decLt j i)
     go (no a) (no b) = omega arith
 
 -- a line of which there are forms has one
-formed-at : (forms : List Form) (lines : List (List ℕ)) → Each (SpellsField Written) forms lines → (i : ℕ)
+formed-at : (forms : List Form) (lines : List (List ℕ)) → Each (SpellsField Unresolved) forms lines → (i : ℕ)
     → i < length lines → Formless (getD lines i []) → ⊥
 formed-at [] [] h i lt f = absurd (omega arith)
 formed-at [] (l ∷ lines) h i lt f = absurd h
@@ -58,7 +58,7 @@ formed-at (x ∷ forms) [] h i lt f = absurd h
 formed-at (x ∷ forms) (l ∷ lines) h zero lt f = f x (h .0)
 formed-at (x ∷ forms) (l ∷ lines) h (suc i) lt f = formed-at forms lines (h .1) i (omega arith) f
 
-all-formed : (forms : List Form) (lines : List (List ℕ)) → Each (SpellsField Written) forms lines
+all-formed : (forms : List Form) (lines : List (List ℕ)) → Each (SpellsField Unresolved) forms lines
     → (i : ℕ) → FirstFormless lines i → ⊥
 all-formed forms lines h i p = formed-at forms lines h i (p .there) (p .formless)
 
@@ -68,7 +68,7 @@ Unformed lines = (i : ℕ) × FirstFormless lines i
 
 -- each line has a form
 abbrev Formed : List (List ℕ) → Type 0
-Formed lines = (forms : List Form) × Each (SpellsField Written) forms lines
+Formed lines = (forms : List Form) × Each (SpellsField Unresolved) forms lines
 
 -- an outcome there is
 abbrev Answered : List ℕ → List ℕ → Type 0
@@ -85,7 +85,7 @@ module _ (text out : List ℕ) where
   abbrev Fifth : Frame → Outcome → Type 0
   Fifth f o =
       ((i : ℕ) × FirstFormless (f .lines) i × (o ≡ leaves (refused 5 (lineNumber f i)) out))
-      ⊎ ((forms : List Form) × Each (SpellsField Written) forms (f .lines) × Last f forms o)
+      ⊎ ((forms : List Form) × Each (SpellsField Unresolved) forms (f .lines) × Last f forms o)
 
   abbrev Fourth : Frame → Outcome → Type 0
   Fourth f o =
@@ -106,15 +106,15 @@ module _ (text out : List ℕ) where
 module _
     (frame-unique : (t : List ℕ) (f g : Frame) → FrameOf t f → FrameOf t g → f ≡ g)
     (frame-decidable : (t : List ℕ) → Dec ((f : Frame) × FrameOf t f))
-    (form-unique : (l : List ℕ) (x y : Form) → SpellsField Written x l → SpellsField Written y l → x ≡ y)
-    (form-decidable : (l : List ℕ) → Dec ((x : Form) × SpellsField Written x l))
+    (form-unique : (l : List ℕ) (x y : Form) → SpellsField Unresolved x l → SpellsField Unresolved y l → x ≡ y)
+    (form-decidable : (l : List ℕ) → Dec ((x : Form) × SpellsField Unresolved x l))
     (right-unique : (t : List ℕ) (j k : ℕ) → RightLines t j → RightLines t k → j ≡ k)
     (right-total : (t : List ℕ) → (k : ℕ) × RightLines t k)
   where
     -- ── forms ──
 
-    forms-unique : (forms others : List Form) (lines : List (List ℕ)) → Each (SpellsField Written) forms lines
-        → Each (SpellsField Written) others lines → forms ≡ others
+    forms-unique : (forms others : List Form) (lines : List (List ℕ)) → Each (SpellsField Unresolved) forms lines
+        → Each (SpellsField Unresolved) others lines → forms ≡ others
     forms-unique [] [] lines p q = refl
     forms-unique [] (y ∷ others) [] p q = absurd q
     forms-unique [] (y ∷ others) (l ∷ lines) p q = absurd p
@@ -128,7 +128,7 @@ module _
     forms-or [] = inr ([], tt)
     forms-or (l ∷ lines) = go (form-decidable l) (forms-or lines)
       where
-        go : Dec ((x : Form) × SpellsField Written x l) → Unformed lines ⊎ Formed lines
+        go : Dec ((x : Form) × SpellsField Unresolved x l) → Unformed lines ⊎ Formed lines
             → Unformed (l ∷ lines) ⊎ Formed (l ∷ lines)
         go (no f) r =
             inl (0, record { there = omega arith; formless = λ x h. f (x, h); earlier = λ j lt. absurd (omega arith) })
@@ -242,7 +242,7 @@ module _
     refusal text out a r = (leaves a out, refuses r)
 
     by-rule : (text out : List ℕ) (f : Frame) → Framed text f → (forms : List Form)
-        → Each (SpellsField Written) forms (f .lines) → (b : Option Answer) → ruleBroken f forms ≡ b
+        → Each (SpellsField Unresolved) forms (f .lines) → (b : Option Answer) → ruleBroken f forms ≡ b
         → Answered text out
     by-rule text out f p forms h none e =
         let r = resolved text f forms (p .isFrameOf) (p .few) h e in

@@ -17,7 +17,7 @@ use Rattle.rules.specs.Trees.{Tree, isInRange}
 use Rattle.rules.specs.Fields.{Width, fixed, measured, rest, Form, widthTrees, trees}
 use Rattle.rules.specs.Within.{isWidth, isFormed}
 use Rattle.rules.specs.Expressions.{SpellsAt, number, field, two-sided, negated, parentheses}
-use Rattle.rules.specs.Lines.{shortText, Remark, SpellsWidth, SpellsMaybe, SpellsField, Written}
+use Rattle.rules.specs.Lines.{shortText, Remark, SpellsWidth, SpellsMaybe, SpellsField, Unresolved}
 use Rattle.texts.specs.LineReader.{Got, miss, hit, literal, readLabel, readShort, readWidth}
 use Rattle.texts.specs.LineReader.{isConstraint, isCondition, readConstraint, readCondition, readField, isRemark}
 use Rattle.texts.specs.LineReader.{formOf, readForm}
@@ -64,7 +64,7 @@ remark-sound (c ∷ s) h =
 
 -- the form x and its remark r are spelled
 abbrev FormFront : List ℕ → Form → List ℕ → Type 0
-FormFront s x r = Remark r → SpellsField Written x s
+FormFront s x r = Remark r → SpellsField Unresolved x s
 
 module _ (s : List ℕ) where
   -- the parts that were read make the line
@@ -77,10 +77,10 @@ module _ (s : List ℕ) where
     formed = and-both (isLabel (x .label)) _ (l .1) (and-both (ifAny isShort (x .short)) _ (h .1)
         (and-both (isWidth (x .width)) (all isInRange (trees x)) (w .3)
         (all-append isInRange (widthTrees (x .width)) (listOf (x .constraint) ++ listOf (x .condition))
-        (width-in-range Written (x .width) (w .0) (w .2))
+        (width-in-range Unresolved (x .width) (w .0) (w .2))
         (all-append isInRange (listOf (x .constraint)) (listOf (x .condition))
-        (maybe-in-range Written (bytes "; ") (x .constraint) (c .0) (c .2))
-        (maybe-in-range Written (bytes "; present only when ") (x .condition) (d .0) (d .2))))));
+        (maybe-in-range Unresolved (bytes "; ") (x .constraint) (c .0) (c .2))
+        (maybe-in-range Unresolved (bytes "; present only when ") (x .condition) (d .0) (d .2))))));
     line = record {
       width = w .0;
       constraint = c .0;
@@ -109,16 +109,16 @@ module _ (s : List ℕ) where
       whole (record { label = label; short = short; width = width; constraint = constraint; condition = condition })
       s₁ s₂ s₃ s₄ s₅ s₆ s₇ l h e w c d f
 
-pub form-sound : (l : List ℕ) (x : Form) → readForm l ≡ some x → SpellsField Written x l
+pub form-sound : (l : List ℕ) (x : Form) → readForm l ≡ some x → SpellsField Unresolved x l
 unfolding readForm
 form-sound l x = go (readField l) (field-sound l)
   where
     kept : (y : Form) (r : List ℕ) → FormFront l y r → (b : Bool) → isRemark r ≡ b → cond b (some y) none ≡ some x
-        → SpellsField Written x l
+        → SpellsField Unresolved x l
     kept y r h true m e = let q : y ≡ x = cc in rw (← q) (h (remark-sound r m))
     kept y r h false m e = let z : _≡_ {A = Bool} true false = cc in absurd (not-both true refl z)
 
-    go : (g : Got Form) → Holds (FormFront l) g → formOf g ≡ some x → SpellsField Written x l
+    go : (g : Got Form) → Holds (FormFront l) g → formOf g ≡ some x → SpellsField Unresolved x l
     go miss h e = let z : _≡_ {A = Bool} true false = cc in absurd (not-both true refl z)
     go (hit y r) h e = kept y r h (isRemark r) refl e
 
@@ -129,9 +129,9 @@ unfolding isRemark
 remark-finds r (inl e) = rw e refl
 remark-finds r (inr (z, e, h)) = rw e h
 
-field-finds : (x : Form) (w c d r : List ℕ) → isFormed x ≡ true → SpellsWidth Written (x .width) w
-    → SpellsMaybe Written (bytes "; ") (x .constraint) c
-    → SpellsMaybe Written (bytes "; present only when ") (x .condition) d
+field-finds : (x : Form) (w c d r : List ℕ) → isFormed x ≡ true → SpellsWidth Unresolved (x .width) w
+    → SpellsMaybe Unresolved (bytes "; ") (x .constraint) c
+    → SpellsMaybe Unresolved (bytes "; present only when ") (x .condition) d
     → readField (x .label ++ (shortText (x .short) ++ (bytes ": " ++ (w ++ (c ++ (d ++ (bytes "." ++ r))))))) ≡ hit x r
 unfolding readField
 field-finds x w c d r h W C D =
@@ -152,7 +152,7 @@ field-finds x w c d r h W C D =
     (no-constraint (x .condition) d r D))
     (rw (condition-finds (x .condition) d r D) (rw (literal-finds (bytes ".") r) refl))))))
 
-pub form-complete : (l : List ℕ) (x : Form) → SpellsField Written x l → readForm l ≡ some x
+pub form-complete : (l : List ℕ) (x : Form) → SpellsField Unresolved x l → readForm l ≡ some x
 unfolding readForm
 form-complete l x q =
     let p = q .line in
@@ -161,16 +161,16 @@ form-complete l x q =
 
 -- ── unique and decidable ──
 
-pub form-unique : (l : List ℕ) (x y : Form) → SpellsField Written x l → SpellsField Written y l → x ≡ y
+pub form-unique : (l : List ℕ) (x y : Form) → SpellsField Unresolved x l → SpellsField Unresolved y l → x ≡ y
 form-unique l x y p q =
     let e : readForm l ≡ some x = form-complete l x p in
     let f : readForm l ≡ some y = form-complete l y q in
     cc
 
-pub form-decidable : (l : List ℕ) → Dec ((x : Form) × SpellsField Written x l)
+pub form-decidable : (l : List ℕ) → Dec ((x : Form) × SpellsField Unresolved x l)
 form-decidable l = go (readForm l) refl
   where
-    go : (o : Option Form) → readForm l ≡ o → Dec ((x : Form) × SpellsField Written x l)
+    go : (o : Option Form) → readForm l ≡ o → Dec ((x : Form) × SpellsField Unresolved x l)
     go none e = no (λ p. let f : readForm l ≡ some (p .0) = form-complete l (p .0) (p .1) in
         let z : _≡_ {A = ℕ} 0 1 = cc in absurd (not-both true refl (ap (λ (n : ℕ). eqb n 0) z)))
     go (some x) e = yes (x, form-sound l x e)

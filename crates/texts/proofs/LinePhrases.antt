@@ -8,7 +8,7 @@ use Prim.Native.Nat.{ℕ}
 use Rattle.base.specs.Bytes.{bytes}
 use Rattle.base.specs.Lists.{isNone}
 use Rattle.rules.specs.Trees.{Tree}
-use Rattle.rules.specs.Lines.{SpellsMaybe, Written}
+use Rattle.rules.specs.Lines.{SpellsMaybe, Unresolved}
 use Rattle.text_laws.specs.Reader.{after}
 use Rattle.text_laws.proofs.ReaderComplete.{Stop, stop-semicolon, stop-dot}
 use Rattle.texts.specs.LineReader.{hit, bind, literal, begins, readTree, readPhrase}
@@ -28,7 +28,7 @@ closes-stop r (inr (z, e)) = rw e (stop-dot 0 z)
 
 -- a phrase that begins with `;`, or nothing
 pub maybe-closes : (phrase : List ℕ) (o : Option (Tree (List ℕ))) (u r : List ℕ)
-    → SpellsMaybe Written (59 ∷ phrase) o u → Closes r → Closes (u ++ r)
+    → SpellsMaybe Unresolved (59 ∷ phrase) o u → Closes r → Closes (u ++ r)
 maybe-closes phrase none u r e c = rw e c
 maybe-closes phrase (some t) u r w c = inl ((phrase ++ w .0) ++ r, ap (λ (l : List ℕ). l ++ r) (w .1))
 
@@ -36,7 +36,7 @@ maybe-closes phrase (some t) u r w c = inl ((phrase ++ w .0) ++ r, ap (λ (l : L
 
 -- a phrase and an expression, or nothing, stand in front of s, and r is behind
 abbrev pub MaybeFront : List ℕ → List ℕ → Option (Tree (List ℕ)) → List ℕ → Type 0
-MaybeFront phrase s o r = (u : List ℕ) × (s ≡ u ++ r) × SpellsMaybe Written phrase o u
+MaybeFront phrase s o r = (u : List ℕ) × (s ≡ u ++ r) × SpellsMaybe Unresolved phrase o u
 
 phrase-sound : (phrase s : List ℕ) → Holds (MaybeFront phrase s) (readPhrase phrase s)
 unfolding readPhrase
@@ -55,7 +55,7 @@ maybe-sound b phrase s =
     holds-cond (MaybeFront phrase s) b (readPhrase phrase s) (hit none s) (λ _. phrase-sound phrase s)
     (λ _. ([], refl, refl))
 
-phrase-finds : (phrase u r : List ℕ) (t : Tree (List ℕ)) → SpellsMaybe Written phrase (some t) u → Stop 0 r
+phrase-finds : (phrase u r : List ℕ) (t : Tree (List ℕ)) → SpellsMaybe Unresolved phrase (some t) u → Stop 0 r
     → readPhrase phrase (u ++ r) ≡ hit (some t) r
 unfolding readPhrase
 phrase-finds phrase u r t w st =
@@ -63,21 +63,21 @@ phrase-finds phrase u r t w st =
     rw (e, literal-finds phrase (w .0 ++ r), tree-finds t (w .0) r (w .2) st)
 
 pub maybe-finds : (b : Bool) (phrase : List ℕ) (o : Option (Tree (List ℕ))) (u r : List ℕ)
-    → SpellsMaybe Written phrase o u → Stop 0 r → b ≡ not (isNone o) → readMaybe b phrase (u ++ r) ≡ hit o r
+    → SpellsMaybe Unresolved phrase o u → Stop 0 r → b ≡ not (isNone o) → readMaybe b phrase (u ++ r) ≡ hit o r
 unfolding readMaybe
 maybe-finds b phrase none u r w st e = rw (e, w)
 maybe-finds b phrase (some t) u r w st e = rw e (phrase-finds phrase u r t w st)
 
 -- ── condition ──
 
-condition-there : (o : Option (Tree (List ℕ))) (u r : List ℕ) → SpellsMaybe Written (bytes "; present only when ") o u
+condition-there : (o : Option (Tree (List ℕ))) (u r : List ℕ) → SpellsMaybe Unresolved (bytes "; present only when ") o u
     → isCondition (u ++ (46 ∷ r)) ≡ not (isNone o)
 unfolding isCondition begins after
 condition-there none u r e = rw e refl
 condition-there (some t) u r w = rw (w .1) refl
 
 pub condition-finds : (o : Option (Tree (List ℕ))) (u r : List ℕ)
-    → SpellsMaybe Written (bytes "; present only when ") o u → readCondition (u ++ (46 ∷ r)) ≡ hit o (46 ∷ r)
+    → SpellsMaybe Unresolved (bytes "; present only when ") o u → readCondition (u ++ (46 ∷ r)) ≡ hit o (46 ∷ r)
 unfolding readCondition
 condition-finds o u r w =
     maybe-finds (isCondition (u ++ (46 ∷ r))) (bytes "; present only when ") o u (46 ∷ r) w (stop-dot 0 r)
@@ -87,12 +87,12 @@ condition-finds o u r w =
 
 -- a condition or the full stop is no constraint
 pub no-constraint : (o : Option (Tree (List ℕ))) (u r : List ℕ)
-    → SpellsMaybe Written (bytes "; present only when ") o u → isConstraint (u ++ (46 ∷ r)) ≡ false
+    → SpellsMaybe Unresolved (bytes "; present only when ") o u → isConstraint (u ++ (46 ∷ r)) ≡ false
 unfolding isConstraint isCondition begins after
 no-constraint none u r e = rw e refl
 no-constraint (some t) u r w = rw (w .1) refl
 
-constraint-there : (o : Option (Tree (List ℕ))) (u r : List ℕ) → SpellsMaybe Written (bytes "; ") o u → Stop 0 r
+constraint-there : (o : Option (Tree (List ℕ))) (u r : List ℕ) → SpellsMaybe Unresolved (bytes "; ") o u → Stop 0 r
     → isConstraint r ≡ false → isConstraint (u ++ r) ≡ not (isNone o)
 unfolding isConstraint isCondition begins after
 constraint-there none u r e st n = rw e n
@@ -100,7 +100,7 @@ constraint-there (some t) u r w st n =
     let e : u ++ r ≡ 59 ∷ 32 ∷ (w .0 ++ r) = ap (λ (l : List ℕ). l ++ r) (w .1) in
     rw (e, barren-not (bytes "present only when ") present-barren t (w .0) r (w .2) st) refl
 
-pub constraint-finds : (o : Option (Tree (List ℕ))) (u r : List ℕ) → SpellsMaybe Written (bytes "; ") o u → Stop 0 r
+pub constraint-finds : (o : Option (Tree (List ℕ))) (u r : List ℕ) → SpellsMaybe Unresolved (bytes "; ") o u → Stop 0 r
     → isConstraint r ≡ false → readConstraint (u ++ r) ≡ hit o r
 unfolding readConstraint
 constraint-finds o u r w st n =

@@ -19,7 +19,7 @@ use Rattle.rules.specs.Fields.{Width, fixed, measured, rest, Field, Form, trees
 use Rattle.rules.specs.Within.{isWidth}
 use Rattle.rules.specs.Expressions.{gap, SpellsAt, number, field, two-sided, negated, parentheses}
 use Rattle.rules.specs.Lines.{UnitWord, bit-word, bits-word, byte-word, bytes-word, shortText, Remark, Measure}
-use Rattle.rules.specs.Lines.{SpellsWidth, SpellsMaybe, SpellsField, Written}
+use Rattle.rules.specs.Lines.{SpellsWidth, SpellsMaybe, SpellsField, Unresolved}
 use Rattle.text_laws.proofs.OperatorTable.{each}
 use Rattle.text_laws.proofs.ReaderWords.{number-bytes, short-bytes}
 use Rattle.texts.proofs.LineNames.{label-bytes}
@@ -153,8 +153,8 @@ module _ {N : Type 0} (Names : N → List ℕ → Type 0)
         (joined (bytes ".") (p .line .remark) refl (remark-printable (p .line .remark) (p .line .isRemark)))))))))
 
 -- a name that is not yet resolved is made of letters and digits
-pub written-bytes : (w s : List ℕ) → Written w s → all isWordByte s ≡ true
+pub written-bytes : (w s : List ℕ) → Unresolved w s → all isWordByte s ≡ true
 written-bytes w s h = rw (h .0) at (short-bytes w (h .1))
 
-pub form-printable : (l : List ℕ) (x : Form) → SpellsField Written x l → all isPrintable l ≡ true
-form-printable l x p = line-printable Written written-bytes x l p
+pub form-printable : (l : List ℕ) (x : Form) → SpellsField Unresolved x l → all isPrintable l ≡ true
+form-printable l x p = line-printable Unresolved written-bytes x l p

@@ -13,7 +13,7 @@ use Rattle.rules.specs.Limits.{openMost, shortMost}
 use Rattle.rules.specs.Names.{isLetter, isDigit, isWordByte, isShort, isReserved, reserved}
 use Rattle.rules.specs.Trees.{Tree}
 use Rattle.rules.specs.Expressions.{SpellsTree}
-use Rattle.rules.specs.Lines.{Written}
+use Rattle.rules.specs.Lines.{Unresolved}
 use Rattle.text_laws.specs.Reader.{word, isNumeral, isNumberWord, Out, fail, got, andThen, leaf, atom, expr}
 use Rattle.text_laws.proofs.ReaderComplete.{Stop}
 use Rattle.text_laws.proofs.ReaderUnique.{found-is}
@@ -26,7 +26,7 @@ use Rattle.texts.proofs.Combine.{begins-split}
 
 -- the tree t is spelled in front of s, and r is behind it
 abbrev pub TreeFront : List ℕ → Tree (List ℕ) → List ℕ → Type 0
-TreeFront s t r = (u : List ℕ) × (s ≡ u ++ r) × SpellsTree Written t u
+TreeFront s t r = (u : List ℕ) × (s ≡ u ++ r) × SpellsTree Unresolved t u
 
 pub tree-sound : (s : List ℕ) → Holds (TreeFront s) (readTree s)
 unfolding readTree
@@ -36,7 +36,7 @@ tree-sound s = go (expr (suc (length s)) 0 openMost s) (sound (suc (length s)) 0
     go fail g = tt
     go (got t r) g = g
 
-pub tree-finds : (t : Tree (List ℕ)) (u r : List ℕ) → SpellsTree Written t u → Stop 0 r → readTree (u ++ r) ≡ hit t r
+pub tree-finds : (t : Tree (List ℕ)) (u r : List ℕ) → SpellsTree Unresolved t u → Stop 0 r → readTree (u ++ r) ≡ hit t r
 unfolding readTree
 tree-finds t u r x st = rw (found-is r x st (suc (length (u ++ r))) (omega arith))
 
@@ -46,7 +46,7 @@ tree-finds t u r x st = rw (found-is r x st (suc (length (u ++ r))) (omega arith
 abbrev Barren : List ℕ → Type 0
 Barren w = (z : List ℕ) → readTree (w ++ z) ≡ miss
 
-pub barren-not : (w : List ℕ) → Barren w → (t : Tree (List ℕ)) (u r : List ℕ) → SpellsTree Written t u → Stop 0 r
+pub barren-not : (w : List ℕ) → Barren w → (t : Tree (List ℕ)) (u r : List ℕ) → SpellsTree Unresolved t u → Stop 0 r
     → begins w (u ++ r) ≡ false
 barren-not w f t u r x st = fails (begins w (u ++ r)) no-way
   where

@@ -14,7 +14,7 @@ use Rattle.rules.specs.Trees.{Tree, num, read, two, negation, isNumber}
 use Rattle.rules.specs.Fields.{Width, fixed, measured, rest}
 use Rattle.rules.specs.Within.{isWidth}
 use Rattle.rules.specs.Expressions.{SpellsTree}
-use Rattle.rules.specs.Lines.{UnitWord, bit-word, bits-word, byte-word, bytes-word, Measure, SpellsWidth, Written}
+use Rattle.rules.specs.Lines.{UnitWord, bit-word, bits-word, byte-word, bytes-word, Measure, SpellsWidth, Unresolved}
 use Rattle.text_laws.specs.Reader.{after, word, behind}
 use Rattle.text_laws.proofs.ReaderWords.{Ends, word-behind, word-is, behind-is}
 use Rattle.text_laws.proofs.ReaderComplete.{Stop, stop-word}
@@ -90,9 +90,9 @@ unit-stop r bytes-word = stop-word 0 98 (121 ∷ 116 ∷ 101 ∷ 115 ∷ r) refl
 
 -- a width stands in front of s, and r is behind it
 abbrev pub WidthFront : List ℕ → Width (List ℕ) → List ℕ → Type 0
-WidthFront s w r = (u : List ℕ) × (s ≡ u ++ r) × SpellsWidth Written w u × (isWidth w ≡ true)
+WidthFront s w r = (u : List ℕ) × (s ≡ u ++ r) × SpellsWidth Unresolved w u × (isWidth w ≡ true)
 
-width-of : (u : ℕ) (t : Tree (List ℕ)) (s : List ℕ) → Measure Written u t s → SpellsWidth Written (widthOf u t) s
+width-of : (u : ℕ) (t : Tree (List ℕ)) (s : List ℕ) → Measure Unresolved u t s → SpellsWidth Unresolved (widthOf u t) s
 width-of u (num m) s x = (u, m, refl, x)
 width-of u (read a) s x = x
 width-of u (two o a b) s x = x
@@ -112,7 +112,7 @@ measure-sound s =
     (λ u q y. holds-keep (WidthFront s) (isWidth (widthOf u t)) (widthOf u t) q
     (λ h. whole t r p u q (x .0) (x .1) (x .2) e (y .0) (y .1) (y .2) h))))
   where
-    whole : (t : Tree (List ℕ)) (r p : List ℕ) (u : ℕ) (q v : List ℕ) → s ≡ v ++ r → SpellsTree Written t v
+    whole : (t : Tree (List ℕ)) (r p : List ℕ) (u : ℕ) (q v : List ℕ) → s ≡ v ++ r → SpellsTree Unresolved t v
         → r ≡ 32 ∷ p → (w : List ℕ) → p ≡ w ++ q → UnitWord u w → isWidth (widthOf u t) ≡ true
         → WidthFront s (widthOf u t) q
     whole t r p u q v e x f w g y h = (
@@ -133,7 +133,7 @@ width-sound s =
 
 -- ── complete ──
 
-measure-finds : (u : ℕ) (t : Tree (List ℕ)) (s r : List ℕ) → Measure Written u t s → Ends r
+measure-finds : (u : ℕ) (t : Tree (List ℕ)) (s r : List ℕ) → Measure Unresolved u t s → Ends r
     → isWidth (widthOf u t) ≡ true → readWidth (s ++ r) ≡ hit (widthOf u t) r
 unfolding readWidth readMeasure
 measure-finds u t s r x e h =
@@ -155,7 +155,7 @@ not-true : (x : Bool) → not x ≡ true → x ≡ false
 not-true true e = absurd (not-both false e refl)
 not-true false e = refl
 
-pub width-finds : (w : Width (List ℕ)) (s r : List ℕ) → SpellsWidth Written w s → Ends r → isWidth w ≡ true
+pub width-finds : (w : Width (List ℕ)) (s r : List ℕ) → SpellsWidth Unresolved w s → Ends r → isWidth w ≡ true
     → readWidth (s ++ r) ≡ hit w r
 unfolding readWidth literal begins after
 width-finds (fixed n) s r x e h =

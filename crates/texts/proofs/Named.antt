@@ -24,7 +24,7 @@ use Rattle.rules.specs.Trees.{
 }
 use Rattle.rules.specs.Names.{isShort}
 use Rattle.rules.specs.Expressions.{SpellsAt, number, field, two-sided, negated, parentheses}
-use Rattle.rules.specs.Lines.{Written}
+use Rattle.rules.specs.Lines.{Unresolved}
 use Rattle.texts.specs.Resolving.{renameTree}
 
 -- the tree on the right has at each read field of the left one a name for it, and is the same else
@@ -40,7 +40,7 @@ module _ {N : Type 0} {R : N → List ℕ → Type 0} where
 
   -- what spells a tree spells one over names
   pub spelled-named : (short : (a : N) (w : List ℕ) → R a w → isShort w ≡ true) {k b : ℕ} {t : Tree N} {s : List ℕ}
-      → SpellsAt R k b t s → (u : Tree (List ℕ)) × Named R t u × SpellsAt Written k b u s
+      → SpellsAt R k b t s → (u : Tree (List ℕ)) × Named R t u × SpellsAt Unresolved k b u s
   spelled-named short (number {n = n} h e) = (num n, named-number, number h e)
   spelled-named short (field {a = a} {s = s} r) = (read s, named-field r, field (refl, short a s r))
   spelled-named short (two-sided {o = o} g h l x y) =
@@ -55,7 +55,7 @@ module _ {N : Type 0} {R : N → List ℕ → Type 0} where
       (p .0, p .1, parentheses (p .2))
 
   -- and the other way
-  pub named-spelled : {k b : ℕ} {t : Tree N} {u : Tree (List ℕ)} {s : List ℕ} → SpellsAt Written k b u s → Named R t u
+  pub named-spelled : {k b : ℕ} {t : Tree N} {u : Tree (List ℕ)} {s : List ℕ} → SpellsAt Unresolved k b u s → Named R t u
       → SpellsAt R k b t s
   named-spelled (number h e) named-number = number h e
   named-spelled (field e) (named-field {a = a} r) = field (subst (λ w. R a w) (e .0) r)
@@ -64,7 +64,7 @@ module _ {N : Type 0} {R : N → List ℕ → Type 0} where
   named-spelled (parentheses x) p = parentheses (named-spelled x p)
 
   pub named-exact : (short : (a : N) (w : List ℕ) → R a w → isShort w ≡ true) {k b : ℕ} {t : Tree N} {s : List ℕ}
-      → SpellsAt R k b t s ↔ ((u : Tree (List ℕ)) × Named R t u × SpellsAt Written k b u s)
+      → SpellsAt R k b t s ↔ ((u : Tree (List ℕ)) × Named R t u × SpellsAt Unresolved k b u s)
   named-exact short = (spelled-named short, λ p. named-spelled (p .2) (p .1))
 
   -- ── what agrees ──

@@ -26,9 +26,9 @@ use Rattle.rules.specs.Fields.{
   trees,
 }
 use Rattle.rules.specs.Within.{isWidth, isFormed, widthHasType}
-use Rattle.rules.specs.Lines.{SpellsWidth, SpellsMaybe, SpellsField, Written}
+use Rattle.rules.specs.Lines.{SpellsWidth, SpellsMaybe, SpellsField, Unresolved}
 use Rattle.rules.specs.Expressions.{SpellsAt}
-use Rattle.rules.specs.Frames.{Shown}
+use Rattle.rules.specs.Frames.{Slot}
 use Rattle.rules.specs.Spelling.{isPlaceFor, shows}
 use Rattle.texts.proofs.Named.{
   Named,
@@ -72,7 +72,7 @@ module _ {N : Type 0} {R : N → List ℕ → Type 0} where
   -- ── spellings of widths and expressions ──
 
   pub spelled-width : (short : (a : N) (w : List ℕ) → R a w → isShort w ≡ true) (w : Width N) (s : List ℕ)
-      → SpellsWidth R w s → (v : Width (List ℕ)) × NamedWidth R w v × SpellsWidth Written v s
+      → SpellsWidth R w s → (v : Width (List ℕ)) × NamedWidth R w v × SpellsWidth Unresolved v s
   spelled-width short (fixed n) s h = (
     fixed n,
     named-fixed,
@@ -90,10 +90,10 @@ module _ {N : Type 0} {R : N → List ℕ → Type 0} where
     ),
   )
     where
-      renumber : (m : ℕ) {k b : ℕ} {s : List ℕ} → SpellsAt R k b (num m) s → SpellsAt Written k b (num m) s
+      renumber : (m : ℕ) {k b : ℕ} {s : List ℕ} → SpellsAt R k b (num m) s → SpellsAt Unresolved k b (num m) s
       renumber m {k} {b} {s} x =
           let p = spelled-named short x in
-          subst (λ u. SpellsAt Written k b u s) (sym (named-of-number (p .1))) (p .2)
+          subst (λ u. SpellsAt Unresolved k b u s) (sym (named-of-number (p .1))) (p .2)
   spelled-width short (measured u t) s h =
       let p = spelled-named short (h .spelled) in (
         measured u (p .0),
@@ -108,7 +108,7 @@ module _ {N : Type 0} {R : N → List ℕ → Type 0} where
       )
   spelled-width short rest s h = (rest, named-rest, h)
 
-  pub named-width : (w : Width N) (v : Width (List ℕ)) (s : List ℕ) → NamedWidth R w v → SpellsWidth Written v s
+  pub named-width : (w : Width N) (v : Width (List ℕ)) (s : List ℕ) → NamedWidth R w v → SpellsWidth Unresolved v s
       → SpellsWidth R w s
   named-width w v s named-fixed h = (
     h .0,
@@ -133,14 +133,14 @@ module _ {N : Type 0} {R : N → List ℕ → Type 0} where
 
   pub spelled-maybe : (short : (a : N) (w : List ℕ) → R a w → isShort w ≡ true) (phrase : List ℕ) (o : Option (Tree N))
       (s : List ℕ) → SpellsMaybe R phrase o s
-      → (v : Option (Tree (List ℕ))) × NamedMaybe R o v × SpellsMaybe Written phrase v s
+      → (v : Option (Tree (List ℕ))) × NamedMaybe R o v × SpellsMaybe Unresolved phrase v s
   spelled-maybe short phrase none s h = (none, named-none, h)
   spelled-maybe short phrase (some t) s h =
       let p = spelled-named short (h .2) in
       (some (p .0), named-some (p .1), (h .0, h .1, p .2))
 
   pub named-maybe : (phrase : List ℕ) (o : Option (Tree N)) (v : Option (Tree (List ℕ))) (s : List ℕ)
-      → NamedMaybe R o v → SpellsMaybe Written phrase v s → SpellsMaybe R phrase o s
+      → NamedMaybe R o v → SpellsMaybe Unresolved phrase v s → SpellsMaybe R phrase o s
   named-maybe phrase o v s named-none h = h
   named-maybe phrase o v s (named-some p) h = (h .0, h .1, named-spelled (h .2) p)
 
@@ -165,7 +165,7 @@ module _ {N : Type 0} {R : N → List ℕ → Type 0} where
   same-none named-none = refl
   same-none (named-some p) = refl
 
-  same-place : (c : Shown) {w : Width N} {v : Width (List ℕ)} → NamedWidth R w v → isPlaceFor c w ≡ isPlaceFor c v
+  same-place : (c : Slot) {w : Width N} {v : Width (List ℕ)} → NamedWidth R w v → isPlaceFor c w ≡ isPlaceFor c v
   same-place c named-fixed = refl
   same-place c (named-measured p) = refl
   same-place c named-rest = refl
@@ -215,13 +215,13 @@ module _ {N : Type 0} {R : N → List ℕ → Type 0} where
   pub same-small : (x : Field N) (y : Form) → NamedField R x y → all isSmall (trees x) ≡ all isSmall (trees y)
   same-small x y h = same-trees isSmall isSmall (λ t u n. named-small n) x y h
 
-  pub same-shows : (c : Shown) (x : Field N) (y : Form) → NamedField R x y → shows c x ≡ shows c y
+  pub same-shows : (c : Slot) (x : Field N) (y : Form) → NamedField R x y → shows c x ≡ shows c y
   same-shows c x y h = rw (h .label, h .short, same-place c (h .width))
 
   -- ── spellings of fields ──
 
   pub spelled-field : (short : (a : N) (w : List ℕ) → R a w → isShort w ≡ true) (x : Field N) (s : List ℕ)
-      → SpellsField R x s → (y : Form) × NamedField R x y × SpellsField Written y s
+      → SpellsField R x s → (y : Form) × NamedField R x y × SpellsField Unresolved y s
   spelled-field short x s h =
       let w = spelled-width short (x .width) (h .line .width) (h .line .isWidth) in
       let c = spelled-maybe short (bytes "; ") (x .constraint) (h .line .constraint) (h .line .isConstraint) in
@@ -229,10 +229,10 @@ module _ {N : Type 0} {R : N → List ℕ → Type 0} where
       go (w .0) (c .0) (d .0) (w .1) (c .1) (d .1) (w .2) (c .2) (d .2)
     where
       go : (w : Width (List ℕ)) (c d : Option (Tree (List ℕ))) → NamedWidth R (x .width) w
-          → NamedMaybe R (x .constraint) c → NamedMaybe R (x .condition) d → SpellsWidth Written w (h .line .width)
-          → SpellsMaybe Written (bytes "; ") c (h .line .constraint)
-          → SpellsMaybe Written (bytes "; present only when ") d (h .line .condition)
-          → (y : Form) × NamedField R x y × SpellsField Written y s
+          → NamedMaybe R (x .constraint) c → NamedMaybe R (x .condition) d → SpellsWidth Unresolved w (h .line .width)
+          → SpellsMaybe Unresolved (bytes "; ") c (h .line .constraint)
+          → SpellsMaybe Unresolved (bytes "; present only when ") d (h .line .condition)
+          → (y : Form) × NamedField R x y × SpellsField Unresolved y s
       go w c d p q r sw sc sd =
           let y : Form = record { label = x .label; short = x .short; width = w; constraint = c; condition = d } in
           let n : NamedField R x y =
@@ -255,7 +255,7 @@ module _ {N : Type 0} {R : N → List ℕ → Type 0} where
             },
           )
 
-  pub named-field-spelled : (x : Field N) (y : Form) (s : List ℕ) → NamedField R x y → SpellsField Written y s
+  pub named-field-spelled : (x : Field N) (y : Form) (s : List ℕ) → NamedField R x y → SpellsField Unresolved y s
       → SpellsField R x s
   named-field-spelled x y s n h = record {
     formed = same-formed x y n ∙ h .formed;
@@ -275,7 +275,7 @@ module _ {N : Type 0} {R : N → List ℕ → Type 0} where
   }
 
   pub field-exact : (short : (a : N) (w : List ℕ) → R a w → isShort w ≡ true) (x : Field N) (s : List ℕ)
-      → SpellsField R x s ↔ ((y : Form) × NamedField R x y × SpellsField Written y s)
+      → SpellsField R x s ↔ ((y : Form) × NamedField R x y × SpellsField Unresolved y s)
   field-exact short x s = (spelled-field short x s, λ p. named-field-spelled x (p .0) s (p .1) (p .2))
 
 -- ── a form stands for one field ──

@@ -13,7 +13,7 @@ use Rattle.rules.specs.Limits.{fieldsMost}
 use Rattle.rules.specs.Names.{isShort}
 use Rattle.rules.specs.Fields.{Field, Form, Description}
 use Rattle.rules.specs.Within.{Within, keepsNames}
-use Rattle.rules.specs.Lines.{SpellsLine, SpellsField, Written}
+use Rattle.rules.specs.Lines.{SpellsLine, SpellsField, Unresolved}
 use Rattle.rules.specs.Frames.{Frame, cells, isOverfull}
 use Rattle.rules.specs.Spelling.{Spells, NameOf, shows}
 use Rattle.rules.specs.Refusals.{ruleBroken}
@@ -35,7 +35,7 @@ use Rattle.texts.proofs.FormedLines.{formed-lines}
 
 pub forms-for : (R : ℕ → List ℕ → Type 0) → ((i : ℕ) (w : List ℕ) → R i w → isShort w ≡ true)
     → (fields : List (Field ℕ)) (lines : List (List ℕ)) → Each (SpellsField R) fields lines
-    → (forms : List Form) × Each (NamedField R) fields forms × Each (SpellsField Written) forms lines
+    → (forms : List Form) × Each (NamedField R) fields forms × Each (SpellsField Unresolved) forms lines
 forms-for R short [] [] h = ([], tt, tt)
 forms-for R short [] (l ∷ lines) h = absurd h
 forms-for R short (x ∷ fields) [] h = absurd h
@@ -72,7 +72,7 @@ spelled-few text d s =
 pub record FormsOf (d : Description) (f : Frame) : Type 0 where
   pub forms : List Form
   pub named : Each (NamedField (NameOf (d .fields))) (d .fields) forms
-  pub spelled : Each (SpellsField Written) forms (f .lines)
+  pub spelled : Each (SpellsField Unresolved) forms (f .lines)
   pub kept : ruleBroken f forms ≡ none
   pub isFew : isOverfull f ≡ false
 
@@ -89,7 +89,7 @@ forms-named text d s =
     }
 
 pub forms-of : (text : List ℕ) (d : Description) (s : Spells text d)
-    → (forms : List Form) × Each (SpellsField Written) forms (s .frame .lines) × (ruleBroken (s .frame) forms ≡ none)
+    → (forms : List Form) × Each (SpellsField Unresolved) forms (s .frame .lines) × (ruleBroken (s .frame) forms ≡ none)
     × (isOverfull (s .frame) ≡ false)
 forms-of text d s = let p = forms-named text d s in (p .forms, p .spelled, p .kept, p .isFew)
 

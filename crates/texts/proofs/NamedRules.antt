@@ -13,7 +13,7 @@ use Rattle.base.proofs.Lookups.{each-any, each-breaks, kept-at, element-below, 
 use Rattle.rules.specs.Names.{isShort}
 use Rattle.rules.specs.Fields.{Field, Form, isRest, readNames}
 use Rattle.rules.specs.Within.{sameShort, keepsForm, keepsSize, clash, keepsNames, keepsRest}
-use Rattle.rules.specs.Frames.{Shown}
+use Rattle.rules.specs.Frames.{Slot}
 use Rattle.rules.specs.Spelling.{shows, mismatch, NameOf}
 use Rattle.texts.proofs.NamedFields.{
   NamedField,
@@ -104,7 +104,7 @@ module _ (R : ℕ → List ℕ → Type 0) where
         same-none (n .condition),
       ))
 
-  pub same-mismatch : (i : ℕ) (cs : List Shown) (fields : List (Field ℕ)) (forms : List Form)
+  pub same-mismatch : (i : ℕ) (cs : List Slot) (fields : List (Field ℕ)) (forms : List Form)
       → Each (NamedField R) fields forms → mismatch i cs fields ≡ mismatch i cs forms
   unfolding mismatch
   same-mismatch i [] [] [] h = refl
@@ -119,7 +119,7 @@ module _ (R : ℕ → List ℕ → Type 0) where
 
 -- cells and fields that agree everywhere
 module _ {N : Type 0} where
-  pub mismatch-each : (i : ℕ) (cs : List Shown) (fs : List (Field N)) → mismatch i cs fs ≡ none
+  pub mismatch-each : (i : ℕ) (cs : List Slot) (fs : List (Field N)) → mismatch i cs fs ≡ none
       → Each (λ c f. shows c f ≡ true) cs fs
   unfolding mismatch
   mismatch-each i [] [] h = tt
@@ -133,7 +133,7 @@ module _ {N : Type 0} where
       go true e k f′ = (e, f′ k)
       go false e k f′ = absurd (Option·none-ne-some i (sym k))
 
-  pub each-mismatch : (i : ℕ) (cs : List Shown) (fs : List (Field N)) → Each (λ c f. shows c f ≡ true) cs fs
+  pub each-mismatch : (i : ℕ) (cs : List Slot) (fs : List (Field N)) → Each (λ c f. shows c f ≡ true) cs fs
       → mismatch i cs fs ≡ none
   unfolding mismatch
   each-mismatch i [] [] h = refl

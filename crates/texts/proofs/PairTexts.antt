@@ -28,7 +28,7 @@ use Rattle.rules.specs.Names.{
 }
 use Rattle.rules.specs.Trees.{depth, le4, storedTree, isInRange, hasType}
 use Rattle.rules.specs.Fields.{Form}
-use Rattle.rules.specs.Lines.{SpellsField, Written}
+use Rattle.rules.specs.Lines.{SpellsField, Unresolved}
 use Rattle.rules.specs.Frames.{
   Frame,
   tens,
@@ -55,7 +55,7 @@ use Rattle.text_laws.specs.Reader.{
   word,
   behind,
   scan,
-  value,
+  wordValue,
   isNumeral,
   isNumberWord,
   andThen,
@@ -149,20 +149,20 @@ formsOf [] = some []
 formsOf (l ∷ ls) = andForms (readForm l) (formsOf ls)
 
 forms-spelled : (ls : List (List ℕ)) (forms : List Form) → formsOf ls ≡ some forms
-    → Each (SpellsField Written) forms ls
+    → Each (SpellsField Unresolved) forms ls
 unfolding formsOf
 forms-spelled [] forms e =
-    subst (λ (v : List Form). Each (SpellsField Written) v []) (Option·some-injective [] forms e) tt
+    subst (λ (v : List Form). Each (SpellsField Unresolved) v []) (Option·some-injective [] forms e) tt
 forms-spelled (l ∷ ls) forms e =
     go (readForm l) refl (formsOf ls) refl (λ xs g. forms-spelled ls xs g) e
   where
     go : (o : Option Form) → readForm l ≡ o → (p : Option (List Form)) → formsOf ls ≡ p
-        → ((xs : List Form) → formsOf ls ≡ some xs → Each (SpellsField Written) xs ls) → andForms o p ≡ some forms
-        → Each (SpellsField Written) forms (l ∷ ls)
+        → ((xs : List Form) → formsOf ls ≡ some xs → Each (SpellsField Unresolved) xs ls) → andForms o p ≡ some forms
+        → Each (SpellsField Unresolved) forms (l ∷ ls)
     go none f p g rec h = absurd (Option·none-ne-some forms h)
     go (some x) f none g rec h = absurd (Option·none-ne-some forms h)
     go (some x) f (some xs) g rec h =
-        subst (λ (v : List Form). Each (SpellsField Written) v (l ∷ ls)) (Option·some-injective (x ∷ xs) forms h)
+        subst (λ (v : List Form). Each (SpellsField Unresolved) v (l ∷ ls)) (Option·some-injective (x ∷ xs) forms h)
         (form-sound l x f, rec xs g)
 
 no-form : (l : List ℕ) → readForm l ≡ none → Formless l
@@ -218,7 +218,7 @@ pub pairs-refused : PairsRefused
 unfolding digits all any same lastIs sum joined tabulate firstBreak isLetter isDigit isSpace isPrintable isAllowed
     isWordByte isLabelByte noTwoSpaces isLabel reserved isReserved isShort operator operators depth le4 storedTree
     isInRange hasType tens units border cellText rowLines headLines cells mismatch ruleBroken after firstOf insert
-    longestFirst order skip skipBehind operatorAt word behind scan value isNumeral isNumberWord andThen leaf close
+    longestFirst order skip skipBehind operatorAt word behind scan wordValue isNumeral isNumberWord andThen leaf close
     inside atom step expr more literal begins labelEnds labelText labelBehind readLabel readName readShort
     readTree unitOf readUnit readMeasure readWidth readPhrase readMaybe isCondition isConstraint readConstraint
     readCondition readField isRemark readForm formsOf onFirst pieces rest lead leftTrim keepEnd rightTrim cellOf

@@ -19,7 +19,7 @@ use Rattle.rules.specs.Names.{isLabel}
 use Rattle.rules.specs.Trees.{Tree, hasType}
 use Rattle.rules.specs.Fields.{Width, fixed, measured, rest, Field, Form, Description, isFixed, readNames}
 use Rattle.rules.specs.Within.{Within, isRowWidth, keepsForm, keepsNames, keepsTypes, widthHasType, nameReadable}
-use Rattle.rules.specs.Lines.{SpellsField, Written}
+use Rattle.rules.specs.Lines.{SpellsField, Unresolved}
 use Rattle.rules.specs.Frames.{Frame, FrameOf, isFrame, isRow, isLine, cells, isOverfull}
 use Rattle.rules.specs.Spelling.{Spells, NameOf, shows}
 use Rattle.rules.specs.Refusals.{ruleBroken}
@@ -106,7 +106,7 @@ module _ (forms : List Form) where
 -- ── the description ──
 
 each-spelled : (R : ℕ → List ℕ → Type 0) (fields : List (Field ℕ)) (forms : List Form) (lines : List (List ℕ))
-    → Each (NamedField R) fields forms → Each (SpellsField Written) forms lines → Each (SpellsField R) fields lines
+    → Each (NamedField R) fields forms → Each (SpellsField Unresolved) forms lines → Each (SpellsField R) fields lines
 each-spelled R [] [] [] n h = tt
 each-spelled R [] [] (l ∷ lines) n h = absurd h
 each-spelled R [] (y ∷ forms) [] n h = absurd n
@@ -140,7 +140,7 @@ frame-parts text f h = parts (isLabel (f .name)) (isRowWidth (f .rowWidth)) (not
     (all (isRow (f .rowWidth)) (f .rows)) (not (isEmpty (f .lines))) (all isLine (f .lines)) (h .isFramed)
 
 module _ (text : List ℕ) (f : Frame) (forms : List Form) (frame : FrameOf text f) (few : isOverfull f ≡ false)
-    (spelled : Each (SpellsField Written) forms (f .lines)) (kept : Kept f forms) where
+    (spelled : Each (SpellsField Unresolved) forms (f .lines)) (kept : Kept f forms) where
   named : Each (NamedField (NameOf (resolve forms))) (resolve forms) forms
   named = resolved-named forms (kept .types)
 
@@ -188,11 +188,11 @@ module _ (text : List ℕ) (f : Frame) (forms : List Form) (frame : FrameOf text
   }
 
 pub resolved-spells : (text : List ℕ) (f : Frame) (forms : List Form) → FrameOf text f → isOverfull f ≡ false
-    → Each (SpellsField Written) forms (f .lines) → ruleBroken f forms ≡ none → Spells text (described f forms)
+    → Each (SpellsField Unresolved) forms (f .lines) → ruleBroken f forms ≡ none → Spells text (described f forms)
 resolved-spells text f forms frame few spelled kept =
     resolved-kept text f forms frame few spelled (rules-kept f forms kept)
 
 pub resolved : (text : List ℕ) (f : Frame) (forms : List Form) → FrameOf text f → isOverfull f ≡ false
-    → Each (SpellsField Written) forms (f .lines) → ruleBroken f forms ≡ none → (d : Description) × Spells text d
+    → Each (SpellsField Unresolved) forms (f .lines) → ruleBroken f forms ≡ none → (d : Description) × Spells text d
 resolved text f forms frame few spelled kept =
     (described f forms, resolved-spells text f forms frame few spelled kept)

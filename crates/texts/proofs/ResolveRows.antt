@@ -14,13 +14,13 @@ use Rattle.base.proofs.Breaks.{all-cons}
 use Rattle.rules.specs.Names.{isLabel}
 use Rattle.rules.specs.Fields.{Width, fixed, measured, rest, Field, cellNames}
 use Rattle.rules.specs.Within.{rowsFit, widths}
-use Rattle.rules.specs.Frames.{Cell, Row, bitRow, longRow, isCell, isRow, Shown, shownIn}
+use Rattle.rules.specs.Frames.{Cell, Row, bitRow, longRow, isCell, isRow, Slot, slotsIn}
 use Rattle.rules.specs.Spelling.{isPlaceFor, shows}
 
-abbrev bitCell : Cell → Shown
+abbrev bitCell : Cell → Slot
 bitCell c = record { long = false; bits = c .bits; text = c .text }
 
-abbrev longCell : Cell → Shown
+abbrev longCell : Cell → Slot
 longCell c = record { long = true; bits = c .bits; text = c .text }
 
 -- ── one field ──
@@ -43,7 +43,7 @@ fit-long w place c (measured u t) l h e k =
 fit-long w place c rest l h e k =
     and-both (eqb (place % w) 0) (rowsFit w place l) (eq-eqb (place % w) 0 e) k
 
-place-of : (c : Shown) (x : Field ℕ) → shows c x ≡ true → isPlaceFor c (x .width) ≡ true
+place-of : (c : Slot) (x : Field ℕ) → shows c x ≡ true → isPlaceFor c (x .width) ≡ true
 place-of c x h = and-right (any (same (c .text)) (cellNames x)) (isPlaceFor c (x .width)) h
 
 -- a cell has a bit
@@ -56,13 +56,13 @@ some-bits c h =
 -- ── rows ──
 
 -- what fits from the start of a row on
-abbrev Fits : ℕ → List Shown → Type 0
+abbrev Fits : ℕ → List Slot → Type 0
 Fits w cs =
     (place : ℕ) (fields : List (Field ℕ)) → place % w ≡ 0 → Each (λ c x. shows c x ≡ true) cs fields
     → rowsFit w place (widths fields) ≡ true
 
 -- from p bits behind the start of a bit row on
-fit-row : (w : ℕ) (more : List Shown) → Fits w more → (cs : List Cell) (p place : ℕ) (fields : List (Field ℕ))
+fit-row : (w : ℕ) (more : List Slot) → Fits w more → (cs : List Cell) (p place : ℕ) (fields : List (Field ℕ))
     → all isCell cs ≡ true → p + sum (λ c. c .bits) cs ≡ w → place % w ≡ p % w
     → Each (λ c x. shows c x ≡ true) (map bitCell cs ++ more) fields → rowsFit w place (widths fields) ≡ true
 unfolding sum
@@ -79,7 +79,7 @@ fit-row w more f (c ∷ cs) p place (x ∷ fields) h e m s =
     fit-bits w place c (x .width) (widths fields) (place-of (bitCell c) x (s .0)) (rw at (omega arith))
     (fit-row w more f cs (p + c .bits) (place + c .bits) fields (k .1) (omega arith) next (s .1))
 
-pub rows-fit : (w : ℕ) (rows : List Row) → all (isRow w) rows ≡ true → Fits w (joined shownIn rows)
+pub rows-fit : (w : ℕ) (rows : List Row) → all (isRow w) rows ≡ true → Fits w (joined slotsIn rows)
 unfolding joined rowsFit
 rows-fit w [] h place [] e s = eq-eqb (place % w) 0 e
 rows-fit w [] h place (x ∷ fields) e s = absurd s
@@ -87,7 +87,7 @@ rows-fit w (bitRow cs ∷ rows) h place fields e s =
     let k = all-cons (isRow w) (bitRow cs) rows h in
     let total : sum (λ c. c .bits) cs ≡ w =
     eqb-true (sum (λ c. c .bits) cs) w (and-right (all isCell cs) (eqb (sum (λ c. c .bits) cs) w) (k .0)) in
-    fit-row w (joined shownIn rows) (rows-fit w rows (k .1)) cs 0 place fields
+    fit-row w (joined slotsIn rows) (rows-fit w rows (k .1)) cs 0 place fields
     (and-left (all isCell cs) (eqb (sum (λ c. c .bits) cs) w) (k .0)) (omega arith) (e ∙ sym (zero-mod w)) s
 rows-fit w (longRow c ∷ rows) h place [] e s = absurd s
 rows-fit w (longRow c ∷ rows) h place (x ∷ fields) e s =

@@ -36,7 +36,7 @@ use Rattle.texts.proofs.TextResults.{text-unique}
 -- ── another outcome than the one there is ──
 
 abbrev numbers : Outcome → List ℕ
-numbers o = o .answer .number ∷ o .answer .place ∷ o .answer .value ∷ o .buffer
+numbers o = o .answer .number ∷ o .answer .place ∷ o .answer .amount ∷ o .buffer
 
 not-same : (s t : List ℕ) → not (same s t) ≡ true → s ≡ t → ⊥
 not-same s t n e = false≢true (sym (ap not (ap (λ u. same u t) e ∙ same-self t)) ∙ n)

@@ -14,7 +14,7 @@ use Rattle.base.proofs.Lookups.{each-length}
 use Rattle.rules.specs.declared.TextAnswer.{TextAnswer}
 use Rattle.rules.specs.Limits.{textMost, fieldsMost}
 use Rattle.rules.specs.Fields.{Width, fixed, measured, rest, Form}
-use Rattle.rules.specs.Lines.{SpellsField, Written}
+use Rattle.rules.specs.Lines.{SpellsField, Unresolved}
 use Rattle.rules.specs.Frames.{Frame, lineNumber, cells}
 use Rattle.rules.specs.Answers.{ofText}
 use Rattle.rules.specs.Refusals.{Formless, FirstFormless, form}
@@ -64,7 +64,7 @@ module _ (text l : List ℕ) (p : Parts) (h : LineIs text l p) where
 pub record FormsOf (lines : List (List ℕ)) : Type 0 where
   pub forms : List Form
   pub read : (i : ℕ) (x : Form) → getElem? forms i ≡ some x → readForm (getD lines i []) ≡ some x
-  pub spelled : Each (SpellsField Written) forms lines
+  pub spelled : Each (SpellsField Unresolved) forms lines
 
 forms-of : (lines : List (List ℕ)) → ((i : ℕ) → i < length lines → (x : Form) × (readForm (getD lines i []) ≡ some x))
     → FormsOf lines
@@ -135,7 +135,7 @@ module _ (text out : List ℕ) (w top n : ℕ) (lines : List Parts) (f : Frame) 
             omega (
               arith,
               element-in (z .forms) i x e,
-              each-length (SpellsField Written) (z .forms) (f .lines)
+              each-length (SpellsField Unresolved) (z .forms) (f .lines)
                   (z .spelled),
             ) in
             let r = s .parts i lt in

@@ -14,7 +14,7 @@ use Rattle.rules.specs.declared.TextAnswer.{TextAnswer}
 use Rattle.rules.specs.Limits.{textMost, fieldsMost}
 use Rattle.rules.specs.Names.{isAllowed, lineFeed}
 use Rattle.rules.specs.Fields.{Width, fixed, measured, rest, Form}
-use Rattle.rules.specs.Lines.{SpellsField, Written}
+use Rattle.rules.specs.Lines.{SpellsField, Unresolved}
 use Rattle.rules.specs.Frames.{Frame, FrameOf, ended, frameText, headLines, lineNumber, cells, isOverfull}
 use Rattle.rules.specs.Answers.{ofText}
 use Rattle.rules.specs.Refusals.{

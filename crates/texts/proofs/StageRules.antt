@@ -15,8 +15,8 @@ use Rattle.rules.specs.declared.TextAnswer.{TextAnswer}
 use Rattle.rules.specs.Limits.{textMost, fieldsMost}
 use Rattle.rules.specs.Fields.{rest, Field, Form}
 use Rattle.rules.specs.Within.{isFormed, keepsSize, keepsNames, keepsTypes, keepsRest, nameReadable}
-use Rattle.rules.specs.Lines.{SpellsField, Written}
-use Rattle.rules.specs.Frames.{Frame, Shown, lineNumber, cells, isOverfull}
+use Rattle.rules.specs.Lines.{SpellsField, Unresolved}
+use Rattle.rules.specs.Frames.{Frame, Slot, lineNumber, cells, isOverfull}
 use Rattle.rules.specs.Spelling.{shows, mismatch}
 use Rattle.rules.specs.Answers.{Answer, refused, ofText}
 use Rattle.rules.specs.Refusals.{ruleBroken, rule}
@@ -47,7 +47,7 @@ below-none r n o e le = e ∙ rw (le-ltb r n le) refl
 
 -- ── mismatches ──
 
-mismatch-most : (i : ℕ) (cs : List Shown) (fs : List Form) (j : ℕ) → mismatch i cs fs ≡ some j → j ≤ i + length fs
+mismatch-most : (i : ℕ) (cs : List Slot) (fs : List Form) (j : ℕ) → mismatch i cs fs ≡ some j → j ≤ i + length fs
 unfolding mismatch
 mismatch-most i [] [] j e = absurd (let z : _≡_ {A = ℕ} 0 1 = cc in omega arith)
 mismatch-most i [] (f ∷ fs) j e = let q = Option·some-injective i j e in omega (arith, q)
@@ -101,11 +101,11 @@ module _ (f : Frame) (forms : List Form) (i : ℕ) where
 
 module _ (text : List ℕ) (w top n : ℕ) (lines : List Parts) (k : FormsSeen text w top n lines) where
   pub form-count : length (k .forms) ≡ n
-  form-count = each-length (SpellsField Written) (k .forms) (k .frame .lines) (k .spelled) ∙ sym (k .seen .count)
+  form-count = each-length (SpellsField Unresolved) (k .forms) (k .frame .lines) (k .spelled) ∙ sym (k .seen .count)
 
-  form-spelled : (i : ℕ) (x : Form) → getElem? (k .forms) i ≡ some x → (l : List ℕ) × SpellsField Written x l
+  form-spelled : (i : ℕ) (x : Form) → getElem? (k .forms) i ≡ some x → (l : List ℕ) × SpellsField Unresolved x l
   form-spelled i x e =
-      let s = each-left (SpellsField Written) (k .forms) (k .frame .lines) (k .spelled) i x e in (s .0, s .2)
+      let s = each-left (SpellsField Unresolved) (k .forms) (k .frame .lines) (k .spelled) i x e in (s .0, s .2)
 
   pub forms-formed : (i : ℕ) (x : Form) → getElem? (k .forms) i ≡ some x → isFormed x ≡ true
   forms-formed i x e = form-spelled i x e .1 .formed

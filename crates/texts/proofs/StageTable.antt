@@ -19,7 +19,7 @@ use Rattle.rules.specs.Within.{keepsSize}
 use Rattle.rules.specs.Frames.{Frame, FrameOf}
 use Rattle.rules.specs.Spelling.{Spells}
 use Rattle.rules.specs.Answers.{refused, accepted, ofText}
-use Rattle.rules.specs.Promises.{leaves, written, delivered, ReadsText, spelled}
+use Rattle.rules.specs.Promises.{leaves, overlaid, delivered, ReadsText, spelled}
 use Rattle.texts.specs.Resolving.{described}
 use Rattle.texts.specs.LinePlaces.{lineAt, spanIn}
 use Rattle.texts.specs.Records.{sizeFrom, Sized, tableOf, LineSmall, AllSmall}
@@ -39,13 +39,13 @@ pub short-output : (w out : List ℕ) → length out < length w → delivered w 
 unfolding delivered
 short-output w out lt = rw (lt-ltb (length out) (length w) lt) refl
 
-pub long-output : (w out : List ℕ) → length w ≤ length out → delivered w out ≡ leaves (accepted (length w)) (written
+pub long-output : (w out : List ℕ) → length w ≤ length out → delivered w out ≡ leaves (accepted (length w)) (overlaid
     w out)
 unfolding delivered
 long-output w out le = rw (le-ltb (length out) (length w) le) refl
 
 -- what was written from the start on
-pub writes-all : (out w after : List ℕ) (r : ℕ) → Writes out 0 w after r → after ≡ written w out
+pub writes-all : (out w after : List ℕ) (r : ℕ) → Writes out 0 w after r → after ≡ overlaid w out
 writes-all out w after r h =
     let e : r ≡ length w = omega (arith, h .end) in
     let t : take r after ≡ w = h .text in
@@ -130,7 +130,7 @@ module _ (text out : List ℕ) (w top n : ℕ) (lines : List Parts) (names : Lis
         → ReadsText text out (leaves (ofText (TextAnswer.Accepted size)) after)
     unfolding ofText
     answers-table size e le after r h =
-        let a : after ≡ written (stored d) out =
+        let a : after ≡ overlaid (stored d) out =
         writes-all out (stored d) after r (rw table-is at (h forms count all-small)) in
         let z : size ≡ length (stored d) = omega (arith, e, size-is) in
         rw (a, z) (rw (long-output (stored d) out (omega (arith, z))) at outcome)

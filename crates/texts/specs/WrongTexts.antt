@@ -23,7 +23,7 @@ use Rattle.rules.specs.declared.TextAnswer.the-variants.{
 use Rattle.rules.specs.Trees.{Tree, num, read, two, negation}
 use Rattle.rules.specs.Fields.{fixed, rest, Field, Description}
 use Rattle.rules.specs.Stored.{stored}
-use Rattle.rules.specs.Promises.{written, ReadsText, leaves}
+use Rattle.rules.specs.Promises.{overlaid, ReadsText, leaves}
 use Rattle.rules.specs.Cases.{named, unnamed}
 use Rattle.rules.specs.Marked.{bladeReport, tagText, tagTable}
 use Rattle.rules.specs.Pages.{bladeText, freePage, freeText, tagLines, tagUnended, notTimes}
@@ -53,7 +53,7 @@ abbrev pub leavesIt : List ℕ → TextAnswer → Claim
 leavesIt text r = reads text (nines 600) r (nines 600)
 
 abbrev pub writesTable : List ℕ → Description → Claim
-writesTable text d = reads text (nines 600) (Accepted (length (stored d))) (written (stored d) (nines 600))
+writesTable text d = reads text (nines 600) (Accepted (length (stored d))) (overlaid (stored d) (nines 600))
 
 -- the page of every freedom with another constraint of its last field, or of its third
 abbrev pub freeLast : Tree ℕ → Description
@@ -161,7 +161,7 @@ wrongTexts =
     reads tagText (nines 44) (BadLine 1) (nines 44)
     ∷ reads tagText (nines 44) NoRoom (nines 44)
     -- the Tag table for every text
-    ∷ reads bladeText (nines 300) (Accepted 44) (written tagTable (nines 300))
+    ∷ reads bladeText (nines 300) (Accepted 44) (overlaid tagTable (nines 300))
     ∷ reads [] (nines 44) (Accepted 44) tagTable
     -- accepted, and nothing written
     ∷ reads tagText (nines 44) (Accepted 44) (nines 44)
@@ -169,7 +169,7 @@ wrongTexts =
     ∷ reads tagText (nines 44) (Accepted 43) tagTable
     ∷ reads tagText (nines 44) (Accepted 0) tagTable
     -- the output's length for the table's
-    ∷ reads tagText (nines 50) (Accepted 50) (written tagTable (nines 50))
+    ∷ reads tagText (nines 50) (Accepted 50) (overlaid tagTable (nines 50))
     -- bytes beyond the table changed
     ∷ reads tagText (nines 50) (Accepted 44) (tagTable ++ replicate 6 0)
     -- the output changed on a refusal

@@ -23,7 +23,7 @@ use Rattle.laws.specs.Wrong.{
 }
 use Rattle.umarekoza.specs.declared.Reply.{Reply}
 use Rattle.umarekoza.specs.declared.Span.{Span}
-use Rattle.umarekoza.specs.Exports.{shown, spanned}
+use Rattle.umarekoza.specs.Exports.{replyAnswer, spanPart}
 
 abbrev pub reply : ℕ → ℕ → ℕ → Reply
 reply n p l = record { number = n; place = p; length = l }
@@ -34,26 +34,26 @@ span o l = record { offset = o; length = l }
 abbrev pub wrongReplies : List Claim
 wrongReplies =
     -- a table: no length for a good one; a place for it
-    checks bladeReport (shown (reply 0 0 0))
-    ∷ checks bladeReport (shown (reply 0 1 189))
+    checks bladeReport (replyAnswer (reply 0 0 0))
+    ∷ checks bladeReport (replyAnswer (reply 0 1 189))
     -- a packet: bytes for bits; number and place exchanged
-    ∷ reads bladeReport m1 (shown (reply 0 0 8)) (runOf m1Entries)
-    ∷ reads bladeReport [] (shown (reply 1 24 0)) lentRun
+    ∷ reads bladeReport m1 (replyAnswer (reply 0 0 8)) (runOf m1Entries)
+    ∷ reads bladeReport [] (replyAnswer (reply 1 24 0)) lentRun
     -- a listing: its lines counted; no length
-    ∷ lists bladeReport m1 (shown (reply 0 0 8)) (outputOf m1Listing)
-    ∷ lists bladeReport m1 (shown (reply 0 0 0)) (outputOf m1Listing)
+    ∷ lists bladeReport m1 (replyAnswer (reply 0 0 8)) (outputOf m1Listing)
+    ∷ lists bladeReport m1 (replyAnswer (reply 0 0 0)) (outputOf m1Listing)
     -- a field's bytes: in bits; start and length exchanged
-    ∷ placesPart bladeReport m1 5 (spanned (span 32 16))
-    ∷ placesPart bladeReport m1 5 (spanned (span 2 4))
+    ∷ placesPart bladeReport m1 5 (spanPart (span 32 16))
+    ∷ placesPart bladeReport m1 5 (spanPart (span 2 4))
     -- a field by name: the index as the place; 11 for a name that no field has
-    ∷ finds bladeReport (bytes "N") (shown (reply 0 2 0))
-    ∷ finds bladeReport (bytes "X") (shown (reply 11 0 0))
+    ∷ finds bladeReport (bytes "N") (replyAnswer (reply 0 2 0))
+    ∷ finds bladeReport (bytes "X") (replyAnswer (reply 11 0 0))
     -- a label: the record's place; start and length exchanged
-    ∷ placesLabel bladeReport 0 (spanned (span 22 7))
-    ∷ placesLabel bladeReport 0 (spanned (span 7 28))
+    ∷ placesLabel bladeReport 0 (spanPart (span 22 7))
+    ∷ placesLabel bladeReport 0 (spanPart (span 7 28))
     ∷ []
 
 -- a text: accepted with nothing written; the table written, and its length left out
 pub record WrongTextReplies : Type 0 where
-  pub nothing : ReadsText tagText (replicate 44 9) (leaves (shown (reply 0 0 44)) (replicate 44 9)) → ⊥
-  pub lengthless : ReadsText tagText (replicate 44 9) (leaves (shown (reply 0 0 0)) tagTable) → ⊥
+  pub nothing : ReadsText tagText (replicate 44 9) (leaves (replyAnswer (reply 0 0 44)) (replicate 44 9)) → ⊥
+  pub lengthless : ReadsText tagText (replicate 44 9) (leaves (replyAnswer (reply 0 0 0)) tagTable) → ⊥

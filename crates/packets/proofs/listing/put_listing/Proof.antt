@@ -15,7 +15,7 @@ use Rattle.packets.proofs.listing.put_listing.Reads as reads
 use Rattle.packets.proofs.listing.put_listing.Lts as lts
 use Rattle.packets.proofs.answers.number_of.Reads as number-of-reads
 use Rattle.packets.proofs.answers.place_of.Reads as place-of-reads
-use Rattle.packets.proofs.answers.value_of.Reads as value-of-reads
+use Rattle.packets.proofs.answers.amount_of.Reads as amount-of-reads
 use Rattle.packets.proofs.listing.put_bits.Reads as put-bits-reads
 use Rattle.packets.proofs.listing.put_lines.Reads as put-lines-reads
 use Rattle.packets.proofs.listing.put_refusal.Reads as put-refusal-reads
@@ -53,8 +53,8 @@ slice-aggregate-put-lines c = search needs
 put-lines-requires : tie.Need-put-lines-requires
 put-lines-requires c κs = search needs
 
-value-of-requires : tie.Need-value-of-requires
-value-of-requires c κs = search needs
+amount-of-requires : tie.Need-amount-of-requires
+amount-of-requires c κs = search needs
 
 put-bits-requires : tie.Need-put-bits-requires
 put-bits-requires c κs =
@@ -77,7 +77,7 @@ returns-2 c =
           .two-at .ensures .0,
       c .before .before .before .before .before .before .before .before .before .before
           .two-at2 .ensures .0,
-      c .before .before .before .before .value-of .ensures,
+      c .before .before .before .before .amount-of .ensures,
     ) at j in
     record {
       text = λ d w is. rw (← listed-accepted s packet d w is _ _
@@ -128,7 +128,7 @@ put-listing-spec =
     two-at-requires-2
     slice-aggregate-put-lines
     put-lines-requires
-    value-of-requires
+    amount-of-requires
     put-bits-requires
     same-length
     returns-2

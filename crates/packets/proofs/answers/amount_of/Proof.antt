@@ -1,10 +1,10 @@
 use mathlib.Core.Path.{_≡_, refl, sym, _∙_}
 use Rattle.rules.specs.Answers.{faultNumber, ofPacket}
 use borrow.Author.Needs.{needs}
-use Rattle.packets.proofs.answers.value_of.Statement.{statement}
-use Rattle.packets.proofs.answers.value_of.Tie as tie
-use Rattle.packets.proofs.answers.value_of.Reads as reads
-use Rattle.packets.proofs.answers.value_of.Lts as lts
+use Rattle.packets.proofs.answers.amount_of.Statement.{statement}
+use Rattle.packets.proofs.answers.amount_of.Tie as tie
+use Rattle.packets.proofs.answers.amount_of.Reads as reads
+use Rattle.packets.proofs.answers.amount_of.Lts as lts
 
 enum-known-answer : tie.Need-enum-known-answer
 enum-known-answer c = search needs
@@ -48,8 +48,8 @@ returns-6 : tie.Need-returns-6
 unfolding ofPacket
 returns-6 c = rw (c .enum-told5 .given .1)
 
-pub value-of-spec : {M : Type 1} → statement M
-value-of-spec =
+pub amount-of-spec : {M : Type 1} → statement M
+amount-of-spec =
     tie.close
     (tie.spec
     enum-known-answer
