@@ -1,10 +1,10 @@
 // The longest expression at a place of a text.
 use crate::leaves::Read;
 use crate::leaves::leaf_at;
-use crate::operators::Sign;
-use crate::operators::left_of;
-use crate::operators::level_of;
-use crate::operators::operator_at;
+use crate::signs::Sign;
+use crate::signs::operator_at;
+use operators::rows::ATOM_LEVEL;
+use operators::rows::operator;
 ghost use mathlib.Core.Path.{_≡_};
 ghost use Prim.Native.Nat.{_+_, _*_, _≤_, max};
 ghost use lib.ListN.{length};
@@ -50,7 +50,7 @@ pub(crate) fn expr(s: &[u8], at: usize, k: u8, b: u8) -> Read
     let a = atom(s, at, b);
     match a {
         Read::Nothing => Read::Nothing,
-        Read::At(n, d, z) => more(s, n, k, 5, b, d, z),
+        Read::At(n, d, z) => more(s, n, k, ATOM_LEVEL, b, d, z),
     }
 }
 
@@ -105,10 +105,11 @@ fn step(s: &[u8], at: usize, k: u8, h: u8, b: u8, d: usize, z: usize) -> Next
     match g {
         Sign::Nothing => Next::Stop,
         Sign::At(o, end) => {
-            let l = level_of(o);
+            let row = operator(o);
+            let l = row.level;
             if k <= l {
-                if left_of(o) <= h {
-                    let y = expr(s, end, l + 1, b);
+                if row.left <= h {
+                    let y = expr(s, end, row.right, b);
                     return match y {
                         Read::Nothing => Next::Fail,
                         Read::At(n, e, v) => Next::On(n, l, 1 + larger(d, e), 1 + (z + v)),

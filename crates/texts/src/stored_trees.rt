@@ -3,16 +3,16 @@ use crate::held_names::look_up;
 use crate::leaves::is_number;
 use crate::leaves::word_end;
 use crate::numbers::word_value;
-use crate::operators::Sign;
-use crate::operators::left_of;
-use crate::operators::level_of;
-use crate::operators::operator_at;
+use crate::signs::Sign;
+use crate::signs::operator_at;
 use crate::stored_nodes::field_node;
 use crate::stored_nodes::no_tree;
 use crate::stored_nodes::not_node;
 use crate::stored_nodes::number_node;
 use crate::stored_nodes::two_node;
 use names::labels::is_short;
+use operators::rows::ATOM_LEVEL;
+use operators::rows::operator;
 use rules::FIELDS_MOST;
 use rules::OPEN_MOST;
 use rules::SHORT_MOST;
@@ -103,7 +103,7 @@ fn stored_expr(
     if a.len == 0 {
         return a;
     }
-    stored_more(s, next, k, 5, b, a, names, n)
+    stored_more(s, next, k, ATOM_LEVEL, b, a, names, n)
 }
 
 // `!(`, `(` or a word.
@@ -180,10 +180,11 @@ fn stored_more(
     match g {
         Sign::Nothing => left,
         Sign::At(o, end) => {
-            let l = level_of(o);
+            let row = operator(o);
+            let l = row.level;
             if k <= l {
-                if left_of(o) <= h {
-                    let y = stored_expr(s, end, l + 1, b, names, n);
+                if row.left <= h {
+                    let y = stored_expr(s, end, row.right, b, names, n);
                     if y.len == 0 {
                         return y;
                     }

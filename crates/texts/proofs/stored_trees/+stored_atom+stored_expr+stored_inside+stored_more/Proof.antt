@@ -1,12 +1,10 @@
 use borrow.Author.Needs.{needs}
+use mathlib.Core.Logic.{inl, inr}
 use mathlib.Core.Path.{_≡_, sym}
 use Prim.Native.Nat.{ℕ, _<_, _≤_, _+_, _*_, _-_}
 use native.Mathlib.Omega.{arith}
 use lib.ListN.{length}
-use Rattle.rules.specs.Operators.{level, leftLevel}
-use Rattle.rules.proofs.OperatorTable.{level-lt}
 use Rattle.texts.proofs.ExprSigns.{sign-within}
-use Rattle.texts.proofs.ExprSteps.{stop-level, stop-left}
 use Rattle.texts.proofs.StoredSteps.{none-within, here-within, up-within, got-within}
 use Rattle.texts.proofs.StoredExprs.{expr-fail, expr-go, more-none, more-stop, more-fail, more-go}
 use Rattle.texts.proofs.StoredExprs.{atom-end, atom-bang, atom-paren, atom-word}
@@ -25,9 +23,8 @@ use Rattle.texts.proofs.stored_trees.+stored_atom+stored_expr+stored_in
 use Rattle.texts.proofs.stored_trees.stored_more.Reads as more
 use Rattle.texts.proofs.stored_trees.stored_more.Kinds as more-kinds
 use Rattle.texts.proofs.stored_trees.+stored_atom+stored_expr+stored_inside+stored_more.Lts-stored_more as more-lts
-use Rattle.texts.proofs.operators.left_of.Reads as left-of-reads
-use Rattle.texts.proofs.operators.level_of.Reads as level-of-reads
-use Rattle.texts.proofs.operators.operator_at.Reads as operator-at-reads
+use Rattle.operators.proofs.rows.operator.Reads as operator-reads
+use Rattle.texts.proofs.signs.operator_at.Reads as operator-at-reads
 use Rattle.texts.proofs.stored_nodes.no_tree.Reads as no-tree-reads
 use Rattle.texts.proofs.stored_nodes.two_node.Reads as two-node-reads
 use Rattle.texts.proofs.stored_trees.stored_closed.Reads as stored-closed-reads
@@ -243,10 +240,8 @@ abbrev more-calls : ℕ → more-lts.Claims
 more-calls t = (
   operator-at-reads.Asked,
   operator-at-reads.Learnt,
-  level-of-reads.Asked,
-  level-of-reads.Learnt,
-  left-of-reads.Asked,
-  left-of-reads.Learnt,
+  operator-reads.Asked,
+  operator-reads.Learnt,
   expr-below t,
   expr.Post,
   two-node-reads.Asked,
@@ -264,80 +259,50 @@ more-enum-told t c = search needs
 more-enum-known-g : (t : ℕ) → more-lts.Need-enum-known-g (more-calls t) (more-at t) more.Post
 more-enum-known-g t c = search needs
 
-more-level-of-requires : (t : ℕ) → more-lts.Need-level-of-requires (more-calls t) (more-at t) more.Post
-more-level-of-requires t c κs = search needs
-
-more-left-of-requires : (t : ℕ) → more-lts.Need-left-of-requires (more-calls t) (more-at t) more.Post
-more-left-of-requires t c κs = search needs
-
-more-add-stored-expr : (t : ℕ) → more-lts.Need-add-stored-expr (more-calls t) (more-at t) more.Post
-more-add-stored-expr t c =
-    let lt = level-lt (c .before .before .before .before .before .g .given .0 .0) in
-    omega (arith, c .before .before .before .level-of .ensures, lt)
+more-operator-requires : (t : ℕ) → more-lts.Need-operator-requires (more-calls t) (more-at t) more.Post
+more-operator-requires t c κs = search needs
 
 more-stored-expr-requires : (t : ℕ) → more-lts.Need-stored-expr-requires (more-calls t) (more-at t) more.Post
 more-stored-expr-requires t c κs =
-    let p = c .before .before .before .before .before in
-    let a = p .before .before .before .before .args in
-    let sign = p .before .before .operator-at .ensures in
-    let v = p .g .given .0 in
-    let u = sign-within (a .s .now) (a .at) _ (v .0) (v .1 .0) (p .g .given .1) (sign .0) in
+    let a = c .before .before .before .before .before .before .before .before .before .args in
+    let v = c .before .before .before .before .before .g .given .0 in
+    let u = sign-within (a .s .now) (a .at) _ (v .0) (v .1 .0) (c .before .before .before .before .before .g .given .1) (c .before .before .before .before .before .before .before .operator-at .ensures .0) in
     omega arith
 
 more-returns : (t : ℕ) → more-lts.Need-returns (more-calls t) (more-at t) more.Post
 more-returns t c =
-    let p = c .before .before .before .before .before .before .before .before in
-    let a = p .before .before .before .before .args in
-    let sign = p .before .before .operator-at .ensures in
-    let v = p .g .given .0 in
-    let u = sign-within (a .s .now) (a .at) _ (v .0) (v .1 .0) (p .g .given .1) (sign .0) in
-    let lv = c .before .before .before .before .before .before .level-of in
-    let eh : leftLevel (v .0) ≤ a .h =
-    omega (arith, c .before .before .before .before .left-of .ensures, c .before .before .before .if2 .taken) in
+    let a = c .before .before .before .before .before .before .before .before .before .before .before .before .args in
+    let v = c .before .before .before .before .before .before .before .before .g .given .0 in
+    let u = sign-within (a .s .now) (a .at) _ (v .0) (v .1 .0) (c .before .before .before .before .before .before .before .before .g .given .1) (c .before .before .before .before .before .before .before .before .before .before .operator-at .ensures .0) in
     let y = c .before .before .stored-expr in (
       none-within _ _ _ _ _ (c .if3 .taken),
-      more-fail (a .names .now) (a .n) (a .s .now) (a .at) (a .k) (a .h) (a .b) (a .left) _
-          (sign .1) (v .0) (v .1 .0) (lv .result) (p .g .given .1) (sym (lv .ensures))
-          (c .before .before .before .before .before .if1 .taken) eh (u .0) (u .1) (y .result)
-          (y .ensures .1) (c .if3 .taken),
+      more-fail (a .names .now) (a .n) (a .s .now) (a .at) (a .k) (a .h) (a .b) (a .left) _ (c .before .before .before .before .before .before .before .before .before .before .operator-at .ensures .1)
+          (v .0) (v .1 .0) (c .before .before .before .before .before .before .before .before .g .given .1) (c .before .before .before .before .before .before .operator .result) (c .before .before .before .before .before .before .operator .ensures) (c .before .before .before .before .before .if1 .taken) (c .before .before .before .if2 .taken)
+          (u .0) (u .1) (y .result) (y .ensures .1) (c .if3 .taken),
     )
 
 more-two-node-requires : (t : ℕ) → more-lts.Need-two-node-requires (more-calls t) (more-at t) more.Post
 more-two-node-requires t c κs =
-    let p = c .before .before .before .before .before .before .before .before in
-    let a = p .before .before .before .before .args in
-    let sign = p .before .before .operator-at .ensures in
-    let v = p .g .given .0 in
-    let u = sign-within (a .s .now) (a .at) _ (v .0) (v .1 .0) (p .g .given .1) (sign .0) in
+    let a = c .before .before .before .before .before .before .before .before .before .before .before .before .args in
+    let v = c .before .before .before .before .before .before .before .before .g .given .0 in
+    let u = sign-within (a .s .now) (a .at) _ (v .0) (v .1 .0) (c .before .before .before .before .before .before .before .before .g .given .1) (c .before .before .before .before .before .before .before .before .before .before .operator-at .ensures .0) in
     let w = got-within _ _ _ _ _ (c .if3 .left) (c .before .before .stored-expr .ensures .0) in
-    omega arith
+    omega (arith, (c .before .before .before .before .before .before .before .before .before .before .before .before .pre))
 
 more-stored-more-requires : (t : ℕ) → more-lts.Need-stored-more-requires (more-calls t) (more-at t) more.Post
 more-stored-more-requires t c κs =
-    let p = c .before .before .before .before .before .before .before .before .before in
-    let a = p .before .before .before .before .args in
-    let sign = p .before .before .operator-at .ensures in
-    let v = p .g .given .0 in
-    let u = sign-within (a .s .now) (a .at) _ (v .0) (v .1 .0) (p .g .given .1) (sign .0) in
+    let a = c .before .before .before .before .before .before .before .before .before .before .before .before .before .args in
+    let v = c .before .before .before .before .before .before .before .before .before .g .given .0 in
+    let u = sign-within (a .s .now) (a .at) _ (v .0) (v .1 .0) (c .before .before .before .before .before .before .before .before .before .g .given .1) (c .before .before .before .before .before .before .before .before .before .before .before .operator-at .ensures .0) in
     let w = got-within _ _ _ _ _ (c .before .if3 .left) (c .before .before .before .stored-expr .ensures .0) in
     let m = c .two-node .ensures in
-    let pre = p .before .before .before .before .pre in
-    omega (arith, m .next, m .len, pre)
+    omega (arith, m .next, m .len, (c .before .before .before .before .before .before .before .before .before .before .before .before .before .pre))
 
 more-returns-2 : (t : ℕ) → more-lts.Need-returns-2 (more-calls t) (more-at t) more.Post
 more-returns-2 t c =
-    let p = c .before .before .before .before .before .before .before .before .before .before in
-    let a = p .before .before .before .before .args in
-    let sign = p .before .before .operator-at .ensures in
-    let v = p .g .given .0 in
-    let u = sign-within (a .s .now) (a .at) _ (v .0) (v .1 .0) (p .g .given .1) (sign .0) in
-    let lv = c .before .before .before .before .before .before .before .before .level-of in
-    let eh : leftLevel (v .0) ≤ a .h =
-    omega (
-      arith,
-      c .before .before .before .before .before .before .left-of .ensures,
-      c .before .before .before .before .before .if2 .taken,
-    ) in
+    let a = c .before .before .before .before .before .before .before .before .before .before .before .before .before .before .args in
+    let v = c .before .before .before .before .before .before .before .before .before .before .g .given .0 in
+    let u = sign-within (a .s .now) (a .at) _ (v .0) (v .1 .0) (c .before .before .before .before .before .before .before .before .before .before .g .given .1) (c .before .before .before .before .before .before .before .before .before .before .before .before .operator-at .ensures .0) in
     let y = c .before .before .before .before .stored-expr in
     let some = c .before .before .if3 .left in
     let w = got-within (a .s .now) (v .1 .0 + 1) (v .1 .0) 0 (y .result) some (y .ensures .0) in
@@ -345,10 +310,9 @@ more-returns-2 t c =
     let m = c .before .two-node .ensures in (
       up-within (a .s .now) (z .next) (z .next) (z .len) (a .at) (a .at) (a .left .len) _
           (omega (arith, m .next)) (omega (arith, m .next, m .len)) (c .stored-more .ensures .0),
-      more-go (a .names .now) (a .n) (a .s .now) (a .at) (a .k) (a .h) (a .b) (a .left) _
-          (sign .1) (v .0) (v .1 .0) (lv .result) (p .g .given .1) (sym (lv .ensures))
-          (c .before .before .before .before .before .before .before .if1 .taken) eh (u .0) (u .1)
-          (y .result) (y .ensures .1) some (omega arith) (w .1) z m _ (c .stored-more .ensures .1),
+      more-go (a .names .now) (a .n) (a .s .now) (a .at) (a .k) (a .h) (a .b) (a .left) _ (c .before .before .before .before .before .before .before .before .before .before .before .before .operator-at .ensures .1)
+          (v .0) (v .1 .0) (c .before .before .before .before .before .before .before .before .before .before .g .given .1) (c .before .before .before .before .before .before .before .before .operator .result) (c .before .before .before .before .before .before .before .before .operator .ensures) (c .before .before .before .before .before .before .before .if1 .taken) (c .before .before .before .before .before .if2 .taken)
+          (u .0) (u .1) (y .result) (y .ensures .1) some (omega arith) (w .1) z m _ (c .stored-more .ensures .1),
     )
 
 more-returns-3 : (t : ℕ) → more-lts.Need-returns-3 (more-calls t) (more-at t) more.Post
@@ -362,31 +326,22 @@ more-returns-3 t c =
 
 more-returns-4 : (t : ℕ) → more-lts.Need-returns-4 (more-calls t) (more-at t) more.Post
 more-returns-4 t c =
-    let p = c .before .before .before .before .before in
-    let a = p .before .before .before .before .args in
-    let sign = p .before .before .operator-at .ensures in
-    let v = p .g .given .0 in
-    let q : a .left .next ≡ a .at = omega arith in
-    let out = stop-left (a .k) (level (v .0)) (leftLevel (v .0)) (a .h)
-    (omega (arith, c .before .before .before .level-of .ensures, c .before .before .if1 .taken))
-    (omega (arith, c .before .left-of .ensures, c .if2 .left)) in (
+    let a = c .before .before .before .before .before .before .before .before .before .args in
+    let v = c .before .before .before .before .before .g .given .0 in
+    let q : a .left .next ≡ a .at = omega arith in (
       here-within _ _ _ _ (a .left) (omega arith) (omega arith) (omega arith),
-      more-stop (a .names .now) (a .n) (a .s .now) (a .at) (a .k) (a .h) (a .b) (a .left) _
-          (sign .1) (v .0) (v .1 .0) (p .g .given .1) out q,
+      more-stop (a .names .now) (a .n) (a .s .now) (a .at) (a .k) (a .h) (a .b) (a .left) _ (c .before .before .before .before .before .before .before .operator-at .ensures .1)
+          (v .0) (v .1 .0) (c .before .before .before .before .before .g .given .1) (c .before .before .before .operator .result) (c .before .before .before .operator .ensures) (inr (omega (arith, c .if2 .left))) q,
     )
 
 more-returns-5 : (t : ℕ) → more-lts.Need-returns-5 (more-calls t) (more-at t) more.Post
 more-returns-5 t c =
-    let p = c .before .before .before in
-    let a = p .before .before .before .before .args in
-    let sign = p .before .before .operator-at .ensures in
-    let v = p .g .given .0 in
-    let q : a .left .next ≡ a .at = omega arith in
-    let out = stop-level (a .k) (level (v .0)) (leftLevel (v .0)) (a .h)
-    (omega (arith, c .before .level-of .ensures, c .if1 .left)) in (
+    let a = c .before .before .before .before .before .before .before .args in
+    let v = c .before .before .before .g .given .0 in
+    let q : a .left .next ≡ a .at = omega arith in (
       here-within _ _ _ _ (a .left) (omega arith) (omega arith) (omega arith),
-      more-stop (a .names .now) (a .n) (a .s .now) (a .at) (a .k) (a .h) (a .b) (a .left) _
-          (sign .1) (v .0) (v .1 .0) (p .g .given .1) out q,
+      more-stop (a .names .now) (a .n) (a .s .now) (a .at) (a .k) (a .h) (a .b) (a .left) _ (c .before .before .before .before .before .operator-at .ensures .1)
+          (v .0) (v .1 .0) (c .before .before .before .g .given .1) (c .before .operator .result) (c .before .operator .ensures) (inl (omega (arith, c .if1 .left))) q,
     )
 
 pub +stored-atom+stored-expr+stored-inside+stored-more-spec : {M : Type 1} → statement M
@@ -402,6 +357,5 @@ pub +stored-atom+stored-expr+stored-inside+stored-more-spec : {M : Type 1} → s
     (inside-returns-3 t) (inside-add-stored-expr t) (inside-sub-stored-expr t) (inside-stored-expr-requires t)
     (inside-returns-4 t) (inside-stored-closed-requires t) (inside-returns-5 t))
     λ t. more-lts.spec (more-calls t) (more-at t) more.Post (more-operator-at-requires t) (more-enum-told t)
-    (more-enum-known-g t) (more-level-of-requires t) (more-left-of-requires t) (more-add-stored-expr t)
-    (more-stored-expr-requires t) (more-returns t) (more-two-node-requires t) (more-stored-more-requires t)
+    (more-enum-known-g t) (more-operator-requires t) (more-stored-expr-requires t) (more-returns t) (more-two-node-requires t) (more-stored-more-requires t)
     (more-returns-2 t) (more-returns-3 t) (more-returns-4 t) (more-returns-5 t)
