@@ -73,7 +73,8 @@ module _ (s : List ℕ) (n : ℕ) where
       → rightTrim (take n s) ≡ rightTrim (take (n - 1) s)
   unfolding isSpace
   right-step lt le e =
-      ap rightTrim (whole lt le ∙ ap (λ (c : ℕ). take (n - 1) s ++ (c ∷ [])) (eqb-true (getD s (n - 1) 0) 32 e)) ∙ right-pad (take (n - 1) s) 1
+      ap rightTrim (whole lt le ∙ ap (λ (c : ℕ). take (n - 1) s ++ (c ∷ [])) (eqb-true (getD s
+      (n - 1) 0) 32 e)) ∙ right-pad (take (n - 1) s) 1
 
 pub right-end : (s : List ℕ) (n : ℕ) → n ≡ 0 → take n s ≡ rightTrim (take n s)
 unfolding rightTrim

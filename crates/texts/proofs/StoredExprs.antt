@@ -19,8 +19,8 @@ use Rattle.operators.specs.Rows.{rowOf}
 use Rattle.texts.specs.ExprPlaces.{SameSign}
 use Rattle.texts.specs.LineReader.{ofOut, readTree}
 use Rattle.texts.specs.StoredTrees.{SameStored, StoredFor}
-use Rattle.texts.specs.StoredPlaces.{TwoMade, wrapOf, LeafStored, ExprStored, AtomStored, InsideStored, ClosedStored}
-use Rattle.texts.specs.StoredPlaces.{MoreStored}
+use Rattle.texts.specs.StoredPlaces.{TwoMade, wrapOf, LeafStored, ExprStored, AtomStored}
+use Rattle.texts.specs.StoredPlaces.{InsideStored, ClosedStored, MoreStored}
 use Rattle.texts.specs.declared.signs.Sign.{Sign}
 use Rattle.texts.specs.declared.signs.Sign.the-variants as sign
 use Rattle.texts.specs.declared.stored_trees.StoredTree.{StoredTree}

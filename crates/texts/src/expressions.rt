@@ -9,7 +9,16 @@ ghost use mathlib.Core.Path.{_≡_};
 ghost use Prim.Native.Nat.{_+_, _*_, _≤_, max};
 ghost use lib.ListN.{length};
 ghost use Rattle.rules.specs.Limits.{textMost};
-ghost use Rattle.texts.specs.ExprPlaces.{WithinRead, ExprAt, AtomAt, ClosedAt, InsideAt, MoreAt, WithinNext, NextAt};
+ghost use Rattle.texts.specs.ExprPlaces.{
+  WithinRead,
+  ExprAt,
+  AtomAt,
+  ClosedAt,
+  InsideAt,
+  MoreAt,
+  WithinNext,
+  NextAt,
+};
 
 // What an operator and its right operand make of the tree before them: the place behind them, the level, the depth
 // and the stored length of the whole; or no operator that may stand there, or no right operand.

@@ -337,7 +337,8 @@ step-operator-requires t c κs = search needs
 
 step-expr-requires : (t : ℕ) → step-lts.Need-expr-requires (step-calls t) (step-at t) step.Post
 step-expr-requires t c κs =
-    let u = sign-within _ _ _ _ _ (c .before .before .before .before .before .g .given .1) (c .before .before .before .before .before .before .before .operator-at .ensures .0) in
+    let u = sign-within _ _ _ _ _ (c .before .before .before .before .before .g .given .1)
+    (c .before .before .before .before .before .before .before .operator-at .ensures .0) in
     omega arith
 
 step-enum-told-2 : (t : ℕ) → step-lts.Need-enum-told-2 (step-calls t) (step-at t) step.Post
@@ -351,48 +352,77 @@ step-larger-requires t c κs = search needs
 
 step-add-t22 : (t : ℕ) → step-lts.Need-add-t22 (step-calls t) (step-at t) step.Post
 step-add-t22 t c =
-    let u = sign-within _ _ _ _ _ (c .before .before .before .before .before .before .before .before .before .before .g .given .1) (c .before .before .before .before .before .before .before .before .before .before .before .before .operator-at .ensures .0) in
-    let w = within-got _ _ _ _ _ _ _ _ _ (c .before .before .y .given .1) (c .before .before .before .before .expr .ensures .0) in
-    let m = max-most (c .before .before .before .before .before .before .before .before .before .before .before .before .before .before .args .d) (c .before .before .y .given .0 .1 .0) in
+    let u = sign-within _ _ _ _ _ (c .before .before .before .before .before .before .before .before .before .before
+    .g .given .1) (c .before .before .before .before .before .before .before .before .before .before .before .before
+    .operator-at .ensures .0) in
+    let w = within-got _ _ _ _ _ _ _ _ _ (c .before .before .y .given .1)
+    (c .before .before .before .before .expr .ensures .0) in
+    let m = max-most (c .before .before .before .before .before .before .before .before .before .before .before
+    .before .before .before .args .d) (c .before .before .y .given .0 .1 .0) in
     omega (arith, c .larger .ensures)
 
 step-add-t23 : (t : ℕ) → step-lts.Need-add-t23 (step-calls t) (step-at t) step.Post
 step-add-t23 t c =
-    let u = sign-within _ _ _ _ _ (c .before .before .before .before .before .before .before .before .before .before .g .given .1) (c .before .before .before .before .before .before .before .before .before .before .before .before .operator-at .ensures .0) in
-    let w = within-got _ _ _ _ _ _ _ _ _ (c .before .before .y .given .1) (c .before .before .before .before .expr .ensures .0) in
+    let u = sign-within _ _ _ _ _ (c .before .before .before .before .before .before .before .before .before .before
+    .g .given .1) (c .before .before .before .before .before .before .before .before .before .before .before .before
+    .operator-at .ensures .0) in
+    let w = within-got _ _ _ _ _ _ _ _ _ (c .before .before .y .given .1)
+    (c .before .before .before .before .expr .ensures .0) in
     omega arith
 
 step-add-t24 : (t : ℕ) → step-lts.Need-add-t24 (step-calls t) (step-at t) step.Post
 step-add-t24 t c =
-    let u = sign-within _ _ _ _ _ (c .before .before .before .before .before .before .before .before .before .before .g .given .1) (c .before .before .before .before .before .before .before .before .before .before .before .before .operator-at .ensures .0) in
-    let w = within-got _ _ _ _ _ _ _ _ _ (c .before .before .y .given .1) (c .before .before .before .before .expr .ensures .0) in
+    let u = sign-within _ _ _ _ _ (c .before .before .before .before .before .before .before .before .before .before
+    .g .given .1) (c .before .before .before .before .before .before .before .before .before .before .before .before
+    .operator-at .ensures .0) in
+    let w = within-got _ _ _ _ _ _ _ _ _ (c .before .before .y .given .1)
+    (c .before .before .before .before .expr .ensures .0) in
     omega arith
 
 step-returns : (t : ℕ) → step-lts.Need-returns (step-calls t) (step-at t) step.Post
 step-returns t c =
     let a = c .before .before .before .before .before .before .before .before .before .before .before .before .args in
     let v = c .before .before .before .before .before .before .before .before .g .given .0 in
-    let u = sign-within (a .s .now) (a .at) _ (v .0) (v .1 .0) (c .before .before .before .before .before .before .before .before .g .given .1) (c .before .before .before .before .before .before .before .before .before .before .operator-at .ensures .0) in
+    let u = sign-within (a .s .now) (a .at) _ (v .0) (v .1 .0)
+    (c .before .before .before .before .before .before .before .before .g .given .1)
+    (c .before .before .before .before .before .before .before .before .before .before .operator-at .ensures .0) in
     next-fail (a .s .now) (a .at) (a .k) (a .h) (a .b) (a .d) (a .z)
-    (more-fail (a .s .now) (a .at) (a .k) (a .h) (a .b) (a .d) (a .z) _ (c .before .before .before .before .before .before .before .before .before .before .operator-at .ensures .1) (v .0) (v .1 .0)
-    (c .before .before .before .before .before .before .before .before .g .given .1) (c .before .before .before .before .before .before .operator .result) (c .before .before .before .before .before .before .operator .ensures) (c .before .before .before .before .before .if1 .taken) (c .before .before .before .if2 .taken) (u .0) (u .1) _
+    (more-fail (a .s .now) (a .at) (a .k) (a .h) (a .b) (a .d) (a .z) _
+    (c .before .before .before .before .before .before .before .before .before .before .operator-at .ensures .1)
+    (v .0) (v .1 .0)
+    (c .before .before .before .before .before .before .before .before .g .given .1)
+    (c .before .before .before .before .before .before .operator .result)
+    (c .before .before .before .before .before .before .operator .ensures)
+    (c .before .before .before .before .before .if1 .taken) (c .before .before .before .if2 .taken) (u .0) (u .1) _
     (c .before .before .expr .ensures .1) (c .enum-told2 .given .1))
 
 step-returns-2 : (t : ℕ) → step-lts.Need-returns-2 (step-calls t) (step-at t) step.Post
 step-returns-2 t c =
-    let a = c .before .before .before .before .before .before .before .before .before .before .before .before .before .before .args in
+    let a = c .before .before .before .before .before .before .before .before .before .before .before .before .before
+    .before .args in
     let v = c .before .before .before .before .before .before .before .before .before .before .g .given .0 in
-    let u = sign-within (a .s .now) (a .at) _ (v .0) (v .1 .0) (c .before .before .before .before .before .before .before .before .before .before .g .given .1) (c .before .before .before .before .before .before .before .before .before .before .before .before .operator-at .ensures .0) in
+    let u = sign-within (a .s .now) (a .at) _ (v .0) (v .1 .0)
+    (c .before .before .before .before .before .before .before .before .before .before .g .given .1)
+    (c .before .before .before .before .before .before .before .before .before .before .before .before .operator-at
+    .ensures .0) in
     let y = c .before .before .y .given .0 in
-    let w = within-got (a .s .now) (v .1 .0 + 1) (v .1 .0) 0 0 _ (y .0) (y .1 .0) (y .1 .1 .0) (c .before .before .y .given .1)
+    let w = within-got (a .s .now) (v .1 .0 + 1) (v .1 .0) 0 0 _ (y .0) (y .1 .0) (y .1 .1 .0)
+    (c .before .before .y .given .1)
     (c .before .before .before .before .expr .ensures .0) in
     let m = max-most (a .d) (y .1 .0) in
     let x : c .larger .result ≤ a .d + y .1 .0 = rw (c .larger .ensures) m in
     next-on (a .s .now) (a .at) (a .k) (a .h) (a .b) (a .d) (a .z) _ _ _ _
     (omega arith) (w .1) (omega arith) (omega arith)
-    (λ r z. more-go (a .s .now) (a .at) (a .k) (a .h) (a .b) (a .d) (a .z) _ (c .before .before .before .before .before .before .before .before .before .before .before .before .operator-at .ensures .1) (v .0) (v .1 .0)
-    (c .before .before .before .before .before .before .before .before .before .before .g .given .1) (c .before .before .before .before .before .before .before .before .operator .result) (c .before .before .before .before .before .before .before .before .operator .ensures) (c .before .before .before .before .before .before .before .if1 .taken) (c .before .before .before .before .before .if2 .taken) (u .0) (u .1) _
-    (c .before .before .before .before .expr .ensures .1) (y .0) (y .1 .0) (y .1 .1 .0) (c .larger .result) (c .before .before .y .given .1) (omega arith) (w .1)
+    (λ r z. more-go (a .s .now) (a .at) (a .k) (a .h) (a .b) (a .d) (a .z) _
+    (c .before .before .before .before .before .before .before .before .before .before .before .before .operator-at
+    .ensures .1) (v .0) (v .1 .0)
+    (c .before .before .before .before .before .before .before .before .before .before .g .given .1)
+    (c .before .before .before .before .before .before .before .before .operator .result)
+    (c .before .before .before .before .before .before .before .before .operator .ensures)
+    (c .before .before .before .before .before .before .before .if1 .taken)
+    (c .before .before .before .before .before .if2 .taken) (u .0) (u .1) _
+    (c .before .before .before .before .expr .ensures .1) (y .0) (y .1 .0) (y .1 .1 .0) (c .larger .result)
+    (c .before .before .y .given .1) (omega arith) (w .1)
     (c .larger .ensures) r z)
 
 step-returns-3 : (t : ℕ) → step-lts.Need-returns-3 (step-calls t) (step-at t) step.Post
@@ -407,16 +437,20 @@ step-returns-4 t c =
     let a = c .before .before .before .before .before .before .before .before .before .args in
     let v = c .before .before .before .before .before .g .given .0 in
     next-stop (a .s .now) (a .at) (a .k) (a .h) (a .b) (a .d) (a .z)
-    (more-stop (a .s .now) (a .at) (a .k) (a .h) (a .b) (a .d) (a .z) _ (c .before .before .before .before .before .before .before .operator-at .ensures .1) (v .0) (v .1 .0)
-    (c .before .before .before .before .before .g .given .1) (c .before .before .before .operator .result) (c .before .before .before .operator .ensures) (inr (omega (arith, c .if2 .left))))
+    (more-stop (a .s .now) (a .at) (a .k) (a .h) (a .b) (a .d) (a .z) _
+    (c .before .before .before .before .before .before .before .operator-at .ensures .1) (v .0) (v .1 .0)
+    (c .before .before .before .before .before .g .given .1) (c .before .before .before .operator .result)
+    (c .before .before .before .operator .ensures) (inr (omega (arith, c .if2 .left))))
 
 step-returns-5 : (t : ℕ) → step-lts.Need-returns-5 (step-calls t) (step-at t) step.Post
 step-returns-5 t c =
     let a = c .before .before .before .before .before .before .before .args in
     let v = c .before .before .before .g .given .0 in
     next-stop (a .s .now) (a .at) (a .k) (a .h) (a .b) (a .d) (a .z)
-    (more-stop (a .s .now) (a .at) (a .k) (a .h) (a .b) (a .d) (a .z) _ (c .before .before .before .before .before .operator-at .ensures .1) (v .0) (v .1 .0)
-    (c .before .before .before .g .given .1) (c .before .operator .result) (c .before .operator .ensures) (inl (omega (arith, c .if1 .left))))
+    (more-stop (a .s .now) (a .at) (a .k) (a .h) (a .b) (a .d) (a .z) _
+    (c .before .before .before .before .before .operator-at .ensures .1) (v .0) (v .1 .0)
+    (c .before .before .before .g .given .1) (c .before .operator .result) (c .before .operator .ensures) (inl
+    (omega (arith, c .if1 .left))))
 
 pub +atom+expr+inside+more+step-spec : {M : Type 1} → statement M
 +atom+expr+inside+more+step-spec = close μ-atom μ-expr μ-inside μ-more μ-step
@@ -433,6 +467,7 @@ pub +atom+expr+inside+more+step-spec : {M : Type 1} → statement M
     (more-step-requires t) (more-enum-told t) (more-returns t) (more-enum-told-2 t) (more-returns-2 t)
     (more-enum-known-next t) (more-loop-less t) (more-loop-again t))
     λ t. step-lts.spec (step-calls t) (step-at t) step.Post (step-operator-at-requires t) (step-enum-told t)
-    (step-enum-known-g t) (step-operator-requires t) (step-expr-requires t) (step-enum-told-2 t) (step-enum-known-y t) (step-larger-requires t) (step-add-t22 t)
+    (step-enum-known-g t) (step-operator-requires t) (step-expr-requires t) (step-enum-told-2 t)
+    (step-enum-known-y t) (step-larger-requires t) (step-add-t22 t)
     (step-add-t23 t) (step-add-t24 t) (step-returns t) (step-returns-2 t)
     (step-returns-3 t) (step-returns-4 t) (step-returns-5 t)

@@ -56,7 +56,9 @@ returns-3 c =
     let inv = c .before .before .before .before .before .loop .inv in
     let byte : getD w i 0 < 256 = omega (arith, c .before .before .before .shared-slice-known3 .given i) in
     let n : isDigit (getD w i 0) ≡ false =
-    sym (digit-in (c .before .before .before .before .before .before .class-table .result) (c .before .before .before .before .before .before .class-table .ensures) (getD w i 0) byte) ∙ sym (c .before .is-digit-in .ensures)
+    sym (digit-in (c .before .before .before .before .before .before .class-table .result)
+    (c .before .before .before .before .before .before .class-table .ensures) (getD w i 0) byte) ∙ sym
+    (c .before .is-digit-in .ensures)
     ∙ not-true (c .before .is-digit-in .result) (c .if3 .taken) in
     sym (number-other w (inv .3 ∙ all-stop isDigit w i (omega arith) n))
 
@@ -71,7 +73,9 @@ cast-v c =
     let inv = c .before .before .before .before .before .loop .inv in
     let byte : getD w i 0 < 256 = omega (arith, c .before .before .before .shared-slice-known3 .given i) in
     let y : isDigit (getD w i 0) ≡ true =
-    sym (digit-in (c .before .before .before .before .before .before .class-table .result) (c .before .before .before .before .before .before .class-table .ensures) (getD w i 0) byte) ∙ sym (c .before .is-digit-in .ensures)
+    sym (digit-in (c .before .before .before .before .before .before .class-table .result)
+    (c .before .before .before .before .before .before .class-table .ensures) (getD w i 0) byte) ∙ sym
+    (c .before .is-digit-in .ensures)
     ∙ not-false (c .before .is-digit-in .result) (c .if3 .left) in
     let ge : 48 ≤ getD w i 0 = digit-range (getD w i 0) y .0 in
     let le : getD w i 0 ≤ 57 = digit-range (getD w i 0) y .1 in
@@ -85,7 +89,9 @@ sub-v c =
     let inv = c .before .before .before .before .before .loop .inv in
     let byte : getD w i 0 < 256 = omega (arith, c .before .before .before .shared-slice-known3 .given i) in
     let y : isDigit (getD w i 0) ≡ true =
-    sym (digit-in (c .before .before .before .before .before .before .class-table .result) (c .before .before .before .before .before .before .class-table .ensures) (getD w i 0) byte) ∙ sym (c .before .is-digit-in .ensures)
+    sym (digit-in (c .before .before .before .before .before .before .class-table .result)
+    (c .before .before .before .before .before .before .class-table .ensures) (getD w i 0) byte) ∙ sym
+    (c .before .is-digit-in .ensures)
     ∙ not-false (c .before .is-digit-in .result) (c .if3 .left) in
     let ge : 48 ≤ getD w i 0 = digit-range (getD w i 0) y .0 in
     let le : getD w i 0 ≤ 57 = digit-range (getD w i 0) y .1 in
@@ -99,7 +105,9 @@ add-v c =
     let inv = c .before .before .before .before .before .loop .inv in
     let byte : getD w i 0 < 256 = omega (arith, c .before .before .before .shared-slice-known3 .given i) in
     let y : isDigit (getD w i 0) ≡ true =
-    sym (digit-in (c .before .before .before .before .before .before .class-table .result) (c .before .before .before .before .before .before .class-table .ensures) (getD w i 0) byte) ∙ sym (c .before .is-digit-in .ensures)
+    sym (digit-in (c .before .before .before .before .before .before .class-table .result)
+    (c .before .before .before .before .before .before .class-table .ensures) (getD w i 0) byte) ∙ sym
+    (c .before .is-digit-in .ensures)
     ∙ not-false (c .before .is-digit-in .result) (c .if3 .left) in
     let ge : 48 ≤ getD w i 0 = digit-range (getD w i 0) y .0 in
     let le : getD w i 0 ≤ 57 = digit-range (getD w i 0) y .1 in
@@ -134,7 +142,9 @@ loop-again c =
     let inv = c .before .before .before .before .before .before .loop .inv in
     let byte : getD w i 0 < 256 = omega (arith, c .before .before .before .before .shared-slice-known3 .given i) in
     let y : isDigit (getD w i 0) ≡ true =
-    sym (digit-in (c .before .before .before .before .before .before .before .class-table .result) (c .before .before .before .before .before .before .before .class-table .ensures) (getD w i 0) byte) ∙ sym (c .before .before .is-digit-in .ensures)
+    sym (digit-in (c .before .before .before .before .before .before .before .class-table .result)
+    (c .before .before .before .before .before .before .before .class-table .ensures) (getD w i 0) byte) ∙ sym
+    (c .before .before .is-digit-in .ensures)
     ∙ not-false (c .before .before .is-digit-in .result) (c .before .if3 .left) in
     let ge : 48 ≤ getD w i 0 = digit-range (getD w i 0) y .0 in
     let le : getD w i 0 ≤ 57 = digit-range (getD w i 0) y .1 in (

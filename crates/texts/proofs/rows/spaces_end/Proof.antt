@@ -37,9 +37,13 @@ returns c =
     let s = c .before .before .before .before .before .before .before .before .args .s .now in
     let i = c .before .before .before .before .before .loop .i in
     let byte : getD s i 0 < 256 = omega (arith, c .before .before .shared-slice-known2 .given i) in
-    let tells = sym (space-in (c .before .before .before .before .before .before .class-table .result) (c .before .before .before .before .before .before .class-table .ensures) (getD s i 0) byte)
-    ∙ sym (c .before .is-space-in .ensures) in
-    (omega arith, left-stop s i (omega arith) (tells ∙ not-true (c .before .is-space-in .result) (c .if1 .taken)) ∙ sym (c .before .before .before .before .before .loop .inv .1))
+    let tells = sym (space-in (c .before .before .before .before .before .before .class-table .result)
+    (c .before .before .before .before .before .before .class-table .ensures) (getD s i 0) byte)
+    ∙ sym (c .before .is-space-in .ensures) in (
+      omega arith,
+      left-stop s i (omega arith) (tells ∙ not-true (c .before .is-space-in .result)
+          (c .if1 .taken)) ∙ sym (c .before .before .before .before .before .loop .inv .1),
+    )
 
 add-i : tie.Need-add-i Inv-loop μ-loop
 add-i c = search needs
@@ -52,9 +56,13 @@ loop-again c =
     let s = c .before .before .before .before .before .before .before .before .args .s .now in
     let i = c .before .before .before .before .before .loop .i in
     let byte : getD s i 0 < 256 = omega (arith, c .before .before .shared-slice-known2 .given i) in
-    let tells = sym (space-in (c .before .before .before .before .before .before .class-table .result) (c .before .before .before .before .before .before .class-table .ensures) (getD s i 0) byte)
-    ∙ sym (c .before .is-space-in .ensures) in
-    (omega arith, c .before .before .before .before .before .loop .inv .1 ∙ left-step s i (omega arith) (tells ∙ not-false (c .before .is-space-in .result) (c .if1 .left)))
+    let tells = sym (space-in (c .before .before .before .before .before .before .class-table .result)
+    (c .before .before .before .before .before .before .class-table .ensures) (getD s i 0) byte)
+    ∙ sym (c .before .is-space-in .ensures) in (
+      omega arith,
+      c .before .before .before .before .before .loop .inv .1 ∙ left-step s i (omega arith)
+          (tells ∙ not-false (c .before .is-space-in .result) (c .if1 .left)),
+    )
 
 returns-2 : tie.Need-returns-2 Inv-loop μ-loop
 returns-2 c =

@@ -43,7 +43,8 @@ returns c =
     let s = c .before .before .before .before .before .before .before .before .args .s .now in
     let n = c .before .before .before .before .before .loop .n in
     let byte : getD s (n - 1) 0 < 256 = omega (arith, c .before .before .shared-slice-known2 .given (n - 1)) in
-    let tells = sym (space-in (c .before .before .before .before .before .before .class-table .result) (c .before .before .before .before .before .before .class-table .ensures) (getD s (n - 1) 0) byte)
+    let tells = sym (space-in (c .before .before .before .before .before .before .class-table .result)
+    (c .before .before .before .before .before .before .class-table .ensures) (getD s (n - 1) 0) byte)
     ∙ sym (c .before .is-space-in .ensures) in (
       omega arith,
       right-stop s n (omega arith) (omega arith) (tells ∙ not-true (c .before .is-space-in .result) (c .if1 .taken))
@@ -61,7 +62,8 @@ loop-again c =
     let s = c .before .before .before .before .before .before .before .before .args .s .now in
     let n = c .before .before .before .before .before .loop .n in
     let byte : getD s (n - 1) 0 < 256 = omega (arith, c .before .before .shared-slice-known2 .given (n - 1)) in
-    let tells = sym (space-in (c .before .before .before .before .before .before .class-table .result) (c .before .before .before .before .before .before .class-table .ensures) (getD s (n - 1) 0) byte)
+    let tells = sym (space-in (c .before .before .before .before .before .before .class-table .result)
+    (c .before .before .before .before .before .before .class-table .ensures) (getD s (n - 1) 0) byte)
     ∙ sym (c .before .is-space-in .ensures) in (
       omega arith,
       c .before .before .before .before .before .loop .inv .1 ∙ right-step s n (omega arith) (omega arith)

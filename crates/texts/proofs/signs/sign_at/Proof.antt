@@ -27,7 +27,9 @@ returns-2 : tie.Need-returns-2
 returns-2 c =
     let s = now (c .before .before .before .before .before .args .s) in
     let at = c .before .before .before .before .before .args .at in
-    let k = operator-in (now (c .before .before .before .before .before .args .classes)) (c .before .before .before .before .before .pre .0) (getD s at 0) (omega (arith, c .before .before .before .before .shared-slice-known .given at)) in
+    let k = operator-in (now (c .before .before .before .before .before .args .classes))
+    (c .before .before .before .before .before .pre .0) (getD s at 0) (omega
+    (arith, c .before .before .before .before .shared-slice-known .given at)) in
     sign-other s at (omega arith)
     (sym k ∙ sym (c .before .is-operator-in .ensures) ∙ not-true (c .before .is-operator-in .result) (c .if2 .taken))
 
@@ -49,19 +51,30 @@ enum-known-found c = search needs
 add-t14 : tie.Need-add-t14
 add-t14 c =
     let v = c .before .found .given .0 in
-    let k = sign-length (now (c .before .before .before .before .before .before .before .before .before .before .args .s)) (c .before .before .before .before .before .before .before .before .before .before .args .at) (omega arith) (c .before .before .before .before .byte-of .result) (c .before .before .before .symbol-of .result) (c .before .before .before .before .byte-of .ensures) (c .before .before .before .symbol-of .ensures) (v .0) (v .1 .0)
+    let k = sign-length (now (c .before .before .before .before .before .before .before .before .before .before .args
+    .s)) (c .before .before .before .before .before .before .before .before .before .before .args .at) (omega arith)
+    (c .before .before .before .before .byte-of .result) (c .before .before .before .symbol-of .result)
+    (c .before .before .before .before .byte-of .ensures) (c .before .before .before .symbol-of .ensures) (v .0)
+    (v .1 .0)
     (c .before .found .given .1) in
     omega (arith, k .1)
 
 returns-3 : tie.Need-returns-3
 returns-3 c =
-    sign-none-at (now (c .before .before .before .before .before .before .before .before .before .args .s)) (c .before .before .before .before .before .before .before .before .before .args .at) (omega arith) (c .before .before .before .byte-of .result) (c .before .before .symbol-of .result) (c .before .before .before .byte-of .ensures) (c .before .before .symbol-of .ensures)
+    sign-none-at (now (c .before .before .before .before .before .before .before .before .before .args .s))
+    (c .before .before .before .before .before .before .before .before .before .args .at) (omega arith)
+    (c .before .before .before .byte-of .result) (c .before .before .symbol-of .result)
+    (c .before .before .before .byte-of .ensures) (c .before .before .symbol-of .ensures)
     (c .enum-told .given .1)
 
 returns-4 : tie.Need-returns-4
 returns-4 c =
     let v = c .before .found .given .0 in
-    sign-at-place (now (c .before .before .before .before .before .before .before .before .before .before .args .s)) (c .before .before .before .before .before .before .before .before .before .before .args .at) (omega arith) (c .before .before .before .before .byte-of .result) (c .before .before .before .symbol-of .result) (c .before .before .before .before .byte-of .ensures) (c .before .before .before .symbol-of .ensures) (v .0) (v .1 .0)
+    sign-at-place (now (c .before .before .before .before .before .before .before .before .before .before .args .s))
+    (c .before .before .before .before .before .before .before .before .before .before .args .at) (omega arith)
+    (c .before .before .before .before .byte-of .result) (c .before .before .before .symbol-of .result)
+    (c .before .before .before .before .byte-of .ensures) (c .before .before .before .symbol-of .ensures) (v .0)
+    (v .1 .0)
     (c .before .found .given .1)
 
 pub sign-at-spec : {M : Type 1} → statement M

@@ -27,14 +27,18 @@ returns-2 : tie.Need-returns-2
 returns-2 c =
     let s = now (c .before .before .before .before .before .args .s) in
     let at = c .before .before .before .before .before .args .at in
-    let k = space-in (now (c .before .before .before .before .before .args .classes)) (c .before .before .before .before .before .pre .0) (getD s at 0) (omega (arith, c .before .before .before .before .shared-slice-known .given at)) in
+    let k = space-in (now (c .before .before .before .before .before .args .classes))
+    (c .before .before .before .before .before .pre .0) (getD s at 0) (omega
+    (arith, c .before .before .before .before .shared-slice-known .given at)) in
     (omega arith, skip-yes s at (omega arith) (sym k ∙ sym (c .before .is-space-in .ensures) ∙ c .if2 .taken))
 
 returns-3 : tie.Need-returns-3
 returns-3 c =
     let s = now (c .before .before .before .before .before .args .s) in
     let at = c .before .before .before .before .before .args .at in
-    let k = space-in (now (c .before .before .before .before .before .args .classes)) (c .before .before .before .before .before .pre .0) (getD s at 0) (omega (arith, c .before .before .before .before .shared-slice-known .given at)) in
+    let k = space-in (now (c .before .before .before .before .before .args .classes))
+    (c .before .before .before .before .before .pre .0) (getD s at 0) (omega
+    (arith, c .before .before .before .before .shared-slice-known .given at)) in
     (omega arith, skip-no s at (omega arith) (sym k ∙ sym (c .before .is-space-in .ensures) ∙ c .if2 .left))
 
 pub skipped-spec : {M : Type 1} → statement M

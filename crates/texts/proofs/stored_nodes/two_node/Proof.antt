@@ -30,7 +30,8 @@ returns c = record {
   next = refl;
   gives = c .before .before .before .before .before .two-type .ensures;
   len = refl;
-  bytes = λ h. c .joined .ensures ∙ rw (row-code (c .before .operator .result) (c .before .before .before .before .before .before .args .o) (c .before .operator .ensures)) refl;
+  bytes = λ h. c .joined .ensures ∙ rw (row-code (c .before .operator .result)
+      (c .before .before .before .before .before .before .args .o) (c .before .operator .ensures)) refl;
 }
 
 returns-2 : tie.Need-returns-2

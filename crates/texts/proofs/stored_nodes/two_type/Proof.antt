@@ -22,7 +22,8 @@ returns : tie.Need-returns
 returns c =
     let a = c .before .before .before .before .before .args in
     let row = c .before .before .before .before .operator .result in
-    let t = c .before .before .before .type-code .ensures ∙ row-takes row (a .o) (c .before .before .before .before .operator .ensures) in
+    let t = c .before .before .before .type-code .ensures ∙ row-takes row (a .o)
+    (c .before .before .before .before .operator .ensures) in
     c .type-code2 .ensures ∙ row-gives row (a .o) (c .before .before .before .before .operator .ensures)
     ∙ both-same (a .a) (a .b) _ _ (c .before .before .if1 .taken ∙ t) (c .before .if2 .taken ∙ t)
 
@@ -30,7 +31,8 @@ returns-2 : tie.Need-returns-2
 returns-2 c =
     let a = c .before .before .before .before .args in
     let row = c .before .before .before .operator .result in
-    let t = c .before .before .type-code .ensures ∙ row-takes row (a .o) (c .before .before .before .operator .ensures) in
+    let t = c .before .before .type-code .ensures ∙ row-takes row (a .o)
+    (c .before .before .before .operator .ensures) in
     second-other (a .a) (a .b) _ _ (c .before .if1 .taken ∙ t) (λ e. c .if2 .left (e ∙ sym t))
 
 returns-3 : tie.Need-returns-3
