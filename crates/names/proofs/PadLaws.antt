@@ -34,7 +34,8 @@ pub pad-set : (name w : List ℕ) (i x : ℕ) → i < length name → take i nam
     → take (i + 1) (set name i x) ≡ padTo (i + 1) w
 pad-set name w i x lt e f = rw (add-one i, take-suc-set name i x lt, pad-suc i w, e, f)
 
-pub pad-whole : (name w : List ℕ) (i : ℕ) → i ≡ shortMost → length name ≡ shortMost → take i name ≡ padTo i w → name ≡ padTo shortMost w
+pub pad-whole : (name w : List ℕ) (i : ℕ) → i ≡ shortMost → length name ≡ shortMost → take i name ≡ padTo i w → name
+    ≡ padTo shortMost w
 pad-whole name w i e l h =
     let t : take shortMost name ≡ name = take-all shortMost name (omega arith) in
     sym t ∙ rw e at h
@@ -81,7 +82,8 @@ pad-same (suc n) (x ∷ a) (y ∷ b) p q l m =
     rw (pad-same n a b (all-cons isWordByte x a p .1) (all-cons isWordByte y b q .1) (omega arith) (omega arith))
 
 -- two short names that are held; and none is like nothing
-pub held-same : (a b : List ℕ) → isShort a ≡ true → isShort b ≡ true → sameName (padTo shortMost a) (padTo shortMost b) ≡ same a b
+pub held-same : (a b : List ℕ) → isShort a ≡ true → isShort b ≡ true → sameName (padTo shortMost a)
+    (padTo shortMost b) ≡ same a b
 unfolding sameName padTo
 held-same [] b p q = absurd (not-both false (short-held [] p .1) refl)
 held-same (x ∷ a) b p q =

@@ -1,27 +1,17 @@
 // Short names held by value, and the first of them that repeats an earlier one.
+use crate::words::byte_of;
 use crate::words::same_words;
 use crate::words::word_key;
 use rules::FIELDS_MOST;
 use rules::SHORT_MOST;
 ghost use mathlib.Core.Path.{_≡_};
 ghost use Prim.Native.Nat.{_≤_};
-ghost use lib.ListN.{getD};
 ghost use Rattle.rules.specs.Limits.{fieldsMost, shortMost};
 ghost use Rattle.names.specs.Keys.{wordKey};
 ghost use Rattle.names.specs.Repeats.{padTo, sameName, namesAlike, firstRepeat, startOf, atMost};
 
 // How many remainders of keys are told apart.
 pub const REMAINDERS: usize = 61;
-
-// A byte, 0 behind the end.
-fn byte_of(w: &[u8], i: usize) -> u8
-    ensures { λ r. ⌜ r ≡ getD (now (w .entry)) i 0 ⌝ }
-{
-    if i < w.len() {
-        return w[i];
-    }
-    0
-}
 
 // A name of at most SHORT_MOST bytes, with zeros behind its end; of a longer one its first bytes.
 pub fn held_name(w: &[u8]) -> [u8; SHORT_MOST]

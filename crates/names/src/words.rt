@@ -1,6 +1,7 @@
 // Words compared byte by byte, their keys, and the reserved words.
 ghost use mathlib.Core.Path.{_≡_};
 ghost use Prim.Native.Nat.{_<_};
+ghost use lib.ListN.{getD};
 ghost use Rattle.base.specs.Lists.{same};
 ghost use Rattle.rules.specs.Names.{isReserved};
 ghost use Rattle.names.specs.Keys.{wordKey};
@@ -13,6 +14,16 @@ fn wide(b: u8) -> usize
     ensures { λ r. ⌜ (r ≡ b) × (r < 256) ⌝ }
 {
     b as usize
+}
+
+// A byte, 0 behind the end.
+pub fn byte_of(w: &[u8], i: usize) -> u8
+    ensures { λ r. ⌜ r ≡ getD (now (w .entry)) i 0 ⌝ }
+{
+    if i < w.len() {
+        return w[i];
+    }
+    0
 }
 
 // The number that the last 8 bytes of a word make.

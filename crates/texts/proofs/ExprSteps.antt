@@ -1,6 +1,7 @@
 -- The steps of the code over a place, against those of the reader over what is left of the text.
 use mathlib.Core.Path.{_≡_, refl, ap, sym, _∙_}
 use mathlib.Core.Bool.{Bool, true, false, _&&_}
+use mathlib.Core.Logic.{_⊎_, inl, inr}
 use mathlib.Core.List.{List, [], _∷_, _++_}
 use Prim.Native.Nat.{ℕ, zero, suc, _+_, _*_, _-_, _≤_, _<_, max}
 use native.Mathlib.Omega.{arith}
@@ -10,7 +11,7 @@ use lib.ListN.{length, drop, getD, length-drop, length-append}
 use lib.Seq.{drop-cons, drop-length}
 use borrow.Author.Tests.{le-leb, lt-leb, ne-eqb}
 use Rattle.rules.specs.declared.Op.{Op}
-use Rattle.rules.specs.Operators.{level, leftLevel, rightLevel}
+use Rattle.rules.specs.Operators.{level, leftLevel, rightLevel, atomLevel}
 use Rattle.rules.specs.Trees.{Tree, two, negation, depth, storedTree, storedLength}
 use Rattle.text_laws.specs.Reader.{Out, fail, got, Found, missing, found, operatorAt, close, inside, atom, step}
 use Rattle.text_laws.specs.Reader.{andThen}
@@ -21,9 +22,12 @@ use Rattle.texts.specs.declared.expressions.Next.{Next}
 use Rattle.texts.specs.declared.expressions.Next.the-variants as next
 use Rattle.texts.specs.declared.leaves.Read.{Read}
 use Rattle.texts.specs.declared.leaves.Read.the-variants.{Nothing, At}
-use Rattle.texts.specs.declared.operators.Sign.{Sign}
-use Rattle.texts.specs.declared.operators.Sign.the-variants as sign
-use Rattle.texts.proofs.ExprSigns.{sign-none, sign-some, right-is}
+use Rattle.texts.specs.declared.signs.Sign.{Sign}
+use Rattle.texts.specs.declared.signs.Sign.the-variants as sign
+use Rattle.operators.specs.declared.rows.Row.{Row}
+use Rattle.operators.specs.Rows.{rowOf}
+use Rattle.texts.proofs.OperatorRows.{row-level, row-left, row-right}
+use Rattle.texts.proofs.ExprSigns.{sign-none, sign-some}
 
 -- ── the code's answer tells the reader's ──
 
@@ -99,7 +103,7 @@ module _ (s : List ℕ) (at k b : ℕ) (r : Read) (A : AtomAt s at b r) where
   expr-fail e (suc f) lt = rw (same-fail s (atom (expr f 0) b (drop at s)) r e (A f lt)) refl
 
   pub expr-go : (n d z : ℕ) → r ≡ At n d z → at < n → n ≤ length s → (r′ : Read)
-      → MoreAt s n k 5 b d z r′ → ExprAt s at k b r′
+      → MoreAt s n k atomLevel b d z r′ → ExprAt s at k b r′
   unfolding expr andThen
   expr-go n d z e lo hi r′ M zero lt = absurd (omega arith)
   expr-go n d z e lo hi r′ M (suc f) lt =
@@ -115,67 +119,79 @@ module _ (s : List ℕ) (at k h b d z : ℕ) (g : Sign) (w : SameSign s (operato
   more-none e t zero dt zt lt = absurd (omega arith)
   more-none e t (suc f) dt zt lt = rw (sign-none s (operatorAt (drop at s)) g e w) (at, rw (dt, zt) refl, refl)
 
-  pub more-stop : (o : Op) (n : ℕ) → g ≡ sign.At o n → (leb k (level o) && leb (leftLevel o) h) ≡ false
-      → MoreAt s at k h b d z (At at d z)
-  unfolding more step SameRead
-  more-stop o n p out t zero dt zt lt = absurd (omega arith)
-  more-stop o n p out t (suc f) dt zt lt =
-      rw (sign-some s (operatorAt (drop at s)) g o n p w, out) (at, rw (dt, zt) refl, refl)
-
 -- the operator o was found and may stand here, and a is the answer behind it
 more-eq : (s : List ℕ) (at k h b n : ℕ) (o : Op) (t : Tree (List ℕ)) (f : ℕ) (a : Out)
     → operatorAt (drop at s) ≡ found o (drop n s) → k ≤ level o → leftLevel o ≤ h
-    → expr f (level o + 1) b (drop n s) ≡ a
+    → expr f (rightLevel o) b (drop n s) ≡ a
     → more (suc f) k h b t (drop at s) ≡ andThen a (λ y q. more f k (level o) b (two o t y) q)
 unfolding more step
-more-eq s at k h b n o t f a p kl eh q =
-    let q′ : expr f (rightLevel o) b (drop n s) ≡ a = rw (right-is o) (rw (add-one (level o)) at q) in
-    rw (p, le-leb k (level o) kl, le-leb (leftLevel o) h eh, q′) refl
+more-eq s at k h b n o t f a p kl eh q = rw (p, le-leb k (level o) kl, le-leb (leftLevel o) h eh, q) refl
 
--- the same where l is the operator's level
-pub more-at : (s : List ℕ) (at k h b n : ℕ) (o : Op) (l : ℕ) (t : Tree (List ℕ)) (f : ℕ) (a : Out)
-    → operatorAt (drop at s) ≡ found o (drop n s) → level o ≡ l → k ≤ l → leftLevel o ≤ h
-    → expr f (l + 1) b (drop n s) ≡ a
-    → more (suc f) k h b t (drop at s) ≡ andThen a (λ y q. more f k l b (two o t y) q)
-more-at s at k h b n o l t f a p lv kl eh q =
-    let kl′ : k ≤ level o = omega (arith, lv) in
-    let q′ : expr f (level o + 1) b (drop n s) ≡ a = rw lv q in
-    more-eq s at k h b n o t f a p kl′ eh q′ ∙ ap (λ m. andThen a (λ y q. more f k m b (two o t y) q)) lv
+-- the same by the operator's row
+pub more-at : (s : List ℕ) (at k h b n : ℕ) (o : Op) (row : Row) (t : Tree (List ℕ)) (f : ℕ) (a : Out)
+    → operatorAt (drop at s) ≡ found o (drop n s) → row ≡ rowOf o → k ≤ row .level → row .left ≤ h
+    → expr f (row .right) b (drop n s) ≡ a
+    → more (suc f) k h b t (drop at s) ≡ andThen a (λ y q. more f k (row .level) b (two o t y) q)
+more-at s at k h b n o row t f a p is kl eh q =
+    let lv = row-level row o is in
+    let e : leftLevel o ≤ h = omega (arith, row-left row o is) in
+    let q′ : expr f (rightLevel o) b (drop n s) ≡ a = rw (row-right row o is) q in
+    more-eq s at k h b n o t f a p (omega (arith, lv)) e q′
+    ∙ ap (λ (m : ℕ). andThen a (λ y q. more f k m b (two o t y) q)) lv
 
-module _ (s : List ℕ) (at k h b d z : ℕ) (g : Sign) (w : SameSign s (operatorAt (drop at s)) g) (o : Op) (n l : ℕ)
-    (p : g ≡ sign.At o n) (lv : level o ≡ l) (kl : k ≤ l) (eh : leftLevel o ≤ h) (lo : at < n) (hi : n ≤ length s)
-    (y : Read) (E : ExprAt s n (l + 1) b y) where
-  lower-to : (m : ℕ) → n ≤ m → (f : ℕ) → length (drop at s) < suc f → length (drop m s) < f
-  lower-to m le f lt = simp length-drop (omega (arith, simp length-drop at lt))
+-- an operator may not stand at level k behind a tree of level h: it is looser, or its left side binds tighter
+stops : (k l e h : ℕ) → (l < k) ⊎ (h < e) → (leb k l && leb e h) ≡ false
+stops k l e h (inl lt) = rw (lt-leb k l lt) refl
+stops k l e h (inr lt) = rw (lt-leb e h lt) (go (leb k l))
+  where
+    go : (b : Bool) → (b && false) ≡ false
+    go true = refl
+    go false = refl
 
-  pub more-fail : y ≡ Nothing → MoreAt s at k h b d z Nothing
-  unfolding andThen SameRead
-  more-fail ye t zero dt zt lt = absurd (omega arith)
-  more-fail ye t (suc f) dt zt lt =
-      let i = sign-some s (operatorAt (drop at s)) g o n p w in
-      let q = same-fail s (expr f (l + 1) b (drop n s)) y ye (E f (lower-to n (omega arith) f lt)) in
-      rw (more-at s at k h b n o l t f fail i lv kl eh q) refl
+pub row-stops : (k h : ℕ) (o : Op) (row : Row) → row ≡ rowOf o → (row .level < k) ⊎ (h < row .left)
+    → (leb k (level o) && leb (leftLevel o) h) ≡ false
+row-stops k h o row is (inl lt) =
+    let lv = row-level row o is in
+    stops k (level o) (leftLevel o) h (inl (omega (arith, lv)))
+row-stops k h o row is (inr lt) =
+    let lv = row-left row o is in
+    stops k (level o) (leftLevel o) h (inr (omega (arith, lv)))
 
-  pub more-go : (m e v x : ℕ) → y ≡ At m e v → n < m → m ≤ length s → x ≡ max d e → (r : Read)
-      → MoreAt s m k l b (1 + x) (1 + (z + v)) r → MoreAt s at k h b d z r
-  unfolding andThen
-  more-go m e v x ye lo′ hi′ xe r M t zero dt zt lt = absurd (omega arith)
-  more-go m e v x ye lo′ hi′ xe r M t (suc f) dt zt lt =
-      let i = sign-some s (operatorAt (drop at s)) g o n p w in
-      let u = same-got s (expr f (l + 1) b (drop n s)) y m e v ye (E f (lower-to n (omega arith) f lt)) in
-      let dd : depth (two o t (u .tree)) ≡ 1 + x = rw xe (two-depth o t (u .tree) d e dt (u .depth-is)) in
-      rw (more-at s at k h b n o l t f (got (u .tree) (drop m s)) i lv kl eh (u .is))
-      (M (two o t (u .tree)) f dd (two-length o t (u .tree) z v zt (u .length-is)) (lower-to m (omega arith) f lt))
+module _ (s : List ℕ) (at k h b d z : ℕ) (g : Sign) (w : SameSign s (operatorAt (drop at s)) g) (o : Op) (n : ℕ)
+    (p : g ≡ sign.At o n) (row : Row) (is : row ≡ rowOf o) where
+  pub more-stop : (row .level < k) ⊎ (h < row .left) → MoreAt s at k h b d z (At at d z)
+  unfolding more step SameRead
+  more-stop out t zero dt zt lt = absurd (omega arith)
+  more-stop out t (suc f) dt zt lt =
+      rw (sign-some s (operatorAt (drop at s)) g o n p w, row-stops k h o row is out) (at, rw (dt, zt) refl, refl)
+
+  module _ (kl : k ≤ row .level) (eh : row .left ≤ h) (lo : at < n) (hi : n ≤ length s) (y : Read)
+      (E : ExprAt s n (row .right) b y) where
+    lower-to : (m : ℕ) → n ≤ m → (f : ℕ) → length (drop at s) < suc f → length (drop m s) < f
+    lower-to m le f lt = simp length-drop (omega (arith, simp length-drop at lt))
+
+    pub more-fail : y ≡ Nothing → MoreAt s at k h b d z Nothing
+    unfolding andThen SameRead
+    more-fail ye t zero dt zt lt = absurd (omega arith)
+    more-fail ye t (suc f) dt zt lt =
+        let i = sign-some s (operatorAt (drop at s)) g o n p w in
+        let q = same-fail s (expr f (row .right) b (drop n s)) y ye (E f (lower-to n (omega arith) f lt)) in
+        rw (more-at s at k h b n o row t f fail i is kl eh q) refl
+
+    pub more-go : (m e v x : ℕ) → y ≡ At m e v → n < m → m ≤ length s → x ≡ max d e → (r : Read)
+        → MoreAt s m k (row .level) b (1 + x) (1 + (z + v)) r → MoreAt s at k h b d z r
+    unfolding andThen
+    more-go m e v x ye lo′ hi′ xe r M t zero dt zt lt = absurd (omega arith)
+    more-go m e v x ye lo′ hi′ xe r M t (suc f) dt zt lt =
+        let i = sign-some s (operatorAt (drop at s)) g o n p w in
+        let u = same-got s (expr f (row .right) b (drop n s)) y m e v ye (E f (lower-to n (omega arith) f lt)) in
+        let dd : depth (two o t (u .tree)) ≡ 1 + x = rw xe (two-depth o t (u .tree) d e dt (u .depth-is)) in
+        rw (more-at s at k h b n o row t f (got (u .tree) (drop m s)) i is kl eh (u .is))
+        (M (two o t (u .tree)) f dd (two-length o t (u .tree) z v zt (u .length-is)) (lower-to m (omega arith) f lt))
 
 -- the deeper of two is no deeper than both together
 pub max-most : (a b : ℕ) → max a b ≤ a + b
 max-most a b = omega arith
-
-pub stop-level : (k l e h : ℕ) → l < k → (leb k l && leb e h) ≡ false
-stop-level k l e h lt = rw (lt-leb k l lt) refl
-
-pub stop-left : (k l e h : ℕ) → k ≤ l → h < e → (leb k l && leb e h) ≡ false
-stop-left k l e h le lt = rw (le-leb k l le, lt-leb e h lt) refl
 
 -- ── atom ──
 

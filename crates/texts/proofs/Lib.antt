@@ -21,6 +21,7 @@
 -- Resolve, ResolveRows     forms that keep 6 to 10 resolve to a description that the text spells
 -- AllowedLines, AllowedTexts   the bytes of a text that spells a description are allowed
 -- Answered, TextResults    no text spells two descriptions; exactly one outcome for each text and output
+-- OperatorRows             the columns of an operator's row, and a byte of no operator
 -- ExprSigns, ExprLeaves    operators and words at a place of a text, as the code reads them
 -- ExprSteps                expressions at a place of a text
 -- StoredBytes, StoredSteps, StoredExprs   expressions in their stored form, as the code makes them
@@ -88,6 +89,8 @@ pub mod AllowedLines
 pub mod AllowedTexts
 pub mod Answered
 pub mod TextResults
+pub mod OperatorRows
+pub mod FirstSymbol
 pub mod ExprSigns
 pub mod ExprLeaves
 pub mod ExprSteps

@@ -73,7 +73,8 @@ module _ (text : List ℕ) (forms : List Form) (lines : List Parts) (h : LinesFo
   -- ── 8 ──
 
   module _ (held : (i : ℕ) → i < length forms → getD names i [] ≡ heldShort text false (lineAt lines i)) where
-    held-all : (i : ℕ) (x : Form) → getElem? forms i ≡ some x → getD names i [] ≡ padTo shortMost (storedName (x .short))
+    held-all : (i : ℕ) (x : Form) → getElem? forms i ≡ some x → getD names i []
+        ≡ padTo shortMost (storedName (x .short))
     unfolding heldShort
     held-all i x e = held i (element-in forms i x e) ∙ rw (line-short text x (lineAt lines i) (h i x e)) refl
 
@@ -107,7 +108,8 @@ module _ (text : List ℕ) (forms : List Form) (lines : List Parts) (h : LinesFo
     fixed-name x w p q = go (isFixed x) (x .short) p
       where
         go : (b : Bool) (o : Option (List ℕ)) → ifAny isShort o ≡ true
-            → sameName (padTo shortMost w) (padTo shortMost (cond (not b) [] (storedName o))) ≡ (b && any (same w) (listOf o))
+            → sameName (padTo shortMost w) (padTo shortMost (cond (not b) [] (storedName o))) ≡ (b && any (same w)
+            (listOf o))
         go false o p = none-second w q
         go true none p = none-second w q
         go true (some v) p = held-same w v q p ∙ or-false (same w v)

@@ -228,7 +228,8 @@ module _ (text line : List ℕ) (at a i w : ℕ) (m : Option ℕ) (ms : List (Li
         cells-differ : ShowsIs chars long text (lineAt parts i) false → i ≡ indexOr n m
         cells-differ s = ap (indexOr n) (sym (one false s))
 
-        cells-agree : ShowsIs chars long text (lineAt parts i) true → CellsLeft text line at (b + 1) (i + 1) w m ms forms
+        cells-agree : ShowsIs chars long text (lineAt parts i) true → CellsLeft text line at (b + 1)
+            (i + 1) w m ms forms
         unfolding all
         cells-agree s = record {
           row = x .row;

@@ -101,8 +101,8 @@ module _ (text out : List ℕ) (w top n : ℕ) (lines : List Parts) (names : Lis
         rests = s .rests;
       }))
 
-  outcome : ReadsText text out (leaves (ofText (delivered (stored d) out))
-  outcome) = spelled text-most spells
+  outcome : ReadsText text out (delivered (stored d) out)
+  outcome = spelled text-most spells
 
   module _ (name : List ℕ) (is : (f : Frame) → FrameOf text f → name ≡ f .name) where
     table-is : tableOf names name w forms ≡ stored d

@@ -6,15 +6,10 @@ use Prim.Native.Nat.{ℕ, suc, _+_, _<_}
 use native.Mathlib.Omega.{arith}
 use native.Mathlib.Nat.{add-zero}
 use native.Mathlib.Numerals.{add-one}
-use lib.Dec.{eqb, ltb}
+use lib.Dec.{eqb}
 use lib.ListN.{length, take, getD, set}
 use lib.Seq.{take-suc, take-suc-set}
-use borrow.Author.Tests.{eqb-true, eq-eqb, ne-eqb}
-use Rattle.base.specs.Lists.{all}
-use Rattle.rules.specs.declared.Op.{Op}
-use Rattle.rules.specs.Operators.{operator, operators, level, takes, gives}
-use Rattle.text_laws.proofs.OperatorTable.{each}
-use Rattle.texts.specs.StoredTrees.{typeCode}
+use borrow.Author.Tests.{eq-eqb, ne-eqb}
 
 -- no byte was put there yet
 pub put-none : (d src : List ℕ) (at : ℕ) → take (at + 0) d ≡ take at d ++ take 0 src
@@ -51,17 +46,7 @@ set-five (x ∷ y ∷ z ∷ []) a b c d e lt = absurd (omega arith)
 set-five (x ∷ y ∷ z ∷ v ∷ []) a b c d e lt = absurd (omega arith)
 set-five (x ∷ y ∷ z ∷ v ∷ w ∷ l) a b c d e lt = refl
 
--- ── types by level ──
-
-pub takes-is : (o : Op) → typeCode (takes o) ≡ cond (ltb (level o) 2) 2 1
-unfolding all operators operator typeCode
-takes-is o = eqb-true (typeCode (takes o)) (cond (ltb (level o) 2) 2 1)
-    (each (λ p. eqb (typeCode (takes p)) (cond (ltb (level p) 2) 2 1)) refl o)
-
-pub gives-is : (o : Op) → typeCode (gives o) ≡ cond (ltb (level o) 3) 2 1
-unfolding all operators operator typeCode
-gives-is o = eqb-true (typeCode (gives o)) (cond (ltb (level o) 3) 2 1)
-    (each (λ p. eqb (typeCode (gives p)) (cond (ltb (level p) 3) 2 1)) refl o)
+-- ── the type of a whole ──
 
 pub both-same : (a b t g : ℕ) → a ≡ t → b ≡ t → g ≡ cond (eqb a t && eqb b t) g 0
 both-same a b t g p q = rw (eq-eqb a t p, eq-eqb b t q) refl

@@ -1,29 +1,31 @@
 -- The code that makes the stored forms of expressions, step by step, against the reader over what is left of the text.
 use mathlib.Core.Path.{_≡_, refl, ap, _∙_}
-use mathlib.Core.Bool.{Bool, true, false, _&&_}
+use mathlib.Core.Bool.{Bool, true, false}
+use mathlib.Core.Logic.{_⊎_, inl, inr}
 use mathlib.Core.List.{List, _∷_}
 use Prim.Native.Nat.{ℕ, zero, suc, _+_, _-_, _≤_, _<_}
 use native.Mathlib.Omega.{arith}
 use native.Mathlib.Numerals.{add-one}
-use lib.Dec.{leb}
 use lib.ListN.{length, drop, getD, length-drop}
 use lib.Seq.{drop-cons, drop-length}
 use borrow.Author.Tests.{ne-eqb}
 use Rattle.rules.specs.declared.Op.{Op}
-use Rattle.rules.specs.Operators.{level, leftLevel}
+use Rattle.rules.specs.Operators.{atomLevel}
 use Rattle.rules.specs.Trees.{two}
 use Rattle.rules.specs.Limits.{openMost}
 use Rattle.text_laws.specs.Reader.{Out, fail, got, operatorAt, close, inside, atom, step, andThen, expr, more}
+use Rattle.operators.specs.declared.rows.Row.{Row}
+use Rattle.operators.specs.Rows.{rowOf}
 use Rattle.texts.specs.ExprPlaces.{SameSign}
 use Rattle.texts.specs.LineReader.{ofOut, readTree}
 use Rattle.texts.specs.StoredTrees.{SameStored, StoredFor}
-use Rattle.texts.specs.StoredPlaces.{TwoMade, wrapOf, LeafStored, ExprStored, AtomStored, InsideStored, ClosedStored}
-use Rattle.texts.specs.StoredPlaces.{MoreStored}
-use Rattle.texts.specs.declared.operators.Sign.{Sign}
-use Rattle.texts.specs.declared.operators.Sign.the-variants as sign
+use Rattle.texts.specs.StoredPlaces.{TwoMade, wrapOf, LeafStored, ExprStored, AtomStored}
+use Rattle.texts.specs.StoredPlaces.{InsideStored, ClosedStored, MoreStored}
+use Rattle.texts.specs.declared.signs.Sign.{Sign}
+use Rattle.texts.specs.declared.signs.Sign.the-variants as sign
 use Rattle.texts.specs.declared.stored_trees.StoredTree.{StoredTree}
 use Rattle.texts.proofs.ExprSigns.{sign-none, sign-some}
-use Rattle.texts.proofs.ExprSteps.{more-at, in-rest, in-other}
+use Rattle.texts.proofs.ExprSteps.{more-at, in-rest, in-other, row-stops}
 use Rattle.texts.proofs.StoredSteps.{is-two, stored-fail, stored-got, same-none, same-here}
 
 module _ (names : List (List ℕ)) (n : ℕ) (s : List ℕ) where
@@ -37,7 +39,7 @@ module _ (names : List (List ℕ)) (n : ℕ) (s : List ℕ) where
         rw (stored-fail names n s (atom (expr f 0) b (drop at s)) a e (A f lt)) (same-none names n s a e)
 
     pub expr-go : (a .len ≡ 0 → ⊥) → at < a .next → a .next ≤ length s → (r : StoredTree)
-        → MoreStored names n s (a .next) k 5 b a r → ExprStored names n s at k b r
+        → MoreStored names n s (a .next) k atomLevel b a r → ExprStored names n s at k b r
     unfolding expr andThen
     expr-go e lo hi r M zero lt = absurd (omega arith)
     expr-go e lo hi r M (suc f) lt =
@@ -54,39 +56,40 @@ module _ (names : List (List ℕ)) (n : ℕ) (s : List ℕ) where
     more-none e q t (suc f) x lt =
         rw (sign-none s (operatorAt (drop at s)) g e w) (same-here names n s t (drop at s) p x (rw q refl))
 
-    pub more-stop : (o : Op) (end : ℕ) → g ≡ sign.At o end → (leb k (level o) && leb (leftLevel o) h) ≡ false
-        → p .next ≡ at → MoreStored names n s at k h b p p
-    unfolding more step
-    more-stop o end i out q t zero x lt = absurd (omega arith)
-    more-stop o end i out q t (suc f) x lt =
-        rw (sign-some s (operatorAt (drop at s)) g o end i w, out)
-        (same-here names n s t (drop at s) p x (rw q refl))
+    module _ (o : Op) (end : ℕ) (i : g ≡ sign.At o end) (row : Row) (is : row ≡ rowOf o) where
+      pub more-stop : (row .level < k) ⊎ (h < row .left) → p .next ≡ at → MoreStored names n s at k h b p p
+      unfolding more step
+      more-stop out q t zero x lt = absurd (omega arith)
+      more-stop out q t (suc f) x lt =
+          rw (sign-some s (operatorAt (drop at s)) g o end i w, row-stops k h o row is out)
+          (same-here names n s t (drop at s) p x (rw q refl))
 
-    module _ (o : Op) (end l : ℕ) (i : g ≡ sign.At o end) (lv : level o ≡ l) (kl : k ≤ l) (eh : leftLevel o ≤ h)
-        (lo : at < end) (hi : end ≤ length s) (y : StoredTree) (E : ExprStored names n s end (l + 1) b y) where
-      lower-to : (m : ℕ) → end ≤ m → (f : ℕ) → length (drop at s) < suc f → length (drop m s) < f
-      lower-to m le f lt = simp length-drop (omega (arith, simp length-drop at lt))
+      module _ (kl : k ≤ row .level) (eh : row .left ≤ h) (lo : at < end) (hi : end ≤ length s) (y : StoredTree)
+          (E : ExprStored names n s end (row .right) b y) where
+        lower-to : (m : ℕ) → end ≤ m → (f : ℕ) → length (drop at s) < suc f → length (drop m s) < f
+        lower-to m le f lt = simp length-drop (omega (arith, simp length-drop at lt))
 
-      pub more-fail : y .len ≡ 0 → MoreStored names n s at k h b p y
-      unfolding andThen
-      more-fail e t zero x lt = absurd (omega arith)
-      more-fail e t (suc f) x lt =
-          let j = sign-some s (operatorAt (drop at s)) g o end i w in
-          let q = stored-fail names n s (expr f (l + 1) b (drop end s)) y e (E f (lower-to end (omega arith) f lt)) in
-          rw (more-at s at k h b end o l t f fail j lv kl eh q) (same-none names n s y e)
+        pub more-fail : y .len ≡ 0 → MoreStored names n s at k h b p y
+        unfolding andThen
+        more-fail e t zero x lt = absurd (omega arith)
+        more-fail e t (suc f) x lt =
+            let j = sign-some s (operatorAt (drop at s)) g o end i w in
+            let q = stored-fail names n s (expr f (row .right) b (drop end s)) y e
+            (E f (lower-to end (omega arith) f lt)) in
+            rw (more-at s at k h b end o row t f fail j is kl eh q) (same-none names n s y e)
 
-      pub more-go : (y .len ≡ 0 → ⊥) → end < y .next → y .next ≤ length s → (z : StoredTree) → TwoMade o p y z → (r : StoredTree)
-          → MoreStored names n s (z .next) k l b z r → MoreStored names n s at k h b p r
-      unfolding andThen
-      more-go e lo′ hi′ z m r M t zero x lt = absurd (omega arith)
-      more-go e lo′ hi′ z m r M t (suc f) x lt =
-          let j = sign-some s (operatorAt (drop at s)) g o end i w in
-          let u = stored-got names n s (expr f (l + 1) b (drop end s)) y e
-          (E f (lower-to end (omega arith) f lt)) in
-          let lt′ : length (drop (z .next) s) < f = rw (m .next) (lower-to (y .next) (omega arith) f lt) in
-          let v = M (two o t (u .tree)) f (is-two names n o p y z t (u .tree) m x (u .held)) lt′ in
-          rw (more-at s at k h b end o l t f (got (u .tree) (drop (y .next) s)) j lv kl eh (u .is))
-          (rw (m .next) at v)
+        pub more-go : (y .len ≡ 0 → ⊥) → end < y .next → y .next ≤ length s → (z : StoredTree) → TwoMade o p y z
+            → (r : StoredTree) → MoreStored names n s (z .next) k (row .level) b z r → MoreStored names n s at k h b p r
+        unfolding andThen
+        more-go e lo′ hi′ z m r M t zero x lt = absurd (omega arith)
+        more-go e lo′ hi′ z m r M t (suc f) x lt =
+            let j = sign-some s (operatorAt (drop at s)) g o end i w in
+            let u = stored-got names n s (expr f (row .right) b (drop end s)) y e
+            (E f (lower-to end (omega arith) f lt)) in
+            let lt′ : length (drop (z .next) s) < f = rw (m .next) (lower-to (y .next) (omega arith) f lt) in
+            let go = M (two o t (u .tree)) f (is-two names n o p y z t (u .tree) m x (u .held)) lt′ in
+            rw (more-at s at k h b end o row t f (got (u .tree) (drop (y .next) s)) j is kl eh (u .is))
+            (rw (m .next) at go)
 
   -- ── atom ──
 

@@ -102,7 +102,8 @@ module _ (names : List (List ℕ)) (n : ℕ) where
   unfolding SameStored
   same-none s r e = e
 
-  pub same-here : (s : List ℕ) (t : Tree (List ℕ)) (q : List ℕ) (r : StoredTree) → StoredIs names n t r → drop (r .next) s ≡ q
+  pub same-here : (s : List ℕ) (t : Tree (List ℕ)) (q : List ℕ) (r : StoredTree) → StoredIs names n t r → drop
+      (r .next) s ≡ q
       → SameStored names n s (got t q) r
   unfolding SameStored
   same-here s t q r x e = (x, e)

@@ -3,8 +3,6 @@ use mathlib.Core.Path.{_≡_}
 use mathlib.Core.List.{List, [], _∷_}
 use Prim.Native.Nat.{ℕ, suc, _+_, _*_, _≤_, _<_}
 use lib.ListN.{length, drop}
-use Rattle.rules.specs.declared.Op.{Op}
-use Rattle.rules.specs.declared.Op.the-variants.{Or, And, Eq, Ne, Lt, Le, Gt, Ge, Add, Sub, Mul}
 use Rattle.rules.specs.Trees.{Tree, depth, storedLength}
 use Rattle.text_laws.specs.Reader.{Out, fail, got, Found, missing, found, word, behind, leaf, close, inside, atom, expr}
 use Rattle.text_laws.specs.Reader.{more}
@@ -12,24 +10,10 @@ use Rattle.texts.specs.declared.leaves.Read.{Read}
 use Rattle.texts.specs.declared.leaves.Read.the-variants as read
 use Rattle.texts.specs.declared.expressions.Next.{Next}
 use Rattle.texts.specs.declared.expressions.Next.the-variants as next
-use Rattle.texts.specs.declared.operators.Mark.{Mark}
-use Rattle.texts.specs.declared.operators.Mark.the-variants as mark
-use Rattle.texts.specs.declared.operators.Sign.{Sign}
-use Rattle.texts.specs.declared.operators.Sign.the-variants as sign
+use Rattle.texts.specs.declared.signs.Sign.{Sign}
+use Rattle.texts.specs.declared.signs.Sign.the-variants as sign
 
 -- ── operators ──
-
--- the operators of two bytes, and of one
-unfoldable pub longs : List Op
-longs = Or ∷ And ∷ Eq ∷ Ne ∷ Le ∷ Ge ∷ []
-
-unfoldable pub shorts : List Op
-shorts = Lt ∷ Gt ∷ Add ∷ Sub ∷ Mul ∷ []
-
--- what the reader finds before the text z
-abbrev pub foundBy : Mark → List ℕ → Found
-foundBy mark.Nothing z = missing
-foundBy (mark.Is o) z = found o z
 
 -- the code's answer r is that of the reader in the text s
 unfoldable pub SameSign : List ℕ → Found → Sign → Type 0

@@ -44,8 +44,8 @@ TwoMade o a b r =
 
 -- ── what the code promises at the place `at` of the text s, whatever fuel the reader has, if it is enough ──
 
--- the place behind an expression is `lo` or behind it, within the text; from `at` on, where a tree of stored length z was
--- read, each byte of text made the tree at most 5 longer
+-- the place behind an expression is `lo` or behind it, within the text; from `at` on, where a tree of stored length z
+-- was read, each byte of text made the tree at most 5 longer
 pub record WithinStored (s : List ℕ) (lo at z : ℕ) (r : StoredTree) : Type 0 where
   pub low : 0 < r .len → lo ≤ r .next
   pub high : 0 < r .len → r .next ≤ length s

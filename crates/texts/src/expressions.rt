@@ -1,15 +1,24 @@
 // The longest expression at a place of a text.
 use crate::leaves::Read;
 use crate::leaves::leaf_at;
-use crate::operators::Sign;
-use crate::operators::left_of;
-use crate::operators::level_of;
-use crate::operators::operator_at;
+use crate::signs::Sign;
+use crate::signs::operator_at;
+use operators::rows::ATOM_LEVEL;
+use operators::rows::operator;
 ghost use mathlib.Core.Path.{_≡_};
 ghost use Prim.Native.Nat.{_+_, _*_, _≤_, max};
 ghost use lib.ListN.{length};
 ghost use Rattle.rules.specs.Limits.{textMost};
-ghost use Rattle.texts.specs.ExprPlaces.{WithinRead, ExprAt, AtomAt, ClosedAt, InsideAt, MoreAt, WithinNext, NextAt};
+ghost use Rattle.texts.specs.ExprPlaces.{
+  WithinRead,
+  ExprAt,
+  AtomAt,
+  ClosedAt,
+  InsideAt,
+  MoreAt,
+  WithinNext,
+  NextAt,
+};
 
 // What an operator and its right operand make of the tree before them: the place behind them, the level, the depth
 // and the stored length of the whole; or no operator that may stand there, or no right operand.
@@ -50,7 +59,7 @@ pub(crate) fn expr(s: &[u8], at: usize, k: u8, b: u8) -> Read
     let a = atom(s, at, b);
     match a {
         Read::Nothing => Read::Nothing,
-        Read::At(n, d, z) => more(s, n, k, 5, b, d, z),
+        Read::At(n, d, z) => more(s, n, k, ATOM_LEVEL, b, d, z),
     }
 }
 
@@ -105,10 +114,11 @@ fn step(s: &[u8], at: usize, k: u8, h: u8, b: u8, d: usize, z: usize) -> Next
     match g {
         Sign::Nothing => Next::Stop,
         Sign::At(o, end) => {
-            let l = level_of(o);
+            let row = operator(o);
+            let l = row.level;
             if k <= l {
-                if left_of(o) <= h {
-                    let y = expr(s, end, l + 1, b);
+                if row.left <= h {
+                    let y = expr(s, end, row.right, b);
                     return match y {
                         Read::Nothing => Next::Fail,
                         Read::At(n, e, v) => Next::On(n, l, 1 + larger(d, e), 1 + (z + v)),

@@ -1,14 +1,12 @@
 // Words of letters and digits at a place of a text: short names and numbers.
-use names::classes::DIGIT;
 use names::classes::class_table;
+use names::classes::is_digit_in;
 use names::classes::is_word_in;
 use names::labels::is_short;
 use rules::NUMBER_MOST;
 ghost use mathlib.Core.Path.{_≡_};
 ghost use Prim.Native.Nat.{ℕ, _+_, _≤_};
 ghost use lib.ListN.{length, drop};
-ghost use Rattle.names.specs.Classes.{classTable};
-ghost use Rattle.rules.specs.Names.{isDigit};
 ghost use Rattle.text_laws.specs.Reader.{behind, isNumberWord};
 ghost use Rattle.texts.specs.ExprPlaces.{LeafAt, WithinRead};
 
@@ -35,14 +33,6 @@ pub(crate) fn word_end(s: &[u8], at: usize) -> usize
     i
 }
 
-fn is_digit(classes: &[u8; 256], b: u8) -> bool
-    requires { ⌜ now classes ≡ classTable ⌝ }
-    ensures { λ r. ⌜ r ≡ isDigit b ⌝ }
-{
-    let i = b as usize;
-    classes[i] == DIGIT
-}
-
 // Digits without a leading 0, at most NUMBER_MOST.
 pub(crate) fn is_number(w: &[u8]) -> bool
     ensures { λ r. ⌜ r ≡ isNumberWord (now (w .entry)) ⌝ }
@@ -58,7 +48,7 @@ pub(crate) fn is_number(w: &[u8]) -> bool
     let mut i = 0;
     while i < w.len() {
         let c = w[i];
-        if !is_digit(&classes, c) {
+        if !is_digit_in(&classes, c) {
             return false;
         }
         v = v * 10 + (c as usize - 48);

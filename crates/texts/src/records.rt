@@ -59,8 +59,9 @@ fn put_tree(
     names: &[[u8; SHORT_MOST]; FIELDS_MOST],
     n: usize,
 ) -> usize
-    requires { ⌜ (t .at ≤ length (now line)) × (length (now line) ≤ textMost) × (n ≤ fieldsMost) × (t .size ≤ storedMost)
-        × (at + (2 + t .size) ≤ length (now out)) × ((o : Option (Tree (List ℕ))) × MaybeIs (now line) o t) ⌝ }
+    requires { ⌜ (t .at ≤ length (now line)) × (length (now line) ≤ textMost) × (n ≤ fieldsMost)
+        × (t .size ≤ storedMost) × (at + (2 + t .size) ≤ length (now out))
+        × ((o : Option (Tree (List ℕ))) × MaybeIs (now line) o t) ⌝ }
     ensures { λ r. ⌜ ((o : Option (Tree (List ℕ))) → MaybeIs (now (line .entry)) o t → Writes (now (out .entry)) at
         (counted (storedMaybe (Option·map (renameTree (lookUp (now (names .entry)) n)) o))) (now (out .exit)) r) ⌝ }
 {

@@ -1,5 +1,7 @@
 // The cells of a row, and a long row.
 use crate::text_bytes::part_end;
+use names::classes::class_table;
+use names::classes::is_space_in;
 use names::labels::is_label;
 ghost use mathlib.Core.Path.{_≡_};
 ghost use Prim.Native.Nat.{_≤_};
@@ -12,9 +14,10 @@ ghost use Rattle.texts.specs.FramePlaces.{isSome};
 pub(crate) fn spaces_end(s: &[u8]) -> usize
     ensures { λ r. ⌜ (r ≤ length (now (s .entry))) × (drop r (now (s .entry)) ≡ leftTrim (now (s .entry))) ⌝ }
 {
+    let classes = class_table();
     let mut i = 0;
     while i < s.len() {
-        if s[i] != b' ' {
+        if !is_space_in(&classes, s[i]) {
             return i;
         }
         i += 1;
@@ -26,9 +29,10 @@ pub(crate) fn spaces_end(s: &[u8]) -> usize
 pub(crate) fn trimmed(s: &[u8]) -> usize
     ensures { λ r. ⌜ (r ≤ length (now (s .entry))) × (take r (now (s .entry)) ≡ rightTrim (now (s .entry))) ⌝ }
 {
+    let classes = class_table();
     let mut n = s.len();
     while 0 < n {
-        if s[n - 1] != b' ' {
+        if !is_space_in(&classes, s[n - 1]) {
             return n;
         }
         n -= 1;

@@ -1,8 +1,9 @@
 // Stored expressions made of numbers, of names and of smaller ones.
-use crate::operators::level_of;
 use crate::stored_trees::StoredTree;
+use operators::rows::operator;
 use rules::Op;
 use rules::STORED_MOST;
+use rules::ValueType;
 ghost use mathlib.Core.Path.{_≡_};
 ghost use mathlib.Core.Bool.{cond};
 ghost use mathlib.Core.List.{[], _∷_, _++_};
@@ -10,7 +11,7 @@ ghost use Prim.Native.Nat.{_+_, _*_, _≤_};
 ghost use Rattle.rules.specs.Limits.{textMost, fieldsMost, storedMost};
 ghost use lib.Dec.{ltb};
 ghost use lib.ListN.{take};
-ghost use Rattle.rules.specs.Operators.{code, takes, gives, numberCode, fieldCode};
+ghost use Rattle.rules.specs.Operators.{numberCode, fieldCode};
 ghost use Rattle.rules.specs.Trees.{le4};
 ghost use Rattle.texts.specs.StoredTrees.{typeCode};
 ghost use Rattle.texts.specs.StoredPlaces.{Made, twoType, notType, NotMade, TwoMade};
@@ -52,45 +53,27 @@ fn joined(
     out
 }
 
-fn code_of(o: Op) -> u8
-    ensures { λ r. ⌜ r ≡ code o ⌝ }
+// A type as a number: 1 for a number, 2 for yes or no.
+fn type_code(t: ValueType) -> usize
+    ensures { λ r. ⌜ r ≡ typeCode t ⌝ }
 {
-    match o {
-        Op::Or => 0x31,
-        Op::And => 0x30,
-        Op::Eq => 0x20,
-        Op::Ne => 0x21,
-        Op::Lt => 0x22,
-        Op::Le => 0x23,
-        Op::Gt => 0x24,
-        Op::Ge => 0x25,
-        Op::Add => 0x10,
-        Op::Sub => 0x11,
-        Op::Mul => 0x12,
+    match t {
+        ValueType::Number => 1,
+        ValueType::YesNo => 2,
     }
 }
 
-// The type of both operands.
-fn takes_of(o: Op) -> usize
-    ensures { λ r. ⌜ r ≡ typeCode (takes o) ⌝ }
-{
-    if level_of(o) < 2 { 2 } else { 1 }
-}
-
-// The type of the whole.
-fn gives_of(o: Op) -> usize
-    ensures { λ r. ⌜ r ≡ typeCode (gives o) ⌝ }
-{
-    if level_of(o) < 3 { 2 } else { 1 }
-}
-
+// The type of the whole; 0 where an operand has not the type that the operator takes.
 fn two_type(o: Op, a: usize, b: usize) -> usize
     ensures { λ r. ⌜ r ≡ twoType o a b ⌝ }
 {
-    let t = takes_of(o);
+    let row = operator(o);
+    let takes = row.takes;
+    let t = type_code(takes);
     if a == t {
         if b == t {
-            return gives_of(o);
+            let gives = row.gives;
+            return type_code(gives);
         }
     }
     0
@@ -184,7 +167,8 @@ pub(crate) fn two_node(o: Op, a: StoredTree, b: StoredTree) -> StoredTree
     let left = a.bytes;
     let right = b.bytes;
     if len <= STORED_MOST {
-        let bytes = joined(code_of(o), left, x, right, y);
+        let row = operator(o);
+        let bytes = joined(row.code, left, x, right, y);
         return StoredTree {
             next: next,
             gives: gives,

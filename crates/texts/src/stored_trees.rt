@@ -3,16 +3,16 @@ use crate::held_names::look_up;
 use crate::leaves::is_number;
 use crate::leaves::word_end;
 use crate::numbers::word_value;
-use crate::operators::Sign;
-use crate::operators::left_of;
-use crate::operators::level_of;
-use crate::operators::operator_at;
+use crate::signs::Sign;
+use crate::signs::operator_at;
 use crate::stored_nodes::field_node;
 use crate::stored_nodes::no_tree;
 use crate::stored_nodes::not_node;
 use crate::stored_nodes::number_node;
 use crate::stored_nodes::two_node;
 use names::labels::is_short;
+use operators::rows::ATOM_LEVEL;
+use operators::rows::operator;
 use rules::FIELDS_MOST;
 use rules::OPEN_MOST;
 use rules::SHORT_MOST;
@@ -43,7 +43,7 @@ pub(crate) struct StoredTree {
 }
 
 // The short name or number at `at`.
-fn stored_leaf(s: &[u8], at: usize, names: &[[u8; SHORT_MOST]; FIELDS_MOST], n: usize) -> StoredTree
+fn tree_leaf(s: &[u8], at: usize, names: &[[u8; SHORT_MOST]; FIELDS_MOST], n: usize) -> StoredTree
     requires { ⌜ (at ≤ length (now s)) × (n ≤ fieldsMost) ⌝ }
     ensures place { λ r. ⌜ WithinStored (now (s .entry)) (at + 1) at 0 r ⌝ }
     ensures same { λ r. ⌜ LeafStored (now (names .entry)) n (now (s .entry)) at r ⌝ }
@@ -61,7 +61,7 @@ fn stored_leaf(s: &[u8], at: usize, names: &[[u8; SHORT_MOST]; FIELDS_MOST], n: 
 }
 
 // The closing parenthesis behind an expression; the whole is the expression, or its negation.
-fn stored_closed(s: &[u8], p: StoredTree, neg: bool) -> StoredTree
+fn tree_closed(s: &[u8], p: StoredTree, neg: bool) -> StoredTree
     requires { ⌜ (p .next ≤ length (now s)) × (length (now s) ≤ textMost) × (p .len ≤ 5 * p .next) ⌝ }
     ensures place { λ r. ⌜ WithinStored (now (s .entry)) (p .next + 1) (p .next) (p .len) r ⌝ }
     ensures same { λ r. ⌜ ClosedStored (now (s .entry)) neg p r ⌝ }
@@ -86,7 +86,7 @@ fn stored_closed(s: &[u8], p: StoredTree, neg: bool) -> StoredTree
 }
 
 // At level `k` and tighter, with `b` parentheses that may be opened.
-fn stored_expr(
+fn tree_expr(
     s: &[u8],
     at: usize,
     k: u8,
@@ -98,16 +98,16 @@ fn stored_expr(
     ensures place { λ r. ⌜ WithinStored (now (s .entry)) (at + 1) at 0 r ⌝ }
     ensures same { λ r. ⌜ ExprStored (now (names .entry)) n (now (s .entry)) at k b r ⌝ }
 {
-    let a = stored_atom(s, at, b, names, n);
+    let a = tree_atom(s, at, b, names, n);
     let next = a.next;
     if a.len == 0 {
         return a;
     }
-    stored_more(s, next, k, 5, b, a, names, n)
+    tree_more(s, next, k, ATOM_LEVEL, b, a, names, n)
 }
 
 // `!(`, `(` or a word.
-fn stored_atom(
+fn tree_atom(
     s: &[u8],
     at: usize,
     b: u8,
@@ -123,16 +123,16 @@ fn stored_atom(
     }
     let c = s[at];
     if c == b'!' {
-        return stored_inside(s, at + 1, b, true, names, n);
+        return tree_inside(s, at + 1, b, true, names, n);
     }
     if c == b'(' {
-        return stored_inside(s, at, b, false, names, n);
+        return tree_inside(s, at, b, false, names, n);
     }
-    stored_leaf(s, at, names, n)
+    tree_leaf(s, at, names, n)
 }
 
 // An expression in parentheses, or its negation.
-fn stored_inside(
+fn tree_inside(
     s: &[u8],
     at: usize,
     b: u8,
@@ -153,15 +153,15 @@ fn stored_inside(
     if s[at] != b'(' {
         return no_tree();
     }
-    let e = stored_expr(s, at + 1, 0, b - 1, names, n);
+    let e = tree_expr(s, at + 1, 0, b - 1, names, n);
     if e.len == 0 {
         return e;
     }
-    stored_closed(s, e, neg)
+    tree_closed(s, e, neg)
 }
 
 // What goes on behind an expression of level `h` that ends at `at`.
-fn stored_more(
+fn tree_more(
     s: &[u8],
     at: usize,
     k: u8,
@@ -180,16 +180,17 @@ fn stored_more(
     match g {
         Sign::Nothing => left,
         Sign::At(o, end) => {
-            let l = level_of(o);
+            let row = operator(o);
+            let l = row.level;
             if k <= l {
-                if left_of(o) <= h {
-                    let y = stored_expr(s, end, l + 1, b, names, n);
+                if row.left <= h {
+                    let y = tree_expr(s, end, row.right, b, names, n);
                     if y.len == 0 {
                         return y;
                     }
                     let t = two_node(o, left, y);
                     let next = t.next;
-                    return stored_more(s, next, k, l, b, t, names, n);
+                    return tree_more(s, next, k, l, b, t, names, n);
                 }
             }
             left
@@ -207,5 +208,5 @@ pub(crate) fn stored_tree(
     requires { ⌜ (at ≤ length (now s)) × (length (now s) ≤ textMost) × (n ≤ fieldsMost) ⌝ }
     ensures { λ r. ⌜ StoredFor (now (names .entry)) n (readTree (drop at (now (s .entry)))) r ⌝ }
 {
-    stored_expr(s, at, 0, OPEN_MOST, names, n)
+    tree_expr(s, at, 0, OPEN_MOST, names, n)
 }

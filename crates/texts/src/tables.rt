@@ -58,7 +58,8 @@ fn put_lines(
     names: &[[u8; SHORT_MOST]; FIELDS_MOST],
     n: usize,
 ) -> usize
-    requires { ⌜ (length (now text) ≤ textMost) × (n ≤ fieldsMost) × ((i : ℕ) → i < n → LineSmall (now text) (lineAt lines i))
+    requires { ⌜ (length (now text) ≤ textMost) × (n ≤ fieldsMost)
+        × ((i : ℕ) → i < n → LineSmall (now text) (lineAt lines i))
         × (at + sizeFrom lines 0 n ≤ length (now out)) ⌝ }
     ensures { λ r. ⌜ (r ≡ at + sizeFrom lines 0 n) × (length (now (out .exit)) ≡ length (now (out .entry)))
         × ((forms : List Form) → length forms ≡ n → AllSmall (now (text .entry)) lines forms
@@ -111,7 +112,8 @@ pub(crate) fn put_table(
     names: &[[u8; SHORT_MOST]; FIELDS_MOST],
     n: usize,
 ) -> usize
-    requires { ⌜ (length (now text) ≤ textMost) × (n ≤ fieldsMost) × ((i : ℕ) → i < n → LineSmall (now text) (lineAt lines i))
+    requires { ⌜ (length (now text) ≤ textMost) × (n ≤ fieldsMost)
+        × ((i : ℕ) → i < n → LineSmall (now text) (lineAt lines i))
         × (from ≤ to) × (to ≤ length (now text)) × (14 + (to - from) + sizeFrom lines 0 n ≤ length (now out)) ⌝ }
     ensures { λ r. ⌜ ((forms : List Form) → length forms ≡ n → AllSmall (now (text .entry)) lines forms
         → Writes (now (out .entry)) 0 (tableOf (now (names .entry)) (take (to - from) (drop from (now (text .entry)))) w

@@ -54,9 +54,18 @@ no-two-spaces-requires c κs = search needs
 returns-4 : tie.Need-returns-4
 unfolding isLabel
 returns-4 c =
-    let a = sym (c .before .before .before .before .before .before .all-bytes .ensures) ∙ not-false (c .before .before .before .before .before .before .all-bytes .result) (c .before .before .before .before .before .if2 .left) in
-    let e = sym (c .before .before .before .has-word-ends .ensures) ∙ not-false (c .before .before .before .has-word-ends .result) (c .before .before .if3 .left) in
-    rw (le-leb (length (now (c .before .before .before .before .before .before .before .before .before .before .before .args .w))) labelMost (c .before .before .before .before .before .before .before .before .before .if1 .left), a, e) (c .no-two-spaces .ensures)
+    let a = sym (c .before .before .before .before .before .before .all-bytes .ensures) ∙ not-false
+    (c .before .before .before .before .before .before .all-bytes .result)
+    (c .before .before .before .before .before .if2 .left) in
+    let e = sym (c .before .before .before .has-word-ends .ensures) ∙ not-false
+    (c .before .before .before .has-word-ends .result) (c .before .before .if3 .left) in
+    rw (
+      le-leb (length (now (c .before .before .before .before .before .before .before .before .before .before
+          .before .args .w))) labelMost (c .before .before .before .before .before .before .before .before .before .if1
+          .left),
+      a,
+      e,
+    ) (c .no-two-spaces .ensures)
 
 pub is-label-spec : {M : Type 1} → statement M
 is-label-spec =

@@ -31,15 +31,19 @@ is-letter-in-requires c κs = search needs
 returns-2 : tie.Need-returns-2
 returns-2 c =
     let w = now (c .before .before .before .before .before .before .before .args .w) in
-    let first = letter-in _ (c .before .before .before .before .class-table .ensures) (getD w 0 0) (omega (arith, c .before .before .shared-slice-known2 .given 0)) in
-    let a = sym first ∙ sym (c .before .is-letter-in .ensures) ∙ not-true (c .before .is-letter-in .result) (c .if2 .taken) in
+    let first = letter-in _ (c .before .before .before .before .class-table .ensures) (getD w 0 0) (omega
+    (arith, c .before .before .shared-slice-known2 .given 0)) in
+    let a = sym first ∙ sym (c .before .is-letter-in .ensures) ∙ not-true (c .before .is-letter-in .result)
+    (c .if2 .taken) in
     sym (short-is w (omega arith) ∙ rw a)
 
 returns-3 : tie.Need-returns-3
 returns-3 c =
     let w = now (c .before .before .before .before .before .before .before .before .args .w) in
-    let first = letter-in _ (c .before .before .before .before .before .class-table .ensures) (getD w 0 0) (omega (arith, c .before .before .before .shared-slice-known2 .given 0)) in
-    let a = sym first ∙ sym (c .before .before .is-letter-in .ensures) ∙ not-false (c .before .before .is-letter-in .result) (c .before .if2 .left) in
+    let first = letter-in _ (c .before .before .before .before .before .class-table .ensures) (getD w 0 0) (omega
+    (arith, c .before .before .before .shared-slice-known2 .given 0)) in
+    let a = sym first ∙ sym (c .before .before .is-letter-in .ensures) ∙ not-false
+    (c .before .before .is-letter-in .result) (c .before .if2 .left) in
     sym (short-is w (omega arith) ∙ rw (a, lt-leb (length w) shortMost (c .if3 .taken)))
 
 all-bytes-requires : tie.Need-all-bytes-requires
@@ -48,8 +52,11 @@ all-bytes-requires c κs = search needs
 returns-4 : tie.Need-returns-4
 returns-4 c =
     let w = now (c .before .before .before .before .before .before .before .before .before .before .before .args .w) in
-    let first = letter-in _ (c .before .before .before .before .before .before .before .before .class-table .ensures) (getD w 0 0) (omega (arith, c .before .before .before .before .before .before .shared-slice-known2 .given 0)) in
-    let a = sym first ∙ sym (c .before .before .before .before .before .is-letter-in .ensures) ∙ not-false (c .before .before .before .before .before .is-letter-in .result) (c .before .before .before .before .if2 .left) in
+    let first = letter-in _ (c .before .before .before .before .before .before .before .before .class-table .ensures)
+    (getD w 0 0) (omega (arith, c .before .before .before .before .before .before .shared-slice-known2 .given 0)) in
+    let a = sym first ∙ sym (c .before .before .before .before .before .is-letter-in .ensures) ∙ not-false
+    (c .before .before .before .before .before .is-letter-in .result)
+    (c .before .before .before .before .if2 .left) in
     let b = sym (c .before .all-bytes .ensures) ∙ not-true (c .before .all-bytes .result) (c .if4 .taken) in
     sym (short-is w (omega arith) ∙ rw (a, le-leb (length w) shortMost (c .before .before .before .if3 .left), b))
 
@@ -58,11 +65,26 @@ is-reserved-requires c κs = search needs
 
 returns-5 : tie.Need-returns-5
 returns-5 c =
-    let w = now (c .before .before .before .before .before .before .before .before .before .before .before .before .args .w) in
-    let first = letter-in _ (c .before .before .before .before .before .before .before .before .before .class-table .ensures) (getD w 0 0) (omega (arith, c .before .before .before .before .before .before .before .shared-slice-known2 .given 0)) in
-    let a = sym first ∙ sym (c .before .before .before .before .before .before .is-letter-in .ensures) ∙ not-false (c .before .before .before .before .before .before .is-letter-in .result) (c .before .before .before .before .before .if2 .left) in
-    let b = sym (c .before .before .all-bytes .ensures) ∙ not-false (c .before .before .all-bytes .result) (c .before .if4 .left) in
-    sym (short-is w (omega arith) ∙ rw (a, le-leb (length w) shortMost (c .before .before .before .before .if3 .left), b, ← c .is-reserved .ensures))
+    let w = now (c .before .before .before .before .before .before .before .before .before .before .before .before
+    .args .w) in
+    let first = letter-in _ (c .before .before .before .before .before .before .before .before .before .class-table
+    .ensures) (getD w 0 0) (omega (
+      arith,
+      c .before .before .before .before .before .before .before
+          .shared-slice-known2 .given 0,
+    )) in
+    let a = sym first ∙ sym (c .before .before .before .before .before .before .is-letter-in .ensures) ∙ not-false
+    (c .before .before .before .before .before .before .is-letter-in .result)
+    (c .before .before .before .before .before .if2 .left) in
+    let b = sym (c .before .before .all-bytes .ensures) ∙ not-false (c .before .before .all-bytes .result)
+    (c .before .if4 .left) in
+    sym (short-is w (omega arith) ∙ rw (
+      a,
+      le-leb (length w) shortMost
+          (c .before .before .before .before .if3 .left),
+      b,
+      ← c .is-reserved .ensures,
+    ))
 
 pub is-short-spec : {M : Type 1} → statement M
 is-short-spec =

@@ -43,11 +43,19 @@ returns : tie.Need-returns Inv-loop μ-loop
 returns c =
     let w = now (c .before .before .before .before .before .before .before .before .before .args .w) in
     let i = c .before .before .before .before .before .before .before .loop .i in
-    let tells = space-in (now (c .before .before .before .before .before .before .before .before .before .args .classes)) (c .before .before .before .before .before .before .before .before .before .pre) in
-    let before = tells (getD w (i - 1) 0) (omega (arith, c .before .before .before .before .before .before .before .before .shared-slice-known .given (i - 1))) in
-    let here = tells (getD w i 0) (omega (arith, c .before .before .before .before .before .before .before .before .shared-slice-known .given i)) in
-    sym (c .before .before .before .before .before .before .before .loop .inv .1 ∙ spaces-pair w i (omega arith) (omega arith)
-    (sym before ∙ sym (c .before .before .before .before .is-space-in .ensures) ∙ c .before .before .before .if1 .taken) (sym here ∙ sym (c .before .is-space-in2 .ensures) ∙ c .if2 .taken))
+    let tells = space-in (now (c .before .before .before .before .before .before .before .before .before .args
+    .classes)) (c .before .before .before .before .before .before .before .before .before .pre) in
+    let before = tells (getD w (i - 1) 0) (omega
+    (arith, c .before .before .before .before .before .before .before .before .shared-slice-known .given (i - 1))) in
+    let here = tells (getD w i 0) (omega (
+      arith,
+      c .before .before .before .before .before .before .before .before
+          .shared-slice-known .given i,
+    )) in
+    sym (c .before .before .before .before .before .before .before .loop .inv .1 ∙ spaces-pair w i (omega arith)
+    (omega arith)
+    (sym before ∙ sym (c .before .before .before .before .is-space-in .ensures) ∙ c .before .before .before .if1
+    .taken) (sym here ∙ sym (c .before .is-space-in2 .ensures) ∙ c .if2 .taken))
 
 add-i : tie.Need-add-i Inv-loop μ-loop
 add-i c = search needs
@@ -63,7 +71,8 @@ loop-again c =
     let bytes = c .before .before .before .before .before .shared-slice-known .given in
     let tells = space-in (now (c .before .before .before .before .before .before .args .classes))
     (c .before .before .before .before .before .before .pre) in
-    let before = sym (tells (getD w (i - 1) 0) (omega (arith, bytes (i - 1)))) ∙ sym (c .before .is-space-in .ensures) in
+    let before = sym (tells (getD w (i - 1) 0) (omega (arith, bytes (i - 1)))) ∙ sym
+    (c .before .is-space-in .ensures) in
     let here = tells (getD w i 0) (omega (arith, bytes i)) in
     let e : i + 1 - 1 ≡ i = omega arith in (
       omega arith,

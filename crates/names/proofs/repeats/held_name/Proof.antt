@@ -11,7 +11,7 @@ use Rattle.names.proofs.repeats.held_name.Statement.{statement}
 use Rattle.names.proofs.repeats.held_name.Tie as tie
 use Rattle.names.proofs.repeats.held_name.Reads as reads
 use Rattle.names.proofs.repeats.held_name.Lts as lts
-use Rattle.names.proofs.repeats.byte_of.Reads as byte-of-reads
+use Rattle.names.proofs.words.byte_of.Reads as byte-of-reads
 
 abbrev Inv-loop : tie.InvT-loop
 Inv-loop w name₀ i₀ name i = (i ≤ shortMost) × (length name ≡ shortMost) × (take i name ≡ padTo i w)

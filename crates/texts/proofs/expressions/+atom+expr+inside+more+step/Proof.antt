@@ -1,14 +1,13 @@
 use borrow.Author.Needs.{needs}
 use Prim.Native.Nat.{ℕ, _<_, _≤_, _+_, _*_, _-_}
+use mathlib.Core.Logic.{inl, inr}
 use mathlib.Core.Path.{_≡_, refl, sym, _∙_}
 use native.Mathlib.Omega.{arith}
 use lib.ListN.{length}
-use Rattle.rules.specs.Operators.{level, leftLevel}
-use Rattle.text_laws.proofs.OperatorTable.{level-lt}
 use Rattle.texts.proofs.ExprSigns.{sign-within}
 use Rattle.texts.proofs.ExprSteps.{within-got, within-up, within-fail, within-here, expr-fail, expr-go}
 use Rattle.texts.proofs.ExprSteps.{max-most}
-use Rattle.texts.proofs.ExprSteps.{more-none, more-stop, more-fail, more-go, stop-level, stop-left}
+use Rattle.texts.proofs.ExprSteps.{more-none, more-stop, more-fail, more-go}
 use Rattle.texts.proofs.ExprSteps.{next-fail, next-stop, next-on, failed, stopped, gone-on}
 use Rattle.texts.specs.ExprPlaces.{MoreAt}
 use Rattle.texts.specs.declared.leaves.Read.{Read}
@@ -34,9 +33,8 @@ use Rattle.texts.proofs.expressions.+atom+expr+inside+more+step.Lts-ste
 use Rattle.texts.proofs.expressions.closed.Reads as closed-reads
 use Rattle.texts.proofs.expressions.larger.Reads as larger-reads
 use Rattle.texts.proofs.leaves.leaf_at.Reads as leaf-at-reads
-use Rattle.texts.proofs.operators.left_of.Reads as left-of-reads
-use Rattle.texts.proofs.operators.level_of.Reads as level-of-reads
-use Rattle.texts.proofs.operators.operator_at.Reads as operator-at-reads
+use Rattle.operators.proofs.rows.operator.Reads as operator-reads
+use Rattle.texts.proofs.signs.operator_at.Reads as operator-at-reads
 use Rattle.texts.proofs.expressions.+atom+expr+inside+more+step.{statement}
 use Rattle.texts.proofs.expressions.+atom+expr+inside+more+step.Tie.{close}
 
@@ -105,10 +103,8 @@ abbrev step-calls : ℕ → step-lts.Claims
 step-calls t = (
   operator-at-reads.Asked,
   operator-at-reads.Learnt,
-  level-of-reads.Asked,
-  level-of-reads.Learnt,
-  left-of-reads.Asked,
-  left-of-reads.Learnt,
+  operator-reads.Asked,
+  operator-reads.Learnt,
   expr-below t,
   expr.Post,
   larger-reads.Asked,
@@ -336,21 +332,8 @@ step-enum-told t c = search needs
 step-enum-known-g : (t : ℕ) → step-lts.Need-enum-known-g (step-calls t) (step-at t) step.Post
 step-enum-known-g t c = search needs
 
-step-level-of-requires : (t : ℕ) → step-lts.Need-level-of-requires (step-calls t) (step-at t) step.Post
-step-level-of-requires t c κs = search needs
-
-step-left-of-requires : (t : ℕ) → step-lts.Need-left-of-requires (step-calls t) (step-at t) step.Post
-step-left-of-requires t c κs = search needs
-
-step-add-expr : (t : ℕ) → step-lts.Need-add-expr (step-calls t) (step-at t) step.Post
-step-add-expr t c =
-    let a = c .before .before .before .before .before .before .before .before .before .args in
-    let v = c .before .before .before .before .before .g .given .0 in
-    let u = sign-within (a .s .now) (a .at) _ (v .0) (v .1 .0)
-    (c .before .before .before .before .before .g .given .1)
-    (c .before .before .before .before .before .before .before .operator-at .ensures .0) in
-    let lt = level-lt (v .0) in
-    omega (arith, c .before .before .before .level-of .ensures, lt)
+step-operator-requires : (t : ℕ) → step-lts.Need-operator-requires (step-calls t) (step-at t) step.Post
+step-operator-requires t c κs = search needs
 
 step-expr-requires : (t : ℕ) → step-lts.Need-expr-requires (step-calls t) (step-at t) step.Post
 step-expr-requires t c κs =
@@ -367,34 +350,31 @@ step-enum-known-y t c = search needs
 step-larger-requires : (t : ℕ) → step-lts.Need-larger-requires (step-calls t) (step-at t) step.Post
 step-larger-requires t c κs = search needs
 
-step-add-t23 : (t : ℕ) → step-lts.Need-add-t23 (step-calls t) (step-at t) step.Post
-step-add-t23 t c =
-    let u = sign-within _ _ _ _ _
-    (c .before .before .before .before .before .before .before .before .before .before .g .given .1)
-    (c .before .before .before .before .before .before .before .before .before .before .before .before .operator-at
-    .ensures .0) in
+step-add-t22 : (t : ℕ) → step-lts.Need-add-t22 (step-calls t) (step-at t) step.Post
+step-add-t22 t c =
+    let u = sign-within _ _ _ _ _ (c .before .before .before .before .before .before .before .before .before .before
+    .g .given .1) (c .before .before .before .before .before .before .before .before .before .before .before .before
+    .operator-at .ensures .0) in
     let w = within-got _ _ _ _ _ _ _ _ _ (c .before .before .y .given .1)
     (c .before .before .before .before .expr .ensures .0) in
     let m = max-most (c .before .before .before .before .before .before .before .before .before .before .before
     .before .before .before .args .d) (c .before .before .y .given .0 .1 .0) in
     omega (arith, c .larger .ensures)
 
-step-add-t24 : (t : ℕ) → step-lts.Need-add-t24 (step-calls t) (step-at t) step.Post
-step-add-t24 t c =
-    let u = sign-within _ _ _ _ _
-    (c .before .before .before .before .before .before .before .before .before .before .g .given .1)
-    (c .before .before .before .before .before .before .before .before .before .before .before .before .operator-at
-    .ensures .0) in
+step-add-t23 : (t : ℕ) → step-lts.Need-add-t23 (step-calls t) (step-at t) step.Post
+step-add-t23 t c =
+    let u = sign-within _ _ _ _ _ (c .before .before .before .before .before .before .before .before .before .before
+    .g .given .1) (c .before .before .before .before .before .before .before .before .before .before .before .before
+    .operator-at .ensures .0) in
     let w = within-got _ _ _ _ _ _ _ _ _ (c .before .before .y .given .1)
     (c .before .before .before .before .expr .ensures .0) in
     omega arith
 
-step-add-t25 : (t : ℕ) → step-lts.Need-add-t25 (step-calls t) (step-at t) step.Post
-step-add-t25 t c =
-    let u = sign-within _ _ _ _ _
-    (c .before .before .before .before .before .before .before .before .before .before .g .given .1)
-    (c .before .before .before .before .before .before .before .before .before .before .before .before .operator-at
-    .ensures .0) in
+step-add-t24 : (t : ℕ) → step-lts.Need-add-t24 (step-calls t) (step-at t) step.Post
+step-add-t24 t c =
+    let u = sign-within _ _ _ _ _ (c .before .before .before .before .before .before .before .before .before .before
+    .g .given .1) (c .before .before .before .before .before .before .before .before .before .before .before .before
+    .operator-at .ensures .0) in
     let w = within-got _ _ _ _ _ _ _ _ _ (c .before .before .y .given .1)
     (c .before .before .before .before .expr .ensures .0) in
     omega arith
@@ -403,54 +383,46 @@ step-returns : (t : ℕ) → step-lts.Need-returns (step-calls t) (step-at t) st
 step-returns t c =
     let a = c .before .before .before .before .before .before .before .before .before .before .before .before .args in
     let v = c .before .before .before .before .before .before .before .before .g .given .0 in
-    let u = sign-within (a .s .now) (a .at) _ (v .0) (v .1 .0) (c .before .before .before .before .before .before
-    .before .before .g .given .1) (c .before .before .before .before .before .before .before .before .before
-    .before .operator-at .ensures .0) in
-    let eh : leftLevel (v .0) ≤ a .h = omega (
-      arith,
-      c .before .before .before .before .left-of .ensures,
-      c .before
-          .before .before .if2 .taken,
-    ) in
+    let u = sign-within (a .s .now) (a .at) _ (v .0) (v .1 .0)
+    (c .before .before .before .before .before .before .before .before .g .given .1)
+    (c .before .before .before .before .before .before .before .before .before .before .operator-at .ensures .0) in
     next-fail (a .s .now) (a .at) (a .k) (a .h) (a .b) (a .d) (a .z)
-    (more-fail (a .s .now) (a .at) (a .k) (a .h) (a .b) (a .d) (a .z) _ (c .before .before .before .before .before
-    .before .before .before .before .before .operator-at .ensures .1)
-    (v .0) (v .1 .0) (c .before .before .before .before .before .before .level-of .result) (c .before .before
-    .before .before .before .before .before .before .g .given .1) (sym (c .before .before .before .before
-    .before .before .level-of .ensures))
-    (c .before .before .before .before .before .if1 .taken) eh (u .0) (u .1) _ (c .before .before .expr .ensures .1)
-    (c .enum-told2 .given .1))
+    (more-fail (a .s .now) (a .at) (a .k) (a .h) (a .b) (a .d) (a .z) _
+    (c .before .before .before .before .before .before .before .before .before .before .operator-at .ensures .1)
+    (v .0) (v .1 .0)
+    (c .before .before .before .before .before .before .before .before .g .given .1)
+    (c .before .before .before .before .before .before .operator .result)
+    (c .before .before .before .before .before .before .operator .ensures)
+    (c .before .before .before .before .before .if1 .taken) (c .before .before .before .if2 .taken) (u .0) (u .1) _
+    (c .before .before .expr .ensures .1) (c .enum-told2 .given .1))
 
 step-returns-2 : (t : ℕ) → step-lts.Need-returns-2 (step-calls t) (step-at t) step.Post
 step-returns-2 t c =
-    let a = c .before .before .before .before .before .before .before .before .before .before .before .before
-    .before .before .args in
+    let a = c .before .before .before .before .before .before .before .before .before .before .before .before .before
+    .before .args in
     let v = c .before .before .before .before .before .before .before .before .before .before .g .given .0 in
-    let u = sign-within (a .s .now) (a .at) _ (v .0) (v .1 .0) (c .before .before .before .before .before .before
-    .before .before .before .before .g .given .1) (c .before .before .before .before .before .before .before
-    .before .before .before .before .before .operator-at .ensures .0) in
+    let u = sign-within (a .s .now) (a .at) _ (v .0) (v .1 .0)
+    (c .before .before .before .before .before .before .before .before .before .before .g .given .1)
+    (c .before .before .before .before .before .before .before .before .before .before .before .before .operator-at
+    .ensures .0) in
     let y = c .before .before .y .given .0 in
-    let w = within-got (a .s .now) (v .1 .0 + 1) (v .1 .0) 0 0 _ (y .0) (y .1 .0) (y .1 .1 .0) (c .before .before .y
-    .given .1)
+    let w = within-got (a .s .now) (v .1 .0 + 1) (v .1 .0) 0 0 _ (y .0) (y .1 .0) (y .1 .1 .0)
+    (c .before .before .y .given .1)
     (c .before .before .before .before .expr .ensures .0) in
     let m = max-most (a .d) (y .1 .0) in
     let x : c .larger .result ≤ a .d + y .1 .0 = rw (c .larger .ensures) m in
-    let eh : leftLevel (v .0) ≤ a .h = omega (
-      arith,
-      c .before .before .before .before .before .before .left-of
-          .ensures,
-      c .before .before .before .before .before .if2 .taken,
-    ) in
     next-on (a .s .now) (a .at) (a .k) (a .h) (a .b) (a .d) (a .z) _ _ _ _
     (omega arith) (w .1) (omega arith) (omega arith)
-    (λ r z. more-go (a .s .now) (a .at) (a .k) (a .h) (a .b) (a .d) (a .z) _ (c .before .before .before .before
-    .before .before .before .before .before .before .before .before .operator-at .ensures .1)
-    (v .0) (v .1 .0) (c .before .before .before .before .before .before .before .before .level-of .result) (c
-    .before .before .before .before .before .before .before .before .before .before .g .given .1) (sym (c
-    .before .before .before .before .before .before .before .before .level-of .ensures)) (c .before .before
-    .before .before .before .before .before .if1 .taken) eh (u .0) (u .1) _
-    (c .before .before .before .before .expr .ensures .1) (y .0) (y .1 .0) (y .1 .1 .0) (c .larger .result) (c
-    .before .before .y .given .1) (omega arith) (w .1)
+    (λ r z. more-go (a .s .now) (a .at) (a .k) (a .h) (a .b) (a .d) (a .z) _
+    (c .before .before .before .before .before .before .before .before .before .before .before .before .operator-at
+    .ensures .1) (v .0) (v .1 .0)
+    (c .before .before .before .before .before .before .before .before .before .before .g .given .1)
+    (c .before .before .before .before .before .before .before .before .operator .result)
+    (c .before .before .before .before .before .before .before .before .operator .ensures)
+    (c .before .before .before .before .before .before .before .if1 .taken)
+    (c .before .before .before .before .before .if2 .taken) (u .0) (u .1) _
+    (c .before .before .before .before .expr .ensures .1) (y .0) (y .1 .0) (y .1 .1 .0) (c .larger .result)
+    (c .before .before .y .given .1) (omega arith) (w .1)
     (c .larger .ensures) r z)
 
 step-returns-3 : (t : ℕ) → step-lts.Need-returns-3 (step-calls t) (step-at t) step.Post
@@ -464,28 +436,21 @@ step-returns-4 : (t : ℕ) → step-lts.Need-returns-4 (step-calls t) (step-at t
 step-returns-4 t c =
     let a = c .before .before .before .before .before .before .before .before .before .args in
     let v = c .before .before .before .before .before .g .given .0 in
-    let out = stop-left (a .k) (level (v .0)) (leftLevel (v .0)) (a .h)
-    (omega (arith, c .before .before .before .level-of .ensures, c .before .before .if1 .taken)) (omega (
-      arith,
-      c
-          .before .left-of .ensures,
-      c .if2 .left,
-    )) in
     next-stop (a .s .now) (a .at) (a .k) (a .h) (a .b) (a .d) (a .z)
-    (more-stop (a .s .now) (a .at) (a .k) (a .h) (a .b) (a .d) (a .z) _ (c .before .before .before .before .before
-    .before .before .operator-at .ensures .1) (v .0) (v .1 .0)
-    (c .before .before .before .before .before .g .given .1) out)
+    (more-stop (a .s .now) (a .at) (a .k) (a .h) (a .b) (a .d) (a .z) _
+    (c .before .before .before .before .before .before .before .operator-at .ensures .1) (v .0) (v .1 .0)
+    (c .before .before .before .before .before .g .given .1) (c .before .before .before .operator .result)
+    (c .before .before .before .operator .ensures) (inr (omega (arith, c .if2 .left))))
 
 step-returns-5 : (t : ℕ) → step-lts.Need-returns-5 (step-calls t) (step-at t) step.Post
 step-returns-5 t c =
     let a = c .before .before .before .before .before .before .before .args in
     let v = c .before .before .before .g .given .0 in
-    let out = stop-level (a .k) (level (v .0)) (leftLevel (v .0)) (a .h)
-    (omega (arith, c .before .level-of .ensures, c .if1 .left)) in
     next-stop (a .s .now) (a .at) (a .k) (a .h) (a .b) (a .d) (a .z)
-    (more-stop (a .s .now) (a .at) (a .k) (a .h) (a .b) (a .d) (a .z) _ (c .before .before .before .before .before
-    .operator-at .ensures .1) (v .0) (v .1 .0)
-    (c .before .before .before .g .given .1) out)
+    (more-stop (a .s .now) (a .at) (a .k) (a .h) (a .b) (a .d) (a .z) _
+    (c .before .before .before .before .before .operator-at .ensures .1) (v .0) (v .1 .0)
+    (c .before .before .before .g .given .1) (c .before .operator .result) (c .before .operator .ensures) (inl
+    (omega (arith, c .if1 .left))))
 
 pub +atom+expr+inside+more+step-spec : {M : Type 1} → statement M
 +atom+expr+inside+more+step-spec = close μ-atom μ-expr μ-inside μ-more μ-step
@@ -502,7 +467,7 @@ pub +atom+expr+inside+more+step-spec : {M : Type 1} → statement M
     (more-step-requires t) (more-enum-told t) (more-returns t) (more-enum-told-2 t) (more-returns-2 t)
     (more-enum-known-next t) (more-loop-less t) (more-loop-again t))
     λ t. step-lts.spec (step-calls t) (step-at t) step.Post (step-operator-at-requires t) (step-enum-told t)
-    (step-enum-known-g t) (step-level-of-requires t) (step-left-of-requires t) (step-add-expr t)
-    (step-expr-requires t) (step-enum-told-2 t) (step-enum-known-y t) (step-larger-requires t) (step-add-t23 t)
-    (step-add-t24 t) (step-add-t25 t) (step-returns t) (step-returns-2 t)
+    (step-enum-known-g t) (step-operator-requires t) (step-expr-requires t) (step-enum-told-2 t)
+    (step-enum-known-y t) (step-larger-requires t) (step-add-t22 t)
+    (step-add-t23 t) (step-add-t24 t) (step-returns t) (step-returns-2 t)
     (step-returns-3 t) (step-returns-4 t) (step-returns-5 t)

@@ -8,6 +8,7 @@ use lib.ListN.{length, drop, getD}
 use Rattle.base.specs.Lists.{all}
 use Rattle.text_laws.specs.Reader.{scan, wordValue}
 use Rattle.rules.specs.Names.{isDigit}
+use Rattle.names.proofs.ClassRules.{digit-in}
 use Rattle.texts.proofs.ExprLeaves.{digit-range, all-step, all-stop, all-end, scan-step, scan-end, scan-ge}
 use Rattle.texts.proofs.ExprLeaves.{number-empty, number-zero, number-other, number-large, number-yes}
 use borrow.Author.Needs.{needs}
@@ -16,7 +17,7 @@ use Rattle.texts.proofs.leaves.is_number.Tie as tie
 use Rattle.texts.proofs.leaves.is_number.Reads as reads
 use Rattle.texts.proofs.leaves.is_number.Lts as lts
 use Rattle.names.proofs.classes.class_table.Reads as class-table-reads
-use Rattle.texts.proofs.leaves.is_digit.Reads as is-digit-reads
+use Rattle.names.proofs.classes.is_digit_in.Reads as is-digit-in-reads
 
 abbrev Inv-loop : tie.InvT-loop
 Inv-loop w classes v₀ i₀ v i = (i ≤ length w) × (v ≤ numberMost) × (wordValue w ≡ scan v (drop i w)) ×
@@ -44,8 +45,8 @@ loop-holds c = (omega arith, omega arith, refl, refl)
 shared-slice-read-c : tie.Need-shared-slice-read-c Inv-loop μ-loop
 shared-slice-read-c c = search needs
 
-is-digit-requires : tie.Need-is-digit-requires Inv-loop μ-loop
-is-digit-requires c κs = search needs
+is-digit-in-requires : tie.Need-is-digit-in-requires Inv-loop μ-loop
+is-digit-in-requires c κs = search needs
 
 returns-3 : tie.Need-returns-3 Inv-loop μ-loop
 returns-3 c =
@@ -53,8 +54,12 @@ returns-3 c =
     let i = c .before .before .before .before .before .loop .i in
     let v = c .before .before .before .before .before .loop .v in
     let inv = c .before .before .before .before .before .loop .inv in
-    let n : isDigit (getD w i 0) ≡ false = sym (c .before .is-digit .ensures) ∙ not-true
-    (c .before .is-digit .result) (c .if3 .taken) in
+    let byte : getD w i 0 < 256 = omega (arith, c .before .before .before .shared-slice-known3 .given i) in
+    let n : isDigit (getD w i 0) ≡ false =
+    sym (digit-in (c .before .before .before .before .before .before .class-table .result)
+    (c .before .before .before .before .before .before .class-table .ensures) (getD w i 0) byte) ∙ sym
+    (c .before .is-digit-in .ensures)
+    ∙ not-true (c .before .is-digit-in .result) (c .if3 .taken) in
     sym (number-other w (inv .3 ∙ all-stop isDigit w i (omega arith) n))
 
 mul-v : tie.Need-mul-v Inv-loop μ-loop
@@ -66,8 +71,12 @@ cast-v c =
     let i = c .before .before .before .before .before .loop .i in
     let v = c .before .before .before .before .before .loop .v in
     let inv = c .before .before .before .before .before .loop .inv in
-    let y : isDigit (getD w i 0) ≡ true = sym (c .before .is-digit .ensures) ∙ not-false
-    (c .before .is-digit .result) (c .if3 .left) in
+    let byte : getD w i 0 < 256 = omega (arith, c .before .before .before .shared-slice-known3 .given i) in
+    let y : isDigit (getD w i 0) ≡ true =
+    sym (digit-in (c .before .before .before .before .before .before .class-table .result)
+    (c .before .before .before .before .before .before .class-table .ensures) (getD w i 0) byte) ∙ sym
+    (c .before .is-digit-in .ensures)
+    ∙ not-false (c .before .is-digit-in .result) (c .if3 .left) in
     let ge : 48 ≤ getD w i 0 = digit-range (getD w i 0) y .0 in
     let le : getD w i 0 ≤ 57 = digit-range (getD w i 0) y .1 in
     omega arith
@@ -78,8 +87,12 @@ sub-v c =
     let i = c .before .before .before .before .before .loop .i in
     let v = c .before .before .before .before .before .loop .v in
     let inv = c .before .before .before .before .before .loop .inv in
-    let y : isDigit (getD w i 0) ≡ true = sym (c .before .is-digit .ensures) ∙ not-false
-    (c .before .is-digit .result) (c .if3 .left) in
+    let byte : getD w i 0 < 256 = omega (arith, c .before .before .before .shared-slice-known3 .given i) in
+    let y : isDigit (getD w i 0) ≡ true =
+    sym (digit-in (c .before .before .before .before .before .before .class-table .result)
+    (c .before .before .before .before .before .before .class-table .ensures) (getD w i 0) byte) ∙ sym
+    (c .before .is-digit-in .ensures)
+    ∙ not-false (c .before .is-digit-in .result) (c .if3 .left) in
     let ge : 48 ≤ getD w i 0 = digit-range (getD w i 0) y .0 in
     let le : getD w i 0 ≤ 57 = digit-range (getD w i 0) y .1 in
     omega arith
@@ -90,8 +103,12 @@ add-v c =
     let i = c .before .before .before .before .before .loop .i in
     let v = c .before .before .before .before .before .loop .v in
     let inv = c .before .before .before .before .before .loop .inv in
-    let y : isDigit (getD w i 0) ≡ true = sym (c .before .is-digit .ensures) ∙ not-false
-    (c .before .is-digit .result) (c .if3 .left) in
+    let byte : getD w i 0 < 256 = omega (arith, c .before .before .before .shared-slice-known3 .given i) in
+    let y : isDigit (getD w i 0) ≡ true =
+    sym (digit-in (c .before .before .before .before .before .before .class-table .result)
+    (c .before .before .before .before .before .before .class-table .ensures) (getD w i 0) byte) ∙ sym
+    (c .before .is-digit-in .ensures)
+    ∙ not-false (c .before .is-digit-in .result) (c .if3 .left) in
     let ge : 48 ≤ getD w i 0 = digit-range (getD w i 0) y .0 in
     let le : getD w i 0 ≤ 57 = digit-range (getD w i 0) y .1 in
     omega arith
@@ -123,8 +140,12 @@ loop-again c =
     let i = c .before .before .before .before .before .before .loop .i in
     let v = c .before .before .before .before .before .before .loop .v in
     let inv = c .before .before .before .before .before .before .loop .inv in
-    let y : isDigit (getD w i 0) ≡ true = sym (c .before .before .is-digit .ensures) ∙ not-false
-    (c .before .before .is-digit .result) (c .before .if3 .left) in
+    let byte : getD w i 0 < 256 = omega (arith, c .before .before .before .before .shared-slice-known3 .given i) in
+    let y : isDigit (getD w i 0) ≡ true =
+    sym (digit-in (c .before .before .before .before .before .before .before .class-table .result)
+    (c .before .before .before .before .before .before .before .class-table .ensures) (getD w i 0) byte) ∙ sym
+    (c .before .before .is-digit-in .ensures)
+    ∙ not-false (c .before .before .is-digit-in .result) (c .before .if3 .left) in
     let ge : 48 ≤ getD w i 0 = digit-range (getD w i 0) y .0 in
     let le : getD w i 0 ≤ 57 = digit-range (getD w i 0) y .1 in (
       omega arith,
@@ -156,7 +177,7 @@ is-number-spec =
     class-table-requires
     loop-holds
     shared-slice-read-c
-    is-digit-requires
+    is-digit-in-requires
     returns-3
     mul-v
     cast-v

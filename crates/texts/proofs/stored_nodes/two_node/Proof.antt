@@ -1,11 +1,12 @@
 use mathlib.Core.Path.{refl, _∙_}
 use native.Mathlib.Omega.{arith}
+use Rattle.texts.proofs.OperatorRows.{row-code}
 use borrow.Author.Needs.{needs}
 use Rattle.texts.proofs.stored_nodes.two_node.Statement.{statement}
 use Rattle.texts.proofs.stored_nodes.two_node.Tie as tie
 use Rattle.texts.proofs.stored_nodes.two_node.Reads as reads
 use Rattle.texts.proofs.stored_nodes.two_node.Lts as lts
-use Rattle.texts.proofs.stored_nodes.code_of.Reads as code-of-reads
+use Rattle.operators.proofs.rows.operator.Reads as operator-reads
 use Rattle.texts.proofs.stored_nodes.joined.Reads as joined-reads
 use Rattle.texts.proofs.stored_nodes.two_type.Reads as two-type-reads
 
@@ -18,8 +19,8 @@ add-len c = search needs
 add-len-2 : tie.Need-add-len-2
 add-len-2 c = search needs
 
-code-of-requires : tie.Need-code-of-requires
-code-of-requires c κs = search needs
+operator-requires : tie.Need-operator-requires
+operator-requires c κs = search needs
 
 joined-requires : tie.Need-joined-requires
 joined-requires c κs = search needs
@@ -29,7 +30,8 @@ returns c = record {
   next = refl;
   gives = c .before .before .before .before .before .two-type .ensures;
   len = refl;
-  bytes = λ h. c .joined .ensures ∙ rw (c .before .code-of .ensures) refl;
+  bytes = λ h. c .joined .ensures ∙ rw (row-code (c .before .operator .result)
+      (c .before .before .before .before .before .before .args .o) (c .before .operator .ensures)) refl;
 }
 
 returns-2 : tie.Need-returns-2
@@ -47,7 +49,7 @@ two-node-spec =
     two-type-requires
     add-len
     add-len-2
-    code-of-requires
+    operator-requires
     joined-requires
     returns
     returns-2)

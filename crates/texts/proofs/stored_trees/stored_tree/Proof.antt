@@ -4,15 +4,15 @@ use Rattle.texts.proofs.stored_trees.stored_tree.Statement.{statement}
 use Rattle.texts.proofs.stored_trees.stored_tree.Tie as tie
 use Rattle.texts.proofs.stored_trees.stored_tree.Reads as reads
 use Rattle.texts.proofs.stored_trees.stored_tree.Lts as lts
-use Rattle.texts.proofs.stored_trees.stored_expr.Reads as stored-expr-reads
+use Rattle.texts.proofs.stored_trees.tree_expr.Reads as tree-expr-reads
 
-stored-expr-requires : tie.Need-stored-expr-requires
-stored-expr-requires c κs = search needs
+tree-expr-requires : tie.Need-tree-expr-requires
+tree-expr-requires c κs = search needs
 
 returns : tie.Need-returns
 returns c =
     let a = c .before .before .args in
-    whole-stored (a .names .now) (a .n) (a .s .now) (a .at) _ (c .stored-expr .ensures .1)
+    whole-stored (a .names .now) (a .n) (a .s .now) (a .at) _ (c .tree-expr .ensures .1)
 
 pub stored-tree-spec : {M : Type 1} → statement M
-stored-tree-spec = tie.close (tie.spec stored-expr-requires returns)
+stored-tree-spec = tie.close (tie.spec tree-expr-requires returns)

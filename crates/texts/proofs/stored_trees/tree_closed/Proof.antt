@@ -2,10 +2,10 @@ use mathlib.Core.Path.{refl}
 use native.Mathlib.Omega.{arith}
 use Rattle.texts.proofs.StoredSteps.{close-end, close-not, close-same, close-no}
 use borrow.Author.Needs.{needs}
-use Rattle.texts.proofs.stored_trees.stored_closed.Statement.{statement}
-use Rattle.texts.proofs.stored_trees.stored_closed.Tie as tie
-use Rattle.texts.proofs.stored_trees.stored_closed.Reads as reads
-use Rattle.texts.proofs.stored_trees.stored_closed.Lts as lts
+use Rattle.texts.proofs.stored_trees.tree_closed.Statement.{statement}
+use Rattle.texts.proofs.stored_trees.tree_closed.Tie as tie
+use Rattle.texts.proofs.stored_trees.tree_closed.Reads as reads
+use Rattle.texts.proofs.stored_trees.tree_closed.Lts as lts
 use Rattle.texts.proofs.stored_nodes.no_tree.Reads as no-tree-reads
 use Rattle.texts.proofs.stored_nodes.not_node.Reads as not-node-reads
 
@@ -50,8 +50,8 @@ returns-4 c =
     let a = c .before .before .before .before .before .args in
     close-no (a .s .now) (a .p) _ (a .neg) (omega arith) (c .before .if2 .left) (c .no-tree2 .ensures)
 
-pub stored-closed-spec : {M : Type 1} → statement M
-stored-closed-spec =
+pub tree-closed-spec : {M : Type 1} → statement M
+tree-closed-spec =
     tie.close
     (tie.spec
     no-tree-requires

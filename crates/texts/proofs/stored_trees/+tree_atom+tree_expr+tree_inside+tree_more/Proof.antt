@@ -1,39 +1,36 @@
 use borrow.Author.Needs.{needs}
+use mathlib.Core.Logic.{inl, inr}
 use mathlib.Core.Path.{_≡_, sym}
 use Prim.Native.Nat.{ℕ, _<_, _≤_, _+_, _*_, _-_}
 use native.Mathlib.Omega.{arith}
 use lib.ListN.{length}
-use Rattle.rules.specs.Operators.{level, leftLevel}
-use Rattle.text_laws.proofs.OperatorTable.{level-lt}
 use Rattle.texts.proofs.ExprSigns.{sign-within}
-use Rattle.texts.proofs.ExprSteps.{stop-level, stop-left}
 use Rattle.texts.proofs.StoredSteps.{none-within, here-within, up-within, got-within}
 use Rattle.texts.proofs.StoredExprs.{expr-fail, expr-go, more-none, more-stop, more-fail, more-go}
 use Rattle.texts.proofs.StoredExprs.{atom-end, atom-bang, atom-paren, atom-word}
 use Rattle.texts.proofs.StoredExprs.{in-end, in-zero, in-wrong, in-fail, in-go}
 use borrow.Fn.Kinds.{In}
 use borrow.Fn.PlainCycle.{Measures, is, falls, and}
-use Rattle.texts.proofs.stored_trees.stored_atom.Reads as atom
-use Rattle.texts.proofs.stored_trees.stored_atom.Kinds as atom-kinds
-use Rattle.texts.proofs.stored_trees.+stored_atom+stored_expr+stored_inside+stored_more.Lts-stored_atom as atom-lts
-use Rattle.texts.proofs.stored_trees.stored_expr.Reads as expr
-use Rattle.texts.proofs.stored_trees.stored_expr.Kinds as expr-kinds
-use Rattle.texts.proofs.stored_trees.+stored_atom+stored_expr+stored_inside+stored_more.Lts-stored_expr as expr-lts
-use Rattle.texts.proofs.stored_trees.stored_inside.Reads as inside
-use Rattle.texts.proofs.stored_trees.stored_inside.Kinds as inside-kinds
-use Rattle.texts.proofs.stored_trees.+stored_atom+stored_expr+stored_inside+stored_more.Lts-stored_inside as inside-lts
-use Rattle.texts.proofs.stored_trees.stored_more.Reads as more
-use Rattle.texts.proofs.stored_trees.stored_more.Kinds as more-kinds
-use Rattle.texts.proofs.stored_trees.+stored_atom+stored_expr+stored_inside+stored_more.Lts-stored_more as more-lts
-use Rattle.texts.proofs.operators.left_of.Reads as left-of-reads
-use Rattle.texts.proofs.operators.level_of.Reads as level-of-reads
-use Rattle.texts.proofs.operators.operator_at.Reads as operator-at-reads
+use Rattle.texts.proofs.stored_trees.tree_atom.Reads as atom
+use Rattle.texts.proofs.stored_trees.tree_atom.Kinds as atom-kinds
+use Rattle.texts.proofs.stored_trees.+tree_atom+tree_expr+tree_inside+tree_more.Lts-tree_atom as atom-lts
+use Rattle.texts.proofs.stored_trees.tree_expr.Reads as expr
+use Rattle.texts.proofs.stored_trees.tree_expr.Kinds as expr-kinds
+use Rattle.texts.proofs.stored_trees.+tree_atom+tree_expr+tree_inside+tree_more.Lts-tree_expr as expr-lts
+use Rattle.texts.proofs.stored_trees.tree_inside.Reads as inside
+use Rattle.texts.proofs.stored_trees.tree_inside.Kinds as inside-kinds
+use Rattle.texts.proofs.stored_trees.+tree_atom+tree_expr+tree_inside+tree_more.Lts-tree_inside as inside-lts
+use Rattle.texts.proofs.stored_trees.tree_more.Reads as more
+use Rattle.texts.proofs.stored_trees.tree_more.Kinds as more-kinds
+use Rattle.texts.proofs.stored_trees.+tree_atom+tree_expr+tree_inside+tree_more.Lts-tree_more as more-lts
+use Rattle.operators.proofs.rows.operator.Reads as operator-reads
+use Rattle.texts.proofs.signs.operator_at.Reads as operator-at-reads
 use Rattle.texts.proofs.stored_nodes.no_tree.Reads as no-tree-reads
 use Rattle.texts.proofs.stored_nodes.two_node.Reads as two-node-reads
-use Rattle.texts.proofs.stored_trees.stored_closed.Reads as stored-closed-reads
-use Rattle.texts.proofs.stored_trees.stored_leaf.Reads as stored-leaf-reads
-use Rattle.texts.proofs.stored_trees.+stored_atom+stored_expr+stored_inside+stored_more.{statement}
-use Rattle.texts.proofs.stored_trees.+stored_atom+stored_expr+stored_inside+stored_more.Tie.{close}
+use Rattle.texts.proofs.stored_trees.tree_closed.Reads as tree-closed-reads
+use Rattle.texts.proofs.stored_trees.tree_leaf.Reads as tree-leaf-reads
+use Rattle.texts.proofs.stored_trees.+tree_atom+tree_expr+tree_inside+tree_more.{statement}
+use Rattle.texts.proofs.stored_trees.+tree_atom+tree_expr+tree_inside+tree_more.Tie.{close}
 
 abbrev μ-atom : Measures 2 atom-kinds.ps ℕ
 μ-atom κs a = 4 * (length (a .0 .now) - a .1 .0) + 1
@@ -72,8 +69,14 @@ abbrev more-below : ℕ → In 2 more-kinds.ps
 more-below t = and 2 more-kinds.ps (falls 2 more-kinds.ps _<_ μ-more t) more.Pre
 
 abbrev atom-calls : ℕ → atom-lts.Claims
-atom-calls t =
-    (no-tree-reads.Asked, no-tree-reads.Learnt, inside-below t, inside.Post, stored-leaf-reads.Asked, stored-leaf-reads.Learnt)
+atom-calls t = (
+  no-tree-reads.Asked,
+  no-tree-reads.Learnt,
+  inside-below t,
+  inside.Post,
+  tree-leaf-reads.Asked,
+  tree-leaf-reads.Learnt,
+)
 
 atom-no-tree-requires : (t : ℕ) → atom-lts.Need-no-tree-requires (atom-calls t) (atom-at t) atom.Post
 atom-no-tree-requires t c κs = search needs
@@ -89,79 +92,85 @@ atom-returns t c =
 atom-shared-slice-read-c : (t : ℕ) → atom-lts.Need-shared-slice-read-c (atom-calls t) (atom-at t) atom.Post
 atom-shared-slice-read-c t c = search needs
 
-atom-add-stored-inside : (t : ℕ) → atom-lts.Need-add-stored-inside (atom-calls t) (atom-at t) atom.Post
-atom-add-stored-inside t c = search needs
+atom-add-tree-inside : (t : ℕ) → atom-lts.Need-add-tree-inside (atom-calls t) (atom-at t) atom.Post
+atom-add-tree-inside t c = search needs
 
-atom-stored-inside-requires : (t : ℕ) → atom-lts.Need-stored-inside-requires (atom-calls t) (atom-at t) atom.Post
-atom-stored-inside-requires t c κs = search needs
+atom-tree-inside-requires : (t : ℕ) → atom-lts.Need-tree-inside-requires (atom-calls t) (atom-at t) atom.Post
+atom-tree-inside-requires t c κs = search needs
 
 atom-returns-2 : (t : ℕ) → atom-lts.Need-returns-2 (atom-calls t) (atom-at t) atom.Post
 atom-returns-2 t c =
     let a = c .before .before .before .before .before .args in (
       up-within (a .s .now) (a .at + 1 + 1) (a .at + 1) 0 (a .at + 1) (a .at) 0 _ (omega arith) (omega arith)
-          (c .stored-inside .ensures .0),
+          (c .tree-inside .ensures .0),
       atom-bang (a .names .now) (a .n) (a .s .now) (a .at) (a .b) _ (omega arith) (c .before .if2 .taken)
-          (c .stored-inside .ensures .1),
+          (c .tree-inside .ensures .1),
     )
 
-atom-stored-inside-requires-2 : (t : ℕ) → atom-lts.Need-stored-inside-requires-2 (atom-calls t) (atom-at t) atom.Post
-atom-stored-inside-requires-2 t c κs = search needs
+atom-tree-inside-requires-2 : (t : ℕ) → atom-lts.Need-tree-inside-requires-2 (atom-calls t) (atom-at t) atom.Post
+atom-tree-inside-requires-2 t c κs = search needs
 
 atom-returns-3 : (t : ℕ) → atom-lts.Need-returns-3 (atom-calls t) (atom-at t) atom.Post
 atom-returns-3 t c =
     let a = c .before .before .before .before .before .before .args in (
-      c .stored-inside2 .ensures .0,
+      c .tree-inside2 .ensures .0,
       atom-paren (a .names .now) (a .n) (a .s .now) (a .at) (a .b) _ (omega arith) (c .before .if3 .taken)
-          (c .stored-inside2 .ensures .1),
+          (c .tree-inside2 .ensures .1),
     )
 
-atom-stored-leaf-requires : (t : ℕ) → atom-lts.Need-stored-leaf-requires (atom-calls t) (atom-at t) atom.Post
-atom-stored-leaf-requires t c κs = search needs
+atom-tree-leaf-requires : (t : ℕ) → atom-lts.Need-tree-leaf-requires (atom-calls t) (atom-at t) atom.Post
+atom-tree-leaf-requires t c κs = search needs
 
 atom-returns-4 : (t : ℕ) → atom-lts.Need-returns-4 (atom-calls t) (atom-at t) atom.Post
 atom-returns-4 t c =
     let a = c .before .before .before .before .before .before .args in (
-      c .stored-leaf .ensures .0,
+      c .tree-leaf .ensures .0,
       atom-word (a .names .now) (a .n) (a .s .now) (a .at) (a .b) _ (omega arith) (c .before .before .if2 .left)
-          (c .before .if3 .left) (c .stored-leaf .ensures .1),
+          (c .before .if3 .left) (c .tree-leaf .ensures .1),
     )
 
 abbrev expr-calls : ℕ → expr-lts.Claims
 expr-calls t = (atom-below t, atom.Post, more-below t, more.Post)
 
-expr-stored-atom-requires : (t : ℕ) → expr-lts.Need-stored-atom-requires (expr-calls t) (expr-at t) expr.Post
-expr-stored-atom-requires t c κs = search needs
+expr-tree-atom-requires : (t : ℕ) → expr-lts.Need-tree-atom-requires (expr-calls t) (expr-at t) expr.Post
+expr-tree-atom-requires t c κs = search needs
 
 expr-returns : (t : ℕ) → expr-lts.Need-returns (expr-calls t) (expr-at t) expr.Post
 expr-returns t c =
     let a = c .before .before .before .before .args in
-    let p = c .before .before .stored-atom in (
+    let p = c .before .before .tree-atom in (
       p .ensures .0,
       expr-fail (a .names .now) (a .n) (a .s .now) (a .at) (a .k) (a .b) (p .result) (p .ensures .1)
           (c .if1 .taken),
     )
 
-expr-stored-more-requires : (t : ℕ) → expr-lts.Need-stored-more-requires (expr-calls t) (expr-at t) expr.Post
-expr-stored-more-requires t c κs =
-    let w = got-within _ _ _ _ _ (c .if1 .left) (c .before .before .stored-atom .ensures .0) in
+expr-tree-more-requires : (t : ℕ) → expr-lts.Need-tree-more-requires (expr-calls t) (expr-at t) expr.Post
+expr-tree-more-requires t c κs =
+    let w = got-within _ _ _ _ _ (c .if1 .left) (c .before .before .tree-atom .ensures .0) in
     omega arith
 
 expr-returns-2 : (t : ℕ) → expr-lts.Need-returns-2 (expr-calls t) (expr-at t) expr.Post
 expr-returns-2 t c =
     let a = c .before .before .before .before .before .args in
-    let p = c .before .before .before .stored-atom in
+    let p = c .before .before .before .tree-atom in
     let r = p .result in
     let w = got-within (a .s .now) (a .at + 1) (a .at) 0 r (c .before .if1 .left) (p .ensures .0) in (
       up-within (a .s .now) (r .next) (r .next) (r .len) (a .at + 1) (a .at) 0 _ (w .0) (omega arith)
-          (c .stored-more .ensures .0),
+          (c .tree-more .ensures .0),
       expr-go (a .names .now) (a .n) (a .s .now) (a .at) (a .k) (a .b) r (p .ensures .1) (c .before .if1 .left)
           (omega arith) (w .1) _
-          (c .stored-more .ensures .1),
+          (c .tree-more .ensures .1),
     )
 
 abbrev inside-calls : ℕ → inside-lts.Claims
-inside-calls t =
-    (no-tree-reads.Asked, no-tree-reads.Learnt, expr-below t, expr.Post, stored-closed-reads.Asked, stored-closed-reads.Learnt)
+inside-calls t = (
+  no-tree-reads.Asked,
+  no-tree-reads.Learnt,
+  expr-below t,
+  expr.Post,
+  tree-closed-reads.Asked,
+  tree-closed-reads.Learnt,
+)
 
 inside-no-tree-requires : (t : ℕ) → inside-lts.Need-no-tree-requires (inside-calls t) (inside-at t) inside.Post
 inside-no-tree-requires t c κs = search needs
@@ -200,53 +209,51 @@ inside-returns-3 t c =
           (c .no-tree3 .ensures),
     )
 
-inside-add-stored-expr : (t : ℕ) → inside-lts.Need-add-stored-expr (inside-calls t) (inside-at t) inside.Post
-inside-add-stored-expr t c = search needs
+inside-add-tree-expr : (t : ℕ) → inside-lts.Need-add-tree-expr (inside-calls t) (inside-at t) inside.Post
+inside-add-tree-expr t c = search needs
 
-inside-sub-stored-expr : (t : ℕ) → inside-lts.Need-sub-stored-expr (inside-calls t) (inside-at t) inside.Post
-inside-sub-stored-expr t c = search needs
+inside-sub-tree-expr : (t : ℕ) → inside-lts.Need-sub-tree-expr (inside-calls t) (inside-at t) inside.Post
+inside-sub-tree-expr t c = search needs
 
-inside-stored-expr-requires : (t : ℕ) → inside-lts.Need-stored-expr-requires (inside-calls t) (inside-at t) inside.Post
-inside-stored-expr-requires t c κs = search needs
+inside-tree-expr-requires : (t : ℕ) → inside-lts.Need-tree-expr-requires (inside-calls t) (inside-at t) inside.Post
+inside-tree-expr-requires t c κs = search needs
 
 inside-returns-4 : (t : ℕ) → inside-lts.Need-returns-4 (inside-calls t) (inside-at t) inside.Post
 inside-returns-4 t c =
     let a = c .before .before .before .before .before .before .before .before .args in
-    let y = c .before .before .stored-expr in (
+    let y = c .before .before .tree-expr in (
       none-within _ _ _ _ _ (c .if4 .taken),
       in-fail (a .names .now) (a .n) (a .s .now) (a .at) (a .b) (a .neg) (omega arith)
           (c .before .before .before .before .before .if2 .left) (c .before .before .before .if3 .left)
           (y .result) (y .ensures .1) (c .if4 .taken),
     )
 
-inside-stored-closed-requires : (t : ℕ) → inside-lts.Need-stored-closed-requires (inside-calls t) (inside-at t)
+inside-tree-closed-requires : (t : ℕ) → inside-lts.Need-tree-closed-requires (inside-calls t) (inside-at t)
     inside.Post
-inside-stored-closed-requires t c κs =
-    let w = got-within _ _ _ _ _ (c .if4 .left) (c .before .before .stored-expr .ensures .0) in
+inside-tree-closed-requires t c κs =
+    let w = got-within _ _ _ _ _ (c .if4 .left) (c .before .before .tree-expr .ensures .0) in
     omega arith
 
 inside-returns-5 : (t : ℕ) → inside-lts.Need-returns-5 (inside-calls t) (inside-at t) inside.Post
 inside-returns-5 t c =
     let a = c .before .before .before .before .before .before .before .before .before .args in
-    let y = c .before .before .before .stored-expr in
+    let y = c .before .before .before .tree-expr in
     let r = y .result in
     let w = got-within (a .s .now) (a .at + 1 + 1) (a .at + 1) 0 r (c .before .if4 .left) (y .ensures .0) in (
       up-within (a .s .now) (r .next + 1) (r .next) (r .len) (a .at + 1) (a .at) 0 _ (omega arith) (omega arith)
-          (c .stored-closed .ensures .0),
+          (c .tree-closed .ensures .0),
       in-go (a .names .now) (a .n) (a .s .now) (a .at) (a .b) (a .neg) (omega arith)
           (c .before .before .before .before .before .before .if2 .left)
           (c .before .before .before .before .if3 .left) r (y .ensures .1) (c .before .if4 .left) _
-          (c .stored-closed .ensures .1),
+          (c .tree-closed .ensures .1),
     )
 
 abbrev more-calls : ℕ → more-lts.Claims
 more-calls t = (
   operator-at-reads.Asked,
   operator-at-reads.Learnt,
-  level-of-reads.Asked,
-  level-of-reads.Learnt,
-  left-of-reads.Asked,
-  left-of-reads.Learnt,
+  operator-reads.Asked,
+  operator-reads.Learnt,
   expr-below t,
   expr.Post,
   two-node-reads.Asked,
@@ -264,91 +271,94 @@ more-enum-told t c = search needs
 more-enum-known-g : (t : ℕ) → more-lts.Need-enum-known-g (more-calls t) (more-at t) more.Post
 more-enum-known-g t c = search needs
 
-more-level-of-requires : (t : ℕ) → more-lts.Need-level-of-requires (more-calls t) (more-at t) more.Post
-more-level-of-requires t c κs = search needs
+more-operator-requires : (t : ℕ) → more-lts.Need-operator-requires (more-calls t) (more-at t) more.Post
+more-operator-requires t c κs = search needs
 
-more-left-of-requires : (t : ℕ) → more-lts.Need-left-of-requires (more-calls t) (more-at t) more.Post
-more-left-of-requires t c κs = search needs
-
-more-add-stored-expr : (t : ℕ) → more-lts.Need-add-stored-expr (more-calls t) (more-at t) more.Post
-more-add-stored-expr t c =
-    let lt = level-lt (c .before .before .before .before .before .g .given .0 .0) in
-    omega (arith, c .before .before .before .level-of .ensures, lt)
-
-more-stored-expr-requires : (t : ℕ) → more-lts.Need-stored-expr-requires (more-calls t) (more-at t) more.Post
-more-stored-expr-requires t c κs =
-    let p = c .before .before .before .before .before in
-    let a = p .before .before .before .before .args in
-    let sign = p .before .before .operator-at .ensures in
-    let v = p .g .given .0 in
-    let u = sign-within (a .s .now) (a .at) _ (v .0) (v .1 .0) (p .g .given .1) (sign .0) in
+more-tree-expr-requires : (t : ℕ) → more-lts.Need-tree-expr-requires (more-calls t) (more-at t) more.Post
+more-tree-expr-requires t c κs =
+    let a = c .before .before .before .before .before .before .before .before .before .args in
+    let v = c .before .before .before .before .before .g .given .0 in
+    let u = sign-within (a .s .now) (a .at) _ (v .0) (v .1 .0)
+    (c .before .before .before .before .before .g .given .1)
+    (c .before .before .before .before .before .before .before .operator-at .ensures .0) in
     omega arith
 
 more-returns : (t : ℕ) → more-lts.Need-returns (more-calls t) (more-at t) more.Post
 more-returns t c =
-    let p = c .before .before .before .before .before .before .before .before in
-    let a = p .before .before .before .before .args in
-    let sign = p .before .before .operator-at .ensures in
-    let v = p .g .given .0 in
-    let u = sign-within (a .s .now) (a .at) _ (v .0) (v .1 .0) (p .g .given .1) (sign .0) in
-    let lv = c .before .before .before .before .before .before .level-of in
-    let eh : leftLevel (v .0) ≤ a .h =
-    omega (arith, c .before .before .before .before .left-of .ensures, c .before .before .before .if2 .taken) in
-    let y = c .before .before .stored-expr in (
+    let a = c .before .before .before .before .before .before .before .before .before .before .before .before .args in
+    let v = c .before .before .before .before .before .before .before .before .g .given .0 in
+    let u = sign-within (a .s .now) (a .at) _ (v .0) (v .1 .0)
+    (c .before .before .before .before .before .before .before .before .g .given .1)
+    (c .before .before .before .before .before .before .before .before .before .before .operator-at .ensures .0) in
+    let y = c .before .before .tree-expr in (
       none-within _ _ _ _ _ (c .if3 .taken),
       more-fail (a .names .now) (a .n) (a .s .now) (a .at) (a .k) (a .h) (a .b) (a .left) _
-          (sign .1) (v .0) (v .1 .0) (lv .result) (p .g .given .1) (sym (lv .ensures))
-          (c .before .before .before .before .before .if1 .taken) eh (u .0) (u .1) (y .result)
-          (y .ensures .1) (c .if3 .taken),
+          (c .before .before .before .before .before .before .before .before .before .before .operator-at .ensures .1)
+          (v .0) (v .1 .0) (c .before .before .before .before .before .before .before .before .g .given .1)
+          (c .before .before .before .before .before .before .operator .result)
+          (c .before .before .before .before .before .before .operator .ensures)
+          (c .before .before .before .before .before .if1 .taken) (c .before .before .before .if2 .taken)
+          (u .0) (u .1) (y .result) (y .ensures .1) (c .if3 .taken),
     )
 
 more-two-node-requires : (t : ℕ) → more-lts.Need-two-node-requires (more-calls t) (more-at t) more.Post
 more-two-node-requires t c κs =
-    let p = c .before .before .before .before .before .before .before .before in
-    let a = p .before .before .before .before .args in
-    let sign = p .before .before .operator-at .ensures in
-    let v = p .g .given .0 in
-    let u = sign-within (a .s .now) (a .at) _ (v .0) (v .1 .0) (p .g .given .1) (sign .0) in
-    let w = got-within _ _ _ _ _ (c .if3 .left) (c .before .before .stored-expr .ensures .0) in
-    omega arith
+    let a = c .before .before .before .before .before .before .before .before .before .before .before .before .args in
+    let v = c .before .before .before .before .before .before .before .before .g .given .0 in
+    let u = sign-within (a .s .now) (a .at) _ (v .0) (v .1 .0)
+    (c .before .before .before .before .before .before .before .before .g .given .1)
+    (c .before .before .before .before .before .before .before .before .before .before .operator-at .ensures .0) in
+    let w = got-within _ _ _ _ _ (c .if3 .left) (c .before .before .tree-expr .ensures .0) in
+    omega (
+      arith,
+      (c .before .before .before .before .before .before .before .before .before .before .before .before
+          .pre),
+    )
 
-more-stored-more-requires : (t : ℕ) → more-lts.Need-stored-more-requires (more-calls t) (more-at t) more.Post
-more-stored-more-requires t c κs =
-    let p = c .before .before .before .before .before .before .before .before .before in
-    let a = p .before .before .before .before .args in
-    let sign = p .before .before .operator-at .ensures in
-    let v = p .g .given .0 in
-    let u = sign-within (a .s .now) (a .at) _ (v .0) (v .1 .0) (p .g .given .1) (sign .0) in
-    let w = got-within _ _ _ _ _ (c .before .if3 .left) (c .before .before .before .stored-expr .ensures .0) in
+more-tree-more-requires : (t : ℕ) → more-lts.Need-tree-more-requires (more-calls t) (more-at t) more.Post
+more-tree-more-requires t c κs =
+    let a = c .before .before .before .before .before .before .before .before .before .before .before .before .before
+    .args in
+    let v = c .before .before .before .before .before .before .before .before .before .g .given .0 in
+    let u = sign-within (a .s .now) (a .at) _ (v .0) (v .1 .0)
+    (c .before .before .before .before .before .before .before .before .before .g .given .1)
+    (c .before .before .before .before .before .before .before .before .before .before .before .operator-at .ensures
+    .0) in
+    let w = got-within _ _ _ _ _ (c .before .if3 .left) (c .before .before .before .tree-expr .ensures .0) in
     let m = c .two-node .ensures in
-    let pre = p .before .before .before .before .pre in
-    omega (arith, m .next, m .len, pre)
+    omega (
+      arith,
+      m .next,
+      m .len,
+      (c .before .before .before .before .before .before .before .before .before .before
+          .before .before .before .pre),
+    )
 
 more-returns-2 : (t : ℕ) → more-lts.Need-returns-2 (more-calls t) (more-at t) more.Post
 more-returns-2 t c =
-    let p = c .before .before .before .before .before .before .before .before .before .before in
-    let a = p .before .before .before .before .args in
-    let sign = p .before .before .operator-at .ensures in
-    let v = p .g .given .0 in
-    let u = sign-within (a .s .now) (a .at) _ (v .0) (v .1 .0) (p .g .given .1) (sign .0) in
-    let lv = c .before .before .before .before .before .before .before .before .level-of in
-    let eh : leftLevel (v .0) ≤ a .h =
-    omega (
-      arith,
-      c .before .before .before .before .before .before .left-of .ensures,
-      c .before .before .before .before .before .if2 .taken,
-    ) in
-    let y = c .before .before .before .before .stored-expr in
+    let a = c .before .before .before .before .before .before .before .before .before .before .before .before .before
+    .before .args in
+    let v = c .before .before .before .before .before .before .before .before .before .before .g .given .0 in
+    let u = sign-within (a .s .now) (a .at) _ (v .0) (v .1 .0)
+    (c .before .before .before .before .before .before .before .before .before .before .g .given .1)
+    (c .before .before .before .before .before .before .before .before .before .before .before .before .operator-at
+    .ensures .0) in
+    let y = c .before .before .before .before .tree-expr in
     let some = c .before .before .if3 .left in
     let w = got-within (a .s .now) (v .1 .0 + 1) (v .1 .0) 0 (y .result) some (y .ensures .0) in
     let z = c .before .two-node .result in
     let m = c .before .two-node .ensures in (
       up-within (a .s .now) (z .next) (z .next) (z .len) (a .at) (a .at) (a .left .len) _
-          (omega (arith, m .next)) (omega (arith, m .next, m .len)) (c .stored-more .ensures .0),
+          (omega (arith, m .next)) (omega (arith, m .next, m .len)) (c .tree-more .ensures .0),
       more-go (a .names .now) (a .n) (a .s .now) (a .at) (a .k) (a .h) (a .b) (a .left) _
-          (sign .1) (v .0) (v .1 .0) (lv .result) (p .g .given .1) (sym (lv .ensures))
-          (c .before .before .before .before .before .before .before .if1 .taken) eh (u .0) (u .1)
-          (y .result) (y .ensures .1) some (omega arith) (w .1) z m _ (c .stored-more .ensures .1),
+          (c .before .before .before .before .before .before .before .before .before .before .before .before
+          .operator-at .ensures .1)
+          (v .0) (v .1 .0) (c .before .before .before .before .before .before .before .before .before .before .g
+          .given .1) (c .before .before .before .before .before .before .before .before .operator .result)
+          (c .before .before .before .before .before .before .before .before .operator .ensures)
+          (c .before .before .before .before .before .before .before .if1 .taken)
+          (c .before .before .before .before .before .if2 .taken)
+          (u .0) (u .1) (y .result) (y .ensures .1) some (omega arith) (w .1) z m _ (c .tree-more .ensures .1),
     )
 
 more-returns-3 : (t : ℕ) → more-lts.Need-returns-3 (more-calls t) (more-at t) more.Post
@@ -362,46 +372,42 @@ more-returns-3 t c =
 
 more-returns-4 : (t : ℕ) → more-lts.Need-returns-4 (more-calls t) (more-at t) more.Post
 more-returns-4 t c =
-    let p = c .before .before .before .before .before in
-    let a = p .before .before .before .before .args in
-    let sign = p .before .before .operator-at .ensures in
-    let v = p .g .given .0 in
-    let q : a .left .next ≡ a .at = omega arith in
-    let out = stop-left (a .k) (level (v .0)) (leftLevel (v .0)) (a .h)
-    (omega (arith, c .before .before .before .level-of .ensures, c .before .before .if1 .taken))
-    (omega (arith, c .before .left-of .ensures, c .if2 .left)) in (
+    let a = c .before .before .before .before .before .before .before .before .before .args in
+    let v = c .before .before .before .before .before .g .given .0 in
+    let q : a .left .next ≡ a .at = omega arith in (
       here-within _ _ _ _ (a .left) (omega arith) (omega arith) (omega arith),
       more-stop (a .names .now) (a .n) (a .s .now) (a .at) (a .k) (a .h) (a .b) (a .left) _
-          (sign .1) (v .0) (v .1 .0) (p .g .given .1) out q,
+          (c .before .before .before .before .before .before .before .operator-at .ensures .1)
+          (v .0) (v .1 .0) (c .before .before .before .before .before .g .given .1)
+          (c .before .before .before .operator .result) (c .before .before .before .operator .ensures) (inr
+          (omega (arith, c .if2 .left))) q,
     )
 
 more-returns-5 : (t : ℕ) → more-lts.Need-returns-5 (more-calls t) (more-at t) more.Post
 more-returns-5 t c =
-    let p = c .before .before .before in
-    let a = p .before .before .before .before .args in
-    let sign = p .before .before .operator-at .ensures in
-    let v = p .g .given .0 in
-    let q : a .left .next ≡ a .at = omega arith in
-    let out = stop-level (a .k) (level (v .0)) (leftLevel (v .0)) (a .h)
-    (omega (arith, c .before .level-of .ensures, c .if1 .left)) in (
+    let a = c .before .before .before .before .before .before .before .args in
+    let v = c .before .before .before .g .given .0 in
+    let q : a .left .next ≡ a .at = omega arith in (
       here-within _ _ _ _ (a .left) (omega arith) (omega arith) (omega arith),
       more-stop (a .names .now) (a .n) (a .s .now) (a .at) (a .k) (a .h) (a .b) (a .left) _
-          (sign .1) (v .0) (v .1 .0) (p .g .given .1) out q,
+          (c .before .before .before .before .before .operator-at .ensures .1)
+          (v .0) (v .1 .0) (c .before .before .before .g .given .1) (c .before .operator .result)
+          (c .before .operator .ensures) (inl (omega (arith, c .if1 .left))) q,
     )
 
-pub +stored-atom+stored-expr+stored-inside+stored-more-spec : {M : Type 1} → statement M
-+stored-atom+stored-expr+stored-inside+stored-more-spec =
+pub +tree-atom+tree-expr+tree-inside+tree-more-spec : {M : Type 1} → statement M
++tree-atom+tree-expr+tree-inside+tree-more-spec =
     close μ-atom μ-expr μ-inside μ-more
     (λ t. atom-lts.spec (atom-calls t) (atom-at t) atom.Post (atom-no-tree-requires t) (atom-returns t)
-    (atom-shared-slice-read-c t) (atom-add-stored-inside t) (atom-stored-inside-requires t) (atom-returns-2 t)
-    (atom-stored-inside-requires-2 t) (atom-returns-3 t) (atom-stored-leaf-requires t) (atom-returns-4 t))
-    (λ t. expr-lts.spec (expr-calls t) (expr-at t) expr.Post (expr-stored-atom-requires t) (expr-returns t)
-    (expr-stored-more-requires t) (expr-returns-2 t))
+    (atom-shared-slice-read-c t) (atom-add-tree-inside t) (atom-tree-inside-requires t) (atom-returns-2 t)
+    (atom-tree-inside-requires-2 t) (atom-returns-3 t) (atom-tree-leaf-requires t) (atom-returns-4 t))
+    (λ t. expr-lts.spec (expr-calls t) (expr-at t) expr.Post (expr-tree-atom-requires t) (expr-returns t)
+    (expr-tree-more-requires t) (expr-returns-2 t))
     (λ t. inside-lts.spec (inside-calls t) (inside-at t) inside.Post (inside-no-tree-requires t) (inside-returns t)
     (inside-no-tree-requires-2 t) (inside-returns-2 t) (inside-shared-slice-read-if3 t) (inside-no-tree-requires-3 t)
-    (inside-returns-3 t) (inside-add-stored-expr t) (inside-sub-stored-expr t) (inside-stored-expr-requires t)
-    (inside-returns-4 t) (inside-stored-closed-requires t) (inside-returns-5 t))
+    (inside-returns-3 t) (inside-add-tree-expr t) (inside-sub-tree-expr t) (inside-tree-expr-requires t)
+    (inside-returns-4 t) (inside-tree-closed-requires t) (inside-returns-5 t))
     λ t. more-lts.spec (more-calls t) (more-at t) more.Post (more-operator-at-requires t) (more-enum-told t)
-    (more-enum-known-g t) (more-level-of-requires t) (more-left-of-requires t) (more-add-stored-expr t)
-    (more-stored-expr-requires t) (more-returns t) (more-two-node-requires t) (more-stored-more-requires t)
+    (more-enum-known-g t) (more-operator-requires t) (more-tree-expr-requires t) (more-returns t)
+    (more-two-node-requires t) (more-tree-more-requires t)
     (more-returns-2 t) (more-returns-3 t) (more-returns-4 t) (more-returns-5 t)

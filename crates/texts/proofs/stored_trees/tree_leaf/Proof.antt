@@ -6,10 +6,10 @@ use Rattle.rules.specs.Names.{isShort}
 use Rattle.text_laws.specs.Reader.{isNumberWord}
 use Rattle.texts.proofs.StoredSteps.{leaf-name, leaf-number, leaf-none}
 use borrow.Author.Needs.{needs}
-use Rattle.texts.proofs.stored_trees.stored_leaf.Statement.{statement}
-use Rattle.texts.proofs.stored_trees.stored_leaf.Tie as tie
-use Rattle.texts.proofs.stored_trees.stored_leaf.Reads as reads
-use Rattle.texts.proofs.stored_trees.stored_leaf.Lts as lts
+use Rattle.texts.proofs.stored_trees.tree_leaf.Statement.{statement}
+use Rattle.texts.proofs.stored_trees.tree_leaf.Tie as tie
+use Rattle.texts.proofs.stored_trees.tree_leaf.Reads as reads
+use Rattle.texts.proofs.stored_trees.tree_leaf.Lts as lts
 use Rattle.names.proofs.labels.is_short.Reads as is-short-reads
 use Rattle.texts.proofs.held_names.look_up.Reads as look-up-reads
 use Rattle.texts.proofs.leaves.is_number.Reads as is-number-reads
@@ -117,8 +117,8 @@ returns-3 c =
     sym (c .before .before .is-number .ensures) ∙ c .before .if2 .left in
     leaf-none (a .names .now) (a .n) s (a .at) end (w .0 .0) (w .0 .1) (w .1) _ k y (c .no-tree .ensures)
 
-pub stored-leaf-spec : {M : Type 1} → statement M
-stored-leaf-spec =
+pub tree-leaf-spec : {M : Type 1} → statement M
+tree-leaf-spec =
     tie.close
     (tie.spec
     word-end-requires

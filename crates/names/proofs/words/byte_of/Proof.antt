@@ -3,10 +3,10 @@ use native.Mathlib.Omega.{arith}
 use denote.Ref.{now}
 use Rattle.names.proofs.PadLaws.{past-end}
 use borrow.Author.Needs.{needs}
-use Rattle.names.proofs.repeats.byte_of.Statement.{statement}
-use Rattle.names.proofs.repeats.byte_of.Tie as tie
-use Rattle.names.proofs.repeats.byte_of.Reads as reads
-use Rattle.names.proofs.repeats.byte_of.Lts as lts
+use Rattle.names.proofs.words.byte_of.Statement.{statement}
+use Rattle.names.proofs.words.byte_of.Tie as tie
+use Rattle.names.proofs.words.byte_of.Reads as reads
+use Rattle.names.proofs.words.byte_of.Lts as lts
 
 shared-slice-read-result : tie.Need-shared-slice-read-result
 shared-slice-read-result c = search needs
