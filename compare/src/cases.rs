@@ -1,6 +1,7 @@
 //! Cases: a text, or a table with a packet.
 
 use std::fmt;
+use umarekoza::PACKET_MOST;
 use umarekoza_model::generate::{packet, table, text, Rng};
 use umarekoza_model::protocol::to_hex;
 
@@ -38,5 +39,5 @@ fn noise(rng: &mut Rng) -> Vec<u8> {
 
 /// Bytes at the limit of a packet.
 fn long_packet(rng: &mut Rng) -> Vec<u8> {
-    (0..rng.pick([2047, 2048, 2049, 5000])).map(|_| rng.byte()).collect()
+    (0..rng.pick([PACKET_MOST - 1, PACKET_MOST, PACKET_MOST + 1, 5000])).map(|_| rng.byte()).collect()
 }
