@@ -2,7 +2,7 @@
 
 use std::fmt;
 use umarekoza::PACKET_MOST;
-use umarekoza_model::generate::{packet, table, text, Rng};
+use umarekoza_model::generate::{packet, table, tail, text, Rng};
 use umarekoza_model::protocol::to_hex;
 
 pub enum Case {
@@ -16,6 +16,10 @@ impl Case {
         if rng.one_in(3) {
             let text = if rng.one_in(50) { noise(rng) } else { text(rng) };
             return Case::Text(text);
+        }
+        if rng.one_in(150) {
+            let (table, packet) = tail(rng);
+            return Case::Packet { table, packet };
         }
         let table = if rng.one_in(50) { noise(rng) } else { table(rng) };
         let packet = if rng.one_in(100) { long_packet(rng) } else { packet(rng, &table) };

@@ -1,10 +1,13 @@
 //! The comparisons of a case: every call that goes with it, with what the model says it must answer and write.
 
-use crate::calls::{Calls, Wrong};
+use crate::calls::{Calls, Settled, Wrong};
 use crate::cases::Case;
 use umarekoza::{FIELDS_MOST, LISTING_MOST, RUN_MOST, TABLE_MOST};
 use umarekoza_model as model;
 use umarekoza_model::generate::Rng;
+
+/// What is due where an output is shorter than what is written there.
+const TOO_SHORT: Settled<Vec<u8>> = Err(model::Refusal { number: 11, place: 0 });
 
 /// Compares every call of a case.
 pub fn compare(calls: &mut Calls, case: &Case) -> Result<(), Wrong> {
@@ -20,10 +23,10 @@ pub fn compare(calls: &mut Calls, case: &Case) -> Result<(), Wrong> {
 }
 
 fn compare_text(calls: &mut Calls, text: &[u8]) -> Result<(), Wrong> {
-    let table = model::write_table(text, usize::MAX);
-    let needed = table.map_or(calls.rng.below(100), |table| table.len());
+    let fits = model::write_table(text, usize::MAX);
+    let needed = fits.as_ref().map_or(calls.rng.below(100), Vec::len);
     for room in rooms(&mut calls.rng, needed, TABLE_MOST) {
-        calls.write_table(text, room, &model::write_table(text, room))?;
+        calls.write_table(text, room, if fits.is_ok() && room < needed { &TOO_SHORT } else { &fits })?;
     }
     Ok(())
 }
@@ -40,7 +43,7 @@ fn compare_table(calls: &mut Calls, table: &[u8]) -> Result<(), Wrong> {
 }
 
 fn compare_reading(calls: &mut Calls, table: &[u8], packet: &[u8]) -> Result<(), Wrong> {
-    let fields = (0..).take_while(|index| model::field_label(table, *index).1 > 0).count();
+    let fields = model::field_count(table);
     for run_len in rooms(&mut calls.rng, 4 * fields, RUN_MOST) {
         calls.read_packet((table, packet), run_len, &model::read_packet(table, packet, run_len))?;
     }
@@ -55,8 +58,7 @@ fn compare_listing(calls: &mut Calls, table: &[u8], packet: &[u8]) -> Result<(),
     let listing = model::list_packet(table, packet);
     let (needed, fits) = (listing.len(), Ok(listing));
     for room in rooms(&mut calls.rng, needed, LISTING_MOST) {
-        let too_short = Err(model::Refusal { number: 11, place: 0 });
-        calls.list_packet((table, packet), room, if room < needed { &too_short } else { &fits })?;
+        calls.list_packet((table, packet), room, if room < needed { &TOO_SHORT } else { &fits })?;
     }
     Ok(())
 }
@@ -64,6 +66,7 @@ fn compare_listing(calls: &mut Calls, table: &[u8], packet: &[u8]) -> Result<(),
 /// Lengths of a lent slice that needs `needed`: exactly that, one less, none, some more, and `most`, which the safe
 /// crate lends.
 fn rooms(rng: &mut Rng, needed: usize, most: usize) -> [usize; 5] {
+    assert!(needed <= most, "{needed} are needed, over {most}");
     [needed, needed.saturating_sub(1), 0, needed + rng.between(1, 300), most]
 }
 
