@@ -1,6 +1,6 @@
 //! The generated cases reach the far ends of the limits.
 
-use umarekoza_model::generate::{table, tail, text, Rng};
+use umarekoza_model::generate::{packet, table, tail, text, Rng};
 use umarekoza_model::{check_table, list_packet, read_packet, write_table, Refusal};
 
 /// The head and the end, and 64 records with a label of 40 bytes, a short name of 8, a width of 119 (no number can be
@@ -16,6 +16,9 @@ fn tables_as_long_as_can_be() {
     let good = longest.iter().filter(|table| check_table(table).is_ok()).count();
     assert!(good >= 5, "{good} good tables of {LONGEST_TABLE} bytes");
     assert!(longest.len() > good, "all of them are good");
+    let read = |table: &&&Vec<u8>| read_packet(table, &packet(&mut rng, table), 256).is_ok();
+    let accepted = longest.iter().filter(read).count();
+    assert!(accepted > 2, "{accepted} packets are accepted");
     assert!(tables.iter().all(|table| table.len() <= LONGEST_TABLE || check_table(table).is_err()));
 }
 
