@@ -12,7 +12,7 @@ use Rattle.texts.specs.LineReader.{readForm}
 use Rattle.texts.specs.FrameReader.{linesOf}
 use Rattle.texts.specs.FramePlaces.{upTo}
 use Rattle.texts.specs.LinePlaces.{spanOf, noParts, PartsFor, LineIs, lineAt, LinesAre}
-use Rattle.texts.specs.declared.parts.Span.{Span}
+use Rattle.writing.specs.declared.spans.Span.{Span}
 use Rattle.texts.specs.declared.parts.Parts.{Parts}
 use Rattle.texts.proofs.FrameLeaves.{pieces-first, pieces-none}
 

@@ -20,7 +20,7 @@ use Rattle.texts.specs.FieldPlaces.{SameLabel, WithinLabel, NameIs, Same
 use Rattle.texts.specs.LinePlaces.{spanOf, treeOf, noParts, MaybeIs, WidthIs, ShortIs, PartsFor}
 use Rattle.texts.specs.PartPlaces.{widthDepth, WidthAs, Ending, readEnds, maybeDepth, EndsAs, readBehind}
 use Rattle.texts.specs.PartPlaces.{smallAs, BehindFor}
-use Rattle.texts.specs.declared.parts.Span.{Span}
+use Rattle.writing.specs.declared.spans.Span.{Span}
 use Rattle.texts.specs.declared.parts.Parts.{Parts}
 use Rattle.texts.specs.declared.labels.Label.{Label}
 use Rattle.texts.specs.declared.labels.Label.the-variants as label

@@ -2,7 +2,7 @@
 -- specs/WrongTexts has another, by one computation.
 use mathlib.Core.Path.{_≡_, refl, sym, ap, _∙_}
 use mathlib.Core.Bool.{true, not, false≢true}
-use mathlib.Core.List.{List, _∷_}
+use mathlib.Core.List.{List, [], _∷_, _++_}
 use Prim.Native.Nat.{ℕ}
 use lib.Dec.{leb→le}
 use Rattle.base.specs.Bytes.{digits}
@@ -29,7 +29,15 @@ use Rattle.text_laws.proofs.Refused.{
   not-too-many,
   empty-line,
 }
-use Rattle.texts.specs.WrongTexts.{AllFalse, wrongTexts}
+use Rattle.texts.specs.WrongTexts.{
+  Claim,
+  AllFalse,
+  wrongOutputs,
+  wrongRefusals,
+  wrongPages,
+  wrongPairs,
+  wrongTexts,
+}
 use Rattle.texts.proofs.PairTexts.{pairs-refused}
 use Rattle.texts.proofs.TextResults.{text-unique}
 
@@ -57,11 +65,12 @@ blade-known = spelled (leb→le _ textMost tt) blade-spelled
 free-known : {out : List ℕ} → ReadsText freeText out (delivered (stored freePage) out)
 free-known = spelled (leb→le _ textMost tt) free-spelled
 
--- each wrong program's answer is ruled out
-pub texts-ruled-out : AllFalse wrongTexts
+-- ── each wrong program's answer is ruled out ──
+
+outputs-ruled-out : AllFalse wrongOutputs
 unfolding digits same joined operator le2 le4 storedTree storedIn storedFieldIn fieldBody headBody ofText
     delivered notTimes
-texts-ruled-out =
+outputs-ruled-out =
     other tag-known refl
     also other tag-known refl
     also other blade-known refl
@@ -75,7 +84,13 @@ texts-ruled-out =
     also other (refuses empty-refused) refl
     also other tag-known refl
     also other tag-known refl
-    also other (refuses too-long) refl
+    also tt
+
+refusals-ruled-out : AllFalse wrongRefusals
+unfolding digits same joined operator le2 le4 storedTree storedIn storedFieldIn fieldBody headBody ofText
+    delivered notTimes
+refusals-ruled-out =
+    other (refuses too-long) refl
     also other (refuses bad-byte) refl
     also other (refuses too-many) refl
     also other (refuses not-too-many) refl
@@ -86,14 +101,28 @@ texts-ruled-out =
     also other (refuses unended-refused) refl
     also other (refuses empty-line) refl
     also other (refuses empty-refused) refl
-    also other free-known refl
+    also tt
+
+pages-ruled-out : AllFalse wrongPages
+unfolding digits same joined operator le2 le4 storedTree storedIn storedFieldIn fieldBody headBody ofText
+    delivered notTimes
+pages-ruled-out =
+    other free-known refl
     also other free-known refl
     also other free-known refl
     also other blade-known refl
     also other blade-known refl
     also other blade-known refl
+    also tt
+
+pairs-ruled-out : AllFalse wrongPairs
+unfolding digits same joined operator le2 le4 storedTree storedIn storedFieldIn fieldBody headBody ofText
+    delivered notTimes
+pairs-ruled-out =
+    other (refuses (pairs-refused .crossed-refused)) refl
     also other (refuses (pairs-refused .crossed-refused)) refl
-    also other (refuses (pairs-refused .crossed-refused)) refl
+    also other (refuses (pairs-refused .narrow-refused)) refl
+    also other (refuses (pairs-refused .narrow-refused)) refl
     also other (refuses (pairs-refused .narrow-refused)) refl
     also other (refuses (pairs-refused .narrow-behind)) refl
     also other (refuses (pairs-refused .shared-refused)) refl
@@ -109,3 +138,13 @@ texts-ruled-out =
     also other (refuses (pairs-refused .rests-refused)) refl
     also other (refuses (pairs-refused .rests-refused)) refl
     also tt
+
+all-of : (cs ds : List Claim) → AllFalse cs → AllFalse ds → AllFalse (cs ++ ds)
+all-of [] ds p q = q
+all-of (c ∷ cs) ds p q = (p .0, all-of cs ds (p .1) q)
+
+pub texts-ruled-out : AllFalse wrongTexts
+texts-ruled-out =
+    all-of wrongOutputs (wrongRefusals ++ (wrongPages ++ wrongPairs)) outputs-ruled-out
+    (all-of wrongRefusals (wrongPages ++ wrongPairs) refusals-ruled-out
+    (all-of wrongPages wrongPairs pages-ruled-out pairs-ruled-out))

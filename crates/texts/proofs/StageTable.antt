@@ -24,7 +24,7 @@ use Rattle.texts.specs.Resolving.{described}
 use Rattle.texts.specs.LinePlaces.{lineAt, spanIn}
 use Rattle.texts.specs.Records.{sizeFrom, Sized, tableOf, LineSmall, AllSmall}
 use Rattle.texts.specs.Stages.{FormsSeen, AllKept}
-use Rattle.texts.specs.declared.parts.Span.{Span}
+use Rattle.writing.specs.declared.spans.Span.{Span}
 use Rattle.texts.specs.declared.parts.Parts.{Parts}
 use Rattle.texts.proofs.NamedTypes.{kept-rules}
 use Rattle.texts.proofs.Resolve.{resolved-spells}

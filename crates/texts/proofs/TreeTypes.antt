@@ -20,7 +20,7 @@ use Rattle.texts.specs.LinePlaces.{TreeIs, MaybeIs, WidthIs, PartsAre, l
 use Rattle.texts.specs.LineTests.{typesKept}
 use Rattle.texts.specs.StoredTrees.{mayRead, typeCode, typeOf, StoredFor}
 use Rattle.texts.proofs.LineSearches.{part-text}
-use Rattle.texts.specs.declared.parts.Span.{Span}
+use Rattle.writing.specs.declared.spans.Span.{Span}
 use Rattle.texts.specs.declared.parts.TreeAt.{TreeAt}
 use Rattle.texts.specs.declared.parts.Parts.{Parts}
 use Rattle.texts.specs.declared.stored_trees.StoredTree.{StoredTree}

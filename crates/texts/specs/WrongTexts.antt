@@ -3,7 +3,7 @@
 -- [01, How the promises are judged] [01, Easy ways to go wrong]
 use mathlib.Core.List.{List, [], _∷_, _++_}
 use mathlib.Core.Option.{none, some}
-use Prim.Native.Nat.{ℕ}
+use Prim.Native.Nat.{ℕ, _+_}
 use Prim.Native.String.{String}
 use lib.ListN.{length, replicate, take, drop}
 use Rattle.base.specs.Bytes.{bytes}
@@ -20,6 +20,7 @@ use Rattle.rules.specs.declared.TextAnswer.the-variants.{
   BadRest,
   NoRoom,
 }
+use Rattle.rules.specs.Limits.{textMost, fieldsMost}
 use Rattle.rules.specs.Trees.{Tree, num, read, two, negation}
 use Rattle.rules.specs.Fields.{fixed, rest, Field, Description}
 use Rattle.rules.specs.Stored.{stored}
@@ -155,8 +156,9 @@ twoRests = pageText
 
 -- ── the answers ──
 
-abbrev pub wrongTexts : List Claim
-wrongTexts =
+-- of what is written
+abbrev pub wrongOutputs : List Claim
+wrongOutputs =
     -- every text refused; an output refused that the table just fills
     reads tagText (nines 44) (BadLine 1) (nines 44)
     ∷ reads tagText (nines 44) NoRoom (nines 44)
@@ -178,11 +180,16 @@ wrongTexts =
     -- accepted though the output is too short
     ∷ reads tagText (nines 43) (Accepted 44) (nines 43)
     ∷ reads tagText (nines 43) (Accepted 43) (take 43 tagTable)
+    ∷ []
+
+-- of numbers and places
+abbrev pub wrongRefusals : List Claim
+wrongRefusals =
     -- a later number although a lower one holds: 3 for 1, 3 for 2, 7 for 4, 8 for 7, 7 for 5
-    ∷ leavesIt (replicate 16385 10) (BadLine 1)
+    leavesIt (replicate (1 + textMost) 10) (BadLine 1)
     ∷ leavesIt (tagLines 1 ++ (0x7F ∷ [])) (BadLine 1)
-    ∷ leavesIt (tagLines 65) (Mismatch 12)
-    ∷ leavesIt (tagLines 64) (Repeated 12)
+    ∷ leavesIt (tagLines (1 + fieldsMost)) (Mismatch 12)
+    ∷ leavesIt (tagLines fieldsMost) (Repeated 12)
     ∷ leavesIt (tagLines 1 ++ bytes "\n") (Mismatch 12)
     -- 11 before the text's own faults
     ∷ reads [] [] NoRoom []
@@ -193,8 +200,13 @@ wrongTexts =
     ∷ leavesIt (tagLines 1 ++ bytes "\n") (BadForm 11)
     -- no refusal at all
     ∷ leavesIt [] (Accepted 0)
+    ∷ []
+
+-- of whole pages
+abbrev pub wrongPages : List Claim
+wrongPages =
     -- `10-2 - 1` grouped to the right; a neighbour of Z read
-    ∷ writesTable freeText (freeLast (two Ge (two Sub (num 10) (two Sub (num 2) (num 1))) (read 7)))
+    writesTable freeText (freeLast (two Ge (two Sub (num 10) (two Sub (num 2) (num 1))) (read 7)))
     ∷ writesTable freeText (freeLast (two Ge (two Sub (two Sub (num 10) (num 2)) (num 1)) (read 6)))
     -- `||` that binds closer than `&&`
     ∷ writesTable freeText
@@ -204,11 +216,19 @@ wrongTexts =
     ∷ writesTable bladeText (bladeOf 8 (bladeReport .fields))
     ∷ writesTable bladeText (bladeOf 16 (take 1 (bladeReport .fields)))
     ∷ writesTable bladeText (bladeOf 16 (take 6 (bladeReport .fields)))
+    ∷ []
+
+-- of texts of two cells
+abbrev pub wrongPairs : List Claim
+wrongPairs =
     -- cells matched to lines by name, and the table in the order of either
-    ∷ writesTable crossed (pair (four "A") (four "B"))
+    writesTable crossed (pair (four "A") (four "B"))
     ∷ writesTable crossed (pair (four "B") (four "A"))
     -- the widths of cells passed over
     ∷ writesTable narrow (pair (four "A") (unnamed "B" (fixed 3) none none))
+    -- the line before the one that disagrees with its cell, or the one behind it
+    ∷ leavesIt narrow (Mismatch 11)
+    ∷ leavesIt narrow (Mismatch 13)
     -- the first line that is wrong in any way: 9 at 11 for 7 at 12
     ∷ leavesIt narrowBehind (BadName 11)
     -- a repeated short name accepted, or refused at the first of the two
@@ -232,3 +252,6 @@ wrongTexts =
     ∷ writesTable twoRests (pair (unnamed "A" rest none none) (unnamed "B" rest none none))
     ∷ leavesIt twoRests (BadRest 13)
     ∷ []
+
+abbrev pub wrongTexts : List Claim
+wrongTexts = wrongOutputs ++ (wrongRefusals ++ (wrongPages ++ wrongPairs))

@@ -1,8 +1,8 @@
 // The opening line of a text, and where the name stands in it.
-use crate::parts::Span;
 use crate::text_bytes::line_end;
 use names::labels::is_label;
 use names::words::same_words;
+use writing::spans::Span;
 ghost use mathlib.Core.Bool.{cond};
 ghost use mathlib.Core.Path.{_≡_};
 ghost use Prim.Native.Nat.{_+_, _≤_, _<_};
