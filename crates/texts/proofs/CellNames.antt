@@ -15,7 +15,7 @@ use Rattle.rules.specs.Names.{isLabel, noTwoSpaces}
 use Rattle.rules.specs.Fields.{Width, fixed, measured, rest, Form, cellNames}
 use Rattle.rules.specs.Frames.{Slot}
 use Rattle.rules.specs.Spelling.{isPlaceFor}
-use Rattle.texts.specs.FrameReader.{leftTrim, rightTrim}
+use Rattle.text_laws.specs.FrameReader.{leftTrim, rightTrim}
 use Rattle.texts.specs.LinePlaces.{spanIn, WidthIs, ShortIs, LineOf}
 use Rattle.texts.specs.Mismatches.{shownOf, isNameIn, isPlaceIn, ShowsIs}
 use Rattle.writing.specs.declared.spans.Span.{Span}

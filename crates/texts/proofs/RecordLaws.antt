@@ -15,8 +15,8 @@ use Rattle.rules.specs.Limits.{storedMost}
 use Rattle.rules.specs.Trees.{Tree, le2, storedTree, storedLength}
 use Rattle.rules.specs.Fields.{Width, fixed, measured, rest, Form}
 use Rattle.rules.specs.Stored.{storedFieldIn, counted, storedWidth, storedName, storedMaybe, fieldBody, storedField}
-use Rattle.texts.specs.LineReader.{hit, readTree}
-use Rattle.texts.specs.Resolving.{renameTree, renameWidth}
+use Rattle.text_laws.specs.LineReader.{hit, readTree}
+use Rattle.text_laws.specs.Resolving.{renameTree, renameWidth}
 use Rattle.texts.specs.LinePlaces.{MaybeIs, WidthIs, ShortIs, PartsAre}
 use Rattle.texts.specs.StoredTrees.{lookUp, StoredFor}
 use Rattle.texts.specs.Records.{widthSize, fieldSize, indexed}

@@ -27,7 +27,7 @@ use Rattle.rules.specs.Answers.{faultNumber}
 use Rattle.rules.specs.Promises.{delivered, readingAnswer, packetOutcome, readingLines, firstNamed, spelled}
 use Rattle.laws.specs.Wrong.{AllFalse}
 use Rattle.laws.proofs.RuledOut.{all-out}
-use Rattle.texts.proofs.RuledOutTexts.{other, tag-known}
+use Rattle.text_laws.proofs.RuledOutTexts.{other, tag-known}
 use Rattle.umarekoza.specs.WrongReplies.{wrongReplies, WrongTextReplies}
 
 pub replies-ruled-out : AllFalse wrongReplies

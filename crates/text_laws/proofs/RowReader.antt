@@ -10,10 +10,10 @@ use Rattle.base.specs.Lists.{all, isEmpty, joined, sum}
 use Rattle.base.proofs.Lists.{and-left, and-right, all-append}
 use Rattle.rules.specs.Names.{isLabelByte}
 use Rattle.rules.specs.Frames.{Cell, cellText, isCell, Row, bitRow, longRow, rowLines, isRow, isLine}
-use Rattle.texts.specs.FrameReader.{pieces, rest, cellOf, keepRow, longOf, readRow}
-use Rattle.texts.proofs.SplitLaws.{isFree, endedBy, pieces-joined, rest-joined, pieces-cons, rest-cons}
-use Rattle.texts.proofs.SplitLaws.{split-joined}
-use Rattle.texts.proofs.RowCells.{cellText-of, cellOf-text, cell-free, bar, colon, feed}
+use Rattle.text_laws.specs.FrameReader.{pieces, rest, cellOf, keepRow, longOf, readRow}
+use Rattle.text_laws.proofs.SplitLaws.{isFree, endedBy, pieces-joined, rest-joined, pieces-cons, rest-cons}
+use Rattle.text_laws.proofs.SplitLaws.{split-joined}
+use Rattle.text_laws.proofs.RowCells.{cellText-of, cellOf-text, cell-free, bar, colon, feed}
 
 -- the characters of cells, each with a bar behind it
 abbrev pub barred : List Cell → List ℕ

@@ -29,7 +29,7 @@ use Rattle.text_laws.proofs.Refused.{
   not-too-many,
   empty-line,
 }
-use Rattle.texts.specs.WrongTexts.{
+use Rattle.text_laws.specs.WrongTexts.{
   Claim,
   AllFalse,
   wrongOutputs,
@@ -38,8 +38,8 @@ use Rattle.texts.specs.WrongTexts.{
   wrongPairs,
   wrongTexts,
 }
-use Rattle.texts.proofs.PairTexts.{pairs-refused}
-use Rattle.texts.proofs.TextResults.{text-unique}
+use Rattle.text_laws.proofs.PairTexts.{pairs-refused}
+use Rattle.text_laws.proofs.TextResults.{text-unique}
 
 -- ── another outcome than the one there is ──
 

@@ -20,9 +20,9 @@ use Rattle.rules.specs.Within.{isWidth}
 use Rattle.rules.specs.Expressions.{gap, SpellsAt, number, field, two-sided, negated, parentheses}
 use Rattle.rules.specs.Lines.{UnitWord, bit-word, bits-word, byte-word, bytes-word, shortText, Remark, Measure}
 use Rattle.rules.specs.Lines.{SpellsWidth, SpellsMaybe, SpellsField, Unresolved}
 use Rattle.text_laws.proofs.OperatorTable.{each}
 use Rattle.text_laws.proofs.ReaderWords.{number-bytes, short-bytes}
-use Rattle.texts.proofs.LineNames.{label-bytes}
+use Rattle.text_laws.proofs.LineNames.{label-bytes}
 
 -- ── bytes ──
 

@@ -9,13 +9,13 @@ use native.Mathlib.Omega.{arith}
 use Rattle.base.specs.Lists.{all, isEmpty, joined}
 use Rattle.rules.specs.Names.{lineFeed}
 use Rattle.rules.specs.Frames.{isLine, ended, Frame, frameText, FrameOf, Row}
-use Rattle.texts.specs.FrameReader.{rest, linesOf, Top, State, begun, named, spaced, ruled, counted}
-use Rattle.texts.specs.FrameReader.{bordered, rowed, closed, headed, filled, onState, run, whole, readFrame}
-use Rattle.texts.proofs.SplitLaws.{split-joined, pieces-are-free, lines-joined, lines-end}
-use Rattle.texts.proofs.FrameStates.{stateLines, Sane, Reached}
-use Rattle.texts.proofs.FrameSound.{fields-are-lines, run-sound}
-use Rattle.texts.proofs.FrameRun.{topOf, frame-kept, kept-frame, frameLines, frameLines-are}
-use Rattle.texts.proofs.FrameRun.{lines-are-lines, run-filled}
+use Rattle.text_laws.specs.FrameReader.{rest, linesOf, Top, State, begun, named, spaced, ruled, counted}
+use Rattle.text_laws.specs.FrameReader.{bordered, rowed, closed, headed, filled, onState, run, whole, readFrame}
+use Rattle.text_laws.proofs.SplitLaws.{split-joined, pieces-are-free, lines-joined, lines-end}
+use Rattle.text_laws.proofs.FrameStates.{stateLines, Sane, Reached}
+use Rattle.text_laws.proofs.FrameSound.{fields-are-lines, run-sound}
+use Rattle.text_laws.proofs.FrameRun.{topOf, frame-kept, kept-frame, frameLines, frameLines-are}
+use Rattle.text_laws.proofs.FrameRun.{lines-are-lines, run-filled}
 
 -- ── sound ──
 

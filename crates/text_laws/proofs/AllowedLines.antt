@@ -45,9 +45,9 @@ use Rattle.rules.specs.Lines.{
   SpellsMaybe,
   SpellsField,
 }
 use Rattle.text_laws.proofs.OperatorTable.{each}
 use Rattle.text_laws.proofs.ReaderWords.{number-bytes, short-bytes}
-use Rattle.texts.proofs.NamedFields.{formed-names}
+use Rattle.text_laws.proofs.NamedFields.{formed-names}
 
 -- each byte may stand in a line
 abbrev pub printable : List ℕ → Bool

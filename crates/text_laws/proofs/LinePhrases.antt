@@ -9,12 +9,12 @@ use Rattle.base.specs.Bytes.{bytes}
 use Rattle.base.specs.Lists.{isNone}
 use Rattle.rules.specs.Trees.{Tree}
 use Rattle.rules.specs.Lines.{SpellsMaybe, Unresolved}
 use Rattle.text_laws.specs.Reader.{after}
 use Rattle.text_laws.proofs.ReaderComplete.{Stop, stop-semicolon, stop-dot}
-use Rattle.texts.specs.LineReader.{hit, bind, literal, begins, readTree, readPhrase}
-use Rattle.texts.specs.LineReader.{readMaybe, isCondition, isConstraint, readConstraint, readCondition}
-use Rattle.texts.proofs.Combine.{Holds, holds-cond, holds-bind, literal-sound, literal-finds}
-use Rattle.texts.proofs.LineTrees.{TreeFront, tree-sound, tree-finds, barren-not, present-barren}
+use Rattle.text_laws.specs.LineReader.{hit, bind, literal, begins, readTree, readPhrase}
+use Rattle.text_laws.specs.LineReader.{readMaybe, isCondition, isConstraint, readConstraint, readCondition}
+use Rattle.text_laws.proofs.Combine.{Holds, holds-cond, holds-bind, literal-sound, literal-finds}
+use Rattle.text_laws.proofs.LineTrees.{TreeFront, tree-sound, tree-finds, barren-not, present-barren}
 
 -- ── what may stand behind ──
 

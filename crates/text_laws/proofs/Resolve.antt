@@ -23,9 +23,9 @@ use Rattle.rules.specs.Lines.{SpellsField, Unresolved}
 use Rattle.rules.specs.Frames.{Frame, FrameOf, isFrame, isRow, isLine, cells, isOverfull}
 use Rattle.rules.specs.Spelling.{Spells, NameOf, shows}
 use Rattle.rules.specs.Refusals.{ruleBroken}
-use Rattle.texts.specs.Resolving.{firstIndex, indexOf, renameTree, renameWidth, renameField, resolve, described}
-use Rattle.texts.proofs.Named.{renamed}
-use Rattle.texts.proofs.NamedFields.{
+use Rattle.text_laws.specs.Resolving.{firstIndex, indexOf, renameTree, renameWidth, renameField, resolve, described}
+use Rattle.text_laws.proofs.Named.{renamed}
+use Rattle.text_laws.proofs.NamedFields.{
   NamedWidth,
   named-fixed,
   named-measured,
@@ -36,10 +36,10 @@ use Rattle.texts.proofs.NamedFields.{
   NamedField,
   named-field-spelled,
 }
-use Rattle.texts.proofs.NamedRules.{same-sizes, same-unique, same-rests, same-mismatch, mismatch-each}
-use Rattle.texts.proofs.NamedTypes.{any-element, Kept, rules-kept, same-types}
-use Rattle.texts.proofs.ResolveRows.{rows-fit}
-use Rattle.texts.proofs.FormedLines.{bare-lines}
+use Rattle.text_laws.proofs.NamedRules.{same-sizes, same-unique, same-rests, same-mismatch, mismatch-each}
+use Rattle.text_laws.proofs.NamedTypes.{any-element, Kept, rules-kept, same-types}
+use Rattle.text_laws.proofs.ResolveRows.{rows-fit}
+use Rattle.text_laws.proofs.FormedLines.{bare-lines}
 
 -- ── names to indexes ──
 

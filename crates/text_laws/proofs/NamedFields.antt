@@ -30,7 +30,7 @@ use Rattle.rules.specs.Lines.{SpellsWidth, SpellsMaybe, SpellsField, Unresolved
 use Rattle.rules.specs.Expressions.{SpellsAt}
 use Rattle.rules.specs.Frames.{Slot}
 use Rattle.rules.specs.Spelling.{isPlaceFor, shows}
-use Rattle.texts.proofs.Named.{
+use Rattle.text_laws.proofs.Named.{
   Named,
   named-number,
   named-unique,

@@ -8,9 +8,9 @@ use lib.Dec.{eqb}
 use borrow.Author.Tests.{eqb-true}
 use Rattle.base.specs.Lists.{isNone}
 use Rattle.base.proofs.Lists.{not-both, fails}
 use Rattle.text_laws.specs.Reader.{after}
 use Rattle.text_laws.proofs.ReaderSymbols.{after-self}
-use Rattle.texts.specs.LineReader.{Got, miss, hit, bind, keep, given, passed, literal, begins}
+use Rattle.text_laws.specs.LineReader.{Got, miss, hit, bind, keep, given, passed, literal, begins}
 
 -- P holds of the answer, if there is one
 abbrev pub Holds : {A : Type 0} → (A → List ℕ → Type 0) → Got A → Type 0

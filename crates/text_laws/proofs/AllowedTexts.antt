@@ -38,10 +38,10 @@ use Rattle.rules.specs.Frames.{
   FrameOf,
 }
 use Rattle.rules.specs.Spelling.{Spells, NameOf}
-use Rattle.texts.proofs.NamedRules.{name-short}
-use Rattle.texts.proofs.Resolve.{frame-parts}
-use Rattle.texts.proofs.AllowedLines.{printable, printable-both, label-is-printable, field-printable}
-use Rattle.texts.proofs.FormedLines.{formed-lines}
+use Rattle.text_laws.proofs.NamedRules.{name-short}
+use Rattle.text_laws.proofs.Resolve.{frame-parts}
+use Rattle.text_laws.proofs.AllowedLines.{printable, printable-both, label-is-printable, field-printable}
+use Rattle.text_laws.proofs.FormedLines.{formed-lines}
 
 -- ── rulers and borders ──
 

@@ -14,13 +14,13 @@ use Rattle.rules.specs.Names.{isLetter, isDigit, isWordByte, isShort, isReserve
 use Rattle.rules.specs.Trees.{Tree}
 use Rattle.rules.specs.Expressions.{SpellsTree}
 use Rattle.rules.specs.Lines.{Unresolved}
 use Rattle.text_laws.specs.Reader.{word, isNumeral, isNumberWord, Out, fail, got, andThen, leaf, atom, expr}
 use Rattle.text_laws.proofs.ReaderComplete.{Stop}
 use Rattle.text_laws.proofs.ReaderUnique.{found-is}
 use Rattle.text_laws.proofs.ReaderSound.{Good, sound}
-use Rattle.texts.specs.LineReader.{miss, hit, begins, ofOut, readTree}
-use Rattle.texts.proofs.Combine.{Holds}
-use Rattle.texts.proofs.Combine.{begins-split}
+use Rattle.text_laws.specs.LineReader.{miss, hit, begins, ofOut, readTree}
+use Rattle.text_laws.proofs.Combine.{Holds}
+use Rattle.text_laws.proofs.Combine.{begins-split}
 
 -- ── an expression ──
 

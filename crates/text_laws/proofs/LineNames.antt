@@ -13,12 +13,12 @@ use Rattle.base.proofs.Lists.{and-left, and-right}
 use Rattle.rules.specs.Limits.{labelMost}
 use Rattle.rules.specs.Names.{isLetter, isDigit, isSpace, isWordByte, isLabelByte, isLabel, isShort}
 use Rattle.rules.specs.Lines.{shortText}
 use Rattle.text_laws.specs.Reader.{after, word, behind}
 use Rattle.text_laws.proofs.ReaderWords.{word-behind, word-is, behind-is, short-bytes}
-use Rattle.texts.specs.LineReader.{hit, bind, keep, literal, begins, labelEnds, labelText}
-use Rattle.texts.specs.LineReader.{labelBehind, readLabel, readName, readShort}
-use Rattle.texts.proofs.Combine.{Holds, holds-keep, holds-cond, holds-bind, literal-sound}
-use Rattle.texts.proofs.Combine.{differs}
+use Rattle.text_laws.specs.LineReader.{hit, bind, keep, literal, begins, labelEnds, labelText}
+use Rattle.text_laws.specs.LineReader.{labelBehind, readLabel, readName, readShort}
+use Rattle.text_laws.proofs.Combine.{Holds, holds-keep, holds-cond, holds-bind, literal-sound}
+use Rattle.text_laws.proofs.Combine.{differs}
 
 -- ── labels ──
 

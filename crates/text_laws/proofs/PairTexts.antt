@@ -67,8 +67,8 @@ use Rattle.text_laws.specs.Reader.{
   expr,
   more,
 }
 use Rattle.text_laws.proofs.Refused.{plain-text}
-use Rattle.texts.specs.LineReader.{
+use Rattle.text_laws.specs.LineReader.{
   literal,
   begins,
   labelEnds,
@@ -92,8 +92,8 @@ use Rattle.texts.specs.LineReader.{
   isRemark,
   readForm,
 }
-use Rattle.texts.specs.FrameReader as Frames
-use Rattle.texts.specs.FrameReader.{
+use Rattle.text_laws.specs.FrameReader as Frames
+use Rattle.text_laws.specs.FrameReader.{
   onFirst,
   pieces,
   rest,
@@ -119,7 +119,7 @@ use Rattle.texts.specs.FrameReader.{
   whole,
   readFrame,
 }
-use Rattle.texts.specs.WrongTexts.{
+use Rattle.text_laws.specs.WrongTexts.{
   crossed,
   narrow,
   narrowBehind,
@@ -133,9 +133,9 @@ use Rattle.texts.specs.WrongTexts.{
   deep,
   twoRests,
 }
-use Rattle.texts.proofs.FormExact.{form-sound, form-complete}
-use Rattle.texts.proofs.FrameExact.{frame-sound, frame-none}
-use Rattle.texts.proofs.FrameRight.{right-lines}
+use Rattle.text_laws.proofs.FormExact.{form-sound, form-complete}
+use Rattle.text_laws.proofs.FrameExact.{frame-sound, frame-none}
+use Rattle.text_laws.proofs.FrameRight.{right-lines}
 
 -- ── the forms of lines ──
 

@@ -7,10 +7,10 @@ use Rattle.rules.specs.declared.TextAnswer.{TextAnswer}
 use Rattle.rules.specs.Promises.{ReadsText, leaves}
 use Rattle.rules.specs.Results.{SpellingUnique, TextTotal, TextUnique}
 use Rattle.laws.proofs.Settled as Settled
-use Rattle.texts.proofs.FormExact.{form-unique, form-decidable}
-use Rattle.texts.proofs.FrameExact.{frame-unique, frame-decidable}
-use Rattle.texts.proofs.FrameRight.{right-unique, right-total}
-use Rattle.texts.proofs.Answered as Answered
+use Rattle.text_laws.proofs.FormExact.{form-unique, form-decidable}
+use Rattle.text_laws.proofs.FrameExact.{frame-unique, frame-decidable}
+use Rattle.text_laws.proofs.FrameRight.{right-unique, right-total}
+use Rattle.text_laws.proofs.Answered as Answered
 use Rattle.rules.specs.Answers.{ofText}
 
 pub spelling-unique : SpellingUnique

@@ -13,8 +13,8 @@ use Rattle.rules.specs.Limits.{labelMost}
 use Rattle.rules.specs.Names.{lineFeed, isLabel, isLabelByte, isWordByte, isLetter, isDigit, isSpace, hasWordEnds}
 use Rattle.rules.specs.Names.{noTwoSpaces}
 use Rattle.rules.specs.Frames.{Cell, cellText, isCell}
-use Rattle.texts.specs.FrameReader.{lead, leftTrim, keepEnd, rightTrim, cellOf}
-use Rattle.texts.proofs.SplitLaws.{isFree}
+use Rattle.text_laws.specs.FrameReader.{lead, leftTrim, keepEnd, rightTrim, cellOf}
+use Rattle.text_laws.proofs.SplitLaws.{isFree}
 
 -- ── what a label is ──
 

@@ -35,9 +35,9 @@ use Rattle.rules.specs.Refusals.{
 }
 use Rattle.rules.specs.Promises.{Outcome, leaves, delivered, ReadsText, spelled, refuses}
 use Rattle.rules.specs.Results.{SpellingUnique, TextTotal, TextUnique}
-use Rattle.texts.proofs.NamedForms.{FormsOf, forms-named, description-settled}
-use Rattle.texts.proofs.Resolve.{resolved}
-use Rattle.texts.proofs.AllowedTexts.{spelled-allowed}
+use Rattle.text_laws.proofs.NamedForms.{FormsOf, forms-named, description-settled}
+use Rattle.text_laws.proofs.Resolve.{resolved}
+use Rattle.text_laws.proofs.AllowedTexts.{spelled-allowed}
 
 -- ── lines without a form ──
 

@@ -16,14 +16,14 @@ use Rattle.base.proofs.Joined.{joined-append}
 use Rattle.rules.specs.Names.{lineFeed}
 use Rattle.rules.specs.Frames.{isLine, ended, Frame, frameText}
 use Rattle.rules.specs.Refusals.{lineCount, Begins, RightLines}
-use Rattle.texts.specs.FrameReader.{linesOf, State, begun, filled, step, onState, run, rightFrom, rightLines}
-use Rattle.texts.proofs.SplitLaws.{pieces-joined, pieces-are-free, lines-joined, lineCount-lines}
-use Rattle.texts.proofs.SplitLaws.{firstLines-lines}
-use Rattle.texts.proofs.FrameStates.{stateLines, Reached}
-use Rattle.texts.proofs.FrameSound.{run-sound}
-use Rattle.texts.proofs.FrameRun.{topOf, frame-kept, kept-frame, frameLines, frameLines-are}
-use Rattle.texts.proofs.FrameRun.{lines-are-lines, run-filled}
-use Rattle.texts.proofs.FrameAhead.{Ahead, ahead}
+use Rattle.text_laws.specs.FrameReader.{linesOf, State, begun, filled, step, onState, run, rightFrom, rightLines}
+use Rattle.text_laws.proofs.SplitLaws.{pieces-joined, pieces-are-free, lines-joined, lineCount-lines}
+use Rattle.text_laws.proofs.SplitLaws.{firstLines-lines}
+use Rattle.text_laws.proofs.FrameStates.{stateLines, Reached}
+use Rattle.text_laws.proofs.FrameSound.{run-sound}
+use Rattle.text_laws.proofs.FrameRun.{topOf, frame-kept, kept-frame, frameLines, frameLines-are}
+use Rattle.text_laws.proofs.FrameRun.{lines-are-lines, run-filled}
+use Rattle.text_laws.proofs.FrameAhead.{Ahead, ahead}
 
 -- ── the number of lines that are read ──
 

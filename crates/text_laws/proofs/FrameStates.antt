@@ -12,9 +12,9 @@ use Rattle.base.proofs.Lists.{not-both}
 use Rattle.rules.specs.Names.{isLabel}
 use Rattle.rules.specs.Within.{isRowWidth}
 use Rattle.rules.specs.Frames.{tens, units, border, Row, rowLines, isRow, article}
-use Rattle.texts.specs.FrameReader.{closing, Top, State, begun, named, spaced, ruled, counted, bordered}
-use Rattle.texts.specs.FrameReader.{rowed, closed, headed, filled}
-use Rattle.texts.proofs.RowReader.{rowLine}
+use Rattle.text_laws.specs.FrameReader.{closing, Top, State, begun, named, spaced, ruled, counted, bordered}
+use Rattle.text_laws.specs.FrameReader.{rowed, closed, headed, filled}
+use Rattle.text_laws.proofs.RowReader.{rowLine}
 
 abbrev pub openingLine : Bool → List ℕ → List ℕ
 openingLine an n = article an ++ (n ++ closing)

@@ -18,14 +18,14 @@ use Rattle.rules.specs.Fields.{Width, fixed, measured, rest, Form, widthTrees, 
 use Rattle.rules.specs.Within.{isWidth, isFormed}
 use Rattle.rules.specs.Expressions.{SpellsAt, number, field, two-sided, negated, parentheses}
 use Rattle.rules.specs.Lines.{shortText, Remark, SpellsWidth, SpellsMaybe, SpellsField, Unresolved}
-use Rattle.texts.specs.LineReader.{Got, miss, hit, literal, readLabel, readShort, readWidth}
-use Rattle.texts.specs.LineReader.{isConstraint, isCondition, readConstraint, readCondition, readField, isRemark}
-use Rattle.texts.specs.LineReader.{formOf, readForm}
-use Rattle.texts.proofs.Combine.{Holds, holds-bind, literal-sound, literal-finds}
-use Rattle.texts.proofs.LineNames.{label-sound, label-finds, short-sound, short-finds, short-stop}
-use Rattle.texts.proofs.LinePhrases.{Closes, closes-stop, maybe-closes, MaybeFront, maybe-sound}
-use Rattle.texts.proofs.LinePhrases.{condition-finds, no-constraint, constraint-finds}
-use Rattle.texts.proofs.LineWidths.{WidthFront, width-sound, width-finds}
+use Rattle.text_laws.specs.LineReader.{Got, miss, hit, literal, readLabel, readShort, readWidth}
+use Rattle.text_laws.specs.LineReader.{isConstraint, isCondition, readConstraint, readCondition, readField, isRemark}
+use Rattle.text_laws.specs.LineReader.{formOf, readForm}
+use Rattle.text_laws.proofs.Combine.{Holds, holds-bind, literal-sound, literal-finds}
+use Rattle.text_laws.proofs.LineNames.{label-sound, label-finds, short-sound, short-finds, short-stop}
+use Rattle.text_laws.proofs.LinePhrases.{Closes, closes-stop, maybe-closes, MaybeFront, maybe-sound}
+use Rattle.text_laws.proofs.LinePhrases.{condition-finds, no-constraint, constraint-finds}
+use Rattle.text_laws.proofs.LineWidths.{WidthFront, width-sound, width-finds}
 
 -- ── numbers in range ──
 

@@ -25,7 +25,7 @@ use Rattle.rules.specs.Trees.{
 use Rattle.rules.specs.Names.{isShort}
 use Rattle.rules.specs.Expressions.{SpellsAt, number, field, two-sided, negated, parentheses}
 use Rattle.rules.specs.Lines.{Unresolved}
-use Rattle.texts.specs.Resolving.{renameTree}
+use Rattle.text_laws.specs.Resolving.{renameTree}
 
 -- the tree on the right has at each read field of the left one a name for it, and is the same else
 pub data Named {N : Type 0} (R : N → List ℕ → Type 0) : Tree N → Tree (List ℕ) → Type 0 where

@@ -15,7 +15,7 @@ use Rattle.rules.specs.Fields.{Field, Form, isRest, readNames}
 use Rattle.rules.specs.Within.{sameShort, keepsForm, keepsSize, clash, keepsNames, keepsRest}
 use Rattle.rules.specs.Frames.{Slot}
 use Rattle.rules.specs.Spelling.{shows, mismatch, NameOf}
-use Rattle.texts.proofs.NamedFields.{
+use Rattle.text_laws.proofs.NamedFields.{
   NamedField,
   formed-names,
   same-small,

@@ -15,14 +15,14 @@ use Rattle.rules.specs.Fields.{Width, fixed, measured, rest}
 use Rattle.rules.specs.Within.{isWidth}
 use Rattle.rules.specs.Expressions.{SpellsTree}
 use Rattle.rules.specs.Lines.{UnitWord, bit-word, bits-word, byte-word, bytes-word, Measure, SpellsWidth, Unresolved}
 use Rattle.text_laws.specs.Reader.{after, word, behind}
 use Rattle.text_laws.proofs.ReaderWords.{Ends, word-behind, word-is, behind-is}
 use Rattle.text_laws.proofs.ReaderComplete.{Stop, stop-word}
-use Rattle.texts.specs.LineReader.{hit, bind, keep, literal, begins, readTree, unitOf, readUnit}
-use Rattle.texts.specs.LineReader.{widthOf, readMeasure, readWidth}
-use Rattle.texts.proofs.Combine.{Holds, holds-keep, holds-cond, holds-given, holds-bind, literal-sound}
-use Rattle.texts.proofs.Combine.{literal-finds}
-use Rattle.texts.proofs.LineTrees.{TreeFront, tree-sound, tree-finds, barren-not, variable-barren}
+use Rattle.text_laws.specs.LineReader.{hit, bind, keep, literal, begins, readTree, unitOf, readUnit}
+use Rattle.text_laws.specs.LineReader.{widthOf, readMeasure, readWidth}
+use Rattle.text_laws.proofs.Combine.{Holds, holds-keep, holds-cond, holds-given, holds-bind, literal-sound}
+use Rattle.text_laws.proofs.Combine.{literal-finds}
+use Rattle.text_laws.proofs.LineTrees.{TreeFront, tree-sound, tree-finds, barren-not, variable-barren}
 
 -- ── units ──
 

@@ -14,13 +14,13 @@ use Rattle.rules.specs.Names.{isLabel, lineFeed}
 use Rattle.rules.specs.Within.{isRowWidth}
 use Rattle.rules.specs.Frames.{tens, units, border, Row, bitRow, longRow, rowLines, isRow, isLine, Frame, isFrame}
 use Rattle.rules.specs.Frames.{headLines, article}
-use Rattle.texts.specs.FrameReader.{closing, Top, State, begun, named, spaced, ruled, counted, bordered}
-use Rattle.texts.specs.FrameReader.{rowed, closed, headed, filled, onWidth, onRow, rowOrEnd, onSame, step}
-use Rattle.texts.specs.FrameReader.{run}
-use Rattle.texts.proofs.RowCells.{label-free, feed}
-use Rattle.texts.proofs.RowReader.{rowLine, rowLines-one, row-complete, row-line}
-use Rattle.texts.proofs.FrameStates.{openingLine, pairs, stateLines, IsTop, AreRows}
-use Rattle.texts.proofs.FrameTop.{opened-complete, tens-complete, ruler-lines}
+use Rattle.text_laws.specs.FrameReader.{closing, Top, State, begun, named, spaced, ruled, counted, bordered}
+use Rattle.text_laws.specs.FrameReader.{rowed, closed, headed, filled, onWidth, onRow, rowOrEnd, onSame, step}
+use Rattle.text_laws.specs.FrameReader.{run}
+use Rattle.text_laws.proofs.RowCells.{label-free, feed}
+use Rattle.text_laws.proofs.RowReader.{rowLine, rowLines-one, row-complete, row-line}
+use Rattle.text_laws.proofs.FrameStates.{openingLine, pairs, stateLines, IsTop, AreRows}
+use Rattle.text_laws.proofs.FrameTop.{opened-complete, tens-complete, ruler-lines}
 
 -- ── what a frame keeps ──
 

@@ -17,8 +17,8 @@ use Rattle.rules.specs.Lines.{SpellsLine, SpellsField, Unresolved}
 use Rattle.rules.specs.Frames.{Frame, cells, isOverfull}
 use Rattle.rules.specs.Spelling.{Spells, NameOf, shows}
 use Rattle.rules.specs.Refusals.{ruleBroken}
-use Rattle.texts.proofs.NamedFields.{NamedField, spelled-field, unique-fields}
-use Rattle.texts.proofs.NamedRules.{
+use Rattle.text_laws.proofs.NamedFields.{NamedField, spelled-field, unique-fields}
+use Rattle.text_laws.proofs.NamedRules.{
   NameIn,
   name-unique,
   name-short,
@@ -28,8 +28,8 @@ use Rattle.texts.proofs.NamedRules.{
   same-mismatch,
   each-mismatch,
 }
-use Rattle.texts.proofs.NamedTypes.{Kept, kept-rules, same-types}
-use Rattle.texts.proofs.FormedLines.{formed-lines}
+use Rattle.text_laws.proofs.NamedTypes.{Kept, kept-rules, same-types}
+use Rattle.text_laws.proofs.FormedLines.{formed-lines}
 
 -- ── forms there are ──
 

@@ -9,12 +9,12 @@ use Rattle.base.proofs.Lists.{all-append}
 use Rattle.rules.specs.Names.{isLabel, isLabelByte, isWordByte, isLetter, isDigit, isSpace, noTwoSpaces}
 use Rattle.rules.specs.Within.{isRowWidth}
 use Rattle.rules.specs.Frames.{tens, units, border, Row, bitRow, isRow, isLine, Frame}
-use Rattle.texts.specs.FrameReader.{Top, State, begun, named, spaced, ruled, counted, bordered, rowed}
-use Rattle.texts.specs.FrameReader.{closed, headed, filled}
-use Rattle.texts.proofs.RowReader.{rowLine}
-use Rattle.texts.proofs.FrameStates.{stateLines, IsTop, Sane, width-cases}
-use Rattle.texts.proofs.FrameSound.{framed-more, framed-row, more-rows, fields-are-lines}
-use Rattle.texts.proofs.FrameRun.{Kept, frameLines, frameLines-are}
+use Rattle.text_laws.specs.FrameReader.{Top, State, begun, named, spaced, ruled, counted, bordered, rowed}
+use Rattle.text_laws.specs.FrameReader.{closed, headed, filled}
+use Rattle.text_laws.proofs.RowReader.{rowLine}
+use Rattle.text_laws.proofs.FrameStates.{stateLines, IsTop, Sane, width-cases}
+use Rattle.text_laws.proofs.FrameSound.{framed-more, framed-row, more-rows, fields-are-lines}
+use Rattle.text_laws.proofs.FrameRun.{Kept, frameLines, frameLines-are}
 
 -- a frame whose lines begin with these
 pub record Ahead (ls : List (List ℕ)) : Type 0 where

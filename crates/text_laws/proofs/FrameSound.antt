@@ -10,12 +10,12 @@ use Rattle.base.proofs.Lists.{same-true, all-append, all-back}
 use Rattle.base.proofs.Joined.{joined-append, joined-one}
 use Rattle.rules.specs.Names.{isLabel}
 use Rattle.rules.specs.Frames.{tens, units, border, Row, rowLines, isRow, isLine}
-use Rattle.texts.specs.FrameReader.{readRow, readTens, Top, State, begun, named, spaced, ruled, counted}
-use Rattle.texts.specs.FrameReader.{bordered, rowed, closed, headed, filled, onWidth, onRow, rowOrEnd}
-use Rattle.texts.specs.FrameReader.{onSame, step, onState, run}
-use Rattle.texts.proofs.RowReader.{rowLine, rowLines-one, Reads, row-sound}
-use Rattle.texts.proofs.FrameStates.{openingLine, pairs, framed, stateLines, IsTop, AreRows, Sane, Reached}
-use Rattle.texts.proofs.FrameTop.{opened-sound, Widths, tens-sound}
+use Rattle.text_laws.specs.FrameReader.{readRow, readTens, Top, State, begun, named, spaced, ruled, counted}
+use Rattle.text_laws.specs.FrameReader.{bordered, rowed, closed, headed, filled, onWidth, onRow, rowOrEnd}
+use Rattle.text_laws.specs.FrameReader.{onSame, step, onState, run}
+use Rattle.text_laws.proofs.RowReader.{rowLine, rowLines-one, Reads, row-sound}
+use Rattle.text_laws.proofs.FrameStates.{openingLine, pairs, framed, stateLines, IsTop, AreRows, Sane, Reached}
+use Rattle.text_laws.proofs.FrameTop.{opened-sound, Widths, tens-sound}
 
 -- ── lines at the end ──
 

@@ -24,10 +24,10 @@ use Rattle.rules.specs.Answers.{Answer, refused}
 use Rattle.rules.specs.Frames.{Frame, cells, lineNumber}
 use Rattle.rules.specs.Spelling.{mismatch, NameOf}
 use Rattle.rules.specs.Refusals.{ruleBroken}
-use Rattle.texts.specs.Resolving.{firstIndex}
-use Rattle.texts.proofs.Named.{named-type}
-use Rattle.texts.proofs.NamedFields.{NamedField, same-fixed-width, same-if-any, same-type-width}
-use Rattle.texts.proofs.NamedRules.{name-unique}
+use Rattle.text_laws.specs.Resolving.{firstIndex}
+use Rattle.text_laws.proofs.Named.{named-type}
+use Rattle.text_laws.proofs.NamedFields.{NamedField, same-fixed-width, same-if-any, same-type-width}
+use Rattle.text_laws.proofs.NamedRules.{name-unique}
 
 -- the first element that passes a test
 pub any-element : {A : Type 0} (p : A → Bool) (l : List A) → any p l ≡ true
