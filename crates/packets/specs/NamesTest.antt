@@ -8,6 +8,7 @@ use lib.ListN.{length, getD}
 use Rattle.base.specs.Lists.{same}
 use Rattle.base.specs.Places.{twoAt}
 use Rattle.names.specs.Repeats.{padTo, namesAlike, firstRepeat}
+use Rattle.rules.specs.Limits.{shortMost}
 use Rattle.packets.specs.Parts.{tableMost, partsAt}
 use Rattle.packets.specs.FieldTest.{bytesIn, Inside}
 
@@ -42,7 +43,7 @@ LabelKeys s places n keys = (i : ℕ) → i < n → getD keys i 0 ≡ labelKey s
 
 -- a short name as it is held
 unfoldable pub shortAt : List ℕ → ℕ → List ℕ
-shortAt s at = padTo 8 (bytesIn s (partsAt s at .short))
+shortAt s at = padTo shortMost (bytesIn s (partsAt s at .short))
 
 -- the short names at the first n places, as they are held
 abbrev pub HeldNames : List ℕ → List ℕ → ℕ → List (List ℕ) → Type 0

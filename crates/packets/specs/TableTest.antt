@@ -8,6 +8,7 @@ use Rattle.base.specs.Lists.{between}
 use Rattle.base.specs.Places.{twoAt}
 use Rattle.rules.specs.Names.{isLabel}
 use Rattle.rules.specs.Within.{isRowWidth}
+use Rattle.rules.specs.Limits.{fieldsMost}
 use Rattle.packets.specs.declared.tables.Walked.{Walked}
 use Rattle.packets.specs.declared.tables.Walked.the-variants.{Past, Bad}
 use Rattle.packets.specs.Parts.{tableMost, spanAt, partsAt}
@@ -30,7 +31,7 @@ headTest s =
     && (eqb (twoAt s 0) (10 + twoAt s 8)
     && (eqb (twoAt s 2) 1
     && (isRowWidth (twoAt s 4)
-    && (between 1 (twoAt s 6) 64
+    && (between 1 (twoAt s 6) fieldsMost
     && isLabel (bytesIn s (spanAt s 8))))))
 
 -- the last record ends the table

@@ -4,12 +4,12 @@ use crate::fields::ends_with;
 use crate::fields::has_trees;
 use crate::fields::is_field;
 use crate::fields::mark_of;
-use crate::records::TABLE_MOST;
 use crate::records::parts_at;
 use crate::records::two_at;
 use crate::unique::has_unique_names;
 use names::labels::is_label;
 use rules::FIELDS_MOST;
+use rules::TABLE_MOST;
 use rules::TableAnswer;
 ghost use mathlib.Core.Path.{_≡_};
 ghost use mathlib.Core.Bool.{false};
@@ -18,6 +18,7 @@ ghost use Prim.Native.Nat.{_<_, _≤_};
 ghost use lib.ListN.{length};
 ghost use Rattle.rules.specs.Within.{isRowWidth};
 ghost use Rattle.rules.specs.Promises.{ChecksTable};
+ghost use Rattle.rules.specs.Limits.{fieldsMost};
 ghost use Rattle.packets.specs.Parts.{placeMost, tableMost};
 ghost use Rattle.packets.specs.TableTest.{walkAt, headTest, lastTest, tableTest};
 
@@ -86,7 +87,7 @@ fn is_last(s: &[u8], at: usize) -> bool
 
 // The fields, one after the other; marks are of those that may be read.
 fn walk(s: &[u8], w: usize, count: usize, from: usize, marks: &mut [u8]) -> Walked
-    requires { ⌜ (0 < w) × (count ≤ 64) × (count ≤ length (now marks)) × (length (now s) ≤ tableMost)
+    requires { ⌜ (0 < w) × (count ≤ fieldsMost) × (count ≤ length (now marks)) × (length (now s) ≤ tableMost)
         × (from ≤ length (now s)) ⌝ }
     ensures { λ r. ⌜ r ≡ walkAt w count [] 0 false (now (s .entry)) from ⌝ }
 {
@@ -126,7 +127,7 @@ fn is_table(table: &[u8]) -> bool
     let w = two_at(table, 4);
     let count = two_at(table, 6);
     let from = 10 + two_at(table, 8);
-    let mut marks = [0u8; 64];
+    let mut marks = [0u8; FIELDS_MOST];
     let Walked::Past(at) = walk(table, w, count, from, &mut marks) else {
         return false;
     };

@@ -8,11 +8,14 @@ use names::repeats::first_repeat;
 use names::repeats::held_name;
 use names::repeats::start_of;
 use names::words::same_words;
+use rules::FIELDS_MOST;
+use rules::SHORT_MOST;
 ghost use mathlib.Core.Path.{_≡_};
 ghost use Prim.Native.Nat.{_≤_};
 ghost use lib.ListN.{length, take, getD};
 ghost use Rattle.base.specs.Lists.{same};
 ghost use Rattle.names.specs.Repeats.{firstRepeat};
+ghost use Rattle.rules.specs.Limits.{fieldsMost};
 ghost use Rattle.packets.specs.Parts.{tableMost};
 ghost use Rattle.packets.specs.NamesTest.{
   placesFrom,
@@ -44,13 +47,13 @@ fn record_places(s: &[u8], count: usize, from: usize, places: &mut [usize])
 }
 
 // The short name of the record at a place.
-fn short_at(s: &[u8], at: usize) -> [u8; 8]
+fn short_at(s: &[u8], at: usize) -> [u8; SHORT_MOST]
     requires { ⌜ (length (now s) ≤ tableMost) × FieldPlace (now s) at ⌝ }
     ensures { λ r. ⌜ r ≡ shortAt (now (s .entry)) at ⌝ }
 {
     let short = short_span(s, at);
     if short.len == 0 {
-        return [0u8; 8];
+        return [0u8; SHORT_MOST];
     }
     let start = short.at;
     let end = start + short.len;
@@ -58,9 +61,14 @@ fn short_at(s: &[u8], at: usize) -> [u8; 8]
 }
 
 // The short names of the records at the first places.
-fn short_names(s: &[u8], places: &[usize; 64], count: usize, names: &mut [[u8; 8]; 64])
-    requires { ⌜ (count ≤ 64) × (length (now s) ≤ tableMost) × FieldPlaces (now s) count (now places)
-        × (length (now names) ≡ 64) ⌝ }
+fn short_names(
+    s: &[u8],
+    places: &[usize; FIELDS_MOST],
+    count: usize,
+    names: &mut [[u8; SHORT_MOST]; FIELDS_MOST],
+)
+    requires { ⌜ (count ≤ fieldsMost) × (length (now s) ≤ tableMost) × FieldPlaces (now s) count (now places)
+        × (length (now names) ≡ fieldsMost) ⌝ }
     ensures { λ r. ⌜ HeldNames (now (s .entry)) (now (places .entry)) count (now (names .exit)) ⌝ }
 {
     let mut i = 0;
@@ -94,8 +102,8 @@ fn label_key(s: &[u8], at: usize) -> usize
 }
 
 // The keys of the labels of the records at the first places.
-fn label_keys(s: &[u8], places: &[usize; 64], count: usize, keys: &mut [usize])
-    requires { ⌜ (count ≤ 64) × (length (now s) ≤ tableMost) × FieldPlaces (now s) count (now places)
+fn label_keys(s: &[u8], places: &[usize; FIELDS_MOST], count: usize, keys: &mut [usize])
+    requires { ⌜ (count ≤ fieldsMost) × (length (now s) ≤ tableMost) × FieldPlaces (now s) count (now places)
         × (count ≤ length (now keys)) ⌝ }
     ensures { λ r. ⌜ LabelKeys (now (s .entry)) (now (places .entry)) count (now (keys .exit)) ⌝ }
 {
@@ -125,8 +133,13 @@ fn same_labels(s: &[u8], a: usize, b: usize, key: usize, other: usize) -> bool
 }
 
 // The first of the records whose label repeats an earlier one, else their number.
-fn first_label(s: &[u8], places: &[usize; 64], keys: &[usize; 64], n: usize) -> usize
-    requires { ⌜ (n ≤ 64) × (length (now s) ≤ tableMost) × FieldPlaces (now s) n (now places)
+fn first_label(
+    s: &[u8],
+    places: &[usize; FIELDS_MOST],
+    keys: &[usize; FIELDS_MOST],
+    n: usize,
+) -> usize
+    requires { ⌜ (n ≤ fieldsMost) × (length (now s) ≤ tableMost) × FieldPlaces (now s) n (now places)
         × LabelKeys (now s) (now places) n (now keys) ⌝ }
     ensures { λ r. ⌜ r ≡ firstRepeat (labelsAlike (now (s .entry)) (now (places .entry))) n ⌝ }
 {
@@ -151,18 +164,18 @@ fn first_label(s: &[u8], places: &[usize; 64], keys: &[usize; 64], n: usize) -> 
 
 // Of the records from a place on, no label and no short name repeats an earlier one.
 pub(crate) fn has_unique_names(s: &[u8], count: usize, from: usize) -> bool
-    requires { ⌜ (count ≤ 64) × (length (now s) ≤ tableMost)
+    requires { ⌜ (count ≤ fieldsMost) × (length (now s) ≤ tableMost)
         × FieldPlaces (now s) count (placesFrom (now s) count from) ⌝ }
     ensures { λ r. ⌜ r ≡ namesTest (now (s .entry)) count from ⌝ }
 {
-    let mut places = [0usize; 64];
+    let mut places = [0usize; FIELDS_MOST];
     record_places(s, count, from, &mut places);
-    let mut keys = [0usize; 64];
+    let mut keys = [0usize; FIELDS_MOST];
     label_keys(s, &places, count, &mut keys);
     if first_label(s, &places, &keys, count) != count {
         return false;
     }
-    let mut names = [[0u8; 8]; 64];
+    let mut names = [[0u8; SHORT_MOST]; FIELDS_MOST];
     short_names(s, &places, count, &mut names);
     first_repeat(&names, count) == count
 }
