@@ -108,7 +108,8 @@ module _ (s marks : List ℕ) (k : ValueType) (p : Span) where
   pub tree-complete : (t : Tree ℕ) → TreeIn s marks k p t → treeTest s marks k p ≡ true
   unfolding treeTest
   tree-complete t h =
-      let e = check-complete depthMost s marks (p .at) t k (ending p) (h .typed) (h .range) (small-bounds t (h .small) .0)
+      let e = check-complete depthMost s marks (p .at) t k (ending p) (h .typed) (h .range) (small-bounds t (h
+      .small) .0)
       (h .stands) in
       let l : p .len ≤ storedMost = omega (arith, in-length s p _ (h .stands), small-length t (h .small)) in
       rw (le-leb (p .len) storedMost l, e, same-type-self k, eq-eqb (ending p) (ending p) refl)

@@ -18,8 +18,8 @@ use Rattle.packets.specs.declared.tables.Walked.{Walked}
 use Rattle.packets.specs.declared.tables.Walked.the-variants.{Past, Bad}
 use Rattle.packets.specs.Parts.{tableMost, spanAt, partsAt}
 use Rattle.packets.specs.FieldTest.{bytesIn}
-use Rattle.packets.specs.NamesTest.{placesFrom, FieldPlaces}
-use Rattle.packets.specs.TableTest.{walkAt, headTest}
+use Rattle.packets.specs.NamesTest.{placesFrom, FieldPlaces, Gathered}
+use Rattle.packets.specs.TableTest.{walkAt, headTest, GatheredBy}
 use Rattle.packets.proofs.FieldSteps.{parts-inside, field-ends, field-next}
 use Rattle.packets.proofs.WalkLaws.{past-bad, walk-parts}
 
@@ -80,7 +80,6 @@ walk-places w (suc n) marks place ended s at next short le h zero lt =
     record {
       place = omega arith;
       inside = parts-inside s at (field-next w place ended s at (partsAt s at) (q .0));
-      ends = field-ends w place ended s at (partsAt s at) (q .0);
     }
 walk-places w (suc n) marks place ended s at next short le h (suc i) lt =
     let q = walk-parts w n marks place ended s at next h in
@@ -95,3 +94,8 @@ pub walk-of : (s : List ℕ) {w n from : ℕ} {r x : Walked} → w ≡ twoAt s 4
     → r ≡ walkAt w n [] 0 false s (10 + from) → r ≡ x
     → walkAt (twoAt s 4) (twoAt s 6) [] 0 false s (10 + twoAt s 8) ≡ x
 walk-of s a b c e f = rw (← a, ← b, ← c) (sym e ∙ f)
+
+-- what a walk to the end has gathered
+pub gathered-past : {r : Walked} {at : ℕ} {s : List ℕ} {n from : ℕ} {places keys : List ℕ} {names : List (List ℕ)}
+    → r ≡ Past at → GatheredBy r s n from places keys names → Gathered s n from places keys names
+gathered-past e g = rw e at g

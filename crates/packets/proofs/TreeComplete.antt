@@ -66,9 +66,11 @@ skip-stored d s at (read i) next r le p = skip-step d s at (omega arith) refl (f
 skip-stored d s at (two o a b) next r le p =
     let l = storedExpression a in
     let q = stands-rest s at next _ _ p in
-    let left = skip-stored (d - 1) s (at + 1) a (at + 1 + length l) (and-left (isInRange a) (isInRange b) r) (omega arith)
+    let left = skip-stored (d - 1) s (at + 1) a (at + 1 + length l) (and-left (isInRange a) (isInRange b) r)
+    (omega arith)
     (stands-left s (at + 1) next l _ q) in
-    let right = skip-stored (d - 1) s (at + 1 + length l) b next (and-right (isInRange a) (isInRange b) r) (omega arith)
+    let right = skip-stored (d - 1) s (at + 1 + length l) b next (and-right (isInRange a) (isInRange b) r)
+    (omega arith)
     (stands-right s (at + 1) next l _ q) in
     skip-step d s at (omega arith) refl (two-there s at next o _ p) ∙ rw (left, right)
 skip-stored d s at (negation a) next r le p =

@@ -67,7 +67,8 @@ abbrev Byte : List ℕ → ℕ → ℕ → ℕ → Type 0
 Byte s at x next = (at < length s) × (getD s at 0 ≡ x) × (next ≡ at + 1)
 
 abbrev pub NodeStands : List ℕ → ℕ → Node → Type 0
-NodeStands s at (Node.Number n next) = (n ≤ numberMost) × Stands s at (numberCode ∷ le4 n) (next .at) × (next .at ≤ length s)
+NodeStands s at (Node.Number n next) = (n ≤ numberMost) × Stands s at (numberCode ∷ le4 n) (next .at) × (next .at ≤
+    length s)
 NodeStands s at (Node.Field i next) = Stands s at (fieldCode ∷ i ∷ []) (next .at) × (next .at ≤ length s)
 NodeStands s at (Node.Two o left) = Byte s at (code o) (left .at)
 NodeStands s at (Node.Not operand) = Byte s at notCode (operand .at)

@@ -82,7 +82,8 @@ fn put_bits(out: &mut [u8], at: usize, total: usize) -> usize
 
 // A packet's listing by a table that was checked before.
 fn put_listing(out: &mut [u8], table: &[u8], packet: &[u8]) -> usize
-    requires { ⌜ (listingMost ≤ length (now out)) × (length (now out) < nowhere) × (twoAt (now table) 6 ≤ fieldsMost) ⌝ }
+    requires { ⌜ (listingMost ≤ length (now out)) × (length (now out) < nowhere)
+        × (twoAt (now table) 6 ≤ fieldsMost) ⌝ }
     ensures { λ r. ⌜ ListsStored (now (table .entry)) (now (packet .entry)) (now (out .entry)) (now (out .exit)) r ⌝ }
 {
     let mut run = [0u32; RUN_MOST];

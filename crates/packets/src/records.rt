@@ -102,15 +102,6 @@ pub(crate) fn label_span(s: &[u8], at: usize) -> Span
     span_at(s, at + 4)
 }
 
-// The short name of the record at a place.
-pub(crate) fn short_span(s: &[u8], at: usize) -> Span
-    requires { ⌜ at ≤ tableMost ⌝ }
-    ensures { λ r. ⌜ r ≡ partsAt (now (s .entry)) at .short ⌝ }
-{
-    let label = span_at(s, at + 4);
-    span_at(s, label.at + label.len)
-}
-
 // The parts of the record at a place.
 pub(crate) fn parts_at(s: &[u8], at: usize) -> Parts
     requires { ⌜ at ≤ tableMost ⌝ }

@@ -13,8 +13,9 @@ ghost use lib.ListN.{length, getD};
 ghost use Rattle.base.specs.Places.{fourAt};
 ghost use Rattle.rules.specs.Trees.{sameType};
 ghost use Rattle.rules.specs.Values.{yesNo, inRange, apply, decides};
-ghost use Rattle.packets.specs.StoredTrees.{numberNode, fieldNode, nodeAt, checkField, checkNot, checkTwo, checkAt};
-ghost use Rattle.packets.specs.StoredTrees.{cursor, skipAt, placed, fieldValue, valueAt};
+ghost use Rattle.packets.specs.StoredTrees.{cursor, numberNode, fieldNode, nodeAt};
+ghost use Rattle.packets.specs.StoredTrees.{checkField, checkNot, checkTwo, checkAt};
+ghost use Rattle.packets.specs.StoredTrees.{skipAt, placed, fieldValue, valueAt};
 
 // A place in the bytes of a table.
 pub(crate) struct Cursor {

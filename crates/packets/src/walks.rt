@@ -83,7 +83,8 @@ fn refused(found: Found, k: usize) -> PacketAnswer
 
 // All fields of a table, into the front of the run.
 pub(crate) fn walk_fields(table: &[u8], packet: &[u8], run: &mut [u32]) -> PacketAnswer
-    requires { ⌜ (runMost ≤ length (now run)) × (length (now packet) ≤ packetMost) × (twoAt (now table) 6 ≤ fieldsMost) ⌝ }
+    requires { ⌜ (runMost ≤ length (now run)) × (length (now packet) ≤ packetMost)
+        × (twoAt (now table) 6 ≤ fieldsMost) ⌝ }
     ensures { λ r. ⌜ Walks (now (table .entry)) (now (packet .entry)) (now (run .entry)) r (now (run .exit)) ⌝ }
 {
     let n = two_at(table, 6);

@@ -1,4 +1,5 @@
--- What texts written one behind the other leave in a buffer that may be too small. No public promise rests on this file.
+-- What texts written one behind the other leave in a buffer that may be too small.
+-- No public promise rests on this file.
 use mathlib.Core.Path.{_≡_}
 use mathlib.Core.List.{List}
 use Prim.Native.Nat.{ℕ, _+_, _≤_, _<_}

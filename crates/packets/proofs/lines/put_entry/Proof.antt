@@ -57,14 +57,19 @@ same-length c = search needs
 
 returns : tie.Need-returns
 returns c =
+    let c₈ = c .before .before .before .before .before .before .before .before in
     rw (c .before .before .before .before .before .if1 .taken)
-    (fits-join (c .before .before .before .before .before .before .before .before .before .before .before .before .before .put-number .ensures) (fits-join (c .before .before .before .before .before .before .before .before .put-number2 .ensures) (c .before .before .put-number3 .ensures)))
+    (fits-join (c₈ .before .before .before .before .before .put-number .ensures) (fits-join (c₈ .put-number2
+    .ensures) (c .before .before .put-number3 .ensures)))
 
 same-length-2 : tie.Need-same-length-2
 same-length-2 c = search needs
 
 returns-2 : tie.Need-returns-2
-returns-2 c = rw (c .if1 .left) (fits-join (c .before .before .before .before .before .before .before .before .put-number .ensures) (rw append-nil (c .before .before .before .put-number2 .ensures)))
+returns-2 c =
+    let c₈ = c .before .before .before .before .before .before .before .before in
+    rw (c .if1 .left) (fits-join (c₈ .put-number .ensures) (rw append-nil (c .before .before .before .put-number2
+    .ensures)))
 
 pub put-entry-spec : {M : Type 1} → statement M
 put-entry-spec =

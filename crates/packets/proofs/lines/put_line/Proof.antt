@@ -17,14 +17,21 @@ use Rattle.writing.proofs.puts.put.Reads as put-reads
 
 returns : tie.Need-returns
 unfolding lineText
-returns c = rw (lt-ltb labelMost _ (c .if1 .taken)) (fits-none (now (c .before .before .before .before .before .args .out)) (c .before .before .before .before .before .args .at))
+returns c =
+    rw (lt-ltb labelMost _ (c .if1 .taken)) (fits-none (now (c .before .before .before .before .before .args .out))
+    (c .before .before .before .before .before .args .at))
 
 returns-2 : tie.Need-returns-2
 unfolding lineText
 returns-2 c =
     let p = c .before .before .before .before .before .before .args .parts .label in
-    rw (le-ltb labelMost (p .len) (c .before .if1 .left), lt-ltb (length (now (c .before .before .before .before .before .before .args .table))) (p .at) (c .if2 .taken))
-    (fits-none (now (c .before .before .before .before .before .before .args .out)) (c .before .before .before .before .before .before .args .at))
+    rw (
+      le-ltb labelMost (p .len) (c .before .if1 .left),
+      lt-ltb (length (now (c .before .before .before .before
+          .before .before .args .table))) (p .at) (c .if2 .taken),
+    )
+    (fits-none (now (c .before .before .before .before .before .before .args .out)) (c .before .before .before
+    .before .before .before .args .at))
 
 sub-if3 : tie.Need-sub-if3
 sub-if3 c = search needs
@@ -39,7 +46,8 @@ returns-3 c =
       le-ltb (length s) (p .at) (c .before .if2 .left),
       lt-ltb (length s - p .at) (p .len) (c .if3 .taken),
     )
-    (fits-none (now (c .before .before .before .before .before .before .before .args .out)) (c .before .before .before .before .before .before .before .args .at))
+    (fits-none (now (c .before .before .before .before .before .before .before .args .out)) (c .before .before
+    .before .before .before .before .before .args .at))
 
 add-end : tie.Need-add-end
 add-end c = search needs
@@ -77,17 +85,22 @@ same-length c = search needs
 returns-4 : tie.Need-returns-4
 unfolding lineText
 returns-4 c =
-    let p = c .before .before .before .before .before .before .before .before .before .before .before .before .before .before .before .before .before .before .before .before .before .before .before .before .before .before .args .parts .label in
-    let s = now (c .before .before .before .before .before .before .before .before .before .before .before .before .before .before .before .before .before .before .before .before .before .before .before .before .before .before .args .table) in
+    let c₈ = c .before .before .before .before .before .before .before .before in
+    let c₁₆ = c₈ .before .before .before .before .before .before .before .before in
+    let c₂₄ = c₁₆ .before .before .before .before .before .before .before .before in
+    let p = c₂₄ .before .before .args .parts .label in
+    let s = now (c₂₄ .before .before .args .table) in
     let e : p .at + p .len - p .at ≡ p .len = omega arith in
-    let name = rw e at (c .before .before .before .before .before .before .before .before .before .before .before .before .before .before .before .before .put .ensures) in
+    let name = rw e at (c₁₆ .put .ensures) in
     rw (
-      le-ltb labelMost (p .len) (c .before .before .before .before .before .before .before .before .before .before .before .before .before .before .before .before .before .before .before .before .before .if1 .left),
-      le-ltb (length s) (p .at) (c .before .before .before .before .before .before .before .before .before .before .before .before .before .before .before .before .before .before .before .before .if2 .left),
-      le-ltb (length s - p .at) (p .len) (c .before .before .before .before .before .before .before .before .before .before .before .before .before .before .before .before .before .before .before .if3 .left),
+      le-ltb labelMost (p .len) (c₁₆ .before .before .before .before .before .if1 .left),
+      le-ltb (length s) (p .at) (c₁₆ .before .before .before .before .if2 .left),
+      le-ltb (length s - p .at) (p .len) (c₁₆ .before .before .before .if3 .left),
     )
-    (fits-join (put-fits (omega arith) name) (fits-join (put-fits (omega arith) (c .before .before .before .before .before .before .before .before .before .before .before .put2 .ensures))
-    (fits-join (c .before .before .before .before .before .before .before .put-state .ensures) (put-fits (omega arith) (c .before .before .put3 .ensures)))))
+    (fits-join (put-fits (omega arith) name) (fits-join (put-fits (omega arith) (c₈ .before .before .before .put2
+    .ensures))
+    (fits-join (c .before .before .before .before .before .before .before .put-state .ensures) (put-fits
+    (omega arith) (c .before .before .put3 .ensures)))))
 
 pub put-line-spec : {M : Type 1} → statement M
 put-line-spec =

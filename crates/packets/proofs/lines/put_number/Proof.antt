@@ -21,7 +21,9 @@ same-length : tie.Need-same-length
 same-length c = search needs
 
 returns : tie.Need-returns
-returns c = fits-join (put-fits (omega arith) (c .before .before .before .before .before .before .put .ensures)) (put-fits (omega arith) (c .before .before .put-decimal .ensures))
+returns c =
+    fits-join (put-fits (omega arith) (c .before .before .before .before .before .before .put .ensures)) (put-fits
+    (omega arith) (c .before .before .put-decimal .ensures))
 
 pub put-number-spec : {M : Type 1} → statement M
 put-number-spec =

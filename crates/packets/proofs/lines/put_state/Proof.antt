@@ -30,7 +30,10 @@ same-length c = search needs
 
 returns : tie.Need-returns
 unfolding stateText
-returns c = rw (eq-eqb (getD (now (c .before .before .before .before .before .before .before .before .args .run)) (4 * c .before .before .before .before .before .before .before .before .args .i) 0) 1 (c .before .before .before .before .if1 .taken)) (c .before .before .put-entry .ensures)
+returns c =
+    let c₈ = c .before .before .before .before .before .before .before .before in
+    rw (eq-eqb (getD (now (c₈ .args .run)) (4 * c₈ .args .i) 0) 1 (c .before .before .before .before .if1 .taken))
+    (c .before .before .put-entry .ensures)
 
 slice-aggregate-put : tie.Need-slice-aggregate-put
 slice-aggregate-put c = search needs
@@ -44,7 +47,9 @@ same-length-2 c = search needs
 returns-2 : tie.Need-returns-2
 unfolding stateText
 returns-2 c =
-    rw (ne-eqb (getD (now (c .before .before .before .before .before .before .before .before .before .args .run)) (4 * c .before .before .before .before .before .before .before .before .before .args .i) 0) 1 (c .before .before .before .before .before .if1 .left)) (put-fits (omega arith) (c .before .before .put .ensures))
+    let c₈ = c .before .before .before .before .before .before .before .before in
+    rw (ne-eqb (getD (now (c₈ .before .args .run)) (4 * c₈ .before .args .i) 0) 1 (c .before .before .before .before
+    .before .if1 .left)) (put-fits (omega arith) (c .before .before .put .ensures))
 
 pub put-state-spec : {M : Type 1} → statement M
 put-state-spec =

@@ -22,7 +22,8 @@ same-length c = search needs
 returns : tie.Need-returns
 unfolding ofListing
 returns c =
-    let l = length-take-le (c .before .before .before .before .before .before .before .before .args .n) (now (c .before .before .before .before .before .before .before .before .args .from)) (omega arith) in
+    let c₈ = c .before .before .before .before .before .before .before .before in
+    let l = length-take-le (c₈ .args .n) (now (c₈ .args .from)) (omega arith) in
     rw (c .if1 .taken, l) at (c .before .before .before .deliver .ensures)
 
 same-length-2 : tie.Need-same-length-2

@@ -39,8 +39,10 @@ returns c = into-bad _ _ _ _ _ _ (c .before .before .before .before .before .bef
 
 put-listing-requires : tie.Need-put-listing-requires
 put-listing-requires c κs =
-    let table = now (c .before .before .before .before .before .before .before .before .args .table) in
-    let good = good-from table (c .before .before .before .before .check-table .result) _ (c .before .before .before .before .check-table .ensures) (c .before .before .checked .given .1) in
+    let c₈ = c .before .before .before .before .before .before .before .before in
+    let table = now (c₈ .args .table) in
+    let good = good-from table (c .before .before .before .before .check-table .result) _ (c .before .before .before
+    .before .check-table .ensures) (c .before .before .checked .given .1) in
     (omega arith, omega arith, good-few table good)
 
 same-length-2 : tie.Need-same-length-2

@@ -28,8 +28,10 @@ same-length c = search needs
 
 returns : tie.Need-returns
 returns c =
+    let c₈ = c .before .before .before .before .before .before .before .before in
     λ good. c .before .before .deliver-first .ensures
-    ∙ ap (λ (w : List ℕ). delivered w (now (c .before .before .before .before .before .before .before .before .before .before .before .args .out))) (c .before .before .before .before .before .before .list-into .ensures .text good .text)
+    ∙ ap (λ (w : List ℕ). delivered w (now (c₈ .before .before .before .args .out))) (c .before .before .before
+    .before .before .before .list-into .ensures .text good .text)
 
 pub list-packet-spec : {M : Type 1} → statement M
 list-packet-spec =

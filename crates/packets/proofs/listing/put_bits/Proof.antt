@@ -29,8 +29,10 @@ same-length c = search needs
 
 returns : tie.Need-returns
 returns c =
-    rw append-assoc (fits-join (put-fits (omega arith) (c .before .before .before .before .before .before .before .before .before .before .before .put .ensures))
-    (fits-join (put-fits (omega arith) (c .before .before .before .before .before .before .before .put-decimal .ensures)) (put-fits (omega arith) (c .before .before .put2 .ensures))))
+    let c₈ = c .before .before .before .before .before .before .before .before in
+    rw append-assoc (fits-join (put-fits (omega arith) (c₈ .before .before .before .put .ensures))
+    (fits-join (put-fits (omega arith) (c .before .before .before .before .before .before .before .put-decimal
+    .ensures)) (put-fits (omega arith) (c .before .before .put2 .ensures))))
 
 pub put-bits-spec : {M : Type 1} → statement M
 put-bits-spec =

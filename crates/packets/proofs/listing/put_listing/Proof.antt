@@ -38,7 +38,15 @@ slice-aggregate-put-lines : tie.Need-slice-aggregate-put-lines
 slice-aggregate-put-lines c = search needs
 
 put-lines-requires : tie.Need-put-lines-requires
-put-lines-requires c κs = (omega (arith, c .before .before .before .two-at .ensures .0), omega arith, omega (arith, c .before .before .before .two-at .ensures .0))
+put-lines-requires c κs = (
+  omega (arith, c .before .before .before .two-at .ensures .0),
+  omega arith,
+  omega (
+    arith,
+    c .before .before
+        .before .two-at .ensures .0,
+  ),
+)
 
 value-of-requires : tie.Need-value-of-requires
 value-of-requires c κs = search needs
@@ -51,14 +59,24 @@ same-length c = search needs
 
 returns : tie.Need-returns
 returns c =
-    let s = now (c .before .before .before .before .before .before .before .before .before .before .before .before .before .before .before .before .before .before .before .before .args .table) in
-    let packet = now (c .before .before .before .before .before .before .before .before .before .before .before .before .before .before .before .before .before .before .before .before .args .packet) in
-    let j = listing-inside _ _ _ _ _ (omega (arith, c .before .before .before .before .before .before .before .before .before .before .before .two-at .ensures .0)) (omega arith)
-    (fits-join (c .before .before .before .before .before .before .before .put-lines .ensures) (c .before .before .put-bits .ensures)) in
-    let k = rw (c .before .before .before .before .before .before .before .before .before .before .before .two-at .ensures .0, c .before .before .before .before .before .before .before .before .before .before .two-at2 .ensures .0, c .before .before .before .before .value-of .ensures) at j in
+    let c₈ = c .before .before .before .before .before .before .before .before in
+    let c₁₆ = c₈ .before .before .before .before .before .before .before .before in
+    let s = now (c₁₆ .before .before .before .before .args .table) in
+    let packet = now (c₁₆ .before .before .before .before .args .packet) in
+    let j = listing-inside _ _ _ _ _ (omega (arith, c₈ .before .before .before .two-at .ensures .0)) (omega arith)
+    (fits-join (c .before .before .before .before .before .before .before .put-lines .ensures) (c .before .before
+    .put-bits .ensures)) in
+    let k = rw (
+      c₈ .before .before .before .two-at .ensures .0,
+      c₈ .before .before .two-at2 .ensures .0,
+      c .before
+          .before .before .before .value-of .ensures,
+    ) at j in
     record {
-      text = λ d w is. rw (← listed-accepted s packet d w is _ _ (c .before .before .before .before .before .before .before .before .before .before .before .before .before .before .before .read-run .ensures d w is)
-          (sym (c .before .before .before .before .before .before .before .before .before .before .before .before .before .number-of .ensures) ∙ c .before .before .before .before .before .before .before .before .before .before .before .before .if1 .taken)) k;
+      text = λ d w is. rw (← listed-accepted s packet d w is _ _ (c₈ .before .before .before .before .before .before
+          .before .read-run .ensures d w is)
+          (sym (c₈ .before .before .before .before .before .number-of .ensures) ∙ c₈ .before .before .before .before
+          .if1 .taken)) k;
       inside = writes-inside j (omega arith);
     }
 
@@ -73,13 +91,19 @@ same-length-2 c = search needs
 
 returns-2 : tie.Need-returns-2
 returns-2 c =
-    let s = now (c .before .before .before .before .before .before .before .before .before .before .before .before .before .args .table) in
-    let packet = now (c .before .before .before .before .before .before .before .before .before .before .before .before .before .args .packet) in
+    let c₈ = c .before .before .before .before .before .before .before .before in
+    let s = now (c₈ .before .before .before .before .before .args .table) in
+    let packet = now (c₈ .before .before .before .before .before .args .packet) in
     let j = refusal-inside _ _ (omega arith) (c .before .before .put-refusal .ensures) in
-    let k = rw (c .before .before .before .before .before .before .number-of .ensures, c .before .before .before .before .place-of .ensures) at j in
+    let k = rw (
+      c .before .before .before .before .before .before .number-of .ensures,
+      c .before .before .before
+          .before .place-of .ensures,
+    ) at j in
     record {
-      text = λ d w is. rw (← listed-refused s packet d w is _ _ (c .before .before .before .before .before .before .before .before .read-run .ensures d w is)
-          (λ z. c .before .before .before .before .before .if1 .left (c .before .before .before .before .before .before .number-of .ensures ∙ z))) k;
+      text = λ d w is. rw (← listed-refused s packet d w is _ _ (c₈ .read-run .ensures d w is)
+          (λ z. c .before .before .before .before .before .if1 .left (c .before .before .before .before .before
+          .before .number-of .ensures ∙ z))) k;
       inside = writes-inside k (omega arith);
     }
 

@@ -38,9 +38,13 @@ same-length c = search needs
 
 returns : tie.Need-returns
 returns c =
-    simp append-assoc (fits-join (put-fits (omega arith) (c .before .before .before .before .before .before .before .before .before .before .before .before .before .before .before .before .before .before .before .before .put .ensures))
-    (fits-join (put-fits (omega arith) (c .before .before .before .before .before .before .before .before .before .before .before .before .before .before .before .before .put-decimal .ensures)) (fits-join (put-fits (omega arith) (c .before .before .before .before .before .before .before .before .before .before .before .put2 .ensures))
-    (fits-join (put-fits (omega arith) (c .before .before .before .before .before .before .before .put-decimal2 .ensures)) (put-fits (omega arith) (c .before .before .put3 .ensures))))))
+    let c₈ = c .before .before .before .before .before .before .before .before in
+    let c₁₆ = c₈ .before .before .before .before .before .before .before .before in
+    simp append-assoc (fits-join (put-fits (omega arith) (c₁₆ .before .before .before .before .put .ensures))
+    (fits-join (put-fits (omega arith) (c₁₆ .put-decimal .ensures)) (fits-join (put-fits (omega arith) (c₈ .before
+    .before .before .put2 .ensures))
+    (fits-join (put-fits (omega arith) (c .before .before .before .before .before .before .before .put-decimal2
+    .ensures)) (put-fits (omega arith) (c .before .before .put3 .ensures))))))
 
 pub put-refusal-spec : {M : Type 1} → statement M
 put-refusal-spec =

@@ -76,8 +76,11 @@ slice-aggregate-walk-fields c = search needs
 
 walk-fields-requires : tie.Need-walk-fields-requires
 walk-fields-requires c κs =
-    let table = now (c .before .before .before .before .before .before .before .before .before .before .before .args .table) in
-    let good = good-from table (c .before .before .before .before .before .before .before .check-table .result) _ (c .before .before .before .before .before .before .before .check-table .ensures) (c .before .before .before .before .before .checked .given .1) in
+    let c₈ = c .before .before .before .before .before .before .before .before in
+    let table = now (c₈ .before .before .before .args .table) in
+    let good = good-from table (c .before .before .before .before .before .before .before .check-table .result) _
+    (c .before .before .before .before .before .before .before .check-table .ensures) (c .before .before .before .before
+    .before .checked .given .1) in
     (omega arith, omega arith, good-few table good)
 
 is-accepted-requires : tie.Need-is-accepted-requires
@@ -88,33 +91,52 @@ slice-aggregate-copy-numbers c = sym (c .before .before .before .before .before 
 
 copy-numbers-requires : tie.Need-copy-numbers-requires
 copy-numbers-requires c κs =
-    let table = now (c .before .before .before .before .before .before .before .before .before .before .before .before .before .before .before .before .before .args .table) in
-    let good = good-from table (c .before .before .before .before .before .before .before .before .before .before .before .before .before .check-table .result) _ (c .before .before .before .before .before .before .before .before .before .before .before .before .before .check-table .ensures) (c .before .before .before .before .before .before .before .before .before .before .before .checked .given .1) in
-    let few = good-few table good in
-    (omega (arith, c .before .before .before .before .before .before .before .before .two-at .ensures .0), omega (arith, c .before .before .before .before .before .before .before .before .two-at .ensures .0, c .before .before .before .before .before .walk-fields .kept .1 .1 .0))
+    let c₈ = c .before .before .before .before .before .before .before .before in
+    let c₁₆ = c₈ .before .before .before .before .before .before .before .before in
+    let table = now (c₁₆ .before .args .table) in
+    let good = good-from table (c₈ .before .before .before .before .before .check-table .result) _ (c₈ .before
+    .before .before .before .before .check-table .ensures) (c₈ .before .before .before .checked .given .1) in
+    let few = good-few table good in (
+      omega (arith, c₈ .two-at .ensures .0),
+      omega (
+        arith,
+        c₈ .two-at .ensures .0,
+        c .before .before .before .before
+            .before .walk-fields .kept .1 .1 .0,
+      ),
+    )
 
 same-length : tie.Need-same-length
 same-length c = search needs
 
 returns-4 : tie.Need-returns-4
 returns-4 c =
-    let table = now (c .before .before .before .before .before .before .before .before .before .before .before .before .before .before .before .before .before .before .before .before .args .table) in
-    let packet = now (c .before .before .before .before .before .before .before .before .before .before .before .before .before .before .before .before .before .before .before .before .args .packet) in
-    let good = good-from table (c .before .before .before .before .before .before .before .before .before .before .before .before .before .before .before .before .check-table .result) _ (c .before .before .before .before .before .before .before .before .before .before .before .before .before .before .before .before .check-table .ensures) (c .before .before .before .before .before .before .before .before .before .before .before .before .before .before .checked .given .1) in
-    let reads = walks-read table packet _ (omega arith) (omega arith) (c .before .before .before .before .before .before .before .before .walk-fields .ensures) in
-    let accepted = sym (c .before .before .before .before .before .before .is-accepted .ensures) ∙ c .before .before .before .before .before .if3 .taken in
-    rw (c .before .before .copy-numbers .ensures, c .before .before .before .before .before .before .before .before .before .before .before .two-at .ensures .0)
-    (packet-accepted table packet (now (c .before .before .before .before .before .before .before .before .before .before .before .before .before .before .before .before .before .before .before .before .args .run)) (c .before .before .before .before .before .before .before .before .walk-fields .result) (c .before .before .before .before .before .before .before .before .walk-fields .last .1 .1 .0) good
-    (omega arith) (omega (arith, c .before .before .before .before .before .before .before .before .before .before .before .two-at .ensures .0)) reads accepted)
+    let c₈ = c .before .before .before .before .before .before .before .before in
+    let c₁₆ = c₈ .before .before .before .before .before .before .before .before in
+    let table = now (c₁₆ .before .before .before .before .args .table) in
+    let packet = now (c₁₆ .before .before .before .before .args .packet) in
+    let good = good-from table (c₁₆ .check-table .result) _ (c₁₆ .check-table .ensures) (c₈ .before .before .before
+    .before .before .before .checked .given .1) in
+    let reads = walks-read table packet _ (omega arith) (omega arith) (c₈ .walk-fields .ensures) in
+    let accepted = sym (c .before .before .before .before .before .before .is-accepted .ensures) ∙ c .before .before
+    .before .before .before .if3 .taken in
+    rw (c .before .before .copy-numbers .ensures, c₈ .before .before .before .two-at .ensures .0)
+    (packet-accepted table packet (now (c₁₆ .before .before .before .before .args .run)) (c₈ .walk-fields .result)
+    (c₈ .walk-fields .last .1 .1 .0) good
+    (omega arith) (omega (arith, c₈ .before .before .before .two-at .ensures .0)) reads accepted)
 
 returns-5 : tie.Need-returns-5
 returns-5 c =
-    let table = now (c .before .before .before .before .before .before .before .before .before .before .before .before .before .before .before .args .table) in
-    let packet = now (c .before .before .before .before .before .before .before .before .before .before .before .before .before .before .before .args .packet) in
-    let good = good-from table (c .before .before .before .before .before .before .before .before .before .before .before .check-table .result) _ (c .before .before .before .before .before .before .before .before .before .before .before .check-table .ensures) (c .before .before .before .before .before .before .before .before .before .checked .given .1) in
-    let reads = walks-read table packet _ (omega arith) (omega arith) (c .before .before .before .walk-fields .ensures) in
+    let c₈ = c .before .before .before .before .before .before .before .before in
+    let table = now (c₈ .before .before .before .before .before .before .before .args .table) in
+    let packet = now (c₈ .before .before .before .before .before .before .before .args .packet) in
+    let good = good-from table (c₈ .before .before .before .check-table .result) _ (c₈ .before .before .before
+    .check-table .ensures) (c₈ .before .checked .given .1) in
+    let reads = walks-read table packet _ (omega arith) (omega arith) (c .before .before .before .walk-fields
+    .ensures) in
     let refused = sym (c .before .is-accepted .ensures) ∙ c .if3 .left in
-    packet-refused table packet (now (c .before .before .before .before .before .before .before .before .before .before .before .before .before .before .before .args .run)) (c .before .before .before .walk-fields .result) (c .before .before .before .walk-fields .last .1 .1 .0) good
+    packet-refused table packet (now (c₈ .before .before .before .before .before .before .before .args .run))
+    (c .before .before .before .walk-fields .result) (c .before .before .before .walk-fields .last .1 .1 .0) good
     (omega arith) (omega (arith, c .before .before .before .before .before .before .two-at .ensures .0)) reads refused
 
 pub read-packet-spec : {M : Type 1} → statement M

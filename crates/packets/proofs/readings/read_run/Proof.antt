@@ -24,8 +24,10 @@ same-length c = search needs
 
 returns-2 : tie.Need-returns-2
 returns-2 c =
-    let a = c .before .before .before .before .before .before .before .before .args in
-    walks-read (now (a .table)) (now (a .packet)) (now (a .run)) (omega arith) (omega arith) (c .before .before .walk-fields .ensures)
+    let c₈ = c .before .before .before .before .before .before .before .before in
+    let a = c₈ .args in
+    walks-read (now (a .table)) (now (a .packet)) (now (a .run)) (omega arith) (omega arith) (c .before .before
+    .walk-fields .ensures)
 
 pub read-run-spec : {M : Type 1} → statement M
 read-run-spec = tie.close (tie.spec returns walk-fields-requires same-length returns-2)

@@ -29,15 +29,18 @@ unfolding fieldStep
 returns c =
     let a = c .before .before .before .before .before .before .before .args in
     let v = holdsAt (now (a .table)) (now (a .run)) (a .p .condition) in
-    let e = got-stop (c .before .before .before .holds-at .result) v _ (c .before .before .before .holds-at .ensures) (c .before .enum-told .given .1) in
+    let e = got-stop (c .before .before .before .holds-at .result) v _ (c .before .before .before .holds-at .ensures)
+    (c .before .enum-told .given .1) in
     rw e (c .stopped .ensures ∙ rw (c .before .enum-told .given .1))
 
 returns-2 : tie.Need-returns-2
 unfolding fieldStep
 returns-2 c =
-    let a = c .before .before .before .before .before .before .before .before .args in
+    let c₈ = c .before .before .before .before .before .before .before .before in
+    let a = c₈ .args in
     let v = holdsAt (now (a .table)) (now (a .run)) (a .p .condition) in
-    let e = got-value (c .before .before .before .before .holds-at .result) v _ (c .before .before .before .before .holds-at .ensures) (c .before .before .condition .given .1) in
+    let e = got-value (c .before .before .before .before .holds-at .result) v _ (c .before .before .before .before
+    .holds-at .ensures) (c .before .before .condition .given .1) in
     rw (e, eq-eqb _ 0 (c .if1 .taken))
 
 present-at-requires : tie.Need-present-at-requires
@@ -46,9 +49,11 @@ present-at-requires c κs = search needs
 returns-3 : tie.Need-returns-3
 unfolding fieldStep
 returns-3 c =
-    let a = c .before .before .before .before .before .before .before .before .before .args in
+    let c₈ = c .before .before .before .before .before .before .before .before in
+    let a = c₈ .before .args in
     let v = holdsAt (now (a .table)) (now (a .run)) (a .p .condition) in
-    let e = got-value (c .before .before .before .before .before .holds-at .result) v _ (c .before .before .before .before .before .holds-at .ensures) (c .before .before .before .condition .given .1) in
+    let e = got-value (c .before .before .before .before .before .holds-at .result) v _ (c .before .before .before
+    .before .before .holds-at .ensures) (c .before .before .before .condition .given .1) in
     rw (e, ne-eqb _ 0 (c .before .if1 .left)) (c .present-at .ensures)
 
 pub field-step-spec : {M : Type 1} → statement M

@@ -23,14 +23,17 @@ fault-of-requires c κs = search needs
 
 returns : tie.Need-returns
 unfolding treeValue measuredAt
-returns c = rw (← c .before .before .before .value .ensures, c .before .enum-told .given .1) (c .fault-of .ensures ∙ rw (c .before .enum-told .given .1))
+returns c =
+    rw (← c .before .before .before .value .ensures, c .before .enum-told .given .1) (c .fault-of .ensures ∙ rw
+    (c .before .enum-told .given .1))
 
 scale-requires : tie.Need-scale-requires
 scale-requires c κs = search needs
 
 returns-2 : tie.Need-returns-2
 unfolding treeValue measuredAt
-returns-2 c = rw (← c .before .before .before .before .value .ensures, c .before .before .v .given .1, c .scale .ensures)
+returns-2 c =
+    rw (← c .before .before .before .before .value .ensures, c .before .before .v .given .1, c .scale .ensures)
 
 pub measured-at-spec : {M : Type 1} → statement M
 measured-at-spec =

@@ -28,7 +28,8 @@ unfolding presentAt
 returns c =
     let a = c .before .before .before .before .before .before .before .args in
     let v = extentAt (now (a .table)) (now (a .packet)) (now (a .run)) (a .p) (a .n) (a .bit) in
-    let e = got-stop (c .before .before .before .extent-at .result) v _ (c .before .before .before .extent-at .ensures) (c .before .enum-told .given .1) in
+    let e = got-stop (c .before .before .before .extent-at .result) v _ (c .before .before .before .extent-at
+    .ensures) (c .before .enum-told .given .1) in
     rw e (c .stopped .ensures ∙ rw (c .before .enum-told .given .1))
 
 bounded-at-requires : tie.Need-bounded-at-requires
@@ -37,9 +38,11 @@ bounded-at-requires c κs = search needs
 returns-2 : tie.Need-returns-2
 unfolding presentAt
 returns-2 c =
-    let a = c .before .before .before .before .before .before .before .before .args in
+    let c₈ = c .before .before .before .before .before .before .before .before in
+    let a = c₈ .args in
     let v = extentAt (now (a .table)) (now (a .packet)) (now (a .run)) (a .p) (a .n) (a .bit) in
-    let e = got-value (c .before .before .before .before .extent-at .result) v _ (c .before .before .before .before .extent-at .ensures) (c .before .before .extent .given .1) in
+    let e = got-value (c .before .before .before .before .extent-at .result) v _ (c .before .before .before .before
+    .extent-at .ensures) (c .before .before .extent .given .1) in
     rw e (c .bounded-at .ensures)
 
 pub present-at-spec : {M : Type 1} → statement M

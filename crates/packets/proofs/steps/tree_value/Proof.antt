@@ -22,7 +22,9 @@ fault-of-requires c κs = search needs
 
 returns : tie.Need-returns
 unfolding treeValue
-returns c = rw (← c .before .before .before .value .ensures, c .before .enum-told .given .1) (c .fault-of .ensures ∙ rw (c .before .enum-told .given .1))
+returns c =
+    rw (← c .before .before .before .value .ensures, c .before .enum-told .given .1) (c .fault-of .ensures ∙ rw
+    (c .before .enum-told .given .1))
 
 cast-t7 : tie.Need-cast-t7
 cast-t7 c = search needs

@@ -19,7 +19,8 @@ same-type-requires-2 c κs = search needs
 
 returns : tie.Need-returns
 returns c =
-    let t = types-of (c .before .before .before .before .before .args .op) (c .before .before .before .before .operator .ensures) in
+    let t = types-of (c .before .before .before .before .before .args .op) (c .before .before .before .before
+    .operator .ensures) in
     rw (
       ← t .0,
       ← t .1,
@@ -31,8 +32,16 @@ returns c =
 
 returns-2 : tie.Need-returns-2
 returns-2 c =
-    let t = types-of (c .before .before .before .before .before .args .op) (c .before .before .before .before .operator .ensures) in
-    rw (← t .0, ← c .before .before .before .same-type .ensures, c .before .before .if1 .taken, ← c .before .same-type2 .ensures, c .if2 .left)
+    let t = types-of (c .before .before .before .before .before .args .op) (c .before .before .before .before
+    .operator .ensures) in
+    rw (
+      ← t .0,
+      ← c .before .before .before .same-type .ensures,
+      c .before .before .if1 .taken,
+      ← c .before
+          .same-type2 .ensures,
+      c .if2 .left,
+    )
 
 returns-3 : tie.Need-returns-3
 returns-3 c =

@@ -23,7 +23,14 @@ number-at-requires-2 : tie.Need-number-at-requires-2
 number-at-requires-2 c κs = search needs
 
 returns : tie.Need-returns
-returns c = rw (← c .before .before .before .index .ensures .0, ← c .before .before .number-at .ensures, eq-eqb _ _ (c .before .if1 .taken), c .number-at2 .ensures)
+returns c =
+    rw (
+      ← c .before .before .before .index .ensures .0,
+      ← c .before .before .number-at .ensures,
+      eq-eqb _ _
+          (c .before .if1 .taken),
+      c .number-at2 .ensures,
+    )
 
 returns-2 : tie.Need-returns-2
 returns-2 c = rw (← c .before .before .index .ensures .0, ← c .before .number-at .ensures, ne-eqb _ _ (c .if1 .left))

@@ -22,15 +22,21 @@ enum-told-3 c = search needs
 
 returns : tie.Need-returns
 unfolding decides rowOf
-returns c = settled-by (c .before .before .before .args .op) (c .before .before .before .args .x) (c .before .before .operator .ensures) (c .enum-told .given .1)
+returns c =
+    settled-by (c .before .before .before .args .op) (c .before .before .before .args .x) (c .before .before
+    .operator .ensures) (c .enum-told .given .1)
 
 returns-2 : tie.Need-returns-2
 unfolding decides rowOf
-returns-2 c = settled-by (c .before .before .before .args .op) (c .before .before .before .args .x) (c .before .before .operator .ensures) (c .enum-told2 .given .1)
+returns-2 c =
+    settled-by (c .before .before .before .args .op) (c .before .before .before .args .x) (c .before .before
+    .operator .ensures) (c .enum-told2 .given .1)
 
 returns-3 : tie.Need-returns-3
 unfolding decides rowOf
-returns-3 c = settled-by (c .before .before .before .args .op) (c .before .before .before .args .x) (c .before .before .operator .ensures) (c .enum-told3 .given .1)
+returns-3 c =
+    settled-by (c .before .before .before .args .op) (c .before .before .before .args .x) (c .before .before
+    .operator .ensures) (c .enum-told3 .given .1)
 
 pub settles-spec : {M : Type 1} → statement M
 settles-spec =

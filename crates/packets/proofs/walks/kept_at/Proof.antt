@@ -29,7 +29,8 @@ unfolding keptAt
 returns c =
     let a = c .before .before .before .before .before .before .args in
     let v = holdsAt (now (a .table)) (now (a .run)) (a .tree) in
-    let e = got-stop (c .before .before .before .holds-at .result) v _ (c .before .before .before .holds-at .ensures) (c .before .enum-told .given .1) in
+    let e = got-stop (c .before .before .before .holds-at .result) v _ (c .before .before .before .holds-at .ensures)
+    (c .before .enum-told .given .1) in
     rw e (c .stopped .ensures ∙ rw (c .before .enum-told .given .1))
 
 returns-2 : tie.Need-returns-2
@@ -37,7 +38,8 @@ unfolding keptAt
 returns-2 c =
     let a = c .before .before .before .before .before .before .before .args in
     let v = holdsAt (now (a .table)) (now (a .run)) (a .tree) in
-    let e = got-value (c .before .before .before .before .holds-at .result) v _ (c .before .before .before .before .holds-at .ensures) (c .before .before .held .given .1) in
+    let e = got-value (c .before .before .before .before .holds-at .result) v _ (c .before .before .before .before
+    .holds-at .ensures) (c .before .before .held .given .1) in
     rw (e, eq-eqb _ 0 (c .if1 .taken))
 
 returns-3 : tie.Need-returns-3
@@ -45,7 +47,8 @@ unfolding keptAt
 returns-3 c =
     let a = c .before .before .before .before .before .before .before .args in
     let v = holdsAt (now (a .table)) (now (a .run)) (a .tree) in
-    let e = got-value (c .before .before .before .before .holds-at .result) v _ (c .before .before .before .before .holds-at .ensures) (c .before .before .held .given .1) in
+    let e = got-value (c .before .before .before .before .holds-at .result) v _ (c .before .before .before .before
+    .holds-at .ensures) (c .before .before .held .given .1) in
     rw (e, ne-eqb _ 0 (c .if1 .left))
 
 pub kept-at-spec : {M : Type 1} → statement M

@@ -29,7 +29,8 @@ unfolding stepAfter
 returns c =
     let a = c .before .before .before .before .before .before .before .args in
     let st = fieldStep (now (a .s)) (now (a .packet)) (now (a .run)) (a .p) (a .n) (a .bit) in
-    let e = found-stop (c .before .before .field-step .result) st _ (c .before .before .field-step .ensures) (c .enum-told .given .1) in
+    let e = found-stop (c .before .before .field-step .result) st _ (c .before .before .field-step .ensures) (c
+    .enum-told .given .1) in
     (rw e (c .enum-told .given .1), rw e)
 
 put-requires : tie.Need-put-requires
@@ -41,9 +42,11 @@ same-length-2 c = search needs
 returns-2 : tie.Need-returns-2
 unfolding stepAfter
 returns-2 c =
-    let a = c .before .before .before .before .before .before .before .before .before .before .before .before .before .before .args in
+    let c₈ = c .before .before .before .before .before .before .before .before in
+    let a = c₈ .before .before .before .before .before .before .args in
     let st = fieldStep (now (a .s)) (now (a .packet)) (now (a .run)) (a .p) (a .n) (a .bit) in
-    let e = found-field (c .before .before .before .before .before .before .before .before .before .field-step .result) st _ _ (c .before .before .before .before .before .before .before .before .before .field-step .ensures) (c .before .before .before .before .before .before .before .found .given .1) in
+    let e = found-field (c₈ .before .field-step .result) st _ _ (c₈ .before .field-step .ensures) (c .before .before
+    .before .before .before .before .before .found .given .1) in
     (rw (e, eq-eqb _ 0 (c .if1 .taken)), rw e (c .before .before .before .before .put .ensures))
 
 kept-at-requires : tie.Need-kept-at-requires
@@ -55,10 +58,20 @@ same-length-3 c = search needs
 returns-3 : tie.Need-returns-3
 unfolding stepAfter
 returns-3 c =
-    let a = c .before .before .before .before .before .before .before .before .before .before .before .before .before .before .before .before .args in
+    let c₈ = c .before .before .before .before .before .before .before .before in
+    let c₁₆ = c₈ .before .before .before .before .before .before .before .before in
+    let a = c₁₆ .args in
     let st = fieldStep (now (a .s)) (now (a .packet)) (now (a .run)) (a .p) (a .n) (a .bit) in
-    let e = found-field (c .before .before .before .before .before .before .before .before .before .before .before .field-step .result) st _ _ (c .before .before .before .before .before .before .before .before .before .before .before .field-step .ensures) (c .before .before .before .before .before .before .before .before .before .found .given .1) in
-    (rw (e, ne-eqb _ 0 (c .before .before .if1 .left), ← c .before .before .before .before .before .before .put .ensures) (c .kept-at .ensures), rw e (c .before .before .before .before .before .before .put .ensures))
+    let e = found-field (c₈ .before .before .before .field-step .result) st _ _ (c₈ .before .before .before
+    .field-step .ensures) (c₈ .before .found .given .1) in (
+      rw (
+        e,
+        ne-eqb _ 0 (c .before .before .if1 .left),
+        ← c .before .before .before .before .before .before .put
+            .ensures,
+      ) (c .kept-at .ensures),
+      rw e (c .before .before .before .before .before .before .put .ensures),
+    )
 
 pub one-field-spec : {M : Type 1} → statement M
 one-field-spec =

@@ -71,13 +71,17 @@ same-length c = search needs
 returns : tie.Need-returns Inv-loop μ-loop
 unfolding walkAnswer
 returns c =
-    let a = c .before .before .before .before .before .before .before .before .before .before .before .before .before .before .before .args in
-    let l = c .before .before .before .before .before .before .before .before .before .loop in
+    let c₈ = c .before .before .before .before .before .before .before .before in
+    let a = c₈ .before .before .before .before .before .before .before .args in
+    let l = c₈ .before .loop in
     let told = c .before .enum-told .given .1 in
     let h =
     l .inv .3
-    ∙ walk-stop (now (a .table)) (now (a .packet)) (l .run) (c .before .before .before .before .before .before .before .before .before .before .before .two-at .result) (l .i) (l .place) (l .at)
-    (c .before .before .before .before .before .before .before .record-at .result) (c .before .before .before .before .before .one-field .result) (c .before .before .before .before .before .one-field .last .1 .1 .0) (c .before .before .before .before .before .before .before .before .loop-test .taken) (c .before .before .before .before .before .before .before .record-at .ensures)
+    ∙ walk-stop (now (a .table)) (now (a .packet)) (l .run) (c₈ .before .before .before .two-at .result) (l .i) (l
+    .place) (l .at)
+    (c .before .before .before .before .before .before .before .record-at .result) (c .before .before .before .before
+    .before .one-field .result) (c .before .before .before .before .before .one-field .last .1 .1 .0) (c₈ .loop-test
+    .taken) (c .before .before .before .before .before .before .before .record-at .ensures)
     (c .before .before .before .before .before .one-field .ensures .0) _ told in
     (rw h (c .refused .ensures ∙ rw told), rw h tt)
 
@@ -89,18 +93,24 @@ loop-less c = search needs
 
 loop-again : tie.Need-loop-again Inv-loop μ-loop
 loop-again c =
-    let a = c .before .before .before .before .before .before .before .before .before .before .before .before .before .before .before .args in
-    let l = c .before .before .before .before .before .before .before .before .before .loop in
+    let c₈ = c .before .before .before .before .before .before .before .before in
+    let a = c₈ .before .before .before .before .before .before .before .args in
+    let l = c₈ .before .loop in
     let one = c .before .before .before .before .before .one-field in
     let to = c .before .found .given .1 in
-    let later = c .before .before .before .before .before .before .before .before .before .before .before .two-at .result - l .i - 1 in
-    let st = fieldStep (now (a .table)) (now (a .packet)) (l .run) (c .before .before .before .before .before .before .before .record-at .result) later (l .place) in
+    let later = c₈ .before .before .before .two-at .result - l .i - 1 in
+    let st = fieldStep (now (a .table)) (now (a .packet)) (l .run) (c .before .before .before .before .before .before
+    .before .record-at .result) later (l .place) in
     let h =
-    walk-to (now (a .table)) (now (a .packet)) (l .run) (c .before .before .before .before .before .before .before .before .before .before .before .two-at .result) (l .i) (l .place) (l .at)
-    (c .before .before .before .before .before .before .before .record-at .result) (one .result) (one .last .1 .1 .0) (c .before .before .before .before .before .before .before .before .loop-test .taken) (c .before .before .before .before .before .before .before .record-at .ensures) (one .ensures .0)
+    walk-to (now (a .table)) (now (a .packet)) (l .run) (c₈ .before .before .before .two-at .result) (l .i) (l
+    .place) (l .at)
+    (c .before .before .before .before .before .before .before .record-at .result) (one .result) (one .last .1 .1 .0)
+    (c₈ .loop-test .taken) (c .before .before .before .before .before .before .before .record-at .ensures) (one
+    .ensures .0)
     _ _ (one .ensures .1) to in
     let inside =
-    step-inside (now (a .table)) (now (a .packet)) (l .run) (l .i) (c .before .before .before .before .before .before .before .record-at .result) later (l .place) (one .result)
+    step-inside (now (a .table)) (now (a .packet)) (l .run) (l .i) (c .before .before .before .before .before .before
+    .before .record-at .result) later (l .place) (one .result)
     _ _ (l .inv .1) (one .ensures .0) to in (
       omega arith,
       inside,
@@ -114,11 +124,13 @@ same-length-2 c = search needs
 returns-2 : tie.Need-returns-2 Inv-loop μ-loop
 unfolding walkAnswer
 returns-2 c =
-    let a = c .before .before .before .before .before .before .before .before .args in
+    let c₈ = c .before .before .before .before .before .before .before .before in
+    let a = c₈ .args in
     let l = c .before .before .loop in
     let e : l .i ≡ c .before .before .before .before .two-at .result = omega arith in
     let h =
-    rw e at (l .inv .3) ∙ walk-end (now (a .table)) (now (a .packet)) (l .run) (c .before .before .before .before .two-at .result) (l .place) (l .at) in
+    rw e at (l .inv .3) ∙ walk-end (now (a .table)) (now (a .packet)) (l .run) (c .before .before .before .before
+    .two-at .result) (l .place) (l .at) in
     (rw (h, eq-eqb _ _ (c .if1 .taken)), rw h refl)
 
 same-length-3 : tie.Need-same-length-3 Inv-loop μ-loop
@@ -127,11 +139,13 @@ same-length-3 c = search needs
 returns-3 : tie.Need-returns-3 Inv-loop μ-loop
 unfolding walkAnswer
 returns-3 c =
-    let a = c .before .before .before .before .before .before .before .before .args in
+    let c₈ = c .before .before .before .before .before .before .before .before in
+    let a = c₈ .args in
     let l = c .before .before .loop in
     let e : l .i ≡ c .before .before .before .before .two-at .result = omega arith in
     let h =
-    rw e at (l .inv .3) ∙ walk-end (now (a .table)) (now (a .packet)) (l .run) (c .before .before .before .before .two-at .result) (l .place) (l .at) in
+    rw e at (l .inv .3) ∙ walk-end (now (a .table)) (now (a .packet)) (l .run) (c .before .before .before .before
+    .two-at .result) (l .place) (l .at) in
     (rw (h, ne-eqb _ _ (c .if1 .left)), rw h refl)
 
 pub walk-fields-spec : {M : Type 1} → statement M

@@ -29,8 +29,18 @@ check-below t = and 2 check-kinds.ps (falls 2 check-kinds.ps _<_ μ-check t) che
 
 -- what the callees' contracts ask and promise
 abbrev calls : ℕ → check-lts.Claims
-calls t =
-    (node-reads.Asked, node-reads.Learnt, check-field-reads.Asked, check-field-reads.Learnt, check-below t, check.Post, check-two-reads.Asked, check-two-reads.Learnt, check-not-reads.Asked, check-not-reads.Learnt)
+calls t = (
+  node-reads.Asked,
+  node-reads.Learnt,
+  check-field-reads.Asked,
+  check-field-reads.Learnt,
+  check-below t,
+  check.Post,
+  check-two-reads.Asked,
+  check-two-reads.Learnt,
+  check-not-reads.Asked,
+  check-not-reads.Learnt,
+)
 
 -- where the node is known to be k, the answer goes by k
 coded : (t : ℕ) (p : check-lts.After-node (calls t) (check-at t) check.Post) {k : Node} → p .node .result ≡ k
@@ -70,7 +80,13 @@ check-enum-told : (t : ℕ) → check-lts.Need-enum-told (calls t) (check-at t) 
 check-enum-told t c = search needs
 
 check-returns-2 : (t : ℕ) → check-lts.Need-returns-2 (calls t) (check-at t) check.Post
-check-returns-2 t c = rw (coded t (c .before .before .before .before .before .before) (c .before .before .before .before .node4 .given .1), ← c .before .before .check .ensures, c .enum-told .given .1)
+check-returns-2 t c =
+    rw (
+      coded t (c .before .before .before .before .before .before) (c .before .before .before .before .node4 .given
+          .1),
+      ← c .before .before .check .ensures,
+      c .enum-told .given .1,
+    )
 
 check-sub-check-2 : (t : ℕ) → check-lts.Need-sub-check-2 (calls t) (check-at t) check.Post
 check-sub-check-2 t c = search needs
@@ -85,7 +101,17 @@ check-enum-told-2 : (t : ℕ) → check-lts.Need-enum-told-2 (calls t) (check-at
 check-enum-told-2 t c = search needs
 
 check-returns-3 : (t : ℕ) → check-lts.Need-returns-3 (calls t) (check-at t) check.Post
-check-returns-3 t c = rw (coded t (c .before .before .before .before .before .before .before .before .before .before) (c .before .before .before .before .before .before .before .before .node4 .given .1), ← c .before .before .before .before .before .before .check .ensures, c .before .before .before .before .a .given .1, ← c .before .before .check2 .ensures, c .enum-told2 .given .1)
+check-returns-3 t c =
+    let c₈ = c .before .before .before .before .before .before .before .before in
+    rw (
+      coded t (c₈ .before .before) (c₈ .node4 .given .1),
+      ← c .before .before .before .before .before .before
+          .check .ensures,
+      c .before .before .before .before .a .given .1,
+      ← c .before .before .check2 .ensures,
+      c
+          .enum-told2 .given .1,
+    )
 
 check-check-two-requires : (t : ℕ) → check-lts.Need-check-two-requires (calls t) (check-at t) check.Post
 check-check-two-requires t c κs = search needs
@@ -106,7 +132,13 @@ check-enum-told-3 : (t : ℕ) → check-lts.Need-enum-told-3 (calls t) (check-at
 check-enum-told-3 t c = search needs
 
 check-returns-4 : (t : ℕ) → check-lts.Need-returns-4 (calls t) (check-at t) check.Post
-check-returns-4 t c = rw (coded t (c .before .before .before .before .before .before) (c .before .before .before .before .node5 .given .1), ← c .before .before .check3 .ensures, c .enum-told3 .given .1)
+check-returns-4 t c =
+    rw (
+      coded t (c .before .before .before .before .before .before) (c .before .before .before .before .node5 .given
+          .1),
+      ← c .before .before .check3 .ensures,
+      c .enum-told3 .given .1,
+    )
 
 check-check-not-requires : (t : ℕ) → check-lts.Need-check-not-requires (calls t) (check-at t) check.Post
 check-check-not-requires t c κs = search needs
@@ -118,15 +150,32 @@ check-returns-5 : (t : ℕ) → check-lts.Need-returns-5 (calls t) (check-at t) 
 check-returns-5 t c = rw (coded t (c .before .before .before) (c .before .node2 .given .1))
 
 check-returns-6 : (t : ℕ) → check-lts.Need-returns-6 (calls t) (check-at t) check.Post
-check-returns-6 t c = rw (coded t (c .before .before .before .before) (c .before .before .node3 .given .1)) (c .check-field .ensures)
+check-returns-6 t c =
+    rw (coded t (c .before .before .before .before) (c .before .before .node3 .given .1)) (c .check-field .ensures)
 
 check-returns-7 : (t : ℕ) → check-lts.Need-returns-7 (calls t) (check-at t) check.Post
 check-returns-7 t c =
-    rw (coded t (c .before .before .before .before .before .before .before .before .before .before .before .before) (c .before .before .before .before .before .before .before .before .before .before .node4 .given .1), ← c .before .before .before .before .before .before .before .before .check .ensures, c .before .before .before .before .before .before .a .given .1, ← c .before .before .before .before .check2 .ensures, c .before .before .b .given .1)
+    let c₈ = c .before .before .before .before .before .before .before .before in
+    rw (
+      coded t (c₈ .before .before .before .before) (c₈ .before .before .node4 .given .1),
+      ← c₈ .check .ensures,
+      c
+          .before .before .before .before .before .before .a .given .1,
+      ← c .before .before .before .before .check2
+          .ensures,
+      c .before .before .b .given .1,
+    )
     (c .check-two .ensures)
 
 check-returns-8 : (t : ℕ) → check-lts.Need-returns-8 (calls t) (check-at t) check.Post
-check-returns-8 t c = rw (coded t (c .before .before .before .before .before .before .before .before) (c .before .before .before .before .before .before .node5 .given .1), ← c .before .before .before .before .check3 .ensures, c .before .before .a2 .given .1) (c .check-not .ensures)
+check-returns-8 t c =
+    let c₈ = c .before .before .before .before .before .before .before .before in
+    rw (
+      coded t (c₈) (c .before .before .before .before .before .before .node5 .given .1),
+      ← c .before .before
+          .before .before .check3 .ensures,
+      c .before .before .a2 .given .1,
+    ) (c .check-not .ensures)
 
 check-returns-9 : (t : ℕ) → check-lts.Need-returns-9 (calls t) (check-at t) check.Post
 check-returns-9 t c = rw (coded t (c .before .before) (c .enum-told4 .given .1))

@@ -82,10 +82,17 @@ skip-returns-3 : (t : ℕ) → skip-lts.Need-returns-3 (calls t) (skip-at t) ski
 skip-returns-3 t c = rw (coded t (c .before .before .before) (c .before .node3 .given .1))
 
 skip-returns-4 : (t : ℕ) → skip-lts.Need-returns-4 (calls t) (skip-at t) skip.Post
-skip-returns-4 t c = rw (coded t (c .before .before .before .before .before) (c .before .before .before .node4 .given .1), c .skip2 .ensures, c .before .skip .ensures)
+skip-returns-4 t c =
+    rw (
+      coded t (c .before .before .before .before .before) (c .before .before .before .node4 .given .1),
+      c .skip2
+          .ensures,
+      c .before .skip .ensures,
+    )
 
 skip-returns-5 : (t : ℕ) → skip-lts.Need-returns-5 (calls t) (skip-at t) skip.Post
-skip-returns-5 t c = rw (coded t (c .before .before .before .before) (c .before .before .node5 .given .1), c .skip3 .ensures)
+skip-returns-5 t c =
+    rw (coded t (c .before .before .before .before) (c .before .before .node5 .given .1), c .skip3 .ensures)
 
 skip-returns-6 : (t : ℕ) → skip-lts.Need-returns-6 (calls t) (skip-at t) skip.Post
 skip-returns-6 t c = rw (coded t (c .before .before) (c .enum-told .given .1))

@@ -31,8 +31,22 @@ value-below t = and 2 value-kinds.ps (falls 2 value-kinds.ps _<_ μ-value t) val
 
 -- what the callees' contracts ask and promise
 abbrev calls : ℕ → value-lts.Claims
-calls t =
-    (node-reads.Asked, node-reads.Learnt, field-value-reads.Asked, field-value-reads.Learnt, value-below t, value.Post, settles-reads.Asked, settles-reads.Learnt, skip-reads.Asked, skip-reads.Learnt, combine-reads.Asked, combine-reads.Learnt, yes-no-reads.Asked, yes-no-reads.Learnt)
+calls t = (
+  node-reads.Asked,
+  node-reads.Learnt,
+  field-value-reads.Asked,
+  field-value-reads.Learnt,
+  value-below t,
+  value.Post,
+  settles-reads.Asked,
+  settles-reads.Learnt,
+  skip-reads.Asked,
+  skip-reads.Learnt,
+  combine-reads.Asked,
+  combine-reads.Learnt,
+  yes-no-reads.Asked,
+  yes-no-reads.Learnt,
+)
 
 -- where the node is known to be k, the answer goes by k
 coded : (t : ℕ) (p : value-lts.After-node (calls t) (value-at t) value.Post) {k : Node} → p .node .result ≡ k
@@ -73,7 +87,13 @@ value-enum-told : (t : ℕ) → value-lts.Need-enum-told (calls t) (value-at t) 
 value-enum-told t c = search needs
 
 value-returns-2 : (t : ℕ) → value-lts.Need-returns-2 (calls t) (value-at t) value.Post
-value-returns-2 t c = rw (coded t (c .before .before .before .before .before .before) (c .before .before .before .before .node4 .given .1), ← c .before .before .value .ensures, c .enum-told .given .1)
+value-returns-2 t c =
+    rw (
+      coded t (c .before .before .before .before .before .before) (c .before .before .before .before .node4 .given
+          .1),
+      ← c .before .before .value .ensures,
+      c .enum-told .given .1,
+    )
 
 value-settles-requires : (t : ℕ) → value-lts.Need-settles-requires (calls t) (value-at t) value.Post
 value-settles-requires t c κs = search needs
@@ -86,7 +106,17 @@ value-skip-requires t c κs = search needs
 
 value-returns-3 : (t : ℕ) → value-lts.Need-returns-3 (calls t) (value-at t) value.Post
 value-returns-3 t c =
-    rw (coded t (c .before .before .before .before .before .before .before .before .before .before) (c .before .before .before .before .before .before .before .before .node4 .given .1), ← c .before .before .before .before .before .before .value .ensures, c .before .before .before .before .v .given .1, ← c .before .before .settles .ensures, c .before .if2 .taken, c .skip .ensures)
+    let c₈ = c .before .before .before .before .before .before .before .before in
+    rw (
+      coded t (c₈ .before .before) (c₈ .node4 .given .1),
+      ← c .before .before .before .before .before .before
+          .value .ensures,
+      c .before .before .before .before .v .given .1,
+      ← c .before .before .settles .ensures,
+      c .before
+          .if2 .taken,
+      c .skip .ensures,
+    )
 
 value-sub-value-2 : (t : ℕ) → value-lts.Need-sub-value-2 (calls t) (value-at t) value.Post
 value-sub-value-2 t c = search needs
@@ -102,9 +132,10 @@ value-enum-told-2 t c = search needs
 
 value-returns-4 : (t : ℕ) → value-lts.Need-returns-4 (calls t) (value-at t) value.Post
 value-returns-4 t c =
+    let c₈ = c .before .before .before .before .before .before .before .before in
     rw (
-      coded t (c .before .before .before .before .before .before .before .before .before .before .before .before) (c .before .before .before .before .before .before .before .before .before .before .node4 .given .1),
-      ← c .before .before .before .before .before .before .before .before .value .ensures,
+      coded t (c₈ .before .before .before .before) (c₈ .before .before .node4 .given .1),
+      ← c₈ .value .ensures,
       c .before .before .before .before .before .before .v .given .1,
       ← c .before .before .before .before .settles .ensures,
       c .before .before .before .if2 .left,
@@ -131,7 +162,13 @@ value-enum-told-3 : (t : ℕ) → value-lts.Need-enum-told-3 (calls t) (value-at
 value-enum-told-3 t c = search needs
 
 value-returns-5 : (t : ℕ) → value-lts.Need-returns-5 (calls t) (value-at t) value.Post
-value-returns-5 t c = rw (coded t (c .before .before .before .before .before .before) (c .before .before .before .before .node5 .given .1), ← c .before .before .value3 .ensures, c .enum-told3 .given .1)
+value-returns-5 t c =
+    rw (
+      coded t (c .before .before .before .before .before .before) (c .before .before .before .before .node5 .given
+          .1),
+      ← c .before .before .value3 .ensures,
+      c .enum-told3 .given .1,
+    )
 
 value-yes-no-requires : (t : ℕ) → value-lts.Need-yes-no-requires (calls t) (value-at t) value.Post
 value-yes-no-requires t c κs = search needs
@@ -143,14 +180,17 @@ value-returns-6 : (t : ℕ) → value-lts.Need-returns-6 (calls t) (value-at t) 
 value-returns-6 t c = rw (coded t (c .before .before .before) (c .before .node2 .given .1))
 
 value-returns-7 : (t : ℕ) → value-lts.Need-returns-7 (calls t) (value-at t) value.Post
-value-returns-7 t c = rw (coded t (c .before .before .before .before) (c .before .before .node3 .given .1)) (c .field-value .ensures)
+value-returns-7 t c =
+    rw (coded t (c .before .before .before .before) (c .before .before .node3 .given .1)) (c .field-value .ensures)
 
 value-returns-8 : (t : ℕ) → value-lts.Need-returns-8 (calls t) (value-at t) value.Post
 value-returns-8 t c =
+    let c₈ = c .before .before .before .before .before .before .before .before in
     rw (
-      coded t (c .before .before .before .before .before .before .before .before .before .before .before .before .before .before) (c .before .before .before .before .before .before .before .before .before .before .before .before .node4 .given .1),
-      ← c .before .before .before .before .before .before .before .before .before .before .value .ensures,
-      c .before .before .before .before .before .before .before .before .v .given .1,
+      coded t (c₈ .before .before .before .before .before .before) (c₈ .before .before .before .before .node4 .given
+          .1),
+      ← c₈ .before .before .value .ensures,
+      c₈ .v .given .1,
       ← c .before .before .before .before .before .before .settles .ensures,
       c .before .before .before .before .before .if2 .left,
       ← c .before .before .before .before .value2 .ensures,
@@ -159,7 +199,15 @@ value-returns-8 t c =
     (c .combine .ensures)
 
 value-returns-9 : (t : ℕ) → value-lts.Need-returns-9 (calls t) (value-at t) value.Post
-value-returns-9 t c = rw (coded t (c .before .before .before .before .before .before .before .before) (c .before .before .before .before .before .before .node5 .given .1), ← c .before .before .before .before .value3 .ensures, c .before .before .v2 .given .1, c .yes-no .ensures)
+value-returns-9 t c =
+    let c₈ = c .before .before .before .before .before .before .before .before in
+    rw (
+      coded t (c₈) (c .before .before .before .before .before .before .node5 .given .1),
+      ← c .before .before
+          .before .before .value3 .ensures,
+      c .before .before .v2 .given .1,
+      c .yes-no .ensures,
+    )
 
 value-returns-10 : (t : ℕ) → value-lts.Need-returns-10 (calls t) (value-at t) value.Post
 value-returns-10 t c = rw (coded t (c .before .before) (c .enum-told4 .given .1))

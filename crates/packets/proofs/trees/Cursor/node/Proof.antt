@@ -48,23 +48,53 @@ enum-told-4 c = search needs
 
 returns-2 : tie.Need-returns-2
 unfolding nodeAt
-returns-2 c = rw (lt-ltb _ _ (c .before .before .before .before .before .if1 .left), ← c .before .before .before .code-of .ensures, c .before .enum-told .given .1) (c .number .ensures)
+returns-2 c =
+    rw (
+      lt-ltb _ _ (c .before .before .before .before .before .if1 .left),
+      ← c .before .before .before .code-of
+          .ensures,
+      c .before .enum-told .given .1,
+    ) (c .number .ensures)
 
 returns-3 : tie.Need-returns-3
 unfolding nodeAt
-returns-3 c = rw (lt-ltb _ _ (c .before .before .before .before .before .if1 .left), ← c .before .before .before .code-of .ensures, c .before .enum-told2 .given .1) (c .field .ensures)
+returns-3 c =
+    rw (
+      lt-ltb _ _ (c .before .before .before .before .before .if1 .left),
+      ← c .before .before .before .code-of
+          .ensures,
+      c .before .enum-told2 .given .1,
+    ) (c .field .ensures)
 
 returns-4 : tie.Need-returns-4
 unfolding nodeAt
-returns-4 c = rw (lt-ltb _ _ (c .before .before .before .before .before .if1 .left), ← c .before .before .before .code-of .ensures, c .before .c .given .1)
+returns-4 c =
+    rw (
+      lt-ltb _ _ (c .before .before .before .before .before .if1 .left),
+      ← c .before .before .before .code-of
+          .ensures,
+      c .before .c .given .1,
+    )
 
 returns-5 : tie.Need-returns-5
 unfolding nodeAt
-returns-5 c = rw (lt-ltb _ _ (c .before .before .before .before .if1 .left), ← c .before .before .code-of .ensures, c .enum-told3 .given .1)
+returns-5 c =
+    rw (
+      lt-ltb _ _ (c .before .before .before .before .if1 .left),
+      ← c .before .before .code-of .ensures,
+      c
+          .enum-told3 .given .1,
+    )
 
 returns-6 : tie.Need-returns-6
 unfolding nodeAt
-returns-6 c = rw (lt-ltb _ _ (c .before .before .before .before .if1 .left), ← c .before .before .code-of .ensures, c .enum-told4 .given .1)
+returns-6 c =
+    rw (
+      lt-ltb _ _ (c .before .before .before .before .if1 .left),
+      ← c .before .before .code-of .ensures,
+      c
+          .enum-told4 .given .1,
+    )
 
 pub node-spec : {M : Type 1} → statement M
 node-spec =
