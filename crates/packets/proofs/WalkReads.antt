@@ -123,15 +123,15 @@ pub walk-reads : (s packet : List ℕ) (fs before : List (Field ℕ)) (entries :
     → WalkHolds packet (readFields packet entries place fs)
     (walkFrom s packet (length fs) (length entries) run place at)
 unfolding walkFrom readFields walkAnswer
-walk-reads s packet [] before entries run place at end counts begins room form size kinds p le = record {
+walk-reads s packet [] before entries run place at end counts begins room form size types p le = record {
   answer = at-end packet entries run place begins (eqb place (bitTotal packet)) refl;
   front = λ es e after q. rw (q, ← complete-is (eqb place (bitTotal packet)) entries es e) begins;
 }
-walk-reads s packet (f ∷ fs) before entries run place at end counts begins room form size kinds p le =
+walk-reads s packet (f ∷ fs) before entries run place at end counts begins room form size types p le =
     let q = first-stands before f fs s at end form size p le in
     let e = firstBreak-cons keepsForm before f fs form in
     let z = firstBreak-cons keepsSize before f fs size in
-    let k = firstBreak-cons (keepsTypes indexReadable) before f fs kinds in
+    let k = firstBreak-cons (keepsTypes indexReadable) before f fs types in
     let r = recordAt s at in
     let sums = later-sum (before ++ (f ∷ [])) fs s (r .next) end (e .1) (z .1) (q .later) le in
     let found = fieldStep s packet run r (length fs) place in

@@ -32,7 +32,7 @@ pub record Inside (s : List ℕ) (p : Parts) : Type 0 where
 
 -- ── trees ──
 
--- the answer is a tree of the kind that ends there
+-- the answer is a tree of the type that ends there
 abbrev pub endsAs : ValueType → ℕ → Checked → Bool
 endsAs k end (Tree j next) = sameType j k && eqb (next .at) end
 endsAs k end Bad = false
