@@ -75,7 +75,7 @@ use Rattle.text_laws.specs.LineReader.{
   labelText,
   labelBehind,
   readLabel,
-  readName,
+  readClosedName,
   readShort,
   readTree,
   unitOf,
@@ -219,7 +219,7 @@ unfolding digits all any same lastIs sum joined tabulate firstBreak isLetter isD
     isWordByte isLabelByte noTwoSpaces isLabel reserved isReserved isShort operator operators depth le4 storedTree
     isInRange hasType tens units border cellText rowLines headLines cells mismatch ruleBroken after firstOf insert
     longestFirst order skip skipBehind operatorAt word behind scan wordValue isNumeral isNumberWord andThen leaf close
-    inside atom step expr more literal begins labelEnds labelText labelBehind readLabel readName readShort
+    inside atom step expr more literal begins labelEnds labelText labelBehind readLabel readClosedName readShort
     readTree unitOf readUnit readMeasure readWidth readPhrase readMaybe isCondition isConstraint readConstraint
     readCondition readField isRemark readForm formsOf onFirst pieces rest lead leftTrim keepEnd rightTrim cellOf
     keepRow longOf readRow closing Frames.readName readTens onName onWidth onRow rowOrEnd opened onSame Frames.step
