@@ -24,6 +24,16 @@
 extern "C" {
 #endif
 
+/* The limits of document 01 that a caller meets: bytes of a text, fields, bytes of a packet. */
+#define UMAREKOZA_TEXT_MOST 16384
+#define UMAREKOZA_FIELDS_MOST 64
+#define UMAREKOZA_PACKET_MOST 2048
+
+/* A run of so many numbers, and an output of so many bytes for a table or for a listing, is always enough. */
+#define UMAREKOZA_RUN_MOST 256
+#define UMAREKOZA_TABLE_MOST 27190
+#define UMAREKOZA_LISTING_MOST 3979
+
 /* Number 0: accepted, with place 0 and a length. Else refused: the number and place of the refusal, and length 0. */
 struct umarekoza_answer {
     uint32_t number;

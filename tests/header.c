@@ -99,6 +99,24 @@ static int nines(const void *buffer, size_t from, size_t to)
     return 1;
 }
 
+/* Buffers that the header says are always enough. */
+static void most(void)
+{
+    static uint8_t bytes[UMAREKOZA_TABLE_MOST];
+    static uint8_t lines[UMAREKOZA_LISTING_MOST];
+    static uint32_t numbers[UMAREKOZA_RUN_MOST];
+    static const uint8_t packet[UMAREKOZA_PACKET_MOST + 1];
+    const size_t run_len = UMAREKOZA_RUN_MOST;
+    expect(UMAREKOZA_RUN_MOST == 4 * UMAREKOZA_FIELDS_MOST, "four numbers a field");
+    expect(is(umarekoza_write_table(BYTES(tag), bytes, sizeof bytes), 0, 0, 44), "the Tag text to a long output");
+    expect(is(umarekoza_read_packet(tag_table, 44, packet, UMAREKOZA_PACKET_MOST, numbers, run_len), 25, 1, 0),
+           "a packet as long as may be");
+    expect(is(umarekoza_read_packet(tag_table, 44, packet, sizeof packet, numbers, run_len), 22, 0, 0),
+           "a packet too long");
+    expect(is(umarekoza_list_packet(tag_table, 44, packet, sizeof packet, lines, sizeof lines), 0, 0, 16),
+           "a packet too long listed");
+}
+
 static void write_table(void)
 {
     uint8_t out[64];
@@ -189,6 +207,7 @@ int main(void)
 {
     expect(sizeof(struct umarekoza_answer) == 16, "size of an answer");
     expect(sizeof(struct umarekoza_span) == 16, "size of a span");
+    most();
     write_table();
     check_table();
     read_packet();

@@ -1,4 +1,4 @@
-"""What make_packet_runs.py and make_text_runs.py share: document 01's stored form, and how requests are written."""
+"""What packet_requests.py and text_requests.py share: document 01's stored form, and files of requests."""
 import struct
 
 ROOM = 65536  # no file of requests is longer
@@ -78,16 +78,3 @@ def split(name, cases):
             size = len(case[0]) + 1
         files[-1].append(case)
     return {"%s%d" % (name, i): file for i, file in enumerate(files, 1)}
-
-
-# The requests of each file, and the answers due to all in this order.
-def write(crate, files):
-    stdout = []
-    for name, cases in files.items():
-        with open(crate + "data/" + name, "w") as out:
-            out.writelines(request + "\n" for request, _ in cases)
-        stdout += [answer + "\n" for _, answer in cases]
-        print(name, len(cases), "requests,", sum(len(r) + 1 for r, _ in cases), "bytes")
-    with open(crate + "stdout", "w") as out:
-        out.writelines(stdout)
-    print("stdout", sum(map(len, stdout)), "bytes")

@@ -85,6 +85,7 @@ fn page(rows: &[String], lines: &str) -> String {
 #[cfg(test)]
 mod tests {
     use super::Case;
+    use umarekoza::{FIELDS_MOST, RUN_MOST, TEXT_MOST};
     use umarekoza_model::read_packet;
 
     #[test]
@@ -96,9 +97,12 @@ mod tests {
         }
         for case in cases {
             let bits = 8 * case.packet.len() as u32;
-            assert_eq!(read_packet(&case.table, &case.packet, 256).map(|reading| reading.total), Ok(bits));
-            assert!(case.page.len() <= 16_384);
+            assert_eq!(
+                read_packet(&case.table, &case.packet, RUN_MOST).map(|reading| reading.total),
+                Ok(bits)
+            );
+            assert!(case.page.len() <= TEXT_MOST);
         }
-        assert!(Case::constrained(64, 16_384).page.len() > 16_000);
+        assert!(Case::constrained(FIELDS_MOST, TEXT_MOST).page.len() > 16_000);
     }
 }

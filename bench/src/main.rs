@@ -10,9 +10,7 @@ use reader::Accepted;
 use rounds::{times, Call, Spread};
 use std::env;
 use std::hint::black_box;
-
-const ROOM: usize = 1 << 15;
-const RUN: usize = 256;
+use umarekoza::{FIELDS_MOST, PACKET_MOST, RUN_MOST, TABLE_MOST, TEXT_MOST};
 
 fn main() {
     let rounds =
@@ -31,8 +29,8 @@ fn main() {
 
 fn ratios(rounds: usize) {
     let blade = Case::blade();
-    let fields = Case::constrained(64, 16_384);
-    let long = Case::long(2048);
+    let fields = Case::constrained(FIELDS_MOST, TEXT_MOST);
+    let long = Case::long(PACKET_MOST);
     println!("| Call | Case | library, ns | / model | / plain C | / C with constraints | again |");
     println!("|---|---|---|---|---|---|---|");
     for case in [&blade, &fields] {
@@ -92,7 +90,7 @@ fn model_check(case: &Case) -> Call<'_> {
 }
 
 fn read(case: &Case) -> Call<'_> {
-    let mut run = vec![0; RUN];
+    let mut run = vec![0; RUN_MOST];
     Box::new(move || {
         let bits = umarekoza::read_packet(black_box(&case.table), black_box(&case.packet), &mut run);
         assert_eq!(black_box(bits), Ok(8 * case.packet.len() as u64));
@@ -101,21 +99,21 @@ fn read(case: &Case) -> Call<'_> {
 
 fn model_read(case: &Case) -> Call<'_> {
     Box::new(|| {
-        let reading = umarekoza_model::read_packet(black_box(&case.table), black_box(&case.packet), RUN);
+        let reading = umarekoza_model::read_packet(black_box(&case.table), black_box(&case.packet), RUN_MOST);
         assert!(black_box(reading).is_ok());
     })
 }
 
 fn plain(case: &Case, constraints: bool) -> Call<'_> {
     let accepted = Accepted::new(&case.table, &case.packet).expect("a case of the bench is accepted");
-    let mut run = vec![0; RUN];
+    let mut run = vec![0; RUN_MOST];
     Box::new(move || {
         black_box(black_box(&accepted).read(&mut run, constraints));
     })
 }
 
 fn write(case: &Case) -> Call<'_> {
-    let mut out = vec![0; ROOM];
+    let mut out = vec![0; TABLE_MOST];
     Box::new(move || {
         let length = umarekoza::write_table(black_box(&case.page), &mut out);
         assert_eq!(black_box(length), Ok(case.table.len()));
@@ -123,5 +121,5 @@ fn write(case: &Case) -> Call<'_> {
 }
 
 fn model_write(case: &Case) -> Call<'_> {
-    Box::new(|| assert!(black_box(umarekoza_model::write_table(black_box(&case.page), ROOM)).is_ok()))
+    Box::new(|| assert!(black_box(umarekoza_model::write_table(black_box(&case.page), TABLE_MOST)).is_ok()))
 }

@@ -40,6 +40,7 @@ impl Accepted {
 #[cfg(test)]
 mod tests {
     use super::Accepted;
+    use umarekoza::RUN_MOST;
     use umarekoza_model::generate::{packet, table, Rng};
     use umarekoza_model::read_packet;
 
@@ -51,9 +52,9 @@ mod tests {
             let table = table(&mut rng);
             let packet = packet(&mut rng, &table);
             let Some(accepted) = Accepted::new(&table, &packet) else { continue };
-            let reading = read_packet(&table, &packet, 256).unwrap();
+            let reading = read_packet(&table, &packet, RUN_MOST).unwrap();
             for constraints in [false, true] {
-                let mut run = [0; 256];
+                let mut run = [0; RUN_MOST];
                 assert_eq!(accepted.read(&mut run, constraints), reading.total);
                 assert_eq!(run[..accepted.run_len], reading.fields.concat());
             }

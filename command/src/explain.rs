@@ -65,7 +65,9 @@ fn write(place: &str, refusal: Refusal, note: &str) {
     let meaning = meaning_of(refusal.number);
     complain(&format!(
         "{place}: {} (number {}){note}\n  to mend it: {}",
-        meaning.what, refusal.number, meaning.mend
+        meaning.what(),
+        refusal.number,
+        meaning.mend
     ));
 }
 

@@ -1,8 +1,29 @@
 //! What each refusal number means, and how to mend what is refused.
 
+use umarekoza::{FIELDS_MOST, PACKET_MOST, TEXT_MOST};
+
 pub struct Meaning {
-    pub what: &'static str,
+    /// What is wrong. A limit stands here by its name, as in `{TEXT_MOST}`.
+    what: &'static str,
     pub mend: &'static str,
+}
+
+const LIMITS: [(&str, usize); 3] =
+    [("{TEXT_MOST}", TEXT_MOST), ("{FIELDS_MOST}", FIELDS_MOST), ("{PACKET_MOST}", PACKET_MOST)];
+
+impl Meaning {
+    /// What is wrong, in words.
+    pub fn what(&self) -> String {
+        LIMITS.iter().fold(self.what.to_string(), |what, (name, limit)| what.replace(name, &spelled(*limit)))
+    }
+}
+
+/// A number with a comma before its last three digits.
+fn spelled(number: usize) -> String {
+    match (number / 1000, number % 1000) {
+        (0, number) => number.to_string(),
+        (thousands, rest) => format!("{},{rest:03}", spelled(thousands)),
+    }
 }
 
 const fn meaning(what: &'static str, mend: &'static str) -> Meaning {
@@ -18,7 +39,7 @@ pub fn meaning_of(number: u32) -> &'static Meaning {
 const UNKNOWN: Meaning = meaning("it is refused", "document 01 has the meaning of the number");
 
 const MEANINGS: [(u32, Meaning); 20] = [
-    (1, meaning("the page is longer than 16,384 bytes", "shorten the remarks behind the full stops")),
+    (1, meaning("the page is longer than {TEXT_MOST} bytes", "shorten the remarks behind the full stops")),
     (
         2,
         meaning(
@@ -35,7 +56,7 @@ const MEANINGS: [(u32, Meaning); 20] = [
              has bars at even columns only (counted from 0) and a label in each cell",
         ),
     ),
-    (4, meaning("there are over 64 cells or over 64 field lines", "every line below `where:` counts as a field")),
+    (4, meaning("there are over {FIELDS_MOST} cells or over {FIELDS_MOST} field lines", "every line below `where:` counts as a field")),
     (
         5,
         meaning(
@@ -87,7 +108,7 @@ const MEANINGS: [(u32, Meaning); 20] = [
     (
         22,
         meaning(
-            "the packet is longer than 2,048 bytes",
+            "the packet is longer than {PACKET_MOST} bytes",
             "see that the file holds one packet only; one that is written in hexadecimal needs `--hex`",
         ),
     ),

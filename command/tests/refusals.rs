@@ -22,7 +22,7 @@ fn page_refused(test: &str, changes: &[(&str, &str)], line: &str, words: &[&str]
 
 #[test]
 fn long_page_1() {
-    let remark = format!("Sum: 2 bytes. {}", "x".repeat(16_384));
+    let remark = format!("Sum: 2 bytes. {}", "x".repeat(umarekoza::TEXT_MOST));
     page_refused("1", &[("Sum: 2 bytes.", &remark)], "refused 1 at 0", &["page: ", "longer than 16,384"]);
 }
 

@@ -4,7 +4,6 @@ mod common;
 
 use common::*;
 use std::fs;
-use std::path::Path;
 
 const TAG: &str = "A Tag is formatted as follows:\n\n 0\n 0 1 2 3 4 5 6 7\n+-+-+-+-+-+-+-+-+\n\
                    |       K       |\n+-+-+-+-+-+-+-+-+\n\nwhere:\n\nKind (K): 1 byte; K == 7.\n";
@@ -122,27 +121,4 @@ fn help_and_version() {
     assert_eq!((help.status, help.err.as_str()), (0, ""));
     place.run(&["read", "--help"]).accepted(&help.out);
     place.run(&["--version"]).accepted(concat!("umarekoza ", env!("CARGO_PKG_VERSION"), "\n"));
-}
-
-#[test]
-fn examples_read_as_listed() {
-    let place = Place::new("examples");
-    let examples = Path::new(env!("CARGO_MANIFEST_DIR")).join("../examples");
-    let file = |name: String| examples.join(name).to_str().unwrap().to_string();
-    let cases = [
-        ("blade-report", "blade-report"),
-        ("gait-burst", "gait-burst"),
-        ("strain-trace", "strain-trace"),
-        ("hire-slip", "hire-slip-group"),
-        ("hire-slip", "hire-slip-returned"),
-    ];
-    for (page, packet) in cases {
-        let (page, hex) = (file(format!("pages/{page}.txt")), file(format!("packets/{packet}.hex")));
-        let listing = fs::read(file(format!("listings/{packet}.txt"))).unwrap();
-        place.run(&["read", "--hex", &page, &hex]).accepted(listing);
-    }
-    let (page, packet) = (file("pages/blade-report.txt".into()), file("packets/blade-report.bin".into()));
-    place.run(&["read", &page, &packet]).accepted(M1_LISTING);
-    let left = place.run(&["read", &file("mistake.txt".into()), &packet]);
-    left.refused("refused 7 at 19", &["mistake.txt:19", "Cells (N): 6 bits; N <= 20."]);
 }

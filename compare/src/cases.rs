@@ -1,7 +1,8 @@
 //! Cases: a text, or a table with a packet.
 
 use std::fmt;
-use umarekoza_model::generate::{packet, table, text, Rng};
+use umarekoza::PACKET_MOST;
+use umarekoza_model::generate::{packet, table, tail, text, Rng};
 use umarekoza_model::protocol::to_hex;
 
 pub enum Case {
@@ -15,6 +16,10 @@ impl Case {
         if rng.one_in(3) {
             let text = if rng.one_in(50) { noise(rng) } else { text(rng) };
             return Case::Text(text);
+        }
+        if rng.one_in(150) {
+            let (table, packet) = tail(rng);
+            return Case::Packet { table, packet };
         }
         let table = if rng.one_in(50) { noise(rng) } else { table(rng) };
         let packet = if rng.one_in(100) { long_packet(rng) } else { packet(rng, &table) };
@@ -38,5 +43,5 @@ fn noise(rng: &mut Rng) -> Vec<u8> {
 
 /// Bytes at the limit of a packet.
 fn long_packet(rng: &mut Rng) -> Vec<u8> {
-    (0..rng.pick([2047, 2048, 2049, 5000])).map(|_| rng.byte()).collect()
+    (0..rng.pick([PACKET_MOST - 1, PACKET_MOST, PACKET_MOST + 1, 5000])).map(|_| rng.byte()).collect()
 }

@@ -1,13 +1,13 @@
 //! The comparisons of a case: every call that goes with it, with what the model says it must answer and write.
 
-use crate::calls::{Calls, Wrong};
+use crate::calls::{Calls, Settled, Wrong};
 use crate::cases::Case;
+use umarekoza::{FIELDS_MOST, LISTING_MOST, RUN_MOST, TABLE_MOST};
 use umarekoza_model as model;
 use umarekoza_model::generate::Rng;
 
-/// The lengths that the safe crate lends at first: bytes of an output, numbers of a run.
-const OUTPUT: usize = 2048;
-const RUN: usize = 256;
+/// What is due where an output is shorter than what is written there.
+const TOO_SHORT: Settled<Vec<u8>> = Err(model::Refusal { number: 11, place: 0 });
 
 /// Compares every call of a case.
 pub fn compare(calls: &mut Calls, case: &Case) -> Result<(), Wrong> {
@@ -23,17 +23,17 @@ pub fn compare(calls: &mut Calls, case: &Case) -> Result<(), Wrong> {
 }
 
 fn compare_text(calls: &mut Calls, text: &[u8]) -> Result<(), Wrong> {
-    let table = model::write_table(text, usize::MAX);
-    let needed = table.map_or(calls.rng.below(100), |table| table.len());
-    for room in rooms(&mut calls.rng, needed, OUTPUT) {
-        calls.write_table(text, room, &model::write_table(text, room))?;
+    let fits = model::write_table(text, usize::MAX);
+    let needed = fits.as_ref().map_or(calls.rng.below(100), Vec::len);
+    for room in rooms(&mut calls.rng, needed, TABLE_MOST) {
+        calls.write_table(text, room, if fits.is_ok() && room < needed { &TOO_SHORT } else { &fits })?;
     }
     Ok(())
 }
 
 fn compare_table(calls: &mut Calls, table: &[u8]) -> Result<(), Wrong> {
     calls.check_table(table, &model::check_table(table))?;
-    for index in [0, calls.rng.below(8), calls.rng.below(66), usize::MAX] {
+    for index in [0, calls.rng.below(8), calls.rng.below(FIELDS_MOST + 2), usize::MAX] {
         let (start, length) = model::field_label(table, index);
         calls.field_label(table, index, (start, length))?;
         let name = name_like(&mut calls.rng, table, &table[start..start + length]);
@@ -43,11 +43,11 @@ fn compare_table(calls: &mut Calls, table: &[u8]) -> Result<(), Wrong> {
 }
 
 fn compare_reading(calls: &mut Calls, table: &[u8], packet: &[u8]) -> Result<(), Wrong> {
-    let fields = (0..).take_while(|index| model::field_label(table, *index).1 > 0).count();
-    for run_len in rooms(&mut calls.rng, 4 * fields, RUN) {
+    let fields = model::field_count(table);
+    for run_len in rooms(&mut calls.rng, 4 * fields, RUN_MOST) {
         calls.read_packet((table, packet), run_len, &model::read_packet(table, packet, run_len))?;
     }
-    let indexes = [fields, fields, 66].map(|bound| calls.rng.below(bound));
+    let indexes = [fields, fields, FIELDS_MOST + 2].map(|bound| calls.rng.below(bound));
     for index in indexes.into_iter().chain([usize::MAX]) {
         calls.field_bytes((table, packet), index, model::field_bytes(table, packet, index))?;
     }
@@ -57,18 +57,17 @@ fn compare_reading(calls: &mut Calls, table: &[u8], packet: &[u8]) -> Result<(),
 fn compare_listing(calls: &mut Calls, table: &[u8], packet: &[u8]) -> Result<(), Wrong> {
     let listing = model::list_packet(table, packet);
     let (needed, fits) = (listing.len(), Ok(listing));
-    for room in rooms(&mut calls.rng, needed, OUTPUT) {
-        let too_short = Err(model::Refusal { number: 11, place: 0 });
-        calls.list_packet((table, packet), room, if room < needed { &too_short } else { &fits })?;
+    for room in rooms(&mut calls.rng, needed, LISTING_MOST) {
+        calls.list_packet((table, packet), room, if room < needed { &TOO_SHORT } else { &fits })?;
     }
     Ok(())
 }
 
-/// Lengths of a lent slice that needs `needed`: exactly that, one less, none, some more, and `first`, doubled until it
-/// is enough, as the safe crate does.
-fn rooms(rng: &mut Rng, needed: usize, first: usize) -> [usize; 5] {
-    let doubled = needed.next_power_of_two().max(first);
-    [needed, needed.saturating_sub(1), 0, needed + rng.between(1, 300), doubled]
+/// Lengths of a lent slice that needs `needed`: exactly that, one less, none, some more, and `most`, which the safe
+/// crate lends.
+fn rooms(rng: &mut Rng, needed: usize, most: usize) -> [usize; 5] {
+    assert!(needed <= most, "{needed} are needed, over {most}");
+    [needed, needed.saturating_sub(1), 0, needed + rng.between(1, 300), most]
 }
 
 /// A label as it is or with a change, or some bytes of the table, which may hold a short name.

@@ -1,5 +1,5 @@
-//! The seven exports as the header declares them, with all that they answer. The safe crate `umarekoza` is here for
-//! linking alone: it drops parts of an answer, so its functions are left to its own tests.
+//! The seven exports as the header declares them, with all that they answer. Of the safe crate `umarekoza` only the
+//! limits are used here, and its link: it drops parts of an answer, so its functions are left to its own tests.
 
 use umarekoza as _;
 

@@ -7,18 +7,21 @@ const GUARDS: usize = 24;
 
 /// Something that slices are made of.
 pub trait Unit: Copy + PartialEq {
-    fn random(rng: &mut Rng) -> Self;
+    /// Adds `count` random ones.
+    fn add(rng: &mut Rng, to: &mut Vec<Self>, count: usize);
 }
 
 impl Unit for u8 {
-    fn random(rng: &mut Rng) -> Self {
-        rng.byte()
+    fn add(rng: &mut Rng, to: &mut Vec<Self>, count: usize) {
+        let length = to.len() + count;
+        to.extend((0..count.div_ceil(8)).flat_map(|_| rng.bits().to_le_bytes()));
+        to.truncate(length);
     }
 }
 
 impl Unit for u32 {
-    fn random(rng: &mut Rng) -> Self {
-        rng.bits() as u32
+    fn add(rng: &mut Rng, to: &mut Vec<Self>, count: usize) {
+        to.extend((0..count).map(|_| rng.bits() as u32));
     }
 }
 
@@ -31,16 +34,18 @@ pub struct Lent<T> {
 impl<T: Unit> Lent<T> {
     /// A slice that holds `held`.
     pub fn holding(rng: &mut Rng, held: &[T]) -> Self {
-        let mut now: Vec<T> = (0..GUARDS).map(|_| T::random(rng)).collect();
+        let mut now = Vec::with_capacity(held.len() + 2 * GUARDS + 8);
+        T::add(rng, &mut now, GUARDS);
         now.extend_from_slice(held);
-        now.extend((0..GUARDS).map(|_| T::random(rng)));
+        T::add(rng, &mut now, GUARDS);
         Lent { before: now.clone(), now }
     }
 
     /// A slice of `length` random numbers.
     pub fn random(rng: &mut Rng, length: usize) -> Self {
-        let held: Vec<T> = (0..length).map(|_| T::random(rng)).collect();
-        Lent::holding(rng, &held)
+        let mut now = Vec::new();
+        T::add(rng, &mut now, length + 2 * GUARDS);
+        Lent { before: now.clone(), now }
     }
 
     pub fn len(&self) -> usize {

@@ -5,6 +5,7 @@ use crate::cases::Case;
 use crate::comparisons::compare;
 use std::fs;
 use std::path::Path;
+use umarekoza::LISTING_MOST;
 use umarekoza_model::protocol::from_hex;
 use umarekoza_model::{Reading, Refusal};
 
@@ -66,7 +67,7 @@ fn compare_stored(calls: &mut Calls, words: &[&str], answer: &str) -> Option<Res
         }
         ["list", table, packet] => {
             let (table, packet) = (from_hex(table)?, from_hex(packet)?);
-            calls.list_packet((&table, &packet), 1 << 14, &Ok(from_hex(answer)?))
+            calls.list_packet((&table, &packet), LISTING_MOST, &Ok(from_hex(answer)?))
         }
         _ => return None,
     })

@@ -26,7 +26,8 @@ fn node_value(nodes: &[Node<usize>], node: usize, values: &[Option<u32>]) -> Res
     }
 }
 
-fn apply(op: Op, left: u32, right: u32) -> Result<u32, u32> {
+/// What a two-sided operator gives, or the number of its fault.
+pub fn apply(op: Op, left: u32, right: u32) -> Result<u32, u32> {
     let truth = |truth: bool| Some(u32::from(truth));
     let result = match op {
         Op::Add => left.checked_add(right),

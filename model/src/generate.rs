@@ -3,10 +3,11 @@
 //!
 //! `layouts` and `words` choose rows and names, `growth` the trees, `fields` the description; `spelling` writes
 //! it as one of its texts; `bends` breaks a rule of a description, `edits` changes bytes and lines; `fitting`
-//! makes packets for a table.
+//! makes packets for a table. `extremes` makes what stands at the far ends of the limits.
 
 mod bends;
 mod edits;
+mod extremes;
 mod fields;
 mod fitting;
 mod growth;
@@ -20,12 +21,18 @@ pub use rng::Rng;
 use crate::descriptions::Description;
 use crate::rules::MOST_FIELDS;
 use crate::stored::encode;
-use layouts::{full_layout, layout, Layout};
-use spelling::{spell, Oddities};
+use layouts::{full_layout, layout, tall_layout, Layout};
+use spelling::{spell, Manner};
 use words::Names;
+
+/// A text at the far ends is one of so many, and a table too.
+const FAR: usize = 80;
 
 /// A text: about half of them spell a description, the others are damaged.
 pub fn text(rng: &mut Rng) -> Vec<u8> {
+    if rng.one_in(FAR) {
+        return far_text(rng);
+    }
     let (layout, names) = plan(rng, true);
     let description = fields::description(rng, &layout, &names);
     if rng.one_in(2) {
@@ -35,8 +42,8 @@ pub fn text(rng: &mut Rng) -> Vec<u8> {
         0 | 1 => edits::edit_bytes(spelled(rng, &description), rng, &edits::TEXT_BYTES),
         2 => edits::edit_lines(spelled(rng, &description), rng),
         3 | 4 => {
-            let oddities = Oddities::random(rng);
-            spell(rng, &description, &description, oddities)
+            let manner = Manner::wrong(rng);
+            spell(rng, &description, &description, manner)
         }
         5 => too_many_fields(rng),
         _ => bent_text(rng, &description),
@@ -52,6 +59,9 @@ pub fn spelled_text(rng: &mut Rng) -> (Vec<u8>, Vec<u8>) {
 
 /// A table: about half of them are good, the others have broken rules or changed bytes.
 pub fn table(rng: &mut Rng) -> Vec<u8> {
+    if rng.one_in(4 * FAR) {
+        return longest_table(rng);
+    }
     let (layout, names) = plan(rng, false);
     let mut description = fields::description(rng, &layout, &names);
     match rng.below(8) {
@@ -78,15 +88,54 @@ pub fn packet(rng: &mut Rng, table: &[u8]) -> Vec<u8> {
     }
 }
 
+/// A table of a rest field among as many fixed bits as may be, and a packet for it.
+pub fn tail(rng: &mut Rng) -> (Vec<u8>, Vec<u8>) {
+    let names = Names::longest(rng, MOST_FIELDS);
+    let description = extremes::tail(rng, &names);
+    (encode(&description), extremes::tail_packet(rng, &description))
+}
+
+/// The longest table, or one that is nearly that.
+fn longest_table(rng: &mut Rng) -> Vec<u8> {
+    let names = Names::longest(rng, MOST_FIELDS);
+    let table = encode(&extremes::longest(rng, &names));
+    if rng.one_in(3) {
+        return edits::edit_bytes(table, rng, &edits::TABLE_BYTES);
+    }
+    table
+}
+
+/// A text of very many lines, or one of the longest table; about half of them damaged.
+fn far_text(rng: &mut Rng) -> Vec<u8> {
+    let text = match rng.below(3) {
+        0 => extremes::many_rows(rng),
+        1 => extremes::many_lines(rng),
+        _ => {
+            let names = Names::longest(rng, MOST_FIELDS);
+            let description = extremes::longest(rng, &names);
+            spell(rng, &description, &description, Manner::PLAIN)
+        }
+    };
+    match rng.below(4) {
+        0 => edits::edit_bytes(text, rng, &edits::TEXT_BYTES),
+        1 => edits::edit_lines(text, rng),
+        _ => text,
+    }
+}
+
 /// Rows and names; with `shown`, each field has a name that its cell has room for.
 fn plan(rng: &mut Rng, shown: bool) -> (Layout, Names) {
-    let layout = if rng.one_in(25) { full_layout(rng, MOST_FIELDS) } else { layout(rng) };
+    let layout = match rng.below(50) {
+        0 | 1 => full_layout(rng, MOST_FIELDS),
+        2 => tall_layout(rng, MOST_FIELDS),
+        _ => layout(rng),
+    };
     let names = Names::random(rng, &layout, shown);
     (layout, names)
 }
 
 fn spelled(rng: &mut Rng, description: &Description) -> Vec<u8> {
-    let text = spell(rng, description, description, Oddities::default());
+    let text = spell(rng, description, description, Manner::default());
     if rng.one_in(60) {
         return edits::padded(text, rng);
     }
@@ -109,5 +158,5 @@ fn bent_text(rng: &mut Rng, description: &Description) -> Vec<u8> {
         bends::bend(rng, &mut bent);
     }
     let drawn = if rng.one_in(2) { &bent } else { description };
-    spell(rng, drawn, &bent, Oddities::default())
+    spell(rng, drawn, &bent, Manner::default())
 }

@@ -28,7 +28,7 @@ mod texts;
 mod trees;
 
 pub use listing::list_packet;
-pub use lookups::{field_label, find_field};
+pub use lookups::{field_count, field_label, find_field};
 pub use reading::{field_bytes, read_packet, Reading};
 pub use refusals::Refusal;
 pub use tables::check_table;

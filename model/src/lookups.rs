@@ -13,6 +13,11 @@ pub fn find_field(table: &[u8], name: &[u8]) -> Result<usize, Refusal> {
     }
 }
 
+/// How many fields a table has; 0 if it is not good.
+pub fn field_count(table: &[u8]) -> usize {
+    good_description(table).map_or(0, |description| description.fields.len())
+}
+
 /// Start and length in the table of the label of a field; 0, 0 if the table is not good or has no such field.
 pub fn field_label(table: &[u8], index: usize) -> (usize, usize) {
     let Ok(description) = good_description(table) else { return (0, 0) };

@@ -1,7 +1,7 @@
 //! Labels and short names [01, The lines of a text].
 
-const LONGEST_LABEL: usize = 40;
-const LONGEST_SHORT_NAME: usize = 8;
+pub const LONGEST_LABEL: usize = 40;
+pub const LONGEST_SHORT_NAME: usize = 8;
 const RESERVED: [&[u8]; 6] = [b"bit", b"bits", b"byte", b"bytes", b"variable", b"present"];
 
 /// 1 to 40 letters, digits, spaces and hyphens, a letter or digit at each end, no two spaces together.

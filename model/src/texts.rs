@@ -9,7 +9,7 @@ use crate::rules::{first_after_rest, reads_right, repeats, trees_small, MOST_FIE
 use crate::stored::encode;
 use crate::trees::{Node, Tree};
 
-const LONGEST_TEXT: usize = 16_384;
+pub const LONGEST_TEXT: usize = 16_384;
 
 /// The table of the description that `text` spells, for an output of `room` bytes.
 pub fn write_table(text: &[u8], room: usize) -> Result<Vec<u8>, Refusal> {

@@ -44,27 +44,20 @@
 #![warn(missing_docs)]
 
 mod calls;
+mod limits;
 mod packets;
 mod refusal;
 mod tables;
 
+pub use limits::{FIELDS_MOST, LISTING_MOST, PACKET_MOST, RUN_MOST, TABLE_MOST, TEXT_MOST};
 pub use packets::{field_bytes, fields_of, list_packet, listing, read_packet, Field};
 pub use refusal::Refusal;
 pub use tables::{check_table, field_label, find_field, table_of, write_table};
 
-const OUTPUT_TOO_SHORT: u32 = 11;
-
-/// What `write` writes to an output, which is doubled as long as it is too short.
-fn grown(write: impl Fn(&mut [u8]) -> Result<usize, Refusal>) -> Result<Vec<u8>, Refusal> {
-    let mut out = vec![0; 2048];
-    loop {
-        match write(&mut out) {
-            Ok(length) => {
-                out.truncate(length);
-                return Ok(out);
-            }
-            Err(refusal) if refusal.number == OUTPUT_TOO_SHORT => out.resize(2 * out.len(), 0),
-            Err(refusal) => return Err(refusal),
-        }
-    }
+/// What `write` writes to an output of `room` bytes.
+fn written(room: usize, write: impl FnOnce(&mut [u8]) -> Result<usize, Refusal>) -> Result<Vec<u8>, Refusal> {
+    let mut out = vec![0; room];
+    let length = write(&mut out)?;
+    out.truncate(length);
+    Ok(out)
 }

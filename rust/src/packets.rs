@@ -1,7 +1,4 @@
-use crate::{calls, grown, Refusal};
-
-/// The numbers of a run that is long enough for every table: four for each of 64 fields.
-const RUN: usize = 256;
+use crate::{calls, written, Refusal, LISTING_MOST, RUN_MOST};
 
 /// One field of a reading. Offset and width are in bits; an absent field has 0 for all, a long one the value 0.
 #[derive(Clone, Copy, Debug, PartialEq, Eq, Hash)]
@@ -54,7 +51,7 @@ pub fn read_packet(table: &[u8], packet: &[u8], run: &mut [u32]) -> Result<u64, 
 /// ```
 pub fn fields_of(table: &[u8], packet: &[u8]) -> Result<Vec<Field>, Refusal> {
     const UNTOUCHED: u32 = u32::MAX;
-    let mut run = [UNTOUCHED; RUN];
+    let mut run = [UNTOUCHED; RUN_MOST];
     read_packet(table, packet, &mut run)?;
     let fours = run.chunks_exact(4).map(|four| [four[0], four[1], four[2], four[3]]);
     Ok(fours.take_while(|four| four[0] != UNTOUCHED).map(Field::from).collect())
@@ -124,7 +121,7 @@ pub fn list_packet(table: &[u8], packet: &[u8], out: &mut [u8]) -> Result<usize,
 /// # Ok::<(), umarekoza::Refusal>(())
 /// ```
 pub fn listing(table: &[u8], packet: &[u8]) -> Vec<u8> {
-    match grown(|out| list_packet(table, packet, out)) {
+    match written(LISTING_MOST, |out| list_packet(table, packet, out)) {
         Ok(listing) => listing,
         Err(refusal) => format!("{refusal}\n").into_bytes(),
     }

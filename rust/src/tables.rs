@@ -1,4 +1,4 @@
-use crate::{calls, grown, Refusal};
+use crate::{calls, written, Refusal, TABLE_MOST};
 
 /// Writes the table of the description that a page text spells to the start of `out` and answers its length.
 ///
@@ -46,7 +46,7 @@ pub fn write_table(text: &[u8], out: &mut [u8]) -> Result<usize, Refusal> {
 /// # Ok::<(), umarekoza::Refusal>(())
 /// ```
 pub fn table_of(text: &[u8]) -> Result<Vec<u8>, Refusal> {
-    grown(|out| write_table(text, out))
+    written(TABLE_MOST, |out| write_table(text, out))
 }
 
 /// Refuses a table that is not good, by 21.

@@ -7,6 +7,7 @@
 -- Joined   parts one after the other
 -- Places   where bytes stand: joined, split, the byte in front, the end
 -- Writing  bytes written one behind the other
+-- Also     facts one behind the other
 pub mod Lists
 pub mod Decimal
 pub mod Breaks
@@ -16,3 +17,4 @@ pub mod Scans
 pub mod Joined
 pub mod Places
 pub mod Writing
+pub mod Also

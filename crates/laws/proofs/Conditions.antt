@@ -20,7 +20,6 @@ use Rattle.rules.specs.Reading.{
   andThen,
   Reading,
   complete,
-  faulted,
   leftOver,
   readOn,
   readField,
@@ -34,7 +33,6 @@ use Rattle.rules.specs.Reading.{
   bounded,
 }
 use Rattle.rules.specs.Cover.{IsYes, KeptBy, Kept}
-use Rattle.rules.specs.Results.{ConditionsKept}
 use Rattle.laws.proofs.Readings.{accepted-fields}
 
 -- ── one field ──
@@ -126,7 +124,8 @@ fields-kept packet before all place (f ∷ fs) h =
     }
     go (stop x) k h ih = let z : _≡_ {A = ℕ} 0 1 = cc in absurd (omega arith)
 
-pub conditions-kept : (d : Description) (packet : List ℕ) (entries : List Entry) → ConditionsKept d packet entries
+pub conditions-kept : (d : Description) (packet : List ℕ) (entries : List Entry) → reading d packet ≡ complete entries
+    → Kept [] (d .fields) entries
 conditions-kept d packet entries h =
     let w = fields-kept packet [] entries 0 (d .fields) (accepted-fields d packet entries h) in
     rw (w .joined) (w .kept)

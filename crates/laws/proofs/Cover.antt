@@ -22,7 +22,6 @@ use Rattle.rules.specs.Reading.{
   andThen,
   Reading,
   complete,
-  faulted,
   leftOver,
   readOn,
   readField,
@@ -36,7 +35,6 @@ use Rattle.rules.specs.Reading.{
   bounded,
 }
 use Rattle.rules.specs.Cover.{LiesIn, Covers, OnlyOne, InOrder}
-use Rattle.rules.specs.Results.{CoverUnique, CoverInOrder}
 use Rattle.laws.proofs.Readings.{accepted-fields}
 
 -- ── one field ──
@@ -181,11 +179,13 @@ order-only (e ∷ es) place end bit (inr p) ge lt =
         let le : place + e .width ≤ bit = ltb-false _ _ q in
         later e es bit (λ h. let t = h .to in omega arith) (ih le)
 
-pub cover-in-order : (d : Description) (packet : List ℕ) (entries : List Entry) → CoverInOrder d packet entries
+pub cover-in-order : (d : Description) (packet : List ℕ) (entries : List Entry) → reading d packet ≡ complete entries
+    → InOrder 0 entries (bitTotal packet) × (sum (λ e. e .width) entries ≡ bitTotal packet)
 cover-in-order d packet entries h =
     let o = in-order d packet entries h in
     (o, rw zero-add at (order-sum entries 0 (bitTotal packet) o))
 
-pub cover-unique : (d : Description) (packet : List ℕ) (entries : List Entry) → CoverUnique d packet entries
+pub cover-unique : (d : Description) (packet : List ℕ) (entries : List Entry) → reading d packet ≡ complete entries
+    → (bit : ℕ) → bit < bitTotal packet → OnlyOne (Covers entries bit)
 cover-unique d packet entries h bit lt =
     order-only entries 0 (bitTotal packet) bit (in-order d packet entries h) (omega arith) lt

@@ -6,10 +6,11 @@ use mathlib.Core.Option.{Option, none, discrete}
 use Prim.Native.Nat.{ℕ}
 use native.Mathlib.Decide.{ℕ-discrete, map-dec}
 use Rattle.rules.specs.Fields.{Description}
-use Rattle.rules.specs.Within.{Within}
-use Rattle.rules.specs.Stored.{stored, Good}
+use Rattle.rules.specs.Editions.{Edition, current}
+use Rattle.rules.specs.Within.{WithinIn}
+use Rattle.rules.specs.Stored.{storedIn, GoodIn, Good}
 use Rattle.rules.specs.Results.{GoodDecidable}
-use Rattle.laws.proofs.Readers.{described}
+use Rattle.laws.proofs.Readers.{describedIn}
 use Rattle.laws.proofs.Unique.{described-stored}
 
 pub both-decidable : {A B : Type 0} → Dec A → Dec B → Dec (A × B)
@@ -23,8 +24,8 @@ true? b = Bool-discrete b true
 none? : (o : Option ℕ) → Dec (o ≡ none)
 none? o = discrete ℕ-discrete o none
 
-pub within-decidable : (d : Description) → Dec (Within d)
-within-decidable d =
+pub within-decidable : (e : Edition) (d : Description) → Dec (WithinIn e d)
+within-decidable e d =
     map-dec
     (λ p. record {
       name = p .0;
@@ -33,11 +34,11 @@ within-decidable d =
       form = p .1 .1 .1 .0;
       size = p .1 .1 .1 .1 .0;
       names = p .1 .1 .1 .1 .1 .0;
-      kinds = p .1 .1 .1 .1 .1 .1 .0;
+      types = p .1 .1 .1 .1 .1 .1 .0;
       rests = p .1 .1 .1 .1 .1 .1 .1 .0;
       rows = p .1 .1 .1 .1 .1 .1 .1 .1;
     })
-    (λ w. (w .name, (w .row, (w .count, (w .form, (w .size, (w .names, (w .kinds, (w .rests, w .rows)))))))))
+    (λ w. (w .name, (w .row, (w .count, (w .form, (w .size, (w .names, (w .types, (w .rests, w .rows)))))))))
     (both-decidable (true? _)
     (both-decidable (true? _)
     (both-decidable (true? _)
@@ -47,12 +48,18 @@ within-decidable d =
     (both-decidable (none? _)
     (both-decidable (none? _) (true? _)))))))))
 
-pub described-good : (table : List ℕ) (g : Good table) → g .description ≡ described table
-described-good table g = sym (described-stored (g .description) (g .within)) ∙ ap described (g .isStored)
+pub described-good : (e : Edition) (table : List ℕ) (g : GoodIn e table) → g .description ≡ describedIn e table
+described-good e table g =
+    sym (described-stored e (g .description) (g .within)) ∙ ap (describedIn e) (g .isStored)
 
-pub good-decidable : GoodDecidable
-good-decidable table =
+pub good-decidable-in : GoodDecidable
+good-decidable-in e table =
     map-dec
-    (λ p. record { description = described table; within = p .0; isStored = p .1 })
-    (λ g. (rw (← described-good table g) (g .within), rw (← described-good table g) (g .isStored)))
-    (both-decidable (within-decidable (described table)) (List-discrete ℕ-discrete (stored (described table)) table))
+    (λ p. record { description = describedIn e table; within = p .0; isStored = p .1 })
+    (λ g. (rw (← described-good e table g) (g .within), rw (← described-good e table g) (g .isStored)))
+    (both-decidable (within-decidable e (describedIn e table))
+    (List-discrete ℕ-discrete (storedIn e (describedIn e table)) table))
+
+-- by the edition in force
+pub good-decidable : (table : List ℕ) → Dec (Good table)
+good-decidable table = good-decidable-in current table

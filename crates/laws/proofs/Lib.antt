@@ -1,3 +1,4 @@
+-- WithinTest    within the limits, by one test
 -- Readers       what a stored table stores, read from its bytes
 -- ReadsNumbers  numbers and counted lists are read again
 -- ReadsTrees    stored trees are read again
@@ -12,6 +13,7 @@
 -- RunCover      the entries in the run after an accepted packet cover it
 -- RuledOut        the answers of wrong programs (specs/Wrong) are ruled out
 -- RuledOutAlways  what is ruled out for all inputs
+pub mod WithinTest
 pub mod Readers
 pub mod ReadsNumbers
 pub mod ReadsTrees

@@ -11,6 +11,7 @@ use Rattle.rules.specs.Limits.{depthMost}
 use Rattle.rules.specs.Operators.{operators, code, numberCode, fieldCode, notCode}
 use Rattle.rules.specs.Trees.{Tree, num, read, two, negation}
 use Rattle.rules.specs.Fields.{Width, fixed, measured, rest, Field, Description}
+use Rattle.rules.specs.Editions.{Edition}
 
 abbrev pub Reader : Type 0 → Type 0
 Reader A = List ℕ → A × List ℕ
@@ -66,15 +67,16 @@ abbrev pub unlessEmpty : {A : Type 0} → (List ℕ → A) → List ℕ → Opti
 unlessEmpty f [] = none
 unlessEmpty f (b ∷ l) = some (f (b ∷ l))
 
--- a width, by the kind of its record
+-- a width, by the kind of its record, of which the first is that of fixed fields
 unfoldable pub readFixed : Reader (Width ℕ)
 readFixed s = andThen (readTwo s) (λ n r. (fixed n, r))
 
 unfoldable pub readMeasured : Reader (Width ℕ)
 readMeasured s = andThen (readTwo s) (λ u r. andThen (readCounted r) (λ l q. (measured u (treeOf l), q)))
 
-unfoldable pub readWidth : ℕ → Reader (Width ℕ)
-readWidth kind s = cond (eqb kind 2) (readFixed s) (cond (eqb kind 3) (readMeasured s) (rest, s))
+unfoldable pub readWidth : ℕ → ℕ → Reader (Width ℕ)
+readWidth first kind s =
+    cond (eqb kind first) (readFixed s) (cond (eqb kind (first + 1)) (readMeasured s) (rest, s))
 
 unfoldable pub fieldFrom : List ℕ → List ℕ → Width ℕ → List ℕ → List ℕ → Field ℕ
 fieldFrom label short width constraint condition = record {
@@ -86,23 +88,23 @@ fieldFrom label short width constraint condition = record {
 }
 
 -- a field's record; its length is skipped
-unfoldable pub readField : Reader (Field ℕ)
-readField s =
+unfoldable pub readField : ℕ → Reader (Field ℕ)
+readField first s =
     andThen (readTwo (drop 2 s)) (λ kind s₁.
     andThen (readCounted s₁) (λ label s₂.
     andThen (readCounted s₂) (λ short s₃.
-    andThen (readWidth kind s₃) (λ width s₄.
+    andThen (readWidth first kind s₃) (λ width s₄.
     andThen (readCounted s₄) (λ constraint s₅.
     andThen (readCounted s₅) (λ condition r. (fieldFrom label short width constraint condition, r)))))))
 
-unfoldable pub readFields : ℕ → Reader (List (Field ℕ))
-readFields zero s = ([], s)
-readFields (suc n) s = andThen (readField s) (λ f r. andThen (readFields n r) (λ l q. (f ∷ l, q)))
+unfoldable pub readFields : ℕ → ℕ → Reader (List (Field ℕ))
+readFields first zero s = ([], s)
+readFields first (suc n) s = andThen (readField first s) (λ f r. andThen (readFields first n r) (λ l q. (f ∷ l, q)))
 
--- the description that a stored table stores; the first record's length and kind, and the last record, are skipped
-unfoldable pub described : List ℕ → Description
-described s =
+-- the description that a stored table of an edition stores; the first record's length and kind, and the last record, are skipped
+unfoldable pub describedIn : Edition → List ℕ → Description
+describedIn e s =
     andThen (readTwo (drop 2 (drop 2 s))) (λ row s₁.
     andThen (readTwo s₁) (λ count s₂.
     andThen (readCounted s₂) (λ name s₃.
-    andThen (readFields count s₃) (λ fields r. record { name = name; rowWidth = row; fields = fields }))))
+    andThen (readFields (e .fixedKind) count s₃) (λ fields r. record { name = name; rowWidth = row; fields = fields }))))

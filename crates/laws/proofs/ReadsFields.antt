@@ -3,26 +3,27 @@ use mathlib.Core.Path.{_≡_, refl, _∙_, ap}
 use mathlib.Core.Bool.{Bool, true, _&&_, _||_, not}
 use mathlib.Core.List.{List, [], _∷_, _++_, append-assoc}
 use mathlib.Core.Option.{Option, none, some}
-use Prim.Native.Nat.{ℕ, _<_, _≤_}
+use Prim.Native.Nat.{ℕ, _+_, _<_, _≤_}
 use native.Mathlib.Omega.{arith}
 use lib.Dec.{leb, eqb}
 use lib.ListN.{length}
-use borrow.Author.Tests.{leb-true, eqb-true}
+use borrow.Author.Tests.{leb-true, ltb-true, eqb-true, eq-eqb, ne-eqb}
 use Rattle.base.specs.Lists.{all, joined, headIs, between, ifAny, listOf, firstBreak}
 use Rattle.base.proofs.Breaks.{and-true, or-true, all-one, all-append, firstBreak-cons}
 use Rattle.rules.specs.Limits.{labelMost, shortMost, fixedMost}
 use Rattle.rules.specs.Names.{isLetter, isWordByte, isReserved, isLabel, isShort}
 use Rattle.rules.specs.Trees.{Tree, isSmall, isInRange, isNumber}
 use Rattle.rules.specs.Fields.{Width, fixed, measured, rest, Field, widthTrees, trees}
+use Rattle.rules.specs.Editions.{Edition}
 use Rattle.rules.specs.Within.{isWidth, isFormed, keepsForm, keepsSize}
 use Rattle.rules.specs.Stored.{
-  kindNumber,
+  kindIn,
   storedExpression,
   storedWidth,
   storedName,
   storedMaybe,
   fieldBody,
-  storedField,
+  storedFieldIn,
 }
 use Rattle.laws.proofs.Readers.{
   treeOf,
@@ -85,26 +86,33 @@ unit-bound u h =
 pub fixed-bound : (n : ℕ) → between 1 n fixedMost ≡ true → n < 65536
 fixed-bound n h = omega (arith, leb-true n fixedMost (and-true (leb 1 n) (leb n fixedMost) h .1))
 
-kind-bound : (w : Width ℕ) → kindNumber w < 65536
-kind-bound (fixed n) = omega arith
-kind-bound (measured u t) = omega arith
-kind-bound rest = omega arith
+kind-bound : (e : Edition) (w : Width ℕ) → kindIn e w < 65536
+kind-bound e (fixed n) = omega (arith, ltb-true (e .fixedKind + 2) 65536 (e .short))
+kind-bound e (measured u t) = omega (arith, ltb-true (e .fixedKind + 2) 65536 (e .short))
+kind-bound e rest = omega (arith, ltb-true (e .fixedKind + 2) 65536 (e .short))
 
-readWidth-stored : (w : Width ℕ) → isWidth w ≡ true → all isInRange (widthTrees w) ≡ true
-    → all isSmall (widthTrees w) ≡ true → (r : List ℕ) → readWidth (kindNumber w) (storedWidth w ++ r) ≡ (w, r)
+readWidth-stored : (e : Edition) (w : Width ℕ) → isWidth w ≡ true → all isInRange (widthTrees w) ≡ true
+    → all isSmall (widthTrees w) ≡ true → (r : List ℕ)
+    → readWidth (e .fixedKind) (kindIn e w) (storedWidth w ++ r) ≡ (w, r)
 unfolding readWidth readFixed readMeasured
-readWidth-stored (fixed n) h range small r = rw (readTwo-le2 n (fixed-bound n h))
-readWidth-stored (measured u t) h range small r =
+readWidth-stored e (fixed n) h range small r =
+    rw (eq-eqb (e .fixedKind) (e .fixedKind) refl, readTwo-le2 n (fixed-bound n h))
+readWidth-stored e (measured u t) h range small r =
     let bound = unit-bound u (and-true (eqb u 1 || eqb u 8) (not (isNumber t)) h .0) in
     let in-range = all-one isInRange t range in
     let is-small = all-one isSmall t small in
+    let k = e .fixedKind in
     simp (
+      ne-eqb (k + 1) k (λ q. omega arith),
+      eq-eqb (k + 1) (k + 1) refl,
       append-assoc,
       readTwo-le2 u bound,
       readCounted-counted (storedExpression t) (stored-short t is-small),
       treeOf-stored t in-range is-small,
     )
-readWidth-stored rest h range small r = refl
+readWidth-stored e rest h range small r =
+    let k = e .fixedKind in
+    rw (ne-eqb (k + 2) k (λ q. omega arith), ne-eqb (k + 2) (k + 1) (λ q. omega arith))
 
 -- ── fields ──
 
@@ -118,10 +126,10 @@ formed-parts f h =
     let w = and-true (isWidth (f .width)) numbers (s .1) in
     (e .0, s .0, w .0, w .1)
 
-pub readField-stored : (f : Field ℕ) → isFormed f ≡ true → all isSmall (trees f) ≡ true → (r : List ℕ)
-    → readField (storedField f ++ r) ≡ (f, r)
-unfolding readField storedField fieldBody fieldFrom
-readField-stored f formed small r =
+pub readField-stored : (e : Edition) (f : Field ℕ) → isFormed f ≡ true → all isSmall (trees f) ≡ true → (r : List ℕ)
+    → readField (e .fixedKind) (storedFieldIn e f ++ r) ≡ (f, r)
+unfolding readField storedFieldIn fieldBody fieldFrom
+readField-stored edition f formed small r =
     let w = widthTrees (f .width) in
     let c = listOf (f .constraint) in
     let k = listOf (f .condition) in
@@ -134,10 +142,10 @@ readField-stored f formed small r =
     simp (
       append-assoc,
       skip-le2,
-      readTwo-le2 (kindNumber (f .width)) (kind-bound (f .width)),
+      readTwo-le2 (kindIn edition (f .width)) (kind-bound edition (f .width)),
       readCounted-counted (f .label) label,
       readCounted-counted (storedName (f .short)) (name-length (f .short) (e .1)),
-      readWidth-stored (f .width) (e .2) (range .0) (size .0),
+      readWidth-stored edition (f .width) (e .2) (range .0) (size .0),
       readCounted-counted (storedMaybe (f .constraint)) (maybe-length (f .constraint) (sizes .0)),
       readCounted-counted (storedMaybe (f .condition)) (maybe-length (f .condition) (sizes .1)),
       name-stored (f .short) (e .1),
@@ -145,15 +153,16 @@ readField-stored f formed small r =
       maybe-stored (f .condition) (ranges .1) (sizes .1),
     )
 
-pub readFields-stored : (before l : List (Field ℕ)) → firstBreak keepsForm before l ≡ none
-    → firstBreak keepsSize before l ≡ none → (r : List ℕ) → readFields (length l) (joined storedField l ++ r) ≡ (l, r)
+pub readFields-stored : (edition : Edition) (before l : List (Field ℕ)) → firstBreak keepsForm before l ≡ none
+    → firstBreak keepsSize before l ≡ none → (r : List ℕ)
+    → readFields (edition .fixedKind) (length l) (joined (storedFieldIn edition) l ++ r) ≡ (l, r)
 unfolding readFields joined
-readFields-stored before [] formed small r = refl
-readFields-stored before (f ∷ l) formed small r =
+readFields-stored edition before [] formed small r = refl
+readFields-stored edition before (f ∷ l) formed small r =
     let e = firstBreak-cons keepsForm before f l formed in
     let s = firstBreak-cons keepsSize before f l small in
     rw (
-      append-assoc (storedField f) (joined storedField l) r,
-      readField-stored f (e .0) (s .0),
-      readFields-stored (before ++ (f ∷ [])) l (e .1) (s .1),
+      append-assoc (storedFieldIn edition f) (joined (storedFieldIn edition) l) r,
+      readField-stored edition f (e .0) (s .0),
+      readFields-stored edition (before ++ (f ∷ [])) l (e .1) (s .1),
     )

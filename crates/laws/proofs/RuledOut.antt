@@ -10,10 +10,6 @@ use Rattle.base.specs.Bytes.{digits}
 use Rattle.base.specs.Lists.{all, any, same, lastIs, sum, joined, firstBreak}
 use Rattle.base.proofs.Lists.{same-self}
 use Rattle.base.proofs.Breaks.{and-true}
-use Rattle.rules.specs.declared.TableAnswer.{TableAnswer}
-use Rattle.rules.specs.declared.PacketAnswer.{PacketAnswer}
-use Rattle.rules.specs.declared.FieldAnswer.{FieldAnswer}
-use Rattle.rules.specs.declared.ListingAnswer.{ListingAnswer}
 use Rattle.rules.specs.Operators.{operator}
 use Rattle.rules.specs.Names.{
   isLetter,
@@ -31,34 +27,35 @@ use Rattle.rules.specs.Trees.{depth, le2, le4, storedTree, isInRange, hasType}
 use Rattle.rules.specs.Values.{apply, decides, evaluate}
 use Rattle.rules.specs.Fields.{Description}
 use Rattle.rules.specs.Within.{rowsFit, Within}
-use Rattle.rules.specs.Stored.{stored, storedField, fieldBody, headBody, Good}
+use Rattle.rules.specs.Stored.{storedIn, storedFieldIn, stored, fieldBody, headBody, Good}
 use Rattle.rules.specs.Reading.{Part, partIn, partBytes, bitsAt, valueIn, readField, readFields, reading}
 use Rattle.rules.specs.Listing.{entryLines, linesText}
-use Rattle.rules.specs.Answers.{Answer, accepted, faultNumber, ofTable, ofPacket, ofField, ofListing}
+use Rattle.rules.specs.Answers.{Answer, accepted, faultNumber, ofPacket}
 use Rattle.rules.specs.Promises.{
   Outcome,
   leaves,
   delivered,
-  partFrom,
   ChecksTable,
   readingAnswer,
   packetOutcome,
   ReadsPacket,
   partBy,
   PlacesPart,
-  HandsPart,
+  movedBy,
+  Lends,
+  LendsPart,
   firstNamed,
   FindsField,
   labelOf,
   labelBy,
   PlacesLabel,
-  HandsLabel,
+  LendsLabel,
   readingLines,
   listing,
   ListsPacket,
 }
 use Rattle.rules.specs.Cases.{lentRun}
-use Rattle.rules.proofs.Limits.{isWithin, within}
+use Rattle.laws.proofs.WithinTest.{isWithin, within}
 use Rattle.laws.specs.Wrong.{
   Claim,
   checks,
@@ -71,7 +68,7 @@ use Rattle.laws.specs.Wrong.{
   placesLabel,
   tellsNumber,
   tellsPlace,
-  tellsValue,
+  tellsAmount,
   lentOutput,
   Claimed,
   AllFalse,
@@ -83,123 +80,132 @@ use Rattle.laws.specs.Wrong.{
 abbrev pub good-stored : (d : Description) → Within d → Good (stored d)
 good-stored d w = record { description = d; within = w; isStored = refl }
 
-pub table-only : (d : Description) (r : TableAnswer) → Within d → ChecksTable (stored d) r
-    → ofTable r ≡ accepted (length (stored d))
-table-only d r w p = p (yes (good-stored d w))
+pub table-only : (d : Description) (a : Answer) → Within d → ChecksTable (stored d) a → a ≡ accepted (length (stored d))
+table-only d a w p = p (yes (good-stored d w))
 
-pub outcome-only : (d : Description) (packet run : List ℕ) (r : PacketAnswer) (after : List ℕ) → Within d
-    → ReadsPacket (stored d) packet run r after → leaves (ofPacket r) after ≡ packetOutcome d packet run
-outcome-only d packet run r after w p = p (yes (good-stored d w))
+pub outcome-only : (d : Description) (packet run : List ℕ) (o : Outcome) → Within d
+    → ReadsPacket (stored d) packet run o → o ≡ packetOutcome d packet run
+outcome-only d packet run o w p = p (yes (good-stored d w))
 
-pub listing-only : (d : Description) (packet out : List ℕ) (r : ListingAnswer) (after : List ℕ) → Within d
-    → ListsPacket (stored d) packet out r after → leaves (ofListing r) after ≡ delivered (listing d packet) out
-listing-only d packet out r after w p = p (yes (good-stored d w))
+pub listing-only : (d : Description) (packet out : List ℕ) (o : Outcome) → Within d
+    → ListsPacket (stored d) packet out o → o ≡ delivered (listing d packet) out
+listing-only d packet out o w p = p (yes (good-stored d w))
 
-pub part-only : (d : Description) (packet : List ℕ) (i : ℕ) (bytes : List ℕ) (start : ℕ) → Within d
-    → HandsPart (stored d) packet i bytes start
+moved-back : (n m : ℕ) (from : ℕ × ℕ) → movedBy n from ≡ movedBy m from → n ≡ m
+moved-back n m from e = omega (arith, ap (λ (p : ℕ × ℕ). p .1) e)
+
+-- bytes that are lent at a place are those of the part, which starts there
+lent-only : (buffer : List ℕ) (from : ℕ × ℕ) (part : Part) (bytes : List ℕ) (start : ℕ)
+    → Lends buffer from part bytes (movedBy start from) → (bytes ≡ partBytes buffer part) × (start ≡ part .start)
+lent-only buffer from part bytes start p = (p .content, moved-back start (part .start) from (p .place))
+
+pub part-only : (d : Description) (packet : List ℕ) (i : ℕ) (from : ℕ × ℕ) (bytes : List ℕ) (start : ℕ) → Within d
+    → LendsPart (stored d) packet i from bytes (movedBy start from)
     → (bytes ≡ partBytes packet (partIn (reading d packet) i)) × (start ≡ partIn (reading d packet) i .start)
 unfolding partBy
-part-only d packet i bytes start w p = (p .content (yes (good-stored d w)), p .place (yes (good-stored d w)))
+part-only d packet i from bytes start w p =
+    lent-only packet from (partIn (reading d packet) i) bytes start (p (yes (good-stored d w)))
 
-pub part-place-only : (d : Description) (packet : List ℕ) (i start size : ℕ) → Within d
-    → PlacesPart (stored d) packet i start size → partFrom start size ≡ partIn (reading d packet) i
+pub part-place-only : (d : Description) (packet : List ℕ) (i : ℕ) (part : Part) → Within d
+    → PlacesPart (stored d) packet i part → part ≡ partIn (reading d packet) i
 unfolding partBy
-part-place-only d packet i start size w p = p (yes (good-stored d w))
+part-place-only d packet i part w p = p (yes (good-stored d w))
 
-pub field-only : (d : Description) (name : List ℕ) (r : FieldAnswer) → Within d → FindsField (stored d) name r
-    → ofField r ≡ firstNamed name 0 (d .fields)
-field-only d name r w p = p (yes (good-stored d w))
+pub field-only : (d : Description) (name : List ℕ) (a : Answer) → Within d → FindsField (stored d) name a
+    → a ≡ firstNamed name 0 (d .fields)
+field-only d name a w p = p (yes (good-stored d w))
 
-abbrev labelAt : Description → ℕ → Part
+abbrev pub labelAt : Description → ℕ → Part
 labelAt d i = labelOf d i (getElem? (d .fields) i)
 
-pub label-only : (d : Description) (i : ℕ) (bytes : List ℕ) (start : ℕ) → Within d
-    → HandsLabel (stored d) i bytes start
+pub label-only : (d : Description) (i : ℕ) (from : ℕ × ℕ) (bytes : List ℕ) (start : ℕ) → Within d
+    → LendsLabel (stored d) i from bytes (movedBy start from)
     → (bytes ≡ partBytes (stored d) (labelAt d i)) × (start ≡ labelAt d i .start)
 unfolding labelBy
-label-only d i bytes start w p = (p .content (yes (good-stored d w)), p .place (yes (good-stored d w)))
+label-only d i from bytes start w p =
+    lent-only (stored d) from (labelAt d i) bytes start (p (yes (good-stored d w)))
 
-pub label-place-only : (d : Description) (i start size : ℕ) → Within d → PlacesLabel (stored d) i start size
-    → partFrom start size ≡ labelAt d i
+pub label-place-only : (d : Description) (i : ℕ) (part : Part) → Within d → PlacesLabel (stored d) i part
+    → part ≡ labelAt d i
 unfolding labelBy
-label-place-only d i start size w p = p (yes (good-stored d w))
+label-place-only d i part w p = p (yes (good-stored d w))
 
 -- ── of other numbers it is false ──
 
-abbrev answerNumbers : Answer → List ℕ
-answerNumbers a = a .number ∷ a .place ∷ a .value ∷ []
+abbrev pub answerNumbers : Answer → List ℕ
+answerNumbers a = a .number ∷ a .place ∷ a .amount ∷ []
 
-abbrev numbers : Outcome → List ℕ
-numbers o = o .answer .number ∷ o .answer .place ∷ o .answer .value ∷ o .buffer
+abbrev pub numbers : Outcome → List ℕ
+numbers o = o .answer .number ∷ o .answer .place ∷ o .answer .amount ∷ o .buffer
 
-abbrev partNumbers : List ℕ → Part → List ℕ
+abbrev pub partNumbers : List ℕ → Part → List ℕ
 partNumbers packet part = part .start ∷ partBytes packet part
 
-abbrev placeNumbers : Part → List ℕ
+abbrev pub placeNumbers : Part → List ℕ
 placeNumbers part = part .start ∷ part .size ∷ []
 
-abbrev single : ℕ → List ℕ
+abbrev pub single : ℕ → List ℕ
 single n = n ∷ []
 
 -- what a claim says, and what the definitions give, in numbers
-abbrev claimed : Claim → List ℕ
-claimed (checks d r) = answerNumbers (ofTable r)
-claimed (reads d packet r after) = numbers (leaves (ofPacket r) after)
-claimed (lists d packet r after) = numbers (leaves (ofListing r) after)
+abbrev pub claimed : Claim → List ℕ
+claimed (checks d a) = answerNumbers a
+claimed (reads d packet a after) = numbers (leaves a after)
+claimed (lists d packet a after) = numbers (leaves a after)
 claimed (hands d packet i bytes start) = start ∷ bytes
-claimed (placesPart d packet i start size) = placeNumbers (partFrom start size)
-claimed (finds d name r) = answerNumbers (ofField r)
+claimed (placesPart d packet i part) = placeNumbers part
+claimed (finds d name a) = answerNumbers a
 claimed (labels d i bytes start) = start ∷ bytes
-claimed (placesLabel d i start size) = placeNumbers (partFrom start size)
+claimed (placesLabel d i part) = placeNumbers part
 claimed (tellsNumber r n) = single n
 claimed (tellsPlace r n) = single n
-claimed (tellsValue r n) = single n
+claimed (tellsAmount r n) = single n
 
-abbrev given : Claim → List ℕ
+abbrev pub given : Claim → List ℕ
 given (checks d r) = answerNumbers (accepted (length (stored d)))
 given (reads d packet r after) = numbers (packetOutcome d packet lentRun)
 given (lists d packet r after) = numbers (delivered (listing d packet) lentOutput)
 given (hands d packet i bytes start) = partNumbers packet (partIn (reading d packet) i)
-given (placesPart d packet i start size) = placeNumbers (partIn (reading d packet) i)
+given (placesPart d packet i part) = placeNumbers (partIn (reading d packet) i)
 given (finds d name r) = answerNumbers (firstNamed name 0 (d .fields))
 given (labels d i bytes start) = partNumbers (stored d) (labelAt d i)
-given (placesLabel d i start size) = placeNumbers (labelAt d i)
+given (placesLabel d i part) = placeNumbers (labelAt d i)
 given (tellsNumber r n) = single (ofPacket r .number)
 given (tellsPlace r n) = single (ofPacket r .place)
-given (tellsValue r n) = single (ofPacket r .value)
+given (tellsAmount r n) = single (ofPacket r .amount)
 
 -- what is claimed of a table is of the table of a description within the limits
-abbrev isFitting : Claim → Bool
+abbrev pub isFitting : Claim → Bool
 isFitting (checks d r) = isWithin d
 isFitting (reads d packet r after) = isWithin d
 isFitting (lists d packet r after) = isWithin d
 isFitting (hands d packet i bytes start) = isWithin d
-isFitting (placesPart d packet i start size) = isWithin d
+isFitting (placesPart d packet i part) = isWithin d
 isFitting (finds d name r) = isWithin d
 isFitting (labels d i bytes start) = isWithin d
-isFitting (placesLabel d i start size) = isWithin d
+isFitting (placesLabel d i part) = isWithin d
 isFitting (tellsNumber r n) = true
 isFitting (tellsPlace r n) = true
-isFitting (tellsValue r n) = true
+isFitting (tellsAmount r n) = true
 
 two-parts : {m n : ℕ} {s t : List ℕ} → (s ≡ t) × (m ≡ n) → m ∷ s ≡ n ∷ t
 two-parts {n = n} {s = s} q = ap (λ (k : ℕ). k ∷ s) (q .1) ∙ ap (λ (l : List ℕ). n ∷ l) (q .0)
 
 pub claim-only : (c : Claim) → isFitting c ≡ true → Claimed c → claimed c ≡ given c
-claim-only (checks d r) h p = ap answerNumbers (table-only d r (within d h) p)
-claim-only (reads d packet r after) h p = ap numbers (outcome-only d packet lentRun r after (within d h) p)
-claim-only (lists d packet r after) h p = ap numbers (listing-only d packet lentOutput r after (within d h) p)
-claim-only (hands d packet i bytes start) h p = two-parts (part-only d packet i bytes start (within d h) p)
-claim-only (placesPart d packet i start size) h p =
-    ap placeNumbers (part-place-only d packet i start size (within d h) p)
-claim-only (finds d name r) h p = ap answerNumbers (field-only d name r (within d h) p)
-claim-only (labels d i bytes start) h p = two-parts (label-only d i bytes start (within d h) p)
-claim-only (placesLabel d i start size) h p = ap placeNumbers (label-place-only d i start size (within d h) p)
+claim-only (checks d a) h p = ap answerNumbers (table-only d a (within d h) p)
+claim-only (reads d packet a after) h p = ap numbers (outcome-only d packet lentRun (leaves a after) (within d h) p)
+claim-only (lists d packet a after) h p =
+    ap numbers (listing-only d packet lentOutput (leaves a after) (within d h) p)
+claim-only (hands d packet i bytes start) h p = two-parts (part-only d packet i (p .0) bytes start (within d h) (p .1))
+claim-only (placesPart d packet i part) h p = ap placeNumbers (part-place-only d packet i part (within d h) p)
+claim-only (finds d name a) h p = ap answerNumbers (field-only d name a (within d h) p)
+claim-only (labels d i bytes start) h p = two-parts (label-only d i (p .0) bytes start (within d h) (p .1))
+claim-only (placesLabel d i part) h p = ap placeNumbers (label-place-only d i part (within d h) p)
 claim-only (tellsNumber r n) h p = ap single p
 claim-only (tellsPlace r n) h p = ap single p
-claim-only (tellsValue r n) h p = ap single p
+claim-only (tellsAmount r n) h p = ap single p
 
-abbrev isOther : Claim → Bool
+abbrev pub isOther : Claim → Bool
 isOther c = isFitting c && not (same (claimed c) (given c))
 
 not-same : (s t : List ℕ) → not (same s t) ≡ true → s ≡ t → ⊥
@@ -210,7 +216,7 @@ ruled-out c h p =
     let e = and-true (isFitting c) (not (same (claimed c) (given c))) h in
     not-same (claimed c) (given c) (e .1) (claim-only c (e .0) p)
 
-all-out : (cs : List Claim) → all isOther cs ≡ true → AllFalse cs
+pub all-out : (cs : List Claim) → all isOther cs ≡ true → AllFalse cs
 unfolding all
 all-out [] h = tt
 all-out (c ∷ cs) h = let e = and-true (isOther c) (all isOther cs) h in (ruled-out c (e .0), all-out cs (e .1))
@@ -219,8 +225,8 @@ all-out (c ∷ cs) h = let e = and-true (isOther c) (all isOther cs) h in (ruled
 pub all-ruled-out : AllFalse wrong
 unfolding digits all any same lastIs sum joined firstBreak operator isLetter isDigit isSpace isWordByte
     isLabelByte noTwoSpaces isLabel reserved isReserved isShort depth le2 le4 storedTree isInRange hasType
-    apply decides evaluate rowsFit stored storedField fieldBody headBody bitsAt valueIn readField readFields
-    reading entryLines linesText faultNumber ofTable ofPacket ofField ofListing delivered readingAnswer
+    apply decides evaluate rowsFit storedIn storedFieldIn fieldBody headBody bitsAt valueIn readField readFields
+    reading entryLines linesText faultNumber ofPacket delivered readingAnswer
     packetOutcome readingLines firstNamed
 all-ruled-out = all-out wrong refl
 
@@ -228,12 +234,11 @@ all-ruled-out = all-out wrong refl
 
 -- the table of no bytes
 pub empty-bad : Good [] → ⊥
-unfolding stored le2
+unfolding storedIn le2
 empty-bad g = let z : _≡_ {A = ℕ} 0 1 = cc in omega arith
 
 -- every table accepted
-pub not-every-table : ChecksTable [] (TableAnswer.Good 0) → ⊥
-unfolding ofTable
+pub not-every-table : ChecksTable [] (accepted 0) → ⊥
 not-every-table p =
     let z : _≡_ {A = ℕ} 0 21 = ap (λ (a : Answer). a .number) (p (no empty-bad)) in
     omega arith

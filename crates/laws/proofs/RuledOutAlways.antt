@@ -7,23 +7,12 @@ use Prim.Native.Nat.{ℕ, _*_, _<_}
 use native.Mathlib.Omega.{arith}
 use lib.Dec.{ltb}
 use lib.ListN.{length}
-use Rattle.rules.specs.declared.Fault.{Fault}
-use Rattle.rules.specs.declared.TableAnswer.{TableAnswer}
 use Rattle.rules.specs.declared.PacketAnswer.{PacketAnswer}
 use Rattle.rules.specs.Fields.{Description}
 use Rattle.rules.specs.Within.{Within}
 use Rattle.rules.specs.Stored.{stored, Good}
-use Rattle.rules.specs.Reading.{
-  Reading,
-  complete,
-  tooLong,
-  faulted,
-  leftOver,
-  isTooLong,
-  reading,
-  bitTotal,
-}
-use Rattle.rules.specs.Answers.{Answer, refused, faultNumber, ofTable, ofPacket}
+use Rattle.rules.specs.Reading.{Reading, complete, refusing, isTooLong, reading, bitTotal}
+use Rattle.rules.specs.Answers.{Answer, accepted, refused, ofPacket}
 use Rattle.rules.specs.Promises.{
   Outcome,
   leaves,
@@ -35,6 +24,7 @@ use Rattle.rules.specs.Promises.{
   packetOutcome,
   ReadsPacket,
 }
+use Rattle.laws.proofs.Readings.{Told, reading-told}
 use Rattle.laws.proofs.Decidable.{good-decidable}
 use Rattle.laws.proofs.RuledOut.{table-only, outcome-only}
 
@@ -42,26 +32,17 @@ use Rattle.laws.proofs.RuledOut.{table-only, outcome-only}
 
 -- accepted with the packet's bit total; or refused, with the run as it was
 record Fair (packet run : List ℕ) (o : Outcome) : Type 0 where
-  total : o .answer .number ≡ 0 → o .answer .value ≡ bitTotal packet
+  total : o .answer .number ≡ 0 → o .answer .amount ≡ bitTotal packet
   keeps : (o .answer .number ≡ 0 → ⊥) → o .buffer ≡ run
-
-fault-large : (f : Fault) → 21 < faultNumber f
-unfolding faultNumber
-fault-large Fault.BitsMissing = omega arith
-fault-large Fault.ConstraintFalse = omega arith
-fault-large Fault.AbsentRead = omega arith
-fault-large Fault.OutOfRange = omega arith
 
 refused-fair : (packet run : List ℕ) (n p : ℕ) → 0 < n → Fair packet run (leaves (refused n p) run)
 refused-fair packet run n p h = record { total = λ e. absurd (omega arith); keeps = λ e. refl }
 
-reading-fair : (packet run : List ℕ) (r : Reading) → Fair packet run (leaves (readingAnswer r packet) (runAfter r run))
+reading-fair : (packet run : List ℕ) (r : Reading) → Told r
+    → Fair packet run (leaves (readingAnswer r packet) (runAfter r run))
 unfolding readingAnswer
-reading-fair packet run (complete entries) = record { total = λ e. refl; keeps = λ e. absurd (e refl) }
-reading-fair packet run tooLong = refused-fair packet run 22 0 (omega arith)
-reading-fair packet run (faulted f i) =
-    let h = fault-large f in refused-fair packet run (faultNumber f) i (omega arith)
-reading-fair packet run leftOver = refused-fair packet run 28 0 (omega arith)
+reading-fair packet run (complete entries) t = record { total = λ e. refl; keeps = λ e. absurd (e refl) }
+reading-fair packet run (refusing a) t = record { total = λ e. absurd (omega (arith, t .0, e)); keeps = λ e. refl }
 
 -- of two outcomes of which a test takes one
 either : {A : Type 0} (P : A → Type 0) (b : Bool) (x y : A) → P x → P y → P (cond b x y)
@@ -73,7 +54,7 @@ unfolding packetOutcome
 packet-fair d packet run =
     either (Fair packet run) (not (isTooLong packet) && ltb (length run) (4 * length (d .fields))) _ _
     (refused-fair packet run 23 0 (omega arith))
-    (reading-fair packet run (reading d packet))
+    (reading-fair packet run (reading d packet) (reading-told d packet))
 
 table-fair : (table packet run : List ℕ) (good : Dec (Good table))
     → Fair packet run (byTable good (λ d. packetOutcome d packet run) (leaves notGood run))
@@ -84,16 +65,15 @@ table-fair table packet run (no bad) = refused-fair packet run 21 0 (omega arith
 
 module _ (table packet run after : List ℕ) where
   -- no other bit total is answered
-  pub total-only : (n : ℕ) → ReadsPacket table packet run (PacketAnswer.Accepted n) after → n ≡ 8 * length packet
-  unfolding ofPacket
+  pub total-only : (n : ℕ) → ReadsPacket table packet run (leaves (accepted n) after) → n ≡ 8 * length packet
   total-only n p =
       let good = good-decidable table in
       let e = p good in
       let f = table-fair table packet run good in
-      ap (λ (o : Outcome). o .answer .value) e ∙ f .total (sym (ap (λ (o : Outcome). o .answer .number) e))
+      ap (λ (o : Outcome). o .answer .amount) e ∙ f .total (sym (ap (λ (o : Outcome). o .answer .number) e))
 
   -- a refusal changes nothing
-  pub refusal-keeps : (r : PacketAnswer) → (ofPacket r .number ≡ 0 → ⊥) → ReadsPacket table packet run r after
+  pub refusal-keeps : (r : PacketAnswer) → (ofPacket r .number ≡ 0 → ⊥) → ReadsPacket table packet run (leaves (ofPacket r) after)
       → after ≡ run
   refusal-keeps r n p =
       let good = good-decidable table in
@@ -102,33 +82,30 @@ module _ (table packet run after : List ℕ) where
       ap (λ (o : Outcome). o .buffer) e ∙ f .keeps (λ z. n (ap (λ (o : Outcome). o .answer .number) e ∙ z))
 
   -- a table that is not good is 21, whatever the packet
-  pub bad-table-only : (r : PacketAnswer) → (Good table → ⊥) → ReadsPacket table packet run r after
+  pub bad-table-only : (r : PacketAnswer) → (Good table → ⊥) → ReadsPacket table packet run (leaves (ofPacket r) after)
       → leaves (ofPacket r) after ≡ leaves notGood run
   bad-table-only r bad p = p (no bad)
 
 -- ── for all good tables ──
 
 -- 21 for a good table
-pub good-checked : (d : Description) → Within d → ChecksTable (stored d) TableAnswer.NotGood → ⊥
-unfolding ofTable
+pub good-checked : (d : Description) → Within d → ChecksTable (stored d) notGood → ⊥
 good-checked d w p =
-    let z : _≡_ {A = ℕ} 21 0 = ap (λ (a : Answer). a .number) (table-only d TableAnswer.NotGood w p) in
+    let z : _≡_ {A = ℕ} 21 0 = ap (λ (a : Answer). a .number) (table-only d notGood w p) in
     omega arith
 
-reading-other : (packet : List ℕ) (r : Reading) → readingAnswer r packet .number ≡ 21 → ⊥
+reading-other : (packet : List ℕ) (r : Reading) → Told r → readingAnswer r packet .number ≡ 21 → ⊥
 unfolding readingAnswer
-reading-other packet (complete entries) e = omega arith
-reading-other packet tooLong e = omega arith
-reading-other packet (faulted f i) e = let h = fault-large f in omega arith
-reading-other packet leftOver e = omega arith
+reading-other packet (complete entries) t e = omega arith
+reading-other packet (refusing a) t e = omega (arith, t .0, e)
 
 -- and for a packet by one
 pub good-read : (d : Description) (packet run after : List ℕ) → Within d
-    → ReadsPacket (stored d) packet run PacketAnswer.NotGood after → ⊥
-unfolding packetOutcome ofPacket
+    → ReadsPacket (stored d) packet run (leaves notGood after) → ⊥
+unfolding packetOutcome
 good-read d packet run after w p =
     either (λ (o : Outcome). o .answer .number ≡ 21 → ⊥)
     (not (isTooLong packet) && ltb (length run) (4 * length (d .fields))) (leaves (refused 23 0) run)
     (leaves (readingAnswer (reading d packet) packet) (runAfter (reading d packet) run))
-    (λ e. omega arith) (reading-other packet (reading d packet))
-    (sym (ap (λ (o : Outcome). o .answer .number) (outcome-only d packet run PacketAnswer.NotGood after w p)))
+    (λ e. omega arith) (reading-other packet (reading d packet) (reading-told d packet))
+    (sym (ap (λ (o : Outcome). o .answer .number) (outcome-only d packet run (leaves notGood after) w p)))

@@ -2,7 +2,6 @@
 use mathlib.Core.Path.{_≡_, refl, sym, _∙_, ap}
 use mathlib.Core.Bool.{cond}
 use mathlib.Core.List.{List}
-use native.Mathlib.Omega.{arith}
 use Prim.Native.Nat.{ℕ}
 use lib.Dec.{eqb}
 use Rattle.rules.specs.declared.Fault.{Fault}
@@ -13,30 +12,30 @@ use Rattle.rules.specs.declared.ListingAnswer.{ListingAnswer}
 use Rattle.rules.specs.declared.TextAnswer.{TextAnswer}
 use Rattle.rules.specs.Reading.{Part}
 use Rattle.rules.specs.Answers.{Answer, faultNumber, ofTable, ofPacket, ofField, ofListing, ofText}
+use Rattle.rules.specs.Stored.{Good}
 use Rattle.rules.specs.Promises.{
   Outcome,
   leaves,
-  partFrom,
   ChecksTable,
   ReadsPacket,
+  Lends,
+  partBy,
   PlacesPart,
-  movedBy,
-  HandsPart,
   LendsPart,
   ListsPacket,
   FindsField,
+  labelBy,
   PlacesLabel,
-  HandsLabel,
   LendsLabel,
   ReadsText,
 }
-use Rattle.rules.specs.Results.{AnswersUnique}
+use Rattle.rules.specs.Results.{TextUnique}
 use Rattle.laws.proofs.Decidable.{good-decidable}
 
 -- ── an answer is known by its number, place and value ──
 
 tableOf : Answer → TableAnswer
-tableOf a = cond (eqb (a .number) 0) (TableAnswer.Good (a .value)) TableAnswer.NotGood
+tableOf a = cond (eqb (a .number) 0) (TableAnswer.Good (a .amount)) TableAnswer.NotGood
 
 table-back : (r : TableAnswer) → tableOf (ofTable r) ≡ r
 unfolding tableOf ofTable
@@ -45,7 +44,7 @@ table-back TableAnswer.NotGood = refl
 
 packetOf : Answer → PacketAnswer
 packetOf a =
-    cond (eqb (a .number) 0) (PacketAnswer.Accepted (a .value))
+    cond (eqb (a .number) 0) (PacketAnswer.Accepted (a .amount))
     (cond (eqb (a .number) 21) PacketAnswer.NotGood
     (cond (eqb (a .number) 22) PacketAnswer.TooLong
     (cond (eqb (a .number) 23) PacketAnswer.ShortRun
@@ -68,7 +67,7 @@ packet-back PacketAnswer.LeftOver = refl
 
 fieldOf : Answer → FieldAnswer
 fieldOf a =
-    cond (eqb (a .number) 0) (FieldAnswer.At (a .value)) (cond (eqb
+    cond (eqb (a .number) 0) (FieldAnswer.At (a .amount)) (cond (eqb
     (a .number) 21) FieldAnswer.NotGood FieldAnswer.Unknown)
 
 field-back : (r : FieldAnswer) → fieldOf (ofField r) ≡ r
@@ -78,7 +77,7 @@ field-back FieldAnswer.NotGood = refl
 field-back FieldAnswer.Unknown = refl
 
 listingOf : Answer → ListingAnswer
-listingOf a = cond (eqb (a .number) 0) (ListingAnswer.Written (a .value)) ListingAnswer.NoRoom
+listingOf a = cond (eqb (a .number) 0) (ListingAnswer.Written (a .amount)) ListingAnswer.NoRoom
 
 listing-back : (r : ListingAnswer) → listingOf (ofListing r) ≡ r
 unfolding listingOf ofListing
@@ -87,7 +86,7 @@ listing-back ListingAnswer.NoRoom = refl
 
 textOf : Answer → TextAnswer
 textOf a =
-    cond (eqb (a .number) 0) (TextAnswer.Accepted (a .value))
+    cond (eqb (a .number) 0) (TextAnswer.Accepted (a .amount))
     (cond (eqb (a .number) 1) TextAnswer.TooLong
     (cond (eqb (a .number) 2) TextAnswer.BadByte
     (cond (eqb (a .number) 3) (TextAnswer.BadLine (a .place))
@@ -120,94 +119,79 @@ table-number a b e = sym (table-back a) ∙ ap tableOf e ∙ table-back b
 pub packet-number : (a b : PacketAnswer) → ofPacket a ≡ ofPacket b → a ≡ b
 packet-number a b e = sym (packet-back a) ∙ ap packetOf e ∙ packet-back b
 
+pub listing-number : (a b : ListingAnswer) → ofListing a ≡ ofListing b → a ≡ b
+listing-number a b e = sym (listing-back a) ∙ ap listingOf e ∙ listing-back b
+
+pub field-number : (a b : FieldAnswer) → ofField a ≡ ofField b → a ≡ b
+field-number a b e = sym (field-back a) ∙ ap fieldOf e ∙ field-back b
+
 pub text-number : (a b : TextAnswer) → ofText a ≡ ofText b → a ≡ b
 text-number a b e = sym (text-back a) ∙ ap textOf e ∙ text-back b
 
 -- ── one answer for each input ──
 
-pub table-settled : (table : List ℕ) (a b : TableAnswer) → ChecksTable table a → ChecksTable table b → a ≡ b
-table-settled table a b p q =
-    let g = good-decidable table in
-    table-number a b (p g ∙ sym (q g))
+-- two values that are both equal to what each decision gives
+both : {A : Type 0} (table : List ℕ) (v : Dec (Good table) → A) (a b : A) → ((good : Dec (Good table)) → a ≡ v good)
+    → ((good : Dec (Good table)) → b ≡ v good) → a ≡ b
+both table v a b p q = let g = good-decidable table in p g ∙ sym (q g)
+
+-- an answer of the code and a buffer, by their outcome
+apart : {R : Type 0} (told : R → Answer) → ((a b : R) → told a ≡ told b → a ≡ b) → (a b : R) (after other : List ℕ)
+    → leaves (told a) after ≡ leaves (told b) other → (a ≡ b) × (after ≡ other)
+apart told back a b after other e =
+    (back a b (ap (λ (o : Outcome). o .answer) e), ap (λ (o : Outcome). o .buffer) e)
+
+pub table-settled : (table : List ℕ) (a b : TableAnswer) → ChecksTable table (ofTable a) → ChecksTable table (ofTable b)
+    → a ≡ b
+table-settled table a b p q = table-number a b (both table _ (ofTable a) (ofTable b) p q)
 
 pub packet-settled : (table packet run : List ℕ) (a b : PacketAnswer) (after other : List ℕ)
-    → ReadsPacket table packet run a after → ReadsPacket table packet run b other → (a ≡ b) × (after ≡ other)
+    → ReadsPacket table packet run (leaves (ofPacket a) after) → ReadsPacket table packet run (leaves (ofPacket b) other)
+    → (a ≡ b) × (after ≡ other)
 packet-settled table packet run a b after other p q =
-    let g = good-decidable table in
-    let e = p g ∙ sym (q g) in
-    (packet-number a b (ap (λ (o : Outcome). o .answer) e), ap (λ (o : Outcome). o .buffer) e)
-
-pub part-settled : (table packet : List ℕ) (i : ℕ) (bytes others : List ℕ) (start other : ℕ)
-    → HandsPart table packet i bytes start → HandsPart table packet i others other → (bytes ≡ others) × (start ≡ other)
-part-settled table packet i bytes others start other p q =
-    let g = good-decidable table in
-    (p .content g ∙ sym (q .content g), p .place g ∙ sym (q .place g))
-
-same-place : (start size other count : ℕ) → partFrom start size ≡ partFrom other count
-    → (start ≡ other) × (size ≡ count)
-same-place start size other count e = (ap (λ (x : Part). x .start) e, ap (λ (x : Part). x .size) e)
-
--- the part that is lent, and its place
-pub lent-part-settled : (table packet : List ℕ) (i : ℕ) (bytes others : List ℕ) (from at other : ℕ × ℕ)
-    → LendsPart table packet i bytes from at → LendsPart table packet i others from other
-    → (bytes ≡ others) × (at ≡ other)
-lent-part-settled table packet i bytes others from at other p q =
-    let both = part-settled table packet i bytes others (p .0) (q .0) (p .1) (q .1) in
-    (both .0, p .2 ∙ ap (λ (n : ℕ). movedBy n from) (both .1) ∙ sym (q .2))
-
-moved-back : (n m : ℕ) (from : ℕ × ℕ) → movedBy n from ≡ movedBy m from → n ≡ m
-moved-back n m from e = omega (arith, ap (λ (p : ℕ × ℕ). p .1) e)
-
--- what is lent at a place is handed back from there, so what is ruled out of the one is ruled out of the other
-pub lends-hands : (table packet : List ℕ) (i : ℕ) (bytes : List ℕ) (start : ℕ) (from : ℕ × ℕ)
-    → LendsPart table packet i bytes from (movedBy start from) → HandsPart table packet i bytes start
-lends-hands table packet i bytes start from p = rw (moved-back start (p .0) from (p .2)) (p .1)
-
-pub part-place-settled : (table packet : List ℕ) (i start size other count : ℕ)
-    → PlacesPart table packet i start size → PlacesPart table packet i other count → (start ≡ other) × (size ≡ count)
-part-place-settled table packet i start size other count p q =
-    let g = good-decidable table in
-    same-place start size other count (p g ∙ sym (q g))
+    apart ofPacket packet-number a b after other (both table _ (leaves (ofPacket a) after) (leaves (ofPacket b) other) p q)
 
 pub listing-settled : (table packet out : List ℕ) (a b : ListingAnswer) (after other : List ℕ)
-    → ListsPacket table packet out a after → ListsPacket table packet out b other → (a ≡ b) × (after ≡ other)
+    → ListsPacket table packet out (leaves (ofListing a) after) → ListsPacket table packet out (leaves (ofListing b) other)
+    → (a ≡ b) × (after ≡ other)
 listing-settled table packet out a b after other p q =
+    apart ofListing listing-number a b after other
+    (both table _ (leaves (ofListing a) after) (leaves (ofListing b) other) p q)
+
+pub index-settled : (table name : List ℕ) (a b : FieldAnswer) → FindsField table name (ofField a)
+    → FindsField table name (ofField b) → a ≡ b
+index-settled table name a b p q = field-number a b (both table _ (ofField a) (ofField b) p q)
+
+-- the part that is lent, and its place
+lent-settled : (table buffer : List ℕ) (from : ℕ × ℕ) (part : Dec (Good table) → Part) (bytes others : List ℕ)
+    (at other : ℕ × ℕ) → ((good : Dec (Good table)) → Lends buffer from (part good) bytes at)
+    → ((good : Dec (Good table)) → Lends buffer from (part good) others other) → (bytes ≡ others) × (at ≡ other)
+lent-settled table buffer from part bytes others at other p q =
     let g = good-decidable table in
-    let e = p g ∙ sym (q g) in
-    let n = ap (λ (o : Outcome). listingOf (o .answer)) e in
-    (sym (listing-back a) ∙ n ∙ listing-back b, ap (λ (o : Outcome). o .buffer) e)
+    (p g .content ∙ sym (q g .content), p g .place ∙ sym (q g .place))
 
-pub index-settled : (table name : List ℕ) (a b : FieldAnswer) → FindsField table name a → FindsField table name b
-    → a ≡ b
-index-settled table name a b p q =
-    let g = good-decidable table in
-    sym (field-back a) ∙ ap fieldOf (p g ∙ sym (q g)) ∙ field-back b
+pub lent-part-settled : (table packet : List ℕ) (i : ℕ) (from : ℕ × ℕ) (bytes others : List ℕ) (at other : ℕ × ℕ)
+    → LendsPart table packet i from bytes at → LendsPart table packet i from others other
+    → (bytes ≡ others) × (at ≡ other)
+lent-part-settled table packet i from bytes others at other p q =
+    lent-settled table packet from (λ good. partBy good packet i) bytes others at other p q
 
-pub label-settled : (table : List ℕ) (i : ℕ) (bytes others : List ℕ) (start other : ℕ)
-    → HandsLabel table i bytes start → HandsLabel table i others other → (bytes ≡ others) × (start ≡ other)
-label-settled table i bytes others start other p q =
-    let g = good-decidable table in
-    (p .content g ∙ sym (q .content g), p .place g ∙ sym (q .place g))
+pub lent-label-settled : (table : List ℕ) (i : ℕ) (from : ℕ × ℕ) (bytes others : List ℕ) (at other : ℕ × ℕ)
+    → LendsLabel table i from bytes at → LendsLabel table i from others other → (bytes ≡ others) × (at ≡ other)
+lent-label-settled table i from bytes others at other p q =
+    lent-settled table table from (λ good. labelBy good i) bytes others at other p q
 
-pub lent-label-settled : (table : List ℕ) (i : ℕ) (bytes others : List ℕ) (from at other : ℕ × ℕ)
-    → LendsLabel table i bytes from at → LendsLabel table i others from other → (bytes ≡ others) × (at ≡ other)
-lent-label-settled table i bytes others from at other p q =
-    let both = label-settled table i bytes others (p .0) (q .0) (p .1) (q .1) in
-    (both .0, p .2 ∙ ap (λ (n : ℕ). movedBy n from) (both .1) ∙ sym (q .2))
+pub part-place-settled : (table packet : List ℕ) (i : ℕ) (part other : Part) → PlacesPart table packet i part
+    → PlacesPart table packet i other → part ≡ other
+part-place-settled table packet i part other p q = both table _ part other p q
 
-pub lends-hands-label : (table : List ℕ) (i : ℕ) (bytes : List ℕ) (start : ℕ) (from : ℕ × ℕ)
-    → LendsLabel table i bytes from (movedBy start from) → HandsLabel table i bytes start
-lends-hands-label table i bytes start from p = rw (moved-back start (p .0) from (p .2)) (p .1)
-
-pub label-place-settled : (table : List ℕ) (i start size other count : ℕ) → PlacesLabel table i start size
-    → PlacesLabel table i other count → (start ≡ other) × (size ≡ count)
-label-place-settled table i start size other count p q =
-    let g = good-decidable table in
-    same-place start size other count (p g ∙ sym (q g))
+pub label-place-settled : (table : List ℕ) (i : ℕ) (part other : Part) → PlacesLabel table i part
+    → PlacesLabel table i other → part ≡ other
+label-place-settled table i part other p q = both table _ part other p q
 
 -- a text, whose outcome is the only one (texts, TextResults)
-pub text-settled : AnswersUnique → (text out : List ℕ) (a b : TextAnswer) (after other : List ℕ)
-    → ReadsText text out a after → ReadsText text out b other → (a ≡ b) × (after ≡ other)
+pub text-settled : TextUnique → (text out : List ℕ) (a b : TextAnswer) (after other : List ℕ)
+    → ReadsText text out (leaves (ofText a) after) → ReadsText text out (leaves (ofText b) other)
+    → (a ≡ b) × (after ≡ other)
 text-settled unique text out a b after other p q =
-    let e = unique text out (leaves (ofText a) after) (leaves (ofText b) other) p q in
-    (text-number a b (ap (λ (o : Outcome). o .answer) e), ap (λ (o : Outcome). o .buffer) e)
+    apart ofText text-number a b after other (unique text out (leaves (ofText a) after) (leaves (ofText b) other) p q)

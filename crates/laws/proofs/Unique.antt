@@ -9,12 +9,12 @@ use lib.ListN.{length}
 use borrow.Author.Tests.{leb-true, eqb-true}
 use Rattle.base.specs.Lists.{between}
 use Rattle.base.proofs.Breaks.{and-true, or-true}
-use Rattle.rules.specs.Limits.{fieldsMost}
+use Rattle.rules.specs.Editions.{Edition}
 use Rattle.rules.specs.Fields.{Description}
-use Rattle.rules.specs.Within.{isRowWidth, Within}
-use Rattle.rules.specs.Stored.{headBody, stored}
+use Rattle.rules.specs.Within.{isRowWidth, WithinIn}
+use Rattle.rules.specs.Stored.{headBody, storedIn}
 use Rattle.rules.specs.Results.{StoredUnique}
-use Rattle.laws.proofs.Readers.{described}
+use Rattle.laws.proofs.Readers.{describedIn}
 use Rattle.laws.proofs.ReadsNumbers.{readTwo-le2, skip-le2, readCounted-counted}
 use Rattle.laws.proofs.ReadsFields.{label-length, readFields-stored}
 
@@ -25,22 +25,23 @@ row-bound w h =
     (or-true (eqb w 16) (eqb w 32) (λ e. omega (arith, eqb-true w 16 e)) (λ e. omega (arith, eqb-true w 32 e)))
     h
 
-pub count-bound : (n : ℕ) → between 1 n fieldsMost ≡ true → n < 65536
-count-bound n h = omega (arith, leb-true n fieldsMost (and-true (leb 1 n) (leb n fieldsMost) h .1))
+pub count-bound : (e : Edition) (n : ℕ) → between 1 n (e .fields) ≡ true → n < 65536
+count-bound e n h =
+    omega (arith, leb-true n (e .fields) (and-true (leb 1 n) (leb n (e .fields)) h .1), leb-true (e .fields) 256 (e .few))
 
-pub described-stored : (d : Description) → Within d → described (stored d) ≡ d
-unfolding described stored headBody
-described-stored d w =
+pub described-stored : (e : Edition) (d : Description) → WithinIn e d → describedIn e (storedIn e d) ≡ d
+unfolding describedIn storedIn headBody
+described-stored e d w =
     let name : length (d .name) < 65536 = omega (arith, label-length (d .name) (w .name)) in
     simp (
       append-assoc,
       skip-le2,
       readTwo-le2 (d .rowWidth) (row-bound (d .rowWidth) (w .row)),
-      readTwo-le2 (length (d .fields)) (count-bound (length (d .fields)) (w .count)),
+      readTwo-le2 (length (d .fields)) (count-bound e (length (d .fields)) (w .count)),
       readCounted-counted (d .name) name,
-      readFields-stored [] (d .fields) (w .form) (w .size),
+      readFields-stored e [] (d .fields) (w .form) (w .size),
     )
 
 -- two descriptions within the limits that have one stored table are equal
 pub stored-unique : StoredUnique
-stored-unique d e v w h = sym (described-stored d v) ∙ ap described h ∙ described-stored e w
+stored-unique e c d v w h = sym (described-stored e c v) ∙ ap (describedIn e) h ∙ described-stored e d w

@@ -1,5 +1,5 @@
 -- Answers of wrong programs: of each, what is claimed is a promise, and it is false (proofs/RuledOut). A program that
--- keeps the promises is none of these. [01, How the promises are judged] [01, Easy ways to go wrong]
+-- keeps the promises is none of these, and no export is: its promise is the entry's. [01, How the promises are judged] [01, Easy ways to go wrong]
 use mathlib.Core.Path.{_≡_}
 use mathlib.Core.List.{List, [], _∷_, _++_}
 use mathlib.Core.Option.{none, some}
@@ -8,27 +8,26 @@ use lib.ListN.{length, replicate, drop}
 use Rattle.base.specs.Bytes.{bytes}
 use Rattle.base.specs.Lists.{joined}
 use Rattle.rules.specs.declared.Op.the-variants.{Eq}
-use Rattle.rules.specs.declared.Fault.the-variants.{BitsMissing, ConstraintFalse, AbsentRead}
-use Rattle.rules.specs.declared.TableAnswer.{TableAnswer}
+use Rattle.rules.specs.declared.Fault.the-variants.{BitsMissing}
 use Rattle.rules.specs.declared.PacketAnswer.{PacketAnswer}
 use Rattle.rules.specs.declared.PacketAnswer.the-variants.{Accepted, Refused, LeftOver}
-use Rattle.rules.specs.declared.FieldAnswer.{FieldAnswer}
-use Rattle.rules.specs.declared.ListingAnswer.{ListingAnswer}
-use Rattle.rules.specs.declared.ListingAnswer.the-variants.{Written}
 use Rattle.rules.specs.Trees.{num, read, two}
 use Rattle.rules.specs.Fields.{fixed, Description}
 use Rattle.rules.specs.Stored.{stored}
-use Rattle.rules.specs.Reading.{Entry, absent, numbersOf}
-use Rattle.rules.specs.Answers.{ofPacket}
+use Rattle.rules.specs.Reading.{Entry, absent, numbersOf, Part, partFrom}
+use Rattle.rules.specs.Answers.{Answer, accepted, refused, ofPacket}
 use Rattle.rules.specs.Promises.{
-  written,
+  leaves,
+  overlaid,
+  notGood,
   ChecksTable,
   ReadsPacket,
+  movedBy,
   PlacesPart,
-  HandsPart,
+  LendsPart,
   FindsField,
   PlacesLabel,
-  HandsLabel,
+  LendsLabel,
   ListsPacket,
 }
 use Rattle.rules.specs.Cases.{lentRun, named, unnamed, entry}
@@ -39,41 +38,41 @@ use Rattle.rules.specs.Pages.{page, isNine, flagged, m2, m3}
 
 pub data Claim : Type 0 where
   -- the answer to the table
-  checks : Description → TableAnswer → Claim
+  checks : Description → Answer → Claim
   -- the answer to a packet, and what a run of thirty 9s holds then
-  reads : Description → List ℕ → PacketAnswer → List ℕ → Claim
+  reads : Description → List ℕ → Answer → List ℕ → Claim
   -- the answer where a packet is listed, and what an output of 120 nines holds then
-  lists : Description → List ℕ → ListingAnswer → List ℕ → Claim
+  lists : Description → List ℕ → Answer → List ℕ → Claim
   -- the bytes of the field of an index, and where in the packet they begin
   hands : Description → List ℕ → ℕ → List ℕ → ℕ → Claim
   -- where they begin, and how many they are
-  placesPart : Description → List ℕ → ℕ → ℕ → ℕ → Claim
+  placesPart : Description → List ℕ → ℕ → Part → Claim
   -- the answer to a name that is looked for
-  finds : Description → List ℕ → FieldAnswer → Claim
+  finds : Description → List ℕ → Answer → Claim
   -- the label of the field of an index, and where in the table it begins
   labels : Description → ℕ → List ℕ → ℕ → Claim
   -- where it begins, and its length
-  placesLabel : Description → ℕ → ℕ → ℕ → Claim
-  -- 01's number, place and value of a packet's answer
+  placesLabel : Description → ℕ → Part → Claim
+  -- 01's number, place and amount of a packet's answer
   tellsNumber : PacketAnswer → ℕ → Claim
   tellsPlace : PacketAnswer → ℕ → Claim
-  tellsValue : PacketAnswer → ℕ → Claim
+  tellsAmount : PacketAnswer → ℕ → Claim
 
 abbrev pub lentOutput : List ℕ
 lentOutput = replicate 120 9
 
 abbrev pub Claimed : Claim → Type 0
-Claimed (checks d r) = ChecksTable (stored d) r
-Claimed (reads d packet r after) = ReadsPacket (stored d) packet lentRun r after
-Claimed (lists d packet r after) = ListsPacket (stored d) packet lentOutput r after
-Claimed (hands d packet i part start) = HandsPart (stored d) packet i part start
-Claimed (placesPart d packet i start size) = PlacesPart (stored d) packet i start size
-Claimed (finds d name r) = FindsField (stored d) name r
-Claimed (labels d i label start) = HandsLabel (stored d) i label start
-Claimed (placesLabel d i start size) = PlacesLabel (stored d) i start size
+Claimed (checks d a) = ChecksTable (stored d) a
+Claimed (reads d packet a after) = ReadsPacket (stored d) packet lentRun (leaves a after)
+Claimed (lists d packet a after) = ListsPacket (stored d) packet lentOutput (leaves a after)
+Claimed (hands d packet i part start) = (from : ℕ × ℕ) × LendsPart (stored d) packet i from part (movedBy start from)
+Claimed (placesPart d packet i part) = PlacesPart (stored d) packet i part
+Claimed (finds d name a) = FindsField (stored d) name a
+Claimed (labels d i label start) = (from : ℕ × ℕ) × LendsLabel (stored d) i from label (movedBy start from)
+Claimed (placesLabel d i part) = PlacesLabel (stored d) i part
 Claimed (tellsNumber r n) = n ≡ ofPacket r .number
 Claimed (tellsPlace r n) = n ≡ ofPacket r .place
-Claimed (tellsValue r n) = n ≡ ofPacket r .value
+Claimed (tellsAmount r n) = n ≡ ofPacket r .amount
 
 abbrev pub AllFalse : List Claim → Type 0
 AllFalse [] = Unit {0}
@@ -82,10 +81,10 @@ AllFalse (c ∷ cs) = (Claimed c → ⊥) × AllFalse cs
 -- ── short ways to write what was left in a buffer ──
 
 abbrev pub runOf : List Entry → List ℕ
-runOf entries = written (joined numbersOf entries) lentRun
+runOf entries = overlaid (joined numbersOf entries) lentRun
 
 abbrev pub outputOf : List ℕ → List ℕ
-outputOf text = written text lentOutput
+outputOf text = overlaid text lentOutput
 
 -- the first six entries of M1, and all
 abbrev pub m1Six : List Entry
@@ -115,29 +114,29 @@ crossed = page (named "A" "X" (fixed 8) none none ∷ named "X" "A" (fixed 8) no
 abbrev pub wrong : List Claim
 wrong =
     -- 21 for every table
-    checks bladeReport TableAnswer.NotGood
-    ∷ reads bladeReport m1 PacketAnswer.NotGood lentRun
+    checks bladeReport notGood
+    ∷ reads bladeReport m1 notGood lentRun
     -- another length for a table
-    ∷ checks bladeReport (TableAnswer.Good 0)
+    ∷ checks bladeReport (accepted 0)
     -- every packet accepted, and nothing written
-    ∷ reads bladeReport m1 (Accepted 64) lentRun
-    ∷ reads bladeReport m3 (Accepted 56) lentRun
+    ∷ reads bladeReport m1 (accepted 64) lentRun
+    ∷ reads bladeReport m3 (accepted 56) lentRun
     -- the first field read truly, the rest called absent
-    ∷ reads bladeReport m1 (Accepted 64) (runOf (entry 0 2 1 ∷ replicate 6 absent))
+    ∷ reads bladeReport m1 (accepted 64) (runOf (entry 0 2 1 ∷ replicate 6 absent))
     -- an invented bit total
-    ∷ reads bladeReport m1 (Accepted 63) (runOf m1Entries)
-    ∷ reads bladeReport m1 (Accepted 0) (runOf m1Entries)
+    ∷ reads bladeReport m1 (accepted 63) (runOf m1Entries)
+    ∷ reads bladeReport m1 (accepted 0) (runOf m1Entries)
     -- an absent field read as 0, so that `E == 9` is no and the third field absent; or the fault passed over
-    ∷ reads (flagged (some isNine)) (0 ∷ []) (Accepted 8) (runOf (entry 0 8 0 ∷ absent ∷ absent ∷ []))
-    ∷ reads (flagged (some isNine)) (0 ∷ 5 ∷ []) LeftOver lentRun
-    ∷ reads (flagged (some isNine)) (0 ∷ 5 ∷ []) (Accepted 16) (runOf (entry 0 8 0 ∷ absent ∷ absent ∷ []))
-    ∷ reads (flagged (some isNine)) (0 ∷ 5 ∷ []) (Accepted 16) (runOf (entry 0 8 0 ∷ absent ∷ entry 8 8 5 ∷ []))
+    ∷ reads (flagged (some isNine)) (0 ∷ []) (accepted 8) (runOf (entry 0 8 0 ∷ absent ∷ absent ∷ []))
+    ∷ reads (flagged (some isNine)) (0 ∷ 5 ∷ []) (refused 28 0) lentRun
+    ∷ reads (flagged (some isNine)) (0 ∷ 5 ∷ []) (accepted 16) (runOf (entry 0 8 0 ∷ absent ∷ absent ∷ []))
+    ∷ reads (flagged (some isNine)) (0 ∷ 5 ∷ []) (accepted 16) (runOf (entry 0 8 0 ∷ absent ∷ entry 8 8 5 ∷ []))
     -- the fault at the absent field, not at the one that reads it
-    ∷ reads (flagged (some isNine)) (0 ∷ 5 ∷ []) (Refused AbsentRead 2) lentRun
+    ∷ reads (flagged (some isNine)) (0 ∷ 5 ∷ []) (refused 26 2) lentRun
     -- an absent field's constraint tested
-    ∷ reads (flagged none) (0 ∷ 5 ∷ []) (Refused ConstraintFalse 2) lentRun
+    ∷ reads (flagged none) (0 ∷ 5 ∷ []) (refused 25 2) lentRun
     -- Borrower's offset kept while it is absent
-    ∷ reads bladeReport m2 (Accepted 48)
+    ∷ reads bladeReport m2 (accepted 48)
     (runOf
     (entry 0 2 1
     ∷ entry 2 1 0
@@ -148,22 +147,22 @@ wrong =
     ∷ entry 32 16 9
     ∷ []))
     -- entries written before a refusal
-    ∷ reads bladeReport m3 (Refused BitsMissing 7) (runOf m1Six)
+    ∷ reads bladeReport m3 (refused 24 7) (runOf m1Six)
     -- what lies beyond the entries overwritten
-    ∷ reads bladeReport m1 (Accepted 64) (joined numbersOf m1Entries ++ (0 ∷ 0 ∷ []))
+    ∷ reads bladeReport m1 (accepted 64) (joined numbersOf m1Entries ++ (0 ∷ 0 ∷ []))
     -- a neighbour read instead of the field that is named
-    ∷ reads beside (0 ∷ 1 ∷ 7 ∷ []) (Accepted 24) (runOf (entry 0 8 0 ∷ entry 8 8 1 ∷ entry 16 8 7 ∷ []))
-    ∷ reads beside (0 ∷ 1 ∷ []) (Refused BitsMissing 3) lentRun
-    ∷ reads beside (1 ∷ 0 ∷ 7 ∷ []) LeftOver lentRun
+    ∷ reads beside (0 ∷ 1 ∷ 7 ∷ []) (accepted 24) (runOf (entry 0 8 0 ∷ entry 8 8 1 ∷ entry 16 8 7 ∷ []))
+    ∷ reads beside (0 ∷ 1 ∷ []) (refused 24 3) lentRun
+    ∷ reads beside (1 ∷ 0 ∷ 7 ∷ []) (refused 28 0) lentRun
     -- V for L in Borrower's condition; L for N in the width of Readings
-    ∷ reads bladeReport m2 (Refused BitsMissing 7) lentRun
-    ∷ reads bladeReport m1 LeftOver lentRun
+    ∷ reads bladeReport m2 (refused 24 7) lentRun
+    ∷ reads bladeReport m1 (refused 28 0) lentRun
     -- a listing: nothing written; a wrong line; a line left out; 21 for a good table; no refusal printed
-    ∷ lists bladeReport m1 (Written (length m1Listing)) lentOutput
-    ∷ lists bladeReport m1 (Written (length m1Listing)) (outputOf (bytes "Version: 0 2 2\n" ++ m1Rest))
-    ∷ lists bladeReport m1 (Written (length m1Rest)) (outputOf m1Rest)
-    ∷ lists bladeReport m1 (Written 16) (outputOf (bytes "refused 21 at 0\n"))
-    ∷ lists bladeReport m3 (Written 0) lentOutput
+    ∷ lists bladeReport m1 (accepted (length m1Listing)) lentOutput
+    ∷ lists bladeReport m1 (accepted (length m1Listing)) (outputOf (bytes "Version: 0 2 2\n" ++ m1Rest))
+    ∷ lists bladeReport m1 (accepted (length m1Rest)) (outputOf m1Rest)
+    ∷ lists bladeReport m1 (accepted 16) (outputOf (bytes "refused 21 at 0\n"))
+    ∷ lists bladeReport m3 (accepted 0) lentOutput
     -- a part: the empty one for Readings; its neighbour's bytes; its own bytes from elsewhere
     ∷ hands bladeReport m1 5 [] 0
     ∷ hands bladeReport m1 5 (0x00 ∷ 0x09 ∷ []) 6
@@ -173,23 +172,23 @@ wrong =
     ∷ hands bladeReport m2 4 (0xAA ∷ 0xBB ∷ []) 2
     ∷ hands bladeReport m3 3 (0x07 ∷ []) 1
     -- where a part lies: the empty one for Readings; its neighbour's place; its own start with another size; in bits
-    ∷ placesPart bladeReport m1 5 0 0
-    ∷ placesPart bladeReport m1 5 6 2
-    ∷ placesPart bladeReport m1 5 4 4
-    ∷ placesPart bladeReport m1 5 32 16
+    ∷ placesPart bladeReport m1 5 (partFrom 0 0)
+    ∷ placesPart bladeReport m1 5 (partFrom 6 2)
+    ∷ placesPart bladeReport m1 5 (partFrom 4 4)
+    ∷ placesPart bladeReport m1 5 (partFrom 32 16)
     -- a place for a field that has no part: of bits, absent, of a refused packet
-    ∷ placesPart bladeReport m1 0 0 1
-    ∷ placesPart bladeReport m2 4 2 2
-    ∷ placesPart bladeReport m3 3 1 1
+    ∷ placesPart bladeReport m1 0 (partFrom 0 1)
+    ∷ placesPart bladeReport m2 4 (partFrom 2 2)
+    ∷ placesPart bladeReport m3 3 (partFrom 1 1)
     -- a field by name: no name found; labels or short names passed over; indexes from 1; case ignored; a prefix taken
-    ∷ finds bladeReport (bytes "V") FieldAnswer.Unknown
-    ∷ finds bladeReport (bytes "Blade") FieldAnswer.Unknown
-    ∷ finds bladeReport (bytes "Blade") (FieldAnswer.At 4)
-    ∷ finds bladeReport (bytes "v") (FieldAnswer.At 0)
-    ∷ finds bladeReport (bytes "Bla") (FieldAnswer.At 3)
+    ∷ finds bladeReport (bytes "V") (refused 30 0)
+    ∷ finds bladeReport (bytes "Blade") (refused 30 0)
+    ∷ finds bladeReport (bytes "Blade") (accepted 4)
+    ∷ finds bladeReport (bytes "v") (accepted 0)
+    ∷ finds bladeReport (bytes "Bla") (accepted 3)
     -- the later of two fields that have the name; 21 for a good table
-    ∷ finds crossed (bytes "X") (FieldAnswer.At 1)
-    ∷ finds bladeReport (bytes "V") FieldAnswer.NotGood
+    ∷ finds crossed (bytes "X") (accepted 1)
+    ∷ finds bladeReport (bytes "V") notGood
     -- a label: the empty part; the short name; the neighbour's; its own bytes from elsewhere; one beyond the fields
     ∷ labels bladeReport 0 [] 0
     ∷ labels bladeReport 0 (bytes "V") 37
@@ -198,12 +197,12 @@ wrong =
     ∷ labels bladeReport 7 (bytes "Sum") 186
     -- where a label lies: the empty part; the short name's place; the neighbour's; its own start with another size;
     -- its length taken in; one beyond the fields
-    ∷ placesLabel bladeReport 0 0 0
-    ∷ placesLabel bladeReport 0 37 1
-    ∷ placesLabel bladeReport 0 58 7
-    ∷ placesLabel bladeReport 0 28 12
-    ∷ placesLabel bladeReport 0 26 9
-    ∷ placesLabel bladeReport 7 186 3
+    ∷ placesLabel bladeReport 0 (partFrom 0 0)
+    ∷ placesLabel bladeReport 0 (partFrom 37 1)
+    ∷ placesLabel bladeReport 0 (partFrom 58 7)
+    ∷ placesLabel bladeReport 0 (partFrom 28 12)
+    ∷ placesLabel bladeReport 0 (partFrom 26 9)
+    ∷ placesLabel bladeReport 7 (partFrom 186 3)
     -- a number: 24 told as 25; 0 for a refusal; the bit total of an accepted packet
     ∷ tellsNumber (Refused BitsMissing 7) 25
     ∷ tellsNumber (Refused BitsMissing 7) 0
@@ -215,8 +214,8 @@ wrong =
     ∷ tellsPlace (Accepted 64) 7
     ∷ tellsPlace LeftOver 7
     -- a value: one for a refusal; none, or bytes for bits, for an accepted packet
-    ∷ tellsValue (Refused BitsMissing 7) 56
-    ∷ tellsValue LeftOver 72
-    ∷ tellsValue (Accepted 64) 0
-    ∷ tellsValue (Accepted 64) 8
+    ∷ tellsAmount (Refused BitsMissing 7) 56
+    ∷ tellsAmount LeftOver 72
+    ∷ tellsAmount (Accepted 64) 0
+    ∷ tellsAmount (Accepted 64) 8
     ∷ []

@@ -21,6 +21,7 @@ use Rattle.base.specs.Writes.{Writes}
 use Rattle.packets.specs.Listings.{ListsStored, ListsInto}
 use Rattle.packets.specs.LineTexts.{entryIn, linesFrom}
 use Rattle.packets.proofs.TableHead.{head-count, fields-stand}
+use Rattle.packets.specs.Parts.{tableMost}
 use Rattle.packets.proofs.TableParts.{table-length}
 use Rattle.packets.proofs.RunEntries.{run-number, run-present}
 use Rattle.packets.proofs.LinesStored.{lines-stored}
@@ -31,6 +32,7 @@ use Rattle.packets.proofs.ListingTexts.{
   entries-length,
   one-line,
 }
+use Rattle.laws.proofs.Readings.{reading-told}
 
 module _ (s packet : List ℕ) (d : Description) (w : Within d) (is : stored d ≡ s) (run : List ℕ) (a : PacketAnswer)
     (h : RunHolds (reading d packet) packet a run) where
@@ -49,18 +51,18 @@ module _ (s packet : List ℕ) (d : Description) (w : Within d) (is : stored d �
   lines-are : (es : List Entry) → reading d packet ≡ complete es
       → linesFrom s run 0 (twoAt s 6) (twoAt s 0) ≡ linesText (entryLines (d .fields) es)
   lines-are es e =
-      let l : length s ≤ 32768 = rw is at (table-length d w) in
+      let l : length s ≤ tableMost = rw is at (table-length d w) in
       rw (head-count d s is w)
       (lines-stored s run (d .fields) es [] 0 (twoAt s 0) (length s) (recordOf 5 []) (w .form) (w .size)
       (entries-length d packet es e) l (fields-stand d s is w) (entries-in es e))
 
   pub listed-accepted : ofPacket a .number ≡ 0
-      → linesFrom s run 0 (twoAt s 6) (twoAt s 0) ++ (bitsLine (ofPacket a .value) ++ (10 ∷ [])) ≡ listing d packet
+      → linesFrom s run 0 (twoAt s 6) (twoAt s 0) ++ (bitsLine (ofPacket a .amount) ++ (10 ∷ [])) ≡ listing d packet
   unfolding readingAnswer
   listed-accepted n =
-      let c = accepted-entries (reading d packet) packet (sym (ap (λ (x : Answer). x .number) (h .answer)) ∙ n) in
-      let v : ofPacket a .value ≡ bitTotal packet
-      = ap (λ (x : Answer). x .value) (h .answer) ∙ rw (c .1, readingAnswer) refl in
+      let c = accepted-entries (reading d packet) (reading-told d packet) packet (sym (ap (λ (x : Answer). x .number) (h .answer)) ∙ n) in
+      let v : ofPacket a .amount ≡ bitTotal packet
+      = ap (λ (x : Answer). x .amount) (h .answer) ∙ rw (c .1, readingAnswer) refl in
       ap (λ (n : ℕ). linesFrom s run 0 (twoAt s 6) (twoAt s 0) ++ (bitsLine n ++ (10 ∷ []))) v
       ∙ ap (λ (l : List ℕ). l ++ (bitsLine (bitTotal packet) ++ (10 ∷ []))) (lines-are (c .0) (c .1))
       ∙ sym (listing-lines d packet (c .0) (c .1))
@@ -80,7 +82,7 @@ good-answer table r n e (yes g) h = (g, refl)
 good-answer table r n e (no b) h = let z : _≡_ {A = Answer} (accepted n) notGood = rw (e, ofTable) at h in
     let q : _≡_ {A = ℕ} 0 21 = ap (λ (x : Answer). x .number) z in absurd (omega arith)
 
-pub into-good : (table packet before after : List ℕ) (next : ℕ) (r : TableAnswer) (n : ℕ) → ChecksTable table r
+pub into-good : (table packet before after : List ℕ) (next : ℕ) (r : TableAnswer) (n : ℕ) → ChecksTable table (ofTable r)
     → r ≡ TableAnswer.Good n → ListsStored table packet before after next → ListsInto table packet before after next
 into-good table packet before after next r n c e l = record { text = go; inside = l .inside }
   where
@@ -89,7 +91,7 @@ into-good table packet before after next r n c e l = record { text = go; inside 
     go (yes g) = l .text (g .description) (g .within) (g .isStored)
     go (no b) = let w = good-answer table r n e (no b) (c (no b)) in absurd (b (w .0))
 
-pub into-bad : (table packet before after : List ℕ) (next : ℕ) (r : TableAnswer) → ChecksTable table r
+pub into-bad : (table packet before after : List ℕ) (next : ℕ) (r : TableAnswer) → ChecksTable table (ofTable r)
     → r ≡ TableAnswer.NotGood → Writes before 0 (refusedLine 21 0 ++ (10 ∷ [])) after next → next ≤ length before
     → ListsInto table packet before after next
 unfolding ofTable

@@ -8,7 +8,7 @@ use lib.Dec.{ltb}
 use lib.ListN.{length, length-append}
 use Rattle.base.specs.Lists.{joined}
 use Rattle.rules.specs.Fields.{Field, Description}
-use Rattle.rules.specs.Reading.{Entry, Reading, complete, tooLong, faulted, leftOver, reading, bitTotal}
+use Rattle.rules.specs.Reading.{Entry, Reading, complete, refusing, reading, bitTotal}
 use Rattle.rules.specs.Cover.{Kept}
 use Rattle.rules.specs.Listing.{refusedLine, entryLines, bitsLine, linesText}
 use Rattle.rules.specs.Answers.{faultNumber}
@@ -17,6 +17,7 @@ use Rattle.laws.proofs.Conditions.{conditions-kept}
 use Rattle.packets.specs.Parts.{tableMost, partsAt}
 use Rattle.packets.specs.LineTexts.{lineText, linesFrom}
 use Rattle.packets.proofs.LinesWritten.{line-length}
+use Rattle.laws.proofs.Readings.{Told}
 
 lines-append : (l m : List (List ℕ)) → linesText (l ++ m) ≡ linesText l ++ linesText m
 unfolding linesText joined
@@ -44,9 +45,7 @@ refused-lines : (d : Description) (packet : List ℕ) (r : Reading) → (reading
     ≡ refusedLine (readingAnswer r packet .number) (readingAnswer r packet .place) ++ (10 ∷ [])
 unfolding readingLines readingAnswer
 refused-lines d packet (complete es) n = absurd (n refl)
-refused-lines d packet tooLong n = one-line (refusedLine 22 0)
-refused-lines d packet (faulted f i) n = one-line (refusedLine (faultNumber f) i)
-refused-lines d packet leftOver n = one-line (refusedLine 28 0)
+refused-lines d packet (refusing a) n = one-line (refusedLine (a .number) (a .place))
 
 pub listing-refused : (d : Description) (packet : List ℕ) → (readingAnswer (reading d packet) packet .number ≡ 0 → ⊥)
     → listing d packet
@@ -55,20 +54,11 @@ pub listing-refused : (d : Description) (packet : List ℕ) → (readingAnswer (
 listing-refused d packet n = refused-lines d packet (reading d packet) n
 
 -- and 0 is a complete reading
-fault-some : (f : _) → faultNumber f ≡ 0 → ⊥
-unfolding faultNumber
-fault-some Rattle.rules.specs.declared.Fault.Fault.BitsMissing e = omega arith
-fault-some Rattle.rules.specs.declared.Fault.Fault.ConstraintFalse e = omega arith
-fault-some Rattle.rules.specs.declared.Fault.Fault.AbsentRead e = omega arith
-fault-some Rattle.rules.specs.declared.Fault.Fault.OutOfRange e = omega arith
-
-pub accepted-entries : (r : Reading) (packet : List ℕ) → readingAnswer r packet .number ≡ 0
+pub accepted-entries : (r : Reading) → Told r → (packet : List ℕ) → readingAnswer r packet .number ≡ 0
     → (es : List Entry) × (r ≡ complete es)
 unfolding readingAnswer
-accepted-entries (complete es) packet e = (es, refl)
-accepted-entries tooLong packet e = absurd (omega arith)
-accepted-entries (faulted f i) packet e = absurd (fault-some f e)
-accepted-entries leftOver packet e = absurd (omega arith)
+accepted-entries (complete es) t packet e = (es, refl)
+accepted-entries (refusing a) t packet e = absurd (omega (arith, e, t .0))
 
 -- an entry for each field
 kept-length : (before : List Entry) (fs : List (Field ℕ)) (es : List Entry) → Kept before fs es → length es ≡ length fs

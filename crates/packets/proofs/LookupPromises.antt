@@ -12,9 +12,8 @@ use Rattle.rules.specs.declared.FieldAnswer.{FieldAnswer}
 use Rattle.rules.specs.Fields.{Field, Description}
 use Rattle.rules.specs.Stored.{recordOf, headBody, storedField, stored, Good}
 use Rattle.rules.specs.Answers.{Answer, ofTable, ofField}
-use Rattle.rules.specs.Reading.{Part, noPart, partBytes}
+use Rattle.rules.specs.Reading.{Part, partFrom, noPart, partBytes}
 use Rattle.rules.specs.Promises.{
-  partFrom,
   byTable,
   ChecksTable,
   FindsField,
@@ -25,7 +24,7 @@ use Rattle.rules.specs.Promises.{
   movedBy,
   LendsLabel,
 }
-use Rattle.packets.specs.declared.records.Span.{Span}
+use Rattle.writing.specs.declared.spans.Span.{Span}
 use Rattle.packets.specs.Parts.{tableMost, spanOf, ending, partsAt}
 use Rattle.packets.specs.Lookups.{placeFrom, findFrom, OnTable}
 use Rattle.packets.proofs.TableHead.{head-first, head-count, fields-stand}
@@ -36,12 +35,12 @@ use Rattle.packets.proofs.LookupStored.{find-stored, Placed, place-stor
 -- ── the index of a name ──
 
 module _ (table name : List ℕ) where
-  pub index-bad : ChecksTable table TableAnswer.NotGood → FindsField table name FieldAnswer.NotGood
+  pub index-bad : ChecksTable table (ofTable TableAnswer.NotGood) → FindsField table name (ofField FieldAnswer.NotGood)
   unfolding ofTable ofField
   index-bad h (yes g) = let q = ap (λ (a : Answer). a .number) (h (yes g)) in absurd (omega (arith, q))
   index-bad h (no b) = refl
 
-  pub index-found : Good table → FindsField table name (findFrom table name 0 (twoAt table 6) (twoAt table 0))
+  pub index-found : Good table → FindsField table name (ofField (findFrom table name 0 (twoAt table 6) (twoAt table 0)))
   index-found g (no b) = absurd (b g)
   index-found g (yes k) =
       let d = k .description in
@@ -60,7 +59,7 @@ beyond (f ∷ fs) zero h = absurd (omega arith)
 beyond (f ∷ fs) (suc k) h = beyond fs k (omega arith)
 
 module _ (table : List ℕ) (i : ℕ) where
-  pub label-bad : ChecksTable table TableAnswer.NotGood → OnTable table i (spanOf 0 0)
+  pub label-bad : ChecksTable table (ofTable TableAnswer.NotGood) → OnTable table i (spanOf 0 0)
   unfolding ofTable labelBy
   label-bad h = record { is = go; within = omega arith }
     where
@@ -120,16 +119,13 @@ module _ (table : List ℕ) (i : ℕ) where
 
 -- ── what is handed back ──
 
-pub label-placed : (table : List ℕ) (i : ℕ) (r : Span) → OnTable table i r → PlacesLabel table i (r .at) (r .len)
+pub label-placed : (table : List ℕ) (i : ℕ) (r : Span) → OnTable table i r
+    → PlacesLabel table i (partFrom (r .at) (r .len))
 label-placed table i r on good = ap (λ (x : Span). partFrom (x .at) (x .len)) (on .is good)
 
 pub label-lent : (table : List ℕ) (i : ℕ) (r : Span) (bytes : List ℕ) (from at : ℕ × ℕ) → OnTable table i r
-    → bytes ≡ take (r .len) (drop (r .at) table) → at ≡ movedBy (r .at) from → LendsLabel table i bytes from at
-label-lent table i r bytes from at on content place = (
-  r .at,
-  record {
-    content = λ good. rw (← ap (λ (x : Span). x .at) (on .is good), ← ap (λ (x : Span). x .len) (on .is good)) content;
-    place = λ good. ap (λ (x : Span). x .at) (on .is good);
-  },
-  place,
-)
+    → bytes ≡ take (r .len) (drop (r .at) table) → at ≡ movedBy (r .at) from → LendsLabel table i from bytes at
+label-lent table i r bytes from at on content place good = record {
+  content = rw (← ap (λ (x : Span). x .at) (on .is good), ← ap (λ (x : Span). x .len) (on .is good)) content;
+  place = rw (← ap (λ (x : Span). x .at) (on .is good)) place;
+}

@@ -16,9 +16,8 @@ use Rattle.rules.specs.Reading.{
   absent,
   Reading,
   complete,
-  tooLong,
-  faulted,
-  leftOver,
+  refusing,
+  partFrom,
   reading,
   bitTotal,
   Part,
@@ -28,7 +27,9 @@ use Rattle.rules.specs.Reading.{
   partIn,
 }
 use Rattle.rules.specs.Cover.{InOrder}
-use Rattle.rules.specs.Promises.{ChecksTable, partFrom, partBy, PlacesPart, movedBy, LendsPart}
+use Rattle.rules.specs.Promises.{ChecksTable, partBy, PlacesPart, movedBy, LendsPart}
+use Rattle.rules.specs.Answers.{ofTable}
+use Rattle.laws.proofs.Readings.{reading-told}
 use Rattle.laws.proofs.Cover.{cover-in-order}
 use Rattle.laws.proofs.Decidable.{good-decidable}
 use Rattle.packets.specs.declared.readings.Bytes.{Bytes}
@@ -115,7 +116,7 @@ module _ (table packet : List ℕ) (i : ℕ) where
       go (yes g) = h g
       go (no n) = absurd (n good)
 
-  pub part-not-good : ChecksTable table TableAnswer.NotGood → OnPacket table packet i (bytesOf 0 0)
+  pub part-not-good : ChecksTable table (ofTable TableAnswer.NotGood) → OnPacket table packet i (bytesOf 0 0)
   unfolding partBy
   part-not-good h = none-is go
     where
@@ -125,15 +126,11 @@ module _ (table packet : List ℕ) (i : ℕ) where
 
   open-none : (got : Reading) → ((es : List Entry) → got ≡ complete es → ⊥) → partIn got i ≡ noPart
   open-none (complete es) h = absurd (h es refl)
-  open-none tooLong h = refl
-  open-none (faulted f j) h = refl
-  open-none leftOver h = refl
+  open-none (refusing a) h = refl
 
   past-none : (got : Reading) → ((es : List Entry) → got ≡ complete es → length es ≤ i) → partIn got i ≡ noPart
   past-none (complete es) h = rw (List·getD-eq-default es absent (h es refl))
-  past-none tooLong h = refl
-  past-none (faulted f j) h = refl
-  past-none leftOver h = refl
+  past-none (refusing a) h = refl
 
   pub part-outside : Good table → twoAt table 6 ≤ i → OnPacket table packet i (bytesOf 0 0)
   part-outside good le = by-good good (λ g. past-none (reading (g .description) packet) (λ es e.
@@ -151,7 +148,7 @@ module _ (table packet : List ℕ) (i : ℕ) where
       where
         entries : (g : Good table) → (es : List Entry) × (reading (g .description) packet ≡ complete es)
         entries g =
-            accepted-complete (reading (g .description) packet) packet r
+            accepted-complete (reading (g .description) packet) (reading-told (g .description) packet) packet r
             (reads (g .description) (g .within) (g .isStored) .answer) h
 
         found : (g : Good table) → partAt numbers i ≡ ofPart (entryPart (getD (entries g .0) i absent))
@@ -174,18 +171,13 @@ module _ (table packet : List ℕ) (i : ℕ) where
 -- ── what is handed back ──
 
 pub part-placed : (table packet : List ℕ) (i : ℕ) (r : Bytes) → OnPacket table packet i r
-    → PlacesPart table packet i (r .start) (r .size)
+    → PlacesPart table packet i (partFrom (r .start) (r .size))
 part-placed table packet i r on good = ap (λ (x : Bytes). partFrom (x .start) (x .size)) (on .is good)
 
 pub field-handed : (table packet : List ℕ) (i : ℕ) (r : Bytes) (bytes : List ℕ) (from at : ℕ × ℕ)
     → OnPacket table packet i r → bytes ≡ take (r .size) (drop (r .start) packet) → at ≡ movedBy (r .start) from
-    → LendsPart table packet i bytes from at
-field-handed table packet i r bytes from at on content place = (
-  r .start,
-  record {
-    content = λ good.
-        rw (← ap (λ (x : Bytes). x .start) (on .is good), ← ap (λ (x : Bytes). x .size) (on .is good)) content;
-    place = λ good. ap (λ (x : Bytes). x .start) (on .is good);
-  },
-  place,
-)
+    → LendsPart table packet i from bytes at
+field-handed table packet i r bytes from at on content place good = record {
+  content = rw (← ap (λ (x : Bytes). x .start) (on .is good), ← ap (λ (x : Bytes). x .size) (on .is good)) content;
+  place = rw (← ap (λ (x : Bytes). x .start) (on .is good)) place;
+}

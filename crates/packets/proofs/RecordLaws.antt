@@ -10,15 +10,7 @@ use Rattle.base.proofs.Places.{stands-join, stands-left, stands-right}
 use Rattle.laws.proofs.PlacesOfNumbers.{length-le2, stands-two, two-stands}
 use Rattle.rules.specs.Trees.{Tree, le2}
 use Rattle.rules.specs.Fields.{Width, fixed, measured, rest, Field}
-use Rattle.rules.specs.Stored.{
-  counted,
-  kindNumber,
-  storedWidth,
-  storedName,
-  storedMaybe,
-  fieldBody,
-  storedField,
-}
+use Rattle.rules.specs.Stored.{counted, kindNumber, storedWidth, storedName, storedMaybe, fieldBody, storedField, storedFieldIn}
 use Rattle.packets.specs.Parts.{ending, spanAt, widthAt, partsAt}
 use Rattle.packets.specs.PartsStand.{In, WidthStands, PartsStand}
 use Rattle.packets.proofs.PartsLaws.{counted-in, counted-build, WidthBounds, width-in, width-build}
@@ -84,7 +76,7 @@ moved s a m b l e p = rw e at p
 
 pub record-parts : (s : List ℕ) (at next : ℕ) (f : Field ℕ) → Bounds f → Stands s at (storedField f) next
     → PartsStand s (partsAt s at) f × (partsAt s at .next ≡ next) × (at + twoAt s at ≡ next)
-unfolding storedField fieldBody partsAt
+unfolding storedFieldIn fieldBody partsAt
 record-parts s at next f b p =
     let k = kindNumber (f .width) in
     let q₀ = two-front s at next _ _ (b .body) p in
@@ -122,7 +114,7 @@ width-next s a rest = omega arith
 pub record-build : (s : List ℕ) (at : ℕ) (f : Field ℕ) → IsBytes s → partsAt s at .next ≤ length s
     → at + twoAt s at ≡ partsAt s at .next → PartsStand s (partsAt s at) f → Stands s at (storedField f)
     (partsAt s at .next)
-unfolding storedField fieldBody partsAt
+unfolding storedFieldIn fieldBody partsAt
 record-build s at f h le e p =
     let k = kindNumber (f .width) in
     let ek : twoAt s (at + 2) ≡ k = p .kind in

@@ -15,12 +15,12 @@ use Rattle.rules.specs.Limits.{fieldsMost}
 use Rattle.rules.specs.Trees.{le2}
 use Rattle.rules.specs.Fields.{Field, Description}
 use Rattle.rules.specs.Within.{Within}
-use Rattle.rules.specs.Stored.{recordOf, counted, headBody, storedField, stored}
+use Rattle.rules.specs.Stored.{recordOf, counted, headBody, storedField, stored, storedIn}
 use Rattle.laws.proofs.PlacesOfNumbers.{length-le2, stands-two}
 use Rattle.laws.proofs.ReadsFields.{label-length}
 use Rattle.packets.proofs.TableParts.{head-length}
 
-pub count-most : (d : Description) → Within d → length (d .fields) ≤ 64
+pub count-most : (d : Description) → Within d → length (d .fields) ≤ fieldsMost
 count-most d w = leb-true _ _ (and-true (leb 1 (length (d .fields))) (leb (length (d .fields)) fieldsMost)
     (w .count) .1)
 
@@ -28,7 +28,7 @@ count-most d w = leb-true _ _ (and-true (leb 1 (length (d .fields))) (leb (lengt
 
 module _ (d : Description) (s : List ℕ) (is : stored d ≡ s) where
   whole : Stands s 0 (recordOf 1 (headBody d) ++ (joined storedField (d .fields) ++ recordOf 5 [])) (length s)
-  unfolding stored
+  unfolding storedIn
   whole = rw is (stands-all s)
 
   -- a number of the first record, behind the bytes w

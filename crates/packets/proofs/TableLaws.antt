@@ -13,7 +13,7 @@ use Rattle.base.proofs.Lists.{and-left, and-right, and-both, not-both}
 use Rattle.base.proofs.Places.{stands-join, stands-left, stands-right}
 use Rattle.rules.specs.declared.TableAnswer.{TableAnswer}
 use Rattle.rules.specs.Fields.{Field, Description}
-use Rattle.rules.specs.Stored.{recordOf, storedField, headBody, stored, Good}
+use Rattle.rules.specs.Stored.{recordOf, storedField, headBody, stored, Good, storedIn}
 use Rattle.rules.specs.Answers.{ofTable}
 use Rattle.rules.specs.Promises.{ChecksTable}
 use Rattle.packets.specs.declared.tables.Walked.{Walked}
@@ -43,7 +43,7 @@ walked s = walkAt (twoAt s 4) (twoAt s 6) [] 0 false s (10 + twoAt s 8)
 good-of : (s : List ℕ) (at : ℕ) (l : List (Field ℕ)) → IsBytes s → HeadIs s → length l ≡ twoAt s 6
     → FieldsIn (twoAt s 4) [] 0 s (10 + twoAt s 8) at l → lastTest s at ≡ true
     → namesTest s (twoAt s 6) (10 + twoAt s 8) ≡ true → Good s
-unfolding stored
+unfolding storedIn
 good-of s at l b h count fields last names =
     let from = 10 + twoAt s 8 in
     let d : Description = record { name = bytesIn s (spanAt s 8); rowWidth = twoAt s 4; fields = l } in
@@ -59,7 +59,7 @@ good-of s at l b h count fields last names =
         form = fields .form;
         size = fields .size;
         names = names-sound s l from at (fields .form) (fields .size) (fields .stands) (rw count names);
-        kinds = fields .kinds;
+        types = fields .types;
         rests = fields .rests;
         rows = fields .rows;
       };
@@ -81,7 +81,7 @@ table-sound s b h =
 -- ── complete ──
 
 pub table-complete : (s : List ℕ) → Good s → tableTest s ≡ true
-unfolding tableTest stored any
+unfolding tableTest storedIn any
 table-complete s g =
     let d = g .description in
     let w = g .within in
@@ -100,7 +100,7 @@ table-complete s g =
       stands = fields;
       form = w .form;
       size = w .size;
-      kinds = w .kinds;
+      types = w .types;
       rests = w .rests;
       rows = w .rows;
     }) in
@@ -114,12 +114,12 @@ table-complete s g =
 
 -- ── the answer ──
 
-pub accepts : (s : List ℕ) → IsBytes s → tableTest s ≡ true → ChecksTable s (TableAnswer.Good (length s))
+pub accepts : (s : List ℕ) → IsBytes s → tableTest s ≡ true → ChecksTable s (ofTable (TableAnswer.Good (length s)))
 unfolding ofTable
 accepts s b h (yes good) = refl
 accepts s b h (no bad) = absurd (bad (table-sound s b h))
 
-pub refuses : (s : List ℕ) → tableTest s ≡ false → ChecksTable s TableAnswer.NotGood
+pub refuses : (s : List ℕ) → tableTest s ≡ false → ChecksTable s (ofTable TableAnswer.NotGood)
 unfolding ofTable
 refuses s h (yes good) = absurd (not-both (tableTest s) (table-complete s good) h)
 refuses s h (no bad) = refl

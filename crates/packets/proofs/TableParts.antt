@@ -18,7 +18,7 @@ use Rattle.rules.specs.Limits.{fieldsMost}
 use Rattle.rules.specs.Trees.{le2}
 use Rattle.rules.specs.Fields.{Field, Description}
 use Rattle.rules.specs.Within.{isRowWidth, keepsForm, keepsSize, Within}
-use Rattle.rules.specs.Stored.{counted, recordOf, storedField, headBody, stored}
+use Rattle.rules.specs.Stored.{counted, recordOf, storedField, headBody, stored, storedIn}
 use Rattle.laws.proofs.PlacesOfNumbers.{length-le2}
 use Rattle.laws.proofs.ReadsFields.{label-length}
 use Rattle.laws.proofs.Unique.{row-bound, count-bound}
@@ -31,6 +31,7 @@ use Rattle.packets.proofs.RecordLaws.{two-front, front-two, moved}
 use Rattle.packets.proofs.FieldBounds.{length-counted, field-sizes, body-size, record-size}
 use Rattle.packets.proofs.PartBytes.{bytes-stand, bytes-are, in-length}
 use Rattle.packets.proofs.TableSteps.{HeadIs}
+use Rattle.rules.specs.Editions.{current}
 
 -- ── the first record ──
 
@@ -80,7 +81,7 @@ head-found s d end w le st =
     let q₁ = two-front s 0 end (4 + length (headBody d)) _ (omega arith) st in
     let q₂ = two-front s 2 end 1 _ (omega arith) (q₁ .1) in
     let q₃ = two-front s 4 end (d .rowWidth) _ (row-bound (d .rowWidth) (w .row)) (q₂ .1) in
-    let q₄ = two-front s 6 end (length (d .fields)) _ (count-bound (length (d .fields)) (w .count)) (q₃ .1) in
+    let q₄ = two-front s 6 end (length (d .fields)) _ (count-bound current (length (d .fields)) (w .count)) (q₃ .1) in
     let q₅ = counted-in s 8 end (d .name) (omega arith) (q₄ .1) in
     let next : end ≡ 10 + twoAt s 8 = omega (arith, q₅ .1) in
     let size : twoAt s 0 ≡ 10 + twoAt s 8 = omega (arith, q₁ .0, hl, in-length s (spanAt s 8) (d .name) (q₅ .0)) in
@@ -89,7 +90,7 @@ head-found s d end w le st =
           (and-both (eqb (twoAt s 0) (10 + twoAt s 8)) _ (eq-eqb _ _ size)
           (and-both (eqb (twoAt s 2) 1) _ (eq-eqb _ _ (q₂ .0))
           (and-both (isRowWidth (twoAt s 4)) _ (rw (q₃ .0) (w .row))
-          (and-both (between 1 (twoAt s 6) 64) _ (rw (q₄ .0) (w .count))
+          (and-both (between 1 (twoAt s 6) fieldsMost) _ (rw (q₄ .0) (w .count))
           (rw (bytes-are s (spanAt s 8) (d .name) (q₅ .0)) (w .name))))));
       row = q₃ .0;
       count = q₄ .0;
@@ -138,7 +139,7 @@ fields-length before (f ∷ l) form size =
     omega (arith, length-append (storedField f) (joined storedField l), record-size f, z, r)
 
 pub table-length : (d : Description) → Within d → length (stored d) ≤ tableMost
-unfolding stored
+unfolding storedIn
 table-length d w =
     let head = recordOf 1 (headBody d) in
     let fields = joined storedField (d .fields) in

@@ -1,4 +1,4 @@
-// The number, place and value of a packet's answer.
+// The number, place and amount of a packet's answer.
 use rules::Fault;
 use rules::PacketAnswer;
 ghost use mathlib.Core.Path.{_≡_};
@@ -42,8 +42,8 @@ pub fn place_of(answer: PacketAnswer) -> usize
     }
 }
 
-pub fn value_of(answer: PacketAnswer) -> usize
-    ensures { λ r. ⌜ r ≡ ofPacket answer .value ⌝ }
+pub fn amount_of(answer: PacketAnswer) -> usize
+    ensures { λ r. ⌜ r ≡ ofPacket answer .amount ⌝ }
 {
     match answer {
         PacketAnswer::Accepted(value) => value,

@@ -1,20 +1,22 @@
 // Fields of a table by index and by name.
 use crate::readings::Bytes;
 use crate::records::Parts;
-use crate::records::Span;
-use crate::records::TABLE_MOST;
 use crate::records::parts_at;
 use crate::records::two_at;
 use crate::tables::check_table;
 use names::words::same_words;
 use rules::FieldAnswer;
+use rules::TABLE_MOST;
 use rules::TableAnswer;
+use writing::spans::Span;
 ghost use mathlib.Core.Path.{_≡_};
 ghost use Prim.Native.Nat.{_≤_};
 ghost use denote.Ref.{ptr};
 ghost use Rattle.base.specs.Places.{twoAt};
+ghost use Rattle.rules.specs.Reading.{partFrom};
 ghost use Rattle.rules.specs.Promises.{FindsField, PlacesLabel, LendsLabel};
 ghost use Rattle.packets.specs.Lookups.{placeFrom, isNamedIn, hasName, findFrom, OnTable};
+ghost use Rattle.rules.specs.Answers.{ofField};
 
 // The place behind n records.
 fn place_behind(table: &[u8], n: usize) -> usize
@@ -84,7 +86,7 @@ fn find_from(table: &[u8], name: &[u8], n: usize, place: usize) -> FieldAnswer
 
 // The index of the first field that has the name as its label or short name.
 pub fn field_index(table: &[u8], name: &[u8]) -> FieldAnswer
-    ensures { λ r. ⌜ FindsField (now (table .entry)) (now (name .entry)) r ⌝ }
+    ensures { λ r. ⌜ FindsField (now (table .entry)) (now (name .entry)) (ofField r) ⌝ }
 {
     let checked = check_table(table);
     let TableAnswer::Good(size) = checked else {
@@ -124,7 +126,7 @@ fn find_label(table: &[u8], index: usize) -> Span
 
 // Where the label of the field of an index lies in the table.
 pub fn label_place(table: &[u8], index: usize) -> Bytes
-    ensures { λ r. ⌜ PlacesLabel (now (table .entry)) index (r .start) (r .size) ⌝ }
+    ensures { λ r. ⌜ PlacesLabel (now (table .entry)) index (partFrom (r .start) (r .size)) ⌝ }
 {
     let label = find_label(table, index);
     Bytes {
@@ -135,7 +137,7 @@ pub fn label_place(table: &[u8], index: usize) -> Bytes
 
 // The label of the field of an index, as that part of the table.
 pub fn field_label<'a>(table: &'a [u8], index: usize) -> &'a [u8]
-    ensures { λ r. ⌜ LendsLabel (now (table .entry)) index (now r) (ptr (table .entry)) (ptr r) ⌝ }
+    ensures { λ r. ⌜ LendsLabel (now (table .entry)) index (ptr (table .entry)) (now r) (ptr r) ⌝ }
 {
     let label = find_label(table, index);
     let start = label.at;

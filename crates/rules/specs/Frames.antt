@@ -118,17 +118,17 @@ lineNumber f i = suc (length (headLines f)) + i
 -- ── the cells in order ──
 
 -- a cell of a long row, or of some bits
-pub record Shown : Type 0 where
+pub record Slot : Type 0 where
   pub long : Bool
   pub bits : ℕ
   pub text : List ℕ
 
-abbrev pub shownIn : Row → List Shown
-shownIn (bitRow cs) = map (λ c. record { long = false; bits = c .bits; text = c .text }) cs
-shownIn (longRow c) = record { long = true; bits = c .bits; text = c .text } ∷ []
+abbrev pub slotsIn : Row → List Slot
+slotsIn (bitRow cs) = map (λ c. record { long = false; bits = c .bits; text = c .text }) cs
+slotsIn (longRow c) = record { long = true; bits = c .bits; text = c .text } ∷ []
 
-unfoldable pub cells : Frame → List Shown
-cells f = joined shownIn (f .rows)
+unfoldable pub cells : Frame → List Slot
+cells f = joined slotsIn (f .rows)
 
 -- over 64 cells or field lines [01, Refusal numbers]
 abbrev pub isOverfull : Frame → Bool

@@ -1,5 +1,8 @@
 -- The limits of document 01, each in one place.
+use mathlib.Core.Bool.{Bool}
+use mathlib.Core.List.{List, [], _∷_}
 use Prim.Native.Nat.{ℕ}
+use lib.Dec.{leb}
 
 -- [01, Refusal numbers] bytes of a text, fields, bytes of a packet
 abbrev pub textMost : ℕ
@@ -22,6 +25,10 @@ shortMost = 8
 abbrev pub numberMost : ℕ
 numberMost = 4_294_967_295
 
+-- 01's 'values': the numbers of the range
+abbrev pub isValue : ℕ → Bool
+isValue n = leb n numberMost
+
 abbrev pub openMost : ℕ
 openMost = 12
 
@@ -34,3 +41,18 @@ storedMost = 120
 -- [01, Fields] the bits of a fixed field
 abbrev pub fixedMost : ℕ
 fixedMost = 32
+
+-- all of them, in this order
+abbrev pub limits : List ℕ
+limits =
+    textMost
+    ∷ fieldsMost
+    ∷ packetMost
+    ∷ labelMost
+    ∷ shortMost
+    ∷ numberMost
+    ∷ openMost
+    ∷ depthMost
+    ∷ storedMost
+    ∷ fixedMost
+    ∷ []

@@ -13,7 +13,7 @@ use Rattle.rules.specs.Limits.{textMost}
 use Rattle.rules.specs.Names.{isAllowed, lineFeed}
 use Rattle.rules.specs.Fields.{Form}
 use Rattle.rules.specs.Within.{keepsSize, keepsNames, keepsTypes, keepsRest, nameReadable}
-use Rattle.rules.specs.Lines.{SpellsField, Written}
+use Rattle.rules.specs.Lines.{SpellsField, Unresolved}
 use Rattle.rules.specs.Frames.{Frame, isFrame, frameText, FrameOf, lineNumber, cells, isOverfull}
 use Rattle.rules.specs.Spelling.{mismatch}
 
@@ -47,7 +47,7 @@ pub record RightLines (text : List ℕ) (k : ℕ) : Type 0 where
 
 -- no form spells the line
 abbrev pub Formless : List ℕ → Type 0
-Formless l = (x : Form) → SpellsField Written x l → ⊥
+Formless l = (x : Form) → SpellsField Unresolved x l → ⊥
 
 -- the first line without a form has the index i
 pub record FirstFormless (lines : List (List ℕ)) (i : ℕ) : Type 0 where
@@ -92,4 +92,4 @@ pub data Refuses (text : List ℕ) : Answer → Type 0 where
   form : {f : Frame} {i : ℕ} → Framed text f → FirstFormless (f .lines) i
       → Refuses text (refused 5 (lineNumber f i))
   rule : {f : Frame} {a : Answer} (forms : List Form) → Framed text f
-      → Each (SpellsField Written) forms (f .lines) → ruleBroken f forms ≡ some a → Refuses text a
+      → Each (SpellsField Unresolved) forms (f .lines) → ruleBroken f forms ≡ some a → Refuses text a

@@ -13,9 +13,9 @@ use Rattle.base.specs.Lists.{all, any, same, lastIs, listOf}
 use Rattle.base.proofs.Lists.{not-both}
 use Rattle.rules.specs.Names.{isLabel, noTwoSpaces}
 use Rattle.rules.specs.Fields.{Width, fixed, measured, rest, Form, cellNames}
-use Rattle.rules.specs.Frames.{Shown}
+use Rattle.rules.specs.Frames.{Slot}
 use Rattle.rules.specs.Spelling.{isPlaceFor}
-use Rattle.texts.specs.FrameReader.{leftTrim, rightTrim}
+use Rattle.text_laws.specs.FrameReader.{leftTrim, rightTrim}
 use Rattle.texts.specs.LinePlaces.{spanIn, WidthIs, ShortIs, LineOf}
 use Rattle.texts.specs.Mismatches.{shownOf, isNameIn, isPlaceIn, ShowsIs}
 use Rattle.writing.specs.declared.spans.Span.{Span}
@@ -72,7 +72,7 @@ name-is text name x p o h =
     ap (λ (l : List ℕ). same name l || same name (spanIn (spanIn text (p .line)) (p .short))) (o .parts .label)
     ∙ short-is name (spanIn text (p .line)) (x .label) (p .short) h (x .short) (o .parts .short)
 
-width-is : (s : List ℕ) (c : Shown) (u : Width (List ℕ)) (kind b : ℕ) (t : TreeAt) → WidthIs s u kind b t
+width-is : (s : List ℕ) (c : Slot) (u : Width (List ℕ)) (kind b : ℕ) (t : TreeAt) → WidthIs s u kind b t
     → cond (eqb kind 2) (not (c .long) && eqb (c .bits) b) (c .long) ≡ isPlaceFor c u
 width-is s c (fixed n) kind b t h = rw (h .0, h .1) refl
 width-is s c (measured u m) kind b t h = rw (h .0) refl

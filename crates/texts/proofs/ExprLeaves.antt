@@ -17,8 +17,8 @@ use Rattle.rules.specs.Limits.{numberMost}
 use Rattle.rules.specs.Operators.{operator, operators}
 use Rattle.rules.specs.Names.{isLetter, isDigit, isOperator, isSpace, classOf, isWordByte, isShort}
 use Rattle.rules.specs.Trees.{depth, storedTree, le4}
-use Rattle.rules.specs.Reader.{word, behind, scan, value, isNumeral, isNumberWord, leaf}
-use Rattle.rules.proofs.ReaderWords.{word-behind}
+use Rattle.text_laws.specs.Reader.{word, behind, scan, wordValue, isNumeral, isNumberWord, leaf}
+use Rattle.text_laws.proofs.ReaderWords.{word-behind}
 use Rattle.texts.specs.ExprPlaces.{SameRead, WithinRead, LeafAt}
 use Rattle.texts.specs.declared.leaves.Read.{Read}
 use Rattle.texts.specs.declared.leaves.Read.the-variants.{Nothing, At}
@@ -92,7 +92,7 @@ number-empty [] e = refl
 number-empty (c ∷ w) e = absurd (omega arith)
 
 pub number-zero : (w : List ℕ) → 0 < length w → getD w 0 0 ≡ 48 → eqb (length w) 1 ≡ isNumberWord w
-unfolding isNumberWord isNumeral isDigit all value scan
+unfolding isNumberWord isNumeral isDigit all wordValue scan
 number-zero [] lt e = absurd (omega arith)
 number-zero (c ∷ []) lt e = rw e refl
 number-zero (c ∷ d ∷ w) lt e =
@@ -105,16 +105,16 @@ number-other [] e = refl
 number-other (c ∷ w) e = go (isDigit c) (all isDigit w) e
   where
     go : (x y : Bool) → (x && y) ≡ false
-        → (x && (y && (leb 49 c || isEmpty w)) && leb (value (c ∷ w)) numberMost) ≡ false
+        → (x && (y && (leb 49 c || isEmpty w)) && leb (wordValue (c ∷ w)) numberMost) ≡ false
     go true true q = let z : _≡_ {A = ℕ} 0 1 = cc in absurd (omega arith)
     go true false q = refl
     go false y q = refl
 
-pub number-large : (w : List ℕ) → numberMost < value w → isNumberWord w ≡ false
+pub number-large : (w : List ℕ) → numberMost < wordValue w → isNumberWord w ≡ false
 unfolding isNumberWord
-number-large w lt = rw (lt-leb (value w) numberMost lt) (and-false (isNumeral w))
+number-large w lt = rw (lt-leb (wordValue w) numberMost lt) (and-false (isNumeral w))
 
-pub number-yes : (w : List ℕ) → 0 < length w → (getD w 0 0 ≡ 48 → ⊥) → all isDigit w ≡ true → value w ≤ numberMost
+pub number-yes : (w : List ℕ) → 0 < length w → (getD w 0 0 ≡ 48 → ⊥) → all isDigit w ≡ true → wordValue w ≤ numberMost
     → isNumberWord w ≡ true
 unfolding isNumberWord isNumeral all
 number-yes [] lt ne a le = absurd (omega arith)
@@ -123,7 +123,7 @@ number-yes (c ∷ w) lt ne a le =
     let r = digit-range c d in
     let ge : 48 ≤ c = r .0 in
     let ge′ : 49 ≤ c = omega (arith, ne) in
-    rw (d, and-right (isDigit c) (all isDigit w) a, le-leb 49 c ge′, le-leb (value (c ∷ w)) numberMost le) refl
+    rw (d, and-right (isDigit c) (all isDigit w) a, le-leb 49 c ge′, le-leb (wordValue (c ∷ w)) numberMost le) refl
 
 -- ── a leaf ──
 

@@ -10,10 +10,10 @@ use lib.ListN.{length, drop, getD, length-drop}
 use lib.Seq.{drop-cons, drop-length, drop-drop, getD-drop}
 use Rattle.rules.specs.declared.Op.{Op}
 use Rattle.rules.specs.Names.{isSpace, isOperator}
-use Rattle.rules.specs.Reader.{Found, missing, found, firstOf, order, skip, skipBehind, operatorAt}
+use Rattle.text_laws.specs.Reader.{Found, missing, found, firstOf, order, skip, skipBehind, operatorAt}
 use Rattle.operators.specs.declared.symbols.Symbol.{Symbol}
 use Rattle.operators.specs.Symbols.{symbolOf}
-use Rattle.operators.proofs.FirstSymbol.{foundBy, first-symbol, first-none, Sized, symbol-sized}
+use Rattle.texts.proofs.FirstSymbol.{foundBy, first-symbol, first-none, Sized, symbol-sized}
 use Rattle.texts.specs.ExprPlaces.{SameSign, WithinSign}
 use Rattle.texts.specs.declared.signs.Sign.{Sign}
 use Rattle.texts.specs.declared.signs.Sign.the-variants as sign

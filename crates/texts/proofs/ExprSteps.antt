@@ -13,9 +13,9 @@ use borrow.Author.Tests.{le-leb, lt-leb, ne-eqb}
 use Rattle.rules.specs.declared.Op.{Op}
 use Rattle.rules.specs.Operators.{level, leftLevel, rightLevel, atomLevel}
 use Rattle.rules.specs.Trees.{Tree, two, negation, depth, storedTree, storedLength}
-use Rattle.rules.specs.Reader.{Out, fail, got, Found, missing, found, operatorAt, close, inside, atom, step}
-use Rattle.rules.specs.Reader.{andThen}
-use Rattle.rules.specs.Reader.{expr, more}
+use Rattle.text_laws.specs.Reader.{Out, fail, got, Found, missing, found, operatorAt, close, inside, atom, step}
+use Rattle.text_laws.specs.Reader.{andThen}
+use Rattle.text_laws.specs.Reader.{expr, more}
 use Rattle.texts.specs.ExprPlaces.{SameRead, WithinRead, SameSign, Adds, LeafAt, ExprAt, AtomAt}
 use Rattle.texts.specs.ExprPlaces.{ClosedAt, InsideAt, MoreAt, NextAt, WithinNext}
 use Rattle.texts.specs.declared.expressions.Next.{Next}

@@ -14,8 +14,8 @@ use borrow.Author.Tests.{le-leb, lt-leb, eq-eqb, ne-eqb}
 use Rattle.base.specs.Bytes.{bytes}
 use Rattle.base.specs.Lists.{all, same, isNone}
 use Rattle.rules.specs.Names.{isPrintable}
-use Rattle.rules.specs.Reader.{after, word, behind}
-use Rattle.texts.specs.LineReader.{begins, isRemark, unitOf, readUnit}
+use Rattle.text_laws.specs.Reader.{after, word, behind}
+use Rattle.text_laws.specs.LineReader.{begins, isRemark, unitOf, readUnit}
 use Rattle.texts.specs.FieldPlaces.{unless0, SameBits, WithinBits}
 use Rattle.texts.specs.declared.units.Bits.the-variants as bits
 use Rattle.texts.proofs.ExprLeaves.{word-part}

@@ -11,19 +11,19 @@ use borrow.Author.Tests.{ne-eqb}
 use Rattle.base.specs.Bytes.{bytes}
 use Rattle.base.specs.Lists.{same, joined}
 use Rattle.base.proofs.Joined.{joined-append, joined-one}
-use Rattle.rules.specs.Frames.{Row, shownIn, tens, units, border}
+use Rattle.rules.specs.Frames.{Row, slotsIn, tens, units, border}
 use Rattle.rules.specs.Within.{isRowWidth}
-use Rattle.texts.specs.FrameReader.{readRow, readName, readTens, Top, State, begun, named, spaced, ruled}
-use Rattle.texts.specs.FrameReader.{counted, bordered, rowed, closed, headed, filled, onName, onWidth, onRow}
-use Rattle.texts.specs.FrameReader.{rowOrEnd, opened, onSame, step}
+use Rattle.text_laws.specs.FrameReader.{readRow, readName, readTens, Top, State, begun, named, spaced, ruled}
+use Rattle.text_laws.specs.FrameReader.{counted, bordered, rowed, closed, headed, filled, onName, onWidth, onRow}
+use Rattle.text_laws.specs.FrameReader.{rowOrEnd, opened, onSame, step}
 use Rattle.texts.specs.FramePlaces.{widthOr, isSome}
 use Rattle.texts.specs.FrameWalk.{rowCount, cellCount, view, viewOr, when, widthView, rowView}
 use Rattle.texts.specs.FrameWalk.{rowOrEndView, stepView, isWrong, Counts, Most}
 use Rattle.texts.specs.declared.walks.Stage.{Stage}
 use Rattle.texts.specs.declared.walks.Stage.the-variants as stage
-use Rattle.texts.proofs.RowReader.{Reads, row-sound}
+use Rattle.text_laws.proofs.RowReader.{Reads, row-sound}
 use Rattle.texts.proofs.RowTally.{row-most, row-some}
-use Rattle.texts.proofs.FrameStates.{Sane, width-cases}
+use Rattle.text_laws.proofs.FrameStates.{Sane, width-cases}
 
 -- ── one line ──
 
@@ -80,7 +80,7 @@ row-view : (h : Top) (rows : List Row) (l : List ℕ) → isRowWidth (h .rowWidt
 unfolding onRow
 row-view h rows l t none p = refl
 row-view h rows l t (some r) p =
-    rw (ne-eqb (length (shownIn r)) 0 (row-some (h .rowWidth) r (p .0) (wide (h .rowWidth) t))) refl
+    rw (ne-eqb (length (slotsIn r)) 0 (row-some (h .rowWidth) r (p .0) (wide (h .rowWidth) t))) refl
 
 border-view : (h : Top) (rows : List Row) (l : List ℕ) → isRowWidth (h .rowWidth) ≡ true
     → viewOr (rowOrEnd h rows l) ≡ rowOrEndView (h .rowWidth) (length rows) (cellCount rows) l
@@ -93,13 +93,13 @@ border-view h (r ∷ rows) [] t = rw (ne-eqb (suc (length rows)) 0 (λ e. absurd
 
 more-view : (h : Top) (rows : List Row) (r : Row)
     → view (bordered h (rows ++ (r ∷ [])))
-    ≡ stage.Bordered (h .rowWidth) (length rows + 1) (cellCount rows + length (shownIn r))
+    ≡ stage.Bordered (h .rowWidth) (length rows + 1) (cellCount rows + length (slotsIn r))
 more-view h rows r =
     let n : length (rows ++ (r ∷ [])) ≡ length rows + 1 = length-append rows (r ∷ []) in
-    let k : cellCount (rows ++ (r ∷ [])) ≡ cellCount rows + length (shownIn r)
-    = ap length (joined-append shownIn rows (r ∷ []))
-    ∙ length-append (joined shownIn rows) (joined shownIn (r ∷ []))
-    ∙ ap (λ m. cellCount rows + length m) (joined-one shownIn r) in
+    let k : cellCount (rows ++ (r ∷ [])) ≡ cellCount rows + length (slotsIn r)
+    = ap length (joined-append slotsIn rows (r ∷ []))
+    ∙ length-append (joined slotsIn rows) (joined slotsIn (r ∷ []))
+    ∙ ap (λ m. cellCount rows + length m) (joined-one slotsIn r) in
     rw (n, k) refl
 
 pub step-view : (s : State) (l : List ℕ) → Sane s → viewOr (step s l) ≡ stepView (view s) l

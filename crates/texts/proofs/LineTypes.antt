@@ -17,7 +17,7 @@ use Rattle.rules.specs.Trees.{Tree, num, read, two, negation, hasType, storedTr
 use Rattle.rules.specs.Fields.{Width, fixed, measured, rest, Form, widthTrees, trees}
 use Rattle.rules.specs.Within.{keepsTypes, widthHasType, nameReadable, isFormed}
 use Rattle.rules.specs.Expressions.{SpellsAt, number, field, two-sided, negated, parentheses}
-use Rattle.rules.specs.Lines.{SpellsWidth, SpellsMaybe, SpellsField, Written}
+use Rattle.rules.specs.Lines.{SpellsWidth, SpellsMaybe, SpellsField, Unresolved}
 use Rattle.names.specs.Repeats.{firstFrom}
 use Rattle.texts.specs.LinePlaces.{lineAt, LinesFor}
 use Rattle.texts.specs.LineTests.{heldShort, typesKept}
@@ -51,7 +51,7 @@ type-same p f g h k (two o x y) e =
 type-same p f g h k (negation x) e = rw (type-same p f g h YesNo x e) refl
 
 -- those of a line that is not yet resolved are short names
-tree-short : {k b : ℕ} {t : Tree (List ℕ)} {s : List ℕ} → SpellsAt Written k b t s → allNames isShort t ≡ true
+tree-short : {k b : ℕ} {t : Tree (List ℕ)} {s : List ℕ} → SpellsAt Unresolved k b t s → allNames isShort t ≡ true
 unfolding allNames
 tree-short (number le e) = refl
 tree-short (field h) = h .1
@@ -59,14 +59,14 @@ tree-short (two-sided g h le p q) = and-both _ _ (tree-short p) (tree-short q)
 tree-short (negated p) = tree-short p
 tree-short (parentheses p) = tree-short p
 
-width-short : (v : Width (List ℕ)) (s : List ℕ) → SpellsWidth Written v s
+width-short : (v : Width (List ℕ)) (s : List ℕ) → SpellsWidth Unresolved v s
     → all (allNames isShort) (widthTrees v) ≡ true
 unfolding all
 width-short (fixed n) s h = refl
 width-short (measured u t) s h = and-both (allNames isShort t) true (tree-short (h .spelled)) refl
 width-short rest s h = refl
 
-maybe-short : (phrase : List ℕ) (o : Option (Tree (List ℕ))) (s : List ℕ) → SpellsMaybe Written phrase o s
+maybe-short : (phrase : List ℕ) (o : Option (Tree (List ℕ))) (s : List ℕ) → SpellsMaybe Unresolved phrase o s
     → ifAny (allNames isShort) o ≡ true
 maybe-short phrase none s h = refl
 maybe-short phrase (some t) s h = tree-short (h .2)
@@ -78,11 +78,11 @@ pub record ShortNames (x : Form) : Type 0 where
   pub constraint : ifAny (allNames isShort) (x .constraint) ≡ true
   pub condition : ifAny (allNames isShort) (x .condition) ≡ true
 
-pub spelled-short : (x : Form) (l : List ℕ) → SpellsField Written x l → ShortNames x
+pub spelled-short : (x : Form) (l : List ℕ) → SpellsField Unresolved x l → ShortNames x
 spelled-short x l h = record {
-  width = width-short (x .width) (h .width) (h .isWidth);
-  constraint = maybe-short _ (x .constraint) (h .constraint) (h .isConstraint);
-  condition = maybe-short _ (x .condition) (h .condition) (h .isCondition);
+  width = width-short (x .width) (h .line .width) (h .line .isWidth);
+  constraint = maybe-short _ (x .constraint) (h .line .constraint) (h .line .isConstraint);
+  condition = maybe-short _ (x .condition) (h .line .condition) (h .line .isCondition);
 }
 
 width-same : (f g : List ℕ → Bool) → ((w : List ℕ) → isShort w ≡ true → f w ≡ g w) → (v : Width (List ℕ))

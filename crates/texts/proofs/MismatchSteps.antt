@@ -15,18 +15,18 @@ use Rattle.base.specs.Lists.{all, joined, tabulate}
 use Rattle.base.proofs.Lists.{and-left, and-right, and-both}
 use Rattle.rules.specs.Names.{isLabel, lineFeed}
 use Rattle.rules.specs.Fields.{Form}
-use Rattle.rules.specs.Frames.{border, borderAt, isCell, Row, bitRow, longRow, isRow, isLine, ended, Shown}
-use Rattle.rules.specs.Frames.{shownIn}
+use Rattle.rules.specs.Frames.{border, borderAt, isCell, Row, bitRow, longRow, isRow, isLine, ended, Slot}
+use Rattle.rules.specs.Frames.{slotsIn}
 use Rattle.rules.specs.Spelling.{shows, mismatch}
-use Rattle.texts.specs.FrameReader.{pieces, rest, leftTrim, rightTrim, cellOf}
+use Rattle.text_laws.specs.FrameReader.{pieces, rest, leftTrim, rightTrim, cellOf}
 use Rattle.texts.specs.FramePlaces.{upTo}
 use Rattle.texts.specs.LinePlaces.{LinesFor, lineAt}
 use Rattle.texts.specs.Mismatches.{shownOf, ShowsIs, endIndex, indexOr, RowsAt, MismatchIs}
 use Rattle.texts.specs.declared.parts.Parts.{Parts}
-use Rattle.texts.proofs.RowReader.{rowLine, rowLines-one, row-line}
+use Rattle.text_laws.proofs.RowReader.{rowLine, rowLines-one, row-line}
 use Rattle.texts.proofs.RowShown.{cellsIn, row-shown}
 use Rattle.texts.proofs.FrameLeaves.{take-rest}
-use Rattle.texts.proofs.FrameStates.{pairs}
+use Rattle.text_laws.proofs.FrameStates.{pairs}
 use Rattle.texts.proofs.SplitSteps.{piece-at, rest-at, piece-none}
 use Rattle.texts.proofs.LineSkips.{line-end}
 
@@ -119,7 +119,7 @@ pub record RowsLeft (text : List ℕ) (at i w : ℕ) (m : Option ℕ) (ms : List
   where
     pub rows : List Row
     pub rowsAt : RowsAt text at w rows ms
-    pub decides : m ≡ mismatch i (joined shownIn rows) (drop i forms)
+    pub decides : m ≡ mismatch i (joined slotsIn rows) (drop i forms)
 
 pub record CellsLeft (text line : List ℕ) (at a i w : ℕ) (m : Option ℕ) (ms : List (List ℕ)) (forms : List Form)
     : Type 0 where
@@ -128,7 +128,7 @@ pub record CellsLeft (text line : List ℕ) (at a i w : ℕ) (m : Option ℕ) (m
   pub rowsAt : RowsAt text at w (row ∷ rows) ms
   pub noRest : rest (getD line 0 0) (drop a line) ≡ []
   pub areCells : all isCell (map cellOf (pieces (getD line 0 0) (drop a line))) ≡ true
-  pub decides : m ≡ mismatch i (cellsIn line a ++ joined shownIn rows) (drop i forms)
+  pub decides : m ≡ mismatch i (cellsIn line a ++ joined slotsIn rows) (drop i forms)
 
 module _ (text : List ℕ) (at i w : ℕ) (m : Option ℕ) (ms : List (List ℕ)) (forms : List Form) where
   none-left : (n : ℕ) → length forms ≡ n → i ≤ n → endIndex i n ≡ indexOr n (mismatch i [] (drop i forms))
@@ -144,7 +144,7 @@ module _ (text : List ℕ) (at i w : ℕ) (m : Option ℕ) (ms : List (List ℕ)
   unfolding joined
   rows-end n k le z x = go (x .rows) (x .rowsAt) (x .decides)
     where
-      go : (rows : List Row) → RowsAt text at w rows ms → m ≡ mismatch i (joined shownIn rows) (drop i forms)
+      go : (rows : List Row) → RowsAt text at w rows ms → m ≡ mismatch i (joined slotsIn rows) (drop i forms)
           → endIndex i n ≡ indexOr n m
       go [] g d = none-left n k le ∙ ap (indexOr n) (sym d)
       go (r ∷ rows) g d = absurd (omega (arith, z, row-end text at w r rows ms g, row-long r))
@@ -154,7 +154,7 @@ module _ (text : List ℕ) (at i w : ℕ) (m : Option ℕ) (ms : List (List ℕ)
   unfolding joined
   rows-line e h lt x = go (x .rows) (x .rowsAt) (x .decides)
     where
-      go : (rows : List Row) → RowsAt text at w rows ms → m ≡ mismatch i (joined shownIn rows) (drop i forms)
+      go : (rows : List Row) → RowsAt text at w rows ms → m ≡ mismatch i (joined slotsIn rows) (drop i forms)
           → CellsLeft text (take (e - at) (drop at text)) at 1 i w m ms forms
       go [] g d = absurd (omega (arith, h, lt, no-row text at w ms g))
       go (r ∷ rows) g d =
@@ -166,7 +166,7 @@ module _ (text : List ℕ) (at i w : ℕ) (m : Option ℕ) (ms : List (List ℕ)
             rowsAt = g;
             noRest = s .noRest;
             areCells = s .areCells;
-            decides = d ∙ ap (λ (c : List Shown). mismatch i (c ++ joined shownIn rows) (drop i forms)) (s .cells);
+            decides = d ∙ ap (λ (c : List Slot). mismatch i (c ++ joined slotsIn rows) (drop i forms)) (s .cells);
           })
 
 -- the line of a long row begins with a colon
@@ -195,9 +195,11 @@ module _ (text line : List ℕ) (at a i w : ℕ) (m : Option ℕ) (ms : List (Li
       cut : pieces (getD line 0 0) (drop a line) ≡ chars ∷ pieces (getD line 0 0) (drop (b + 1) line)
       cut = piece-at (getD line 0 0) line a b h cell-in
 
-      decided : m ≡ mismatch i (shownOf (isLong line) chars ∷ (cellsIn line (b + 1) ++ joined shownIn (x .rows))) (drop i forms)
+      decided : m ≡ mismatch i (shownOf (isLong line) chars ∷ (cellsIn line (b + 1) ++ joined slotsIn (x .rows)))
+          (drop i forms)
       decided = x .decides ∙ ap
-          (λ (ps : List (List ℕ)). mismatch i (map (shownOf (isLong line)) ps ++ joined shownIn (x .rows)) (drop i forms)) cut
+          (λ (ps : List (List ℕ)). mismatch i (map (shownOf (isLong line)) ps ++ joined slotsIn (x .rows))
+          (drop i forms)) cut
 
       cells-are : all isCell (map cellOf (chars ∷ pieces (getD line 0 0) (drop (b + 1) line))) ≡ true
       cells-are = ap (λ (ps : List (List ℕ)). all isCell (map cellOf ps)) (sym cut) ∙ x .areCells
@@ -218,7 +220,7 @@ module _ (text line : List ℕ) (at a i w : ℕ) (m : Option ℕ) (ms : List (Li
 
       module _ (n : ℕ) (k : length forms ≡ n) (below : i < n) (parts : List Parts) (f : LinesFor text forms parts) where
         one : (y : Bool) → ShowsIs chars (isLong line) text (lineAt parts i) y
-            → m ≡ cond y (mismatch (suc i) (cellsIn line (b + 1) ++ joined shownIn (x .rows)) (drop (suc i) forms))
+            → m ≡ cond y (mismatch (suc i) (cellsIn line (b + 1) ++ joined slotsIn (x .rows)) (drop (suc i) forms))
             (some i)
         unfolding mismatch
         one y s =
@@ -266,8 +268,8 @@ module _ (text line : List ℕ) (at a i w : ℕ) (m : Option ℕ) (ms : List (Li
       };
       decides =
           x .decides
-          ∙ ap (λ (l : List ℕ). mismatch i (map (shownOf (isLong line)) (pieces (getD line 0 0) l) ++ joined shownIn (x .rows))
-          (drop i forms)) (drop-of-length-le line {i = a} ge);
+          ∙ ap (λ (l : List ℕ). mismatch i (map (shownOf (isLong line)) (pieces (getD line 0 0) l)
+          ++ joined slotsIn (x .rows)) (drop i forms)) (drop-of-length-le line {i = a} ge);
     }
 
     cells-stuck : s ≡ 0 → ⊥
@@ -281,12 +283,12 @@ module _ (text line : List ℕ) (at a i w : ℕ) (m : Option ℕ) (ms : List (Li
 abbrev pub AllRows : List ℕ → ℕ → List Parts → ℕ → ℕ → ℕ → Type 0
 AllRows text from parts n at i = (w : ℕ) (rs : List Row) (ms : List (List ℕ)) (forms : List Form)
     → RowsAt text from w rs ms → length forms ≡ n → LinesFor text forms parts
-    → RowsLeft text at i w (mismatch 0 (joined shownIn rs) forms) ms forms
+    → RowsLeft text at i w (mismatch 0 (joined slotsIn rs) forms) ms forms
 
 abbrev pub AllCells : List ℕ → ℕ → List Parts → ℕ → List ℕ → ℕ → ℕ → ℕ → Type 0
 AllCells text from parts n line at a i = (w : ℕ) (rs : List Row) (ms : List (List ℕ)) (forms : List Form)
     → RowsAt text from w rs ms → length forms ≡ n → LinesFor text forms parts
-    → CellsLeft text line at a i w (mismatch 0 (joined shownIn rs) forms) ms forms
+    → CellsLeft text line at a i w (mismatch 0 (joined slotsIn rs) forms) ms forms
 
 module _ (text : List ℕ) (from : ℕ) (parts : List Parts) (n : ℕ) where
   pub all-start : AllRows text from parts n from 0
@@ -295,25 +297,25 @@ module _ (text : List ℕ) (from : ℕ) (parts : List Parts) (n : ℕ) where
   module _ (at i : ℕ) (p : AllRows text from parts n at i) (e : ℕ) (h : e ≡ at + upTo lineFeed (drop at text)) where
     pub all-end : (r : ℕ) → e ≤ at → i ≤ n → r ≡ endIndex i n → MismatchIs text from parts n r
     all-end r ge le q w rs ms forms g k f =
-        q ∙ rows-end text at i w (mismatch 0 (joined shownIn rs) forms) ms forms n k le (omega (arith, h, ge))
+        q ∙ rows-end text at i w (mismatch 0 (joined slotsIn rs) forms) ms forms n k le (omega (arith, h, ge))
         (p w rs ms forms g k f)
 
     pub all-line : at < e → AllCells text from parts n (take (e - at) (drop at text)) at 1 i
     all-line lt w rs ms forms g k f =
-        rows-line text at i w (mismatch 0 (joined shownIn rs) forms) ms forms e h lt (p w rs ms forms g k f)
+        rows-line text at i w (mismatch 0 (joined slotsIn rs) forms) ms forms e h lt (p w rs ms forms g k f)
 
   module _ (line : List ℕ) (at a i : ℕ) (p : AllCells text from parts n line at a i) where
     module _ (b : ℕ) (h : b ≡ a + upTo (getD line 0 0) (drop a line)) (lt : a < length line) (le : b ≤ length line)
       where
         pub all-more : n ≤ i → MismatchIs text from parts n i
         all-more ge w rs ms forms g k f =
-            cells-more text line at a i w (mismatch 0 (joined shownIn rs) forms) ms forms (p w rs ms forms g k f) b h lt
+            cells-more text line at a i w (mismatch 0 (joined slotsIn rs) forms) ms forms (p w rs ms forms g k f) b h lt
             le n k ge
 
         pub all-differ : i < n → (y : Bool) → ShowsIs (take (b - a) (drop a line)) (eqb (getD line 0 0) 58) text
             (lineAt parts i) y → y ≡ false → MismatchIs text from parts n i
         all-differ below y s z w rs ms forms g k f =
-            cells-differ text line at a i w (mismatch 0 (joined shownIn rs) forms) ms forms (p w rs ms forms g k f) b h
+            cells-differ text line at a i w (mismatch 0 (joined slotsIn rs) forms) ms forms (p w rs ms forms g k f) b h
             lt le n k below parts f
             (subst (λ (v : Bool). ShowsIs (take (b - a) (drop a line)) (eqb (getD line 0 0) 58) text (lineAt parts i)
             v) z s)
@@ -321,7 +323,7 @@ module _ (text : List ℕ) (from : ℕ) (parts : List Parts) (n : ℕ) where
         pub all-agree : i < n → (y : Bool) → ShowsIs (take (b - a) (drop a line)) (eqb (getD line 0 0) 58) text
             (lineAt parts i) y → y ≡ true → AllCells text from parts n line at (b + 1) (i + 1)
         all-agree below y s z w rs ms forms g k f =
-            cells-agree text line at a i w (mismatch 0 (joined shownIn rs) forms) ms forms (p w rs ms forms g k f) b h
+            cells-agree text line at a i w (mismatch 0 (joined slotsIn rs) forms) ms forms (p w rs ms forms g k f) b h
             lt le n k below parts f
             (subst (λ (v : Bool). ShowsIs (take (b - a) (drop a line)) (eqb (getD line 0 0) 58) text (lineAt parts i)
             v) z s)
@@ -332,9 +334,9 @@ module _ (text : List ℕ) (from : ℕ) (parts : List Parts) (n : ℕ) where
         → drop s (take (length text - at) (drop at text)) ≡ joined ended ns) where
       pub all-done : AllRows text from parts n (at + s) i
       all-done w rs ms forms g k q =
-          cells-done text line at a i w (mismatch 0 (joined shownIn rs) forms) ms forms (p w rs ms forms g k q) ge s f
+          cells-done text line at a i w (mismatch 0 (joined slotsIn rs) forms) ms forms (p w rs ms forms g k q) ge s f
 
       pub all-stuck : s ≡ 0 → MismatchIs text from parts n i
       all-stuck e w rs ms forms g k q = absurd
-          (cells-stuck text line at a i w (mismatch 0 (joined shownIn rs) forms) ms forms (p w rs ms forms g k q) ge
+          (cells-stuck text line at a i w (mismatch 0 (joined slotsIn rs) forms) ms forms (p w rs ms forms g k q) ge
           s f e)

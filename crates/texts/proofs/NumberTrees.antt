@@ -14,15 +14,15 @@ use Rattle.rules.specs.Limits.{openMost}
 use Rattle.rules.specs.Names.{isShort}
 use Rattle.rules.specs.Operators.{level, leftLevel, rightLevel, atomLevel}
 use Rattle.rules.specs.Trees.{Tree, num, read, two, negation}
-use Rattle.rules.specs.Reader.{Out, fail, got, Found, missing, found, word, behind, value, isNumberWord, leaf}
-use Rattle.rules.specs.Reader.{close, inside, atom, step, andThen, expr, more, operatorAt}
-use Rattle.texts.specs.LineReader.{hit, ofOut, readTree}
+use Rattle.text_laws.specs.Reader.{Out, fail, got, Found, missing, found, word, behind, wordValue, isNumberWord, leaf}
+use Rattle.text_laws.specs.Reader.{close, inside, atom, step, andThen, expr, more, operatorAt}
+use Rattle.text_laws.specs.LineReader.{hit, ofOut, readTree}
 use Rattle.texts.specs.PartPlaces.{pastOpen}
 use Rattle.texts.proofs.ExprLeaves.{word-part}
 
 -- a single number that was read is the word in front of y
 abbrev NumberTree : List ℕ → Tree (List ℕ) → Type 0
-NumberTree y (num m) = (isNumberWord (word y) ≡ true) × (m ≡ value (word y))
+NumberTree y (num m) = (isNumberWord (word y) ≡ true) × (m ≡ wordValue (word y))
 NumberTree y (read a) = Unit {0}
 NumberTree y (two o a b) = Unit {0}
 NumberTree y (negation a) = Unit {0}
@@ -36,7 +36,7 @@ unfolding leaf
 leaf-number y q = go (isShort (word y)) (isNumberWord (word y)) refl
   where
     go : (a b : Bool) → isNumberWord (word y) ≡ b
-        → NumberIn y (cond a (got (read (word y)) q) (cond b (got (num (value (word y))) q) fail))
+        → NumberIn y (cond a (got (read (word y)) q) (cond b (got (num (wordValue (word y))) q) fail))
     go true b e = tt
     go false true e = (e, refl)
     go false false e = tt
@@ -142,17 +142,17 @@ expr-number (suc f) k b s =
 
 -- the number of a tree that is a single one
 pub single-number : (s : List ℕ) (m : ℕ) (q : List ℕ) → readTree s ≡ hit (num m) q
-    → (isNumberWord (word (pastOpen s)) ≡ true) × (m ≡ value (word (pastOpen s)))
+    → (isNumberWord (word (pastOpen s)) ≡ true) × (m ≡ wordValue (word (pastOpen s)))
 unfolding readTree
 single-number s m q = go (expr (suc (length s)) 0 openMost s) (expr-number (suc (length s)) 0 openMost s)
   where
     go : (o : Out) → NumberIn (pastOpen s) o → ofOut o ≡ hit (num m) q
-        → (isNumberWord (word (pastOpen s)) ≡ true) × (m ≡ value (word (pastOpen s)))
+        → (isNumberWord (word (pastOpen s)) ≡ true) × (m ≡ wordValue (word (pastOpen s)))
     go fail h e = let z : _≡_ {A = ℕ} 0 1 = cc in absurd (omega arith)
     go (got t r) h e = let p : t ≡ num m = cc in number t p h
       where
         number : (t : Tree (List ℕ)) → t ≡ num m → NumberTree (pastOpen s) t
-            → (isNumberWord (word (pastOpen s)) ≡ true) × (m ≡ value (word (pastOpen s)))
+            → (isNumberWord (word (pastOpen s)) ≡ true) × (m ≡ wordValue (word (pastOpen s)))
         number (num n) p h = let u : m ≡ n = cc in (h .0, u ∙ h .1)
         number (read a) p h = let z : _≡_ {A = ℕ} 0 1 = cc in absurd (omega arith)
         number (two o a b) p h = let z : _≡_ {A = ℕ} 0 1 = cc in absurd (omega arith)
@@ -161,13 +161,13 @@ single-number s m q = go (expr (suc (length s)) 0 openMost s) (expr-number (suc 
 -- the code reads it off the word
 pub number-at : (s : List ℕ) (at from end : ℕ) → drop from s ≡ pastOpen (drop at s) → from ≤ end → end ≤ length s
     → drop end s ≡ behind (drop from s) → (r : ℕ)
-    → (isNumberWord (take (end - from) (drop from s)) ≡ true → r ≡ value (take (end - from) (drop from s)))
+    → (isNumberWord (take (end - from) (drop from s)) ≡ true → r ≡ wordValue (take (end - from) (drop from s)))
     → (m : ℕ) (q : List ℕ) → readTree (drop at s) ≡ hit (num m) q → r ≡ m
 number-at s at from end e lo hi b r h m q t =
     let w : take (end - from) (drop from s) ≡ word (pastOpen (drop at s)) =
     word-part s from end lo hi b ∙ ap word e in
     let x = single-number (drop at s) m q t in
-    h (ap isNumberWord w ∙ x .0) ∙ ap value w ∙ sym (x .1)
+    h (ap isNumberWord w ∙ x .0) ∙ ap wordValue w ∙ sym (x .1)
 
 -- ── past each `(` ──
 

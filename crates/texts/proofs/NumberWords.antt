@@ -11,7 +11,7 @@ use Rattle.base.specs.Lists.{all}
 use Rattle.base.proofs.Lists.{and-left, and-right, not-both}
 use Rattle.rules.specs.Limits.{numberMost}
 use Rattle.rules.specs.Names.{isDigit}
-use Rattle.rules.specs.Reader.{scan, value, isNumberWord}
+use Rattle.text_laws.specs.Reader.{scan, wordValue, isNumberWord}
 use Rattle.texts.proofs.ExprLeaves.{digit-range, scan-step, scan-end, scan-ge, number-other, number-large}
 
 word-digits : (w : List ℕ) → isNumberWord w ≡ true → all isDigit w ≡ true
@@ -21,16 +21,16 @@ word-digits w y = go (all isDigit w) refl
     go true e = refl
     go false e = absurd (not-both (isNumberWord w) y (number-other w e))
 
-word-most : (w : List ℕ) → isNumberWord w ≡ true → numberMost < value w → ⊥
+word-most : (w : List ℕ) → isNumberWord w ≡ true → numberMost < wordValue w → ⊥
 word-most w y lt = not-both (isNumberWord w) y (number-large w lt)
 
 -- of a number word, v is read up to i
 pub record Upto (w : List ℕ) (v i : ℕ) : Type 0 where
-  pub total : value w ≡ scan v (drop i w)
+  pub total : wordValue w ≡ scan v (drop i w)
   pub digits : all isDigit (drop i w) ≡ true
 
 pub upto-start : (w : List ℕ) → isNumberWord w ≡ true → Upto w 0 0
-unfolding value
+unfolding wordValue
 upto-start w y = record { total = refl; digits = word-digits w y }
 
 next-digits : (w : List ℕ) (i : ℕ) → i < length w → all isDigit (drop i w) ≡ true
@@ -52,5 +52,5 @@ upto-step w v i lt u =
 pub upto-large : (w : List ℕ) (v i : ℕ) → isNumberWord w ≡ true → Upto w v i → numberMost < v → ⊥
 upto-large w v i y u lt = word-most w y (let g = scan-ge (drop i w) v in let t = u .total in omega arith)
 
-pub upto-end : (w : List ℕ) (v i : ℕ) → length w ≤ i → i ≤ length w → Upto w v i → v ≡ value w
+pub upto-end : (w : List ℕ) (v i : ℕ) → length w ≤ i → i ≤ length w → Upto w v i → v ≡ wordValue w
 upto-end w v i le le′ u = sym (u .total ∙ scan-end w i v le le′)

@@ -14,7 +14,7 @@ use Rattle.base.proofs.Breaks.{and-true}
 use Rattle.rules.specs.declared.Op.{Op}
 use Rattle.rules.specs.Operators.{operator, operators, symbol, level, leftLevel, rightLevel, code, takes, gives}
 use Rattle.rules.specs.Names.{isOperator}
-use Rattle.rules.specs.Reader.{missing, after, firstOf, insert, longestFirst, order}
+use Rattle.text_laws.specs.Reader.{missing, after, firstOf, insert, longestFirst, order}
 use Rattle.operators.specs.declared.rows.Row.{Row}
 use Rattle.operators.specs.Rows.{rowOf}
 use Rattle.texts.specs.StoredTrees.{typeCode}

@@ -14,9 +14,9 @@ use Rattle.writing.proofs.PutLaws.{put-writes}
 use Rattle.rules.specs.Limits.{storedMost}
 use Rattle.rules.specs.Trees.{Tree, le2, storedTree, storedLength}
 use Rattle.rules.specs.Fields.{Width, fixed, measured, rest, Form}
-use Rattle.rules.specs.Stored.{counted, storedWidth, storedName, storedMaybe, fieldBody, storedField}
-use Rattle.texts.specs.LineReader.{hit, readTree}
-use Rattle.texts.specs.Resolving.{renameTree, renameWidth}
+use Rattle.rules.specs.Stored.{storedFieldIn, counted, storedWidth, storedName, storedMaybe, fieldBody, storedField}
+use Rattle.text_laws.specs.LineReader.{hit, readTree}
+use Rattle.text_laws.specs.Resolving.{renameTree, renameWidth}
 use Rattle.texts.specs.LinePlaces.{MaybeIs, WidthIs, ShortIs, PartsAre}
 use Rattle.texts.specs.StoredTrees.{lookUp, StoredFor}
 use Rattle.texts.specs.Records.{widthSize, fieldSize, indexed}
@@ -175,7 +175,7 @@ module _ {a b c d : List ℕ} {at mid far next : ℕ} (names : List (List ℕ)) 
   pub field-writes : (s : List ℕ) (x : Form) (p : Parts) → PartsAre s x p → (n : ℕ) → n ≡ fieldSize p
       → Writes a at (le2 n) b mid → Writes b mid (le2 (p .kind)) c far
       → Writes c far (fieldBody (indexed names i x)) d next → Writes a at (storedField (indexed names i x)) d next
-  unfolding storedField
+  unfolding storedFieldIn
   field-writes s x p is n e u v w =
       rw (
         body-length s x p is names i,

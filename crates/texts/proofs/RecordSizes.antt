@@ -15,6 +15,7 @@ use Rattle.rules.specs.Limits.{textMost, depthMost, storedMost}
 use Rattle.rules.specs.Trees.{Tree, num, read, two, negation, depth, le2, le4, storedTree, storedLength, isSmall}
 use Rattle.rules.specs.Fields.{Width, fixed, measured, rest, Form, trees, widthTrees}
 use Rattle.rules.specs.Stored.{
+  storedFieldIn,
   counted,
   kindNumber,
   storedExpression,
@@ -24,7 +25,7 @@ use Rattle.rules.specs.Stored.{
   fieldBody,
   storedField,
 }
-use Rattle.texts.specs.Resolving.{renameTree, renameWidth}
+use Rattle.text_laws.specs.Resolving.{renameTree, renameWidth}
 use Rattle.texts.specs.LinePlaces.{MaybeIs, WidthIs, ShortIs, PartsAre, spanIn}
 use Rattle.texts.specs.Records.{widthSize, fieldSize, indexed, Sized, LineSmall}
 use Rattle.texts.specs.StoredTrees.{lookUp}
@@ -255,7 +256,7 @@ module _ (s : List ℕ) (x : Form) (p : Parts) (is : PartsAre s x p) (names : Li
       ))
 
   pub field-length : length (storedField (indexed names i x)) ≡ fieldSize p
-  unfolding storedField
+  unfolding storedFieldIn
   field-length =
       let f = indexed names i x in
       rw (

@@ -7,19 +7,19 @@ use lib.Dec.{eqb}
 use lib.ListN.{drop, getD}
 use Rattle.base.specs.Lists.{all, sum}
 use Rattle.base.proofs.Lists.{and-left}
-use Rattle.rules.specs.Frames.{Cell, cellText, isCell, Row, bitRow, longRow, isRow, Shown, shownIn}
-use Rattle.texts.specs.FrameReader.{pieces, rest, cellOf}
+use Rattle.rules.specs.Frames.{Cell, cellText, isCell, Row, bitRow, longRow, isRow, Slot, slotsIn}
+use Rattle.text_laws.specs.FrameReader.{pieces, rest, cellOf}
 use Rattle.texts.specs.Mismatches.{shownOf}
-use Rattle.texts.proofs.SplitLaws.{pieces-joined, rest-joined, pieces-cons, rest-cons}
-use Rattle.texts.proofs.RowCells.{cell-free, bar, colon}
-use Rattle.texts.proofs.RowReader.{barred, rowLine, joined-cells, cells-free, cells-back}
+use Rattle.text_laws.proofs.SplitLaws.{pieces-joined, rest-joined, pieces-cons, rest-cons}
+use Rattle.text_laws.proofs.RowCells.{cell-free, bar, colon}
+use Rattle.text_laws.proofs.RowReader.{barred, rowLine, joined-cells, cells-free, cells-back}
 
 -- the cells of a line from its place a on: between bars, or between colons
-abbrev pub cellsIn : List ℕ → ℕ → List Shown
+abbrev pub cellsIn : List ℕ → ℕ → List Slot
 cellsIn l a = map (shownOf (eqb (getD l 0 0) 58)) (pieces (getD l 0 0) (drop a l))
 
 pub record RowShown (r : Row) (l : List ℕ) : Type 0 where
-  pub cells : shownIn r ≡ cellsIn l 1
+  pub cells : slotsIn r ≡ cellsIn l 1
   pub noRest : rest (getD l 0 0) (drop 1 l) ≡ []
   pub areCells : all isCell (map cellOf (pieces (getD l 0 0) (drop 1 l))) ≡ true
 
@@ -27,7 +27,7 @@ map-map : {A B C : Type 0} (f : B → C) (g : A → B) (l : List A) → map f (m
 map-map f g [] = refl
 map-map {C = C} f g (x ∷ l) = ap {B = List C} (λ m. f (g x) ∷ m) (map-map f g l)
 
-shown : Bool → Cell → Shown
+shown : Bool → Cell → Slot
 shown long c = record { long = long; bits = c .bits; text = c .text }
 
 shown-of : (long : Bool) (cs : List Cell) → all isCell cs ≡ true

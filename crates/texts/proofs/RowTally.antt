@@ -10,8 +10,8 @@ use lib.ListN.{length, take, drop, getD, length-map, length-drop}
 use lib.Seq.{drop-cons}
 use borrow.Author.Tests.{eq-eqb, ne-eqb, eqb-true}
 use Rattle.base.specs.Lists.{all, isEmpty, sum}
-use Rattle.rules.specs.Frames.{isCell, Row, bitRow, longRow, isRow, shownIn}
-use Rattle.texts.specs.FrameReader.{pieces, rest, cellOf, keepRow, longOf, readRow}
+use Rattle.rules.specs.Frames.{isCell, Row, bitRow, longRow, isRow, slotsIn}
+use Rattle.text_laws.specs.FrameReader.{pieces, rest, cellOf, keepRow, longOf, readRow}
 use Rattle.texts.specs.FramePlaces.{upTo, isSome}
 use Rattle.texts.specs.FrameWalk.{rowCount, bitCount}
 use Rattle.texts.proofs.FrameLeaves.{take-rest}
@@ -27,7 +27,7 @@ bitsOf ps = sum (λ c. c .bits) (map cellOf ps)
 unfoldable pub tally : ℕ → ℕ → ℕ → List ℕ → List (List ℕ) → ℕ
 tally w n b r ps = cond (isEmpty r && (all isCell (map cellOf ps) && eqb (b + bitsOf ps) w)) (n + length ps) 0
 
-bits-shown : (ps : List (List ℕ)) → length (shownIn (bitRow (map cellOf ps))) ≡ length ps
+bits-shown : (ps : List (List ℕ)) → length (slotsIn (bitRow (map cellOf ps))) ≡ length ps
 bits-shown ps =
     length-map (map cellOf ps) (λ c. record { long = false; bits = c .bits; text = c .text }) ∙ length-map ps cellOf
 
@@ -195,7 +195,7 @@ row-most w (b ∷ l) = go (eqb b 124) (eqb b 58)
     go false false = omega arith
 
 -- a row has cells
-pub row-some : (w : ℕ) (r : Row) → isRow w r ≡ true → (w ≡ 0 → ⊥) → length (shownIn r) ≡ 0 → ⊥
+pub row-some : (w : ℕ) (r : Row) → isRow w r ≡ true → (w ≡ 0 → ⊥) → length (slotsIn r) ≡ 0 → ⊥
 unfolding sum all
 row-some w (longRow c) h n e = omega arith
 row-some w (bitRow (c ∷ cs)) h n e = omega arith

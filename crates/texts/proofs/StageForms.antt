@@ -14,20 +14,20 @@ use Rattle.base.proofs.Lookups.{each-length}
 use Rattle.rules.specs.declared.TextAnswer.{TextAnswer}
 use Rattle.rules.specs.Limits.{textMost, fieldsMost}
 use Rattle.rules.specs.Fields.{Width, fixed, measured, rest, Form}
-use Rattle.rules.specs.Lines.{SpellsField, Written}
+use Rattle.rules.specs.Lines.{SpellsField, Unresolved}
 use Rattle.rules.specs.Frames.{Frame, lineNumber, cells}
 use Rattle.rules.specs.Answers.{ofText}
 use Rattle.rules.specs.Refusals.{Formless, FirstFormless, form}
-use Rattle.rules.specs.Promises.{ReadsText, refuses}
+use Rattle.rules.specs.Promises.{ReadsText, refuses, leaves}
 use Rattle.names.specs.Repeats.{firstFrom}
-use Rattle.texts.specs.LineReader.{readForm}
+use Rattle.text_laws.specs.LineReader.{readForm}
 use Rattle.texts.specs.LinePlaces.{lineAt, spanIn, WidthIs, PartsAre, PartsFor, LineIs, LinesAre, LinesFor}
 use Rattle.texts.specs.LineTests.{breaksAt}
 use Rattle.texts.specs.Stages.{LinesSeen, FormsSeen}
 use Rattle.texts.specs.declared.parts.TreeAt.{TreeAt}
 use Rattle.texts.specs.declared.parts.Parts.{Parts}
 use Rattle.texts.specs.declared.line_rules.Rule.the-variants.{Form as HasForm}
-use Rattle.texts.proofs.FormExact.{form-sound, form-complete}
+use Rattle.text_laws.proofs.FormExact.{form-sound, form-complete}
 use Rattle.texts.proofs.FrameParts.{head-count}
 use Rattle.texts.proofs.StageFrames.{frame-lines}
 use Rattle.texts.proofs.FirstBreaks.{search-earlier}
@@ -64,7 +64,7 @@ module _ (text l : List ℕ) (p : Parts) (h : LineIs text l p) where
 pub record FormsOf (lines : List (List ℕ)) : Type 0 where
   pub forms : List Form
   pub read : (i : ℕ) (x : Form) → getElem? forms i ≡ some x → readForm (getD lines i []) ≡ some x
-  pub spelled : Each (SpellsField Written) forms lines
+  pub spelled : Each (SpellsField Unresolved) forms lines
 
 forms-of : (lines : List (List ℕ)) → ((i : ℕ) → i < length lines → (x : Form) × (readForm (getD lines i []) ≡ some x))
     → FormsOf lines
@@ -102,7 +102,7 @@ module _ (text out : List ℕ) (w top n : ℕ) (lines : List Parts) (f : Frame) 
   -- ── 5 ──
 
   pub answers-5 : (i : ℕ) → i ≡ firstFrom (breaksAt HasForm lines) 0 n → i < n
-      → ReadsText text out (TextAnswer.BadForm (top + 1 + i)) out
+      → ReadsText text out (leaves (ofText (TextAnswer.BadForm (top + 1 + i))) out)
   unfolding ofText
   answers-5 i e lt =
       let hit : breaksAt HasForm lines i ≡ true =
@@ -135,7 +135,7 @@ module _ (text out : List ℕ) (w top n : ℕ) (lines : List Parts) (f : Frame) 
             omega (
               arith,
               element-in (z .forms) i x e,
-              each-length (SpellsField Written) (z .forms) (f .lines)
+              each-length (SpellsField Unresolved) (z .forms) (f .lines)
                   (z .spelled),
             ) in
             let r = s .parts i lt in

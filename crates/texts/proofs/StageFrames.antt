@@ -14,7 +14,7 @@ use Rattle.rules.specs.declared.TextAnswer.{TextAnswer}
 use Rattle.rules.specs.Limits.{textMost, fieldsMost}
 use Rattle.rules.specs.Names.{isAllowed, lineFeed}
 use Rattle.rules.specs.Fields.{Width, fixed, measured, rest, Form}
-use Rattle.rules.specs.Lines.{SpellsField, Written}
+use Rattle.rules.specs.Lines.{SpellsField, Unresolved}
 use Rattle.rules.specs.Frames.{Frame, FrameOf, ended, frameText, headLines, lineNumber, cells, isOverfull}
 use Rattle.rules.specs.Answers.{ofText}
 use Rattle.rules.specs.Refusals.{
@@ -30,11 +30,11 @@ use Rattle.rules.specs.Refusals.{
   many,
   form,
 }
-use Rattle.rules.specs.Promises.{ReadsText, refuses}
+use Rattle.rules.specs.Promises.{ReadsText, refuses, leaves}
 use Rattle.names.specs.Repeats.{firstFrom}
 use Rattle.names.proofs.RepeatLaws.{search-most}
-use Rattle.texts.specs.LineReader.{readForm}
-use Rattle.texts.specs.FrameReader.{linesOf, readFrame, rightLines, begun}
+use Rattle.text_laws.specs.LineReader.{readForm}
+use Rattle.text_laws.specs.FrameReader.{linesOf, readFrame, rightLines, begun}
 use Rattle.texts.specs.FrameWalk.{SkippedTo, WalkedAs}
 use Rattle.texts.specs.LinePlaces.{lineAt, spanIn, TreeIs, WidthIs, PartsFor, LineIs, LinesAre, LinesFor}
 use Rattle.texts.specs.LineTests.{breaksAt}
@@ -44,23 +44,23 @@ use Rattle.texts.specs.declared.parts.Parts.{Parts}
 use Rattle.texts.specs.declared.line_rules.Rule.the-variants.{Form as HasForm}
 use Rattle.texts.specs.declared.walks.Walked.{Walked}
 use Rattle.texts.specs.declared.walks.Walked.the-variants as walked
-use Rattle.texts.proofs.SplitLaws.{lineCount-lines, lines-joined}
-use Rattle.texts.proofs.FormExact.{form-sound, form-complete}
-use Rattle.texts.proofs.FrameExact.{frame-sound, frame-none}
-use Rattle.texts.proofs.FrameRight.{right-there, right-lines}
-use Rattle.texts.proofs.FrameRun.{frame-kept}
+use Rattle.text_laws.proofs.SplitLaws.{lineCount-lines, lines-joined}
+use Rattle.text_laws.proofs.FormExact.{form-sound, form-complete}
+use Rattle.text_laws.proofs.FrameExact.{frame-sound, frame-none}
+use Rattle.text_laws.proofs.FrameRight.{right-there, right-lines}
+use Rattle.text_laws.proofs.FrameRun.{frame-kept}
 use Rattle.texts.proofs.FrameParts.{head-count, fields-at}
 use Rattle.texts.proofs.TableIndexes.{search-hit}
 
 -- ── 1 to 3 ──
 
 module _ (text out : List ℕ) where
-  pub answers-1 : textMost < length text → ReadsText text out TextAnswer.TooLong out
+  pub answers-1 : textMost < length text → ReadsText text out (leaves (ofText TextAnswer.TooLong) out)
   unfolding ofText
   answers-1 h = refuses (long h)
 
   pub answers-2 : length text ≤ textMost → (b : Bool) → b ≡ false → b ≡ all isAllowed text → ReadsText text out
-      TextAnswer.BadByte out
+      (leaves (ofText TextAnswer.BadByte) out)
   unfolding ofText
   answers-2 le b e h = refuses (byte le (sym h ∙ e))
 
@@ -101,7 +101,7 @@ module _ (text out : List ℕ) where
   wrong-most r k h q = omega (arith, walked-wrong (readFrame text) refl r k h q .1, right-most)
 
   pub answers-3 : Plain text → (r : Walked) (k : ℕ) → WalkedAs text (readFrame text) r → r ≡ walked.Wrong k
-      → ReadsText text out (TextAnswer.BadLine (k + 1)) out
+      → ReadsText text out (leaves (ofText (TextAnswer.BadLine (k + 1))) out)
   unfolding ofText
   answers-3 p r k h q =
       let w = walked-wrong (readFrame text) refl r k h q in
@@ -133,7 +133,7 @@ module _ (text out : List ℕ) where
   frame-seen p r w rows k n h q = walked-right (readFrame text) refl p r w rows k n h q
 
   module _ (w rows k n : ℕ) (f : Frame) (s : FrameSeen text w rows k n f) where
-    pub answers-4 : isOverfull f ≡ true → ReadsText text out TextAnswer.TooMany out
+    pub answers-4 : isOverfull f ≡ true → ReadsText text out (leaves (ofText TextAnswer.TooMany) out)
     unfolding ofText
     answers-4 h = refuses (many (s .plain) (s .isFrameOf) h)
 

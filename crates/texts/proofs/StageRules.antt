@@ -15,12 +15,12 @@ use Rattle.rules.specs.declared.TextAnswer.{TextAnswer}
 use Rattle.rules.specs.Limits.{textMost, fieldsMost}
 use Rattle.rules.specs.Fields.{rest, Field, Form}
 use Rattle.rules.specs.Within.{isFormed, keepsSize, keepsNames, keepsTypes, keepsRest, nameReadable}
-use Rattle.rules.specs.Lines.{SpellsField, Written}
-use Rattle.rules.specs.Frames.{Frame, Shown, lineNumber, cells, isOverfull}
+use Rattle.rules.specs.Lines.{SpellsField, Unresolved}
+use Rattle.rules.specs.Frames.{Frame, Slot, lineNumber, cells, isOverfull}
 use Rattle.rules.specs.Spelling.{shows, mismatch}
 use Rattle.rules.specs.Answers.{Answer, refused, ofText}
 use Rattle.rules.specs.Refusals.{ruleBroken, rule}
-use Rattle.rules.specs.Promises.{ReadsText, refuses}
+use Rattle.rules.specs.Promises.{ReadsText, refuses, leaves}
 use Rattle.names.specs.Repeats.{firstFrom, firstRepeat}
 use Rattle.texts.specs.FrameWalk.{SkippedTo}
 use Rattle.texts.specs.LinePlaces.{lineAt, spanIn, Fits, LineOf, LinesFor, LinesFit}
@@ -47,7 +47,7 @@ below-none r n o e le = e ∙ rw (le-ltb r n le) refl
 
 -- ── mismatches ──
 
-mismatch-most : (i : ℕ) (cs : List Shown) (fs : List Form) (j : ℕ) → mismatch i cs fs ≡ some j → j ≤ i + length fs
+mismatch-most : (i : ℕ) (cs : List Slot) (fs : List Form) (j : ℕ) → mismatch i cs fs ≡ some j → j ≤ i + length fs
 unfolding mismatch
 mismatch-most i [] [] j e = absurd (let z : _≡_ {A = ℕ} 0 1 = cc in omega arith)
 mismatch-most i [] (f ∷ fs) j e = let q = Option·some-injective i j e in omega (arith, q)
@@ -101,11 +101,11 @@ module _ (f : Frame) (forms : List Form) (i : ℕ) where
 
 module _ (text : List ℕ) (w top n : ℕ) (lines : List Parts) (k : FormsSeen text w top n lines) where
   pub form-count : length (k .forms) ≡ n
-  form-count = each-length (SpellsField Written) (k .forms) (k .frame .lines) (k .spelled) ∙ sym (k .seen .count)
+  form-count = each-length (SpellsField Unresolved) (k .forms) (k .frame .lines) (k .spelled) ∙ sym (k .seen .count)
 
-  form-spelled : (i : ℕ) (x : Form) → getElem? (k .forms) i ≡ some x → (l : List ℕ) × SpellsField Written x l
+  form-spelled : (i : ℕ) (x : Form) → getElem? (k .forms) i ≡ some x → (l : List ℕ) × SpellsField Unresolved x l
   form-spelled i x e =
-      let s = each-left (SpellsField Written) (k .forms) (k .frame .lines) (k .spelled) i x e in (s .0, s .2)
+      let s = each-left (SpellsField Unresolved) (k .forms) (k .frame .lines) (k .spelled) i x e in (s .0, s .2)
 
   pub forms-formed : (i : ℕ) (x : Form) → getElem? (k .forms) i ≡ some x → isFormed x ≡ true
   forms-formed i x e = form-spelled i x e .1 .formed
@@ -149,7 +149,7 @@ module _ (text : List ℕ) (w top n : ℕ) (lines : List Parts) (k : FormsSeen t
   module _ (out : List ℕ) where
     -- an answer by a rule's number
     by-rule : (number i : ℕ) (r : TextAnswer) → ofText r ≡ refused number (top + 1 + i)
-        → Breaks (k .frame) (k .forms) i number → ReadsText text out r out
+        → Breaks (k .frame) (k .forms) i number → ReadsText text out (leaves (ofText r) out)
     by-rule number i r e h =
         let q : top + 1 + i ≡ lineNumber (k .frame) i = omega (arith, k .seen .head) in
         rw (e, q) (refuses (rule (k .forms) (k .seen .framed) (k .spelled) h))
@@ -160,7 +160,7 @@ module _ (text : List ℕ) (w top n : ℕ) (lines : List Parts) (k : FormsSeen t
     size-is = rw form-count at (size-breaks text (k .forms) lines (k .parts))
 
     pub answers-6 : (i : ℕ) → i ≡ firstFrom (breaksAt Size lines) 0 n → i < n
-        → ReadsText text out (TextAnswer.OverLimit (top + 1 + i)) out
+        → ReadsText text out (leaves (ofText (TextAnswer.OverLimit (top + 1 + i))) out)
     unfolding ofText
     answers-6 i e lt =
         by-rule 6 i (TextAnswer.OverLimit (top + 1 + i)) refl
@@ -183,7 +183,7 @@ module _ (text : List ℕ) (w top n : ℕ) (lines : List Parts) (s : SizesKept t
       (form-count text w top n lines k) (k .parts)
 
   pub answers-7 : (from r : ℕ) → SkippedTo text 5 from → MismatchIs text from lines n r → r ≤ n
-      → ReadsText text out (TextAnswer.Mismatch (top + 1 + r)) out
+      → ReadsText text out (leaves (ofText (TextAnswer.Mismatch (top + 1 + r))) out)
   unfolding ofText k
   answers-7 from r h m le =
       by-rule text w top n lines k out 7 r (TextAnswer.Mismatch (top + 1 + r)) refl
@@ -209,7 +209,7 @@ module _ (text : List ℕ) (w top n : ℕ) (lines : List Parts) (s : SizesKept t
         (λ i lt. held i (omega (arith, form-count text w top n lines k))))
 
     pub answers-8 : (i : ℕ) → i ≡ firstRepeat (clashAt text lines names) n → i < n
-        → ReadsText text out (TextAnswer.Repeated (top + 1 + i)) out
+        → ReadsText text out (leaves (ofText (TextAnswer.Repeated (top + 1 + i))) out)
     unfolding ofText k
     answers-8 i e lt =
         by-rule text w top n lines k out 8 i (TextAnswer.Repeated (top + 1 + i)) refl
@@ -252,7 +252,7 @@ module _ (text : List ℕ) (w top n : ℕ) (lines : List Parts) (s : NamesKept t
       (λ i lt. held i (omega (arith, count))) (forms-short text w top n lines known) f is)
 
   pub answers-9 : (r : ℕ) → FirstWrong text lines names n r → r < n
-      → ReadsText text out (TextAnswer.BadName (top + 1 + r)) out
+      → ReadsText text out (leaves (ofText (TextAnswer.BadName (top + 1 + r))) out)
   unfolding ofText known
   answers-9 r h lt =
       by-rule text w top n lines known out 9 r (TextAnswer.BadName (top + 1 + r)) refl
@@ -270,7 +270,7 @@ module _ (text : List ℕ) (w top n : ℕ) (lines : List Parts) (s : NamesKept t
         rw (form-count text w top n lines known) at (rest-breaks text (known .forms) lines (known .parts))
 
     pub answers-10 : (i : ℕ) → i ≡ firstFrom (breaksAt Rest lines) 0 n → i < n
-        → ReadsText text out (TextAnswer.BadRest (top + 1 + i)) out
+        → ReadsText text out (leaves (ofText (TextAnswer.BadRest (top + 1 + i))) out)
     unfolding ofText known
     answers-10 i e lt =
         by-rule text w top n lines known out 10 i (TextAnswer.BadRest (top + 1 + i)) refl

@@ -19,15 +19,15 @@ use Rattle.rules.specs.Within.{keepsSize}
 use Rattle.rules.specs.Frames.{Frame, FrameOf}
 use Rattle.rules.specs.Spelling.{Spells}
 use Rattle.rules.specs.Answers.{refused, accepted, ofText}
-use Rattle.rules.specs.Promises.{leaves, written, delivered, Answers, ReadsText, spelled}
-use Rattle.texts.specs.Resolving.{described}
+use Rattle.rules.specs.Promises.{leaves, overlaid, delivered, ReadsText, spelled}
+use Rattle.text_laws.specs.Resolving.{described}
 use Rattle.texts.specs.LinePlaces.{lineAt, spanIn}
 use Rattle.texts.specs.Records.{sizeFrom, Sized, tableOf, LineSmall, AllSmall}
 use Rattle.texts.specs.Stages.{FormsSeen, AllKept}
 use Rattle.writing.specs.declared.spans.Span.{Span}
 use Rattle.texts.specs.declared.parts.Parts.{Parts}
-use Rattle.texts.proofs.NamedTypes.{kept-rules}
-use Rattle.texts.proofs.Resolve.{resolved-spells}
+use Rattle.text_laws.proofs.NamedTypes.{kept-rules}
+use Rattle.text_laws.proofs.Resolve.{resolved-spells}
 use Rattle.texts.proofs.RecordSizes.{line-sized}
 use Rattle.texts.proofs.TableLaws.{table-length}
 use Rattle.texts.proofs.TableIndexes.{each-kept, table-same}
@@ -39,13 +39,13 @@ pub short-output : (w out : List ℕ) → length out < length w → delivered w 
 unfolding delivered
 short-output w out lt = rw (lt-ltb (length out) (length w) lt) refl
 
-pub long-output : (w out : List ℕ) → length w ≤ length out → delivered w out ≡ leaves (accepted (length w)) (written
+pub long-output : (w out : List ℕ) → length w ≤ length out → delivered w out ≡ leaves (accepted (length w)) (overlaid
     w out)
 unfolding delivered
 long-output w out le = rw (le-ltb (length out) (length w) le) refl
 
 -- what was written from the start on
-pub writes-all : (out w after : List ℕ) (r : ℕ) → Writes out 0 w after r → after ≡ written w out
+pub writes-all : (out w after : List ℕ) (r : ℕ) → Writes out 0 w after r → after ≡ overlaid w out
 writes-all out w after r h =
     let e : r ≡ length w = omega (arith, h .end) in
     let t : take r after ≡ w = h .text in
@@ -101,7 +101,7 @@ module _ (text out : List ℕ) (w top n : ℕ) (lines : List Parts) (names : Lis
         rests = s .rests;
       }))
 
-  outcome : Answers text out (delivered (stored d) out)
+  outcome : ReadsText text out (delivered (stored d) out)
   outcome = spelled text-most spells
 
   module _ (name : List ℕ) (is : (f : Frame) → FrameOf text f → name ≡ f .name) where
@@ -119,7 +119,7 @@ module _ (text out : List ℕ) (w top n : ℕ) (lines : List Parts) (names : Lis
         ap length (sym table-is) ∙ table-length text lines names name w forms all-small ∙ rw count refl
 
     pub answers-11 : (size : ℕ) → size ≡ 14 + length name + sizeFrom lines 0 n → length out < size
-        → ReadsText text out TextAnswer.NoRoom out
+        → ReadsText text out (leaves (ofText TextAnswer.NoRoom) out)
     unfolding ofText
     answers-11 size e lt =
         rw (short-output (stored d) out (omega (arith, e, size-is))) at outcome
@@ -127,10 +127,10 @@ module _ (text out : List ℕ) (w top n : ℕ) (lines : List Parts) (names : Lis
     pub answers-table : (size : ℕ) → size ≡ 14 + length name + sizeFrom lines 0 n → size ≤ length out
         → (after : List ℕ) (r : ℕ)
         → ((l : List Form) → length l ≡ n → AllSmall text lines l → Writes out 0 (tableOf names name w l) after r)
-        → ReadsText text out (TextAnswer.Accepted size) after
+        → ReadsText text out (leaves (ofText (TextAnswer.Accepted size)) after)
     unfolding ofText
     answers-table size e le after r h =
-        let a : after ≡ written (stored d) out =
+        let a : after ≡ overlaid (stored d) out =
         writes-all out (stored d) after r (rw table-is at (h forms count all-small)) in
         let z : size ≡ length (stored d) = omega (arith, e, size-is) in
         rw (a, z) (rw (long-output (stored d) out (omega (arith, z))) at outcome)

@@ -13,8 +13,8 @@ use Rattle.rules.specs.declared.Op.{Op}
 use Rattle.rules.specs.Operators.{code, numberCode, fieldCode}
 use Rattle.rules.specs.Names.{isShort}
 use Rattle.rules.specs.Trees.{Tree, num, read, two, negation, storedTree, storedLength, le4}
-use Rattle.rules.specs.Reader.{Out, fail, got, word, behind, value, isNumeral, isNumberWord, leaf}
-use Rattle.rules.specs.Reader.{close}
+use Rattle.text_laws.specs.Reader.{Out, fail, got, word, behind, wordValue, isNumeral, isNumberWord, leaf}
+use Rattle.text_laws.specs.Reader.{close}
 use Rattle.texts.specs.StoredTrees.{lookUp, typeOf, StoredIs, SameStored}
 use Rattle.texts.specs.StoredPlaces.{Made, NotMade, TwoMade, WithinStored, wrapOf, LeafStored}
 use Rattle.texts.specs.StoredPlaces.{ClosedStored}
@@ -160,17 +160,17 @@ module _ (names : List (List ℕ)) (n : ℕ) (s : List ℕ) (at end : ℕ) (lo :
 
   pub leaf-number : (v : ℕ) (r : StoredTree) → isShort (take (end - at) (drop at s)) ≡ false
       → isNumberWord (take (end - at) (drop at s)) ≡ true
-      → (isNumberWord (take (end - at) (drop at s)) ≡ true → v ≡ value (take (end - at) (drop at s)))
+      → (isNumberWord (take (end - at) (drop at s)) ≡ true → v ≡ wordValue (take (end - at) (drop at s)))
       → Made end 1 5 (numberCode ∷ le4 v) r → LeafMade r
   unfolding leaf isNumberWord isNumeral
   leaf-number v r k y q m =
       let u : at + 1 ≤ end = longer s at end lo hi e isNumberWord refl y in
-      let x : StoredIs names n (num (value (word (drop at s)))) r = is-number names n (value (word (drop at s))) end r
+      let x : StoredIs names n (num (wordValue (word (drop at s)))) r = is-number names n (wordValue (word (drop at s))) end r
       (rw part-is at (rw (q y) at m)) in
       let d : drop (r .next) s ≡ behind (drop at s) = rw (m .next) e in (
         here-within s (at + 1) at 0 r (rw (m .next) u) (rw (m .next) hi) (rw (m .next, m .len) (omega arith)),
         rw (rw part-is at k, leaf, rw part-is at y)
-            (same-here names n s (num (value (word (drop at s)))) (behind (drop at s)) r x d),
+            (same-here names n s (num (wordValue (word (drop at s)))) (behind (drop at s)) r x d),
       )
 
   pub leaf-none : (r : StoredTree) → isShort (take (end - at) (drop at s)) ≡ false

@@ -18,18 +18,18 @@ use Rattle.rules.specs.Operators.{takes, gives}
 use Rattle.rules.specs.Names.{isShort}
 use Rattle.rules.specs.Trees.{Tree, num, read, two, negation, le2, sameType, hasType}
 use Rattle.rules.specs.Fields.{Width, fixed, measured, rest, Field, Form, isFixed, readNames, widthTrees}
-use Rattle.rules.specs.Stored.{counted, recordOf, storedField, headBody, stored}
+use Rattle.rules.specs.Stored.{storedIn, counted, recordOf, storedField, headBody, stored}
 use Rattle.rules.specs.Within.{keepsNames, keepsTypes, widthHasType, nameReadable, isFormed}
 use Rattle.rules.specs.Frames.{Frame}
 use Rattle.names.specs.Repeats.{firstFrom}
-use Rattle.texts.specs.Resolving.{firstIndex, indexOf, renameTree, renameWidth, renameField, resolve, described}
+use Rattle.text_laws.specs.Resolving.{firstIndex, indexOf, renameTree, renameWidth, renameField, resolve, described}
 use Rattle.texts.specs.LinePlaces.{lineAt, LinesFor}
 use Rattle.texts.specs.LineTests.{heldShort, typesKept}
 use Rattle.texts.specs.StoredTrees.{isHeld, lookUp, mayRead}
 use Rattle.texts.specs.Records.{indexed, storedFrom, tableOf}
 use Rattle.texts.specs.declared.parts.Parts.{Parts}
-use Rattle.texts.proofs.NamedRules.{NameIn, name-unique}
-use Rattle.texts.proofs.NamedTypes.{any-element}
+use Rattle.text_laws.proofs.NamedRules.{NameIn, name-unique}
+use Rattle.text_laws.proofs.NamedTypes.{any-element}
 use Rattle.texts.proofs.LineRules.{element-at, element-in}
 use Rattle.texts.proofs.LineClashes.{held-fixed}
 use Rattle.texts.proofs.LineTypes.{allNames, ShortNames, line-types}
@@ -148,7 +148,7 @@ module _ (text : List ℕ) (forms : List Form) (lines : List Parts) (h : LinesFo
       let q : i + suc j ≡ suc i + j = omega arith in rw q at (f (suc j) y e))))
 
   pub table-same : (f : Frame) → tableOf names (f .name) (f .rowWidth) forms ≡ stored (described f forms)
-  unfolding tableOf stored headBody resolve
+  unfolding tableOf storedIn headBody resolve
   table-same f =
       rw (
         stored-same 0 forms (λ j x e. let q : 0 + j ≡ j = omega arith in rw q e),

@@ -4,8 +4,8 @@ use mathlib.Core.List.{List, [], _∷_}
 use Prim.Native.Nat.{ℕ, suc, _+_, _*_, _≤_, _<_}
 use lib.ListN.{length, drop}
 use Rattle.rules.specs.Trees.{Tree, depth, storedLength}
-use Rattle.rules.specs.Reader.{Out, fail, got, Found, missing, found, word, behind, leaf, close, inside, atom, expr}
-use Rattle.rules.specs.Reader.{more}
+use Rattle.text_laws.specs.Reader.{Out, fail, got, Found, missing, found, word, behind, leaf, close, inside, atom, expr}
+use Rattle.text_laws.specs.Reader.{more}
 use Rattle.texts.specs.declared.leaves.Read.{Read}
 use Rattle.texts.specs.declared.leaves.Read.the-variants as read
 use Rattle.texts.specs.declared.expressions.Next.{Next}

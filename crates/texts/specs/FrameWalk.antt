@@ -8,10 +8,10 @@ use lib.Dec.{eqb}
 use lib.ListN.{length, drop}
 use Rattle.base.specs.Bytes.{bytes}
 use Rattle.base.specs.Lists.{all, same, joined}
-use Rattle.rules.specs.Frames.{units, border, Row, bitRow, isLine, ended, shownIn, Frame, cells}
-use Rattle.texts.specs.FrameReader.{pieces, rest, cellOf, keepRow, readRow, readTens, opened, rightLines}
-use Rattle.texts.specs.FrameReader.{State, begun, named, spaced, ruled, counted, bordered, rowed, closed}
-use Rattle.texts.specs.FrameReader.{headed, filled}
+use Rattle.rules.specs.Frames.{units, border, Row, bitRow, isLine, ended, slotsIn, Frame, cells}
+use Rattle.text_laws.specs.FrameReader.{pieces, rest, cellOf, keepRow, readRow, readTens, opened, rightLines}
+use Rattle.text_laws.specs.FrameReader.{State, begun, named, spaced, ruled, counted, bordered, rowed, closed}
+use Rattle.text_laws.specs.FrameReader.{headed, filled}
 use Rattle.texts.specs.FramePlaces.{widthOr, isSome}
 use Rattle.texts.specs.declared.walks.Stage.{Stage}
 use Rattle.texts.specs.declared.walks.Stage.the-variants as at
@@ -21,14 +21,14 @@ use Rattle.texts.specs.declared.walks.Walked.the-variants as walked
 -- the number of cells of a row, 0 for none
 abbrev pub rowCount : Option Row → ℕ
 rowCount none = 0
-rowCount (some r) = length (shownIn r)
+rowCount (some r) = length (slotsIn r)
 
 -- the cells of a bit row, by what stands behind its first bar
 abbrev pub bitCount : ℕ → List ℕ → ℕ
 bitCount w l = rowCount (keepRow w (rest 124 l) (bitRow (map cellOf (pieces 124 l))))
 
 abbrev pub cellCount : List Row → ℕ
-cellCount rows = length (joined shownIn rows)
+cellCount rows = length (joined slotsIn rows)
 
 -- what the code sees of a state
 abbrev pub view : State → Stage
@@ -38,7 +38,7 @@ view (spaced an n) = at.Spaced
 view (ruled h) = at.Ruled (h .rowWidth)
 view (counted h) = at.Counted (h .rowWidth)
 view (bordered h rows) = at.Bordered (h .rowWidth) (length rows) (cellCount rows)
-view (rowed h rows r) = at.Rowed (h .rowWidth) (length rows + 1) (cellCount rows + length (shownIn r))
+view (rowed h rows r) = at.Rowed (h .rowWidth) (length rows + 1) (cellCount rows + length (slotsIn r))
 view (closed h rows) = at.Closed (h .rowWidth) (length rows) (cellCount rows)
 view (headed h rows) = at.Headed (h .rowWidth) (length rows) (cellCount rows)
 view (filled h rows ls) = at.Filled (h .rowWidth) (length rows) (cellCount rows) (length ls)

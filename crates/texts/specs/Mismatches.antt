@@ -10,14 +10,14 @@ use Rattle.base.specs.Lists.{all, same, joined}
 use Rattle.rules.specs.Limits.{textMost, fieldsMost}
 use Rattle.rules.specs.Names.{isLabel}
 use Rattle.rules.specs.Fields.{Form}
-use Rattle.rules.specs.Frames.{border, Row, rowLines, isRow, ended, Shown, shownIn}
+use Rattle.rules.specs.Frames.{border, Row, rowLines, isRow, ended, Slot, slotsIn}
 use Rattle.rules.specs.Spelling as spelling
-use Rattle.texts.specs.FrameReader.{leftTrim, rightTrim}
+use Rattle.text_laws.specs.FrameReader.{leftTrim, rightTrim}
 use Rattle.texts.specs.LinePlaces.{spanIn, Fits, LineOf, LinesFor, LinesFit}
 use Rattle.texts.specs.declared.parts.Parts.{Parts}
 
 -- what the characters between two bars show
-abbrev pub shownOf : Bool → List ℕ → Shown
+abbrev pub shownOf : Bool → List ℕ → Slot
 shownOf long s = record { long = long; bits = (length s + 1) / 2; text = rightTrim (leftTrim s) }
 
 -- the name is the label or the short name of the line s
@@ -61,4 +61,4 @@ InText m from parts n = (m ≤ textMost) × (from ≤ m) × (n ≤ fieldsMost) �
 abbrev pub MismatchIs : List ℕ → ℕ → List Parts → ℕ → ℕ → Type 0
 MismatchIs text from parts n r = (w : ℕ) (rows : List Row) (ms : List (List ℕ)) (forms : List Form)
     → RowsAt text from w rows ms → length forms ≡ n → LinesFor text forms parts
-    → r ≡ indexOr n (spelling.mismatch 0 (joined shownIn rows) forms)
+    → r ≡ indexOr n (spelling.mismatch 0 (joined slotsIn rows) forms)

@@ -8,7 +8,7 @@ use lib.ListN.{length, getD}
 use Rattle.base.specs.Lists.{Each, firstBreak}
 use Rattle.rules.specs.Fields.{Form}
 use Rattle.rules.specs.Within.{keepsSize, keepsNames, keepsTypes, keepsRest, nameReadable}
-use Rattle.rules.specs.Lines.{SpellsField, Written}
+use Rattle.rules.specs.Lines.{SpellsField, Unresolved}
 use Rattle.rules.specs.Frames.{Frame, FrameOf, headLines, cells}
 use Rattle.rules.specs.Spelling.{mismatch}
 use Rattle.rules.specs.Refusals.{Plain, Framed}
@@ -38,7 +38,7 @@ pub record FormsSeen (text : List ℕ) (w top n : ℕ) (lines : List Parts) : Ty
   pub frame : Frame
   pub forms : List Form
   pub seen : LinesSeen text w top n lines frame
-  pub spelled : Each (SpellsField Written) forms (frame .lines)
+  pub spelled : Each (SpellsField Unresolved) forms (frame .lines)
   pub parts : LinesFor text forms lines
 
 -- 6 is kept

@@ -10,8 +10,8 @@ use Rattle.rules.specs.declared.Op.{Op}
 use Rattle.rules.specs.Limits.{storedMost}
 use Rattle.rules.specs.Operators.{code, takes, gives, notCode}
 use Rattle.rules.specs.Trees.{Tree, negation}
-use Rattle.rules.specs.Reader.{got, word, behind, leaf, close, inside, atom, expr}
-use Rattle.rules.specs.Reader.{more}
+use Rattle.text_laws.specs.Reader.{got, word, behind, leaf, close, inside, atom, expr}
+use Rattle.text_laws.specs.Reader.{more}
 use Rattle.texts.specs.StoredTrees.{typeCode, StoredIs, SameStored}
 use Rattle.texts.specs.declared.stored_trees.StoredTree.{StoredTree}
 

@@ -7,7 +7,7 @@ use rules::NUMBER_MOST;
 ghost use mathlib.Core.Path.{_≡_};
 ghost use Prim.Native.Nat.{ℕ, _+_, _≤_};
 ghost use lib.ListN.{length, drop};
-ghost use Rattle.rules.specs.Reader.{behind, isNumberWord};
+ghost use Rattle.text_laws.specs.Reader.{behind, isNumberWord};
 ghost use Rattle.texts.specs.ExprPlaces.{LeafAt, WithinRead};
 
 // The place behind an expression, its depth and the length of its stored form.

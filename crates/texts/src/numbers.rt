@@ -6,12 +6,12 @@ ghost use mathlib.Core.Bool.{true};
 ghost use mathlib.Core.Path.{_≡_};
 ghost use Prim.Native.Nat.{_≤_};
 ghost use Rattle.rules.specs.Limits.{numberMost};
-ghost use Rattle.rules.specs.Reader.{isNumberWord, value};
+ghost use Rattle.text_laws.specs.Reader.{isNumberWord, wordValue};
 
 // The value of a word of digits that is a number; of another word, some number.
 pub(crate) fn word_value(w: &[u8]) -> usize
     ensures most { λ r. ⌜ r ≤ numberMost ⌝ }
-    ensures same { λ r. ⌜ (isNumberWord (now (w .entry)) ≡ true → r ≡ value (now (w .entry))) ⌝ }
+    ensures same { λ r. ⌜ (isNumberWord (now (w .entry)) ≡ true → r ≡ wordValue (now (w .entry))) ⌝ }
 {
     let classes = class_table();
     let mut v: usize = 0;

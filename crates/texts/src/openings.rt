@@ -9,7 +9,7 @@ ghost use Prim.Native.Nat.{_+_, _≤_, _<_};
 ghost use lib.Dec.{eqb};
 ghost use lib.ListN.{length, getD};
 ghost use Rattle.rules.specs.Frames.{Frame, FrameOf};
-ghost use Rattle.texts.specs.FrameReader.{readName, opened};
+ghost use Rattle.text_laws.specs.FrameReader.{readName, opened};
 ghost use Rattle.texts.specs.FramePlaces.{isSome};
 ghost use Rattle.texts.specs.LinePlaces.{spanIn};
 

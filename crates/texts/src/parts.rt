@@ -16,7 +16,7 @@ ghost use mathlib.Core.Path.{_≡_};
 ghost use Prim.Native.Nat.{_≤_};
 ghost use lib.ListN.{length};
 ghost use Rattle.rules.specs.Limits.{textMost};
-ghost use Rattle.texts.specs.LineReader.{readForm};
+ghost use Rattle.text_laws.specs.LineReader.{readForm};
 ghost use Rattle.texts.specs.LinePlaces.{spanOf, noParts, PartsFor};
 ghost use Rattle.texts.specs.PartPlaces.{smallAs, NamesFit, BehindFor};
 

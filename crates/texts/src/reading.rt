@@ -20,8 +20,9 @@ use rules::TEXT_MOST;
 use rules::TextAnswer;
 ghost use Rattle.rules.specs.Frames.{Frame};
 ghost use Rattle.rules.specs.Refusals.{Plain};
-ghost use Rattle.rules.specs.Promises.{ReadsText};
+ghost use Rattle.rules.specs.Promises.{ReadsText, leaves};
 ghost use Rattle.texts.specs.Stages.{FrameSeen, LinesSeen, FormsSeen, SizesKept, NamesKept, AllKept};
+ghost use Rattle.rules.specs.Answers.{ofText};
 
 // All rules are kept: the table is written where the output has room for it.
 fn write_table(
@@ -34,7 +35,7 @@ fn write_table(
     n: usize,
 ) -> TextAnswer
     requires { ⌜ AllKept (now text) w head n lines (now names) ⌝ }
-    ensures { λ r. ⌜ ReadsText (now (text .entry)) (now (out .entry)) r (now (out .exit)) ⌝ }
+    ensures { λ r. ⌜ ReadsText (now (text .entry)) (now (out .entry)) (leaves (ofText r) (now (out .exit))) ⌝ }
 {
     let name = name_span(text);
     let from = name.at;
@@ -57,7 +58,7 @@ fn read_names(
     n: usize,
 ) -> TextAnswer
     requires { ⌜ NamesKept (now text) w head n lines ⌝ }
-    ensures { λ r. ⌜ ReadsText (now (text .entry)) (now (out .entry)) r (now (out .exit)) ⌝ }
+    ensures { λ r. ⌜ ReadsText (now (text .entry)) (now (out .entry)) (leaves (ofText r) (now (out .exit))) ⌝ }
 {
     let names = short_names(text, lines, n, true);
     let wrong = first_wrong(text, lines, &names, n);
@@ -81,7 +82,7 @@ fn read_cells(
     n: usize,
 ) -> TextAnswer
     requires { ⌜ SizesKept (now text) w head n lines ⌝ }
-    ensures { λ r. ⌜ ReadsText (now (text .entry)) (now (out .entry)) r (now (out .exit)) ⌝ }
+    ensures { λ r. ⌜ ReadsText (now (text .entry)) (now (out .entry)) (leaves (ofText r) (now (out .exit))) ⌝ }
 {
     let from = skip_lines(text, 5);
     let other = first_mismatch(text, from, lines, n);
@@ -106,7 +107,7 @@ fn read_sizes(
     n: usize,
 ) -> TextAnswer
     requires { ⌜ FormsSeen (now text) w head n lines ⌝ }
-    ensures { λ r. ⌜ ReadsText (now (text .entry)) (now (out .entry)) r (now (out .exit)) ⌝ }
+    ensures { λ r. ⌜ ReadsText (now (text .entry)) (now (out .entry)) (leaves (ofText r) (now (out .exit))) ⌝ }
 {
     let large = first_line(lines, n, Rule::Size);
     if large < n {
@@ -125,7 +126,7 @@ fn read_lines(
     n: usize,
 ) -> TextAnswer
     requires { ⌜ ((f : Frame) × LinesSeen (now text) w head n lines f) ⌝ }
-    ensures { λ r. ⌜ ReadsText (now (text .entry)) (now (out .entry)) r (now (out .exit)) ⌝ }
+    ensures { λ r. ⌜ ReadsText (now (text .entry)) (now (out .entry)) (leaves (ofText r) (now (out .exit))) ⌝ }
 {
     let bad = first_line(lines, n, Rule::Form);
     if bad < n {
@@ -144,7 +145,7 @@ fn read_frame(
     n: usize,
 ) -> TextAnswer
     requires { ⌜ ((f : Frame) × FrameSeen (now text) w rows cells n f) ⌝ }
-    ensures { λ r. ⌜ ReadsText (now (text .entry)) (now (out .entry)) r (now (out .exit)) ⌝ }
+    ensures { λ r. ⌜ ReadsText (now (text .entry)) (now (out .entry)) (leaves (ofText r) (now (out .exit))) ⌝ }
 {
     if FIELDS_MOST < cells {
         return TextAnswer::TooMany;
@@ -161,7 +162,7 @@ fn read_frame(
 // 3.
 fn read_plain(text: &[u8], out: &mut [u8]) -> TextAnswer
     requires { ⌜ Plain (now text) ⌝ }
-    ensures { λ r. ⌜ ReadsText (now (text .entry)) (now (out .entry)) r (now (out .exit)) ⌝ }
+    ensures { λ r. ⌜ ReadsText (now (text .entry)) (now (out .entry)) (leaves (ofText r) (now (out .exit))) ⌝ }
 {
     let walked = walk(text);
     match walked {
@@ -172,7 +173,7 @@ fn read_plain(text: &[u8], out: &mut [u8]) -> TextAnswer
 
 // A text read into an output: its table at the output's start, or the refusal.
 pub fn read_text(text: &[u8], out: &mut [u8]) -> TextAnswer
-    ensures { λ r. ⌜ ReadsText (now (text .entry)) (now (out .entry)) r (now (out .exit)) ⌝ }
+    ensures { λ r. ⌜ ReadsText (now (text .entry)) (now (out .entry)) (leaves (ofText r) (now (out .exit))) ⌝ }
 {
     if TEXT_MOST < text.len() {
         return TextAnswer::TooLong;

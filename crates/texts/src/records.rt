@@ -15,7 +15,7 @@ ghost use Rattle.base.specs.Writes.{Writes};
 ghost use Rattle.rules.specs.Limits.{textMost, fieldsMost, storedMost};
 ghost use Rattle.rules.specs.Trees.{Tree};
 ghost use Rattle.rules.specs.Stored.{counted, storedWidth, storedName, storedMaybe, fieldBody, storedField};
-ghost use Rattle.texts.specs.Resolving.{renameTree, renameWidth};
+ghost use Rattle.text_laws.specs.Resolving.{renameTree, renameWidth};
 ghost use Rattle.texts.specs.LinePlaces.{MaybeIs};
 ghost use Rattle.texts.specs.StoredTrees.{lookUp};
 ghost use Rattle.texts.specs.Records.{widthSize, fieldSize, indexed, Sized, IsSmall, WritesEach};

@@ -9,7 +9,7 @@ use rules::Op;
 ghost use mathlib.Core.Path.{_≡_};
 ghost use Prim.Native.Nat.{_+_, _≤_};
 ghost use lib.ListN.{length, drop};
-ghost use Rattle.rules.specs.Reader.{firstOf, order, skip, operatorAt};
+ghost use Rattle.text_laws.specs.Reader.{firstOf, order, skip, operatorAt};
 ghost use Rattle.names.specs.Classes.{classTable};
 ghost use Rattle.texts.specs.ExprPlaces.{SameSign, WithinSign};
 

@@ -30,7 +30,7 @@ use Rattle.rules.specs.Reading.{
   isTooLong,
   reading,
 }
-use Rattle.rules.specs.Promises.{Outcome, leaves, readingAnswer, runAfter, packetOutcome, PacketGives}
+use Rattle.rules.specs.Promises.{Outcome, leaves, readingAnswer, runAfter, packetOutcome, ReadsPacket}
 use Rattle.laws.proofs.Decidable.{good-decidable}
 
 fault-low : (f : Fault) → faultNumber f ≤ 28
@@ -95,7 +95,7 @@ module _ (packet : List ℕ) where
 
 -- the place of an answer that keeps the promise
 pub place-low : (table packet run : List ℕ) (a : Answer) (after : List ℕ)
-    → PacketGives table packet run (leaves a after) → a .place ≤ fieldsMost
+    → ReadsPacket table packet run (leaves a after) → a .place ≤ fieldsMost
 place-low table packet run a after h = go (good-decidable table)
   where
     go : Dec (Good table) → a .place ≤ fieldsMost

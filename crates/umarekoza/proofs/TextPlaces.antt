@@ -15,9 +15,9 @@ use Rattle.rules.specs.Limits.{textMost, fieldsMost}
 use Rattle.rules.specs.Names.{lineFeed}
 use Rattle.rules.specs.Fields.{Form}
 use Rattle.rules.specs.Stored.{stored}
-use Rattle.rules.specs.Lines.{SpellsField, Written}
+use Rattle.rules.specs.Lines.{SpellsField, Unresolved}
 use Rattle.rules.specs.Within.{keepsSize, keepsNames, keepsTypes, keepsRest, nameReadable}
-use Rattle.rules.specs.Frames.{Frame, headLines, ended, frameText, FrameOf, lineNumber, Shown, cells}
+use Rattle.rules.specs.Frames.{Frame, headLines, ended, frameText, FrameOf, lineNumber, Slot, cells}
 use Rattle.rules.specs.Spelling.{shows, mismatch}
 use Rattle.rules.specs.Answers.{Answer, refused, accepted}
 use Rattle.rules.specs.Refusals.{
@@ -32,7 +32,7 @@ use Rattle.rules.specs.Refusals.{
   form,
   rule,
 }
-use Rattle.rules.specs.Promises.{Outcome, leaves, written, delivered, Answers, spelled, refuses}
+use Rattle.rules.specs.Promises.{Outcome, leaves, overlaid, delivered, ReadsText, spelled, refuses}
 
 -- ── lines ──
 
@@ -87,7 +87,7 @@ break-low {A} keeps m before (x ∷ l) h =
     go true q = q
     go false q = record { is = omega (arith, h) }
 
-mismatch-low : (m i : ℕ) (cs : List Shown) (fs : List Form) → i + length cs ≤ m → Below m (mismatch i cs fs)
+mismatch-low : (m i : ℕ) (cs : List Slot) (fs : List Form) → i + length cs ≤ m → Below m (mismatch i cs fs)
 unfolding mismatch
 mismatch-low m i [] [] h = record { is = tt }
 mismatch-low m i [] (f ∷ fs) h = record { is = omega (arith, h) }
@@ -146,7 +146,7 @@ refuses-low text a (rule {f = f} forms p q r) =
     let s = rules-low f forms 64 (l .1) (omega (
       arith,
       l .2,
-      each-length (SpellsField Written) forms (f .lines) q,
+      each-length (SpellsField Unresolved) forms (f .lines) q,
     )) in
     let t : Low (suc (length (headLines f)) + 64) (some a) = rw r at s in
     omega (arith, t .is, l .0)
@@ -156,15 +156,15 @@ unfolding delivered
 delivered-low w out = go (ltb (length out) (length w))
   where
     go : (b : Bool)
-        → cond b (leaves (refused 11 0) out) (leaves (accepted (length w)) (written w out)) .answer .place ≤ most
+        → cond b (leaves (refused 11 0) out) (leaves (accepted (length w)) (overlaid w out)) .answer .place ≤ most
     go true = omega arith
     go false = omega arith
 
-outcome-low : (text out : List ℕ) (o : Outcome) → Answers text out o → o .answer .place ≤ most
+outcome-low : (text out : List ℕ) (o : Outcome) → ReadsText text out o → o .answer .place ≤ most
 outcome-low text out o (spelled {d = d} le s) = delivered-low (stored d) out
 outcome-low text out o (refuses {a = a} r) = refuses-low text a r
 
 -- the place of an answer that keeps the promise
-pub text-place-low : (text out : List ℕ) (a : Answer) (after : List ℕ) → Answers text out (leaves a after)
+pub text-place-low : (text out : List ℕ) (a : Answer) (after : List ℕ) → ReadsText text out (leaves a after)
     → a .place < 4294967296
 text-place-low text out a after h = omega (arith, outcome-low text out (leaves a after) h)

@@ -1,97 +1,59 @@
--- What an export hands out with the answer of a wrong program (laws, specs/Wrong; texts, specs/WrongTexts): of each,
--- the export's promise is false (proofs/RuledOutReplies).
-use mathlib.Core.Path.{_≡_}
+-- Replies and spans of wrong exports: of each, what is claimed is the export's promise, and it is false
+-- (proofs/RuledOutReplies).
 use mathlib.Core.List.{List, [], _∷_}
-use Rattle.rules.specs.Stored.{stored}
-use Rattle.rules.specs.Answers.{ofTable, ofPacket, ofField, ofListing, ofText}
-use Rattle.rules.specs.Promises.{
-  leaves,
-  partFrom,
-  TableGives,
-  PacketGives,
-  PlacesPart,
-  NameGives,
-  PlacesLabel,
-  ListingGives,
-  Answers,
-}
+use Prim.Native.Nat.{ℕ}
+use lib.ListN.{length, replicate}
+use Rattle.base.specs.Bytes.{bytes}
+use Rattle.rules.specs.Promises.{leaves, ReadsText}
+use Rattle.rules.specs.Reading.{Part}
 use Rattle.rules.specs.Cases.{lentRun}
+use Rattle.rules.specs.Marked.{bladeReport, m1, m1Listing, tagText, tagTable}
 use Rattle.laws.specs.Wrong.{
   Claim,
   checks,
   reads,
   lists,
-  hands,
   placesPart,
   finds,
-  labels,
   placesLabel,
-  tellsNumber,
-  tellsPlace,
-  tellsValue,
   lentOutput,
+  runOf,
+  outputOf,
+  m1Entries,
 }
-use Rattle.texts.specs.WrongTexts as Texts
 use Rattle.umarekoza.specs.declared.Reply.{Reply}
 use Rattle.umarekoza.specs.declared.Span.{Span}
-use Rattle.umarekoza.specs.Exports.{shown}
+use Rattle.umarekoza.specs.Exports.{replyAnswer, spanPart}
 
--- ── tables and packets ──
+abbrev pub reply : ℕ → ℕ → ℕ → Reply
+reply n p l = record { number = n; place = p; length = l }
 
--- what is handed out; nothing, where no export answers what is claimed
-abbrev pub Handed : Claim → Type 0
-Handed (checks d r) = Reply
-Handed (reads d packet r after) = Reply
-Handed (lists d packet r after) = Reply
-Handed (hands d packet i part start) = ⊥
-Handed (placesPart d packet i start size) = Span
-Handed (finds d name r) = Reply
-Handed (labels d i label start) = ⊥
-Handed (placesLabel d i start size) = Span
-Handed (tellsNumber r n) = ⊥
-Handed (tellsPlace r n) = ⊥
-Handed (tellsValue r n) = ⊥
+abbrev pub span : ℕ → ℕ → Span
+span o l = record { offset = o; length = l }
 
--- it shows the answer that is claimed
-abbrev pub Shows : (c : Claim) → Handed c → Type 0
-Shows (checks d r) q = shown q ≡ ofTable r
-Shows (reads d packet r after) q = shown q ≡ ofPacket r
-Shows (lists d packet r after) q = shown q ≡ ofListing r
-Shows (hands d packet i part start) q = ⊥
-Shows (placesPart d packet i start size) q = partFrom (q .offset) (q .length) ≡ partFrom start size
-Shows (finds d name r) q = shown q ≡ ofField r
-Shows (labels d i label start) q = ⊥
-Shows (placesLabel d i start size) q = partFrom (q .offset) (q .length) ≡ partFrom start size
-Shows (tellsNumber r n) q = ⊥
-Shows (tellsPlace r n) q = ⊥
-Shows (tellsValue r n) q = ⊥
+abbrev pub wrongReplies : List Claim
+wrongReplies =
+    -- a table: no length for a good one; a place for it
+    checks bladeReport (replyAnswer (reply 0 0 0))
+    ∷ checks bladeReport (replyAnswer (reply 0 1 189))
+    -- a packet: bytes for bits; number and place exchanged
+    ∷ reads bladeReport m1 (replyAnswer (reply 0 0 8)) (runOf m1Entries)
+    ∷ reads bladeReport [] (replyAnswer (reply 1 24 0)) lentRun
+    -- a listing: its lines counted; no length
+    ∷ lists bladeReport m1 (replyAnswer (reply 0 0 8)) (outputOf m1Listing)
+    ∷ lists bladeReport m1 (replyAnswer (reply 0 0 0)) (outputOf m1Listing)
+    -- a field's bytes: in bits; start and length exchanged
+    ∷ placesPart bladeReport m1 5 (spanPart (span 32 16))
+    ∷ placesPart bladeReport m1 5 (spanPart (span 2 4))
+    -- a field by name: the index as the place; 11 for a name that no field has
+    ∷ finds bladeReport (bytes "N") (replyAnswer (reply 0 2 0))
+    ∷ finds bladeReport (bytes "X") (replyAnswer (reply 11 0 0))
+    -- a label: the record's place; start and length exchanged
+    ∷ placesLabel bladeReport 0 (spanPart (span 22 7))
+    ∷ placesLabel bladeReport 0 (spanPart (span 7 28))
+    ∷ []
 
--- it keeps the export's promise
-abbrev pub Keeps : (c : Claim) → Handed c → Type 0
-Keeps (checks d r) q = TableGives (stored d) (shown q)
-Keeps (reads d packet r after) q = PacketGives (stored d) packet lentRun (leaves (shown q) after)
-Keeps (lists d packet r after) q = ListingGives (stored d) packet lentOutput (leaves (shown q) after)
-Keeps (hands d packet i part start) q = ⊥
-Keeps (placesPart d packet i start size) q = PlacesPart (stored d) packet i (q .offset) (q .length)
-Keeps (finds d name r) q = NameGives (stored d) name (shown q)
-Keeps (labels d i label start) q = ⊥
-Keeps (placesLabel d i start size) q = PlacesLabel (stored d) i (q .offset) (q .length)
-Keeps (tellsNumber r n) q = ⊥
-Keeps (tellsPlace r n) q = ⊥
-Keeps (tellsValue r n) q = ⊥
-
-abbrev pub NoneKeeps : List Claim → Type 0
-NoneKeeps [] = Unit {0}
-NoneKeeps (c ∷ cs) = ((q : Handed c) → Shows c q → Keeps c q → ⊥) × NoneKeeps cs
-
--- ── texts ──
-
-abbrev pub ShowsText : Texts.Claim → Reply → Type 0
-ShowsText (Texts.reads text out r after) q = shown q ≡ ofText r
-
-abbrev pub KeepsText : Texts.Claim → Reply → Type 0
-KeepsText (Texts.reads text out r after) q = Answers text out (leaves (shown q) after)
-
-abbrev pub NoneKeepsText : List Texts.Claim → Type 0
-NoneKeepsText [] = Unit {0}
-NoneKeepsText (c ∷ cs) = ((q : Reply) → ShowsText c q → KeepsText c q → ⊥) × NoneKeepsText cs
+-- a text: accepted with nothing written; the table written, and its length left out
+pub record WrongTextReplies : Type 0 where
+  pub nothing : ReadsText tagText (replicate 44 9) (leaves (replyAnswer (reply 0 0 44)) (replicate 44 9)) → ⊥
+  pub lengthless : ReadsText tagText (replicate 44 9) (leaves (replyAnswer (reply 0 0 0)) tagTable) → ⊥

@@ -15,15 +15,15 @@ use packets::tables::check_table;
 use texts::reading::read_text;
 ghost use Rattle.rules.specs.Promises.{
   leaves,
-  TableGives,
-  PacketGives,
+  ChecksTable,
+  ReadsPacket,
   PlacesPart,
-  NameGives,
+  FindsField,
   PlacesLabel,
-  ListingGives,
-  Answers,
+  ListsPacket,
+  ReadsText,
 };
-ghost use Rattle.umarekoza.specs.Exports.{shown};
+ghost use Rattle.umarekoza.specs.Exports.{replyAnswer, spanPart};
 
 // Number 0 is acceptance, with place 0 and the length that is answered; else the number and place of the refusal, with
 // length 0. They are document 01's; only 30, for a name that no field has, is document 02's for no such field.
@@ -44,7 +44,7 @@ pub struct Span {
 // A text is read, and its table written into an output: the length is the table's.
 #[no_mangle]
 pub extern "C" fn umarekoza_write_table(text: &[u8], out: &mut [u8]) -> Reply
-    ensures { λ r. ⌜ Answers (now (text .entry)) (now (out .entry)) (leaves (shown r) (now (out .exit))) ⌝ }
+    ensures { λ r. ⌜ ReadsText (now (text .entry)) (now (out .entry)) (leaves (replyAnswer r) (now (out .exit))) ⌝ }
 {
     text_reply(read_text(text, out))
 }
@@ -52,7 +52,7 @@ pub extern "C" fn umarekoza_write_table(text: &[u8], out: &mut [u8]) -> Reply
 // A table is checked: the length is the table's.
 #[no_mangle]
 pub extern "C" fn umarekoza_check_table(table: &[u8]) -> Reply
-    ensures { λ r. ⌜ TableGives (now (table .entry)) (shown r) ⌝ }
+    ensures { λ r. ⌜ ChecksTable (now (table .entry)) (replyAnswer r) ⌝ }
 {
     table_reply(check_table(table))
 }
@@ -60,8 +60,8 @@ pub extern "C" fn umarekoza_check_table(table: &[u8]) -> Reply
 // A packet is read by a table, into a run of four numbers a field: the length is the bit total.
 #[no_mangle]
 pub extern "C" fn umarekoza_read_packet(table: &[u8], packet: &[u8], run: &mut [u32]) -> Reply
-    ensures { λ r. ⌜ PacketGives (now (table .entry)) (now (packet .entry)) (now (run .entry))
-        (leaves (shown r) (now (run .exit))) ⌝ }
+    ensures { λ r. ⌜ ReadsPacket (now (table .entry)) (now (packet .entry)) (now (run .entry))
+        (leaves (replyAnswer r) (now (run .exit))) ⌝ }
 {
     packet_reply(read_packet(table, packet, run))
 }
@@ -69,7 +69,7 @@ pub extern "C" fn umarekoza_read_packet(table: &[u8], packet: &[u8], run: &mut [
 // Where the bytes of the field of an index lie in the packet.
 #[no_mangle]
 pub extern "C" fn umarekoza_field_bytes(table: &[u8], packet: &[u8], index: usize) -> Span
-    ensures { λ r. ⌜ PlacesPart (now (table .entry)) (now (packet .entry)) index (r .offset) (r .length) ⌝ }
+    ensures { λ r. ⌜ PlacesPart (now (table .entry)) (now (packet .entry)) index (spanPart r) ⌝ }
 {
     let part = field_place(table, packet, index);
     Span {
@@ -81,8 +81,8 @@ pub extern "C" fn umarekoza_field_bytes(table: &[u8], packet: &[u8], index: usiz
 // A packet's listing by a table, into an output: the length is the listing's.
 #[no_mangle]
 pub extern "C" fn umarekoza_list_packet(table: &[u8], packet: &[u8], out: &mut [u8]) -> Reply
-    ensures { λ r. ⌜ ListingGives (now (table .entry)) (now (packet .entry)) (now (out .entry))
-        (leaves (shown r) (now (out .exit))) ⌝ }
+    ensures { λ r. ⌜ ListsPacket (now (table .entry)) (now (packet .entry)) (now (out .entry))
+        (leaves (replyAnswer r) (now (out .exit))) ⌝ }
 {
     listing_reply(list_packet(table, packet, out))
 }
@@ -90,7 +90,7 @@ pub extern "C" fn umarekoza_list_packet(table: &[u8], packet: &[u8], out: &mut [
 // The first field that has the name as its label or short name: the length is its index.
 #[no_mangle]
 pub extern "C" fn umarekoza_find_field(table: &[u8], name: &[u8]) -> Reply
-    ensures { λ r. ⌜ NameGives (now (table .entry)) (now (name .entry)) (shown r) ⌝ }
+    ensures { λ r. ⌜ FindsField (now (table .entry)) (now (name .entry)) (replyAnswer r) ⌝ }
 {
     field_reply(field_index(table, name))
 }
@@ -98,7 +98,7 @@ pub extern "C" fn umarekoza_find_field(table: &[u8], name: &[u8]) -> Reply
 // Where the label of the field of an index lies in the table.
 #[no_mangle]
 pub extern "C" fn umarekoza_field_label(table: &[u8], index: usize) -> Span
-    ensures { λ r. ⌜ PlacesLabel (now (table .entry)) index (r .offset) (r .length) ⌝ }
+    ensures { λ r. ⌜ PlacesLabel (now (table .entry)) index (spanPart r) ⌝ }
 {
     let part = label_place(table, index);
     Span {

@@ -1,8 +1,8 @@
 // Answers as replies.
 use crate::Reply;
+use packets::answers::amount_of;
 use packets::answers::number_of;
 use packets::answers::place_of;
-use packets::answers::value_of;
 use rules::FieldAnswer;
 use rules::ListingAnswer;
 use rules::PacketAnswer;
@@ -11,10 +11,10 @@ use rules::TextAnswer;
 ghost use mathlib.Core.Path.{_≡_};
 ghost use Prim.Native.Nat.{_<_};
 ghost use Rattle.rules.specs.Answers.{accepted, refused, ofTable, ofPacket, ofText, ofField, ofListing};
-ghost use Rattle.umarekoza.specs.Exports.{shown};
+ghost use Rattle.umarekoza.specs.Exports.{replyAnswer};
 
 fn accept(n: usize) -> Reply
-    ensures { λ r. ⌜ shown r ≡ accepted n ⌝ }
+    ensures { λ r. ⌜ replyAnswer r ≡ accepted n ⌝ }
 {
     Reply {
         number: 0,
@@ -25,7 +25,7 @@ fn accept(n: usize) -> Reply
 
 fn refuse(number: u32, place: usize) -> Reply
     requires { ⌜ place < 4294967296 ⌝ }
-    ensures { λ r. ⌜ shown r ≡ refused number place ⌝ }
+    ensures { λ r. ⌜ replyAnswer r ≡ refused number place ⌝ }
 {
     Reply {
         number: number,
@@ -36,7 +36,7 @@ fn refuse(number: u32, place: usize) -> Reply
 
 pub(crate) fn text_reply(answer: TextAnswer) -> Reply
     requires { ⌜ ofText answer .place < 4294967296 ⌝ }
-    ensures { λ r. ⌜ shown r ≡ ofText answer ⌝ }
+    ensures { λ r. ⌜ replyAnswer r ≡ ofText answer ⌝ }
 {
     match answer {
         TextAnswer::Accepted(n) => accept(n),
@@ -55,7 +55,7 @@ pub(crate) fn text_reply(answer: TextAnswer) -> Reply
 }
 
 pub(crate) fn table_reply(answer: TableAnswer) -> Reply
-    ensures { λ r. ⌜ shown r ≡ ofTable answer ⌝ }
+    ensures { λ r. ⌜ replyAnswer r ≡ ofTable answer ⌝ }
 {
     match answer {
         TableAnswer::Good(n) => accept(n),
@@ -65,11 +65,11 @@ pub(crate) fn table_reply(answer: TableAnswer) -> Reply
 
 pub(crate) fn packet_reply(answer: PacketAnswer) -> Reply
     requires { ⌜ ofPacket answer .place < 4294967296 ⌝ }
-    ensures { λ r. ⌜ shown r ≡ ofPacket answer ⌝ }
+    ensures { λ r. ⌜ replyAnswer r ≡ ofPacket answer ⌝ }
 {
     let number = number_of(answer);
     let place = place_of(answer);
-    let length = value_of(answer);
+    let length = amount_of(answer);
     Reply {
         number: number as u32,
         place: place as u32,
@@ -78,7 +78,7 @@ pub(crate) fn packet_reply(answer: PacketAnswer) -> Reply
 }
 
 pub(crate) fn field_reply(answer: FieldAnswer) -> Reply
-    ensures { λ r. ⌜ shown r ≡ ofField answer ⌝ }
+    ensures { λ r. ⌜ replyAnswer r ≡ ofField answer ⌝ }
 {
     match answer {
         FieldAnswer::At(i) => accept(i),
@@ -88,7 +88,7 @@ pub(crate) fn field_reply(answer: FieldAnswer) -> Reply
 }
 
 pub(crate) fn listing_reply(answer: ListingAnswer) -> Reply
-    ensures { λ r. ⌜ shown r ≡ ofListing answer ⌝ }
+    ensures { λ r. ⌜ replyAnswer r ≡ ofListing answer ⌝ }
 {
     match answer {
         ListingAnswer::Written(n) => accept(n),

@@ -11,7 +11,7 @@ use Rattle.base.specs.Writes.{Writes}
 use Rattle.base.proofs.Writing.{writes-join}
 use Rattle.rules.specs.Trees.{le2}
 use Rattle.rules.specs.Stored.{counted}
-use Rattle.rules.specs.Promises.{written, leaves, delivered}
+use Rattle.rules.specs.Promises.{overlaid, leaves, delivered}
 use Rattle.writing.specs.Delivery.{deliveryAnswer}
 use Rattle.writing.specs.Puts.{Placed, placed, nowhere, put}
 

@@ -30,7 +30,7 @@ abbrev placedNumbers : Placed → List ℕ
 placedNumbers p = p .next ∷ p .buffer
 
 abbrev outcomeNumbers : Outcome → List ℕ
-outcomeNumbers o = o .answer .number ∷ o .answer .place ∷ o .answer .value ∷ o .buffer
+outcomeNumbers o = o .answer .number ∷ o .answer .place ∷ o .answer .amount ∷ o .buffer
 
 -- ── other numbers ──
 

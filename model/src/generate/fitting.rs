@@ -3,11 +3,11 @@
 use super::Rng;
 use crate::descriptions::{Description, Field, Width};
 use crate::evaluation::value;
-use crate::reading::read_fields;
+use crate::reading::{read_fields, LONGEST_PACKET};
 use crate::tables::good_description;
 use crate::trees::Node;
 
-const MOST_BITS: u64 = 16_384;
+const MOST_BITS: u64 = 8 * LONGEST_PACKET as u64;
 const VALUES_TRIED: usize = 24;
 const PACKETS_TRIED: usize = 6;
 
@@ -26,7 +26,8 @@ pub fn fitting(rng: &mut Rng, table: &[u8]) -> Vec<u8> {
 
 /// Random bytes, at times as many as a packet may have, or more.
 pub fn random_packet(rng: &mut Rng) -> Vec<u8> {
-    let length = if rng.one_in(4) { rng.between(2047, 2050) } else { rng.below(40) };
+    let length =
+        if rng.one_in(4) { rng.between(LONGEST_PACKET - 1, LONGEST_PACKET + 2) } else { rng.below(40) };
     (0..length).map(|_| rng.byte()).collect()
 }
 

@@ -1,6 +1,7 @@
 //! Random trees within the limits, and trees of a given depth or number of leaves.
 
 use super::Rng;
+use crate::evaluation::apply;
 use crate::trees::{Kind, Node, Op, Tree};
 
 const ARITHMETIC: [Op; 3] = [Op::Add, Op::Sub, Op::Mul];
@@ -118,6 +119,36 @@ impl<'a> Growth<'a> {
             }
         };
         Tree { nodes: self.nodes }
+    }
+
+    /// A number as long as one can be stored: ten products of two numbers, 119 bytes. It is small.
+    pub fn longest_number(mut self, rng: &mut Rng) -> Tree<usize> {
+        self.products(rng, 10);
+        Tree { nodes: self.nodes }
+    }
+
+    /// A yes or no of 120 bytes that is `yes`: not the comparison of five products with five.
+    pub fn longest_truth(mut self, rng: &mut Rng, yes: bool) -> Tree<usize> {
+        let (left, less) = self.products(rng, 5);
+        let (right, more) = self.products(rng, 5);
+        let holding = |op: &Op| apply(*op, less, more) == Ok(u32::from(!yes));
+        let ops: Vec<Op> = COMPARISONS.into_iter().filter(holding).collect();
+        let compared = self.push(Node::Two(ops[rng.below(ops.len())], left, right));
+        self.push(Node::Not(compared));
+        Tree { nodes: self.nodes }
+    }
+
+    /// The sum of `count` products of numbers below 3, and its value.
+    fn products(&mut self, rng: &mut Rng, count: usize) -> (usize, u32) {
+        let (mut total, mut value) = (0, 0);
+        for place in 0..count {
+            let (left, right) = (rng.pick([0, 0, 0, 1]), rng.below(3) as u32);
+            let (left_at, right_at) = (self.push(Node::Number(left)), self.push(Node::Number(right)));
+            let product = self.push(Node::Two(Op::Mul, left_at, right_at));
+            total = if place == 0 { product } else { self.push(Node::Two(Op::Add, total, product)) };
+            value += left * right;
+        }
+        (total, value)
     }
 
     fn sum(&mut self, rng: &mut Rng, leaves: usize) -> usize {

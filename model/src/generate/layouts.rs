@@ -36,6 +36,16 @@ pub fn full_layout(rng: &mut Rng, count: usize) -> Layout {
     Layout { row_bits, slots }
 }
 
+/// `count` fields, each in a row of its own.
+pub fn tall_layout(rng: &mut Rng, count: usize) -> Layout {
+    let row_bits = rng.pick(ROW_BITS);
+    let mut slots = Vec::new();
+    while slots.len() < count {
+        add_row(rng, row_bits, &mut slots, 1);
+    }
+    Layout { row_bits, slots }
+}
+
 /// Adds a row of at most `most` fields; after the rest field bit rows only.
 fn add_row(rng: &mut Rng, row_bits: u32, slots: &mut Vec<Slot>, most: usize) {
     if !slots.contains(&Slot::Rest) && rng.one_in(4) {

@@ -9,25 +9,33 @@ use crate::trees::{Node, Tree, ATOM, COMPARISON};
 const MOST_OPEN: usize = 12;
 const UNKNOWN: &[u8] = b"Q9q";
 
-/// What may be spelled wrongly.
+/// How a text is spelled.
 #[derive(Clone, Copy, Default)]
-pub struct Oddities {
+pub struct Manner {
+    /// As shortly as can be.
+    plain: bool,
+    /// What may be wrong.
     parentheses: bool,
     numbers: bool,
     widths: bool,
     spaces: bool,
 }
 
-impl Oddities {
-    pub fn random(rng: &mut Rng) -> Self {
+impl Manner {
+    pub const PLAIN: Manner =
+        Manner { plain: true, parentheses: false, numbers: false, widths: false, spaces: false };
+
+    /// One thing may be wrong.
+    pub fn wrong(rng: &mut Rng) -> Self {
         let kind = rng.below(4);
-        Oddities { parentheses: kind == 0, numbers: kind == 1, widths: kind == 2, spaces: kind == 3 }
+        let plain = false;
+        Manner { plain, parentheses: kind == 0, numbers: kind == 1, widths: kind == 2, spaces: kind == 3 }
     }
 }
 
 /// A text with the cells of `drawn` and the lines of `told`, which are the same description in a right text.
-pub fn spell(rng: &mut Rng, drawn: &Description, told: &Description, oddities: Oddities) -> Vec<u8> {
-    let mut speller = Speller { rng, fields: &told.fields, oddities, text: Vec::new() };
+pub fn spell(rng: &mut Rng, drawn: &Description, told: &Description, manner: Manner) -> Vec<u8> {
+    let mut speller = Speller { rng, fields: &told.fields, manner, text: Vec::new() };
     speller.frame(drawn);
     for field in &told.fields {
         speller.field_line(field);
@@ -38,7 +46,7 @@ pub fn spell(rng: &mut Rng, drawn: &Description, told: &Description, oddities: O
 struct Speller<'a> {
     rng: &'a mut Rng,
     fields: &'a [Field<'a, usize>],
-    oddities: Oddities,
+    manner: Manner,
     text: Vec<u8>,
 }
 
@@ -119,6 +127,9 @@ impl Speller<'_> {
     }
 
     fn remark(&mut self) {
+        if self.manner.plain {
+            return;
+        }
         match self.rng.below(4) {
             0 => self.put(b" "),
             1 => {
@@ -139,7 +150,7 @@ impl Speller<'_> {
                 self.unit(*unit);
             }
             Width::Fixed(bits) => {
-                let odd = self.oddities.widths && self.rng.one_in(3);
+                let odd = self.manner.widths && self.rng.one_in(3);
                 let bits = if odd { self.rng.pick([0, 33, 40, 264, 4_294_967_288]) } else { *bits };
                 let unit = if bits % 8 == 0 && self.rng.one_in(2) { 8 } else { 1 };
                 self.expression(&Tree { nodes: vec![Node::Number(bits / unit)] });
@@ -157,7 +168,7 @@ impl Speller<'_> {
     fn expression(&mut self, tree: &Tree<usize>) {
         let needs = needs(tree);
         let need = needs[tree.root()];
-        if self.oddities.parentheses && self.rng.one_in(2) {
+        if self.manner.parentheses && self.rng.one_in(2) {
             let open = (MOST_OPEN + 1).saturating_sub(need);
             self.wrapped(tree, &needs, tree.root(), 0, open);
         } else {
@@ -168,7 +179,7 @@ impl Speller<'_> {
     /// A subtree, in parentheses if it has to be, and at times in further ones.
     fn operand(&mut self, tree: &Tree<usize>, needs: &[usize], node: usize, open: usize, wrap: bool) {
         let mut pairs = usize::from(wrap);
-        let most = MOST_OPEN.saturating_sub(open + needs[node]);
+        let most = if self.manner.plain { 0 } else { MOST_OPEN.saturating_sub(open + needs[node]) };
         if self.rng.one_in(60) {
             pairs = pairs.max(most);
         }
@@ -208,7 +219,7 @@ impl Speller<'_> {
     }
 
     fn number(&mut self, number: u32) {
-        let written = if self.oddities.numbers && self.rng.one_in(4) {
+        let written = if self.manner.numbers && self.rng.one_in(4) {
             match self.rng.below(3) {
                 0 => format!("0{number}"),
                 1 => (1u64 << 32).to_string(),
@@ -221,10 +232,13 @@ impl Speller<'_> {
     }
 
     fn space(&mut self) {
+        if self.manner.plain {
+            return;
+        }
         if self.rng.one_in(2) {
             self.put(b" ");
         }
-        if self.oddities.spaces && self.rng.one_in(4) {
+        if self.manner.spaces && self.rng.one_in(4) {
             self.put(b"  ");
         }
     }

@@ -2,7 +2,7 @@
 
 use super::layouts::{Layout, Slot};
 use super::Rng;
-use crate::names::{is_label, is_short_name};
+use crate::names::{is_label, is_short_name, LONGEST_LABEL, LONGEST_SHORT_NAME};
 
 const WORDS: [&[u8]; 18] = [
     b"Version",
@@ -36,14 +36,27 @@ impl Names {
     /// Names for a layout, no two labels and no two short names alike; with `shown`, the label or the short name
     /// of a field fits in its cell.
     pub fn random(rng: &mut Rng, layout: &Layout, shown: bool) -> Names {
-        let mut names = Names { name: label(rng, 40), labels: Vec::new(), shorts: Vec::new() };
+        let mut names = Names { name: label(rng, LONGEST_LABEL), labels: Vec::new(), shorts: Vec::new() };
         for slot in &layout.slots {
             let bits = match slot {
                 Slot::Fixed(bits) => *bits,
                 _ => layout.row_bits,
             };
-            let room = if shown { 2 * bits as usize - 1 } else { 40 };
+            let room = if shown { 2 * bits as usize - 1 } else { LONGEST_LABEL };
             names.add(rng, room);
+        }
+        names
+    }
+
+    /// Names for `count` fields, all as long as they may be.
+    pub fn longest(rng: &mut Rng, count: usize) -> Names {
+        let mut names = Names { name: longest_label(rng), labels: Vec::new(), shorts: Vec::new() };
+        while names.labels.len() < count {
+            let (label, short) = (longest_label(rng), Some(longest_short_name(rng)));
+            if names.is_new(&label, &short) {
+                names.labels.push(label);
+                names.shorts.push(short);
+            }
         }
         names
     }
@@ -53,9 +66,9 @@ impl Names {
         let mut chosen = (label(rng, room), None);
         for _ in 0..TRIES {
             let by_label = rng.one_in(2);
-            let label = label(rng, if by_label { room } else { 40 });
+            let label = label(rng, if by_label { room } else { LONGEST_LABEL });
             let wants_short = !by_label || rng.one_in(2);
-            let longest = if by_label || room > 8 { 8 } else { room };
+            let longest = if by_label { LONGEST_SHORT_NAME } else { room.min(LONGEST_SHORT_NAME) };
             let short = wants_short.then(|| short_name(rng, longest));
             chosen = (label, short);
             if self.is_new(&chosen.0, &chosen.1) {
@@ -71,9 +84,9 @@ impl Names {
     }
 }
 
-/// A label of at most `most` bytes, 40 at most.
+/// A label of at most `most` bytes.
 fn label(rng: &mut Rng, most: usize) -> Vec<u8> {
-    let most = most.min(40);
+    let most = most.min(LONGEST_LABEL);
     loop {
         let length = if rng.one_in(15) { most } else { rng.between(1, most.min(14)) };
         let label = if rng.one_in(2) { letters(rng, length) } else { words(rng, most) };
@@ -88,6 +101,24 @@ fn short_name(rng: &mut Rng, most: usize) -> Vec<u8> {
     loop {
         let length = if rng.one_in(2) { rng.between(1, most.min(2)) } else { rng.between(1, most) };
         let name: Vec<u8> = (0..length).map(|_| letter_or_digit(rng)).collect();
+        if is_short_name(&name) {
+            return name;
+        }
+    }
+}
+
+fn longest_label(rng: &mut Rng) -> Vec<u8> {
+    loop {
+        let label = letters(rng, LONGEST_LABEL);
+        if is_label(&label) {
+            return label;
+        }
+    }
+}
+
+fn longest_short_name(rng: &mut Rng) -> Vec<u8> {
+    loop {
+        let name: Vec<u8> = (0..LONGEST_SHORT_NAME).map(|_| letter_or_digit(rng)).collect();
         if is_short_name(&name) {
             return name;
         }

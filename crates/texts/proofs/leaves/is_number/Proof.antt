@@ -6,7 +6,7 @@ use Prim.Native.Nat.{_≤_, _-_, _+_, _*_, _<_}
 use mathlib.Core.Bool.{true, false}
 use lib.ListN.{length, drop, getD}
 use Rattle.base.specs.Lists.{all}
-use Rattle.rules.specs.Reader.{scan, value}
+use Rattle.text_laws.specs.Reader.{scan, wordValue}
 use Rattle.rules.specs.Names.{isDigit}
 use Rattle.names.proofs.ClassRules.{digit-in}
 use Rattle.texts.proofs.ExprLeaves.{digit-range, all-step, all-stop, all-end, scan-step, scan-end, scan-ge}
@@ -20,7 +20,7 @@ use Rattle.names.proofs.classes.class_table.Reads as class-table-reads
 use Rattle.names.proofs.classes.is_digit_in.Reads as is-digit-in-reads
 
 abbrev Inv-loop : tie.InvT-loop
-Inv-loop w classes v₀ i₀ v i = (i ≤ length w) × (v ≤ numberMost) × (value w ≡ scan v (drop i w)) ×
+Inv-loop w classes v₀ i₀ v i = (i ≤ length w) × (v ≤ numberMost) × (wordValue w ≡ scan v (drop i w)) ×
     (all isDigit w ≡ all isDigit (drop i w))
 
 abbrev μ-loop : tie.MeasureT-loop
@@ -39,7 +39,7 @@ class-table-requires : tie.Need-class-table-requires Inv-loop μ-loop
 class-table-requires c κs = search needs
 
 loop-holds : tie.Need-loop-holds Inv-loop μ-loop
-unfolding value
+unfolding wordValue
 loop-holds c = (omega arith, omega arith, refl, refl)
 
 shared-slice-read-c : tie.Need-shared-slice-read-c Inv-loop μ-loop

@@ -4,7 +4,7 @@ use mathlib.Core.Bool.{true, false}
 use Prim.Native.Nat.{_-_}
 use lib.ListN.{take, drop}
 use Rattle.rules.specs.Names.{isShort}
-use Rattle.rules.specs.Reader.{isNumberWord}
+use Rattle.text_laws.specs.Reader.{isNumberWord}
 use Rattle.texts.proofs.ExprLeaves.{leaf-short, leaf-number, leaf-neither}
 use borrow.Author.Needs.{needs}
 use Rattle.texts.proofs.leaves.leaf_at.Statement.{statement}

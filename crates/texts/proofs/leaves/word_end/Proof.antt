@@ -3,7 +3,7 @@ use native.Mathlib.Omega.{arith}
 use borrow.Author.Tests.{not-true, not-false}
 use Prim.Native.Nat.{_≤_, _-_, _+_, _*_, _<_}
 use lib.ListN.{length, drop, getD}
-use Rattle.rules.specs.Reader.{behind}
+use Rattle.text_laws.specs.Reader.{behind}
 use Rattle.names.proofs.ClassRules.{word-in}
 use Rattle.texts.proofs.ExprLeaves.{behind-end, behind-stop, behind-step}
 use borrow.Author.Needs.{needs}

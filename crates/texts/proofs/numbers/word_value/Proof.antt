@@ -6,7 +6,7 @@ use Prim.Native.Nat.{_≤_, _<_, _-_, _+_, _*_}
 use lib.ListN.{length, getD}
 use Rattle.rules.specs.Limits.{numberMost}
 use Rattle.rules.specs.Names.{isDigit}
-use Rattle.rules.specs.Reader.{isNumberWord}
+use Rattle.text_laws.specs.Reader.{isNumberWord}
 use Rattle.base.proofs.Lists.{not-both}
 use Rattle.names.proofs.ClassRules.{digit-in}
 use Rattle.texts.proofs.ExprLeaves.{digit-range}

@@ -3,7 +3,7 @@ use mathlib.Core.Bool.{true, false}
 use Prim.Native.Nat.{_-_}
 use lib.ListN.{take, drop}
 use Rattle.rules.specs.Names.{isShort}
-use Rattle.rules.specs.Reader.{isNumberWord}
+use Rattle.text_laws.specs.Reader.{isNumberWord}
 use Rattle.texts.proofs.StoredSteps.{leaf-name, leaf-number, leaf-none}
 use borrow.Author.Needs.{needs}
 use Rattle.texts.proofs.stored_trees.tree_leaf.Statement.{statement}

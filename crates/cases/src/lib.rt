@@ -1,0 +1,1 @@
+// No code stands here: specs/ lists worked cases of the rules, and proofs/ shows that each holds.

@@ -1,0 +1,98 @@
+//! Cases at the far ends of the limits: the longest tables and listings, very many bits behind a rest field, and
+//! texts of very many lines.
+
+use super::growth::Growth;
+use super::words::Names;
+use super::Rng;
+use crate::descriptions::{Description, Field, Width};
+use crate::frames::{border, tens_ruler, units_ruler, FORMATTED, WHERE};
+use crate::reading::LONGEST_PACKET;
+use crate::rules::{MOST_FIXED_BITS, ROW_BITS};
+use crate::texts::LONGEST_TEXT;
+
+/// Measured fields with expressions as long as they may be. Packets fit it, and with rows of 8 bits it can be
+/// spelled within the length of a text.
+pub fn longest<'a>(rng: &mut Rng, names: &'a Names) -> Description<'a> {
+    let whole_bytes = !rng.one_in(4);
+    let row_bits = if rng.one_in(4) { rng.pick(ROW_BITS) } else { 8 };
+    let fields = names.labels.iter().zip(&names.shorts).map(|(label, short)| {
+        let unit = if whole_bytes || rng.one_in(2) { 8 } else { 1 };
+        let present = !rng.one_in(8);
+        Field {
+            label,
+            short: short.as_deref(),
+            width: Width::Measured { unit, tree: Growth::new(&[]).longest_number(rng) },
+            constraint: Some(Growth::new(&[]).longest_truth(rng, true)),
+            condition: Some(Growth::new(&[]).longest_truth(rng, present)),
+        }
+    });
+    Description { name: &names.name, row_bits, fields: fields.collect() }
+}
+
+/// A rest field, early, among fixed fields of as many bits as may be.
+pub fn tail<'a>(rng: &mut Rng, names: &'a Names) -> Description<'a> {
+    let rest = rng.below(3);
+    let named = names.labels.iter().zip(&names.shorts).enumerate();
+    let fields = named.map(|(index, (label, short))| Field {
+        label,
+        short: short.as_deref(),
+        width: if index == rest { Width::Rest } else { Width::Fixed(MOST_FIXED_BITS) },
+        constraint: None,
+        condition: None,
+    });
+    Description { name: &names.name, row_bits: MOST_FIXED_BITS, fields: fields.collect() }
+}
+
+/// A packet for such a description: as long as may be, about as long as its fixed fields, or anything else.
+pub fn tail_packet(rng: &mut Rng, description: &Description) -> Vec<u8> {
+    let fixed: u32 = description.fields.iter().filter_map(Field::fixed_bits).sum();
+    let least = fixed as usize / 8;
+    let length = match rng.below(4) {
+        0 | 1 => LONGEST_PACKET - rng.below(2),
+        2 => (least + rng.below(3)).saturating_sub(1),
+        _ => rng.between(0, LONGEST_PACKET + 1),
+    };
+    (0..length).map(|_| rng.byte()).collect()
+}
+
+/// A right frame up to its rows.
+fn opening(row_bits: u32) -> Vec<u8> {
+    let first = [b"A Far", FORMATTED].concat();
+    let lines =
+        [first, Vec::new(), tens_ruler(row_bits), units_ruler(row_bits), border(row_bits), Vec::new()];
+    lines.join(&b'\n')
+}
+
+/// A text of so many rows, one cell each, that its length may be that of the longest text.
+pub fn many_rows(rng: &mut Rng) -> Vec<u8> {
+    let row_bits = rng.pick([8, 8, 16]);
+    let inner = 2 * row_bits as usize - 1;
+    let mut text = opening(row_bits);
+    let most = rng.between(2_000, LONGEST_TEXT - 50);
+    while text.len() + 2 * (inner + 3) <= most {
+        let bar = rng.pick([b'|', b':']);
+        let before = rng.below(inner);
+        text.push(bar);
+        text.extend((0..inner).map(|column| if column == before { b'F' } else { b' ' }));
+        text.extend([bar, b'\n']);
+        text.extend(border(row_bits));
+        text.push(b'\n');
+    }
+    text.extend([b"\n", WHERE, b"\n\nF: 8 bits.\n"].concat());
+    text
+}
+
+/// A text of one row and of as many field lines as its length allows, all alike; at times without the last LF.
+pub fn many_lines(rng: &mut Rng) -> Vec<u8> {
+    let mut text = opening(8);
+    text.extend([b"|F              |\n", &border(8)[..], b"\n\n", WHERE, b"\n\n"].concat());
+    let line: &[u8] = rng.pick([b"\n", b"\n", b"?\n", b"F: 8 bits.\n"]);
+    let most = rng.between(2_000, LONGEST_TEXT);
+    while text.len() + line.len() < most {
+        text.extend(line);
+    }
+    if rng.one_in(2) {
+        text.push(b'F');
+    }
+    text
+}

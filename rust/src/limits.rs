@@ -1,0 +1,24 @@
+//! The limits of document 01 that a caller meets, and how long a lent buffer has to be at most.
+
+/// The most bytes of a page text.
+pub const TEXT_MOST: usize = 16_384;
+/// The most fields of a page or a table.
+pub const FIELDS_MOST: usize = 64;
+/// The most bytes of a packet.
+pub const PACKET_MOST: usize = 2_048;
+
+const LABEL_MOST: usize = 40;
+const SHORT_MOST: usize = 8;
+const STORED_MOST: usize = 120;
+
+/// A run of so many numbers is long enough for every table: four for each field.
+pub const RUN_MOST: usize = 4 * FIELDS_MOST;
+/// An output of so many bytes has room for every table: the head, the records of the fields, and the end.
+pub const TABLE_MOST: usize = 10 + LABEL_MOST + FIELDS_MOST * RECORD_MOST + 4;
+/// Length and kind, label, short name, unit, and three expressions, each behind its length.
+const RECORD_MOST: usize = 4 + (2 + LABEL_MOST) + (2 + SHORT_MOST) + 2 + 3 * (2 + STORED_MOST);
+/// An output of so many bytes has room for every listing: the line of each field, and `bits 16384` with its LF.
+pub const LISTING_MOST: usize = FIELDS_MOST * LINE_MOST + 11;
+/// A label, `: `, an offset of five digits, a width of two, a value of ten, two spaces and LF. The line of a long field
+/// is shorter: its width has five digits at most, and it has no value.
+const LINE_MOST: usize = LABEL_MOST + 2 + 5 + 2 + 10 + 2 + 1;

@@ -1,0 +1,39 @@
+#!/usr/bin/env python3
+"""Makes what the program crates/runs is run on. Run by hand in the project's root:
+
+  tools/make_runs.py VECTORS
+
+Reads VECTORS/*.tsv (a request, a TAB and its answer to a line).
+Writes crates/runs/data/marked_texts    texts of text_requests.py
+       crates/runs/data/texts1 ..       requests `text` of the vectors
+       crates/runs/data/marked_packets  M1 to M10 of document 01
+       crates/runs/data/tables1 ..      requests `table` of the vectors
+       crates/runs/data/packets1 ..     requests `read`, `part` and `list` of the vectors
+       crates/runs/stdout               the answers due to these files, in this order, in which main names them
+No answer comes from a run of the program: those of M1 to M10 are document 01's, a marked text's table is built from its
+description, the others are the vectors'.
+"""
+import sys
+
+import packet_requests
+import text_requests
+
+CRATE = "crates/runs/"
+
+
+# The requests of each file, and the answers due to all in this order.
+def write(files):
+    stdout = []
+    for name, cases in files.items():
+        with open(CRATE + "data/" + name, "w") as out:
+            out.writelines(request + "\n" for request, _ in cases)
+        stdout += [answer + "\n" for _, answer in cases]
+        print(name, len(cases), "requests,", sum(len(r) + 1 for r, _ in cases), "bytes")
+    with open(CRATE + "stdout", "w") as out:
+        out.writelines(stdout)
+    print("stdout", sum(map(len, stdout)), "bytes")
+
+
+if len(sys.argv) != 2:
+    sys.exit(__doc__)
+write({**text_requests.files(sys.argv[1]), **packet_requests.files(sys.argv[1])})

@@ -1,0 +1,131 @@
+"""The requests of crates/runs on tables and packets, with their answers: M1 to M10 of document 01, and those of
+tables.tsv and packets.tsv of the vectors. A part is answered by its length and its bytes, `part LEN HEX`, where the
+vectors have `part START LEN`.
+"""
+from collections import Counter
+
+from runs import BLADE, TAG, both, fixed, number, spelled, split, table
+
+SHORT = {"tables": 420, "packets": 500}  # every request of at most so many bytes is taken
+LEAST = 30  # so many of each kind of request and answer are taken, as far as there are, whatever their length
+
+# Document 01's packets, the answer to `read` and the listing of each.
+M1 = "62 07 01 2C AA BB 00 09"
+M1_LISTING = """Version: 0 2 1
+On Loan: 2 1 1
+Cells: 3 5 2
+Blade: 8 8 7
+Borrower: 16 16 300
+Readings: 32 16
+Sum: 48 16 9
+bits 64
+"""
+M2 = "42 07 AA BB 00 09"
+M2_LISTING = """Version: 0 2 1
+On Loan: 2 1 0
+Cells: 3 5 2
+Blade: 8 8 7
+Borrower: absent
+Readings: 16 16
+Sum: 32 16 9
+bits 48
+"""
+READINGS = [
+    (M1, "ok 64 1,0,2,1 1,2,1,1 1,3,5,2 1,8,8,7 1,16,16,300 1,32,16,0 1,48,16,9", M1_LISTING),
+    (M2, "ok 48 1,0,2,1 1,2,1,0 1,3,5,2 1,8,8,7 0,0,0,0 1,16,16,0 1,32,16,9", M2_LISTING),
+    ("62 07 01 2C AA BB 00", "refused 24 7", "refused 24 at 7\n"),
+    (M1 + " 00", "refused 28 0", "refused 28 at 0\n"),
+    ("22 07 01 2C AA BB 00 09", "refused 25 1", "refused 25 at 1\n"),
+    ("55 07", "refused 25 3", "refused 25 at 3\n"),
+    ("", "refused 24 1", "refused 24 at 1\n"),
+]
+# The fields' bytes by index; one index more than there are fields.
+M1_PARTS = ["", "", "", "07", "01 2C", "AA BB", "00 09", ""]
+M2_PARTS = ["", "", "", "07", "", "AA BB", "00 09", ""]
+
+# M8 and M9: a tree, and its value, or None where it is 27.
+VALUES = [
+    (both("+", number(2), both("*", number(3), number(4))), 14),
+    (both("-", both("-", number(7), number(2)), number(1)), 4),
+    (both("*", number(65535), number(65537)), 4294967295),
+    (both("*", number(65536), number(65536)), None),
+    (both("-", number(3), number(5)), None),
+]
+
+
+def shown(part):
+    return "part %d %s" % (len(part), spelled(part))
+
+
+def marked():
+    blade = BLADE.hex()
+    yield "table " + blade, "ok"
+    for packet, answer, listing in READINGS:
+        words = "%s %s" % (blade, spelled(bytes.fromhex(packet)))
+        yield "read 28 " + words, answer
+        yield "read 40 " + words, answer
+        yield "list " + words, spelled(listing.encode())
+    yield "read 27 %s %s" % (blade, spelled(bytes.fromhex(M1))), "refused 23 0"
+    for packet, parts in ((M1, M1_PARTS), (M2, M2_PARTS)):
+        for index, part in enumerate(parts):
+            request = "part %d %s %s" % (index, blade, spelled(bytes.fromhex(packet)))
+            yield request, shown(bytes.fromhex(part))
+    yield from marked_values()
+    yield "table " + TAG.hex(), "ok"
+    yield "read 4 %s 07" % TAG.hex(), "ok 8 1,0,8,7"
+    yield "read 4 %s 08" % TAG.hex(), "refused 25 1"
+
+
+# Each tree in the constraint of a byte: accepted where its value is the one compared with.
+def marked_values():
+    for tree, value in VALUES:
+        for compared in (0 if value is None else value, 1):
+            kind = table(b"Tag", 8, fixed(b"Kind", b"K", 8, both("==", tree, number(compared))))
+            number_due = "27" if value is None else "25"
+            due = "ok 8 1,0,8,9" if compared == value else "refused %s 1" % number_due
+            yield "read 4 %s 09" % kind.hex(), due
+
+
+# A vector's answer as the program gives it.
+def due_to(request, answer):
+    words = request.split(" ")
+    if words[0] != "part":
+        return answer
+    start, size = map(int, answer.split(" ")[1:])
+    packet = b"" if words[3] == "-" else bytes.fromhex(words[3])
+    return shown(packet[start : start + size])
+
+
+# The kind of a request and of its answer.
+def group(request, answer):
+    kind = request.split(" ")[0]
+    if kind == "part":
+        return kind, "empty" if answer.endswith(" 0") else "bytes"
+    if kind == "list":
+        answer = bytes.fromhex(answer).decode()
+        return kind, answer[:10] if answer.startswith("refused") else "lines"
+    return kind, answer[:10] if answer.startswith("refused") else "ok"
+
+
+# The short requests, more where a group has few, and the longest of each kind.
+def chosen(vectors, name):
+    with open("%s/%s.tsv" % (vectors, name)) as lines:
+        cases = [tuple(line.rstrip("\n").split("\t")) for line in lines]
+    have = Counter(group(*case) for case in cases if len(case[0]) <= SHORT[name])
+    longest = {}
+    for case in cases:
+        kind = case[0].split(" ")[0]
+        longest[kind] = max(longest.get(kind, case), case, key=lambda c: len(c[0]))
+    for case in cases:
+        if len(case[0]) > SHORT[name] and case not in longest.values():
+            if have[group(*case)] >= LEAST:
+                continue
+            have[group(*case)] += 1
+        yield case
+
+
+def files(vectors):
+    files = {"marked_packets": list(marked())}
+    for name in SHORT:
+        files.update(split(name, [(r, due_to(r, a)) for r, a in chosen(vectors, name)]))
+    return files

@@ -1,0 +1,182 @@
+"""The requests of crates/runs on texts, with their answers: the Tag and the blade report of document 01, a TCP header and
+a QUIC long header, with outputs that are exactly long enough, too short and longer; and those of spelled.tsv, edge.tsv
+and mutated.tsv of the vectors.
+"""
+from runs import BLADE, ROOM, TAG, both, field, fixed, measured, number, rest, spelled, table
+
+VECTORS = ("spelled", "edge", "mutated")
+ACCEPTED = 105  # so many accepted texts are taken, the shortest, and the longest too
+REFUSED = 12  # so many of each refusal number, the shortest
+RARE = ("refused 1", "refused 4", "refused 8", "refused 10")  # all of these
+
+# The source document's TCP header and QUIC long header as far as document 01 takes them: a row is one line, a cell
+# shows a short name that fits it, and what has no fixed width stands in long rows.
+TCP = table(
+    b"TCP Header",
+    32,
+    fixed(b"Source Port", b"", 16),
+    fixed(b"Destination Port", b"", 16),
+    fixed(b"Sequence Number", b"", 32),
+    fixed(b"Acknowledgment Number", b"", 32),
+    fixed(b"Data Offset", b"DOffset", 4, both(">=", field(4), number(5))),
+    fixed(b"Reserved", b"Rsrvd", 4, both("==", field(5), number(0))),
+    fixed(b"CWR", b"C", 1),
+    fixed(b"ECE", b"E", 1),
+    fixed(b"URG", b"U", 1),
+    fixed(b"ACK", b"A", 1),
+    fixed(b"PSH", b"P", 1),
+    fixed(b"RST", b"R", 1),
+    fixed(b"SYN", b"S", 1),
+    fixed(b"FIN", b"F", 1, both("||", both("==", field(13), number(0)), both("==", field(12), number(0)))),
+    fixed(b"Window Size", b"", 16),
+    fixed(b"Checksum", b"", 16),
+    fixed(b"Urgent Pointer", b"", 16),
+    measured(
+        b"Options", b"", 1, both("*", both("-", field(4), number(5)), number(32)), both(">", field(4), number(5))
+    ),
+    rest(b"Payload", b""),
+)
+LONG_HEADER = table(
+    b"Long Header",
+    8,
+    fixed(b"Header Form", b"H", 1, both("==", field(0), number(1))),
+    fixed(b"Fixed Bit", b"F", 1, both("==", field(1), number(1))),
+    fixed(b"Long Packet Type", b"T", 2),
+    fixed(b"Reserved Bits", b"R", 2),
+    fixed(b"Packet Number Length", b"P", 2),
+    measured(b"Version ID", b"VID", 8, both("*", number(4), number(1))),
+    fixed(b"DCID Len", b"DLen", 8, both("<=", field(6), number(20))),
+    measured(b"Destination Connection ID", b"DCID", 8, field(6)),
+    fixed(b"SCID Len", b"SLen", 8, both("<=", field(8), number(20))),
+    measured(b"Source Connection ID", b"SCID", 8, field(8)),
+)
+
+TAG_TEXT = """Tag 8
+|       K       |
+
+Kind (K): 1 byte; K == 7.
+"""
+BLADE_TEXT = """Blade Report 16
+| V |L|  Cells  |     Blade     |
+|           Borrower            |
+:            Readings           :
+|             Sum               |
+
+Version (V): 2 bits; V == 1.
+On Loan (L): 1 bit.
+Cells (N): 5 bits; N <= 20.
+Blade: 1 byte.
+Borrower (Bor): 2 bytes; present only when L == 1.
+Readings: N bytes.
+Sum: 2 bytes.
+"""
+TCP_TEXT = """TCP Header 32
+|          Source Port          |        Destination Port       |
+|                        Sequence Number                        |
+|                     Acknowledgment Number                     |
+|DOffset| Rsrvd |C|E|U|A|P|R|S|F|          Window Size          |
+|            Checksum           |         Urgent Pointer        |
+:                            Options                            :
+:                            Payload                            :
+
+Source Port: 16 bits. A fixed-width field, whose full label is shown in the diagram.
+Destination Port: 2 bytes.
+Sequence Number: 32 bits.
+Acknowledgment Number: 4 bytes.
+Data Offset (DOffset): 4 bits; DOffset >= 5. The header's length in words of 32 bits.
+Reserved (Rsrvd): 4 bits; Rsrvd == 0.
+CWR (C): 1 bit.
+ECE (E): 1 bit.
+URG (U): 1 bit.
+ACK (A): 1 bit.
+PSH (P): 1 bit.
+RST (R): 1 bit.
+SYN (S): 1 bit.
+FIN (F): 1 bit; (F == 0) || (S == 0).
+Window Size: 16 bits.
+Checksum: 16 bits.
+Urgent Pointer: 16 bits.
+Options: (DOffset-5)*32 bits; present only when DOffset > 5.
+Payload: variable. What is left of the packet.
+"""
+LONG_HEADER_TEXT = """Long Header 8
+|H|F| T | R | P |
+:      VID      :
+|      DLen     |
+:      DCID     :
+|      SLen     |
+:      SCID     :
+
+Header Form (H): 1 bit; H == 1.
+Fixed Bit (F): 1 bit; F == 1.
+Long Packet Type (T): 2 bits.
+Reserved Bits (R): 2 bits.
+Packet Number Length (P): 2 bits.
+Version ID (VID): 4 * 1 bytes. Four bytes, which no row of a byte holds.
+DCID Len (DLen): 1 byte; DLen <= 20.
+Destination Connection ID (DCID): DLen bytes.
+SCID Len (SLen): 1 byte; SLen <= 20.
+Source Connection ID (SCID): SLen bytes.
+"""
+
+
+# The text of document 01's 'The lines of a text', from NAME, W, the rows and the field lines.
+def whole(short):
+    head, *lines = short.split("\n")
+    name, width = head.rsplit(" ", 1)
+    w = int(width)
+    gap = lines.index("")
+    tens = [" "] * (2 * w + 1)
+    for i in range(0, w, 10):
+        tens[2 * i + 1] = str(i // 10)
+    border = "+" + "-+" * w
+    rows = []
+    for row in lines[:gap]:
+        assert len(row) == 2 * w + 1
+        rows += [row, border]
+    rulers = ["".join(tens).rstrip(), "".join(" %d" % (i % 10) for i in range(w)), border]
+    opening = ["A %s is formatted as follows:" % name, ""]
+    return "\n".join(opening + rulers + rows + ["", "where:", ""] + lines[gap + 1 :]).encode()
+
+
+def marked():
+    for short, due in ((TAG_TEXT, TAG), (BLADE_TEXT, BLADE), (TCP_TEXT, TCP), (LONG_HEADER_TEXT, LONG_HEADER)):
+        for size in (len(due), len(due) - 1, 28672) + ((0, len(due) + 1) if due == TAG else ()):
+            answer = "ok " + due.hex() if len(due) <= size else "refused 11 0"
+            yield "text %d %s" % (size, spelled(whole(short))), answer
+
+
+# `ok`, or `refused N`.
+def group(answer):
+    return "ok" if answer.startswith("ok") else answer.rsplit(" ", 1)[0]
+
+
+# The shortest requests of each group, and the longest that is accepted.
+def chosen(vectors):
+    groups = {}
+    for name in VECTORS:
+        with open("%s/%s.tsv" % (vectors, name)) as lines:
+            for line in lines:
+                request, answer = line.rstrip("\n").split("\t")
+                groups.setdefault(group(answer), []).append((request, answer))
+    for kind, cases in groups.items():
+        cases.sort(key=lambda case: len(case[0]))
+        yield from cases if kind in RARE else cases[: ACCEPTED if kind == "ok" else REFUSED]
+    yield groups["ok"][-1]
+
+
+# The cases, the longest first, each in the first file with room for it.
+def packed(cases):
+    files = []
+    for case in sorted(cases, key=lambda case: -len(case[0])):
+        for file in files:
+            if sum(len(request) + 1 for request, _ in file) + len(case[0]) < ROOM:
+                file.append(case)
+                break
+        else:
+            files.append([case])
+    return {"texts%d" % i: file for i, file in enumerate(files, 1)}
+
+
+def files(vectors):
+    return {"marked_texts": list(marked()), **packed(chosen(vectors))}
