@@ -195,9 +195,11 @@ module _ (text line : List ℕ) (at a i w : ℕ) (m : Option ℕ) (ms : List (Li
       cut : pieces (getD line 0 0) (drop a line) ≡ chars ∷ pieces (getD line 0 0) (drop (b + 1) line)
       cut = piece-at (getD line 0 0) line a b h cell-in
 
-      decided : m ≡ mismatch i (shownOf (isLong line) chars ∷ (cellsIn line (b + 1) ++ joined slotsIn (x .rows))) (drop i forms)
+      decided : m ≡ mismatch i (shownOf (isLong line) chars ∷ (cellsIn line (b + 1) ++ joined slotsIn (x .rows)))
+          (drop i forms)
       decided = x .decides ∙ ap
-          (λ (ps : List (List ℕ)). mismatch i (map (shownOf (isLong line)) ps ++ joined slotsIn (x .rows)) (drop i forms)) cut
+          (λ (ps : List (List ℕ)). mismatch i (map (shownOf (isLong line)) ps ++ joined slotsIn (x .rows))
+          (drop i forms)) cut
 
       cells-are : all isCell (map cellOf (chars ∷ pieces (getD line 0 0) (drop (b + 1) line))) ≡ true
       cells-are = ap (λ (ps : List (List ℕ)). all isCell (map cellOf ps)) (sym cut) ∙ x .areCells
@@ -266,8 +268,8 @@ module _ (text line : List ℕ) (at a i w : ℕ) (m : Option ℕ) (ms : List (Li
       };
       decides =
           x .decides
-          ∙ ap (λ (l : List ℕ). mismatch i (map (shownOf (isLong line)) (pieces (getD line 0 0) l) ++ joined slotsIn (x .rows))
-          (drop i forms)) (drop-of-length-le line {i = a} ge);
+          ∙ ap (λ (l : List ℕ). mismatch i (map (shownOf (isLong line)) (pieces (getD line 0 0) l)
+          ++ joined slotsIn (x .rows)) (drop i forms)) (drop-of-length-le line {i = a} ge);
     }
 
     cells-stuck : s ≡ 0 → ⊥
