@@ -1,14 +1,14 @@
 -- What the promises rule out. For the stored table of a description within the limits, a promise allows one answer and
 -- one buffer; of other numbers it is false. Each claim of specs/Wrong has other numbers, by one computation.
-use mathlib.Core.Path.{_≡_, refl, sym, ap, _∙_}
-use mathlib.Core.Bool.{Bool, true, _&&_, not, false≢true}
+use mathlib.Core.Path.{_≡_, refl, ap, _∙_}
+use mathlib.Core.Bool.{Bool, true, _&&_, not}
 use mathlib.Core.List.{List, [], _∷_}
 use Prim.Native.Nat.{ℕ}
 use native.Mathlib.Omega.{arith}
 use lib.ListN.{length, getElem?}
 use Rattle.base.specs.Bytes.{digits}
 use Rattle.base.specs.Lists.{all, any, same, lastIs, sum, joined, firstBreak}
-use Rattle.base.proofs.Lists.{same-self}
+use Rattle.base.proofs.Lists.{every-passes, not-same}
 use Rattle.base.proofs.Breaks.{and-true}
 use Rattle.rules.specs.Operators.{operator}
 use Rattle.rules.specs.Names.{
@@ -208,18 +208,13 @@ claim-only (tellsAmount r n) h p = ap single p
 abbrev pub isOther : Claim → Bool
 isOther c = isFitting c && not (same (claimed c) (given c))
 
-not-same : (s t : List ℕ) → not (same s t) ≡ true → s ≡ t → ⊥
-not-same s t n e = false≢true (sym (ap not (ap (λ u. same u t) e ∙ same-self t)) ∙ n)
-
 pub ruled-out : (c : Claim) → isOther c ≡ true → Claimed c → ⊥
 ruled-out c h p =
     let e = and-true (isFitting c) (not (same (claimed c) (given c))) h in
     not-same (claimed c) (given c) (e .1) (claim-only c (e .0) p)
 
 pub all-out : (cs : List Claim) → all isOther cs ≡ true → AllFalse cs
-unfolding all
-all-out [] h = tt
-all-out (c ∷ cs) h = let e = and-true (isOther c) (all isOther cs) h in (ruled-out c (e .0), all-out cs (e .1))
+all-out = every-passes isOther ruled-out
 
 -- each wrong program's answer is ruled out
 pub all-ruled-out : AllFalse wrong

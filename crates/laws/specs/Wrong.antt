@@ -6,7 +6,7 @@ use mathlib.Core.Option.{none, some}
 use Prim.Native.Nat.{ℕ}
 use lib.ListN.{length, replicate, drop}
 use Rattle.base.specs.Bytes.{bytes}
-use Rattle.base.specs.Lists.{joined}
+use Rattle.base.specs.Lists.{joined, Every}
 use Rattle.rules.specs.declared.Op.the-variants.{Eq}
 use Rattle.rules.specs.declared.Fault.the-variants.{BitsMissing}
 use Rattle.rules.specs.declared.PacketAnswer.{PacketAnswer}
@@ -75,8 +75,7 @@ Claimed (tellsPlace r n) = n ≡ ofPacket r .place
 Claimed (tellsAmount r n) = n ≡ ofPacket r .amount
 
 abbrev pub AllFalse : List Claim → Type 0
-AllFalse [] = Unit {0}
-AllFalse (c ∷ cs) = (Claimed c → ⊥) × AllFalse cs
+AllFalse = Every (λ c. Claimed c → ⊥)
 
 -- ── short ways to write what was left in a buffer ──
 

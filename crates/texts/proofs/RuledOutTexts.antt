@@ -1,13 +1,13 @@
 -- What the promise of a text rules out. A text and an output have one outcome (TextResults); each claim of
 -- specs/WrongTexts has another, by one computation.
-use mathlib.Core.Path.{_≡_, refl, sym, ap, _∙_}
-use mathlib.Core.Bool.{true, not, false≢true}
+use mathlib.Core.Path.{_≡_, refl, ap}
+use mathlib.Core.Bool.{true, not}
 use mathlib.Core.List.{List, _∷_}
 use Prim.Native.Nat.{ℕ}
 use lib.Dec.{leb→le}
 use Rattle.base.specs.Bytes.{digits}
 use Rattle.base.specs.Lists.{same, joined}
-use Rattle.base.proofs.Lists.{same-self}
+use Rattle.base.proofs.Lists.{not-same}
 use Rattle.rules.specs.Limits.{textMost}
 use Rattle.rules.specs.Operators.{operator}
 use Rattle.rules.specs.Trees.{le2, le4, storedTree}
@@ -37,9 +37,6 @@ use Rattle.texts.proofs.TextResults.{text-unique}
 
 abbrev numbers : Outcome → List ℕ
 numbers o = o .answer .number ∷ o .answer .place ∷ o .answer .amount ∷ o .buffer
-
-not-same : (s t : List ℕ) → not (same s t) ≡ true → s ≡ t → ⊥
-not-same s t n e = false≢true (sym (ap not (ap (λ u. same u t) e ∙ same-self t)) ∙ n)
 
 pub other : {text out : List ℕ} {o p : Outcome} → ReadsText text out o → not (same (numbers p) (numbers o)) ≡ true
     → ReadsText text out p → ⊥
