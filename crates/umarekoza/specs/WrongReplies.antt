@@ -35,7 +35,7 @@ abbrev pub wrongReplies : List Claim
 wrongReplies =
     -- a table: no length for a good one; a place for it
     checks bladeReport (replyAnswer (reply 0 0 0))
-    ∷ checks bladeReport (replyAnswer (reply 0 1 189))
+    ∷ checks bladeReport (replyAnswer (reply 0 1 201))
     -- a packet: bytes for bits; number and place exchanged
     ∷ reads bladeReport m1 (replyAnswer (reply 0 0 8)) (runOf m1Entries)
     ∷ reads bladeReport [] (replyAnswer (reply 1 24 0)) lentRun
