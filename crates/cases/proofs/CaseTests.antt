@@ -73,7 +73,7 @@ use Rattle.text_laws.specs.Reader.{Out, fail, got, expr}
 use Rattle.text_laws.proofs.ReaderUnique.{tree-unique, found-whole}
 use Rattle.text_laws.proofs.ReaderExact.{exact}
 use Rattle.cases.proofs.SameTree.{sameTree, same-tree}
-use Rattle.cases.proofs.TextSeen.{seen, Seen, is-seen, outcomeOf, outcome-is}
+use Rattle.text_laws.proofs.TextSeen.{seen, Seen, is-seen, outcomeOf, outcome-is}
 
 -- ── equal by their numbers ──
 

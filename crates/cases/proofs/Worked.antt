@@ -1,5 +1,6 @@
--- Each worked case holds: the definitions and the readers compute it, list by list.
+-- M1 to M10 and the worked cases hold: the definitions and the readers compute them, list by list.
 use mathlib.Core.Path.{refl}
+use lib.ListN.{take, drop}
 use Rattle.base.specs.Bytes.{digits}
 use Rattle.base.specs.Lists.{all, any, same, lastIs, sum, joined, tabulate, firstBreak}
 use Rattle.rules.specs.Operators.{operator, operators}
@@ -53,8 +54,8 @@ use Rattle.text_laws.specs.Reader.{
   expr,
   more,
 }
-use Rattle.texts.specs.LineReader as Lines
-use Rattle.texts.specs.LineReader.{
+use Rattle.text_laws.specs.LineReader as Lines
+use Rattle.text_laws.specs.LineReader.{
   literal,
   begins,
   labelEnds,
@@ -77,8 +78,8 @@ use Rattle.texts.specs.LineReader.{
   isRemark,
   readForm,
 }
-use Rattle.texts.specs.FrameReader as Frames
-use Rattle.texts.specs.FrameReader.{
+use Rattle.text_laws.specs.FrameReader as Frames
+use Rattle.text_laws.specs.FrameReader.{
   onFirst,
   pieces,
   rest,
@@ -104,9 +105,13 @@ use Rattle.texts.specs.FrameReader.{
   whole,
   readFrame,
 }
-use Rattle.texts.specs.Resolving.{firstIndex, renameTree, resolve}
+use Rattle.text_laws.specs.Resolving.{firstIndex, renameTree, resolve}
 use Rattle.cases.proofs.SameTree.{sameTree}
-use Rattle.cases.proofs.TextSeen.{formsOf, seen}
+use Rattle.text_laws.proofs.TextSeen.{formsOf, seen}
+use Rattle.rules.specs.Cases.{AllHold}
+use Rattle.rules.specs.Marked.{bladeReport, marked}
+use Rattle.laws.proofs.WithinTest.{within}
+use Rattle.base.proofs.Also.{_also_}
 use Rattle.cases.specs.LinesOfAText.{linesOfAText}
 use Rattle.cases.specs.Expressions.{expressions}
 use Rattle.cases.specs.Fields.{fields}
@@ -116,9 +121,9 @@ use Rattle.cases.specs.ReadingAPacket.{readingAPacket}
 use Rattle.cases.specs.RefusalNumbers.{refusalNumbers}
 use Rattle.cases.specs.Listing.{listings}
 use Rattle.cases.specs.Worked.{Worked}
-use Rattle.cases.proofs.CaseTests.{all-right}
+use Rattle.cases.proofs.CaseTests.{all-right, in-order}
 
-pub worked : Worked
+cases-hold : AllHold marked × Worked
 unfolding digits all any same lastIs sum joined tabulate firstBreak operator operators isLetter isDigit isSpace
     isPrintable isAllowed isWordByte isLabelByte noTwoSpaces isLabel reserved isReserved isShort depth le2 le4
     storedTree isInRange hasType apply decides evaluate rowsFit storedIn storedFieldIn fieldBody headBody tens
@@ -131,13 +136,25 @@ unfolding digits all any same lastIs sum joined tabulate firstBreak operator ope
     isConstraint readConstraint readCondition isRemark readForm Frames.readName Frames.step onFirst pieces rest
     lead leftTrim keepEnd rightTrim cellOf keepRow longOf readRow closing readTens onName onWidth onRow rowOrEnd
     opened onSame run rightFrom rightLines whole readFrame firstIndex renameTree resolve sameTree formsOf seen
-worked = record {
-  lines = all-right linesOfAText refl;
-  expressions = all-right expressions refl;
-  fields = all-right fields refl;
-  tables = all-right storedTable refl;
-  spelling = all-right spelling refl;
-  packets = all-right readingAPacket refl;
-  refusals = all-right refusalNumbers refl;
-  listings = all-right listings refl;
-}
+cases-hold = (
+  -- M4, the fifth of the list, for every byte
+  in-order (take 4 marked) (drop 4 marked) (all-right (take 4 marked) refl)
+      ((within bladeReport refl, λ b. refl)
+      also all-right (drop 5 marked) refl),
+  record {
+    lines = all-right linesOfAText refl;
+    expressions = all-right expressions refl;
+    fields = all-right fields refl;
+    tables = all-right storedTable refl;
+    spelling = all-right spelling refl;
+    packets = all-right readingAPacket refl;
+    refusals = all-right refusalNumbers refl;
+    listings = all-right listings refl;
+  },
+)
+
+pub all-marked : AllHold marked
+all-marked = cases-hold .0
+
+pub worked : Worked
+worked = cases-hold .1

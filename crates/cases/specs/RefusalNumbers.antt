@@ -19,7 +19,7 @@ use Rattle.rules.specs.Cases.{Case, breaks, refuses, answers, stands, named, un
 use Rattle.rules.specs.Marked.{tagText, tagTable}
 use Rattle.rules.specs.Pages.{oneIsOne, notTimes, long, tagHead, tagLines, tagUnended, crowded}
 use Rattle.rules.specs.Sheets.{bitsOf, longOf, sheet, plain, requiring, depending, summed, left, isOne}
-use Rattle.texts.specs.WrongTexts.{
+use Rattle.text_laws.specs.WrongTexts.{
   pageText,
   pairText,
   crossedOpen,

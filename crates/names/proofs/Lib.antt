@@ -3,6 +3,7 @@
 -- PairLaws                  loops over pairs that look for it
 -- PadLaws                   names held as arrays
 -- KeyLaws                   words told apart by their keys
+-- RuledOut                  no promise allows an answer of specs/Wrong
 pub mod ClassRules
 pub mod Spaces
 pub mod Ends
@@ -10,3 +11,4 @@ pub mod RepeatLaws
 pub mod PairLaws
 pub mod PadLaws
 pub mod KeyLaws
+pub mod RuledOut

@@ -7,3 +7,4 @@ pub mod Classes
 pub mod NameBytes
 pub mod Keys
 pub mod Repeats
+pub mod Wrong

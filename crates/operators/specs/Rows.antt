@@ -1,4 +1,5 @@
--- An operator's row in the code: every column is one of the table of the rules. [01, Expressions] [01, The stored table]
+-- An operator's row in the code: every column is one of the table of the rules.
+-- [01, Expressions] [01, The stored table]
 use Prim.Native.Nat.{ℕ}
 use lib.ListN.{getD}
 use Rattle.rules.specs.declared.Op.{Op}

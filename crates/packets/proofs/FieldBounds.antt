@@ -17,16 +17,18 @@ use Rattle.rules.specs.Stored.{counted, kindNumber, storedExpression, storedWid
 use Rattle.laws.proofs.PlacesOfNumbers.{length-le2}
 use Rattle.laws.proofs.ReadsTrees.{small-bounds, length-stored}
 use Rattle.laws.proofs.ReadsFields.{label-length, short-length, unit-bound, fixed-bound, formed-parts}
+use Rattle.rules.specs.Limits.{labelMost, shortMost, storedMost}
+use Rattle.packets.specs.Parts.{recordMost}
 use Rattle.packets.proofs.PartsLaws.{WidthBounds}
 use Rattle.packets.proofs.RecordLaws.{Bounds}
 
 pub length-counted : (l : List ℕ) → length (counted l) ≡ 2 + length l
 length-counted l = omega (arith, length-append (le2 (length l)) l, length-le2 (length l))
 
-pub small-length : (t : Tree ℕ) → isSmall t ≡ true → length (storedExpression t) ≤ 120
+pub small-length : (t : Tree ℕ) → isSmall t ≡ true → length (storedExpression t) ≤ storedMost
 small-length t h = omega (arith, small-bounds t h .1, length-stored (λ i. i) (λ i. 0) t)
 
-maybe-size : (o : Option (Tree ℕ)) → all isSmall (listOf o) ≡ true → length (storedMaybe o) ≤ 120
+maybe-size : (o : Option (Tree ℕ)) → all isSmall (listOf o) ≡ true → length (storedMaybe o) ≤ storedMost
 maybe-size none h = omega arith
 maybe-size (some t) h = small-length t (all-one isSmall t h)
 
@@ -34,7 +36,7 @@ name-size : (o : Option (List ℕ)) → ifAny isShort o ≡ true → length (sto
 name-size none h = omega arith
 name-size (some w) h = short-length w h
 
-width-size : (w : Width ℕ) → all isSmall (widthTrees w) ≡ true → length (storedWidth w) ≤ 124
+width-size : (w : Width ℕ) → all isSmall (widthTrees w) ≡ true → length (storedWidth w) ≤ 4 + storedMost
 width-size (fixed n) h = omega (arith, length-le2 n)
 width-size (measured u t) h =
     omega (
@@ -56,11 +58,11 @@ width-bounds rest h small = tt
 
 -- the parts of a field fit their limits
 pub record Sizes (f : Field ℕ) : Type 0 where
-  pub label : length (f .label) ≤ 40
-  pub short : length (storedName (f .short)) ≤ 8
-  pub width : length (storedWidth (f .width)) ≤ 124
-  pub constraint : length (storedMaybe (f .constraint)) ≤ 120
-  pub condition : length (storedMaybe (f .condition)) ≤ 120
+  pub label : length (f .label) ≤ labelMost
+  pub short : length (storedName (f .short)) ≤ shortMost
+  pub width : length (storedWidth (f .width)) ≤ 4 + storedMost
+  pub constraint : length (storedMaybe (f .constraint)) ≤ storedMost
+  pub condition : length (storedMaybe (f .condition)) ≤ storedMost
 
 pub field-sizes : (f : Field ℕ) → isFormed f ≡ true → all isSmall (trees f) ≡ true → Sizes f
 field-sizes f formed small =
@@ -77,8 +79,8 @@ field-sizes f formed small =
       condition = maybe-size (f .condition) (sizes .1);
     }
 
--- a field's record has at most 424 bytes
-pub body-size : (f : Field ℕ) → Sizes f → 4 + length (fieldBody f) ≤ 424
+-- how long a field's record is
+pub body-size : (f : Field ℕ) → Sizes f → 4 + length (fieldBody f) ≤ recordMost
 unfolding fieldBody
 body-size f z =
     let l = counted (f .label) in

@@ -20,7 +20,7 @@ use Rattle.rules.specs.Trees.{Tree, isSmall, isInRange, isNumber}
 use Rattle.rules.specs.Fields.{Width, fixed, measured, rest, widthTrees}
 use Rattle.rules.specs.Within.{isWidth, widthHasType}
 use Rattle.rules.specs.Stored.{kindNumber, storedName}
-use Rattle.packets.specs.declared.records.Span.{Span}
+use Rattle.writing.specs.declared.spans.Span.{Span}
 use Rattle.packets.specs.declared.records.Parts.{Parts}
 use Rattle.packets.specs.StoredTrees.{marked}
 use Rattle.packets.specs.Parts.{ending}

@@ -21,7 +21,8 @@ use Rattle.rules.specs.Within.{isWidth, widthHasType, indexReadable}
 use Rattle.rules.specs.Stored.{storedExpression, storedMaybe, kindNumber}
 use Rattle.rules.specs.Reading.{Entry, valueIn, holds, Step, step, stop, andThen, widthAt, entryAt, bitTotal}
 use Rattle.laws.proofs.ReadsTrees.{small-bounds}
-use Rattle.packets.specs.declared.records.Span.{Span}
+use Rattle.writing.specs.declared.spans.Span.{Span}
+use Rattle.rules.specs.Limits.{depthMost, fixedMost}
 use Rattle.packets.specs.declared.records.Parts.{Parts}
 use Rattle.packets.specs.PartsStand.{In, WidthStands}
 use Rattle.packets.specs.StoredTrees.{placed, runValue}
@@ -62,7 +63,7 @@ pub fixed-part : (p : Parts) (w : Width ℕ) → p .kind ≡ kindNumber w → (s
     → WidthStands s (p .number) tree w → isWidth w ≡ true → fixedOf p ≡ fixedWidthBits w
 unfolding fixedOf
 fixed-part p (fixed n) kind s tree stands form =
-    let le : leb n 32 ≡ true = and-true (leb 1 n) (leb n 32) form .1 in
+    let le : leb n fixedMost ≡ true = and-true (leb 1 n) (leb n fixedMost) form .1 in
     rw (kind, stands, le)
 fixed-part p (measured u t) kind s tree stands form = rw kind
 fixed-part p rest kind s tree stands form = rw kind
@@ -80,7 +81,7 @@ module _ (s run : List ℕ) (before : List (Field ℕ)) (entries : List Entry)
       → treeValue s run at ≡ evaluate (valueIn entries) t
   unfolding treeValue
   tree-reads k t at next typed range small p =
-      let e = value-stored 12 s run at t next range (small-bounds t small .0) p in
+      let e = value-stored depthMost s run at t next range (small-bounds t small .0) p in
       rw e
       (placed-value (evaluate (runValue run) t) next
       ∙ evaluate-agree (indexReadable before) k t (runValue run) (valueIn entries) typed agrees)
@@ -103,7 +104,7 @@ module _ (s run : List ℕ) (before : List (Field ℕ)) (entries : List Entry)
       → presentAt s packet run p later place ≡ andThen (widthAt packet entries place total w) (opened packet place w)
   unfolding presentAt extentAt boundedAt numberOf measuredAt restAt
   width-reads packet (fixed n) p later total place kind stands form typed range small sums =
-      let le : leb n 32 ≡ true = and-true (leb 1 n) (leb n 32) form .1 in
+      let le : leb n fixedMost ≡ true = and-true (leb 1 n) (leb n fixedMost) form .1 in
       rw (fixed-part p (fixed n) kind s (p .tree) stands form, kind, le)
   width-reads packet (measured u t) p later total place kind stands form typed range small sums =
       let unit = unit-is u (and-true (eqb u 1 || eqb u 8) (not (isNumber t)) form .0) in

@@ -11,6 +11,7 @@ use Rattle.base.specs.Lists.{between}
 use Rattle.base.specs.Places.{twoAt}
 use Rattle.base.proofs.Lists.{and-left, and-right, between-true}
 use Rattle.rules.specs.Names.{isLabel}
+use Rattle.rules.specs.Limits.{fixedMost}
 use Rattle.packets.specs.declared.records.WidthParts.{WidthParts}
 use Rattle.packets.specs.declared.records.Parts.{Parts}
 use Rattle.packets.specs.Parts.{spanOf, ending, spanAt, widthOf, widthAt, partsAt}
@@ -82,18 +83,18 @@ inside-of s at p e h =
     let n : partsAt s at .next ≤ length s = rw e at (bounds-next s at p h) in
     rw e (parts-inside s at n)
 
--- a fixed field has at most 32 bits
+-- a fixed field has at most so many bits
 pub bits-small : (w place : ℕ) (ended : Bool) (s : List ℕ) (at : ℕ) (p : Parts)
     → fieldTest w place ended s at p ≡ true
-    → bitsOf p ≤ 32
+    → bitsOf p ≤ fixedMost
 unfolding fieldTest formTest numberTest bitsOf
 bits-small w place ended s at p h =
     let f = and-left (formTest s p) _ (and-right (boundsTest s at p) _ h) in
     let n = and-right (shortTest s (p .short)) _ (and-right (isLabel (bytesIn s (p .label))) _ f) in
     go (eqb (p .kind) 2) n
   where
-    go : (b : Bool) → cond b (between 1 (p .number) 32)
+    go : (b : Bool) → cond b (between 1 (p .number) fixedMost)
         (cond (eqb (p .kind) 3) (eqb (p .number) 1 || eqb (p .number) 8) true) ≡ true
-        → cond b (p .number) 0 ≤ 32
-    go true e = between-true 1 (p .number) 32 e .1
+        → cond b (p .number) 0 ≤ fixedMost
+    go true e = between-true 1 (p .number) fixedMost e .1
     go false e = omega arith

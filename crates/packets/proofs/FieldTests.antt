@@ -20,7 +20,7 @@ use Rattle.rules.specs.Fields.{Width, Field, widthTrees, trees}
 use Rattle.rules.specs.Within.{isWidth, isFormed, widthHasType}
 use Rattle.rules.specs.Stored.{storedField, storedName, storedMaybe}
 use Rattle.laws.proofs.ReadsFields.{formed-parts}
-use Rattle.packets.specs.declared.records.Span.{Span}
+use Rattle.writing.specs.declared.spans.Span.{Span}
 use Rattle.packets.specs.declared.records.Parts.{Parts}
 use Rattle.packets.specs.StoredTrees.{marked}
 use Rattle.packets.specs.Parts.{partsAt}

@@ -10,13 +10,14 @@ use Rattle.base.proofs.Places.{stands-left, stands-right, stands-end}
 use Rattle.rules.specs.Fields.{Description}
 use Rattle.rules.specs.Within.{Within}
 use Rattle.rules.specs.Stored.{recordOf, storedField, headBody, stored, storedIn}
+use Rattle.rules.specs.Limits.{fieldsMost}
 use Rattle.packets.specs.Parts.{tableMost}
 use Rattle.packets.proofs.TableSteps.{head-is, count-most}
 use Rattle.packets.proofs.TableParts.{head-found, whole-stands, table-length}
 
 pub record HeadStands (s : List ℕ) (d : Description) : Type 0 where
   pub count : twoAt s 6 ≡ length (d .fields)
-  pub few : length (d .fields) ≤ 64
+  pub few : length (d .fields) ≤ fieldsMost
   pub end : ℕ
   pub fields : Stands s (twoAt s 0) (joined storedField (d .fields)) end
   pub short : end ≤ tableMost

@@ -21,6 +21,7 @@ use Rattle.rules.specs.Stored.{kindNumber, storedField}
 use Rattle.rules.specs.Reading.{Entry, absent}
 use Rattle.rules.specs.Listing.{entryLine, entryLines, linesText}
 use Rattle.laws.proofs.ReadsFields.{label-length, formed-parts}
+use Rattle.rules.specs.Limits.{labelMost}
 use Rattle.packets.specs.declared.records.Parts.{Parts}
 use Rattle.packets.specs.Parts.{tableMost, ending, partsAt}
 use Rattle.packets.specs.PartsStand.{In, PartsStand}
@@ -52,7 +53,7 @@ line-stored s p run i f e h q r =
     = rw (l .text) (take-at (f .label) (drop (ending (p .label)) s) (p .label .len) (sym n)) in
     let k : eqb (p .kind) 2 ≡ isFixed f = rw (q .kind) (kind-fixed (f .width)) in
     rw (
-      le-ltb 40 (p .label .len) (omega arith),
+      le-ltb labelMost (p .label .len) (omega arith),
       le-ltb (length s) (p .label .at) (omega arith),
       le-ltb (length s - p .label .at) (p .label .len) (omega arith),
       t,

@@ -21,6 +21,7 @@ use Rattle.base.specs.Writes.{Writes}
 use Rattle.packets.specs.Listings.{ListsStored, ListsInto}
 use Rattle.packets.specs.LineTexts.{entryIn, linesFrom}
 use Rattle.packets.proofs.TableHead.{head-count, fields-stand}
+use Rattle.packets.specs.Parts.{tableMost}
 use Rattle.packets.proofs.TableParts.{table-length}
 use Rattle.packets.proofs.RunEntries.{run-number, run-present}
 use Rattle.packets.proofs.LinesStored.{lines-stored}
@@ -50,7 +51,7 @@ module _ (s packet : List ℕ) (d : Description) (w : Within d) (is : stored d �
   lines-are : (es : List Entry) → reading d packet ≡ complete es
       → linesFrom s run 0 (twoAt s 6) (twoAt s 0) ≡ linesText (entryLines (d .fields) es)
   lines-are es e =
-      let l : length s ≤ 32768 = rw is at (table-length d w) in
+      let l : length s ≤ tableMost = rw is at (table-length d w) in
       rw (head-count d s is w)
       (lines-stored s run (d .fields) es [] 0 (twoAt s 0) (length s) (recordOf 5 []) (w .form) (w .size)
       (entries-length d packet es e) l (fields-stand d s is w) (entries-in es e))

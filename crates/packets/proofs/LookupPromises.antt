@@ -24,7 +24,7 @@ use Rattle.rules.specs.Promises.{
   movedBy,
   LendsLabel,
 }
-use Rattle.packets.specs.declared.records.Span.{Span}
+use Rattle.writing.specs.declared.spans.Span.{Span}
 use Rattle.packets.specs.Parts.{tableMost, spanOf, ending, partsAt}
 use Rattle.packets.specs.Lookups.{placeFrom, findFrom, OnTable}
 use Rattle.packets.proofs.TableHead.{head-first, head-count, fields-stand}

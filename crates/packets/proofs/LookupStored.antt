@@ -23,7 +23,7 @@ use Rattle.rules.specs.Stored.{storedName, storedField}
 use Rattle.rules.specs.Answers.{accepted, ofField}
 use Rattle.rules.specs.Promises.{firstNamed}
 use Rattle.laws.proofs.ReadsFields.{formed-parts}
-use Rattle.packets.specs.declared.records.Span.{Span}
+use Rattle.writing.specs.declared.spans.Span.{Span}
 use Rattle.packets.specs.declared.records.Parts.{Parts}
 use Rattle.packets.specs.Parts.{tableMost, ending, partsAt}
 use Rattle.packets.specs.PartsStand.{In, PartsStand}

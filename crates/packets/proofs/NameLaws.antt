@@ -24,6 +24,7 @@ use Rattle.base.proofs.Lists.{
 }
 use Rattle.base.proofs.Places.{stands-left, stands-right}
 use Rattle.base.proofs.Breaks.{firstBreak-cons}
+use Rattle.rules.specs.Limits.{shortMost}
 use Rattle.rules.specs.Names.{isShort}
 use Rattle.rules.specs.Fields.{Field, rest}
 use Rattle.rules.specs.Within.{isFormed, sameShort, keepsForm, keepsSize, clash, keepsNames}
@@ -34,7 +35,7 @@ use Rattle.names.proofs.RepeatLaws.{no-repeat, repeat-none}
 use Rattle.names.proofs.PadLaws.{held-same, none-first, none-second}
 use Rattle.packets.specs.Parts.{partsAt}
 use Rattle.packets.specs.PartsStand.{PartsStand}
-use Rattle.packets.specs.NamesTest.{placesFrom, labelAt, shortAt, labelsAlike, shortsAt, namesTest}
+use Rattle.packets.specs.NamesTest.{placesFrom, labelAt, heldIn, shortAt, labelsAlike, shortsAt, namesTest}
 use Rattle.packets.proofs.FieldBounds.{field-bounds}
 use Rattle.packets.proofs.RecordLaws.{record-parts}
 use Rattle.packets.proofs.PartBytes.{bytes-are}
@@ -142,8 +143,8 @@ getD-shorts s (x ∷ l) zero h = refl
 getD-shorts s (x ∷ l) (suc i) h = getD-shorts s l i (omega arith)
 
 held-short : (a b : Option (List ℕ)) → ifAny isShort a ≡ true → ifAny isShort b ≡ true
-    → sameName (padTo 8 (storedName a)) (padTo 8 (storedName b)) ≡ sameShort a b
-held-short none b p q = none-first (padTo 8 (storedName b))
+    → sameName (padTo shortMost (storedName a)) (padTo shortMost (storedName b)) ≡ sameShort a b
+held-short none b p q = none-first (padTo shortMost (storedName b))
 held-short (some a) none p q = none-second a p
 held-short (some a) (some b) p q = held-same a b p q
 
@@ -169,11 +170,11 @@ module _ (s : List ℕ) (l : List (Field ℕ)) (at next : ℕ) (form : firstBrea
   unfolding labelAt
   label-nth i lt = bytes-are s _ _ (parts-nth s [] l form size at next st i lt .label)
 
-  short-nth : (i : ℕ) → i < length l → getD (shortsAt s places) i [] ≡ padTo 8 (storedName (nth l i .short))
-  unfolding shortAt
+  short-nth : (i : ℕ) → i < length l → getD (shortsAt s places) i [] ≡ padTo shortMost (storedName (nth l i .short))
+  unfolding heldIn
   short-nth i lt =
       getD-shorts s places i (omega (arith, places-length s (length l) at))
-      ∙ ap (padTo 8) (bytes-are s _ _ (parts-nth s [] l form size at next st i lt .short))
+      ∙ ap (padTo shortMost) (bytes-are s _ _ (parts-nth s [] l form size at next st i lt .short))
 
   short-good : (i : ℕ) → i < length l → ifAny isShort (nth l i .short) ≡ true
   short-good i lt = formed-parts (nth l i) (form-at [] l form i lt) .1

@@ -3,53 +3,43 @@ use mathlib.Core.Path.{_≡_, refl, sym, _∙_, ap}
 use mathlib.Core.Bool.{Bool, true, false}
 use mathlib.Core.List.{List, [], _∷_, _++_, append-assoc, append-nil}
 use Prim.Native.Nat.{ℕ, suc, _+_, _-_, _<_}
+use native.Mathlib.Nat.{sub-zero}
 use native.Mathlib.Omega.{arith}
 use lib.Dec.{ltb}
 use lib.ListN.{length, take, set, getD, replicate}
-use lib.Seq.{getD-take, getD-set-same, getD-set-other}
+use lib.Seq.{getD-take, getD-set-same, getD-set-other, getD-at, length-take-le}
 use borrow.Author.Tests.{ltb-true, ltb-false}
-use Rattle.base.specs.Places.{twoAt}
+use Rattle.rules.specs.Limits.{shortMost}
 use Rattle.names.specs.Repeats.{padTo, namesAlike, firstRepeat}
 use Rattle.names.proofs.RepeatLaws.{repeat-same}
 use Rattle.names.proofs.KeyLaws.{keys-apart}
+use Rattle.writing.specs.declared.spans.Span.{Span}
 use Rattle.packets.specs.Parts.{partsAt}
 use Rattle.packets.proofs.WalkSteps.{take-own}
-use Rattle.packets.proofs.NameLaws.{getD-shorts}
+use Rattle.packets.proofs.NameLaws.{getD-shorts, places-length}
 use Rattle.packets.specs.NamesTest.{
   placesFrom,
-  FieldPlace,
   FieldPlaces,
   labelAt,
   sampleKey,
   labelKey,
   LabelKeys,
   HeldNames,
+  heldIn,
   shortAt,
   labelsAlike,
   shortsAt,
+  namesTest,
+  uniqueIn,
+  Gathered,
 }
 
 -- ── places ──
 
-module _ (s : List ℕ) (n i at : ℕ) where
+module _ (s : List ℕ) (n i at from : ℕ) where
   places-step : i < n → placesFrom s (n - i) at ≡ at ∷ placesFrom s (n - (i + 1)) (partsAt s at .next)
   unfolding placesFrom
   places-step lt = let m : n - i ≡ suc (n - (i + 1)) = omega arith in rw m
-
-  pub place-first : i < n → FieldPlaces s (n - i) (placesFrom s (n - i) at) → FieldPlace s at
-  place-first lt h =
-      let p : FieldPlace s (getD (placesFrom s (n - i) at) 0 0) = h 0 (omega arith) in
-      rw (places-step lt) at p
-
-  pub place-next : (n' : ℕ) → i < n → FieldPlaces s (n - i) (placesFrom s (n - i) at) → n' ≡ twoAt s at
-      → at + n' ≡ partsAt s at .next
-  place-next n' lt h e = rw e (place-first lt h .ends)
-
-  pub places-rest : i < n → FieldPlaces s (n - i) (placesFrom s (n - i) at)
-      → FieldPlaces s (n - (i + 1)) (placesFrom s (n - (i + 1)) (partsAt s at .next))
-  places-rest lt h k le =
-      let p : FieldPlace s (getD (placesFrom s (n - i) at) (suc k) 0) = h (suc k) (omega arith) in
-      rw (places-step lt) at p
 
   pub places-again : (places all : List ℕ) → i < n → i < length places
       → take i places ++ placesFrom s (n - i) at ≡ all
@@ -67,6 +57,13 @@ module _ (s : List ℕ) (n i at : ℕ) where
       let q : take i places ++ [] ≡ all = rw m at h in
       rw e at (sym (append-nil (take i places)) ∙ q)
 
+  -- the place that comes next
+  place-next : (places : List ℕ) → i < n → i < length places
+      → take i places ++ placesFrom s (n - i) at ≡ placesFrom s n from → getD (placesFrom s n from) i 0 ≡ at
+  place-next places lt lp e =
+      let l : length (take i places) ≡ i = length-take-le i places (omega arith) in
+      rw (← e, places-step lt) (getD-at (take i places) at (placesFrom s (n - (i + 1)) (partsAt s at .next)) 0 i l)
+
 -- ── what is put into an array, one element after the other ──
 
 pub filled-again : {A : Type 0} (f : ℕ → A) (d : A) (l : List A) (i : ℕ) (x : A) → i < length l
@@ -81,6 +78,38 @@ filled-again f d l i x lt h e k le = go (ltb k i) refl
         let m : k ≡ i = omega (arith, ltb-false k i t) in
         rw (m, getD-set-same l i x d lt) e
 
+-- what is gathered of n records once i of them are
+pub record Gathering (s : List ℕ) (n from i at : ℕ) (places keys : List ℕ) (names : List (List ℕ)) : Type 0 where
+  pub left : take i places ++ placesFrom s (n - i) at ≡ placesFrom s n from
+  pub keyed : LabelKeys s (placesFrom s n from) i keys
+  pub held : HeldNames s (placesFrom s n from) i names
+
+pub gather-start : (s : List ℕ) (n from : ℕ) (places keys : List ℕ) (names : List (List ℕ))
+    → Gathering s n from 0 from places keys names
+gather-start s n from places keys names =
+    record { left = rw sub-zero; keyed = λ k lt. absurd (omega arith); held = λ k lt. absurd (omega arith) }
+
+module _ (s : List ℕ) (n from i at : ℕ) (places keys : List ℕ) (names : List (List ℕ))
+    (g : Gathering s n from i at places keys names) where
+  pub gather-again : i < n → i < length places → i < length keys → i < length names
+      → Gathering s n from (i + 1) (partsAt s at .next) (set places i at) (set keys i (labelKey s at))
+      (set names i (shortAt s at))
+  gather-again lt lp lk ln =
+      let all : ℕ → ℕ = λ k. getD (placesFrom s n from) k 0 in
+      let here : all i ≡ at = place-next s n i at from places lt lp (g .left) in
+      record {
+        left = places-again s n i at from places _ lt lp (g .left);
+        keyed = filled-again (λ k. labelKey s (all k)) 0 keys i _ lk (g .keyed) (rw here);
+        held = filled-again (λ k. shortAt s (all k)) [] names i _ ln (g .held) (rw here);
+      }
+
+  pub gather-done : i ≡ n → Gathered s n from places keys names
+  gather-done e = record {
+    placed = places-done s n i at from places _ e (g .left);
+    keyed = rw e at (g .keyed);
+    held = rw e at (g .held);
+  }
+
 -- ── labels of other keys ──
 
 pub labels-apart : (s places keys : List ℕ) (n i j : ℕ) → LabelKeys s places n keys → i < n → j < n
@@ -92,11 +121,10 @@ labels-apart s places keys n i j h p q apart =
 
 -- ── a record without a short name ──
 
-pub short-none : (s : List ℕ) (at : ℕ) → partsAt s at .short .len ≡ 0 → replicate 8 0 ≡ shortAt s at
-unfolding shortAt padTo
-short-none s at e =
-    let start = partsAt s at .short .at in
-    let none : start + 0 - start ≡ 0 = omega arith in
+pub short-none : (s : List ℕ) (p : Span) → p .len ≡ 0 → replicate shortMost 0 ≡ heldIn s p
+unfolding heldIn padTo
+short-none s p e =
+    let none : p .at + 0 - p .at ≡ 0 = omega arith in
     rw (e, none)
 
 -- ── all of them ──
@@ -119,3 +147,21 @@ module _ (s : List ℕ) (n : ℕ) (places all : List ℕ) where
       let one : (i : ℕ) → i < n → getD names i [] ≡ getD (shortsAt s all) i [] = λ i lt.
       h i lt ∙ ap (shortAt s) (same-place e i lt) ∙ sym (getD-shorts s all i (omega arith)) in
       repeat-same (namesAlike names) (namesAlike (shortsAt s all)) n (λ i j p q. rw (one i (omega arith), one j q))
+
+-- the code's test of what it gathered
+module _ (s : List ℕ) (n from : ℕ) (places keys : List ℕ) (names : List (List ℕ))
+    (g : Gathered s n from places keys names) where
+  abbrev all : List ℕ
+  all = placesFrom s n from
+
+  pub gathered-keys : LabelKeys s places n keys
+  gathered-keys i lt = rw (same-place s n places all (g .placed) i lt) (g .keyed i lt)
+
+  pub gathered-unique : uniqueIn s places names n ≡ namesTest s n from
+  unfolding uniqueIn namesTest
+  gathered-unique =
+      let held : HeldNames s places n names = λ i lt. rw (same-place s n places all (g .placed) i lt) (g .held i lt) in
+      rw (
+        all-labels s n places all (g .placed),
+        all-names s n places all names (g .placed) (places-length s n from) held,
+      )

@@ -20,6 +20,7 @@ use Rattle.laws.proofs.Readings.{Told, reading-told}
 use Rattle.laws.proofs.Decidable.{good-decidable}
 use Rattle.laws.proofs.Conditions.{conditions-kept}
 use Rattle.laws.proofs.RunCover.{kept-length}
+use Rattle.rules.specs.Limits.{fieldsMost, packetMost}
 use Rattle.packets.specs.FieldParts.{isAccepted}
 use Rattle.packets.specs.RunRead.{ReadsRun}
 use Rattle.packets.proofs.RunEntries.{length-joined}
@@ -50,7 +51,7 @@ bad-from table r h e = rw e at h
 pub good-count : (table : List ℕ) (g : Good table) → twoAt table 6 ≡ length (g .description .fields)
 good-count table g = head-stands (g .description) (g .within) table (g .isStored) .count
 
-pub good-few : (table : List ℕ) → Good table → twoAt table 6 ≤ 64
+pub good-few : (table : List ℕ) → Good table → twoAt table 6 ≤ fieldsMost
 good-few table g =
     let h = head-stands (g .description) (g .within) table (g .isStored) in
     omega (arith, h .count, h .few)
@@ -124,30 +125,30 @@ module _ (table packet run : List ℕ) where
   packet-not-good h (yes g) = absurd (not-good table h g)
   packet-not-good h (no n) = refl
 
-  pub packet-too-long : Good table → 2048 < length packet → ReadsPacket table packet run (leaves (ofPacket PacketAnswer.TooLong) run)
+  pub packet-too-long : Good table → packetMost < length packet → ReadsPacket table packet run (leaves (ofPacket PacketAnswer.TooLong) run)
   unfolding ofPacket packetOutcome reading readingAnswer
   packet-too-long good lt =
-      let far : ltb 2048 (length packet) ≡ true = lt-ltb 2048 (length packet) lt in
+      let far : ltb packetMost (length packet) ≡ true = lt-ltb packetMost (length packet) lt in
       by-good table packet run PacketAnswer.TooLong run good (λ g. rw far)
 
-  pub packet-short-run : Good table → length packet ≤ 2048 → length run < 4 * twoAt table 6
+  pub packet-short-run : Good table → length packet ≤ packetMost → length run < 4 * twoAt table 6
       → ReadsPacket table packet run (leaves (ofPacket PacketAnswer.ShortRun) run)
   unfolding ofPacket packetOutcome
   packet-short-run good le lt =
-      let near : ltb 2048 (length packet) ≡ false = le-ltb 2048 (length packet) le in
+      let near : ltb packetMost (length packet) ≡ false = le-ltb packetMost (length packet) le in
       by-good table packet run PacketAnswer.ShortRun run good (λ g.
       let n = good-count table g in
       let few : ltb (length run) (4 * length (g .description .fields)) ≡ true =
       lt-ltb (length run) (4 * length (g .description .fields)) (omega arith) in
       rw (near, few))
 
-  module _ (r : PacketAnswer) (numbers : List ℕ) (good : Good table) (le : length packet ≤ 2048)
+  module _ (r : PacketAnswer) (numbers : List ℕ) (good : Good table) (le : length packet ≤ packetMost)
       (room : 4 * twoAt table 6 ≤ length run) (reads : ReadsRun table packet r numbers) where
     answered : (after : List ℕ) → ((g : Good table) → after ≡ runAfter (reading (g .description) packet) run)
         → ReadsPacket table packet run (leaves (ofPacket r) after)
     unfolding packetOutcome
     answered after h =
-        let near : ltb 2048 (length packet) ≡ false = le-ltb 2048 (length packet) le in
+        let near : ltb packetMost (length packet) ≡ false = le-ltb packetMost (length packet) le in
         by-good table packet run r after good (λ g.
         let n = good-count table g in
         let many : ltb (length run) (4 * length (g .description .fields)) ≡ false =

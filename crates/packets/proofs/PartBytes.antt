@@ -36,14 +36,14 @@ use Rattle.rules.specs.Trees.{
 }
 use Rattle.rules.specs.Stored.{storedExpression, storedMaybe}
 use Rattle.laws.proofs.ReadsTrees.{small-bounds, length-stored}
-use Rattle.packets.specs.declared.records.Span.{Span}
+use Rattle.writing.specs.declared.spans.Span.{Span}
 use Rattle.packets.specs.declared.trees.Checked.{Checked}
 use Rattle.packets.specs.StoredTrees.{marked, checkAt}
 use Rattle.packets.specs.Parts.{ending}
 use Rattle.packets.specs.PartsStand.{In}
 use Rattle.packets.specs.FieldTest.{bytesIn, endsAs, treeTest, maybeTest}
 use Rattle.packets.proofs.FieldBounds.{small-length}
-use Rattle.packets.proofs.TreeCodes.{same-type-true, same-type-self}
+use Rattle.packets.proofs.TreeNodes.{same-type-true, same-type-self}
 use Rattle.packets.proofs.TreeSound.{check-sound}
 use Rattle.packets.proofs.TreeComplete.{check-complete}
 
@@ -81,26 +81,26 @@ module _ (s marks : List ℕ) (k : ValueType) (p : Span) where
   pub tree-sound : IsBytes s → treeTest s marks k p ≡ true → (t : Tree ℕ) × TreeIn s marks k p t
   unfolding treeTest
   tree-sound h ok =
-      go (checkAt 12 s marks (p .at)) refl (and-right (leb (p .len) 120) _ ok)
-      (leb-true (p .len) 120 (and-left (leb (p .len) 120) _ ok))
+      go (checkAt depthMost s marks (p .at)) refl (and-right (leb (p .len) storedMost) _ ok)
+      (leb-true (p .len) storedMost (and-left (leb (p .len) storedMost) _ ok))
     where
-      go : (c : Checked) → checkAt 12 s marks (p .at) ≡ c → endsAs k (ending p) c ≡ true → p .len ≤ 120
+      go : (c : Checked) → checkAt depthMost s marks (p .at) ≡ c → endsAs k (ending p) c ≡ true → p .len ≤ storedMost
           → (t : Tree ℕ) × TreeIn s marks k p t
       go Checked.Bad e f le = absurd (not-both false f refl)
       go (Checked.Tree j next) e f le =
           let a : j ≡ k = same-type-true j k (and-left (sameType j k) (eqb (next .at) (ending p)) f) in
           let b : next .at ≡ ending p = eqb-true (next .at) (ending p)
           (and-right (sameType j k) (eqb (next .at) (ending p)) f) in
-          let q = check-sound 12 s marks (p .at) j next h e in
+          let q = check-sound depthMost s marks (p .at) j next h e in
           let st : In s p (storedExpression (q .0)) = stands-to s (p .at) (next .at) (ending p) _ b (q .4) in
-          let l : storedLength (q .0) ≤ 120 = omega
+          let l : storedLength (q .0) ≤ storedMost = omega
           (arith, in-length s p _ st, length-stored (λ i. i) (λ i. 0) (q .0)) in (
             q .0,
             record {
               typed = typed-as marks j k (q .0) a (q .1);
               range = q .2;
               small = and-both (leb (depth (q .0)) depthMost) (leb (storedLength (q .0)) storedMost)
-                  (le-leb (depth (q .0)) 12 (q .3)) (le-leb (storedLength (q .0)) 120 l);
+                  (le-leb (depth (q .0)) depthMost (q .3)) (le-leb (storedLength (q .0)) storedMost l);
               stands = st;
             },
           )
@@ -108,10 +108,11 @@ module _ (s marks : List ℕ) (k : ValueType) (p : Span) where
   pub tree-complete : (t : Tree ℕ) → TreeIn s marks k p t → treeTest s marks k p ≡ true
   unfolding treeTest
   tree-complete t h =
-      let e = check-complete 12 s marks (p .at) t k (ending p) (h .typed) (h .range) (small-bounds t (h .small) .0)
+      let e = check-complete depthMost s marks (p .at) t k (ending p) (h .typed) (h .range) (small-bounds t (h
+      .small) .0)
       (h .stands) in
-      let l : p .len ≤ 120 = omega (arith, in-length s p _ (h .stands), small-length t (h .small)) in
-      rw (le-leb (p .len) 120 l, e, same-type-self k, eq-eqb (ending p) (ending p) refl)
+      let l : p .len ≤ storedMost = omega (arith, in-length s p _ (h .stands), small-length t (h .small)) in
+      rw (le-leb (p .len) storedMost l, e, same-type-self k, eq-eqb (ending p) (ending p) refl)
 
 -- ── a tree that may be missing ──
 

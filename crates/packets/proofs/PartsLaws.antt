@@ -21,7 +21,7 @@ use Rattle.rules.specs.Stored.{
   fieldBody,
   storedField,
 }
-use Rattle.packets.specs.declared.records.Span.{Span}
+use Rattle.writing.specs.declared.spans.Span.{Span}
 use Rattle.packets.specs.declared.records.WidthParts.{WidthParts}
 use Rattle.packets.specs.declared.records.Parts.{Parts}
 use Rattle.packets.specs.Parts.{ending, spanAt, widthAt, partsAt}

@@ -20,7 +20,7 @@ use Rattle.laws.proofs.PlacesOfNumbers.{length-le2, stands-two}
 use Rattle.laws.proofs.ReadsFields.{label-length}
 use Rattle.packets.proofs.TableParts.{head-length}
 
-pub count-most : (d : Description) → Within d → length (d .fields) ≤ 64
+pub count-most : (d : Description) → Within d → length (d .fields) ≤ fieldsMost
 count-most d w = leb-true _ _ (and-true (leb 1 (length (d .fields))) (leb (length (d .fields)) fieldsMost)
     (w .count) .1)
 

@@ -59,7 +59,7 @@ good-of s at l b h count fields last names =
         form = fields .form;
         size = fields .size;
         names = names-sound s l from at (fields .form) (fields .size) (fields .stands) (rw count names);
-        types = fields .kinds;
+        types = fields .types;
         rests = fields .rests;
         rows = fields .rows;
       };
@@ -100,7 +100,7 @@ table-complete s g =
       stands = fields;
       form = w .form;
       size = w .size;
-      kinds = w .types;
+      types = w .types;
       rests = w .rests;
       rows = w .rows;
     }) in

@@ -90,7 +90,7 @@ head-found s d end w le st =
           (and-both (eqb (twoAt s 0) (10 + twoAt s 8)) _ (eq-eqb _ _ size)
           (and-both (eqb (twoAt s 2) 1) _ (eq-eqb _ _ (q₂ .0))
           (and-both (isRowWidth (twoAt s 4)) _ (rw (q₃ .0) (w .row))
-          (and-both (between 1 (twoAt s 6) 64) _ (rw (q₄ .0) (w .count))
+          (and-both (between 1 (twoAt s 6) fieldsMost) _ (rw (q₄ .0) (w .count))
           (rw (bytes-are s (spanAt s 8) (d .name) (q₅ .0)) (w .name))))));
       row = q₃ .0;
       count = q₄ .0;

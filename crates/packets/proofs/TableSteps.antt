@@ -13,12 +13,13 @@ use Rattle.base.proofs.Lists.{and-left, and-right, between-true}
 use Rattle.base.proofs.Breaks.{or-true}
 use Rattle.rules.specs.Names.{isLabel}
 use Rattle.rules.specs.Within.{isRowWidth}
+use Rattle.rules.specs.Limits.{fieldsMost}
 use Rattle.packets.specs.declared.tables.Walked.{Walked}
 use Rattle.packets.specs.declared.tables.Walked.the-variants.{Past, Bad}
 use Rattle.packets.specs.Parts.{tableMost, spanAt, partsAt}
 use Rattle.packets.specs.FieldTest.{bytesIn}
-use Rattle.packets.specs.NamesTest.{placesFrom, FieldPlaces}
-use Rattle.packets.specs.TableTest.{walkAt, headTest}
+use Rattle.packets.specs.NamesTest.{placesFrom, FieldPlaces, Gathered}
+use Rattle.packets.specs.TableTest.{walkAt, headTest, GatheredBy}
 use Rattle.packets.proofs.FieldSteps.{parts-inside, field-ends, field-next}
 use Rattle.packets.proofs.WalkLaws.{past-bad, walk-parts}
 
@@ -29,7 +30,7 @@ pub record HeadIs (s : List ℕ) : Type 0 where
   pub size : twoAt s 0 ≡ 10 + twoAt s 8
   pub kind : twoAt s 2 ≡ 1
   pub row : isRowWidth (twoAt s 4) ≡ true
-  pub count : between 1 (twoAt s 6) 64 ≡ true
+  pub count : between 1 (twoAt s 6) fieldsMost ≡ true
   pub name : isLabel (bytesIn s (spanAt s 8)) ≡ true
 
 pub head-is : (s : List ℕ) → headTest s ≡ true → HeadIs s
@@ -44,8 +45,8 @@ head-is s h =
       size = eqb-true _ _ (and-left (eqb (twoAt s 0) (10 + twoAt s 8)) _ a);
       kind = eqb-true _ _ (and-left (eqb (twoAt s 2) 1) _ b);
       row = and-left (isRowWidth (twoAt s 4)) _ c;
-      count = and-left (between 1 (twoAt s 6) 64) _ d;
-      name = and-right (between 1 (twoAt s 6) 64) _ d;
+      count = and-left (between 1 (twoAt s 6) fieldsMost) _ d;
+      name = and-right (between 1 (twoAt s 6) fieldsMost) _ d;
     }
 
 pub row-positive : (w : ℕ) → isRowWidth w ≡ true → 0 < w
@@ -79,18 +80,22 @@ walk-places w (suc n) marks place ended s at next short le h zero lt =
     record {
       place = omega arith;
       inside = parts-inside s at (field-next w place ended s at (partsAt s at) (q .0));
-      ends = field-ends w place ended s at (partsAt s at) (q .0);
     }
 walk-places w (suc n) marks place ended s at next short le h (suc i) lt =
     let q = walk-parts w n marks place ended s at next h in
     walk-places w n _ _ _ s (partsAt s at .next) next short (field-next w place ended s at (partsAt s at) (q .0))
     (q .2) i (omega arith)
 
-pub count-most : (n : ℕ) → between 1 n 64 ≡ true → n ≤ 64
-count-most n h = between-true 1 n 64 h .1
+pub count-most : (n : ℕ) → between 1 n fieldsMost ≡ true → n ≤ fieldsMost
+count-most n h = between-true 1 n fieldsMost h .1
 
 -- the code's walk, by the numbers that it read
 pub walk-of : (s : List ℕ) {w n from : ℕ} {r x : Walked} → w ≡ twoAt s 4 → n ≡ twoAt s 6 → from ≡ twoAt s 8
     → r ≡ walkAt w n [] 0 false s (10 + from) → r ≡ x
     → walkAt (twoAt s 4) (twoAt s 6) [] 0 false s (10 + twoAt s 8) ≡ x
 walk-of s a b c e f = rw (← a, ← b, ← c) (sym e ∙ f)
+
+-- what a walk to the end has gathered
+pub gathered-past : {r : Walked} {at : ℕ} {s : List ℕ} {n from : ℕ} {places keys : List ℕ} {names : List (List ℕ)}
+    → r ≡ Past at → GatheredBy r s n from places keys names → Gathered s n from places keys names
+gathered-past e g = rw e at g

@@ -109,7 +109,7 @@ pub record FieldsIn (w : ℕ) (before : List (Field ℕ)) (place : ℕ) (s : Lis
   pub stands : Stands s at (joined storedField l) next
   pub form : firstBreak keepsForm before l ≡ none
   pub size : firstBreak keepsSize before l ≡ none
-  pub kinds : firstBreak (keepsTypes indexReadable) before l ≡ none
+  pub types : firstBreak (keepsTypes indexReadable) before l ≡ none
   pub rests : firstBreak keepsRest before l ≡ none
   pub rows : rowsFit w place (widths l) ≡ true
 
@@ -157,7 +157,7 @@ module _ (w n place : ℕ) (before : List (Field ℕ)) (s : List ℕ) (at next :
     stands = stands-join s at (partsAt s at .next) next (storedField f) (joined storedField l) st (h .stands);
     form = break-cons keepsForm before f l (keeps .formed) (h .form);
     size = break-cons keepsSize before f l (keeps .small) (h .size);
-    kinds = break-cons (keepsTypes indexReadable) before f l (keeps-types before f keeps) (h .kinds);
+    types = break-cons (keepsTypes indexReadable) before f l (keeps-types before f keeps) (h .types);
     rests = break-cons keepsRest before f l rests (h .rests);
     rows = rows-step w place f (widths l)
         ∙ and-both (fitsRow w place (f .width)) _ row (h .rows);
@@ -205,7 +205,7 @@ walk-sound w zero before place s at next b h = go (eqb (place % w) 0) refl h
             stands = rw m (stands-none s next);
             form = refl;
             size = refl;
-            kinds = refl;
+            types = refl;
             rests = refl;
             rows = e;
           },
@@ -243,10 +243,10 @@ walk-complete w before place s at next (f ∷ l) le h =
     let right = stands-right s at next (storedField f) (joined storedField l) (h .stands) in
     let form = firstBreak-cons keepsForm before f l (h .form) in
     let size = firstBreak-cons keepsSize before f l (h .size) in
-    let kinds = firstBreak-cons (keepsTypes indexReadable) before f l (h .kinds) in
+    let types = firstBreak-cons (keepsTypes indexReadable) before f l (h .types) in
     let rests = firstBreak-cons keepsRest before f l (h .rests) in
     let rows = sym (rows-step w place f (widths l)) ∙ h .rows in
-    let keeps = types-keep before f (form .0) (size .0) (kinds .0) in
+    let keeps = types-keep before f (form .0) (size .0) (types .0) in
     let c = record-complete s (marksOf before) (marksOf (before ++ (f ∷ []))) at f mid keeps st
     (omega (arith, right .end, le)) in
     let short = formed-parts f (form .0) .1 in
@@ -264,7 +264,7 @@ walk-complete w before place s at next (f ∷ l) le h =
       stands = right;
       form = form .1;
       size = size .1;
-      kinds = kinds .1;
+      types = types .1;
       rests = rests .1;
       rows = and-right (fitsRow w place (f .width)) _ rows;
     }))

@@ -34,11 +34,12 @@ use Rattle.rules.specs.Reading.{
 }
 use Rattle.rules.specs.Promises.{readingAnswer}
 use Rattle.laws.proofs.ReadsFields.{formed-parts}
-use Rattle.packets.specs.Parts.{tableMost}
+use Rattle.rules.specs.Limits.{packetMost}
+use Rattle.packets.specs.Parts.{tableMost, runMost}
 use Rattle.packets.specs.PartsStand.{PartsStand}
 use Rattle.packets.specs.Steps.{recordAt, laterBits, fieldStep}
-use Rattle.packets.specs.Walks.{stepAfter, runWith, Walk, onStep, walkFrom, walkAll, walkAnswer, Leaves}
-use Rattle.packets.specs.RunRead.{RunHolds}
+use Rattle.packets.specs.Walks.{stepAfter, runWith, Walk, onStep, walkFrom, walkAll, walkAnswer, Leaves, Walks}
+use Rattle.packets.specs.RunRead.{RunHolds, ReadsRun}
 use Rattle.packets.proofs.RecordLaws.{record-parts}
 use Rattle.packets.proofs.FieldBounds.{field-bounds}
 use Rattle.packets.proofs.RunEntries.{Begins}
@@ -122,15 +123,15 @@ pub walk-reads : (s packet : List ℕ) (fs before : List (Field ℕ)) (entries :
     → WalkHolds packet (readFields packet entries place fs)
     (walkFrom s packet (length fs) (length entries) run place at)
 unfolding walkFrom readFields walkAnswer
-walk-reads s packet [] before entries run place at end counts begins room form size kinds p le = record {
+walk-reads s packet [] before entries run place at end counts begins room form size types p le = record {
   answer = at-end packet entries run place begins (eqb place (bitTotal packet)) refl;
   front = λ es e after q. rw (q, ← complete-is (eqb place (bitTotal packet)) entries es e) begins;
 }
-walk-reads s packet (f ∷ fs) before entries run place at end counts begins room form size kinds p le =
+walk-reads s packet (f ∷ fs) before entries run place at end counts begins room form size types p le =
     let q = first-stands before f fs s at end form size p le in
     let e = firstBreak-cons keepsForm before f fs form in
     let z = firstBreak-cons keepsSize before f fs size in
-    let k = firstBreak-cons (keepsTypes indexReadable) before f fs kinds in
+    let k = firstBreak-cons (keepsTypes indexReadable) before f fs types in
     let r = recordAt s at in
     let sums = later-sum (before ++ (f ∷ [])) fs s (r .next) end (e .1) (z .1) (q .later) le in
     let found = fieldStep s packet run r (length fs) place in
@@ -146,31 +147,35 @@ walk-reads s packet (f ∷ fs) before entries run place at end counts begins roo
     (field-matches s packet run before entries place f r counts begins (omega arith) (e .0) (z .0) (k .0) (q .parts)
     (length fs) (sum fixedBits fs) sums)
 
-pub walk-all : (d : Description) → Within d → (s packet run : List ℕ) → stored d ≡ s → 256 ≤ length run
+pub walk-all : (d : Description) → Within d → (s packet run : List ℕ) → stored d ≡ s → runMost ≤ length run
     → WalkHolds packet (readFields packet [] 0 (d .fields)) (walkAll s packet run)
 unfolding walkAll joined
 walk-all d w s packet run e room =
     let h = head-stands d w s e in
-    let few : ltb 64 (length (d .fields)) ≡ false = le-ltb 64 (length (d .fields)) (h .few) in
-    rw (h .count, few)
+    rw (h .count)
     (walk-reads s packet (d .fields) [] [] run 0 (twoAt s 0) (h .end) refl refl (omega (arith, h .few)) (w .form)
     (w .size) (w .types) (h .fields) (h .short))
 
 -- ── a packet read into a run ──
 
 module _ (d : Description) (s packet run : List ℕ) (r : PacketAnswer) (after : List ℕ) where
-  pub run-read : Within d → stored d ≡ s → 256 ≤ length run → length packet ≤ 2048
+  pub run-read : Within d → stored d ≡ s → runMost ≤ length run → length packet ≤ packetMost
       → r ≡ walkAnswer packet (walkAll s packet run) → Leaves (walkAll s packet run) after
       → RunHolds (reading d packet) packet r after
   unfolding reading
   run-read w e room le is leaves =
-      let near : ltb 2048 (length packet) ≡ false = le-ltb 2048 (length packet) le in
+      let near : ltb packetMost (length packet) ≡ false = le-ltb packetMost (length packet) le in
       let h = walk-all d w s packet run e room in
       rw near (record { answer = rw is (h .answer); front = λ es q. h .front es q after leaves })
 
-  pub run-long : 2048 < length packet → r ≡ PacketAnswer.TooLong → RunHolds (reading d packet) packet r after
+  pub run-long : packetMost < length packet → r ≡ PacketAnswer.TooLong → RunHolds (reading d packet) packet r after
   unfolding reading ofPacket readingAnswer
   run-long lt is =
-      let far : ltb 2048 (length packet) ≡ true = lt-ltb 2048 (length packet) lt in
+      let far : ltb packetMost (length packet) ≡ true = lt-ltb packetMost (length packet) lt in
       rw far
       (record { answer = rw is; front = λ es e. let z : _≡_ {A = ℕ} 0 1 = cc in absurd (omega arith) })
+
+-- what a walk over all fields leaves in a run
+pub walks-read : (s packet run : List ℕ) {r : PacketAnswer} {after : List ℕ} → runMost ≤ length run
+    → length packet ≤ packetMost → Walks s packet run r after → ReadsRun s packet r after
+walks-read s packet run room le w d within is = run-read d s packet run _ _ within is room le (w .0) (w .1)

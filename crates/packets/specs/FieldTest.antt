@@ -10,7 +10,8 @@ use Rattle.rules.specs.declared.ValueType.{ValueType}
 use Rattle.rules.specs.declared.ValueType.the-variants.{Number, YesNo}
 use Rattle.rules.specs.Names.{isLabel, isShort}
 use Rattle.rules.specs.Trees.{sameType}
-use Rattle.packets.specs.declared.records.Span.{Span}
+use Rattle.writing.specs.declared.spans.Span.{Span}
+use Rattle.rules.specs.Limits.{depthMost, storedMost, fixedMost}
 use Rattle.packets.specs.declared.records.Parts.{Parts}
 use Rattle.packets.specs.declared.trees.Checked.{Checked}
 use Rattle.packets.specs.declared.trees.Checked.the-variants.{Tree, Bad}
@@ -31,13 +32,13 @@ pub record Inside (s : List ℕ) (p : Parts) : Type 0 where
 
 -- ── trees ──
 
--- the answer is a tree of the kind that ends there
+-- the answer is a tree of the type that ends there
 abbrev pub endsAs : ValueType → ℕ → Checked → Bool
 endsAs k end (Tree j next) = sameType j k && eqb (next .at) end
 endsAs k end Bad = false
 
 unfoldable pub treeTest : List ℕ → List ℕ → ValueType → Span → Bool
-treeTest s marks k p = leb (p .len) 120 && endsAs k (ending p) (checkAt 12 s marks (p .at))
+treeTest s marks k p = leb (p .len) storedMost && endsAs k (ending p) (checkAt depthMost s marks (p .at))
 
 -- none, or yes or no
 unfoldable pub maybeTest : List ℕ → List ℕ → Span → Bool
@@ -60,7 +61,7 @@ boundsTest s at p = leb (p .next) (length s) && (eqb (at + twoAt s at) (p .next)
 
 unfoldable pub numberTest : ℕ → ℕ → Bool
 numberTest kind number =
-    cond (eqb kind 2) (between 1 number 32) (cond (eqb kind 3) (eqb number 1 || eqb number 8) true)
+    cond (eqb kind 2) (between 1 number fixedMost) (cond (eqb kind 3) (eqb number 1 || eqb number 8) true)
 
 unfoldable pub shortTest : List ℕ → Span → Bool
 shortTest s p = eqb (p .len) 0 || isShort (bytesIn s p)

@@ -6,12 +6,20 @@ use Prim.Native.Nat.{ℕ, zero, suc, _+_, _*_, _-_}
 use lib.Dec.{ltb, eqb}
 use lib.ListN.{length, getD, take, drop}
 use Rattle.base.specs.Bytes.{bytes}
-use Rattle.rules.specs.Limits.{labelMost}
+use Rattle.rules.specs.Limits.{fieldsMost, labelMost}
 use Rattle.rules.specs.Reading.{Entry, isPresent}
 use Rattle.rules.specs.Listing.{entryText}
-use Rattle.packets.specs.declared.records.Span.{Span}
+use Rattle.writing.specs.declared.spans.Span.{Span}
 use Rattle.packets.specs.declared.records.Parts.{Parts}
 use Rattle.packets.specs.Parts.{tableMost, partsAt}
+
+-- a line has a label, a colon, at most three numbers with a space before each, and LF; a listing has a line for each
+-- field and one more, of at most 40 bytes, or that one alone
+abbrev pub lineMost : ℕ
+lineMost = labelMost + 35
+
+abbrev pub listingMost : ℕ
+listingMost = lineMost * fieldsMost + 40
 
 -- the entry of the field of an index
 abbrev pub entryIn : List ℕ → ℕ → Entry

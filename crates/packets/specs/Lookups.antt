@@ -7,7 +7,7 @@ use lib.Dec.{ltb, eqb}
 use lib.ListN.{length, take, drop}
 use Rattle.base.specs.Lists.{same}
 use Rattle.rules.specs.declared.FieldAnswer.{FieldAnswer}
-use Rattle.packets.specs.declared.records.Span.{Span}
+use Rattle.writing.specs.declared.spans.Span.{Span}
 use Rattle.packets.specs.declared.records.Parts.{Parts}
 use Rattle.rules.specs.Stored.{Good}
 use Rattle.rules.specs.Promises.{labelBy}

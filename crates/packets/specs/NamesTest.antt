@@ -4,10 +4,12 @@ use mathlib.Core.List.{List, [], _∷_, map}
 use mathlib.Core.Path.{_≡_}
 use Prim.Native.Nat.{ℕ, zero, suc, _+_, _-_, _*_, _/_, _<_, _≤_}
 use lib.Dec.{eqb, ltb}
-use lib.ListN.{length, getD}
+use lib.ListN.{length, take, getD}
 use Rattle.base.specs.Lists.{same}
 use Rattle.base.specs.Places.{twoAt}
 use Rattle.names.specs.Repeats.{padTo, namesAlike, firstRepeat}
+use Rattle.rules.specs.Limits.{shortMost}
+use Rattle.writing.specs.declared.spans.Span.{Span}
 use Rattle.packets.specs.Parts.{tableMost, partsAt}
 use Rattle.packets.specs.FieldTest.{bytesIn, Inside}
 
@@ -16,11 +18,10 @@ unfoldable pub placesFrom : List ℕ → ℕ → ℕ → List ℕ
 placesFrom s zero at = []
 placesFrom s (suc n) at = at ∷ placesFrom s n (partsAt s at .next)
 
--- a record there lies in the table, and ends where its length says
+-- a record there lies in the table
 pub record FieldPlace (s : List ℕ) (at : ℕ) : Type 0 where
   pub place : at ≤ tableMost
   pub inside : Inside s (partsAt s at)
-  pub ends : at + twoAt s at ≡ partsAt s at .next
 
 abbrev pub FieldPlaces : List ℕ → ℕ → List ℕ → Type 0
 FieldPlaces s n places = (i : ℕ) → i < n → FieldPlace s (getD places i 0)
@@ -41,8 +42,11 @@ abbrev pub LabelKeys : List ℕ → List ℕ → ℕ → List ℕ → Type 0
 LabelKeys s places n keys = (i : ℕ) → i < n → getD keys i 0 ≡ labelKey s (getD places i 0)
 
 -- a short name as it is held
-unfoldable pub shortAt : List ℕ → ℕ → List ℕ
-shortAt s at = padTo 8 (bytesIn s (partsAt s at .short))
+unfoldable pub heldIn : List ℕ → Span → List ℕ
+heldIn s p = padTo shortMost (bytesIn s p)
+
+abbrev pub shortAt : List ℕ → ℕ → List ℕ
+shortAt s at = heldIn s (partsAt s at .short)
 
 -- the short names at the first n places, as they are held
 abbrev pub HeldNames : List ℕ → List ℕ → ℕ → List (List ℕ) → Type 0
@@ -58,3 +62,14 @@ unfoldable pub namesTest : List ℕ → ℕ → ℕ → Bool
 namesTest s n at =
     eqb (firstRepeat (labelsAlike s (placesFrom s n at)) n) n
     && eqb (firstRepeat (namesAlike (shortsAt s (placesFrom s n at))) n) n
+
+-- the same by the places and the short names that the code holds
+unfoldable pub uniqueIn : List ℕ → List ℕ → List (List ℕ) → ℕ → Bool
+uniqueIn s places names n =
+    eqb (firstRepeat (labelsAlike s places) n) n && eqb (firstRepeat (namesAlike names) n) n
+
+-- what is held of the n records from a place on
+pub record Gathered (s : List ℕ) (n from : ℕ) (places keys : List ℕ) (names : List (List ℕ)) : Type 0 where
+  pub placed : take n places ≡ placesFrom s n from
+  pub keyed : LabelKeys s (placesFrom s n from) n keys
+  pub held : HeldNames s (placesFrom s n from) n names

@@ -3,19 +3,28 @@
 use mathlib.Core.Path.{_≡_}
 use mathlib.Core.Bool.{Bool, cond}
 use mathlib.Core.List.{List}
-use Prim.Native.Nat.{ℕ, _+_, _-_, _≤_}
+use Prim.Native.Nat.{ℕ, _+_, _*_, _-_, _≤_}
 use lib.Dec.{eqb}
 use Rattle.base.specs.Places.{twoAt}
-use Rattle.packets.specs.declared.records.Span.{Span}
+use Rattle.writing.specs.declared.spans.Span.{Span}
+use Rattle.rules.specs.Limits.{fieldsMost, labelMost, shortMost, storedMost}
 use Rattle.packets.specs.declared.records.WidthParts.{WidthParts}
 use Rattle.packets.specs.declared.records.Parts.{Parts}
 
--- no good table is longer; the ends of a record's parts, whatever the lengths say, stand no further
-abbrev pub tableMost : ℕ
-tableMost = 32768
+-- four numbers a field
+abbrev pub runMost : ℕ
+runMost = 4 * fieldsMost
 
+-- no good table is longer: the first record, a record of the longest parts for each field, and the last record
+abbrev pub recordMost : ℕ
+recordMost = 16 + labelMost + shortMost + 3 * storedMost
+
+abbrev pub tableMost : ℕ
+tableMost = 10 + labelMost + recordMost * fieldsMost + 4
+
+-- the ends of the parts of a record in a table, whatever the five lengths in it say, stand no further
 abbrev pub placeMost : ℕ
-placeMost = 1_000_000
+placeMost = tableMost + 6 * 65537
 
 abbrev pub spanOf : ℕ → ℕ → Span
 spanOf at len = record { at = at; len = len }

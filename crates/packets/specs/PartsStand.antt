@@ -6,7 +6,7 @@ use Rattle.base.specs.Places.{Stands}
 use Rattle.rules.specs.Trees.{Tree}
 use Rattle.rules.specs.Fields.{Width, fixed, measured, rest, Field}
 use Rattle.rules.specs.Stored.{kindNumber, storedExpression, storedName, storedMaybe}
-use Rattle.packets.specs.declared.records.Span.{Span}
+use Rattle.writing.specs.declared.spans.Span.{Span}
 use Rattle.packets.specs.declared.records.Parts.{Parts}
 use Rattle.packets.specs.Parts.{ending}
 

@@ -3,10 +3,11 @@ use mathlib.Core.Bool.{cond}
 use mathlib.Core.List.{List}
 use Prim.Native.Nat.{ℕ, zero, suc, _+_}
 use lib.Dec.{ltb, leb, eqb}
-use Rattle.rules.specs.declared.Fault.the-variants.{BitsMissing}
+use Rattle.rules.specs.declared.Fault.the-variants.{BitsMissing, OutOfRange}
 use Rattle.rules.specs.Values.{Value, value, fault}
 use Rattle.rules.specs.Reading.{Entry, absent, Step, step, stop, andThen, scaled, remainder, bitTotal, bitsAt}
-use Rattle.packets.specs.declared.records.Span.{Span}
+use Rattle.writing.specs.declared.spans.Span.{Span}
+use Rattle.rules.specs.Limits.{depthMost, fixedMost}
 use Rattle.packets.specs.declared.records.Parts.{Parts}
 use Rattle.packets.specs.declared.trees.Evaluated.{Evaluated}
 use Rattle.packets.specs.declared.steps.Got.{Got}
@@ -31,13 +32,22 @@ abbrev pub foundOf : Step → Found
 foundOf (step e next) = Found.Field (numbersIn e) next
 foundOf (stop f) = Found.Stop f
 
+-- the fault of what was not found
+abbrev pub stoppedOf : Got → Found
+stoppedOf (Got.Value n) = Found.Stop OutOfRange
+stoppedOf (Got.Stop f) = Found.Stop f
+
+abbrev pub faultOf : Evaluated → Got
+faultOf (Evaluated.Value n next) = Got.Stop OutOfRange
+faultOf (Evaluated.Stop f) = Got.Stop f
+
 -- ── records ──
 
 unfoldable pub recordAt : List ℕ → ℕ → Parts
 recordAt s at = partsAt s (cond (ltb tableMost at) 0 at)
 
 unfoldable pub fixedOf : Parts → ℕ
-fixedOf p = cond (eqb (p .kind) 2) (cond (leb (p .number) 32) (p .number) 0) 0
+fixedOf p = cond (eqb (p .kind) 2) (cond (leb (p .number) fixedMost) (p .number) 0) 0
 
 unfoldable pub unitOf : ℕ → ℕ
 unitOf n = cond (eqb n 8) 8 1
@@ -54,7 +64,7 @@ valueOf (Evaluated.Value n next) = value n
 valueOf (Evaluated.Stop f) = fault f
 
 unfoldable pub treeValue : List ℕ → List ℕ → ℕ → Value
-treeValue s run at = valueOf (valueAt 12 s run at)
+treeValue s run at = valueOf (valueAt depthMost s run at)
 
 unfoldable pub holdsAt : List ℕ → List ℕ → Span → Value
 holdsAt s run p = cond (eqb (p .len) 0) (value 1) (treeValue s run (p .at))
@@ -73,7 +83,7 @@ extentAt s packet run p later place =
     (cond (eqb (p .kind) 4) (restAt s packet p later place) (value (fixedOf p)))
 
 unfoldable pub numberOf : List ℕ → ℕ → ℕ → ℕ → ℕ
-numberOf packet kind place width = cond (eqb kind 2) (cond (leb width 32) (bitsAt packet place width) 0) 0
+numberOf packet kind place width = cond (eqb kind 2) (cond (leb width fixedMost) (bitsAt packet place width) 0) 0
 
 abbrev pub presentEntry : List ℕ → ℕ → ℕ → ℕ → Entry
 presentEntry packet kind place width =

@@ -8,11 +8,12 @@ use Rattle.base.specs.Lists.{between}
 use Rattle.base.specs.Places.{twoAt}
 use Rattle.rules.specs.Names.{isLabel}
 use Rattle.rules.specs.Within.{isRowWidth}
+use Rattle.rules.specs.Limits.{fieldsMost}
 use Rattle.packets.specs.declared.tables.Walked.{Walked}
 use Rattle.packets.specs.declared.tables.Walked.the-variants.{Past, Bad}
 use Rattle.packets.specs.Parts.{tableMost, spanAt, partsAt}
 use Rattle.packets.specs.FieldTest.{bytesIn, treesTest, fieldTest, markOf, bitsOf}
-use Rattle.packets.specs.NamesTest.{namesTest}
+use Rattle.packets.specs.NamesTest.{namesTest, Gathered}
 
 -- what is known in front of a field: the marks and the fixed bits of the earlier ones, and whether one is the rest
 unfoldable pub walkAt : ℕ → ℕ → List ℕ → ℕ → Bool → List ℕ → ℕ → Walked
@@ -23,6 +24,11 @@ walkAt w (suc n) marks place ended s at =
     cond (fieldTest w place ended s at p && treesTest s marks own p)
     (walkAt w n own (place + bitsOf p) (ended || eqb (p .kind) 4) s (p .next)) Bad
 
+-- what a walk to the end has gathered
+abbrev pub GatheredBy : Walked → List ℕ → ℕ → ℕ → List ℕ → List ℕ → List (List ℕ) → Type 0
+GatheredBy (Past at) s n from places keys names = Gathered s n from places keys names
+GatheredBy Bad s n from places keys names = Unit {0}
+
 -- the first record: its length, kind, row width, count and name
 unfoldable pub headTest : List ℕ → Bool
 headTest s =
@@ -30,7 +36,7 @@ headTest s =
     && (eqb (twoAt s 0) (10 + twoAt s 8)
     && (eqb (twoAt s 2) 1
     && (isRowWidth (twoAt s 4)
-    && (between 1 (twoAt s 6) 64
+    && (between 1 (twoAt s 6) fieldsMost
     && isLabel (bytesIn s (spanAt s 8))))))
 
 -- the last record ends the table

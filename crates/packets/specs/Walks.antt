@@ -3,14 +3,14 @@ use mathlib.Core.Path.{_≡_}
 use mathlib.Core.Bool.{cond}
 use mathlib.Core.List.{List}
 use Prim.Native.Nat.{ℕ, zero, suc, _+_, _*_}
-use lib.Dec.{ltb, eqb}
+use lib.Dec.{eqb}
 use lib.ListN.{set}
 use Rattle.base.specs.Places.{twoAt}
 use Rattle.rules.specs.declared.Fault.{Fault}
 use Rattle.rules.specs.declared.Fault.the-variants.{ConstraintFalse}
 use Rattle.rules.specs.declared.PacketAnswer.{PacketAnswer}
 use Rattle.rules.specs.Reading.{Entry, Step, step, stop, andThen, bitTotal}
-use Rattle.packets.specs.declared.records.Span.{Span}
+use Rattle.writing.specs.declared.spans.Span.{Span}
 use Rattle.packets.specs.declared.records.Parts.{Parts}
 use Rattle.packets.specs.declared.steps.Numbers.{Numbers}
 use Rattle.packets.specs.declared.steps.Found.{Found}
@@ -39,11 +39,10 @@ runWith run i (stop f) = run
 
 -- ── all fields ──
 
--- the run and the place behind the fields; or a fault, with the field from 1; or more fields than there may be
+-- the run and the place behind the fields; or a fault, with the field from 1
 pub data Walk : Type 0 where
   ended : List ℕ → ℕ → Walk
   stopped : Fault → ℕ → Walk
-  tooMany : Walk
 
 abbrev pub onStep : Step → ℕ → (ℕ → Walk) → Walk
 onStep (step e next) k go = go next
@@ -58,13 +57,12 @@ walkFrom s packet (suc n) i run place at =
     (runWith run i (fieldStep s packet run (recordAt s at) n place)) next (recordAt s at .next))
 
 unfoldable pub walkAll : List ℕ → List ℕ → List ℕ → Walk
-walkAll s packet run = cond (ltb 64 (twoAt s 6)) tooMany (walkFrom s packet (twoAt s 6) 0 run 0 (twoAt s 0))
+walkAll s packet run = walkFrom s packet (twoAt s 6) 0 run 0 (twoAt s 0)
 
 unfoldable pub walkAnswer : List ℕ → Walk → PacketAnswer
 walkAnswer packet (ended run place) =
     cond (eqb place (bitTotal packet)) (PacketAnswer.Accepted place) PacketAnswer.LeftOver
 walkAnswer packet (stopped f k) = PacketAnswer.Refused f k
-walkAnswer packet tooMany = PacketAnswer.NotGood
 
 abbrev pub refusedOf : Found → ℕ → PacketAnswer
 refusedOf (Found.Stop f) k = PacketAnswer.Refused f k
@@ -74,7 +72,6 @@ refusedOf (Found.Field e next) k = PacketAnswer.LeftOver
 abbrev pub Leaves : Walk → List ℕ → Type 0
 Leaves (ended run place) after = after ≡ run
 Leaves (stopped f k) after = Unit {0}
-Leaves tooMany after = Unit {0}
 
 -- ── what the code does ──
 

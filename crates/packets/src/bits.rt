@@ -3,6 +3,7 @@ ghost use mathlib.Core.Path.{_≡_};
 ghost use Prim.Native.Nat.{_+_, _*_, _≤_};
 ghost use lib.ListN.{length};
 ghost use Rattle.rules.specs.Reading.{bitsAt, bitTotal};
+ghost use Rattle.rules.specs.Limits.{fixedMost, packetMost};
 
 // The number that m whole bytes make.
 fn bytes_at(packet: &[u8], first: usize, m: usize) -> u64
@@ -21,7 +22,7 @@ fn bytes_at(packet: &[u8], first: usize, m: usize) -> u64
 
 // The number that the n bits from a place on make: that of the bytes where they lie, less what is before and behind.
 pub(crate) fn bits_at(packet: &[u8], place: usize, n: usize) -> u32
-    requires { ⌜ (n ≤ 32) × (place + n ≤ bitTotal (now packet)) × (length (now packet) ≤ 2048) ⌝ }
+    requires { ⌜ (n ≤ fixedMost) × (place + n ≤ bitTotal (now packet)) × (length (now packet) ≤ packetMost) ⌝ }
     ensures { λ r. ⌜ r ≡ bitsAt (now (packet .entry)) place n ⌝ }
 {
     let first = place / 8;

@@ -3,7 +3,6 @@ use crate::records::FIXED;
 use crate::records::MEASURED;
 use crate::records::Parts;
 use crate::records::REST;
-use crate::records::Span;
 use crate::records::byte_at;
 use crate::records::two_at;
 use crate::trees::Checked;
@@ -15,6 +14,7 @@ use rules::DEPTH_MOST;
 use rules::FIXED_MOST;
 use rules::STORED_MOST;
 use rules::ValueType;
+use writing::spans::Span;
 ghost use mathlib.Core.Path.{_≡_};
 ghost use mathlib.Core.Bool.{_||_};
 ghost use Prim.Native.Nat.{_+_, _<_, _≤_};
@@ -39,10 +39,10 @@ ghost use Rattle.packets.specs.FieldTest.{
 
 const NUMBER: usize = 1;
 
-// A tree of the kind is stored in just this part.
-fn is_tree(s: &[u8], marks: &[u8], kind: ValueType, p: Span) -> bool
+// A tree of the type is stored in just this part.
+fn is_tree(s: &[u8], marks: &[u8], wanted: ValueType, p: Span) -> bool
     requires { ⌜ ending p ≤ placeMost ⌝ }
-    ensures { λ r. ⌜ r ≡ treeTest (now (s .entry)) (now (marks .entry)) kind p ⌝ }
+    ensures { λ r. ⌜ r ≡ treeTest (now (s .entry)) (now (marks .entry)) wanted p ⌝ }
 {
     if STORED_MOST < p.len {
         return false;
@@ -51,7 +51,7 @@ fn is_tree(s: &[u8], marks: &[u8], kind: ValueType, p: Span) -> bool
     let Checked::Tree(found, next) = start.check(s, DEPTH_MOST, marks) else {
         return false;
     };
-    if !same_type(found, kind) {
+    if !same_type(found, wanted) {
         return false;
     }
     next.at == p.at + p.len

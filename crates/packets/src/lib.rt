@@ -12,4 +12,3 @@ pub mod tables;
 mod trees;
 mod unique;
 mod walks;
-mod writing;

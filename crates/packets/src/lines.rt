@@ -1,31 +1,32 @@
 // The lines of a listing, written into a lent buffer.
 use crate::records::FIXED;
 use crate::records::Parts;
-use crate::writing::put;
-use crate::writing::put_digits;
 use rules::LABEL_MOST;
+use writing::decimals::put_decimal;
+use writing::puts::put;
 ghost use mathlib.Core.Path.{_≡_};
 ghost use mathlib.Core.List.{_++_};
-ghost use Prim.Native.Nat.{_+_, _*_, _≤_};
+ghost use Prim.Native.Nat.{_+_, _*_, _≤_, _<_};
 ghost use lib.ListN.{length};
 ghost use Rattle.base.specs.Bytes.{bytes, decimal};
 ghost use Rattle.rules.specs.Listing.{entryText};
-ghost use Rattle.base.specs.Writes.{Writes};
+ghost use Rattle.writing.specs.Puts.{nowhere};
+ghost use Rattle.writing.specs.Fits.{Fits};
 ghost use Rattle.packets.specs.LineTexts.{entryIn, stateText, lineText};
 
 // A space and a number in decimal.
 fn put_number(out: &mut [u8], at: usize, number: u32) -> usize
-    requires { ⌜ at + 11 ≤ length (now out) ⌝ }
-    ensures { λ r. ⌜ Writes (now (out .entry)) at (bytes " " ++ decimal number) (now (out .exit)) r ⌝ }
+    requires { ⌜ length (now out) < nowhere ⌝ }
+    ensures { λ r. ⌜ Fits (now (out .entry)) at (bytes " " ++ decimal number) (now (out .exit)) r ⌝ }
 {
     let next = put(out, at, b" ");
-    put_digits(out, next, number as usize, 10)
+    put_decimal(out, next, number as usize)
 }
 
 // Offset, width and, for a fixed field, value.
 fn put_entry(out: &mut [u8], at: usize, run: &[u32], i: usize, fixed: bool) -> usize
-    requires { ⌜ (at + 33 ≤ length (now out)) × (4 * i + 4 ≤ length (now run)) ⌝ }
-    ensures { λ r. ⌜ Writes (now (out .entry)) at (entryText fixed (entryIn (now (run .entry)) i))
+    requires { ⌜ (length (now out) < nowhere) × (4 * i + 4 ≤ length (now run)) ⌝ }
+    ensures { λ r. ⌜ Fits (now (out .entry)) at (entryText fixed (entryIn (now (run .entry)) i))
         (now (out .exit)) r ⌝ }
 {
     let offset = put_number(out, at, run[4 * i + 1]);
@@ -38,8 +39,8 @@ fn put_entry(out: &mut [u8], at: usize, run: &[u32], i: usize, fixed: bool) -> u
 
 // The entry, or that the field is absent.
 fn put_state(out: &mut [u8], at: usize, run: &[u32], i: usize, fixed: bool) -> usize
-    requires { ⌜ (at + 33 ≤ length (now out)) × (4 * i + 4 ≤ length (now run)) ⌝ }
-    ensures { λ r. ⌜ Writes (now (out .entry)) at (stateText fixed (entryIn (now (run .entry)) i))
+    requires { ⌜ (length (now out) < nowhere) × (4 * i + 4 ≤ length (now run)) ⌝ }
+    ensures { λ r. ⌜ Fits (now (out .entry)) at (stateText fixed (entryIn (now (run .entry)) i))
         (now (out .exit)) r ⌝ }
 {
     if run[4 * i] == 1 {
@@ -57,8 +58,8 @@ pub(crate) fn put_line(
     run: &[u32],
     i: usize,
 ) -> usize
-    requires { ⌜ (at + 75 ≤ length (now out)) × (4 * i + 4 ≤ length (now run)) ⌝ }
-    ensures { λ r. ⌜ Writes (now (out .entry)) at (lineText (now (table .entry)) parts (now (run .entry)) i)
+    requires { ⌜ (length (now out) < nowhere) × (4 * i + 4 ≤ length (now run)) ⌝ }
+    ensures { λ r. ⌜ Fits (now (out .entry)) at (lineText (now (table .entry)) parts (now (run .entry)) i)
         (now (out .exit)) r ⌝ }
 {
     let label = parts.label;

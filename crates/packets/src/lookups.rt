@@ -1,14 +1,14 @@
 // Fields of a table by index and by name.
 use crate::readings::Bytes;
 use crate::records::Parts;
-use crate::records::Span;
-use crate::records::TABLE_MOST;
 use crate::records::parts_at;
 use crate::records::two_at;
 use crate::tables::check_table;
 use names::words::same_words;
 use rules::FieldAnswer;
+use rules::TABLE_MOST;
 use rules::TableAnswer;
+use writing::spans::Span;
 ghost use mathlib.Core.Path.{_≡_};
 ghost use Prim.Native.Nat.{_≤_};
 ghost use denote.Ref.{ptr};

@@ -4,6 +4,7 @@ use crate::tables::check_table;
 use crate::walks::walk_fields;
 use rules::PACKET_MOST;
 use rules::PacketAnswer;
+use rules::RUN_MOST;
 use rules::TableAnswer;
 ghost use mathlib.Core.Path.{_≡_};
 ghost use mathlib.Core.List.{_++_};
@@ -12,6 +13,9 @@ ghost use denote.Ref.{ptr};
 ghost use lib.ListN.{length, take, drop};
 ghost use Rattle.rules.specs.Reading.{partFrom};
 ghost use Rattle.rules.specs.Promises.{ReadsPacket, PlacesPart, LendsPart, leaves};
+ghost use Rattle.base.specs.Places.{twoAt};
+ghost use Rattle.rules.specs.Limits.{fieldsMost};
+ghost use Rattle.packets.specs.Parts.{runMost};
 ghost use Rattle.packets.specs.RunRead.{ReadsRun};
 ghost use Rattle.packets.specs.FieldParts.{isAccepted, partAt, OnPacket};
 ghost use Rattle.rules.specs.Answers.{ofPacket};
@@ -24,7 +28,7 @@ pub struct Bytes {
 
 // A packet read into a run by a table that was checked before.
 pub(crate) fn read_run(table: &[u8], packet: &[u8], run: &mut [u32]) -> PacketAnswer
-    requires { ⌜ 256 ≤ length (now run) ⌝ }
+    requires { ⌜ (runMost ≤ length (now run)) × (twoAt (now table) 6 ≤ fieldsMost) ⌝ }
     ensures { λ r. ⌜ ReadsRun (now (table .entry)) (now (packet .entry)) r (now (run .exit)) ⌝ }
 {
     if PACKET_MOST < packet.len() {
@@ -73,8 +77,8 @@ pub fn read_packet(table: &[u8], packet: &[u8], run: &mut [u32]) -> PacketAnswer
     if run.len() < n {
         return PacketAnswer::ShortRun;
     }
-    let mut numbers = [0u32; 256];
-    let answer = read_run(table, packet, &mut numbers);
+    let mut numbers = [0u32; RUN_MOST];
+    let answer = walk_fields(table, packet, &mut numbers);
     if is_accepted(answer) {
         copy_numbers(run, &numbers, n);
         return answer;
@@ -84,7 +88,7 @@ pub fn read_packet(table: &[u8], packet: &[u8], run: &mut [u32]) -> PacketAnswer
 
 // The part of the field of an index by its numbers: whole bytes that start on a byte, else the empty part at 0.
 fn part_at(run: &[u32], index: usize) -> Bytes
-    requires { ⌜ (index < 64) × (256 ≤ length (now run)) ⌝ }
+    requires { ⌜ (index < fieldsMost) × (runMost ≤ length (now run)) ⌝ }
     ensures { λ r. ⌜ r ≡ partAt (now (run .entry)) index ⌝ }
 {
     let at = 4 * index;
@@ -115,7 +119,7 @@ fn find_part(table: &[u8], packet: &[u8], index: usize) -> Bytes
     if two_at(table, 6) <= index {
         return none;
     }
-    let mut numbers = [0u32; 256];
+    let mut numbers = [0u32; RUN_MOST];
     let answer = read_run(table, packet, &mut numbers);
     if is_accepted(answer) {
         return part_at(&numbers, index);

@@ -1,12 +1,10 @@
 // The parts of a field's record, found by its lengths.
+use writing::spans::Span;
 ghost use mathlib.Core.Path.{_≡_};
 ghost use Prim.Native.Nat.{_+_, _≤_};
 ghost use lib.ListN.{getD};
 ghost use Rattle.base.specs.Places.{twoAt};
 ghost use Rattle.packets.specs.Parts.{placeMost, tableMost, Spans, Widths, partsAt};
-
-// No good table is longer.
-pub(crate) const TABLE_MOST: usize = 32768;
 
 // The record kinds of fields.
 pub(crate) const FIXED: usize = 2;
@@ -14,12 +12,6 @@ pub(crate) const FIXED: usize = 2;
 pub(crate) const MEASURED: usize = 3;
 
 pub(crate) const REST: usize = 4;
-
-// A part of the table: its place and its length.
-pub(crate) struct Span {
-    pub at: usize,
-    pub len: usize,
-}
 
 // What a width stores: its number (bits, or the unit), a measured width's expression, and the place behind them.
 pub(crate) struct WidthParts {
@@ -108,15 +100,6 @@ pub(crate) fn label_span(s: &[u8], at: usize) -> Span
     ensures { λ r. ⌜ r ≡ partsAt (now (s .entry)) at .label ⌝ }
 {
     span_at(s, at + 4)
-}
-
-// The short name of the record at a place.
-pub(crate) fn short_span(s: &[u8], at: usize) -> Span
-    requires { ⌜ at ≤ tableMost ⌝ }
-    ensures { λ r. ⌜ r ≡ partsAt (now (s .entry)) at .short ⌝ }
-{
-    let label = span_at(s, at + 4);
-    span_at(s, label.at + label.len)
 }
 
 // The parts of the record at a place.

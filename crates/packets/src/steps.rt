@@ -4,18 +4,19 @@ use crate::records::FIXED;
 use crate::records::MEASURED;
 use crate::records::Parts;
 use crate::records::REST;
-use crate::records::Span;
-use crate::records::TABLE_MOST;
 use crate::records::parts_at;
 use crate::trees::Cursor;
 use crate::trees::Evaluated;
 use rules::DEPTH_MOST;
 use rules::FIXED_MOST;
 use rules::Fault;
+use rules::TABLE_MOST;
+use writing::spans::Span;
 ghost use mathlib.Core.Path.{_≡_};
 ghost use Prim.Native.Nat.{_+_, _*_, _≤_};
 ghost use lib.ListN.{length};
 ghost use Rattle.rules.specs.Reading.{bitTotal};
+ghost use Rattle.rules.specs.Limits.{fieldsMost, packetMost, fixedMost};
 ghost use Rattle.packets.specs.Steps.{
   treeValue,
   holdsAt,
@@ -32,6 +33,8 @@ ghost use Rattle.packets.specs.Steps.{
   boundedAt,
   presentAt,
   fieldStep,
+  faultOf,
+  stoppedOf,
 };
 
 // A number, or the fault of finding it.
@@ -64,15 +67,35 @@ pub(crate) fn record_at(table: &[u8], at: usize) -> Parts
     parts_at(table, at)
 }
 
+// The fault of a tree that has no value.
+fn fault_of(v: Evaluated) -> Got
+    ensures { λ r. ⌜ r ≡ faultOf v ⌝ }
+{
+    match v {
+        Evaluated::Value(_, _) => Got::Stop(Fault::OutOfRange),
+        Evaluated::Stop(f) => Got::Stop(f),
+    }
+}
+
+// The fault of a number that was not found.
+pub(crate) fn stopped(got: Got) -> Found
+    ensures { λ r. ⌜ r ≡ stoppedOf got ⌝ }
+{
+    match got {
+        Got::Value(_) => Found::Stop(Fault::OutOfRange),
+        Got::Stop(f) => Found::Stop(f),
+    }
+}
+
 fn tree_value(table: &[u8], run: &[u32], at: usize) -> Got
     ensures { λ r. ⌜ r ≡ gotOf (treeValue (now (table .entry)) (now (run .entry)) at) ⌝ }
 {
     let tree = Cursor { at };
     let v = tree.value(table, DEPTH_MOST, run);
-    match v {
-        Evaluated::Value(n, next) => Got::Value(n as u64),
-        Evaluated::Stop(f) => Got::Stop(f),
-    }
+    let Evaluated::Value(n, _) = v else {
+        return fault_of(v);
+    };
+    Got::Value(n as u64)
 }
 
 // A condition or constraint; what is missing is yes.
@@ -87,7 +110,7 @@ pub(crate) fn holds_at(table: &[u8], run: &[u32], tree: Span) -> Got
 
 // The bits of a fixed field, 0 for another.
 fn fixed_bits(p: Parts) -> usize
-    ensures { λ r. ⌜ (r ≡ fixedOf p) × (r ≤ 32) ⌝ }
+    ensures { λ r. ⌜ (r ≡ fixedOf p) × (r ≤ fixedMost) ⌝ }
 {
     if p.kind == FIXED {
         if p.number <= FIXED_MOST {
@@ -109,8 +132,8 @@ fn scale(unit: usize, n: u32) -> u64
 
 // The sum of the fixed widths of n records from a place on.
 fn later_bits(table: &[u8], start: usize, n: usize) -> usize
-    requires { ⌜ n ≤ 64 ⌝ }
-    ensures { λ r. ⌜ (r ≡ laterBits n (now (table .entry)) start) × (r ≤ 2048) ⌝ }
+    requires { ⌜ n ≤ fieldsMost ⌝ }
+    ensures { λ r. ⌜ (r ≡ laterBits n (now (table .entry)) start) × (r ≤ fixedMost * fieldsMost) ⌝ }
 {
     let mut sum = 0;
     let mut at = start;
@@ -129,14 +152,14 @@ fn measured_at(table: &[u8], run: &[u32], p: Parts) -> Got
 {
     let tree = Cursor { at: p.tree.at };
     let v = tree.value(table, DEPTH_MOST, run);
-    match v {
-        Evaluated::Value(n, next) => Got::Value(scale(p.number, n)),
-        Evaluated::Stop(f) => Got::Stop(f),
-    }
+    let Evaluated::Value(n, _) = v else {
+        return fault_of(v);
+    };
+    Got::Value(scale(p.number, n))
 }
 
 fn rest_at(table: &[u8], packet: &[u8], p: Parts, later: usize, place: usize) -> Got
-    requires { ⌜ (later ≤ 64) × (place ≤ bitTotal (now packet)) × (length (now packet) ≤ 2048) ⌝ }
+    requires { ⌜ (later ≤ fieldsMost) × (place ≤ bitTotal (now packet)) × (length (now packet) ≤ packetMost) ⌝ }
     ensures { λ r. ⌜ r ≡ gotOf (restAt (now (table .entry)) (now (packet .entry)) p later place) ⌝ }
 {
     let taken = place + later_bits(table, p.next, later);
@@ -149,7 +172,7 @@ fn rest_at(table: &[u8], packet: &[u8], p: Parts, later: usize, place: usize) ->
 
 // A field's width; it starts at a bit, and n records come behind it.
 fn extent_at(table: &[u8], packet: &[u8], run: &[u32], p: Parts, n: usize, bit: usize) -> Got
-    requires { ⌜ (n ≤ 64) × (bit ≤ bitTotal (now packet)) × (length (now packet) ≤ 2048) ⌝ }
+    requires { ⌜ (n ≤ fieldsMost) × (bit ≤ bitTotal (now packet)) × (length (now packet) ≤ packetMost) ⌝ }
     ensures { λ r. ⌜ r ≡ gotOf (extentAt (now (table .entry)) (now (packet .entry)) (now (run .entry)) p n bit) ⌝ }
 {
     if p.kind == MEASURED {
@@ -163,7 +186,7 @@ fn extent_at(table: &[u8], packet: &[u8], run: &[u32], p: Parts, n: usize, bit: 
 
 // A field's value, 0 for long fields.
 fn number_of(packet: &[u8], kind: usize, place: usize, width: usize) -> u32
-    requires { ⌜ (place + width ≤ bitTotal (now packet)) × (length (now packet) ≤ 2048) ⌝ }
+    requires { ⌜ (place + width ≤ bitTotal (now packet)) × (length (now packet) ≤ packetMost) ⌝ }
     ensures { λ r. ⌜ r ≡ numberOf (now (packet .entry)) kind place width ⌝ }
 {
     if kind == FIXED {
@@ -176,7 +199,7 @@ fn number_of(packet: &[u8], kind: usize, place: usize, width: usize) -> u32
 
 // A field of a width, if its bits are there.
 fn bounded_at(packet: &[u8], kind: usize, place: usize, width: u64) -> Found
-    requires { ⌜ (place ≤ bitTotal (now packet)) × (length (now packet) ≤ 2048) ⌝ }
+    requires { ⌜ (place ≤ bitTotal (now packet)) × (length (now packet) ≤ packetMost) ⌝ }
     ensures { λ r. ⌜ r ≡ foundOf (boundedAt (now (packet .entry)) kind place width) ⌝ }
 {
     let total = 8 * packet.len();
@@ -197,14 +220,14 @@ fn bounded_at(packet: &[u8], kind: usize, place: usize, width: u64) -> Found
 
 // A field whose condition is yes.
 fn present_at(table: &[u8], packet: &[u8], run: &[u32], p: Parts, n: usize, bit: usize) -> Found
-    requires { ⌜ (n ≤ 64) × (bit ≤ bitTotal (now packet)) × (length (now packet) ≤ 2048) ⌝ }
+    requires { ⌜ (n ≤ fieldsMost) × (bit ≤ bitTotal (now packet)) × (length (now packet) ≤ packetMost) ⌝ }
     ensures { λ r. ⌜ r ≡ foundOf (presentAt (now (table .entry)) (now (packet .entry)) (now (run .entry)) p n bit) ⌝ }
 {
     let extent = extent_at(table, packet, run, p, n, bit);
-    match extent {
-        Got::Value(width) => bounded_at(packet, p.kind, bit, width),
-        Got::Stop(f) => Found::Stop(f),
-    }
+    let Got::Value(width) = extent else {
+        return stopped(extent);
+    };
+    bounded_at(packet, p.kind, bit, width)
 }
 
 // A field up to its constraint.
@@ -216,23 +239,21 @@ pub(crate) fn field_step(
     n: usize,
     bit: usize,
 ) -> Found
-    requires { ⌜ (n ≤ 64) × (bit ≤ bitTotal (now packet)) × (length (now packet) ≤ 2048) ⌝ }
+    requires { ⌜ (n ≤ fieldsMost) × (bit ≤ bitTotal (now packet)) × (length (now packet) ≤ packetMost) ⌝ }
     ensures { λ r. ⌜ r ≡ foundOf (fieldStep (now (table .entry)) (now (packet .entry)) (now (run .entry)) p n bit) ⌝ }
 {
     let condition = holds_at(table, run, p.condition);
-    match condition {
-        Got::Value(c) => {
-            if c == 0 {
-                let numbers = Numbers {
-                    present: 0,
-                    offset: 0,
-                    width: 0,
-                    value: 0,
-                };
-                return Found::Field(numbers, bit);
-            }
-            present_at(table, packet, run, p, n, bit)
-        }
-        Got::Stop(f) => Found::Stop(f),
+    let Got::Value(c) = condition else {
+        return stopped(condition);
+    };
+    if c == 0 {
+        let numbers = Numbers {
+            present: 0,
+            offset: 0,
+            width: 0,
+            value: 0,
+        };
+        return Found::Field(numbers, bit);
     }
+    present_at(table, packet, run, p, n, bit)
 }

@@ -4,12 +4,14 @@ use crate::fields::ends_with;
 use crate::fields::has_trees;
 use crate::fields::is_field;
 use crate::fields::mark_of;
-use crate::records::TABLE_MOST;
 use crate::records::parts_at;
 use crate::records::two_at;
+use crate::unique::gather;
 use crate::unique::has_unique_names;
 use names::labels::is_label;
 use rules::FIELDS_MOST;
+use rules::SHORT_MOST;
+use rules::TABLE_MOST;
 use rules::TableAnswer;
 ghost use mathlib.Core.Path.{_≡_};
 ghost use mathlib.Core.Bool.{false};
@@ -18,8 +20,9 @@ ghost use Prim.Native.Nat.{_<_, _≤_};
 ghost use lib.ListN.{length};
 ghost use Rattle.rules.specs.Within.{isRowWidth};
 ghost use Rattle.rules.specs.Promises.{ChecksTable};
+ghost use Rattle.rules.specs.Limits.{fieldsMost};
 ghost use Rattle.packets.specs.Parts.{placeMost, tableMost};
-ghost use Rattle.packets.specs.TableTest.{walkAt, headTest, lastTest, tableTest};
+ghost use Rattle.packets.specs.TableTest.{GatheredBy, walkAt, headTest, lastTest, tableTest};
 ghost use Rattle.rules.specs.Answers.{ofTable};
 
 const HEAD: usize = 1;
@@ -85,11 +88,23 @@ fn is_last(s: &[u8], at: usize) -> bool
     two_at(s, at + 2) == LAST
 }
 
-// The fields, one after the other; marks are of those that may be read.
-fn walk(s: &[u8], w: usize, count: usize, from: usize, marks: &mut [u8]) -> Walked
-    requires { ⌜ (0 < w) × (count ≤ 64) × (count ≤ length (now marks)) × (length (now s) ≤ tableMost)
+// The fields, one after the other; marks are of those that may be read, and what names need is gathered.
+fn walk(
+    s: &[u8],
+    w: usize,
+    count: usize,
+    from: usize,
+    marks: &mut [u8],
+    places: &mut [usize],
+    keys: &mut [usize],
+    names: &mut [[u8; SHORT_MOST]; FIELDS_MOST],
+) -> Walked
+    requires { ⌜ (0 < w) × (count ≤ fieldsMost) × (count ≤ length (now marks)) × (length (now s) ≤ tableMost)
         × (from ≤ length (now s)) ⌝ }
-    ensures { λ r. ⌜ r ≡ walkAt w count [] 0 false (now (s .entry)) from ⌝ }
+    requires { ⌜ (count ≤ length (now places)) × (count ≤ length (now keys)) × (count ≤ length (now names)) ⌝ }
+    ensures is { λ r. ⌜ r ≡ walkAt w count [] 0 false (now (s .entry)) from ⌝ }
+    ensures gathered { λ r. ⌜ GatheredBy r (now (s .entry)) count from (now (places .exit)) (now (keys .exit))
+        (now (names .exit)) ⌝ }
 {
     let mut at = from;
     let mut place: usize = 0;
@@ -104,6 +119,7 @@ fn walk(s: &[u8], w: usize, count: usize, from: usize, marks: &mut [u8]) -> Walk
         if !has_trees(s, parts, marks, i) {
             return Walked::Bad;
         }
+        gather(s, at, parts, i, places, keys, names);
         place += bits_of(parts);
         ended = ends_with(ended, parts);
         at = parts.next;
@@ -127,14 +143,27 @@ fn is_table(table: &[u8]) -> bool
     let w = two_at(table, 4);
     let count = two_at(table, 6);
     let from = 10 + two_at(table, 8);
-    let mut marks = [0u8; 64];
-    let Walked::Past(at) = walk(table, w, count, from, &mut marks) else {
+    let mut marks = [0u8; FIELDS_MOST];
+    let mut places = [0usize; FIELDS_MOST];
+    let mut keys = [0usize; FIELDS_MOST];
+    let mut names = [[0u8; SHORT_MOST]; FIELDS_MOST];
+    let walked = walk(
+        table,
+        w,
+        count,
+        from,
+        &mut marks,
+        &mut places,
+        &mut keys,
+        &mut names,
+    );
+    let Walked::Past(at) = walked else {
         return false;
     };
     if !is_last(table, at) {
         return false;
     }
-    has_unique_names(table, count, from)
+    has_unique_names(table, &places, &keys, &names, count)
 }
 
 // Good, with its length, exactly where the bytes are the stored form of a description within the limits.

@@ -1,32 +1,38 @@
 // Stored trees, checked and evaluated by functions that call themselves on operands.
+use operators::codes::Code;
+use operators::codes::code_of;
+use operators::rows::operator;
+use rules::Decider;
 use rules::Fault;
+use rules::NUMBER_MOST;
 use rules::Op;
 use rules::ValueType;
 ghost use mathlib.Core.Path.{_≡_};
 ghost use Prim.Native.Nat.{_+_, _<_};
 ghost use lib.ListN.{length, getD};
 ghost use Rattle.base.specs.Places.{fourAt};
-ghost use Rattle.rules.specs.Operators.{takes, gives};
 ghost use Rattle.rules.specs.Trees.{sameType};
 ghost use Rattle.rules.specs.Values.{yesNo, inRange, apply, decides};
-ghost use Rattle.packets.specs.StoredTrees.{codeOf, checkNumber, checkField, checkNot, checkTwo, checkAt};
-ghost use Rattle.packets.specs.StoredTrees.{cursor, skipOver, skipAt, placed, readNumber, readField, valueAt};
+ghost use Rattle.packets.specs.StoredTrees.{cursor, numberNode, fieldNode, nodeAt};
+ghost use Rattle.packets.specs.StoredTrees.{checkField, checkNot, checkTwo, checkAt};
+ghost use Rattle.packets.specs.StoredTrees.{skipAt, placed, fieldValue, valueAt};
 
 // A place in the bytes of a table.
 pub(crate) struct Cursor {
     pub at: usize,
 }
 
-// What a tree's first byte says.
-pub(crate) enum Code {
-    Number,
-    Field,
-    Two(Op),
-    Not,
-    Other,
+// What stands at a place: a number or the index of a field, with the place past it; an operator, with the place of its
+// first operand; or no tree.
+pub(crate) enum Node {
+    Number(u32, Cursor),
+    Field(u8, Cursor),
+    Two(Op, Cursor),
+    Not(Cursor),
+    Nothing,
 }
 
-// The kind of a tree with the place past it.
+// The type of a tree with the place past it.
 pub(crate) enum Checked {
     Tree(ValueType, Cursor),
     Bad,
@@ -36,28 +42,6 @@ pub(crate) enum Checked {
 pub(crate) enum Evaluated {
     Value(u32, Cursor),
     Stop(Fault),
-}
-
-fn code_of(c: u8) -> Code
-    ensures { λ r. ⌜ r ≡ codeOf c ⌝ }
-{
-    match c {
-        0x01 => Code::Number,
-        0x02 => Code::Field,
-        0x10 => Code::Two(Op::Add),
-        0x11 => Code::Two(Op::Sub),
-        0x12 => Code::Two(Op::Mul),
-        0x20 => Code::Two(Op::Eq),
-        0x21 => Code::Two(Op::Ne),
-        0x22 => Code::Two(Op::Lt),
-        0x23 => Code::Two(Op::Le),
-        0x24 => Code::Two(Op::Gt),
-        0x25 => Code::Two(Op::Ge),
-        0x30 => Code::Two(Op::And),
-        0x31 => Code::Two(Op::Or),
-        0x32 => Code::Not,
-        _ => Code::Other,
-    }
 }
 
 // What stands at an index, 0 past the end.
@@ -117,42 +101,14 @@ pub(crate) fn same_type(a: ValueType, b: ValueType) -> bool
     }
 }
 
-// The kind of an operator's operands.
-fn operand_type(op: Op) -> ValueType
-    ensures { λ r. ⌜ r ≡ takes op ⌝ }
+// A field that may be read is a number.
+fn check_field(marks: &[u8], i: u8, next: Cursor) -> Checked
+    ensures { λ r. ⌜ r ≡ checkField (now (marks .entry)) i next ⌝ }
 {
-    match op {
-        Op::Or => ValueType::YesNo,
-        Op::And => ValueType::YesNo,
-        Op::Eq => ValueType::Number,
-        Op::Ne => ValueType::Number,
-        Op::Lt => ValueType::Number,
-        Op::Le => ValueType::Number,
-        Op::Gt => ValueType::Number,
-        Op::Ge => ValueType::Number,
-        Op::Add => ValueType::Number,
-        Op::Sub => ValueType::Number,
-        Op::Mul => ValueType::Number,
+    if byte_at(marks, i as usize) == 1 {
+        return Checked::Tree(ValueType::Number, next);
     }
-}
-
-// The kind of an operator's value.
-fn result_type(op: Op) -> ValueType
-    ensures { λ r. ⌜ r ≡ gives op ⌝ }
-{
-    match op {
-        Op::Or => ValueType::YesNo,
-        Op::And => ValueType::YesNo,
-        Op::Eq => ValueType::YesNo,
-        Op::Ne => ValueType::YesNo,
-        Op::Lt => ValueType::YesNo,
-        Op::Le => ValueType::YesNo,
-        Op::Gt => ValueType::YesNo,
-        Op::Ge => ValueType::YesNo,
-        Op::Add => ValueType::Number,
-        Op::Sub => ValueType::Number,
-        Op::Mul => ValueType::Number,
-    }
+    Checked::Bad
 }
 
 fn check_not(k: ValueType, next: Cursor) -> Checked
@@ -167,10 +123,12 @@ fn check_not(k: ValueType, next: Cursor) -> Checked
 fn check_two(op: Op, a: ValueType, b: ValueType, next: Cursor) -> Checked
     ensures { λ r. ⌜ r ≡ checkTwo op a b next ⌝ }
 {
-    let kind = operand_type(op);
-    if same_type(a, kind) {
-        if same_type(b, kind) {
-            return Checked::Tree(result_type(op), next);
+    let row = operator(op);
+    let takes = row.takes;
+    if same_type(a, takes) {
+        if same_type(b, takes) {
+            let gives = row.gives;
+            return Checked::Tree(gives, next);
         }
     }
     Checked::Bad
@@ -186,25 +144,19 @@ fn yes_no(b: bool) -> u32
 fn settles(op: Op, x: u32) -> bool
     ensures { λ r. ⌜ r ≡ decides op x ⌝ }
 {
-    match op {
-        Op::Or => x != 0,
-        Op::And => x == 0,
-        Op::Eq => false,
-        Op::Ne => false,
-        Op::Lt => false,
-        Op::Le => false,
-        Op::Gt => false,
-        Op::Ge => false,
-        Op::Add => false,
-        Op::Sub => false,
-        Op::Mul => false,
+    let row = operator(op);
+    let decider = row.decider;
+    match decider {
+        Decider::ByYes => x != 0,
+        Decider::ByNo => x == 0,
+        Decider::Neither => false,
     }
 }
 
 fn in_range(n: u64, next: Cursor) -> Evaluated
     ensures { λ r. ⌜ r ≡ placed (inRange n) (next .at) ⌝ }
 {
-    if n <= 4294967295 {
+    if n <= NUMBER_MOST as u64 {
         Evaluated::Value(n as u32, next)
     } else {
         Evaluated::Stop(Fault::OutOfRange)
@@ -236,69 +188,71 @@ fn combine(op: Op, x: u32, y: u32, next: Cursor) -> Evaluated
     }
 }
 
-impl Cursor {
-    // The cursor n places on, if as many bytes are there.
-    fn over(self, s: &[u8], n: usize) -> Self
-        requires { ⌜ self .at < length (now s) ⌝ }
-        ensures { λ r. ⌜ r ≡ cursor (skipOver (now (s .entry)) n (self .at)) ⌝ }
-    {
-        let at = self.at;
-        if s.len() - at < n {
-            return self;
-        }
-        Cursor { at: at + n }
+// The value of a field: present if run[4 * i] is 1, and then run[4 * i + 3].
+fn field_value(run: &[u32], i: u8, next: Cursor) -> Evaluated
+    ensures { λ r. ⌜ r ≡ fieldValue (now (run .entry)) i next ⌝ }
+{
+    let at = 4 * index(i);
+    if number_at(run, at) == 1 {
+        return Evaluated::Value(number_at(run, at + 3), next);
     }
+    Evaluated::Stop(Fault::AbsentRead)
+}
 
-    fn check_number(self, s: &[u8]) -> Checked
+impl Cursor {
+    fn number(self, s: &[u8]) -> Node
         requires { ⌜ self .at < length (now s) ⌝ }
-        ensures { λ r. ⌜ r ≡ checkNumber (now (s .entry)) (self .at) ⌝ }
+        ensures { λ r. ⌜ r ≡ numberNode (now (s .entry)) (self .at) ⌝ }
     {
         let at = self.at;
         if s.len() - at < 5 {
-            return Checked::Bad;
+            return Node::Nothing;
         }
-        Checked::Tree(ValueType::Number, Cursor { at: at + 5 })
+        Node::Number(four_at(s, at + 1), Cursor { at: at + 5 })
     }
 
-    fn check_field(self, s: &[u8], marks: &[u8]) -> Checked
+    fn field(self, s: &[u8]) -> Node
         requires { ⌜ self .at < length (now s) ⌝ }
-        ensures { λ r. ⌜ r ≡ checkField (now (s .entry)) (now (marks .entry)) (self .at) ⌝ }
+        ensures { λ r. ⌜ r ≡ fieldNode (now (s .entry)) (self .at) ⌝ }
     {
         let at = self.at;
         if s.len() - at < 2 {
-            return Checked::Bad;
+            return Node::Nothing;
         }
-        if byte_at(marks, index(s[at + 1])) == 1 {
-            Checked::Tree(ValueType::Number, Cursor { at: at + 2 })
-        } else {
-            Checked::Bad
+        Node::Field(s[at + 1], Cursor { at: at + 2 })
+    }
+
+    // What stands here.
+    fn node(self, s: &[u8]) -> Node
+        ensures { λ r. ⌜ r ≡ nodeAt (now (s .entry)) (self .at) ⌝ }
+    {
+        let at = self.at;
+        if s.len() <= at {
+            return Node::Nothing;
+        }
+        let c = code_of(s[at]);
+        match c {
+            Code::Number => self.number(s),
+            Code::Field => self.field(s),
+            Code::Two(op) => Node::Two(op, Cursor { at: at + 1 }),
+            Code::Not => Node::Not(Cursor { at: at + 1 }),
+            Code::Other => Node::Nothing,
         }
     }
 
-    // The kind of the stored tree here, of at most the given depth; a field is read where its mark is 1.
+    // The type of the stored tree here; a field may be read if its mark is 1.
     pub(crate) fn check(self, s: &[u8], depth: usize, marks: &[u8]) -> Checked
         ensures { λ r. ⌜ r ≡ checkAt depth (now (s .entry)) (now (marks .entry)) (self .at) ⌝ }
     {
         if depth == 0 {
             return Checked::Bad;
         }
-        let at = self.at;
-        if s.len() <= at {
-            return Checked::Bad;
-        }
-        let c = code_of(s[at]);
-        let past = Cursor { at: at + 1 };
-        match c {
-            Code::Number => self.check_number(s),
-            Code::Field => self.check_field(s, marks),
-            Code::Not => {
-                let Checked::Tree(kind, next) = past.check(s, depth - 1, marks) else {
-                    return Checked::Bad;
-                };
-                check_not(kind, next)
-            }
-            Code::Two(op) => {
-                let Checked::Tree(a, right) = past.check(s, depth - 1, marks) else {
+        let node = self.node(s);
+        match node {
+            Node::Number(_, next) => Checked::Tree(ValueType::Number, next),
+            Node::Field(i, next) => check_field(marks, i, next),
+            Node::Two(op, left) => {
+                let Checked::Tree(a, right) = left.check(s, depth - 1, marks) else {
                     return Checked::Bad;
                 };
                 let Checked::Tree(b, next) = right.check(s, depth - 1, marks) else {
@@ -306,7 +260,13 @@ impl Cursor {
                 };
                 check_two(op, a, b, next)
             }
-            Code::Other => Checked::Bad,
+            Node::Not(operand) => {
+                let Checked::Tree(a, next) = operand.check(s, depth - 1, marks) else {
+                    return Checked::Bad;
+                };
+                check_not(a, next)
+            }
+            Node::Nothing => Checked::Bad,
         }
     }
 
@@ -317,76 +277,32 @@ impl Cursor {
         if depth == 0 {
             return self;
         }
-        let at = self.at;
-        if s.len() <= at {
-            return self;
-        }
-        let c = code_of(s[at]);
-        let past = Cursor { at: at + 1 };
-        match c {
-            Code::Number => self.over(s, 5),
-            Code::Field => self.over(s, 2),
-            Code::Not => past.skip(s, depth - 1),
-            Code::Two(_) => {
-                let right = past.skip(s, depth - 1);
+        let node = self.node(s);
+        match node {
+            Node::Number(_, next) => next,
+            Node::Field(_, next) => next,
+            Node::Two(_, left) => {
+                let right = left.skip(s, depth - 1);
                 right.skip(s, depth - 1)
             }
-            Code::Other => self,
+            Node::Not(operand) => operand.skip(s, depth - 1),
+            Node::Nothing => self,
         }
     }
 
-    fn number(self, s: &[u8]) -> Evaluated
-        requires { ⌜ self .at < length (now s) ⌝ }
-        ensures { λ r. ⌜ r ≡ readNumber (now (s .entry)) (self .at) ⌝ }
-    {
-        let at = self.at;
-        if s.len() - at < 5 {
-            return Evaluated::Stop(Fault::OutOfRange);
-        }
-        Evaluated::Value(four_at(s, at + 1), Cursor { at: at + 5 })
-    }
-
-    fn field(self, s: &[u8], run: &[u32]) -> Evaluated
-        requires { ⌜ self .at < length (now s) ⌝ }
-        ensures { λ r. ⌜ r ≡ readField (now (s .entry)) (now (run .entry)) (self .at) ⌝ }
-    {
-        let at = self.at;
-        if s.len() - at < 2 {
-            return Evaluated::Stop(Fault::OutOfRange);
-        }
-        let i = 4 * index(s[at + 1]);
-        if number_at(run, i) == 1 {
-            Evaluated::Value(number_at(run, i + 3), Cursor { at: at + 2 })
-        } else {
-            Evaluated::Stop(Fault::AbsentRead)
-        }
-    }
-
-    // The value of the stored tree here; field i is present if run[4 * i] is 1, and its value is run[4 * i + 3].
+    // The value of the stored tree here, by a run of four numbers a field.
     pub(crate) fn value(self, s: &[u8], depth: usize, run: &[u32]) -> Evaluated
         ensures { λ r. ⌜ r ≡ valueAt depth (now (s .entry)) (now (run .entry)) (self .at) ⌝ }
     {
         if depth == 0 {
             return Evaluated::Stop(Fault::OutOfRange);
         }
-        let at = self.at;
-        if s.len() <= at {
-            return Evaluated::Stop(Fault::OutOfRange);
-        }
-        let c = code_of(s[at]);
-        let past = Cursor { at: at + 1 };
-        match c {
-            Code::Number => self.number(s),
-            Code::Field => self.field(s, run),
-            Code::Not => {
-                let v = past.value(s, depth - 1, run);
-                let Evaluated::Value(x, next) = v else {
-                    return v;
-                };
-                Evaluated::Value(yes_no(x == 0), next)
-            }
-            Code::Two(op) => {
-                let v = past.value(s, depth - 1, run);
+        let node = self.node(s);
+        match node {
+            Node::Number(x, next) => Evaluated::Value(x, next),
+            Node::Field(i, next) => field_value(run, i, next),
+            Node::Two(op, left) => {
+                let v = left.value(s, depth - 1, run);
                 let Evaluated::Value(x, right) = v else {
                     return v;
                 };
@@ -399,7 +315,14 @@ impl Cursor {
                 };
                 combine(op, x, y, next)
             }
-            Code::Other => Evaluated::Stop(Fault::OutOfRange),
+            Node::Not(operand) => {
+                let v = operand.value(s, depth - 1, run);
+                let Evaluated::Value(x, next) = v else {
+                    return v;
+                };
+                Evaluated::Value(yes_no(x == 0), next)
+            }
+            Node::Nothing => Evaluated::Stop(Fault::OutOfRange),
         }
     }
 }

@@ -1,6 +1,6 @@
 // Labels and short names are unique.
+use crate::records::Parts;
 use crate::records::label_span;
-use crate::records::short_span;
 use crate::records::two_at;
 use crate::records::wide;
 use names::repeats::REMAINDERS;
@@ -8,66 +8,41 @@ use names::repeats::first_repeat;
 use names::repeats::held_name;
 use names::repeats::start_of;
 use names::words::same_words;
+use rules::FIELDS_MOST;
+use rules::SHORT_MOST;
+use writing::spans::Span;
 ghost use mathlib.Core.Path.{_≡_};
-ghost use Prim.Native.Nat.{_≤_};
-ghost use lib.ListN.{length, take, getD};
+ghost use Prim.Native.Nat.{_≤_, _<_};
+ghost use lib.ListN.{length, set};
 ghost use Rattle.base.specs.Lists.{same};
 ghost use Rattle.names.specs.Repeats.{firstRepeat};
-ghost use Rattle.packets.specs.Parts.{tableMost};
+ghost use Rattle.rules.specs.Limits.{fieldsMost};
+ghost use Rattle.packets.specs.Parts.{tableMost, ending, partsAt};
+ghost use Rattle.packets.specs.FieldTest.{bytesIn, Inside};
 ghost use Rattle.packets.specs.NamesTest.{
-  placesFrom,
   FieldPlace,
   FieldPlaces,
   labelAt,
   sampleKey,
   labelKey,
   LabelKeys,
+  heldIn,
   shortAt,
-  HeldNames,
   labelsAlike,
-  namesTest,
+  uniqueIn,
 };
 
-// The places of the first records.
-fn record_places(s: &[u8], count: usize, from: usize, places: &mut [usize])
-    requires { ⌜ (count ≤ length (now places)) × (length (now s) ≤ tableMost)
-        × FieldPlaces (now s) count (placesFrom (now s) count from) ⌝ }
-    ensures { λ r. ⌜ take count (now (places .exit)) ≡ placesFrom (now (s .entry)) count from ⌝ }
+// A short name as it is held.
+fn held_short(s: &[u8], short: Span) -> [u8; SHORT_MOST]
+    requires { ⌜ (ending short ≤ length (now s)) × (length (now s) ≤ tableMost) ⌝ }
+    ensures { λ r. ⌜ r ≡ heldIn (now (s .entry)) short ⌝ }
 {
-    let mut at = from;
-    let mut i = 0;
-    while i < count {
-        places[i] = at;
-        at += two_at(s, at);
-        i += 1;
-    }
-}
-
-// The short name of the record at a place.
-fn short_at(s: &[u8], at: usize) -> [u8; 8]
-    requires { ⌜ (length (now s) ≤ tableMost) × FieldPlace (now s) at ⌝ }
-    ensures { λ r. ⌜ r ≡ shortAt (now (s .entry)) at ⌝ }
-{
-    let short = short_span(s, at);
     if short.len == 0 {
-        return [0u8; 8];
+        return [0u8; SHORT_MOST];
     }
     let start = short.at;
     let end = start + short.len;
     held_name(&s[start..end])
-}
-
-// The short names of the records at the first places.
-fn short_names(s: &[u8], places: &[usize; 64], count: usize, names: &mut [[u8; 8]; 64])
-    requires { ⌜ (count ≤ 64) × (length (now s) ≤ tableMost) × FieldPlaces (now s) count (now places)
-        × (length (now names) ≡ 64) ⌝ }
-    ensures { λ r. ⌜ HeldNames (now (s .entry)) (now (places .entry)) count (now (names .exit)) ⌝ }
-{
-    let mut i = 0;
-    while i < count {
-        names[i] = short_at(s, places[i]);
-        i += 1;
-    }
 }
 
 // The length, the middle byte and the last two bytes of a label, in one number.
@@ -82,28 +57,35 @@ fn sample_key(w: &[u8]) -> usize
     (256 * n + wide(w[n / 2])) * 65536 + two_at(w, n - 2)
 }
 
-// The key of the label of the record at a place.
-fn label_key(s: &[u8], at: usize) -> usize
-    requires { ⌜ (length (now s) ≤ tableMost) × FieldPlace (now s) at ⌝ }
-    ensures { λ r. ⌜ r ≡ labelKey (now (s .entry)) at ⌝ }
+// The key of a label.
+fn label_key(s: &[u8], label: Span) -> usize
+    requires { ⌜ (ending label ≤ length (now s)) × (length (now s) ≤ tableMost) ⌝ }
+    ensures { λ r. ⌜ r ≡ sampleKey (bytesIn (now (s .entry)) label) ⌝ }
 {
-    let label = label_span(s, at);
     let start = label.at;
     let end = start + label.len;
     sample_key(&s[start..end])
 }
 
-// The keys of the labels of the records at the first places.
-fn label_keys(s: &[u8], places: &[usize; 64], count: usize, keys: &mut [usize])
-    requires { ⌜ (count ≤ 64) × (length (now s) ≤ tableMost) × FieldPlaces (now s) count (now places)
-        × (count ≤ length (now keys)) ⌝ }
-    ensures { λ r. ⌜ LabelKeys (now (s .entry)) (now (places .entry)) count (now (keys .exit)) ⌝ }
+// The place of a record, the key of its label and its short name, put into lent arrays.
+pub(crate) fn gather(
+    s: &[u8],
+    at: usize,
+    parts: Parts,
+    i: usize,
+    places: &mut [usize],
+    keys: &mut [usize],
+    names: &mut [[u8; SHORT_MOST]; FIELDS_MOST],
+)
+    requires { ⌜ (length (now s) ≤ tableMost) × (parts ≡ partsAt (now s) at) × Inside (now s) parts ⌝ }
+    requires { ⌜ (i < length (now places)) × (i < length (now keys)) × (i < length (now names)) × (i < fieldsMost) ⌝ }
+    ensures places { λ r. ⌜ now (places .exit) ≡ set (now (places .entry)) i at ⌝ }
+    ensures keys { λ r. ⌜ now (keys .exit) ≡ set (now (keys .entry)) i (labelKey (now (s .entry)) at) ⌝ }
+    ensures names { λ r. ⌜ now (names .exit) ≡ set (now (names .entry)) i (shortAt (now (s .entry)) at) ⌝ }
 {
-    let mut i = 0;
-    while i < count {
-        keys[i] = label_key(s, places[i]);
-        i += 1;
-    }
+    places[i] = at;
+    keys[i] = label_key(s, parts.label);
+    names[i] = held_short(s, parts.short);
 }
 
 // The records at two places, whose labels have these keys, have one label.
@@ -125,8 +107,13 @@ fn same_labels(s: &[u8], a: usize, b: usize, key: usize, other: usize) -> bool
 }
 
 // The first of the records whose label repeats an earlier one, else their number.
-fn first_label(s: &[u8], places: &[usize; 64], keys: &[usize; 64], n: usize) -> usize
-    requires { ⌜ (n ≤ 64) × (length (now s) ≤ tableMost) × FieldPlaces (now s) n (now places)
+fn first_label(
+    s: &[u8],
+    places: &[usize; FIELDS_MOST],
+    keys: &[usize; FIELDS_MOST],
+    n: usize,
+) -> usize
+    requires { ⌜ (n ≤ fieldsMost) × (length (now s) ≤ tableMost) × FieldPlaces (now s) n (now places)
         × LabelKeys (now s) (now places) n (now keys) ⌝ }
     ensures { λ r. ⌜ r ≡ firstRepeat (labelsAlike (now (s .entry)) (now (places .entry))) n ⌝ }
 {
@@ -149,20 +136,20 @@ fn first_label(s: &[u8], places: &[usize; 64], keys: &[usize; 64], n: usize) -> 
     }
 }
 
-// Of the records from a place on, no label and no short name repeats an earlier one.
-pub(crate) fn has_unique_names(s: &[u8], count: usize, from: usize) -> bool
-    requires { ⌜ (count ≤ 64) × (length (now s) ≤ tableMost)
-        × FieldPlaces (now s) count (placesFrom (now s) count from) ⌝ }
-    ensures { λ r. ⌜ r ≡ namesTest (now (s .entry)) count from ⌝ }
+// No label and no short name of the n records repeats an earlier one.
+pub(crate) fn has_unique_names(
+    s: &[u8],
+    places: &[usize; FIELDS_MOST],
+    keys: &[usize; FIELDS_MOST],
+    names: &[[u8; SHORT_MOST]; FIELDS_MOST],
+    n: usize,
+) -> bool
+    requires { ⌜ (n ≤ fieldsMost) × (length (now s) ≤ tableMost) × FieldPlaces (now s) n (now places)
+        × LabelKeys (now s) (now places) n (now keys) ⌝ }
+    ensures { λ r. ⌜ r ≡ uniqueIn (now (s .entry)) (now (places .entry)) (now (names .entry)) n ⌝ }
 {
-    let mut places = [0usize; 64];
-    record_places(s, count, from, &mut places);
-    let mut keys = [0usize; 64];
-    label_keys(s, &places, count, &mut keys);
-    if first_label(s, &places, &keys, count) != count {
+    if first_label(s, places, keys, n) != n {
         return false;
     }
-    let mut names = [[0u8; 8]; 64];
-    short_names(s, &places, count, &mut names);
-    first_repeat(&names, count) == count
+    first_repeat(names, n) == n
 }

@@ -1,6 +1,5 @@
 // The fields of a packet in order: each one's numbers are put into the run, and then its constraint is tested.
 use crate::records::Parts;
-use crate::records::Span;
 use crate::records::two_at;
 use crate::steps::Found;
 use crate::steps::Got;
@@ -8,18 +7,22 @@ use crate::steps::Numbers;
 use crate::steps::field_step;
 use crate::steps::holds_at;
 use crate::steps::record_at;
-use rules::FIELDS_MOST;
+use crate::steps::stopped;
 use rules::Fault;
 use rules::PacketAnswer;
+use writing::spans::Span;
 ghost use mathlib.Core.Path.{_≡_};
 ghost use Prim.Native.Nat.{_+_, _*_, _≤_, _<_};
 ghost use lib.ListN.{length};
 ghost use Rattle.rules.specs.Reading.{bitTotal};
+ghost use Rattle.rules.specs.Limits.{fieldsMost, packetMost};
+ghost use Rattle.base.specs.Places.{twoAt};
+ghost use Rattle.packets.specs.Parts.{runMost};
 ghost use Rattle.packets.specs.Steps.{entryIn, foundOf};
 ghost use Rattle.packets.specs.Walks.{putAt, keptAt, refusedOf, Steps, Walks};
 
 fn put(run: &mut [u32], i: usize, e: Numbers)
-    requires { ⌜ (i < 64) × (4 * i + 4 ≤ length (now run)) ⌝ }
+    requires { ⌜ (i < fieldsMost) × (4 * i + 4 ≤ length (now run)) ⌝ }
     ensures { λ r. ⌜ now (run .exit) ≡ putAt (now (run .entry)) i e ⌝ }
 {
     let at = 4 * i;
@@ -34,15 +37,13 @@ fn kept_at(table: &[u8], run: &[u32], tree: Span, e: Numbers, next: usize) -> Fo
     ensures { λ r. ⌜ r ≡ foundOf (keptAt (now (table .entry)) (now (run .entry)) tree (entryIn e) next) ⌝ }
 {
     let held = holds_at(table, run, tree);
-    match held {
-        Got::Value(c) => {
-            if c == 0 {
-                return Found::Stop(Fault::ConstraintFalse);
-            }
-            Found::Field(e, next)
-        }
-        Got::Stop(f) => Found::Stop(f),
+    let Got::Value(c) = held else {
+        return stopped(held);
+    };
+    if c == 0 {
+        return Found::Stop(Fault::ConstraintFalse);
     }
+    Found::Field(e, next)
 }
 
 // Field i by its record; it starts at a bit, and n records come behind it.
@@ -55,21 +56,19 @@ fn one_field(
     bit: usize,
     p: Parts,
 ) -> Found
-    requires { ⌜ (i < 64) × (4 * i + 4 ≤ length (now run)) ⌝ }
-    requires { ⌜ (n ≤ 64) × (bit ≤ bitTotal (now packet)) × (length (now packet) ≤ 2048) ⌝ }
+    requires { ⌜ (i < fieldsMost) × (4 * i + 4 ≤ length (now run)) ⌝ }
+    requires { ⌜ (n ≤ fieldsMost) × (bit ≤ bitTotal (now packet)) × (length (now packet) ≤ packetMost) ⌝ }
     ensures { λ r. ⌜ Steps (now (s .entry)) (now (packet .entry)) (now (run .entry)) i n bit p r (now (run .exit)) ⌝ }
 {
     let found = field_step(s, packet, run, p, n, bit);
-    match found {
-        Found::Field(e, next) => {
-            put(run, i, e);
-            if e.present == 0 {
-                return Found::Field(e, next);
-            }
-            kept_at(s, run, p.constraint, e, next)
-        }
-        Found::Stop(f) => Found::Stop(f),
+    let Found::Field(e, next) = found else {
+        return found;
+    };
+    put(run, i, e);
+    if e.present == 0 {
+        return found;
     }
+    kept_at(s, run, p.constraint, e, next)
 }
 
 // The refusal that a fault is, at field k from 1.
@@ -84,13 +83,11 @@ fn refused(found: Found, k: usize) -> PacketAnswer
 
 // All fields of a table, into the front of the run.
 pub(crate) fn walk_fields(table: &[u8], packet: &[u8], run: &mut [u32]) -> PacketAnswer
-    requires { ⌜ (256 ≤ length (now run)) × (length (now packet) ≤ 2048) ⌝ }
+    requires { ⌜ (runMost ≤ length (now run)) × (length (now packet) ≤ packetMost)
+        × (twoAt (now table) 6 ≤ fieldsMost) ⌝ }
     ensures { λ r. ⌜ Walks (now (table .entry)) (now (packet .entry)) (now (run .entry)) r (now (run .exit)) ⌝ }
 {
     let n = two_at(table, 6);
-    if FIELDS_MOST < n {
-        return PacketAnswer::NotGood;
-    }
     let total = 8 * packet.len();
     let mut at = two_at(table, 0);
     let mut place = 0;

@@ -1,2 +1,17 @@
--- Reader  a reader of expressions as a function: a helper of the proofs; no public promise rests on it
+-- Reader       a reader of expressions as a function
+-- LineReader   a reader of one field line
+-- FrameReader  a text into lines, a line into cells, and a frame line by line
+-- Resolving    names resolved to indexes
+-- Lowest       the lowest number so far, at its first line
+-- Judging      what is kept of field lines, and what a line does to it
+-- Fold         one fold over the bytes of a text
+-- WrongTexts   answers of wrong programs to texts, of which the promise is false
+-- The readers are helpers of code and proofs; no public promise rests on them.
 pub mod Reader
+pub mod LineReader
+pub mod FrameReader
+pub mod Resolving
+pub mod Lowest
+pub mod Judging
+pub mod Fold
+pub mod WrongTexts

@@ -15,10 +15,10 @@ use Rattle.rules.specs.Names.{isLabel, noTwoSpaces}
 use Rattle.rules.specs.Fields.{Width, fixed, measured, rest, Form, cellNames}
 use Rattle.rules.specs.Frames.{Slot}
 use Rattle.rules.specs.Spelling.{isPlaceFor}
-use Rattle.texts.specs.FrameReader.{leftTrim, rightTrim}
+use Rattle.text_laws.specs.FrameReader.{leftTrim, rightTrim}
 use Rattle.texts.specs.LinePlaces.{spanIn, WidthIs, ShortIs, LineOf}
 use Rattle.texts.specs.Mismatches.{shownOf, isNameIn, isPlaceIn, ShowsIs}
-use Rattle.texts.specs.declared.parts.Span.{Span}
+use Rattle.writing.specs.declared.spans.Span.{Span}
 use Rattle.texts.specs.declared.parts.TreeAt.{TreeAt}
 use Rattle.texts.specs.declared.parts.Parts.{Parts}
 use Rattle.texts.proofs.FrameLeaves.{take-rest}

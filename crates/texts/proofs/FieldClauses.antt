@@ -10,8 +10,8 @@ use Rattle.base.specs.Bytes.{bytes}
 use Rattle.rules.specs.Limits.{openMost}
 use Rattle.rules.specs.Trees.{Tree, depth, storedLength}
 use Rattle.text_laws.specs.Reader.{fail, got, expr}
-use Rattle.texts.specs.LineReader.{Got, miss, hit, literal, begins, readTree, readPhrase, readMaybe}
-use Rattle.texts.specs.LineReader.{isCondition, isConstraint, readConstraint, readCondition}
+use Rattle.text_laws.specs.LineReader.{Got, miss, hit, literal, begins, readTree, readPhrase, readMaybe}
+use Rattle.text_laws.specs.LineReader.{isCondition, isConstraint, readConstraint, readCondition}
 use Rattle.texts.specs.ExprPlaces.{ExprAt}
 use Rattle.texts.specs.FieldPlaces.{treeClause, SameClause, WithinClause}
 use Rattle.texts.specs.declared.leaves.Read.{Read}

@@ -8,8 +8,8 @@ use native.Mathlib.Omega.{arith}
 use lib.ListN.{length, drop}
 use Rattle.base.specs.Bytes.{bytes}
 use Rattle.rules.specs.Trees.{Tree}
-use Rattle.texts.specs.LineReader.{Got, miss, hit, literal, begins, readConstraint, readCondition, isRemark}
-use Rattle.texts.specs.LineReader.{formOf}
+use Rattle.text_laws.specs.LineReader.{Got, miss, hit, literal, begins, readConstraint, readCondition, isRemark}
+use Rattle.text_laws.specs.LineReader.{formOf}
 use Rattle.texts.specs.FieldPlaces.{SameClause, WithinClause}
 use Rattle.texts.specs.PartPlaces.{Ending, readEnds, ClauseAs, EndsAs, SameEnds}
 use Rattle.texts.specs.declared.field_clauses.Clause.{Clause}

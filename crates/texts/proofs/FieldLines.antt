@@ -8,11 +8,11 @@ use native.Mathlib.Decide.{decLt}
 use lib.ListN.{length, take, drop, getD, set, length-drop}
 use lib.Seq.{drop-drop, length-take-le, getD-set-same, getD-set-other}
 use Rattle.rules.specs.Names.{lineFeed}
-use Rattle.texts.specs.LineReader.{readForm}
-use Rattle.texts.specs.FrameReader.{linesOf}
+use Rattle.text_laws.specs.LineReader.{readForm}
+use Rattle.text_laws.specs.FrameReader.{linesOf}
 use Rattle.texts.specs.FramePlaces.{upTo}
 use Rattle.texts.specs.LinePlaces.{spanOf, noParts, PartsFor, LineIs, lineAt, LinesAre}
-use Rattle.texts.specs.declared.parts.Span.{Span}
+use Rattle.writing.specs.declared.spans.Span.{Span}
 use Rattle.texts.specs.declared.parts.Parts.{Parts}
 use Rattle.texts.proofs.FrameLeaves.{pieces-first, pieces-none}
 

@@ -13,14 +13,14 @@ use Rattle.base.specs.Lists.{isNone}
 use Rattle.base.proofs.Places.{drop-more}
 use Rattle.rules.specs.Names.{isLabel, isShort}
 use Rattle.text_laws.specs.Reader.{after, word, behind}
-use Rattle.texts.specs.LineReader.{miss, hit, passed, literal, begins, labelEnds, labelText, labelBehind}
-use Rattle.texts.specs.LineReader.{readLabel, readName, readShort}
+use Rattle.text_laws.specs.LineReader.{miss, hit, passed, literal, begins, labelEnds, labelText, labelBehind}
+use Rattle.text_laws.specs.LineReader.{readLabel, readName, readShort}
 use Rattle.texts.specs.FieldPlaces.{SameLabel, WithinLabel, NameIs, SameShort, WithinShort}
 use Rattle.texts.specs.declared.labels.Label.the-variants as label
 use Rattle.texts.specs.declared.labels.Short.{Short}
 use Rattle.texts.specs.declared.labels.Short.the-variants as short
-use Rattle.texts.proofs.Combine.{begins-split, literal-finds}
-use Rattle.texts.proofs.LineNames.{label-split}
+use Rattle.text_laws.proofs.Combine.{begins-split, literal-finds}
+use Rattle.text_laws.proofs.LineNames.{label-split}
 use Rattle.texts.proofs.ExprLeaves.{word-part, longer}
 
 -- ── phrases ──

@@ -14,13 +14,13 @@ use Rattle.base.specs.Lists.{all, listOf}
 use Rattle.rules.specs.Limits.{depthMost, storedMost}
 use Rattle.rules.specs.Trees.{Tree, depth, storedLength, isSmall}
 use Rattle.rules.specs.Fields.{Width, fixed, measured, rest, widthTrees, trees}
-use Rattle.texts.specs.LineReader.{Got, miss, hit, literal, begins, readLabel, readShort, readWidth}
-use Rattle.texts.specs.LineReader.{readField, formOf, readForm}
+use Rattle.text_laws.specs.LineReader.{Got, miss, hit, literal, begins, readLabel, readShort, readWidth}
+use Rattle.text_laws.specs.LineReader.{readField, formOf, readForm}
 use Rattle.texts.specs.FieldPlaces.{SameLabel, WithinLabel, NameIs, SameShort, WithinShort}
 use Rattle.texts.specs.LinePlaces.{spanOf, treeOf, noParts, MaybeIs, WidthIs, ShortIs, PartsFor}
 use Rattle.texts.specs.PartPlaces.{widthDepth, WidthAs, Ending, readEnds, maybeDepth, EndsAs, readBehind}
 use Rattle.texts.specs.PartPlaces.{smallAs, BehindFor}
-use Rattle.texts.specs.declared.parts.Span.{Span}
+use Rattle.writing.specs.declared.spans.Span.{Span}
 use Rattle.texts.specs.declared.parts.Parts.{Parts}
 use Rattle.texts.specs.declared.labels.Label.{Label}
 use Rattle.texts.specs.declared.labels.Label.the-variants as label

@@ -17,8 +17,8 @@ use Rattle.rules.specs.Trees.{Tree, num, read, two, negation, depth, storedTree
 use Rattle.rules.specs.Fields.{Width, fixed, measured, rest}
 use Rattle.rules.specs.Within.{isWidth}
 use Rattle.text_laws.specs.Reader.{fail, got, expr, word, behind}
-use Rattle.texts.specs.LineReader.{Got, miss, hit, bind, keep, literal, begins, readTree, unitOf, readUnit}
-use Rattle.texts.specs.LineReader.{widthOf, readMeasure, readWidth}
+use Rattle.text_laws.specs.LineReader.{Got, miss, hit, bind, keep, literal, begins, readTree, unitOf, readUnit}
+use Rattle.text_laws.specs.LineReader.{widthOf, readMeasure, readWidth}
 use Rattle.texts.specs.ExprPlaces.{ExprAt}
 use Rattle.texts.specs.FieldPlaces.{SameBits, WithinBits}
 use Rattle.texts.specs.PartPlaces.{spacedUnit, isUnit, fixedAt, WidthAs, SameWidth, WithinWidth, SizedAt}
@@ -28,7 +28,7 @@ use Rattle.texts.specs.declared.units.Bits.{Bits}
 use Rattle.texts.specs.declared.units.Bits.the-variants as bits
 use Rattle.texts.specs.declared.widths.Width as answer
 use Rattle.texts.specs.declared.widths.Width.the-variants as width
-use Rattle.texts.proofs.Combine.{Holds, holds-given, holds-bind}
+use Rattle.text_laws.proofs.Combine.{Holds, holds-given, holds-bind}
 use Rattle.texts.proofs.ExprSteps.{same-fail, same-got}
 use Rattle.texts.proofs.FieldNames.{literal-at, literal-none}
 

@@ -49,7 +49,8 @@ abbrev AreOf : ℕ → List Op → Bool
 AreOf n os = all (λ o. eqb (length (symbol o)) n) os
 
 first-of-length : (os rest : List Op) (n : ℕ) (s : List ℕ) (m : Symbol) → AreOf n os ≡ true
-    → length (take n s) ≡ n → firstOf rest s ≡ foundBy m s → firstOf (os ++ rest) s ≡ foundBy (symbolIn os (take n s) m) s
+    → length (take n s) ≡ n → firstOf rest s ≡ foundBy m s → firstOf (os ++ rest) s ≡ foundBy (symbolIn os (take n s)
+    m) s
 unfolding all firstOf symbolIn
 first-of-length [] rest n s m a l e = e
 first-of-length (o ∷ os) rest n s m a l e =
@@ -155,5 +156,9 @@ pub symbol-sized : (c : ℕ) (s : List ℕ) → Sized (length (c ∷ s)) (symbol
 symbol-sized c [] = rw (by-length, zero-behind) (short-sized c 1 (omega arith))
 symbol-sized c (d ∷ s) =
     rw by-length
-    (sized-in longs (c ∷ d ∷ []) (symbolIn shorts (c ∷ []) Symbol.Nothing) (length (c ∷ d ∷ s)) (omega arith, omega arith)
+    (sized-in longs (c ∷ d ∷ []) (symbolIn shorts (c ∷ []) Symbol.Nothing) (length (c ∷ d ∷ s)) (
+      omega arith,
+      omega
+          arith,
+    )
     (short-sized c (length (c ∷ d ∷ s)) (omega arith)))

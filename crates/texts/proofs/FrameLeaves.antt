@@ -16,7 +16,7 @@ use Rattle.base.proofs.Scans.{same-step, same-end, same-length}
 use Rattle.base.proofs.Tables.{getD-tabulate}
 use Rattle.rules.specs.Names.{isPrintable, isAllowed, isLabel}
 use Rattle.rules.specs.Frames.{tensAt, tens}
-use Rattle.texts.specs.FrameReader.{onFirst, pieces, rest, closing, readName, readTens, onName, opened}
+use Rattle.text_laws.specs.FrameReader.{onFirst, pieces, rest, closing, readName, readTens, onName, opened}
 use Rattle.texts.specs.FramePlaces.{upTo, widthOr, isSome}
 
 -- ── the first byte e ──

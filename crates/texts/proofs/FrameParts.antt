@@ -16,9 +16,9 @@ use Rattle.texts.specs.LinePlaces.{LinesFor}
 use Rattle.texts.specs.FrameWalk.{SkippedTo}
 use Rattle.texts.specs.Mismatches.{indexOr, RowsAt, MismatchIs}
 use Rattle.texts.specs.declared.parts.Parts.{Parts}
-use Rattle.texts.proofs.RowReader.{rowLines-one}
-use Rattle.texts.proofs.FrameStates.{openingLine, pairs}
-use Rattle.texts.proofs.FrameRun.{frame-kept, frameLines-are, lines-are-lines}
+use Rattle.text_laws.proofs.RowReader.{rowLines-one}
+use Rattle.text_laws.proofs.FrameStates.{openingLine, pairs}
+use Rattle.text_laws.proofs.FrameRun.{frame-kept, frameLines-are, lines-are-lines}
 
 pairs-count : (w : ℕ) (rows : List Row) → length (pairs w rows) ≡ 2 * length rows
 unfolding joined

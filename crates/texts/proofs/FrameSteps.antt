@@ -11,9 +11,9 @@ use Rattle.base.specs.Lists.{isEmpty}
 use Rattle.base.proofs.Lists.{not-both}
 use Rattle.rules.specs.Names.{lineFeed}
 use Rattle.rules.specs.Frames.{cells, Frame}
-use Rattle.texts.specs.FrameReader.{linesOf, rest, State, begun, named, spaced, ruled, counted, bordered}
-use Rattle.texts.specs.FrameReader.{rowed, closed, headed, filled, step, onState, run, rightFrom, rightLines}
-use Rattle.texts.specs.FrameReader.{whole, readFrame}
+use Rattle.text_laws.specs.FrameReader.{linesOf, rest, State, begun, named, spaced, ruled, counted, bordered}
+use Rattle.text_laws.specs.FrameReader.{rowed, closed, headed, filled, step, onState, run, rightFrom, rightLines}
+use Rattle.text_laws.specs.FrameReader.{whole, readFrame}
 use Rattle.texts.specs.FramePlaces.{upTo}
 use Rattle.texts.specs.FrameWalk.{view, viewOr, stepView, isWrong, Counts, Most, lastView, WalkedAs}
 use Rattle.texts.specs.declared.walks.Stage.{Stage}
@@ -21,8 +21,8 @@ use Rattle.texts.specs.declared.walks.Stage.the-variants as stage
 use Rattle.texts.specs.declared.walks.Walked.{Walked}
 use Rattle.texts.specs.declared.walks.Walked.the-variants as walked
 use Rattle.texts.proofs.SplitSteps.{piece-at, rest-at, piece-length, piece-none, pieces-end}
-use Rattle.texts.proofs.FrameStates.{stateLines, Sane, Reached}
-use Rattle.texts.proofs.FrameSound.{step-sound}
+use Rattle.text_laws.proofs.FrameStates.{stateLines, Sane, Reached}
+use Rattle.text_laws.proofs.FrameSound.{step-sound}
 use Rattle.texts.proofs.FrameViews.{step-view, view-right, step-most}
 
 -- ── what a stage's bounds say ──

@@ -13,17 +13,17 @@ use Rattle.base.specs.Lists.{same, joined}
 use Rattle.base.proofs.Joined.{joined-append, joined-one}
 use Rattle.rules.specs.Frames.{Row, slotsIn, tens, units, border}
 use Rattle.rules.specs.Within.{isRowWidth}
-use Rattle.texts.specs.FrameReader.{readRow, readName, readTens, Top, State, begun, named, spaced, ruled}
-use Rattle.texts.specs.FrameReader.{counted, bordered, rowed, closed, headed, filled, onName, onWidth, onRow}
-use Rattle.texts.specs.FrameReader.{rowOrEnd, opened, onSame, step}
+use Rattle.text_laws.specs.FrameReader.{readRow, readName, readTens, Top, State, begun, named, spaced, ruled}
+use Rattle.text_laws.specs.FrameReader.{counted, bordered, rowed, closed, headed, filled, onName, onWidth, onRow}
+use Rattle.text_laws.specs.FrameReader.{rowOrEnd, opened, onSame, step}
 use Rattle.texts.specs.FramePlaces.{widthOr, isSome}
 use Rattle.texts.specs.FrameWalk.{rowCount, cellCount, view, viewOr, when, widthView, rowView}
 use Rattle.texts.specs.FrameWalk.{rowOrEndView, stepView, isWrong, Counts, Most}
 use Rattle.texts.specs.declared.walks.Stage.{Stage}
 use Rattle.texts.specs.declared.walks.Stage.the-variants as stage
-use Rattle.texts.proofs.RowReader.{Reads, row-sound}
+use Rattle.text_laws.proofs.RowReader.{Reads, row-sound}
 use Rattle.texts.proofs.RowTally.{row-most, row-some}
-use Rattle.texts.proofs.FrameStates.{Sane, width-cases}
+use Rattle.text_laws.proofs.FrameStates.{Sane, width-cases}
 
 -- ── one line ──
 

@@ -20,7 +20,7 @@ use Rattle.names.proofs.PadLaws.{held-same, none-first, none-second}
 use Rattle.texts.specs.LinePlaces.{lineAt, spanIn, ShortIs, LineOf, LinesFor}
 use Rattle.texts.specs.LineTests.{labelIn, shortIn, heldShort, clashAt}
 use Rattle.texts.specs.StoredTrees.{isHeld, lookUp, mayRead}
-use Rattle.texts.specs.declared.parts.Span.{Span}
+use Rattle.writing.specs.declared.spans.Span.{Span}
 use Rattle.texts.specs.declared.parts.Parts.{Parts}
 use Rattle.texts.proofs.LineRules.{line-fixed, element-in}
 use Rattle.texts.proofs.FirstBreaks.{below, breaks-search, any-search}

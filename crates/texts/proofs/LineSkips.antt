@@ -12,7 +12,7 @@ use Rattle.base.proofs.Lists.{all-back, and-left}
 use Rattle.rules.specs.Names.{lineFeed}
 use Rattle.rules.specs.Frames.{ended, isLine}
 use Rattle.texts.specs.FramePlaces.{upTo}
-use Rattle.texts.proofs.SplitLaws.{isFree, other, others}
+use Rattle.text_laws.proofs.SplitLaws.{isFree, other, others}
 
 -- the lines behind the place, if the text is made of lines
 abbrev pub Skipped : List ℕ → ℕ → ℕ → ℕ → Type 0

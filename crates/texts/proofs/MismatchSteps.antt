@@ -18,15 +18,15 @@ use Rattle.rules.specs.Fields.{Form}
 use Rattle.rules.specs.Frames.{border, borderAt, isCell, Row, bitRow, longRow, isRow, isLine, ended, Slot}
 use Rattle.rules.specs.Frames.{slotsIn}
 use Rattle.rules.specs.Spelling.{shows, mismatch}
-use Rattle.texts.specs.FrameReader.{pieces, rest, leftTrim, rightTrim, cellOf}
+use Rattle.text_laws.specs.FrameReader.{pieces, rest, leftTrim, rightTrim, cellOf}
 use Rattle.texts.specs.FramePlaces.{upTo}
 use Rattle.texts.specs.LinePlaces.{LinesFor, lineAt}
 use Rattle.texts.specs.Mismatches.{shownOf, ShowsIs, endIndex, indexOr, RowsAt, MismatchIs}
 use Rattle.texts.specs.declared.parts.Parts.{Parts}
-use Rattle.texts.proofs.RowReader.{rowLine, rowLines-one, row-line}
+use Rattle.text_laws.proofs.RowReader.{rowLine, rowLines-one, row-line}
 use Rattle.texts.proofs.RowShown.{cellsIn, row-shown}
 use Rattle.texts.proofs.FrameLeaves.{take-rest}
-use Rattle.texts.proofs.FrameStates.{pairs}
+use Rattle.text_laws.proofs.FrameStates.{pairs}
 use Rattle.texts.proofs.SplitSteps.{piece-at, rest-at, piece-none}
 use Rattle.texts.proofs.LineSkips.{line-end}
 

@@ -14,9 +14,9 @@ use Rattle.base.proofs.Lists.{all-append}
 use Rattle.rules.specs.Names.{lineFeed}
 use Rattle.rules.specs.Frames.{Frame, FrameOf, article, isLine, ended, frameText, headLines}
 use Rattle.texts.specs.FramePlaces.{upTo}
-use Rattle.texts.proofs.SplitLaws.{isFree, other, others}
-use Rattle.texts.proofs.RowCells.{label-free, feed}
-use Rattle.texts.proofs.FrameRun.{frame-kept}
+use Rattle.text_laws.proofs.SplitLaws.{isFree, other, others}
+use Rattle.text_laws.proofs.RowCells.{label-free, feed}
+use Rattle.text_laws.proofs.FrameRun.{frame-kept}
 
 -- the first e stands behind what is free of it
 upTo-free : (e : ℕ) (l t : List ℕ) → isFree e l ≡ true → upTo e (l ++ (e ∷ t)) ≡ length l

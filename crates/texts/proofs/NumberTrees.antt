@@ -16,7 +16,7 @@ use Rattle.rules.specs.Operators.{level, leftLevel, rightLevel, atomLevel}
 use Rattle.rules.specs.Trees.{Tree, num, read, two, negation}
 use Rattle.text_laws.specs.Reader.{Out, fail, got, Found, missing, found, word, behind, wordValue, isNumberWord, leaf}
 use Rattle.text_laws.specs.Reader.{close, inside, atom, step, andThen, expr, more, operatorAt}
-use Rattle.texts.specs.LineReader.{hit, ofOut, readTree}
+use Rattle.text_laws.specs.LineReader.{hit, ofOut, readTree}
 use Rattle.texts.specs.PartPlaces.{pastOpen}
 use Rattle.texts.proofs.ExprLeaves.{word-part}
 

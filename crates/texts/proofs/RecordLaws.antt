@@ -9,12 +9,14 @@ use lib.ListN.{length, take, drop, set, length-append, length-take, length-set}
 use lib.Seq.{length-take-le}
 use Rattle.base.specs.Writes.{Writes}
 use Rattle.base.proofs.Writing.{writes-none, writes-byte, writes-join}
+use Rattle.writing.specs.Puts.{placed, put}
+use Rattle.writing.proofs.PutLaws.{put-writes}
 use Rattle.rules.specs.Limits.{storedMost}
 use Rattle.rules.specs.Trees.{Tree, le2, storedTree, storedLength}
 use Rattle.rules.specs.Fields.{Width, fixed, measured, rest, Form}
 use Rattle.rules.specs.Stored.{storedFieldIn, counted, storedWidth, storedName, storedMaybe, fieldBody, storedField}
-use Rattle.texts.specs.LineReader.{hit, readTree}
-use Rattle.texts.specs.Resolving.{renameTree, renameWidth}
+use Rattle.text_laws.specs.LineReader.{hit, readTree}
+use Rattle.text_laws.specs.Resolving.{renameTree, renameWidth}
 use Rattle.texts.specs.LinePlaces.{MaybeIs, WidthIs, ShortIs, PartsAre}
 use Rattle.texts.specs.StoredTrees.{lookUp, StoredFor}
 use Rattle.texts.specs.Records.{widthSize, fieldSize, indexed}
@@ -38,17 +40,15 @@ use Rattle.texts.proofs.RecordSizes.{
 
 -- ── two bytes, and counted ones ──
 
-pub writes-two : (out : List ℕ) (at n : ℕ) → at + 2 ≤ length out
-    → Writes out at (le2 n) (set (set out at (n % 256)) (at + 1) (n / 256 % 256)) (at + 2)
-unfolding le2
-writes-two out at n h =
-    let a = writes-byte out out at at (n % 256) [] (writes-none out at) (omega arith) in
-    let lt : at + 1 < length (set out at (n % 256)) = rw (length-set out at (n % 256)) (omega arith) in
-    let b = writes-byte out (set out at (n % 256)) at (at + 1) (n / 256 % 256) (n % 256 ∷ []) a lt in
-    let e : at + 1 + 1 ≡ at + 2 = omega arith in
-    rw e at b
-
 module _ {a b : List ℕ} {at next : ℕ} where
+  -- what was put where there is room
+  pub two-writes : (n : ℕ) → at + 2 ≤ length a → placed next b ≡ put a at (le2 n) → Writes a at (le2 n) b next
+  two-writes n h e = put-writes (omega (arith, two-length n)) e
+
+  pub counted-writes : (s : List ℕ) → at + (2 + length s) ≤ length a → placed next b ≡ put a at (counted s)
+      → Writes a at (counted s) b next
+  counted-writes s h e = put-writes (omega (arith, counted-length s)) e
+
   pub two-end : (n : ℕ) → Writes a at (le2 n) b next → next ≡ at + 2
   two-end n w = omega (arith, w .end, two-length n)
 
@@ -93,13 +93,13 @@ module _ {a b : List ℕ} {at next : ℕ} where
   fixed-writes s g (measured u t) k n p h e w = absurd (omega (arith, h .0, e))
   fixed-writes s g rest k n p h e w = absurd (omega (arith, h .0, e))
 
--- the bytes of a piece are as many as the expression's size
-pub piece-room : (s : List ℕ) (p : TreeAt) (names : List (List ℕ)) (n : ℕ) → (p .size ≡ 0 → ⊥) → p .size ≤ storedMost
+-- the stored bytes are as many as the expression's size
+pub stored-room : (s : List ℕ) (p : TreeAt) (names : List (List ℕ)) (n : ℕ) → (p .size ≡ 0 → ⊥) → p .size ≤ storedMost
     → (r : StoredTree) → StoredFor names n (readTree (drop (p .at) s)) r
     → (o : Option (Tree (List ℕ))) → MaybeIs s o p → p .size ≤ length (r .bytes)
 unfolding StoredFor
-piece-room s p names n e le r q none h = absurd (e h)
-piece-room s p names n e le r q (some t) h =
+stored-room s p names n e le r q none h = absurd (e h)
+stored-room s p names n e le r q (some t) h =
     let u : StoredFor names n (hit t (h .behind)) r = rw (h .isRead) at q in
     let k : take (r .len) (r .bytes) ≡ storedTree (lookUp names n) t = u .bytes (omega (arith, h .size, le)) in
     let l : length (take (r .len) (r .bytes)) ≡ storedLength t = rw k (stored-length (lookUp names n) t) in

@@ -25,7 +25,7 @@ use Rattle.rules.specs.Stored.{
   fieldBody,
   storedField,
 }
-use Rattle.texts.specs.Resolving.{renameTree, renameWidth}
+use Rattle.text_laws.specs.Resolving.{renameTree, renameWidth}
 use Rattle.texts.specs.LinePlaces.{MaybeIs, WidthIs, ShortIs, PartsAre, spanIn}
 use Rattle.texts.specs.Records.{widthSize, fieldSize, indexed, Sized, LineSmall}
 use Rattle.texts.specs.StoredTrees.{lookUp}

@@ -12,7 +12,7 @@ use lib.Seq.{drop-cons, drop-length, length-take-le}
 use borrow.Author.Tests.{eqb-true, eqb-false, eq-eqb, ne-eqb}
 use Rattle.rules.specs.Names.{isSpace, isLabel}
 use Rattle.rules.specs.Frames.{Cell, isCell, Row, longRow, isRow}
-use Rattle.texts.specs.FrameReader.{
+use Rattle.text_laws.specs.FrameReader.{
   onFirst,
   pieces,
   rest,
@@ -23,9 +23,9 @@ use Rattle.texts.specs.FrameReader.{
   keepRow,
   longOf,
 }
-use Rattle.texts.proofs.RowCells.{cellText-of, right-pad, length-cell}
+use Rattle.text_laws.proofs.RowCells.{cellText-of, right-pad, length-cell}
 use Rattle.texts.proofs.FrameLeaves.{take-rest, pieces-first, pieces-none}
-use Rattle.texts.proofs.SplitLaws.{endedBy, split-joined}
+use Rattle.text_laws.proofs.SplitLaws.{endedBy, split-joined}
 use Rattle.texts.specs.FramePlaces.{upTo, isSome}
 use Rattle.base.specs.Lists.{isEmpty, joined}
 use mathlib.Core.Option.{Option, none, some}

@@ -8,11 +8,11 @@ use lib.ListN.{drop, getD}
 use Rattle.base.specs.Lists.{all, sum}
 use Rattle.base.proofs.Lists.{and-left}
 use Rattle.rules.specs.Frames.{Cell, cellText, isCell, Row, bitRow, longRow, isRow, Slot, slotsIn}
-use Rattle.texts.specs.FrameReader.{pieces, rest, cellOf}
+use Rattle.text_laws.specs.FrameReader.{pieces, rest, cellOf}
 use Rattle.texts.specs.Mismatches.{shownOf}
-use Rattle.texts.proofs.SplitLaws.{pieces-joined, rest-joined, pieces-cons, rest-cons}
-use Rattle.texts.proofs.RowCells.{cell-free, bar, colon}
-use Rattle.texts.proofs.RowReader.{barred, rowLine, joined-cells, cells-free, cells-back}
+use Rattle.text_laws.proofs.SplitLaws.{pieces-joined, rest-joined, pieces-cons, rest-cons}
+use Rattle.text_laws.proofs.RowCells.{cell-free, bar, colon}
+use Rattle.text_laws.proofs.RowReader.{barred, rowLine, joined-cells, cells-free, cells-back}
 
 -- the cells of a line from its place a on: between bars, or between colons
 abbrev pub cellsIn : List ℕ → ℕ → List Slot

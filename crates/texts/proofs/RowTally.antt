@@ -11,7 +11,7 @@ use lib.Seq.{drop-cons}
 use borrow.Author.Tests.{eq-eqb, ne-eqb, eqb-true}
 use Rattle.base.specs.Lists.{all, isEmpty, sum}
 use Rattle.rules.specs.Frames.{isCell, Row, bitRow, longRow, isRow, slotsIn}
-use Rattle.texts.specs.FrameReader.{pieces, rest, cellOf, keepRow, longOf, readRow}
+use Rattle.text_laws.specs.FrameReader.{pieces, rest, cellOf, keepRow, longOf, readRow}
 use Rattle.texts.specs.FramePlaces.{upTo, isSome}
 use Rattle.texts.specs.FrameWalk.{rowCount, bitCount}
 use Rattle.texts.proofs.FrameLeaves.{take-rest}

@@ -7,7 +7,7 @@ use native.Mathlib.Omega.{arith}
 use lib.Dec.{eqb}
 use lib.ListN.{length, take, drop, length-drop}
 use lib.Seq.{drop-drop, drop-length, length-take-le}
-use Rattle.texts.specs.FrameReader.{onFirst, pieces, rest}
+use Rattle.text_laws.specs.FrameReader.{onFirst, pieces, rest}
 use Rattle.texts.specs.FramePlaces.{upTo}
 use Rattle.texts.proofs.FrameLeaves.{pieces-first, pieces-none}
 use Rattle.texts.proofs.RowLeaves.{rest-first}

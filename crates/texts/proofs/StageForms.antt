@@ -20,14 +20,14 @@ use Rattle.rules.specs.Answers.{ofText}
 use Rattle.rules.specs.Refusals.{Formless, FirstFormless, form}
 use Rattle.rules.specs.Promises.{ReadsText, refuses, leaves}
 use Rattle.names.specs.Repeats.{firstFrom}
-use Rattle.texts.specs.LineReader.{readForm}
+use Rattle.text_laws.specs.LineReader.{readForm}
 use Rattle.texts.specs.LinePlaces.{lineAt, spanIn, WidthIs, PartsAre, PartsFor, LineIs, LinesAre, LinesFor}
 use Rattle.texts.specs.LineTests.{breaksAt}
 use Rattle.texts.specs.Stages.{LinesSeen, FormsSeen}
 use Rattle.texts.specs.declared.parts.TreeAt.{TreeAt}
 use Rattle.texts.specs.declared.parts.Parts.{Parts}
 use Rattle.texts.specs.declared.line_rules.Rule.the-variants.{Form as HasForm}
-use Rattle.texts.proofs.FormExact.{form-sound, form-complete}
+use Rattle.text_laws.proofs.FormExact.{form-sound, form-complete}
 use Rattle.texts.proofs.FrameParts.{head-count}
 use Rattle.texts.proofs.StageFrames.{frame-lines}
 use Rattle.texts.proofs.FirstBreaks.{search-earlier}

@@ -33,8 +33,8 @@ use Rattle.rules.specs.Refusals.{
 use Rattle.rules.specs.Promises.{ReadsText, refuses, leaves}
 use Rattle.names.specs.Repeats.{firstFrom}
 use Rattle.names.proofs.RepeatLaws.{search-most}
-use Rattle.texts.specs.LineReader.{readForm}
-use Rattle.texts.specs.FrameReader.{linesOf, readFrame, rightLines, begun}
+use Rattle.text_laws.specs.LineReader.{readForm}
+use Rattle.text_laws.specs.FrameReader.{linesOf, readFrame, rightLines, begun}
 use Rattle.texts.specs.FrameWalk.{SkippedTo, WalkedAs}
 use Rattle.texts.specs.LinePlaces.{lineAt, spanIn, TreeIs, WidthIs, PartsFor, LineIs, LinesAre, LinesFor}
 use Rattle.texts.specs.LineTests.{breaksAt}
@@ -44,11 +44,11 @@ use Rattle.texts.specs.declared.parts.Parts.{Parts}
 use Rattle.texts.specs.declared.line_rules.Rule.the-variants.{Form as HasForm}
 use Rattle.texts.specs.declared.walks.Walked.{Walked}
 use Rattle.texts.specs.declared.walks.Walked.the-variants as walked
-use Rattle.texts.proofs.SplitLaws.{lineCount-lines, lines-joined}
-use Rattle.texts.proofs.FormExact.{form-sound, form-complete}
-use Rattle.texts.proofs.FrameExact.{frame-sound, frame-none}
-use Rattle.texts.proofs.FrameRight.{right-there, right-lines}
-use Rattle.texts.proofs.FrameRun.{frame-kept}
+use Rattle.text_laws.proofs.SplitLaws.{lineCount-lines, lines-joined}
+use Rattle.text_laws.proofs.FormExact.{form-sound, form-complete}
+use Rattle.text_laws.proofs.FrameExact.{frame-sound, frame-none}
+use Rattle.text_laws.proofs.FrameRight.{right-there, right-lines}
+use Rattle.text_laws.proofs.FrameRun.{frame-kept}
 use Rattle.texts.proofs.FrameParts.{head-count, fields-at}
 use Rattle.texts.proofs.TableIndexes.{search-hit}
 

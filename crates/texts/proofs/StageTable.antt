@@ -20,14 +20,14 @@ use Rattle.rules.specs.Frames.{Frame, FrameOf}
 use Rattle.rules.specs.Spelling.{Spells}
 use Rattle.rules.specs.Answers.{refused, accepted, ofText}
 use Rattle.rules.specs.Promises.{leaves, overlaid, delivered, ReadsText, spelled}
-use Rattle.texts.specs.Resolving.{described}
+use Rattle.text_laws.specs.Resolving.{described}
 use Rattle.texts.specs.LinePlaces.{lineAt, spanIn}
 use Rattle.texts.specs.Records.{sizeFrom, Sized, tableOf, LineSmall, AllSmall}
 use Rattle.texts.specs.Stages.{FormsSeen, AllKept}
-use Rattle.texts.specs.declared.parts.Span.{Span}
+use Rattle.writing.specs.declared.spans.Span.{Span}
 use Rattle.texts.specs.declared.parts.Parts.{Parts}
-use Rattle.texts.proofs.NamedTypes.{kept-rules}
-use Rattle.texts.proofs.Resolve.{resolved-spells}
+use Rattle.text_laws.proofs.NamedTypes.{kept-rules}
+use Rattle.text_laws.proofs.Resolve.{resolved-spells}
 use Rattle.texts.proofs.RecordSizes.{line-sized}
 use Rattle.texts.proofs.TableLaws.{table-length}
 use Rattle.texts.proofs.TableIndexes.{each-kept, table-same}

@@ -17,7 +17,7 @@ use Rattle.text_laws.specs.Reader.{Out, fail, got, operatorAt, close, inside, a
 use Rattle.operators.specs.declared.rows.Row.{Row}
 use Rattle.operators.specs.Rows.{rowOf}
 use Rattle.texts.specs.ExprPlaces.{SameSign}
-use Rattle.texts.specs.LineReader.{ofOut, readTree}
+use Rattle.text_laws.specs.LineReader.{ofOut, readTree}
 use Rattle.texts.specs.StoredTrees.{SameStored, StoredFor}
 use Rattle.texts.specs.StoredPlaces.{TwoMade, wrapOf, LeafStored, ExprStored, AtomStored}
 use Rattle.texts.specs.StoredPlaces.{InsideStored, ClosedStored, MoreStored}

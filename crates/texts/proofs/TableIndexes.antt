@@ -22,14 +22,14 @@ use Rattle.rules.specs.Stored.{storedIn, counted, recordOf, storedField, headBo
 use Rattle.rules.specs.Within.{keepsNames, keepsTypes, widthHasType, nameReadable, isFormed}
 use Rattle.rules.specs.Frames.{Frame}
 use Rattle.names.specs.Repeats.{firstFrom}
-use Rattle.texts.specs.Resolving.{firstIndex, indexOf, renameTree, renameWidth, renameField, resolve, described}
+use Rattle.text_laws.specs.Resolving.{firstIndex, indexOf, renameTree, renameWidth, renameField, resolve, described}
 use Rattle.texts.specs.LinePlaces.{lineAt, LinesFor}
 use Rattle.texts.specs.LineTests.{heldShort, typesKept}
 use Rattle.texts.specs.StoredTrees.{isHeld, lookUp, mayRead}
 use Rattle.texts.specs.Records.{indexed, storedFrom, tableOf}
 use Rattle.texts.specs.declared.parts.Parts.{Parts}
-use Rattle.texts.proofs.NamedRules.{NameIn, name-unique}
-use Rattle.texts.proofs.NamedTypes.{any-element}
+use Rattle.text_laws.proofs.NamedRules.{NameIn, name-unique}
+use Rattle.text_laws.proofs.NamedTypes.{any-element}
 use Rattle.texts.proofs.LineRules.{element-at, element-in}
 use Rattle.texts.proofs.LineClashes.{held-fixed}
 use Rattle.texts.proofs.LineTypes.{allNames, ShortNames, line-types}

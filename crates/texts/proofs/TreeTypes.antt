@@ -15,12 +15,12 @@ use Rattle.rules.specs.Operators.{takes, gives}
 use Rattle.rules.specs.Trees.{Tree, num, read, two, negation, sameType, hasType, storedTree, storedLength}
 use Rattle.rules.specs.Fields.{Width, fixed, measured, rest, Form}
 use Rattle.rules.specs.Within.{widthHasType}
-use Rattle.texts.specs.LineReader.{hit, readTree}
+use Rattle.text_laws.specs.LineReader.{hit, readTree}
 use Rattle.texts.specs.LinePlaces.{TreeIs, MaybeIs, WidthIs, PartsAre, lineAt, LineOf, spanIn}
 use Rattle.texts.specs.LineTests.{typesKept}
 use Rattle.texts.specs.StoredTrees.{mayRead, typeCode, typeOf, StoredFor}
 use Rattle.texts.proofs.LineSearches.{part-text}
-use Rattle.texts.specs.declared.parts.Span.{Span}
+use Rattle.writing.specs.declared.spans.Span.{Span}
 use Rattle.texts.specs.declared.parts.TreeAt.{TreeAt}
 use Rattle.texts.specs.declared.parts.Parts.{Parts}
 use Rattle.texts.specs.declared.stored_trees.StoredTree.{StoredTree}

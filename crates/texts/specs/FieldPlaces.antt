@@ -7,7 +7,7 @@ use Prim.Native.Nat.{ℕ, _-_, _≤_, _<_}
 use lib.Dec.{eqb}
 use lib.ListN.{length, take, drop}
 use Rattle.rules.specs.Trees.{Tree, depth, storedLength}
-use Rattle.texts.specs.LineReader.{Got, miss, hit, bind, readTree}
+use Rattle.text_laws.specs.LineReader.{Got, miss, hit, bind, readTree}
 use Rattle.texts.specs.declared.units.Bits.{Bits}
 use Rattle.texts.specs.declared.units.Bits.the-variants as bits
 use Rattle.texts.specs.declared.labels.Label.{Label}

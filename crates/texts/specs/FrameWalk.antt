@@ -9,9 +9,9 @@ use lib.ListN.{length, drop}
 use Rattle.base.specs.Bytes.{bytes}
 use Rattle.base.specs.Lists.{all, same, joined}
 use Rattle.rules.specs.Frames.{units, border, Row, bitRow, isLine, ended, slotsIn, Frame, cells}
-use Rattle.texts.specs.FrameReader.{pieces, rest, cellOf, keepRow, readRow, readTens, opened, rightLines}
-use Rattle.texts.specs.FrameReader.{State, begun, named, spaced, ruled, counted, bordered, rowed, closed}
-use Rattle.texts.specs.FrameReader.{headed, filled}
+use Rattle.text_laws.specs.FrameReader.{pieces, rest, cellOf, keepRow, readRow, readTens, opened, rightLines}
+use Rattle.text_laws.specs.FrameReader.{State, begun, named, spaced, ruled, counted, bordered, rowed, closed}
+use Rattle.text_laws.specs.FrameReader.{headed, filled}
 use Rattle.texts.specs.FramePlaces.{widthOr, isSome}
 use Rattle.texts.specs.declared.walks.Stage.{Stage}
 use Rattle.texts.specs.declared.walks.Stage.the-variants as at

@@ -1,6 +1,3 @@
--- LineReader  a reader of one field line
--- FrameReader   a text into lines, a line into cells, and a frame line by line
--- Resolving  names resolved to indexes
 -- ExprPlaces  what the reader of expressions answers, at places of a text
 -- FieldPlaces  what the reader of field lines answers, at places of a text
 -- FramePlaces  what the reader of frames answers, at places of a text
@@ -13,10 +10,6 @@
 -- Records  the records that the code writes of the lines that it holds
 -- Stages  what is known of a text at each stage of reading it
 -- StoredPlaces  how stored expressions are made, and what is promised of them at places of a text
--- WrongTexts  answers of wrong programs to texts, of which the promise is false
-pub mod LineReader
-pub mod FrameReader
-pub mod Resolving
 pub mod ExprPlaces
 pub mod FieldPlaces
 pub mod FramePlaces
@@ -29,4 +22,3 @@ pub mod LineTests
 pub mod Records
 pub mod Stages
 pub mod StoredPlaces
-pub mod WrongTexts

@@ -8,8 +8,8 @@ use lib.ListN.{length, take, drop, getD, getElem?}
 use Rattle.base.specs.Lists.{all}
 use Rattle.rules.specs.Trees.{Tree, storedLength, isSmall}
 use Rattle.rules.specs.Fields.{Width, fixed, measured, rest, Form, trees}
-use Rattle.texts.specs.LineReader.{hit, readTree, readForm}
-use Rattle.texts.specs.declared.parts.Span.{Span}
+use Rattle.text_laws.specs.LineReader.{hit, readTree, readForm}
+use Rattle.writing.specs.declared.spans.Span.{Span}
 use Rattle.texts.specs.declared.parts.TreeAt.{TreeAt}
 use Rattle.texts.specs.declared.parts.Parts.{Parts}
 

@@ -12,7 +12,7 @@ use Rattle.rules.specs.Names.{isLabel}
 use Rattle.rules.specs.Fields.{Form}
 use Rattle.rules.specs.Frames.{border, Row, rowLines, isRow, ended, Slot, slotsIn}
 use Rattle.rules.specs.Spelling as spelling
-use Rattle.texts.specs.FrameReader.{leftTrim, rightTrim}
+use Rattle.text_laws.specs.FrameReader.{leftTrim, rightTrim}
 use Rattle.texts.specs.LinePlaces.{spanIn, Fits, LineOf, LinesFor, LinesFit}
 use Rattle.texts.specs.declared.parts.Parts.{Parts}
 

@@ -12,10 +12,10 @@ use Rattle.rules.specs.Limits.{fixedMost, depthMost, storedMost}
 use Rattle.rules.specs.Trees.{Tree, depth, storedLength}
 use Rattle.rules.specs.Fields.{Width, fixed, measured, rest, Form}
 use Rattle.rules.specs.Within.{isWidth}
-use Rattle.texts.specs.LineReader.{Got, miss, hit, bind, keep, literal, readTree, readUnit, widthOf}
-use Rattle.texts.specs.LineReader.{readWidth, readConstraint, readCondition, formOf}
+use Rattle.text_laws.specs.LineReader.{Got, miss, hit, bind, keep, literal, readTree, readUnit, widthOf}
+use Rattle.text_laws.specs.LineReader.{readWidth, readConstraint, readCondition, formOf}
 use Rattle.texts.specs.LinePlaces.{treeOf, MaybeIs, WidthIs, ShortIs, PartsFor}
-use Rattle.texts.specs.declared.parts.Span.{Span}
+use Rattle.writing.specs.declared.spans.Span.{Span}
 use Rattle.texts.specs.declared.parts.Parts.{Parts}
 use Rattle.texts.specs.declared.widths.Width as code
 use Rattle.texts.specs.declared.widths.Width.the-variants as width

@@ -12,7 +12,7 @@ use Rattle.rules.specs.Limits.{textMost, storedMost}
 use Rattle.rules.specs.Trees.{le2, isSmall}
 use Rattle.rules.specs.Fields.{Field, Form, trees}
 use Rattle.rules.specs.Stored.{counted, recordOf, storedField}
-use Rattle.texts.specs.Resolving.{renameTree, renameWidth}
+use Rattle.text_laws.specs.Resolving.{renameTree, renameWidth}
 use Rattle.texts.specs.LinePlaces.{lineAt, PartsAre, LineOf, LinesFor}
 use Rattle.texts.specs.StoredTrees.{lookUp}
 use Rattle.texts.specs.declared.parts.Parts.{Parts}

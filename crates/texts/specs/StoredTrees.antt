@@ -13,7 +13,7 @@ use Rattle.rules.specs.Operators.{takes, gives}
 use Rattle.rules.specs.Trees.{Tree, num, read, two, negation, storedTree, storedLength}
 use Rattle.text_laws.specs.Reader.{Out, fail, got}
 use Rattle.names.specs.Repeats.{firstFrom, padTo, sameName}
-use Rattle.texts.specs.LineReader.{Got, miss, hit}
+use Rattle.text_laws.specs.LineReader.{Got, miss, hit}
 use Rattle.texts.specs.declared.stored_trees.StoredTree.{StoredTree}
 
 -- ── names that may be read, held by value ──

@@ -6,7 +6,7 @@ use rules::OPEN_MOST;
 ghost use Prim.Native.Nat.{_≤_};
 ghost use lib.ListN.{length, drop};
 ghost use Rattle.rules.specs.Limits.{textMost};
-ghost use Rattle.texts.specs.LineReader.{readConstraint, readCondition};
+ghost use Rattle.text_laws.specs.LineReader.{readConstraint, readCondition};
 ghost use Rattle.texts.specs.FieldPlaces.{treeClause, SameClause, WithinClause};
 
 // Where an expression begins and ends, its depth and the length of its stored form; if there is none, the same place

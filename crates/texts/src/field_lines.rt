@@ -8,7 +8,7 @@ ghost use mathlib.Core.Path.{_≡_};
 ghost use Prim.Native.Nat.{_≤_};
 ghost use lib.ListN.{length, drop};
 ghost use Rattle.rules.specs.Limits.{textMost, fieldsMost};
-ghost use Rattle.texts.specs.FrameReader.{linesOf};
+ghost use Rattle.text_laws.specs.FrameReader.{linesOf};
 ghost use Rattle.texts.specs.LinePlaces.{LinesAre};
 
 // The lines from `from` on, if there are n.

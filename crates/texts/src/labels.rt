@@ -6,7 +6,7 @@ use names::labels::is_short;
 ghost use mathlib.Core.Path.{_≡_};
 ghost use Prim.Native.Nat.{_≤_};
 ghost use lib.ListN.{length, drop};
-ghost use Rattle.texts.specs.LineReader.{labelEnds, labelBehind, readLabel, readName, readShort};
+ghost use Rattle.text_laws.specs.LineReader.{labelEnds, labelBehind, readLabel, readName, readShort};
 ghost use Rattle.texts.specs.FieldPlaces.{SameLabel, WithinLabel, SameShort, WithinShort};
 
 // The place behind a label.

@@ -1,15 +1,15 @@
 // The opening line of a text, and where the name stands in it.
-use crate::parts::Span;
 use crate::text_bytes::line_end;
 use names::labels::is_label;
 use names::words::same_words;
+use writing::spans::Span;
 ghost use mathlib.Core.Bool.{cond};
 ghost use mathlib.Core.Path.{_≡_};
 ghost use Prim.Native.Nat.{_+_, _≤_, _<_};
 ghost use lib.Dec.{eqb};
 ghost use lib.ListN.{length, getD};
 ghost use Rattle.rules.specs.Frames.{Frame, FrameOf};
-ghost use Rattle.texts.specs.FrameReader.{readName, opened};
+ghost use Rattle.text_laws.specs.FrameReader.{readName, opened};
 ghost use Rattle.texts.specs.FramePlaces.{isSome};
 ghost use Rattle.texts.specs.LinePlaces.{spanIn};
 

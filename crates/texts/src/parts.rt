@@ -10,20 +10,15 @@ use crate::widths::Width;
 use crate::widths::width_at;
 use rules::DEPTH_MOST;
 use rules::STORED_MOST;
+use writing::spans::Span;
 ghost use mathlib.Core.Bool.{_&&_};
 ghost use mathlib.Core.Path.{_≡_};
 ghost use Prim.Native.Nat.{_≤_};
 ghost use lib.ListN.{length};
 ghost use Rattle.rules.specs.Limits.{textMost};
-ghost use Rattle.texts.specs.LineReader.{readForm};
+ghost use Rattle.text_laws.specs.LineReader.{readForm};
 ghost use Rattle.texts.specs.LinePlaces.{spanOf, noParts, PartsFor};
 ghost use Rattle.texts.specs.PartPlaces.{smallAs, NamesFit, BehindFor};
-
-// A part of a text or of a line: its place and its length.
-pub(crate) struct Span {
-    pub at: usize,
-    pub len: usize,
-}
 
 // Where an expression begins in its line, and the length of its stored form: 0 where there is none.
 pub(crate) struct TreeAt {

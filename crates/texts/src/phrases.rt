@@ -5,7 +5,7 @@ ghost use lib.Dec.{eqb};
 ghost use lib.ListN.{length, drop};
 ghost use Rattle.base.specs.Lists.{all};
 ghost use Rattle.rules.specs.Names.{isPrintable};
-ghost use Rattle.texts.specs.LineReader.{begins, isRemark};
+ghost use Rattle.text_laws.specs.LineReader.{begins, isRemark};
 
 // The word stands at `at`.
 pub(crate) fn starts_at(s: &[u8], at: usize, word: &[u8]) -> bool

@@ -4,6 +4,8 @@ use crate::parts::TreeAt;
 use crate::stored_trees::stored_tree;
 use rules::FIELDS_MOST;
 use rules::SHORT_MOST;
+use writing::puts::put_counted;
+use writing::puts::put_two;
 ghost use mathlib.Core.List.{List, _++_};
 ghost use mathlib.Core.Option.{Option, Option·map};
 ghost use mathlib.Core.Path.{_≡_};
@@ -11,44 +13,12 @@ ghost use Prim.Native.Nat.{ℕ, _+_, _≤_, _<_};
 ghost use lib.ListN.{length};
 ghost use Rattle.base.specs.Writes.{Writes};
 ghost use Rattle.rules.specs.Limits.{textMost, fieldsMost, storedMost};
-ghost use Rattle.rules.specs.Trees.{Tree, le2};
+ghost use Rattle.rules.specs.Trees.{Tree};
 ghost use Rattle.rules.specs.Stored.{counted, storedWidth, storedName, storedMaybe, fieldBody, storedField};
-ghost use Rattle.texts.specs.Resolving.{renameTree, renameWidth};
+ghost use Rattle.text_laws.specs.Resolving.{renameTree, renameWidth};
 ghost use Rattle.texts.specs.LinePlaces.{MaybeIs};
 ghost use Rattle.texts.specs.StoredTrees.{lookUp};
 ghost use Rattle.texts.specs.Records.{widthSize, fieldSize, indexed, Sized, IsSmall, WritesEach};
-
-// Writes a word at a place, and answers the place behind it.
-fn put(out: &mut [u8], at: usize, word: &[u8]) -> usize
-    requires { ⌜ at + length (now word) ≤ length (now out) ⌝ }
-    ensures { λ r. ⌜ Writes (now (out .entry)) at (now (word .entry)) (now (out .exit)) r ⌝ }
-{
-    let mut i = 0;
-    while i < word.len() {
-        out[at + i] = word[i];
-        i += 1;
-    }
-    at + i
-}
-
-// A number in two bytes, the least first.
-pub(crate) fn put_two(out: &mut [u8], at: usize, n: usize) -> usize
-    requires { ⌜ at + 2 ≤ length (now out) ⌝ }
-    ensures { λ r. ⌜ Writes (now (out .entry)) at (le2 n) (now (out .exit)) r ⌝ }
-{
-    out[at] = (n % 256) as u8;
-    out[at + 1] = (n / 256 % 256) as u8;
-    at + 2
-}
-
-// A length and as many bytes.
-pub(crate) fn put_counted(out: &mut [u8], at: usize, word: &[u8]) -> usize
-    requires { ⌜ at + (2 + length (now word)) ≤ length (now out) ⌝ }
-    ensures { λ r. ⌜ Writes (now (out .entry)) at (counted (now (word .entry))) (now (out .exit)) r ⌝ }
-{
-    let next = put_two(out, at, word.len());
-    put(out, next, word)
-}
 
 // The stored form of an expression, counted; where there is none, the length 0.
 fn put_tree(

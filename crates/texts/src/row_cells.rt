@@ -4,7 +4,7 @@ use crate::rows::is_long;
 use crate::text_bytes::part_end;
 ghost use mathlib.Core.Path.{_≡_};
 ghost use Prim.Native.Nat.{_≤_};
-ghost use Rattle.texts.specs.FrameReader.{readRow};
+ghost use Rattle.text_laws.specs.FrameReader.{readRow};
 ghost use Rattle.texts.specs.FrameWalk.{rowCount, bitCount};
 
 // What stands behind the first bar of a row: cells of `w` bits together, each with a bar behind it; 0 if it is not so.

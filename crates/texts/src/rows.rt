@@ -7,7 +7,7 @@ ghost use mathlib.Core.Path.{_≡_};
 ghost use Prim.Native.Nat.{_≤_};
 ghost use lib.ListN.{length, take, drop};
 ghost use Rattle.rules.specs.Frames.{isCell};
-ghost use Rattle.texts.specs.FrameReader.{pieces, rest, leftTrim, rightTrim, cellOf, longOf};
+ghost use Rattle.text_laws.specs.FrameReader.{pieces, rest, leftTrim, rightTrim, cellOf, longOf};
 ghost use Rattle.texts.specs.FramePlaces.{isSome};
 
 // The place behind the spaces in front.

@@ -4,7 +4,7 @@ ghost use Prim.Native.Nat.{_≤_};
 ghost use lib.ListN.{length};
 ghost use Rattle.base.specs.Lists.{same, tabulate};
 ghost use Rattle.rules.specs.Frames.{units, border};
-ghost use Rattle.texts.specs.FrameReader.{readTens};
+ghost use Rattle.text_laws.specs.FrameReader.{readTens};
 ghost use Rattle.texts.specs.FramePlaces.{columnAt, widthOr};
 
 pub(crate) enum Ruler {

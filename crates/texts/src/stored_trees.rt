@@ -21,7 +21,7 @@ ghost use mathlib.Core.Path.{_≡_};
 ghost use Prim.Native.Nat.{_+_, _*_, _≤_};
 ghost use lib.ListN.{length, drop};
 ghost use Rattle.rules.specs.Limits.{textMost, fieldsMost};
-ghost use Rattle.texts.specs.LineReader.{readTree};
+ghost use Rattle.text_laws.specs.LineReader.{readTree};
 ghost use Rattle.texts.specs.StoredTrees.{StoredFor};
 ghost use Rattle.texts.specs.StoredPlaces.{
   WithinStored,

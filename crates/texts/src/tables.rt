@@ -1,11 +1,11 @@
 // The table of a text, written from its lines.
 use crate::parts::Parts;
 use crate::records::field_size;
-use crate::records::put_counted;
 use crate::records::put_field;
-use crate::records::put_two;
 use rules::FIELDS_MOST;
 use rules::SHORT_MOST;
+use writing::puts::put_counted;
+use writing::puts::put_two;
 ghost use mathlib.Core.Bool.{true};
 ghost use mathlib.Core.List.{List, _++_};
 ghost use mathlib.Core.Path.{_≡_};

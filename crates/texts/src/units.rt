@@ -4,7 +4,7 @@ use names::words::same_words;
 ghost use mathlib.Core.Path.{_≡_};
 ghost use Prim.Native.Nat.{_≤_};
 ghost use lib.ListN.{length, drop};
-ghost use Rattle.texts.specs.LineReader.{unitOf, readUnit};
+ghost use Rattle.text_laws.specs.LineReader.{unitOf, readUnit};
 ghost use Rattle.texts.specs.FieldPlaces.{unless0, SameBits, WithinBits};
 
 // The bits of a unit, and the place behind its word.

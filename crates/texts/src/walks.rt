@@ -10,7 +10,7 @@ ghost use mathlib.Core.Path.{_≡_};
 ghost use Prim.Native.Nat.{_≤_};
 ghost use lib.ListN.{length};
 ghost use Rattle.rules.specs.Limits.{textMost};
-ghost use Rattle.texts.specs.FrameReader.{readFrame};
+ghost use Rattle.text_laws.specs.FrameReader.{readFrame};
 ghost use Rattle.texts.specs.FrameWalk.{isWrong, when, widthView, rowOrEndView, stepView, Most, lastView};
 ghost use Rattle.texts.specs.FrameWalk.{WalkedAs, SkippedTo};
 

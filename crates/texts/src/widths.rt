@@ -16,7 +16,7 @@ ghost use lib.Dec.{eqb};
 ghost use lib.ListN.{length, drop};
 ghost use Rattle.rules.specs.Limits.{textMost, numberMost};
 ghost use Rattle.rules.specs.Trees.{num};
-ghost use Rattle.texts.specs.LineReader.{hit, readTree, readMeasure, readWidth};
+ghost use Rattle.text_laws.specs.LineReader.{hit, readTree, readMeasure, readWidth};
 ghost use Rattle.texts.specs.FieldPlaces.{SameBits, WithinBits};
 ghost use Rattle.texts.specs.PartPlaces.{pastOpen, spacedUnit, isUnit, fixedAt, SizedAt, SameWidth, WithinWidth};
 

@@ -22,11 +22,10 @@ use Rattle.rules.specs.Stored.{storedIn, storedFieldIn, fieldBody, headBody}
 use Rattle.rules.specs.Reading.{bitsAt, valueIn, readField, readFields, reading}
 use Rattle.rules.specs.Listing.{entryLines, linesText}
 use Rattle.rules.specs.Answers.{faultNumber}
-use Rattle.rules.specs.Promises.{delivered, readingAnswer, packetOutcome, readingLines, firstNamed, refuses}
+use Rattle.rules.specs.Promises.{delivered, readingAnswer, packetOutcome, readingLines, firstNamed}
 use Rattle.laws.specs.Wrong.{AllFalse}
 use Rattle.laws.proofs.RuledOut.{all-out}
-use Rattle.text_laws.proofs.Refused.{bad-byte}
-use Rattle.texts.proofs.RuledOutTexts.{other, tag-known}
+use Rattle.text_laws.proofs.RuledOutTexts.{other, tag-known, barred-known}
 use Rattle.umarekoza.specs.WrongReplies.{wrongReplies, WrongTextReplies}
 
 pub replies-ruled-out : AllFalse wrongReplies
@@ -41,5 +40,5 @@ unfolding digits same joined operator le2 le4 storedTree storedIn storedFieldIn 
 text-replies-ruled-out = record {
   nothing = other tag-known refl;
   lengthless = other tag-known refl;
-  renumbered = other (refuses bad-byte) refl;
+  renumbered = other barred-known refl;
 }

@@ -1,6 +1,8 @@
 -- Puts      a text put at a place of a buffer
+-- Fits      what is left where texts are written one behind the other; no public promise rests on it
 -- Delivery  a text delivered at the start of an output
 -- Wrong     answers of wrong programs, of which the promises are false
 pub mod Puts
+pub mod Fits
 pub mod Delivery
 pub mod Wrong

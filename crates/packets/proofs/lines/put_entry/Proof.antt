@@ -1,11 +1,5 @@
-use mathlib.Core.Path.{_≡_, refl, sym, _∙_}
-use mathlib.Core.List.{_++_, append-nil, append-assoc}
-use native.Mathlib.Omega.{arith}
-use denote.Ref.{now}
-use lib.ListN.{length, getD}
-use Prim.Native.Nat.{_+_, _*_}
-use Rattle.base.proofs.Writing.{writes-none, writes-join}
-use Rattle.packets.proofs.WriteLaws.{number-room}
+use Rattle.writing.proofs.FitsLaws.{fits-join}
+use mathlib.Core.List.{append-nil}
 use borrow.Author.Needs.{needs}
 use Rattle.packets.proofs.lines.put_entry.Statement.{statement}
 use Rattle.packets.proofs.lines.put_entry.Tie as tie
@@ -41,12 +35,7 @@ shared-slice-read-put-number-2 : tie.Need-shared-slice-read-put-number-2
 shared-slice-read-put-number-2 c = search needs
 
 put-number-requires-2 : tie.Need-put-number-requires-2
-put-number-requires-2 c κs =
-    let r = number-room (getD (now
-    (c .before .before .before .before .before .before .before .before .before .args .run))
-    (4 * c .before .before .before .before .before .before .before .before .before .args .i + 1) 0)
-    (c .before .before .before .before .put-number .ensures) in
-    omega (arith, r, c .before .before .before .before .put-number .ensures .kept)
+put-number-requires-2 c κs = search needs
 
 mul-put-number-5 : tie.Need-mul-put-number-5
 mul-put-number-5 c = search needs
@@ -61,44 +50,26 @@ shared-slice-read-put-number-3 : tie.Need-shared-slice-read-put-number-3
 shared-slice-read-put-number-3 c = search needs
 
 put-number-requires-3 : tie.Need-put-number-requires-3
-put-number-requires-3 c κs =
-    let r = number-room (getD (now
-    (c .before .before .before .before .before .before .before .before .before .before .before .before .before
-    .before .before .args .run)) (4 * c .before .before .before .before .before .before .before .before .before
-    .before .before .before .before .before .before .args .i + 1) 0) (c .before .before .before .before .before
-    .before .before .before .before .before .put-number .ensures) in
-    let q = number-room (getD (now
-    (c .before .before .before .before .before .before .before .before .before .before .before .before .before
-    .before .before .args .run)) (4 * c .before .before .before .before .before .before .before .before .before
-    .before .before .before .before .before .before .args .i + 2) 0) (c .before .before .before .before .before
-    .put-number2 .ensures) in
-    omega (
-      arith,
-      r,
-      q,
-      c .before .before .before .before .before .before .before .before .before .before
-          .put-number .ensures .kept,
-      c .before .before .before .before .before .put-number2 .ensures .kept,
-    )
+put-number-requires-3 c κs = search needs
 
 same-length : tie.Need-same-length
 same-length c = search needs
 
 returns : tie.Need-returns
 returns c =
+    let c₈ = c .before .before .before .before .before .before .before .before in
     rw (c .before .before .before .before .before .if1 .taken)
-    (writes-join (c .before .before .before .before .before .before .before .before .before .before .before .before
-    .before .put-number .ensures) (writes-join (c .before .before .before .before .before .before .before
-    .before .put-number2 .ensures) (c .before .before .put-number3 .ensures)))
+    (fits-join (c₈ .before .before .before .before .before .put-number .ensures) (fits-join (c₈ .put-number2
+    .ensures) (c .before .before .put-number3 .ensures)))
 
 same-length-2 : tie.Need-same-length-2
 same-length-2 c = search needs
 
 returns-2 : tie.Need-returns-2
 returns-2 c =
-    rw (c .if1 .left)
-    (writes-join (c .before .before .before .before .before .before .before .before .put-number .ensures)
-    (rw append-nil (c .before .before .before .put-number2 .ensures)))
+    let c₈ = c .before .before .before .before .before .before .before .before in
+    rw (c .if1 .left) (fits-join (c₈ .put-number .ensures) (rw append-nil (c .before .before .before .put-number2
+    .ensures)))
 
 pub put-entry-spec : {M : Type 1} → statement M
 put-entry-spec =

@@ -1,20 +1,17 @@
-use mathlib.Core.Path.{_≡_, refl, sym, _∙_}
-use mathlib.Core.List.{_++_, append-nil, append-assoc}
 use native.Mathlib.Omega.{arith}
 use denote.Ref.{now}
-use lib.ListN.{length, getD}
-use Prim.Native.Nat.{_+_, _*_}
-use Rattle.base.proofs.Writing.{writes-none, writes-join}
-use Rattle.packets.proofs.WriteLaws.{number-room}
+use Prim.Native.Nat.{_*_}
+use lib.ListN.{getD}
 use borrow.Author.Tests.{eq-eqb, ne-eqb}
 use Rattle.packets.specs.LineTexts.{stateText}
+use Rattle.writing.proofs.FitsLaws.{put-fits}
 use borrow.Author.Needs.{needs}
 use Rattle.packets.proofs.lines.put_state.Statement.{statement}
 use Rattle.packets.proofs.lines.put_state.Tie as tie
 use Rattle.packets.proofs.lines.put_state.Reads as reads
 use Rattle.packets.proofs.lines.put_state.Lts as lts
 use Rattle.packets.proofs.lines.put_entry.Reads as put-entry-reads
-use Rattle.packets.proofs.writing.put.Reads as put-reads
+use Rattle.writing.proofs.puts.put.Reads as put-reads
 
 mul-if1 : tie.Need-mul-if1
 mul-if1 c = search needs
@@ -33,9 +30,10 @@ same-length c = search needs
 
 returns : tie.Need-returns
 unfolding stateText
-returns c = rw (eq-eqb (getD (now (c .before .before .before .before .before .before .before .before .args .run))
-    (4 * c .before .before .before .before .before .before .before .before .args .i) 0) 1
-    (c .before .before .before .before .if1 .taken)) (c .before .before .put-entry .ensures)
+returns c =
+    let c₈ = c .before .before .before .before .before .before .before .before in
+    rw (eq-eqb (getD (now (c₈ .args .run)) (4 * c₈ .args .i) 0) 1 (c .before .before .before .before .if1 .taken))
+    (c .before .before .put-entry .ensures)
 
 slice-aggregate-put : tie.Need-slice-aggregate-put
 slice-aggregate-put c = search needs
@@ -48,10 +46,10 @@ same-length-2 c = search needs
 
 returns-2 : tie.Need-returns-2
 unfolding stateText
-returns-2 c = rw (ne-eqb (getD (now
-    (c .before .before .before .before .before .before .before .before .before .args .run))
-    (4 * c .before .before .before .before .before .before .before .before .before .args .i) 0) 1
-    (c .before .before .before .before .before .if1 .left)) (c .before .before .put .ensures)
+returns-2 c =
+    let c₈ = c .before .before .before .before .before .before .before .before in
+    rw (ne-eqb (getD (now (c₈ .before .args .run)) (4 * c₈ .before .args .i) 0) 1 (c .before .before .before .before
+    .before .if1 .left)) (put-fits (omega arith) (c .before .before .put .ensures))
 
 pub put-state-spec : {M : Type 1} → statement M
 put-state-spec =

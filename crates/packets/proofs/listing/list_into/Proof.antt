@@ -1,3 +1,6 @@
+use denote.Ref.{now}
+use Rattle.packets.proofs.LinesWritten.{refusal-inside}
+use Rattle.packets.proofs.PacketPromises.{good-from, good-few}
 use Rattle.base.proofs.Writing.{writes-inside}
 use Rattle.packets.proofs.ListingStored.{into-good, into-bad}
 use mathlib.Core.Path.{_≡_, refl, sym, _∙_}
@@ -30,11 +33,17 @@ same-length c = search needs
 
 returns : tie.Need-returns
 returns c = into-bad _ _ _ _ _ _ (c .before .before .before .before .before .before .check-table .ensures)
-    (c .before .before .before .before .enum-told .given .1) (c .before .before .put-refusal .ensures)
-    (writes-inside (c .before .before .put-refusal .ensures) (omega arith))
+    (c .before .before .before .before .enum-told .given .1)
+    (refusal-inside 21 0 (omega arith) (c .before .before .put-refusal .ensures))
+    (writes-inside (refusal-inside 21 0 (omega arith) (c .before .before .put-refusal .ensures)) (omega arith))
 
 put-listing-requires : tie.Need-put-listing-requires
-put-listing-requires c κs = search needs
+put-listing-requires c κs =
+    let c₈ = c .before .before .before .before .before .before .before .before in
+    let table = now (c₈ .args .table) in
+    let good = good-from table (c .before .before .before .before .check-table .result) _ (c .before .before .before
+    .before .check-table .ensures) (c .before .before .checked .given .1) in
+    (omega arith, omega arith, good-few table good)
 
 same-length-2 : tie.Need-same-length-2
 same-length-2 c = search needs

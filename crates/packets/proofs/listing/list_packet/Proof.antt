@@ -1,17 +1,14 @@
-use mathlib.Core.Path.{ap}
+use mathlib.Core.Path.{_∙_, ap}
 use mathlib.Core.List.{List}
 use Prim.Native.Nat.{ℕ}
-use Rattle.rules.specs.Promises.{delivered}
-use mathlib.Core.Path.{_≡_, refl, sym, _∙_}
-use native.Mathlib.Omega.{arith}
 use denote.Ref.{now}
-use lib.ListN.{length, take}
+use Rattle.rules.specs.Promises.{delivered}
 use borrow.Author.Needs.{needs}
 use Rattle.packets.proofs.listing.list_packet.Statement.{statement}
 use Rattle.packets.proofs.listing.list_packet.Tie as tie
 use Rattle.packets.proofs.listing.list_packet.Reads as reads
 use Rattle.packets.proofs.listing.list_packet.Lts as lts
-use Rattle.packets.proofs.listing.deliver.Reads as deliver-reads
+use Rattle.packets.proofs.listing.deliver_first.Reads as deliver-first-reads
 use Rattle.packets.proofs.listing.list_into.Reads as list-into-reads
 
 slice-aggregate-list-into : tie.Need-slice-aggregate-list-into
@@ -20,19 +17,21 @@ slice-aggregate-list-into c = search needs
 list-into-requires : tie.Need-list-into-requires
 list-into-requires c κs = search needs
 
-slice-aggregate-deliver : tie.Need-slice-aggregate-deliver
-slice-aggregate-deliver c = search needs
+slice-aggregate-deliver-first : tie.Need-slice-aggregate-deliver-first
+slice-aggregate-deliver-first c = search needs
 
-deliver-requires : tie.Need-deliver-requires
-deliver-requires c κs = search needs
+deliver-first-requires : tie.Need-deliver-first-requires
+deliver-first-requires c κs = search needs
 
 same-length : tie.Need-same-length
 same-length c = search needs
 
 returns : tie.Need-returns
-returns c = λ good. c .before .before .deliver .ensures ∙ ap (λ (w : List ℕ). delivered w (now
-    (c .before .before .before .before .before .before .before .before .before .before .before .args .out)))
-    (c .before .before .before .before .before .before .list-into .ensures .text good .text)
+returns c =
+    let c₈ = c .before .before .before .before .before .before .before .before in
+    λ good. c .before .before .deliver-first .ensures
+    ∙ ap (λ (w : List ℕ). delivered w (now (c₈ .before .before .before .args .out))) (c .before .before .before
+    .before .before .before .list-into .ensures .text good .text)
 
 pub list-packet-spec : {M : Type 1} → statement M
 list-packet-spec =
@@ -40,7 +39,7 @@ list-packet-spec =
     (tie.spec
     slice-aggregate-list-into
     list-into-requires
-    slice-aggregate-deliver
-    deliver-requires
+    slice-aggregate-deliver-first
+    deliver-first-requires
     same-length
     returns)

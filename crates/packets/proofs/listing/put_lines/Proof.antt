@@ -27,7 +27,7 @@ same-length c = c .before .before .loop .inv .wrote .kept
 returns : tie.Need-returns Inv-loop μ-loop
 returns c =
     let l = c .before .before .loop .inv in
-    (lines-stop l (omega arith) (c .if1 .taken), omega (arith, l .room, l .inside))
+    lines-stop l (omega arith) (c .if1 .taken)
 
 parts-at-requires : tie.Need-parts-at-requires Inv-loop μ-loop
 parts-at-requires c κs = omega arith
@@ -35,7 +35,7 @@ parts-at-requires c κs = omega arith
 put-line-requires : tie.Need-put-line-requires Inv-loop μ-loop
 put-line-requires c κs =
     let l = c .before .before .before .before .loop .inv in
-    (omega (arith, l .room, l .inside, l .wrote .kept), omega arith)
+    (omega (arith, l .wrote .kept), omega arith)
 
 add-i : tie.Need-add-i Inv-loop μ-loop
 add-i c = search needs
@@ -55,7 +55,7 @@ same-length-2 c = c .before .loop .inv .wrote .kept
 returns-2 : tie.Need-returns-2 Inv-loop μ-loop
 returns-2 c =
     let l = c .before .loop .inv in
-    (lines-end l (omega arith), omega (arith, l .room, l .inside))
+    lines-end l (omega arith)
 
 pub put-lines-spec : {M : Type 1} → statement M
 put-lines-spec =

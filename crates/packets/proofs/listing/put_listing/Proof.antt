@@ -1,12 +1,9 @@
-use Rattle.packets.specs.Listings.{ListsStored}
-use mathlib.Core.List.{List}
-use mathlib.Core.Path.{_≡_, refl, sym, _∙_}
+use mathlib.Core.Path.{sym, _∙_}
 use native.Mathlib.Omega.{arith}
 use denote.Ref.{now}
-use lib.ListN.{length, take}
-use Rattle.base.specs.Places.{twoAt}
-use Rattle.base.proofs.Writing.{writes-join, writes-inside}
-use Rattle.packets.proofs.TableHead.{head-count, count-most}
+use Rattle.base.proofs.Writing.{writes-inside}
+use Rattle.writing.proofs.FitsLaws.{fits-join}
+use Rattle.packets.proofs.LinesWritten.{listing-inside, refusal-inside}
 use Rattle.packets.proofs.ListingStored.{listed-accepted, listed-refused}
 use borrow.Author.Needs.{needs}
 use Rattle.packets.proofs.listing.put_listing.Statement.{statement}
@@ -34,16 +31,6 @@ number-of-requires c κs = search needs
 two-at-requires : tie.Need-two-at-requires
 two-at-requires c κs = search needs
 
-returns : tie.Need-returns
-returns c =
-    let s = now (c .before .before .before .before .before .before .before .before .before .before .args .table) in
-    let packet = now (c .before .before .before .before .before .before .before .before .before .before .args
-    .packet) in
-    record {
-      text = λ d w is. absurd (omega (arith, c .before .two-at .ensures .0, head-count d s is w, count-most d w));
-      inside = omega arith;
-    }
-
 two-at-requires-2 : tie.Need-two-at-requires-2
 two-at-requires-2 c κs = search needs
 
@@ -51,41 +38,45 @@ slice-aggregate-put-lines : tie.Need-slice-aggregate-put-lines
 slice-aggregate-put-lines c = search needs
 
 put-lines-requires : tie.Need-put-lines-requires
-put-lines-requires c κs = search needs
+put-lines-requires c κs = (
+  omega (arith, c .before .before .before .two-at .ensures .0),
+  omega arith,
+  omega (
+    arith,
+    c .before .before
+        .before .two-at .ensures .0,
+  ),
+)
 
 amount-of-requires : tie.Need-amount-of-requires
 amount-of-requires c κs = search needs
 
 put-bits-requires : tie.Need-put-bits-requires
-put-bits-requires c κs =
-    let l = c .before .before .before .before .put-lines .ensures in
-    omega (arith, l .1, l .0 .kept)
+put-bits-requires c κs = omega (arith, c .before .before .before .before .put-lines .ensures .kept)
 
 same-length : tie.Need-same-length
 same-length c = search needs
 
-returns-2 : tie.Need-returns-2
-returns-2 c =
-    let s = now (c .before .before .before .before .before .before .before .before .before .before .before .before
-    .before .before .before .before .before .before .before .before .before .args .table) in
-    let packet = now (c .before .before .before .before .before .before .before .before .before .before .before
-    .before .before .before .before .before .before .before .before .before .before .args .packet) in
-    let j = writes-join (c .before .before .before .before .before .before .before .put-lines .ensures .0)
-    (c .before .before .put-bits .ensures) in
+returns : tie.Need-returns
+returns c =
+    let c₈ = c .before .before .before .before .before .before .before .before in
+    let c₁₆ = c₈ .before .before .before .before .before .before .before .before in
+    let s = now (c₁₆ .before .before .before .before .args .table) in
+    let packet = now (c₁₆ .before .before .before .before .args .packet) in
+    let j = listing-inside _ _ _ _ _ (omega (arith, c₈ .before .before .before .two-at .ensures .0)) (omega arith)
+    (fits-join (c .before .before .before .before .before .before .before .put-lines .ensures) (c .before .before
+    .put-bits .ensures)) in
     let k = rw (
-      c .before .before .before .before .before .before .before .before .before .before .before .before
-          .two-at .ensures .0,
-      c .before .before .before .before .before .before .before .before .before .before
-          .two-at2 .ensures .0,
-      c .before .before .before .before .amount-of .ensures,
+      c₈ .before .before .before .two-at .ensures .0,
+      c₈ .before .before .two-at2 .ensures .0,
+      c .before
+          .before .before .before .amount-of .ensures,
     ) at j in
     record {
-      text = λ d w is. rw (← listed-accepted s packet d w is _ _
-          (c .before .before .before .before .before .before .before .before .before .before .before .before .before
-          .before .before .before .read-run .ensures d w is) (sym (c .before .before .before .before .before
-          .before .before .before .before .before .before .before .before .before .number-of .ensures) ∙ c
-          .before .before .before .before .before .before .before .before .before .before .before .before
-          .before .if1 .taken)) k;
+      text = λ d w is. rw (← listed-accepted s packet d w is _ _ (c₈ .before .before .before .before .before .before
+          .before .read-run .ensures d w is)
+          (sym (c₈ .before .before .before .before .before .number-of .ensures) ∙ c₈ .before .before .before .before
+          .if1 .taken)) k;
       inside = writes-inside j (omega arith);
     }
 
@@ -98,21 +89,21 @@ put-refusal-requires c κs = search needs
 same-length-2 : tie.Need-same-length-2
 same-length-2 c = search needs
 
-returns-3 : tie.Need-returns-3
-returns-3 c =
-    let s = now (c .before .before .before .before .before .before .before .before .before .before .before .before
-    .before .args .table) in
-    let packet = now (c .before .before .before .before .before .before .before .before .before .before .before
-    .before .before .args .packet) in
+returns-2 : tie.Need-returns-2
+returns-2 c =
+    let c₈ = c .before .before .before .before .before .before .before .before in
+    let s = now (c₈ .before .before .before .before .before .args .table) in
+    let packet = now (c₈ .before .before .before .before .before .args .packet) in
+    let j = refusal-inside _ _ (omega arith) (c .before .before .put-refusal .ensures) in
     let k = rw (
       c .before .before .before .before .before .before .number-of .ensures,
-      c .before .before .before .before .place-of .ensures,
-    ) at (c .before .before .put-refusal .ensures) in
+      c .before .before .before
+          .before .place-of .ensures,
+    ) at j in
     record {
-      text = λ d w is. rw (← listed-refused s packet d w is _ _
-          (c .before .before .before .before .before .before .before .before .read-run .ensures d w is)
-          (λ z. c .before .before .before .before .before .if1 .left
-          (c .before .before .before .before .before .before .number-of .ensures ∙ z))) k;
+      text = λ d w is. rw (← listed-refused s packet d w is _ _ (c₈ .read-run .ensures d w is)
+          (λ z. c .before .before .before .before .before .if1 .left (c .before .before .before .before .before
+          .before .number-of .ensures ∙ z))) k;
       inside = writes-inside k (omega arith);
     }
 
@@ -124,15 +115,14 @@ put-listing-spec =
     read-run-requires
     number-of-requires
     two-at-requires
-    returns
     two-at-requires-2
     slice-aggregate-put-lines
     put-lines-requires
     amount-of-requires
     put-bits-requires
     same-length
-    returns-2
+    returns
     place-of-requires
     put-refusal-requires
     same-length-2
-    returns-3)
+    returns-2)

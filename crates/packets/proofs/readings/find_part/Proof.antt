@@ -51,7 +51,13 @@ slice-aggregate-read-run : tie.Need-slice-aggregate-read-run
 slice-aggregate-read-run c = search needs
 
 read-run-requires : tie.Need-read-run-requires
-read-run-requires c κs = search needs
+read-run-requires c κs =
+    let c₈ = c .before .before .before .before .before .before .before .before in
+    let table = now (c₈ .before .args .table) in
+    let good = good-from table (c .before .before .before .before .before .before .check-table .result) _ (c .before
+    .before .before .before .before .before .check-table .ensures) (c .before .before .before .before .checked .given
+    .1) in
+    (omega arith, good-few table good)
 
 is-accepted-requires : tie.Need-is-accepted-requires
 is-accepted-requires c κs = search needs

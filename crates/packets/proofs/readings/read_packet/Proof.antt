@@ -1,3 +1,4 @@
+use Rattle.packets.proofs.WalkReads.{walks-read}
 use mathlib.Core.Path.{sym, _∙_}
 use native.Mathlib.Omega.{arith}
 use denote.Ref.{now}
@@ -18,7 +19,7 @@ use Rattle.packets.proofs.readings.read_packet.Reads as reads
 use Rattle.packets.proofs.readings.read_packet.Lts as lts
 use Rattle.packets.proofs.readings.copy_numbers.Reads as copy-numbers-reads
 use Rattle.packets.proofs.readings.is_accepted.Reads as is-accepted-reads
-use Rattle.packets.proofs.readings.read_run.Reads as read-run-reads
+use Rattle.packets.proofs.walks.walk_fields.Reads as walk-fields-reads
 use Rattle.packets.proofs.records.two_at.Reads as two-at-reads
 use Rattle.packets.proofs.tables.check_table.Reads as check-table-reads
 
@@ -70,31 +71,40 @@ returns-3 c =
     let good = good-from table (check-table .result) _ (check-table .ensures) (checked .given .1) in
     packet-short-run table packet (now (a .run)) good (omega arith) (omega (arith, two-at .ensures .0))
 
-slice-aggregate-read-run : tie.Need-slice-aggregate-read-run
-slice-aggregate-read-run c = search needs
+slice-aggregate-walk-fields : tie.Need-slice-aggregate-walk-fields
+slice-aggregate-walk-fields c = search needs
 
-read-run-requires : tie.Need-read-run-requires
-read-run-requires c κs = search needs
+walk-fields-requires : tie.Need-walk-fields-requires
+walk-fields-requires c κs =
+    let c₈ = c .before .before .before .before .before .before .before .before in
+    let table = now (c₈ .before .before .before .args .table) in
+    let good = good-from table (c .before .before .before .before .before .before .before .check-table .result) _
+    (c .before .before .before .before .before .before .before .check-table .ensures) (c .before .before .before .before
+    .before .checked .given .1) in
+    (omega arith, omega arith, good-few table good)
 
 is-accepted-requires : tie.Need-is-accepted-requires
 is-accepted-requires c κs = search needs
 
 slice-aggregate-copy-numbers : tie.Need-slice-aggregate-copy-numbers
-slice-aggregate-copy-numbers c = sym (c .before .before .before .before .before .read-run .kept .1 .1 .0)
+slice-aggregate-copy-numbers c = sym (c .before .before .before .before .before .walk-fields .kept .1 .1 .0)
 
 copy-numbers-requires : tie.Need-copy-numbers-requires
 copy-numbers-requires c κs =
     let c₈ = c .before .before .before .before .before .before .before .before in
     let c₁₆ = c₈ .before .before .before .before .before .before .before .before in
-    let a = c₁₆ .before .args in
-    let check-table = c₈ .before .before .before .before .before .check-table in
-    let checked = c₈ .before .before .before .checked in
-    let two-at = c₈ .two-at in
-    let read-run = c .before .before .before .before .before .read-run in
-    let table = now (a .table) in
-    let good = good-from table (check-table .result) _ (check-table .ensures) (checked .given .1) in
-    let few = good-few table good in
-    (omega (arith, two-at .ensures .0), omega (arith, two-at .ensures .0, read-run .kept .1 .1 .0))
+    let table = now (c₁₆ .before .args .table) in
+    let good = good-from table (c₈ .before .before .before .before .before .check-table .result) _ (c₈ .before
+    .before .before .before .before .check-table .ensures) (c₈ .before .before .before .checked .given .1) in
+    let few = good-few table good in (
+      omega (arith, c₈ .two-at .ensures .0),
+      omega (
+        arith,
+        c₈ .two-at .ensures .0,
+        c .before .before .before .before
+            .before .walk-fields .kept .1 .1 .0,
+      ),
+    )
 
 same-length : tie.Need-same-length
 same-length c = search needs
@@ -103,38 +113,31 @@ returns-4 : tie.Need-returns-4
 returns-4 c =
     let c₈ = c .before .before .before .before .before .before .before .before in
     let c₁₆ = c₈ .before .before .before .before .before .before .before .before in
-    let a = c₁₆ .before .before .before .before .args in
-    let check-table = c₁₆ .check-table in
-    let checked = c₈ .before .before .before .before .before .before .checked in
-    let two-at = c₈ .before .before .before .two-at in
-    let read-run = c₈ .read-run in
-    let is-accepted = c .before .before .before .before .before .before .is-accepted in
-    let if3 = c .before .before .before .before .before .if3 in
-    let copy-numbers = c .before .before .copy-numbers in
-    let table = now (a .table) in
-    let packet = now (a .packet) in
-    let good = good-from table (check-table .result) _ (check-table .ensures) (checked .given .1) in
-    let accepted = sym (is-accepted .ensures) ∙ if3 .taken in
-    rw (copy-numbers .ensures, two-at .ensures .0)
-    (packet-accepted table packet (now (a .run)) (read-run .result) (read-run .last .1 .1 .0) good (omega arith)
-    (omega (arith, two-at .ensures .0)) (read-run .ensures) accepted)
+    let table = now (c₁₆ .before .before .before .before .args .table) in
+    let packet = now (c₁₆ .before .before .before .before .args .packet) in
+    let good = good-from table (c₁₆ .check-table .result) _ (c₁₆ .check-table .ensures) (c₈ .before .before .before
+    .before .before .before .checked .given .1) in
+    let reads = walks-read table packet _ (omega arith) (omega arith) (c₈ .walk-fields .ensures) in
+    let accepted = sym (c .before .before .before .before .before .before .is-accepted .ensures) ∙ c .before .before
+    .before .before .before .if3 .taken in
+    rw (c .before .before .copy-numbers .ensures, c₈ .before .before .before .two-at .ensures .0)
+    (packet-accepted table packet (now (c₁₆ .before .before .before .before .args .run)) (c₈ .walk-fields .result)
+    (c₈ .walk-fields .last .1 .1 .0) good
+    (omega arith) (omega (arith, c₈ .before .before .before .two-at .ensures .0)) reads accepted)
 
 returns-5 : tie.Need-returns-5
 returns-5 c =
     let c₈ = c .before .before .before .before .before .before .before .before in
-    let a = c₈ .before .before .before .before .before .before .before .args in
-    let check-table = c₈ .before .before .before .check-table in
-    let checked = c₈ .before .checked in
-    let two-at = c .before .before .before .before .before .before .two-at in
-    let read-run = c .before .before .before .read-run in
-    let is-accepted = c .before .is-accepted in
-    let if3 = c .if3 in
-    let table = now (a .table) in
-    let packet = now (a .packet) in
-    let good = good-from table (check-table .result) _ (check-table .ensures) (checked .given .1) in
-    let refused = sym (is-accepted .ensures) ∙ if3 .left in
-    packet-refused table packet (now (a .run)) (read-run .result) (read-run .last .1 .1 .0) good (omega arith)
-    (omega (arith, two-at .ensures .0)) (read-run .ensures) refused
+    let table = now (c₈ .before .before .before .before .before .before .before .args .table) in
+    let packet = now (c₈ .before .before .before .before .before .before .before .args .packet) in
+    let good = good-from table (c₈ .before .before .before .check-table .result) _ (c₈ .before .before .before
+    .check-table .ensures) (c₈ .before .checked .given .1) in
+    let reads = walks-read table packet _ (omega arith) (omega arith) (c .before .before .before .walk-fields
+    .ensures) in
+    let refused = sym (c .before .is-accepted .ensures) ∙ c .if3 .left in
+    packet-refused table packet (now (c₈ .before .before .before .before .before .before .before .args .run))
+    (c .before .before .before .walk-fields .result) (c .before .before .before .walk-fields .last .1 .1 .0) good
+    (omega arith) (omega (arith, c .before .before .before .before .before .before .two-at .ensures .0)) reads refused
 
 pub read-packet-spec : {M : Type 1} → statement M
 read-packet-spec =
@@ -148,8 +151,8 @@ read-packet-spec =
     two-at-requires
     mul-n
     returns-3
-    slice-aggregate-read-run
-    read-run-requires
+    slice-aggregate-walk-fields
+    walk-fields-requires
     is-accepted-requires
     slice-aggregate-copy-numbers
     copy-numbers-requires

@@ -1,7 +1,7 @@
 use mathlib.Core.Path.{refl}
 use native.Mathlib.Omega.{arith}
 use denote.Ref.{now}
-use Rattle.packets.proofs.WalkReads.{run-read, run-long}
+use Rattle.packets.proofs.WalkReads.{run-long, walks-read}
 use borrow.Author.Needs.{needs}
 use Rattle.packets.proofs.readings.read_run.Statement.{statement}
 use Rattle.packets.proofs.readings.read_run.Tie as tie
@@ -24,12 +24,10 @@ same-length c = search needs
 
 returns-2 : tie.Need-returns-2
 returns-2 c =
-    let a = c .before .before .before .before .before .before .before .before .args in
-    let walk-fields = c .before .before .walk-fields in
-    let w = walk-fields .ensures in
-    λ d within stored.
-    run-read d (now (a .table)) (now (a .packet)) (now (a .run)) _ _ within stored (omega arith) (omega arith) (w .0)
-    (w .1)
+    let c₈ = c .before .before .before .before .before .before .before .before in
+    let a = c₈ .args in
+    walks-read (now (a .table)) (now (a .packet)) (now (a .run)) (omega arith) (omega arith) (c .before .before
+    .walk-fields .ensures)
 
 pub read-run-spec : {M : Type 1} → statement M
 read-run-spec = tie.close (tie.spec returns walk-fields-requires same-length returns-2)

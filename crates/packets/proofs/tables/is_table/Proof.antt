@@ -1,15 +1,14 @@
 use mathlib.Core.Path.{sym, _∙_}
 use Prim.Native.Nat.{_+_, _-_, _<_, _≤_}
-use lib.ListN.{length}
-use borrow.Author.Tests.{le-leb, lt-leb, not-true, not-false}
-use mathlib.Core.Path.{sym, _∙_}
-use Prim.Native.Nat.{_+_, _-_, _<_, _≤_}
 use native.Mathlib.Omega.{arith}
 use lib.ListN.{length}
 use denote.Ref.{now}
 use borrow.Author.Tests.{le-leb, lt-leb, not-true, not-false}
-use Rattle.packets.specs.TableTest.{tableTest}
+use Rattle.rules.specs.Limits.{fieldsMost}
+use Rattle.packets.specs.TableTest.{tableTest, GatheredBy}
 use Rattle.packets.proofs.TableSteps.{head-is, row-positive, walk-of, walk-past, walk-places, count-most}
+use Rattle.packets.proofs.TableSteps.{gathered-past}
+use Rattle.packets.proofs.NameSteps.{all-places, gathered-keys, gathered-unique}
 use borrow.Author.Needs.{needs}
 use Rattle.packets.proofs.tables.is_table.Statement.{statement}
 use Rattle.packets.proofs.tables.is_table.Tie as tie
@@ -50,21 +49,29 @@ add-from c = search needs
 slice-aggregate-walk : tie.Need-slice-aggregate-walk
 slice-aggregate-walk c = search needs
 
+slice-aggregate-walk-2 : tie.Need-slice-aggregate-walk-2
+slice-aggregate-walk-2 c = search needs
+
+slice-aggregate-walk-3 : tie.Need-slice-aggregate-walk-3
+slice-aggregate-walk-3 c = search needs
+
 walk-requires : tie.Need-walk-requires
 walk-requires c κs =
-    let s = now (c .before .before .before .before .before .before .before .before .args .table) in
-    let head = sym (c .before .before .before .before .before .is-head .ensures) ∙ not-false
-    (c .before .before .before .before .before .is-head .result) (c .before .before .before .before .if2 .left) in
+    let c₈ = c .before .before .before .before .before .before .before .before in
+    let s = now (c₈ .before .before .before .args .table) in
+    let head = sym (c₈ .is-head .ensures) ∙ not-false (c₈ .is-head .result) (c .before .before .before .before
+    .before .before .before .if2 .left) in
     let h = head-is s head in
-    let row : 0 < c .before .before .before .two-at .result = rw (c .before .before .before .two-at .ensures .0)
-    (row-positive _ (h .row)) in
-    let count : c .before .before .two-at2 .result ≤ 64 = rw (c .before .before .two-at2 .ensures .0)
-    (count-most _ (h .count)) in
-    let end : 10 + c .before .two-at3 .result ≤ length s = rw (c .before .two-at3 .ensures .0) (h .end) in
-    (row, count, omega arith, omega arith, end)
+    let row : 0 < c .before .before .before .before .before .before .two-at .result = rw (c .before .before .before
+    .before .before .before .two-at .ensures .0) (row-positive _ (h .row)) in
+    let count : c .before .before .before .before .before .two-at2 .result ≤ fieldsMost = rw (c .before .before
+    .before .before .before .two-at2 .ensures .0) (count-most _ (h .count)) in
+    let end : 10 + c .before .before .before .before .two-at3 .result ≤ length s = rw (c .before .before .before
+    .before .two-at3 .ensures .0) (h .end) in
+    ((row, count, omega arith, omega arith, end), (omega arith, omega arith, omega arith))
 
-enum-known-at : tie.Need-enum-known-at
-enum-known-at c = search needs
+enum-known-walked : tie.Need-enum-known-walked
+enum-known-walked c = search needs
 
 enum-told : tie.Need-enum-told
 enum-told c = search needs
@@ -72,99 +79,100 @@ enum-told c = search needs
 returns-3 : tie.Need-returns-3
 unfolding tableTest
 returns-3 c =
-    let s = now (c .before .before .before .before .before .before .before .before .before .before .before .before
-    .args .table) in
-    let head = sym (c .before .before .before .before .before .before .before .before .before .is-head .ensures)
-    ∙ not-false (c .before .before .before .before .before .before .before .before .before .is-head .result)
-    (c .before .before .before .before .before .before .before .before .if2 .left) in
-    let row-is = c .before .before .before .before .before .before .before .two-at .ensures .0 in
-    let count-is = c .before .before .before .before .before .before .two-at2 .ensures .0 in
-    let from-is = c .before .before .before .before .before .two-at3 .ensures .0 in
-    let walked = walk-of s row-is count-is from-is (c .before .before .before .walk .ensures)
-    (c .enum-told .given .1) in
-    let short = le-leb _ _ (c .before .before .before .before .before .before .before .before .before .before .if1
-    .left) in
-    rw (short, head, walked)
+    let c₈ = c .before .before .before .before .before .before .before .before in
+    let c₁₆ = c₈ .before .before .before .before .before .before .before .before in
+    let s = now (c₁₆ .before .args .table) in
+    let head = sym (c₈ .before .before .before .before .before .before .is-head .ensures) ∙ not-false (c₈ .before
+    .before .before .before .before .before .is-head .result) (c₈ .before .before .before .before .before .if2 .left)
+    in
+    let row-is = c₈ .before .before .before .before .two-at .ensures .0 in
+    let count-is = c₈ .before .before .before .two-at2 .ensures .0 in
+    let from-is = c₈ .before .before .two-at3 .ensures .0 in
+    let is = walk-of s row-is count-is from-is (c .before .before .before .before .before .walk .ensures .0) (c
+    .enum-told .given .1) in
+    rw (le-leb _ _ (c₈ .before .before .before .before .before .before .before .if1 .left), head, is)
 
 is-last-requires : tie.Need-is-last-requires
 is-last-requires c κs =
-    let s = now (c .before .before .before .before .before .before .before .before .before .before .before .before
-    .before .args .table) in
-    let head = sym (c .before .before .before .before .before .before .before .before .before .before .is-head
-    .ensures) ∙ not-false (c .before .before .before .before .before .before .before .before .before .before .is-head
-    .result) (c .before .before .before .before .before .before .before .before .before .if2 .left) in
+    let c₈ = c .before .before .before .before .before .before .before .before in
+    let c₁₆ = c₈ .before .before .before .before .before .before .before .before in
+    let s = now (c₁₆ .before .before .args .table) in
+    let head = sym (c₈ .before .before .before .before .before .before .before .is-head .ensures) ∙ not-false
+    (c₈ .before .before .before .before .before .before .before .is-head .result) (c₈ .before .before .before .before
+    .before .before .if2 .left) in
     let h = head-is s head in
-    let row-is = c .before .before .before .before .before .before .before .before .two-at .ensures .0 in
-    let count-is = c .before .before .before .before .before .before .before .two-at2 .ensures .0 in
-    let from-is = c .before .before .before .before .before .before .two-at3 .ensures .0 in
-    let walked = walk-of s row-is count-is from-is (c .before .before .before .before .walk .ensures)
-    (c .before .at .given .1) in
-    let past = walk-past _ _ _ _ _ _ _ _ (h .end) walked in
+    let row-is = c₈ .before .before .before .before .before .two-at .ensures .0 in
+    let count-is = c₈ .before .before .before .before .two-at2 .ensures .0 in
+    let from-is = c₈ .before .before .before .two-at3 .ensures .0 in
+    let is = walk-of s row-is count-is from-is (c .before .before .before .before .before .before .walk .ensures .0)
+    (c .before .walked .given .1) in
+    let past = walk-past _ _ _ _ _ _ _ _ (h .end) is in
     omega arith
 
 returns-4 : tie.Need-returns-4
 unfolding tableTest
 returns-4 c =
-    let s = now (c .before .before .before .before .before .before .before .before .before .before .before .before
-    .before .before .before .args .table) in
-    let head = sym (c .before .before .before .before .before .before .before .before .before .before .before .before
-    .is-head .ensures) ∙ not-false (c .before .before .before .before .before .before .before .before .before .before
-    .before .before .is-head .result) (c .before .before .before .before .before .before .before .before .before
-    .before .before .if2 .left) in
-    let row-is = c .before .before .before .before .before .before .before .before .before .before .two-at .ensures
-    .0 in
-    let count-is = c .before .before .before .before .before .before .before .before .before .two-at2 .ensures .0 in
-    let from-is = c .before .before .before .before .before .before .before .before .two-at3 .ensures .0 in
-    let walked = walk-of s row-is count-is from-is (c .before .before .before .before .before .before .walk .ensures)
-    (c .before .before .before .at .given .1) in
-    let short = le-leb _ _ (c .before .before .before .before .before .before .before .before .before .before .before
-    .before .before .if1 .left) in
+    let c₈ = c .before .before .before .before .before .before .before .before in
+    let c₁₆ = c₈ .before .before .before .before .before .before .before .before in
+    let s = now (c₁₆ .before .before .before .before .args .table) in
+    let head = sym (c₁₆ .before .is-head .ensures) ∙ not-false (c₁₆ .before .is-head .result) (c₁₆ .if2 .left) in
+    let row-is = c₈ .before .before .before .before .before .before .before .two-at .ensures .0 in
+    let count-is = c₈ .before .before .before .before .before .before .two-at2 .ensures .0 in
+    let from-is = c₈ .before .before .before .before .before .two-at3 .ensures .0 in
+    let is = walk-of s row-is count-is from-is (c₈ .walk .ensures .0) (c .before .before .before .walked .given .1) in
     let no-last = sym (c .before .is-last .ensures) ∙ not-true (c .before .is-last .result) (c .if3 .taken) in
-    rw (short, head, walked, no-last)
+    rw (le-leb _ _ (c₁₆ .before .before .if1 .left), head, is, no-last)
 
 has-unique-names-requires : tie.Need-has-unique-names-requires
 has-unique-names-requires c κs =
-    let s = now (c .before .before .before .before .before .before .before .before .before .before .before .before
-    .before .before .before .args .table) in
-    let head = sym (c .before .before .before .before .before .before .before .before .before .before .before .before
-    .is-head .ensures) ∙ not-false (c .before .before .before .before .before .before .before .before .before .before
-    .before .before .is-head .result) (c .before .before .before .before .before .before .before .before .before
-    .before .before .if2 .left) in
+    let c₈ = c .before .before .before .before .before .before .before .before in
+    let c₁₆ = c₈ .before .before .before .before .before .before .before .before in
+    let s = now (c₁₆ .before .before .before .before .before .before .before .args .table) in
+    let head = sym (c₁₆ .before .before .before .before .is-head .ensures) ∙ not-false (c₁₆ .before .before .before
+    .before .is-head .result) (c₁₆ .before .before .before .if2 .left) in
     let h = head-is s head in
-    let row-is = c .before .before .before .before .before .before .before .before .before .before .two-at .ensures
-    .0 in
-    let count-is = c .before .before .before .before .before .before .before .before .before .two-at2 .ensures .0 in
-    let from-is = c .before .before .before .before .before .before .before .before .two-at3 .ensures .0 in
-    let walked = walk-of s row-is count-is from-is (c .before .before .before .before .before .before .walk .ensures)
-    (c .before .before .before .at .given .1) in
-    let most = c .before .before .before .before .before .before .before .before .before .before .before .before
-    .before .if1 .left in
-    let places = walk-places _ _ _ _ _ _ _ _ most (h .end) walked in
-    (rw count-is (count-most _ (h .count)), most, rw (count-is, from-is) places)
+    let row-is = c₁₆ .before .before .two-at .ensures .0 in
+    let count-is = c₁₆ .before .two-at2 .ensures .0 in
+    let from-is = c₁₆ .two-at3 .ensures .0 in
+    let is = walk-of s row-is count-is from-is (c₈ .before .before .before .walk .ensures .0) (c .before .before
+    .before .before .before .before .walked .given .1) in
+    let g = gathered-past (c .before .before .before .before .before .before .walked .given .1) (c₈ .before .before
+    .before .walk .ensures .1) in
+    let places = walk-places _ _ _ _ _ _ _ _ (c₁₆ .before .before .before .before .before .if1 .left) (h .end) is in (
+      rw count-is (count-most _ (h .count)),
+      c₁₆ .before .before .before .before .before .if1 .left,
+      all-places _ _ _ _ (g .placed) (rw (count-is, from-is) places),
+      gathered-keys _ _ _ _ _ _ g,
+    )
 
 returns-5 : tie.Need-returns-5
 unfolding tableTest
 returns-5 c =
-    let s = now (c .before .before .before .before .before .before .before .before .before .before .before .before
-    .before .before .before .before .args .table) in
-    let head = sym (c .before .before .before .before .before .before .before .before .before .before .before .before
-    .before .is-head .ensures) ∙ not-false
-    (c .before .before .before .before .before .before .before .before .before .before .before .before .before
-    .is-head .result) (c .before .before .before .before .before .before .before .before .before .before .before
-    .before .if2 .left) in
-    let row-is = c .before .before .before .before .before .before .before .before .before .before .before .two-at
-    .ensures .0 in
-    let count-is = c .before .before .before .before .before .before .before .before .before .before .two-at2 .ensures
-    .0 in
-    let from-is = c .before .before .before .before .before .before .before .before .before .two-at3 .ensures .0 in
-    let walked = walk-of s row-is count-is from-is
-    (c .before .before .before .before .before .before .before .walk .ensures)
-    (c .before .before .before .before .at .given .1) in
-    let short = le-leb _ _ (c .before .before .before .before .before .before .before .before .before .before .before
-    .before .before .before .if1 .left) in
-    let last = sym (c .before .before .is-last .ensures) ∙ not-false (c .before .before .is-last .result)
-    (c .before .if3 .left) in
-    rw (short, head, walked, last, ← count-is, ← from-is) (c .has-unique-names .ensures)
+    let c₈ = c .before .before .before .before .before .before .before .before in
+    let c₁₆ = c₈ .before .before .before .before .before .before .before .before in
+    let c₂₄ = c₁₆ .before .before .before .before .before .before .before .before in
+    let s = now (c₂₄ .args .table) in
+    let head = sym (c₁₆ .before .before .before .before .before .is-head .ensures) ∙ not-false (c₁₆ .before .before
+    .before .before .before .is-head .result) (c₁₆ .before .before .before .before .if2 .left) in
+    let row-is = c₁₆ .before .before .before .two-at .ensures .0 in
+    let count-is = c₁₆ .before .before .two-at2 .ensures .0 in
+    let from-is = c₁₆ .before .two-at3 .ensures .0 in
+    let is = walk-of s row-is count-is from-is (c₈ .before .before .before .before .walk .ensures .0) (c .before
+    .before .before .before .before .before .before .walked .given .1) in
+    let g = gathered-past (c .before .before .before .before .before .before .before .walked .given .1) (c₈ .before
+    .before .before .before .walk .ensures .1) in
+    let last = sym (c .before .before .before .before .before .is-last .ensures) ∙ not-false (c .before .before
+    .before .before .before .is-last .result) (c .before .before .before .before .if3 .left) in
+    rw (
+      le-leb _ _ (c₁₆ .before .before .before .before .before .before .if1 .left),
+      head,
+      is,
+      last,
+      ← count-is,
+      ←
+          from-is,
+    )
+    (c .has-unique-names .ensures ∙ gathered-unique _ _ _ _ _ _ g)
 
 pub is-table-spec : {M : Type 1} → statement M
 is-table-spec =
@@ -178,8 +186,10 @@ is-table-spec =
     two-at-requires-3
     add-from
     slice-aggregate-walk
+    slice-aggregate-walk-2
+    slice-aggregate-walk-3
     walk-requires
-    enum-known-at
+    enum-known-walked
     enum-told
     returns-3
     is-last-requires

@@ -5,8 +5,8 @@ use Rattle.packets.proofs.trees.in_range.Tie as tie
 use Rattle.packets.proofs.trees.in_range.Reads as reads
 use Rattle.packets.proofs.trees.in_range.Lts as lts
 
-cast-t5 : tie.Need-cast-t5
-cast-t5 c = search needs
+cast-t6 : tie.Need-cast-t6
+cast-t6 c = search needs
 
 returns : tie.Need-returns
 returns c = rw (le-leb _ _ (c .if1 .taken))
@@ -15,4 +15,4 @@ returns-2 : tie.Need-returns-2
 returns-2 c = rw (lt-leb _ _ (c .if1 .left))
 
 pub in-range-spec : {M : Type 1} → statement M
-in-range-spec = tie.close (tie.spec cast-t5 returns returns-2)
+in-range-spec = tie.close (tie.spec cast-t6 returns returns-2)

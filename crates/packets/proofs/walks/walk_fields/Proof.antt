@@ -30,15 +30,6 @@ abbrev μ-loop : tie.MeasureT-loop
 two-at-requires : tie.Need-two-at-requires Inv-loop μ-loop
 two-at-requires c κs = search needs
 
-returns : tie.Need-returns Inv-loop μ-loop
-unfolding walkAll walkAnswer
-returns c =
-    let two-at = c .before .two-at in
-    let if1 = c .if1 in
-    let e = lt-ltb 64 _ (if1 .taken) in
-    let k = two-at .ensures .0 in
-    (rw (← k, e), rw (← k, e) tt)
-
 mul-total : tie.Need-mul-total Inv-loop μ-loop
 mul-total c = search needs
 
@@ -48,11 +39,7 @@ two-at-requires-2 c κs = search needs
 loop-holds : tie.Need-loop-holds Inv-loop μ-loop
 unfolding walkAll
 loop-holds c =
-    let two-at = c .before .before .two-at in
-    let if1 = c .before .if1 in
-    let two-at2 = c .two-at2 in
-    let few = le-ltb 64 _ (if1 .left) in
-    (omega arith, omega arith, refl, rw (← two-at .ensures .0, ← two-at2 .ensures .0, few, sub-zero))
+    (omega arith, omega arith, refl, rw (← c .before .two-at .ensures .0, ← c .two-at2 .ensures .0, sub-zero))
 
 record-at-requires : tie.Need-record-at-requires Inv-loop μ-loop
 record-at-requires c κs = search needs
@@ -81,25 +68,22 @@ refused-requires c κs = search needs
 same-length : tie.Need-same-length Inv-loop μ-loop
 same-length c = search needs
 
-returns-2 : tie.Need-returns-2 Inv-loop μ-loop
+returns : tie.Need-returns Inv-loop μ-loop
 unfolding walkAnswer
-returns-2 c =
+returns c =
     let c₈ = c .before .before .before .before .before .before .before .before in
-    let a = c₈ .before .before .before .before .before .before .before .before .args in
-    let two-at = c₈ .before .before .before .before .two-at in
+    let a = c₈ .before .before .before .before .before .before .before .args in
     let l = c₈ .before .loop in
-    let loop-test = c₈ .loop-test in
-    let record-at = c .before .before .before .before .before .before .before .record-at in
-    let one-field = c .before .before .before .before .before .one-field in
-    let enum-told = c .before .enum-told in
-    let refused = c .refused in
-    let told = enum-told .given .1 in
+    let told = c .before .enum-told .given .1 in
     let h =
     l .inv .3
-    ∙ walk-stop (now (a .table)) (now (a .packet)) (l .run) (two-at .result) (l .i) (l .place) (l .at)
-    (record-at .result) (one-field .result) (one-field .last .1 .1 .0) (loop-test .taken) (record-at .ensures)
-    (one-field .ensures .0) _ told in
-    (rw h (refused .ensures ∙ rw told), rw h tt)
+    ∙ walk-stop (now (a .table)) (now (a .packet)) (l .run) (c₈ .before .before .before .two-at .result) (l .i) (l
+    .place) (l .at)
+    (c .before .before .before .before .before .before .before .record-at .result) (c .before .before .before .before
+    .before .one-field .result) (c .before .before .before .before .before .one-field .last .1 .1 .0) (c₈ .loop-test
+    .taken) (c .before .before .before .before .before .before .before .record-at .ensures)
+    (c .before .before .before .before .before .one-field .ensures .0) _ told in
+    (rw h (c .refused .ensures ∙ rw told), rw h tt)
 
 add-i : tie.Need-add-i Inv-loop μ-loop
 add-i c = search needs
@@ -110,60 +94,59 @@ loop-less c = search needs
 loop-again : tie.Need-loop-again Inv-loop μ-loop
 loop-again c =
     let c₈ = c .before .before .before .before .before .before .before .before in
-    let a = c₈ .before .before .before .before .before .before .before .before .args in
-    let two-at = c₈ .before .before .before .before .two-at in
+    let a = c₈ .before .before .before .before .before .before .before .args in
     let l = c₈ .before .loop in
-    let loop-test = c₈ .loop-test in
-    let record-at = c .before .before .before .before .before .before .before .record-at in
-    let one-field = c .before .before .before .before .before .one-field in
-    let found = c .before .found in
-    let to = found .given .1 in
-    let later = two-at .result - l .i - 1 in
-    let st = fieldStep (now (a .table)) (now (a .packet)) (l .run) (record-at .result) later (l .place) in
+    let one = c .before .before .before .before .before .one-field in
+    let to = c .before .found .given .1 in
+    let later = c₈ .before .before .before .two-at .result - l .i - 1 in
+    let st = fieldStep (now (a .table)) (now (a .packet)) (l .run) (c .before .before .before .before .before .before
+    .before .record-at .result) later (l .place) in
     let h =
-    walk-to (now (a .table)) (now (a .packet)) (l .run) (two-at .result) (l .i) (l .place) (l .at) (record-at .result)
-    (one-field .result) (one-field .last .1 .1 .0) (loop-test .taken) (record-at .ensures) (one-field .ensures .0)
-    _ _ (one-field .ensures .1) to in
+    walk-to (now (a .table)) (now (a .packet)) (l .run) (c₈ .before .before .before .two-at .result) (l .i) (l
+    .place) (l .at)
+    (c .before .before .before .before .before .before .before .record-at .result) (one .result) (one .last .1 .1 .0)
+    (c₈ .loop-test .taken) (c .before .before .before .before .before .before .before .record-at .ensures) (one
+    .ensures .0)
+    _ _ (one .ensures .1) to in
     let inside =
-    step-inside (now (a .table)) (now (a .packet)) (l .run) (l .i) (record-at .result) later (l .place)
-    (one-field .result) _ _ (l .inv .1) (one-field .ensures .0) to in (
+    step-inside (now (a .table)) (now (a .packet)) (l .run) (l .i) (c .before .before .before .before .before .before
+    .before .record-at .result) later (l .place) (one .result)
+    _ _ (l .inv .1) (one .ensures .0) to in (
       omega arith,
       inside,
-      rw (one-field .ensures .1) (length-with (l .run) (l .i) st) ∙ l .inv .2,
+      rw (one .ensures .1) (length-with (l .run) (l .i) st) ∙ l .inv .2,
       l .inv .3 ∙ h,
     )
 
 same-length-2 : tie.Need-same-length-2 Inv-loop μ-loop
 same-length-2 c = search needs
 
-returns-3 : tie.Need-returns-3 Inv-loop μ-loop
+returns-2 : tie.Need-returns-2 Inv-loop μ-loop
 unfolding walkAnswer
-returns-3 c =
+returns-2 c =
     let c₈ = c .before .before .before .before .before .before .before .before in
-    let a = c₈ .before .args in
-    let two-at = c .before .before .before .before .before .two-at in
+    let a = c₈ .args in
     let l = c .before .before .loop in
-    let if2 = c .if2 in
-    let e : l .i ≡ two-at .result = omega arith in
+    let e : l .i ≡ c .before .before .before .before .two-at .result = omega arith in
     let h =
-    rw e at (l .inv .3) ∙ walk-end (now (a .table)) (now (a .packet)) (l .run) (two-at .result) (l .place) (l .at) in
-    (rw (h, eq-eqb _ _ (if2 .taken)), rw h refl)
+    rw e at (l .inv .3) ∙ walk-end (now (a .table)) (now (a .packet)) (l .run) (c .before .before .before .before
+    .two-at .result) (l .place) (l .at) in
+    (rw (h, eq-eqb _ _ (c .if1 .taken)), rw h refl)
 
 same-length-3 : tie.Need-same-length-3 Inv-loop μ-loop
 same-length-3 c = search needs
 
-returns-4 : tie.Need-returns-4 Inv-loop μ-loop
+returns-3 : tie.Need-returns-3 Inv-loop μ-loop
 unfolding walkAnswer
-returns-4 c =
+returns-3 c =
     let c₈ = c .before .before .before .before .before .before .before .before in
-    let a = c₈ .before .args in
-    let two-at = c .before .before .before .before .before .two-at in
+    let a = c₈ .args in
     let l = c .before .before .loop in
-    let if2 = c .if2 in
-    let e : l .i ≡ two-at .result = omega arith in
+    let e : l .i ≡ c .before .before .before .before .two-at .result = omega arith in
     let h =
-    rw e at (l .inv .3) ∙ walk-end (now (a .table)) (now (a .packet)) (l .run) (two-at .result) (l .place) (l .at) in
-    (rw (h, ne-eqb _ _ (if2 .left)), rw h refl)
+    rw e at (l .inv .3) ∙ walk-end (now (a .table)) (now (a .packet)) (l .run) (c .before .before .before .before
+    .two-at .result) (l .place) (l .at) in
+    (rw (h, ne-eqb _ _ (c .if1 .left)), rw h refl)
 
 pub walk-fields-spec : {M : Type 1} → statement M
 walk-fields-spec =
@@ -172,7 +155,6 @@ walk-fields-spec =
     Inv-loop
     μ-loop
     two-at-requires
-    returns
     mul-total
     two-at-requires-2
     loop-holds
@@ -185,11 +167,11 @@ walk-fields-spec =
     add-refused
     refused-requires
     same-length
-    returns-2
+    returns
     add-i
     loop-less
     loop-again
     same-length-2
-    returns-3
+    returns-2
     same-length-3
-    returns-4)
+    returns-3)

@@ -114,15 +114,6 @@ step-calls t = (
 atom-returns : (t : ℕ) → atom-lts.Need-returns (atom-calls t) (atom-at t) atom.Post
 atom-returns t c = (within-fail _ _ _ _ _, atom-end _ _ _ (c .if1 .taken))
 
-atom-shared-slice-read-c : (t : ℕ) → atom-lts.Need-shared-slice-read-c (atom-calls t) (atom-at t) atom.Post
-atom-shared-slice-read-c t c = search needs
-
-atom-add-inside : (t : ℕ) → atom-lts.Need-add-inside (atom-calls t) (atom-at t) atom.Post
-atom-add-inside t c = search needs
-
-atom-inside-requires : (t : ℕ) → atom-lts.Need-inside-requires (atom-calls t) (atom-at t) atom.Post
-atom-inside-requires t c κs = search needs
-
 atom-returns-2 : (t : ℕ) → atom-lts.Need-returns-2 (atom-calls t) (atom-at t) atom.Post
 atom-returns-2 t c =
     let a = c .before .before .before .before .before .args in (
@@ -131,36 +122,20 @@ atom-returns-2 t c =
       atom-bang (a .s .now) (a .at) (a .b) (omega arith) (c .before .if2 .taken) _ (c .inside .ensures .1),
     )
 
-atom-inside-requires-2 : (t : ℕ) → atom-lts.Need-inside-requires-2 (atom-calls t) (atom-at t) atom.Post
-atom-inside-requires-2 t c κs = search needs
-
 atom-returns-3 : (t : ℕ) → atom-lts.Need-returns-3 (atom-calls t) (atom-at t) atom.Post
 atom-returns-3 t c =
     let a = c .before .before .before .before .before .before .args in (
       c .inside2 .ensures .0,
-      atom-paren (a .s .now) (a .at) (a .b) (omega arith) (c .before .if3 .taken) _
-          (c .inside2 .ensures .1),
+      atom-paren (a .s .now) (a .at) (a .b) (omega arith) (c .before .if3 .taken) _ (c .inside2 .ensures .1),
     )
-
-atom-leaf-at-requires : (t : ℕ) → atom-lts.Need-leaf-at-requires (atom-calls t) (atom-at t) atom.Post
-atom-leaf-at-requires t c κs = search needs
 
 atom-returns-4 : (t : ℕ) → atom-lts.Need-returns-4 (atom-calls t) (atom-at t) atom.Post
 atom-returns-4 t c =
     let a = c .before .before .before .before .before .before .args in (
       c .leaf-at .ensures .0,
-      atom-word (a .s .now) (a .at) (a .b) (omega arith) (c .before .before .if2 .left)
-          (c .before .if3 .left) _ (c .leaf-at .ensures .1),
+      atom-word (a .s .now) (a .at) (a .b) (omega arith) (c .before .before .if2 .left) (c .before .if3 .left) _
+          (c .leaf-at .ensures .1),
     )
-
-expr-atom-requires : (t : ℕ) → expr-lts.Need-atom-requires (expr-calls t) (expr-at t) expr.Post
-expr-atom-requires t c κs = search needs
-
-expr-enum-told : (t : ℕ) → expr-lts.Need-enum-told (expr-calls t) (expr-at t) expr.Post
-expr-enum-told t c = search needs
-
-expr-enum-known-a : (t : ℕ) → expr-lts.Need-enum-known-a (expr-calls t) (expr-at t) expr.Post
-expr-enum-known-a t c = search needs
 
 expr-more-requires : (t : ℕ) → expr-lts.Need-more-requires (expr-calls t) (expr-at t) expr.Post
 expr-more-requires t c κs =
@@ -171,22 +146,20 @@ expr-returns : (t : ℕ) → expr-lts.Need-returns (expr-calls t) (expr-at t) ex
 expr-returns t c =
     let a = c .before .before .before .before .args in (
       within-fail _ _ _ _ _,
-      expr-fail (a .s .now) (a .at) (a .k) (a .b) _ (c .before .before .atom .ensures .1)
-          (c .enum-told .given .1),
+      expr-fail (a .s .now) (a .at) (a .k) (a .b) _ (c .before .before .atom .ensures .1) (c .enum-told .given .1),
     )
 
 expr-returns-2 : (t : ℕ) → expr-lts.Need-returns-2 (expr-calls t) (expr-at t) expr.Post
 expr-returns-2 t c =
-    let a = c .before .before .before .before .before .before .args in
+    let p = c .before .before .before .before in
+    let a = p .before .before .args in
     let v = c .before .before .a .given .0 in
     let w = within-got (a .s .now) (a .at + 1) (a .at) 0 0 _ (v .0) (v .1 .0) (v .1 .1 .0)
-    (c .before .before .a .given .1)
-    (c .before .before .before .before .atom .ensures .0) in (
+    (c .before .before .a .given .1) (p .atom .ensures .0) in (
       within-up (a .s .now) (v .0) (v .0) (v .1 .0) (v .1 .1 .0) (a .at + 1) (a .at) 0 0 _ (w .0) (omega arith)
           (omega arith) (c .more .ensures .0),
-      expr-go (a .s .now) (a .at) (a .k) (a .b) _ (c .before .before .before .before .atom .ensures .1) (v .0)
-          (v .1 .0) (v .1 .1 .0) (c .before .before .a .given .1) (omega arith)
-          (w .1) _ (c .more .ensures .1),
+      expr-go (a .s .now) (a .at) (a .k) (a .b) _ (p .atom .ensures .1) (v .0) (v .1 .0) (v .1 .1 .0)
+          (c .before .before .a .given .1) (omega arith) (w .1) _ (c .more .ensures .1),
     )
 
 inside-returns : (t : ℕ) → inside-lts.Need-returns (inside-calls t) (inside-at t) inside.Post
@@ -197,29 +170,10 @@ inside-returns-2 t c =
     let a = c .before .before .before .args in
     (within-fail _ _ _ _ _, in-zero (a .s .now) (a .at) (a .b) (a .over) (omega arith) (c .if2 .taken))
 
-inside-shared-slice-read-if3 : (t : ℕ) → inside-lts.Need-shared-slice-read-if3 (inside-calls t)
-    (inside-at t) inside.Post
-inside-shared-slice-read-if3 t c = search needs
-
 inside-returns-3 : (t : ℕ) → inside-lts.Need-returns-3 (inside-calls t) (inside-at t) inside.Post
 inside-returns-3 t c =
     let a = c .before .before .before .before .before .args in
     (within-fail _ _ _ _ _, in-wrong (a .s .now) (a .at) (a .b) (a .over) (omega arith) (c .if3 .taken))
-
-inside-add-expr : (t : ℕ) → inside-lts.Need-add-expr (inside-calls t) (inside-at t) inside.Post
-inside-add-expr t c = search needs
-
-inside-sub-expr : (t : ℕ) → inside-lts.Need-sub-expr (inside-calls t) (inside-at t) inside.Post
-inside-sub-expr t c = search needs
-
-inside-expr-requires : (t : ℕ) → inside-lts.Need-expr-requires (inside-calls t) (inside-at t) inside.Post
-inside-expr-requires t c κs = search needs
-
-inside-enum-told : (t : ℕ) → inside-lts.Need-enum-told (inside-calls t) (inside-at t) inside.Post
-inside-enum-told t c = search needs
-
-inside-enum-known-e : (t : ℕ) → inside-lts.Need-enum-known-e (inside-calls t) (inside-at t) inside.Post
-inside-enum-known-e t c = search needs
 
 inside-closed-requires : (t : ℕ) → inside-lts.Need-closed-requires (inside-calls t) (inside-at t) inside.Post
 inside-closed-requires t c κs =
@@ -237,18 +191,15 @@ inside-returns-4 t c =
 
 inside-returns-5 : (t : ℕ) → inside-lts.Need-returns-5 (inside-calls t) (inside-at t) inside.Post
 inside-returns-5 t c =
-    let a = c .before .before .before .before .before .before .before .before .before .before .args in
+    let p = c .before .before .before .before in
+    let a = p .before .before .before .before .before .before .args in
     let v = c .before .before .e .given .0 in
     let w = within-got (a .s .now) (a .at + 1 + 1) (a .at + 1) 0 0 _ (v .0) (v .1 .0) (v .1 .1 .0)
-    (c .before .before .e .given .1)
-    (c .before .before .before .before .expr .ensures .0) in (
+    (c .before .before .e .given .1) (p .expr .ensures .0) in (
       within-up (a .s .now) (v .0 + 1) (v .0) (v .1 .0) (v .1 .1 .0) (a .at + 1) (a .at) 0 0 _ (omega arith)
-          (omega arith)
-          (omega arith) (c .closed .ensures .0),
-      in-go (a .s .now) (a .at) (a .b) (a .over) (omega arith)
-          (c .before .before .before .before .before .before .before .if2 .left)
-          (c .before .before .before .before .before .if3 .left) _
-          (c .before .before .before .before .expr .ensures .1) (v .0) (v .1 .0) (v .1 .1 .0)
+          (omega arith) (omega arith) (c .closed .ensures .0),
+      in-go (a .s .now) (a .at) (a .b) (a .over) (omega arith) (p .before .before .before .if2 .left)
+          (p .before .if3 .left) _ (p .expr .ensures .1) (v .0) (v .1 .0) (v .1 .1 .0)
           (c .before .before .e .given .1) _ (c .closed .ensures .1),
     )
 
@@ -272,9 +223,6 @@ more-step-requires t c κs =
     let i = c .loop .inv in
     omega (arith, i .0, i .1, i .2, i .3)
 
-more-enum-told : (t : ℕ) → more-lts.Need-enum-told (more-calls t) (more-at t) more.Post more-Inv-loop more-μ-loop
-more-enum-told t c = search needs
-
 more-returns : (t : ℕ) → more-lts.Need-returns (more-calls t) (more-at t) more.Post more-Inv-loop more-μ-loop
 more-returns t c =
     let a = c .before .before .before .before .before .args in
@@ -283,9 +231,6 @@ more-returns t c =
       l .inv .4 _ (failed (a .s .now) (l .place) (a .k) (l .level) (a .b) (l .depth) (l .size)
           (c .enum-told .given .1) (c .before .before .step .ensures)),
     )
-
-more-enum-told-2 : (t : ℕ) → more-lts.Need-enum-told-2 (more-calls t) (more-at t) more.Post more-Inv-loop more-μ-loop
-more-enum-told-2 t c = search needs
 
 more-returns-2 : (t : ℕ) → more-lts.Need-returns-2 (more-calls t) (more-at t) more.Post more-Inv-loop more-μ-loop
 more-returns-2 t c =
@@ -297,16 +242,12 @@ more-returns-2 t c =
           (c .before .before .step .ensures)),
     )
 
-more-enum-known-next : (t : ℕ) → more-lts.Need-enum-known-next (more-calls t) (more-at t) more.Post more-Inv-loop
-    more-μ-loop
-more-enum-known-next t c = search needs
-
 more-loop-less : (t : ℕ) → more-lts.Need-loop-less (more-calls t) (more-at t) more.Post more-Inv-loop more-μ-loop
 more-loop-less t c =
     let a = c .before .before .before .before .before .before .args in
     let l = c .before .before .before .before .loop in
-    let g = gone-on (a .s .now) (l .place) (a .k) (l .level) (a .b) (l .depth) (l .size) _ _ _ _ (c .before .next
-    .given .1) (c .before .before .before .step .ensures) in
+    let g = gone-on (a .s .now) (l .place) (a .k) (l .level) (a .b) (l .depth) (l .size) _ _ _ _
+    (c .before .next .given .1) (c .before .before .before .step .ensures) in
     omega (arith, g .0, g .1)
 
 more-loop-again : (t : ℕ) → more-lts.Need-loop-again (more-calls t) (more-at t) more.Post more-Inv-loop more-μ-loop
@@ -314,8 +255,8 @@ more-loop-again t c =
     let a = c .before .before .before .before .before .before .args in
     let l = c .before .before .before .before .loop in
     let i = l .inv in
-    let g = gone-on (a .s .now) (l .place) (a .k) (l .level) (a .b) (l .depth) (l .size) _ _ _ _ (c .before .next
-    .given .1) (c .before .before .before .step .ensures) in (
+    let g = gone-on (a .s .now) (l .place) (a .k) (l .level) (a .b) (l .depth) (l .size) _ _ _ _
+    (c .before .next .given .1) (c .before .before .before .step .ensures) in (
       omega (arith, g .0),
       g .1,
       omega (arith, g .2, i .2),
@@ -323,151 +264,112 @@ more-loop-again t c =
       λ r z. i .4 r (g .4 r z),
     )
 
-step-operator-at-requires : (t : ℕ) → step-lts.Need-operator-at-requires (step-calls t) (step-at t) step.Post
-step-operator-at-requires t c κs = search needs
-
-step-enum-told : (t : ℕ) → step-lts.Need-enum-told (step-calls t) (step-at t) step.Post
-step-enum-told t c = search needs
-
-step-enum-known-g : (t : ℕ) → step-lts.Need-enum-known-g (step-calls t) (step-at t) step.Post
-step-enum-known-g t c = search needs
-
-step-operator-requires : (t : ℕ) → step-lts.Need-operator-requires (step-calls t) (step-at t) step.Post
-step-operator-requires t c κs = search needs
-
 step-expr-requires : (t : ℕ) → step-lts.Need-expr-requires (step-calls t) (step-at t) step.Post
 step-expr-requires t c κs =
     let u = sign-within _ _ _ _ _ (c .before .before .before .before .before .g .given .1)
     (c .before .before .before .before .before .before .before .operator-at .ensures .0) in
     omega arith
 
-step-enum-told-2 : (t : ℕ) → step-lts.Need-enum-told-2 (step-calls t) (step-at t) step.Post
-step-enum-told-2 t c = search needs
-
-step-enum-known-y : (t : ℕ) → step-lts.Need-enum-known-y (step-calls t) (step-at t) step.Post
-step-enum-known-y t c = search needs
-
-step-larger-requires : (t : ℕ) → step-lts.Need-larger-requires (step-calls t) (step-at t) step.Post
-step-larger-requires t c κs = search needs
-
 step-add-t22 : (t : ℕ) → step-lts.Need-add-t22 (step-calls t) (step-at t) step.Post
 step-add-t22 t c =
-    let u = sign-within _ _ _ _ _ (c .before .before .before .before .before .before .before .before .before .before
-    .g .given .1) (c .before .before .before .before .before .before .before .before .before .before .before .before
-    .operator-at .ensures .0) in
-    let w = within-got _ _ _ _ _ _ _ _ _ (c .before .before .y .given .1)
-    (c .before .before .before .before .expr .ensures .0) in
-    let m = max-most (c .before .before .before .before .before .before .before .before .before .before .before
-    .before .before .before .args .d) (c .before .before .y .given .0 .1 .0) in
+    let p = c .before .before .before .before in
+    let o = p .before .before .before .before .before .before in
+    let u = sign-within _ _ _ _ _ (o .g .given .1) (o .before .before .operator-at .ensures .0) in
+    let w = within-got _ _ _ _ _ _ _ _ _ (c .before .before .y .given .1) (p .expr .ensures .0) in
+    let m = max-most (o .before .before .before .before .args .d) (c .before .before .y .given .0 .1 .0) in
     omega (arith, c .larger .ensures)
 
 step-add-t23 : (t : ℕ) → step-lts.Need-add-t23 (step-calls t) (step-at t) step.Post
 step-add-t23 t c =
-    let u = sign-within _ _ _ _ _ (c .before .before .before .before .before .before .before .before .before .before
-    .g .given .1) (c .before .before .before .before .before .before .before .before .before .before .before .before
-    .operator-at .ensures .0) in
-    let w = within-got _ _ _ _ _ _ _ _ _ (c .before .before .y .given .1)
-    (c .before .before .before .before .expr .ensures .0) in
+    let p = c .before .before .before .before in
+    let o = p .before .before .before .before .before .before in
+    let u = sign-within _ _ _ _ _ (o .g .given .1) (o .before .before .operator-at .ensures .0) in
+    let w = within-got _ _ _ _ _ _ _ _ _ (c .before .before .y .given .1) (p .expr .ensures .0) in
     omega arith
 
 step-add-t24 : (t : ℕ) → step-lts.Need-add-t24 (step-calls t) (step-at t) step.Post
 step-add-t24 t c =
-    let u = sign-within _ _ _ _ _ (c .before .before .before .before .before .before .before .before .before .before
-    .g .given .1) (c .before .before .before .before .before .before .before .before .before .before .before .before
-    .operator-at .ensures .0) in
-    let w = within-got _ _ _ _ _ _ _ _ _ (c .before .before .y .given .1)
-    (c .before .before .before .before .expr .ensures .0) in
+    let p = c .before .before .before .before in
+    let o = p .before .before .before .before .before .before in
+    let u = sign-within _ _ _ _ _ (o .g .given .1) (o .before .before .operator-at .ensures .0) in
+    let w = within-got _ _ _ _ _ _ _ _ _ (c .before .before .y .given .1) (p .expr .ensures .0) in
     omega arith
 
 step-returns : (t : ℕ) → step-lts.Need-returns (step-calls t) (step-at t) step.Post
 step-returns t c =
-    let a = c .before .before .before .before .before .before .before .before .before .before .before .before .args in
-    let v = c .before .before .before .before .before .before .before .before .g .given .0 in
-    let u = sign-within (a .s .now) (a .at) _ (v .0) (v .1 .0)
-    (c .before .before .before .before .before .before .before .before .g .given .1)
-    (c .before .before .before .before .before .before .before .before .before .before .operator-at .ensures .0) in
-    next-fail (a .s .now) (a .at) (a .k) (a .h) (a .b) (a .d) (a .z)
-    (more-fail (a .s .now) (a .at) (a .k) (a .h) (a .b) (a .d) (a .z) _
-    (c .before .before .before .before .before .before .before .before .before .before .operator-at .ensures .1)
-    (v .0) (v .1 .0)
-    (c .before .before .before .before .before .before .before .before .g .given .1)
-    (c .before .before .before .before .before .before .operator .result)
-    (c .before .before .before .before .before .before .operator .ensures)
-    (c .before .before .before .before .before .if1 .taken) (c .before .before .before .if2 .taken) (u .0) (u .1) _
-    (c .before .before .expr .ensures .1) (c .enum-told2 .given .1))
+    let p = c .before .before .before .before .before in
+    let o = p .before .before .before .before .before in
+    let a = o .before .before .args in
+    let v = p .before .before .before .g .given .0 in
+    let u = sign-within (a .s .now) (a .at) _ (v .0) (v .1 .0) (p .before .before .before .g .given .1)
+    (o .operator-at .ensures .0) in
+    next-fail (a .s .now) (a .at) (a .k) (a .h) (a .b) (a .d) (a .z) (more-fail (a .s .now) (a .at) (a .k) (a .h)
+    (a .b) (a .d) (a .z) _ (o .operator-at .ensures .1) (v .0) (v .1 .0) (p .before .before .before .g .given .1)
+    (p .before .operator .result) (p .before .operator .ensures) (p .if1 .taken)
+    (c .before .before .before .if2 .taken) (u .0) (u .1) _ (c .before .before .expr .ensures .1)
+    (c .enum-told2 .given .1))
 
 step-returns-2 : (t : ℕ) → step-lts.Need-returns-2 (step-calls t) (step-at t) step.Post
 step-returns-2 t c =
-    let a = c .before .before .before .before .before .before .before .before .before .before .before .before .before
-    .before .args in
-    let v = c .before .before .before .before .before .before .before .before .before .before .g .given .0 in
-    let u = sign-within (a .s .now) (a .at) _ (v .0) (v .1 .0)
-    (c .before .before .before .before .before .before .before .before .before .before .g .given .1)
-    (c .before .before .before .before .before .before .before .before .before .before .before .before .operator-at
-    .ensures .0) in
+    let p = c .before .before .before .before in
+    let o = p .before .before .before .before in
+    let a = o .before .before .before .before .before .before .args in
+    let v = o .before .before .g .given .0 in
+    let u = sign-within (a .s .now) (a .at) _ (v .0) (v .1 .0) (o .before .before .g .given .1)
+    (o .before .before .before .before .operator-at .ensures .0) in
     let y = c .before .before .y .given .0 in
     let w = within-got (a .s .now) (v .1 .0 + 1) (v .1 .0) 0 0 _ (y .0) (y .1 .0) (y .1 .1 .0)
-    (c .before .before .y .given .1)
-    (c .before .before .before .before .expr .ensures .0) in
+    (c .before .before .y .given .1) (p .expr .ensures .0) in
     let m = max-most (a .d) (y .1 .0) in
     let x : c .larger .result ≤ a .d + y .1 .0 = rw (c .larger .ensures) m in
-    next-on (a .s .now) (a .at) (a .k) (a .h) (a .b) (a .d) (a .z) _ _ _ _
-    (omega arith) (w .1) (omega arith) (omega arith)
-    (λ r z. more-go (a .s .now) (a .at) (a .k) (a .h) (a .b) (a .d) (a .z) _
-    (c .before .before .before .before .before .before .before .before .before .before .before .before .operator-at
-    .ensures .1) (v .0) (v .1 .0)
-    (c .before .before .before .before .before .before .before .before .before .before .g .given .1)
-    (c .before .before .before .before .before .before .before .before .operator .result)
-    (c .before .before .before .before .before .before .before .before .operator .ensures)
-    (c .before .before .before .before .before .before .before .if1 .taken)
-    (c .before .before .before .before .before .if2 .taken) (u .0) (u .1) _
-    (c .before .before .before .before .expr .ensures .1) (y .0) (y .1 .0) (y .1 .1 .0) (c .larger .result)
-    (c .before .before .y .given .1) (omega arith) (w .1)
-    (c .larger .ensures) r z)
+    next-on (a .s .now) (a .at) (a .k) (a .h) (a .b) (a .d) (a .z) _ _ _ _ (omega arith) (w .1) (omega arith)
+    (omega arith) (λ r z. more-go (a .s .now) (a .at) (a .k) (a .h) (a .b) (a .d) (a .z) _
+    (o .before .before .before .before .operator-at .ensures .1) (v .0) (v .1 .0) (o .before .before .g .given .1)
+    (o .operator .result) (o .operator .ensures) (p .before .before .before .if1 .taken) (p .before .if2 .taken)
+    (u .0) (u .1) _ (p .expr .ensures .1) (y .0) (y .1 .0) (y .1 .1 .0) (c .larger .result)
+    (c .before .before .y .given .1) (omega arith) (w .1) (c .larger .ensures) r z)
 
 step-returns-3 : (t : ℕ) → step-lts.Need-returns-3 (step-calls t) (step-at t) step.Post
 step-returns-3 t c =
     let a = c .before .before .before .before .args in
-    next-stop (a .s .now) (a .at) (a .k) (a .h) (a .b) (a .d) (a .z)
-    (more-none (a .s .now) (a .at) (a .k) (a .h) (a .b) (a .d) (a .z) _ (c .before .before .operator-at .ensures .1)
-    (c .enum-told .given .1))
+    next-stop (a .s .now) (a .at) (a .k) (a .h) (a .b) (a .d) (a .z) (more-none (a .s .now) (a .at) (a .k) (a .h)
+    (a .b) (a .d) (a .z) _ (c .before .before .operator-at .ensures .1) (c .enum-told .given .1))
 
 step-returns-4 : (t : ℕ) → step-lts.Need-returns-4 (step-calls t) (step-at t) step.Post
 step-returns-4 t c =
-    let a = c .before .before .before .before .before .before .before .before .before .args in
-    let v = c .before .before .before .before .before .g .given .0 in
-    next-stop (a .s .now) (a .at) (a .k) (a .h) (a .b) (a .d) (a .z)
-    (more-stop (a .s .now) (a .at) (a .k) (a .h) (a .b) (a .d) (a .z) _
-    (c .before .before .before .before .before .before .before .operator-at .ensures .1) (v .0) (v .1 .0)
-    (c .before .before .before .before .before .g .given .1) (c .before .before .before .operator .result)
-    (c .before .before .before .operator .ensures) (inr (omega (arith, c .if2 .left))))
+    let p = c .before .before .before .before .before in
+    let a = p .before .before .before .before .args in
+    let v = p .g .given .0 in
+    next-stop (a .s .now) (a .at) (a .k) (a .h) (a .b) (a .d) (a .z) (more-stop (a .s .now) (a .at) (a .k) (a .h)
+    (a .b) (a .d) (a .z) _ (p .before .before .operator-at .ensures .1) (v .0) (v .1 .0) (p .g .given .1)
+    (c .before .before .before .operator .result) (c .before .before .before .operator .ensures) (inr (omega
+    (arith, c .if2 .left))))
 
 step-returns-5 : (t : ℕ) → step-lts.Need-returns-5 (step-calls t) (step-at t) step.Post
 step-returns-5 t c =
     let a = c .before .before .before .before .before .before .before .args in
     let v = c .before .before .before .g .given .0 in
-    next-stop (a .s .now) (a .at) (a .k) (a .h) (a .b) (a .d) (a .z)
-    (more-stop (a .s .now) (a .at) (a .k) (a .h) (a .b) (a .d) (a .z) _
-    (c .before .before .before .before .before .operator-at .ensures .1) (v .0) (v .1 .0)
+    next-stop (a .s .now) (a .at) (a .k) (a .h) (a .b) (a .d) (a .z) (more-stop (a .s .now) (a .at) (a .k) (a .h)
+    (a .b) (a .d) (a .z) _ (c .before .before .before .before .before .operator-at .ensures .1) (v .0) (v .1 .0)
     (c .before .before .before .g .given .1) (c .before .operator .result) (c .before .operator .ensures) (inl
     (omega (arith, c .if1 .left))))
 
 pub +atom+expr+inside+more+step-spec : {M : Type 1} → statement M
 +atom+expr+inside+more+step-spec = close μ-atom μ-expr μ-inside μ-more μ-step
-    (λ t. atom-lts.spec (atom-calls t) (atom-at t) atom.Post (atom-returns t) (atom-shared-slice-read-c t)
-    (atom-add-inside t) (atom-inside-requires t) (atom-returns-2 t) (atom-inside-requires-2 t) (atom-returns-3 t)
-    (atom-leaf-at-requires t) (atom-returns-4 t))
-    (λ t. expr-lts.spec (expr-calls t) (expr-at t) expr.Post (expr-atom-requires t) (expr-enum-told t)
-    (expr-enum-known-a t) (expr-more-requires t) (expr-returns t) (expr-returns-2 t))
+    (λ t. atom-lts.spec (atom-calls t) (atom-at t) atom.Post (atom-returns t) (λ c. search needs)
+    (λ c. search needs) (λ c κs. search needs) (atom-returns-2 t) (λ c κs. search needs) (atom-returns-3 t)
+    (λ c κs. search needs) (atom-returns-4 t))
+    (λ t. expr-lts.spec (expr-calls t) (expr-at t) expr.Post (λ c κs. search needs) (λ c. search needs)
+    (λ c. search needs) (expr-more-requires t) (expr-returns t) (expr-returns-2 t))
     (λ t. inside-lts.spec (inside-calls t) (inside-at t) inside.Post (inside-returns t) (inside-returns-2 t)
-    (inside-shared-slice-read-if3 t) (inside-returns-3 t) (inside-add-expr t) (inside-sub-expr t)
-    (inside-expr-requires t) (inside-enum-told t) (inside-enum-known-e t) (inside-closed-requires t)
+    (λ c. search needs) (inside-returns-3 t) (λ c. search needs) (λ c. search needs)
+    (λ c κs. search needs) (λ c. search needs) (λ c. search needs) (inside-closed-requires t)
     (inside-returns-4 t) (inside-returns-5 t))
     (λ t. more-lts.spec (more-calls t) (more-at t) more.Post more-Inv-loop more-μ-loop (more-loop-holds t)
-    (more-step-requires t) (more-enum-told t) (more-returns t) (more-enum-told-2 t) (more-returns-2 t)
-    (more-enum-known-next t) (more-loop-less t) (more-loop-again t))
-    λ t. step-lts.spec (step-calls t) (step-at t) step.Post (step-operator-at-requires t) (step-enum-told t)
-    (step-enum-known-g t) (step-operator-requires t) (step-expr-requires t) (step-enum-told-2 t)
-    (step-enum-known-y t) (step-larger-requires t) (step-add-t22 t)
+    (more-step-requires t) (λ c. search needs) (more-returns t) (λ c. search needs) (more-returns-2 t)
+    (λ c. search needs) (more-loop-less t) (more-loop-again t))
+    λ t. step-lts.spec (step-calls t) (step-at t) step.Post (λ c κs. search needs) (λ c. search needs)
+    (λ c. search needs) (λ c κs. search needs) (step-expr-requires t) (λ c. search needs)
+    (λ c. search needs) (λ c κs. search needs) (step-add-t22 t)
     (step-add-t23 t) (step-add-t24 t) (step-returns t) (step-returns-2 t)
     (step-returns-3 t) (step-returns-4 t) (step-returns-5 t)

@@ -4,7 +4,7 @@ use native.Mathlib.Omega.{arith}
 use Prim.Native.Nat.{_≤_, _<_, _-_}
 use lib.ListN.{length, take, drop, length-drop}
 use lib.Seq.{length-take-le}
-use Rattle.texts.specs.FrameReader.{linesOf}
+use Rattle.text_laws.specs.FrameReader.{linesOf}
 use Rattle.texts.proofs.FieldLines.{Filled, filled-start, filled-step, filled-none, filled-end}
 use borrow.Author.Needs.{needs}
 use Rattle.texts.proofs.field_lines.field_lines.Statement.{statement}

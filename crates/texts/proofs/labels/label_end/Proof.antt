@@ -3,7 +3,7 @@ use native.Mathlib.Omega.{arith}
 use Prim.Native.Nat.{_≤_, _-_}
 use mathlib.Core.Bool.{true, false}
 use lib.ListN.{length, drop}
-use Rattle.texts.specs.LineReader.{labelEnds, labelBehind}
+use Rattle.text_laws.specs.LineReader.{labelEnds, labelBehind}
 use Rattle.texts.proofs.FieldNames.{label-end, label-stop, label-step}
 use borrow.Author.Needs.{needs}
 use Rattle.texts.proofs.labels.label_end.Statement.{statement}

@@ -8,7 +8,7 @@ use Rattle.texts.proofs.FrameLeaves.{name-short, name-long}
 use borrow.Author.Tests.{not-true, not-false}
 use Rattle.rules.specs.Names.{isLabel}
 use Rattle.base.specs.Lists.{same}
-use Rattle.texts.specs.FrameReader.{closing}
+use Rattle.text_laws.specs.FrameReader.{closing}
 use borrow.Author.Needs.{needs}
 use Rattle.texts.proofs.openings.is_named.Statement.{statement}
 use Rattle.texts.proofs.openings.is_named.Tie as tie

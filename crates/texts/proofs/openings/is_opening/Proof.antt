@@ -4,7 +4,7 @@ use lib.ListN.{take}
 use Rattle.texts.proofs.FrameLeaves.{opened-short, opened-an, opened-a, opened-none, take-rest}
 use Rattle.base.specs.Bytes.{bytes}
 use Rattle.base.specs.Lists.{same}
-use Rattle.texts.specs.FrameReader.{readName}
+use Rattle.text_laws.specs.FrameReader.{readName}
 use Rattle.texts.specs.FramePlaces.{isSome}
 use borrow.Author.Needs.{needs}
 use Rattle.texts.proofs.openings.is_opening.Statement.{statement}

@@ -3,7 +3,7 @@ use native.Mathlib.Omega.{arith}
 use Prim.Native.Nat.{_≤_, _-_, _+_}
 use native.Mathlib.Nat.{add-zero, add-assoc}
 use lib.ListN.{length, drop, length-drop}
-use Rattle.texts.specs.LineReader.{begins}
+use Rattle.text_laws.specs.LineReader.{begins}
 use Rattle.texts.proofs.FieldWords.{begins-step, begins-stop, begins-end, begins-long}
 use borrow.Author.Needs.{needs}
 use Rattle.texts.proofs.phrases.starts_at.Statement.{statement}

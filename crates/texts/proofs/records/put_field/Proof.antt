@@ -1,6 +1,6 @@
 use native.Mathlib.Omega.{arith}
 use denote.Ref.{now}
-use Rattle.texts.proofs.RecordLaws.{two-end, field-writes}
+use Rattle.texts.proofs.RecordLaws.{two-writes, two-end, field-writes}
 use Rattle.texts.proofs.RecordSizes.{size-sum, parts-sized}
 use borrow.Author.Needs.{needs}
 use Rattle.texts.proofs.records.put_field.Statement.{statement}
@@ -9,7 +9,7 @@ use Rattle.texts.proofs.records.put_field.Reads as reads
 use Rattle.texts.proofs.records.put_field.Lts as lts
 use Rattle.texts.proofs.records.field_size.Reads as field-size-reads
 use Rattle.texts.proofs.records.put_body.Reads as put-body-reads
-use Rattle.texts.proofs.records.put_two.Reads as put-two-reads
+use Rattle.writing.proofs.puts.put_two.Reads as put-two-reads
 
 field-size-requires : tie.Need-field-size-requires
 field-size-requires c κs =
@@ -18,29 +18,33 @@ field-size-requires c κs =
     parts-sized (now (a .line)) (s .0) (a .p) (s .1 .0) (s .1 .1) (c .before .before .before .pre .0)
 
 put-two-requires : tie.Need-put-two-requires
-put-two-requires c κs =
-    let a = c .before .before .before .before .args in
-    omega (arith, size-sum (a .p), c .before .before .before .before .pre .3)
+put-two-requires c κs = search needs
 
 put-two-requires-2 : tie.Need-put-two-requires-2
-put-two-requires-2 c κs =
-    let a = c .before .before .before .before .before .before .before .before .args in
-    omega (
-      arith,
-      size-sum (a .p),
-      c .before .before .before .before .before .before .before .before .pre .3,
-      two-end
-          (c .before .before .before .before .field-size .result) (c .before .before .before .put-two .ensures),
-      c
-          .before .before .before .put-two .ensures .kept,
-    )
+put-two-requires-2 c κs = search needs
 
 put-body-requires : tie.Need-put-body-requires
 put-body-requires c κs =
     let a = c .before .before .before .before .before .before .before .before .before .before .before .before .args in
-    let e = two-end (c .before .before .before .before .before .before .before .before .field-size .result) (c
-    .before .before .before .before .before .before .before .put-two .ensures) in
-    let f = two-end (a .p .kind) (c .before .before .before .put-two2 .ensures) in (
+    let sum = size-sum (a .p) in
+    let size = c .before .before .before .before .before .before .before .before .field-size .result in
+    let w = two-writes size (omega (
+      arith,
+      sum,
+      c .before .before .before .before .before .before .before .before
+          .before .before .before .before .pre .3,
+    ))
+    (c .before .before .before .before .before .before .before .put-two .ensures) in
+    let e = two-end size w in
+    let v = two-writes (a .p .kind) (omega (
+      arith,
+      sum,
+      e,
+      w .kept,
+      c .before .before .before .before .before .before
+          .before .before .before .before .before .before .pre .3,
+    )) (c .before .before .before .put-two2 .ensures) in
+    let f = two-end (a .p .kind) v in (
       c .before .before .before .before .before .before .before .before .before .before .before .before .pre .0,
       c
           .before .before .before .before .before .before .before .before .before .before .before .before .pre .1,
@@ -48,13 +52,12 @@ put-body-requires c κs =
           .before .before .before .before .before .before .before .before .before .before .before .before .pre .2,
       omega (
         arith,
-        c .before .before .before .before .before .before .before .before .before .before .before
-            .before .pre .3,
         e,
         f,
-        c .before .before .before .before .before .before .before .put-two .ensures .kept,
-        c
-            .before .before .before .put-two2 .ensures .kept,
+        w .kept,
+        v .kept,
+        c .before .before .before .before .before .before .before .before .before .before
+            .before .before .pre .3,
       ),
     )
 
@@ -65,11 +68,30 @@ returns : tie.Need-returns
 returns c =
     let a = c .before .before .before .before .before .before .before .before .before .before .before .before .before
     .before .before .args in
-    λ x h. field-writes (now (a .names)) (a .i) (now (a .line)) x (a .p) (h .0) (c .before .before .before .before
-    .before .before .before .before .before .before .before .field-size .result) (c .before .before .before
-    .before .before .before .before .before .before .before .before .field-size .ensures)
-    (c .before .before .before .before .before .before .before .before .before .before .put-two .ensures) (c .before
-    .before .before .before .before .before .put-two2 .ensures) (c .before .before .put-body .ensures x h)
+    let sum = size-sum (a .p) in
+    let size = c .before .before .before .before .before .before .before .before .before .before .before .field-size
+    .result in
+    let w = two-writes size (omega (
+      arith,
+      sum,
+      c .before .before .before .before .before .before .before .before
+          .before .before .before .before .before .before .before .pre .3,
+    ))
+    (c .before .before .before .before .before .before .before .before .before .before .put-two .ensures) in
+    let e = two-end size w in
+    let v = two-writes (a .p .kind) (omega (
+      arith,
+      sum,
+      e,
+      w .kept,
+      c .before .before .before .before .before .before
+          .before .before .before .before .before .before .before .before .before .pre .3,
+    ))
+    (c .before .before .before .before .before .before .put-two2 .ensures) in
+    λ x h. field-writes (now (a .names)) (a .i) (now (a .line)) x (a .p) (h .0) size
+    (c .before .before .before .before .before .before .before .before .before .before .before .field-size .ensures)
+    w v
+    (c .before .before .put-body .ensures x h)
 
 pub put-field-spec : {M : Type 1} → statement M
 put-field-spec =

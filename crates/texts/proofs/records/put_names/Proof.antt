@@ -2,14 +2,14 @@ use Prim.Native.Nat.{_-_}
 use native.Mathlib.Omega.{arith}
 use denote.Ref.{now}
 use lib.ListN.{take}
-use Rattle.texts.proofs.TreeTypes.{part-length}
-use Rattle.texts.proofs.RecordLaws.{counted-end, label-part, names-writes}
+use Rattle.texts.proofs.TreeTypes.{partOf, part-length}
+use Rattle.texts.proofs.RecordLaws.{counted-writes, counted-end, label-part, names-writes}
 use borrow.Author.Needs.{needs}
 use Rattle.texts.proofs.records.put_names.Statement.{statement}
 use Rattle.texts.proofs.records.put_names.Tie as tie
 use Rattle.texts.proofs.records.put_names.Reads as reads
 use Rattle.texts.proofs.records.put_names.Lts as lts
-use Rattle.texts.proofs.records.put_counted.Reads as put-counted-reads
+use Rattle.writing.proofs.puts.put_counted.Reads as put-counted-reads
 
 add-to : tie.Need-add-to
 add-to c = search needs
@@ -36,19 +36,7 @@ part-put-counted-end-2 : tie.Need-part-put-counted-end-2
 part-put-counted-end-2 c = search needs
 
 put-counted-requires-2 : tie.Need-put-counted-requires-2
-put-counted-requires-2 c κs =
-    let a = c .before .before .before .before .before .before .before .before .before .before .before .args in
-    let is = c .before .before .before .before .before .before .before .before .before .before .before .pre .0 .1 .0
-    in
-    let w = c .before .before .before .before .put-counted .ensures in
-    omega (
-      arith,
-      c .before .before .before .before .before .before .before .before .before .before .before .pre .1,
-      counted-end (take (a .p .label - 0) (now (a .line))) w,
-      w .kept,
-      label-part (now (a .line)) (a .p .label) (is .fits .label),
-      part-length (now (a .line)) (a .p .short) (is .fits .short),
-    )
+put-counted-requires-2 c κs = search needs
 
 same-length : tie.Need-same-length
 same-length c = search needs
@@ -57,8 +45,19 @@ returns : tie.Need-returns
 returns c =
     let a = c .before .before .before .before .before .before .before .before .before .before .before .before .before
     .before .args in
-    λ x h. names-writes (now (a .line)) x (a .p) (h .0) (c .before .before .before .before .before .before .before
-    .put-counted .ensures) (c .before .before .put-counted2 .ensures)
+    let is = c .before .before .before .before .before .before .before .before .before .before .before .before
+    .before .before .pre .0 .1 .0 in
+    let room = c .before .before .before .before .before .before .before .before .before .before .before .before
+    .before .before .pre .1 in
+    let label = take (a .p .label - 0) (now (a .line)) in
+    let size = label-part (now (a .line)) (a .p .label) (is .fits .label) in
+    let w = counted-writes label (omega (arith, size))
+    (c .before .before .before .before .before .before .before .put-counted .ensures) in
+    let end = counted-end label w in
+    let short = part-length (now (a .line)) (a .p .short) (is .fits .short) in
+    let v = counted-writes (partOf (now (a .line)) (a .p .short)) (omega (arith, size, end, short, w .kept))
+    (c .before .before .put-counted2 .ensures) in
+    λ x h. names-writes (now (a .line)) x (a .p) (h .0) w v
 
 pub put-names-spec : {M : Type 1} → statement M
 put-names-spec =

@@ -6,7 +6,7 @@ use lib.ListN.{length, take, drop}
 use borrow.Author.Tests.{not-true, not-false, eq-eqb, ne-eqb}
 use Rattle.rules.specs.Frames.{isCell}
 use Rattle.texts.specs.FrameWalk.{bitCount}
-use Rattle.texts.specs.FrameReader.{pieces, rest, cellOf}
+use Rattle.text_laws.specs.FrameReader.{pieces, rest, cellOf}
 use Rattle.texts.proofs.RowTally.{tally, tally-start, tally-none, tally-stop, tally-next, tally-end}
 use borrow.Author.Needs.{needs}
 use Rattle.texts.proofs.row_cells.bit_cells.Statement.{statement}

@@ -6,7 +6,7 @@ use lib.ListN.{length, take, getD}
 use Rattle.names.proofs.ClassRules.{space-in}
 use lib.Seq.{take-all}
 use Rattle.texts.proofs.RowLeaves.{right-end, right-stop, right-step}
-use Rattle.texts.specs.FrameReader.{rightTrim}
+use Rattle.text_laws.specs.FrameReader.{rightTrim}
 use borrow.Author.Needs.{needs}
 use Rattle.texts.proofs.rows.trimmed.Statement.{statement}
 use Rattle.texts.proofs.rows.trimmed.Tie as tie

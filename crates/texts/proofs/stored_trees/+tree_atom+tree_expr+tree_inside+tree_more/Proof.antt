@@ -85,8 +85,7 @@ atom-returns : (t : ℕ) → atom-lts.Need-returns (atom-calls t) (atom-at t) at
 atom-returns t c =
     let a = c .before .before .before .args in (
       none-within _ _ _ _ _ (c .no-tree .ensures),
-      atom-end (a .names .now) (a .n) (a .s .now) (a .at) (a .b) _
-          (c .before .if1 .taken) (c .no-tree .ensures),
+      atom-end (a .names .now) (a .n) (a .s .now) (a .at) (a .b) _ (c .before .if1 .taken) (c .no-tree .ensures),
     )
 
 atom-shared-slice-read-c : (t : ℕ) → atom-lts.Need-shared-slice-read-c (atom-calls t) (atom-at t) atom.Post
@@ -140,8 +139,7 @@ expr-returns t c =
     let a = c .before .before .before .before .args in
     let p = c .before .before .tree-atom in (
       p .ensures .0,
-      expr-fail (a .names .now) (a .n) (a .s .now) (a .at) (a .k) (a .b) (p .result) (p .ensures .1)
-          (c .if1 .taken),
+      expr-fail (a .names .now) (a .n) (a .s .now) (a .at) (a .k) (a .b) (p .result) (p .ensures .1) (c .if1 .taken),
     )
 
 expr-tree-more-requires : (t : ℕ) → expr-lts.Need-tree-more-requires (expr-calls t) (expr-at t) expr.Post
@@ -158,8 +156,7 @@ expr-returns-2 t c =
       up-within (a .s .now) (r .next) (r .next) (r .len) (a .at + 1) (a .at) 0 _ (w .0) (omega arith)
           (c .tree-more .ensures .0),
       expr-go (a .names .now) (a .n) (a .s .now) (a .at) (a .k) (a .b) r (p .ensures .1) (c .before .if1 .left)
-          (omega arith) (w .1) _
-          (c .tree-more .ensures .1),
+          (omega arith) (w .1) _ (c .tree-more .ensures .1),
     )
 
 abbrev inside-calls : ℕ → inside-lts.Claims
@@ -179,8 +176,7 @@ inside-returns : (t : ℕ) → inside-lts.Need-returns (inside-calls t) (inside-
 inside-returns t c =
     let a = c .before .before .before .args in (
       none-within _ _ _ _ _ (c .no-tree .ensures),
-      in-end (a .names .now) (a .n) (a .s .now) (a .at) (a .b) (a .neg) _
-          (c .before .if1 .taken) (c .no-tree .ensures),
+      in-end (a .names .now) (a .n) (a .s .now) (a .at) (a .b) (a .neg) _ (c .before .if1 .taken) (c .no-tree .ensures),
     )
 
 inside-no-tree-requires-2 : (t : ℕ) → inside-lts.Need-no-tree-requires-2 (inside-calls t) (inside-at t) inside.Post
@@ -224,8 +220,8 @@ inside-returns-4 t c =
     let y = c .before .before .tree-expr in (
       none-within _ _ _ _ _ (c .if4 .taken),
       in-fail (a .names .now) (a .n) (a .s .now) (a .at) (a .b) (a .neg) (omega arith)
-          (c .before .before .before .before .before .if2 .left) (c .before .before .before .if3 .left)
-          (y .result) (y .ensures .1) (c .if4 .taken),
+          (c .before .before .before .before .before .if2 .left) (c .before .before .before .if3 .left) (y .result)
+          (y .ensures .1) (c .if4 .taken),
     )
 
 inside-tree-closed-requires : (t : ℕ) → inside-lts.Need-tree-closed-requires (inside-calls t) (inside-at t)
@@ -236,16 +232,15 @@ inside-tree-closed-requires t c κs =
 
 inside-returns-5 : (t : ℕ) → inside-lts.Need-returns-5 (inside-calls t) (inside-at t) inside.Post
 inside-returns-5 t c =
-    let a = c .before .before .before .before .before .before .before .before .before .args in
+    let p = c .before .before .before .before in
+    let a = p .before .before .before .before .before .args in
     let y = c .before .before .before .tree-expr in
     let r = y .result in
     let w = got-within (a .s .now) (a .at + 1 + 1) (a .at + 1) 0 r (c .before .if4 .left) (y .ensures .0) in (
       up-within (a .s .now) (r .next + 1) (r .next) (r .len) (a .at + 1) (a .at) 0 _ (omega arith) (omega arith)
           (c .tree-closed .ensures .0),
-      in-go (a .names .now) (a .n) (a .s .now) (a .at) (a .b) (a .neg) (omega arith)
-          (c .before .before .before .before .before .before .if2 .left)
-          (c .before .before .before .before .if3 .left) r (y .ensures .1) (c .before .if4 .left) _
-          (c .tree-closed .ensures .1),
+      in-go (a .names .now) (a .n) (a .s .now) (a .at) (a .b) (a .neg) (omega arith) (p .before .before .if2 .left)
+          (p .if3 .left) r (y .ensures .1) (c .before .if4 .left) _ (c .tree-closed .ensures .1),
     )
 
 abbrev more-calls : ℕ → more-lts.Claims
@@ -276,89 +271,80 @@ more-operator-requires t c κs = search needs
 
 more-tree-expr-requires : (t : ℕ) → more-lts.Need-tree-expr-requires (more-calls t) (more-at t) more.Post
 more-tree-expr-requires t c κs =
-    let a = c .before .before .before .before .before .before .before .before .before .args in
-    let v = c .before .before .before .before .before .g .given .0 in
-    let u = sign-within (a .s .now) (a .at) _ (v .0) (v .1 .0)
-    (c .before .before .before .before .before .g .given .1)
-    (c .before .before .before .before .before .before .before .operator-at .ensures .0) in
+    let p = c .before .before .before .before .before in
+    let a = p .before .before .before .before .args in
+    let v = p .g .given .0 in
+    let u = sign-within (a .s .now) (a .at) _ (v .0) (v .1 .0) (p .g .given .1)
+    (p .before .before .operator-at .ensures .0) in
     omega arith
 
 more-returns : (t : ℕ) → more-lts.Need-returns (more-calls t) (more-at t) more.Post
 more-returns t c =
-    let a = c .before .before .before .before .before .before .before .before .before .before .before .before .args in
-    let v = c .before .before .before .before .before .before .before .before .g .given .0 in
-    let u = sign-within (a .s .now) (a .at) _ (v .0) (v .1 .0)
-    (c .before .before .before .before .before .before .before .before .g .given .1)
-    (c .before .before .before .before .before .before .before .before .before .before .operator-at .ensures .0) in
+    let p = c .before .before .before .before .before in
+    let o = p .before .before .before .before .before in
+    let a = o .before .before .args in
+    let v = p .before .before .before .g .given .0 in
+    let u = sign-within (a .s .now) (a .at) _ (v .0) (v .1 .0) (p .before .before .before .g .given .1)
+    (o .operator-at .ensures .0) in
     let y = c .before .before .tree-expr in (
       none-within _ _ _ _ _ (c .if3 .taken),
       more-fail (a .names .now) (a .n) (a .s .now) (a .at) (a .k) (a .h) (a .b) (a .left) _
-          (c .before .before .before .before .before .before .before .before .before .before .operator-at .ensures .1)
-          (v .0) (v .1 .0) (c .before .before .before .before .before .before .before .before .g .given .1)
-          (c .before .before .before .before .before .before .operator .result)
-          (c .before .before .before .before .before .before .operator .ensures)
-          (c .before .before .before .before .before .if1 .taken) (c .before .before .before .if2 .taken)
-          (u .0) (u .1) (y .result) (y .ensures .1) (c .if3 .taken),
+          (o .operator-at .ensures .1) (v .0) (v .1 .0) (p .before .before .before .g .given .1)
+          (p .before .operator .result) (p .before .operator .ensures) (p .if1 .taken)
+          (c .before .before .before .if2 .taken) (u .0) (u .1) (y .result) (y .ensures .1) (c .if3 .taken),
     )
 
 more-two-node-requires : (t : ℕ) → more-lts.Need-two-node-requires (more-calls t) (more-at t) more.Post
 more-two-node-requires t c κs =
-    let a = c .before .before .before .before .before .before .before .before .before .before .before .before .args in
-    let v = c .before .before .before .before .before .before .before .before .g .given .0 in
-    let u = sign-within (a .s .now) (a .at) _ (v .0) (v .1 .0)
-    (c .before .before .before .before .before .before .before .before .g .given .1)
-    (c .before .before .before .before .before .before .before .before .before .before .operator-at .ensures .0) in
+    let p = c .before .before .before .before .before .before .before .before in
+    let o = p .before .before .before .before in
+    let a = o .args in
+    let v = p .g .given .0 in
+    let u = sign-within (a .s .now) (a .at) _ (v .0) (v .1 .0) (p .g .given .1)
+    (p .before .before .operator-at .ensures .0) in
     let w = got-within _ _ _ _ _ (c .if3 .left) (c .before .before .tree-expr .ensures .0) in
     omega (
       arith,
-      (c .before .before .before .before .before .before .before .before .before .before .before .before
-          .pre),
+      (o .pre),
     )
 
 more-tree-more-requires : (t : ℕ) → more-lts.Need-tree-more-requires (more-calls t) (more-at t) more.Post
 more-tree-more-requires t c κs =
-    let a = c .before .before .before .before .before .before .before .before .before .before .before .before .before
-    .args in
-    let v = c .before .before .before .before .before .before .before .before .before .g .given .0 in
-    let u = sign-within (a .s .now) (a .at) _ (v .0) (v .1 .0)
-    (c .before .before .before .before .before .before .before .before .before .g .given .1)
-    (c .before .before .before .before .before .before .before .before .before .before .before .operator-at .ensures
-    .0) in
+    let p = c .before .before .before .before .before .before .before .before .before in
+    let o = p .before .before .before .before in
+    let a = o .args in
+    let v = p .g .given .0 in
+    let u = sign-within (a .s .now) (a .at) _ (v .0) (v .1 .0) (p .g .given .1)
+    (p .before .before .operator-at .ensures .0) in
     let w = got-within _ _ _ _ _ (c .before .if3 .left) (c .before .before .before .tree-expr .ensures .0) in
     let m = c .two-node .ensures in
     omega (
       arith,
       m .next,
       m .len,
-      (c .before .before .before .before .before .before .before .before .before .before
-          .before .before .before .pre),
+      (o .pre),
     )
 
 more-returns-2 : (t : ℕ) → more-lts.Need-returns-2 (more-calls t) (more-at t) more.Post
 more-returns-2 t c =
-    let a = c .before .before .before .before .before .before .before .before .before .before .before .before .before
-    .before .args in
-    let v = c .before .before .before .before .before .before .before .before .before .before .g .given .0 in
-    let u = sign-within (a .s .now) (a .at) _ (v .0) (v .1 .0)
-    (c .before .before .before .before .before .before .before .before .before .before .g .given .1)
-    (c .before .before .before .before .before .before .before .before .before .before .before .before .operator-at
-    .ensures .0) in
-    let y = c .before .before .before .before .tree-expr in
+    let p = c .before .before .before .before in
+    let o = p .before .before .before .before in
+    let a = o .before .before .before .before .before .before .args in
+    let v = o .before .before .g .given .0 in
+    let u = sign-within (a .s .now) (a .at) _ (v .0) (v .1 .0) (o .before .before .g .given .1)
+    (o .before .before .before .before .operator-at .ensures .0) in
+    let y = p .tree-expr in
     let some = c .before .before .if3 .left in
     let w = got-within (a .s .now) (v .1 .0 + 1) (v .1 .0) 0 (y .result) some (y .ensures .0) in
     let z = c .before .two-node .result in
     let m = c .before .two-node .ensures in (
-      up-within (a .s .now) (z .next) (z .next) (z .len) (a .at) (a .at) (a .left .len) _
-          (omega (arith, m .next)) (omega (arith, m .next, m .len)) (c .tree-more .ensures .0),
+      up-within (a .s .now) (z .next) (z .next) (z .len) (a .at) (a .at) (a .left .len) _ (omega (arith, m .next))
+          (omega (arith, m .next, m .len)) (c .tree-more .ensures .0),
       more-go (a .names .now) (a .n) (a .s .now) (a .at) (a .k) (a .h) (a .b) (a .left) _
-          (c .before .before .before .before .before .before .before .before .before .before .before .before
-          .operator-at .ensures .1)
-          (v .0) (v .1 .0) (c .before .before .before .before .before .before .before .before .before .before .g
-          .given .1) (c .before .before .before .before .before .before .before .before .operator .result)
-          (c .before .before .before .before .before .before .before .before .operator .ensures)
-          (c .before .before .before .before .before .before .before .if1 .taken)
-          (c .before .before .before .before .before .if2 .taken)
-          (u .0) (u .1) (y .result) (y .ensures .1) some (omega arith) (w .1) z m _ (c .tree-more .ensures .1),
+          (o .before .before .before .before .operator-at .ensures .1) (v .0) (v .1 .0)
+          (o .before .before .g .given .1) (o .operator .result) (o .operator .ensures)
+          (p .before .before .before .if1 .taken) (p .before .if2 .taken) (u .0) (u .1) (y .result)
+          (y .ensures .1) some (omega arith) (w .1) z m _ (c .tree-more .ensures .1),
     )
 
 more-returns-3 : (t : ℕ) → more-lts.Need-returns-3 (more-calls t) (more-at t) more.Post
@@ -372,15 +358,15 @@ more-returns-3 t c =
 
 more-returns-4 : (t : ℕ) → more-lts.Need-returns-4 (more-calls t) (more-at t) more.Post
 more-returns-4 t c =
-    let a = c .before .before .before .before .before .before .before .before .before .args in
-    let v = c .before .before .before .before .before .g .given .0 in
+    let p = c .before .before .before .before .before in
+    let a = p .before .before .before .before .args in
+    let v = p .g .given .0 in
     let q : a .left .next ≡ a .at = omega arith in (
       here-within _ _ _ _ (a .left) (omega arith) (omega arith) (omega arith),
       more-stop (a .names .now) (a .n) (a .s .now) (a .at) (a .k) (a .h) (a .b) (a .left) _
-          (c .before .before .before .before .before .before .before .operator-at .ensures .1)
-          (v .0) (v .1 .0) (c .before .before .before .before .before .g .given .1)
-          (c .before .before .before .operator .result) (c .before .before .before .operator .ensures) (inr
-          (omega (arith, c .if2 .left))) q,
+          (p .before .before .operator-at .ensures .1) (v .0) (v .1 .0) (p .g .given .1)
+          (c .before .before .before .operator .result) (c .before .before .before .operator .ensures) (inr (omega
+          (arith, c .if2 .left))) q,
     )
 
 more-returns-5 : (t : ℕ) → more-lts.Need-returns-5 (more-calls t) (more-at t) more.Post
@@ -390,9 +376,9 @@ more-returns-5 t c =
     let q : a .left .next ≡ a .at = omega arith in (
       here-within _ _ _ _ (a .left) (omega arith) (omega arith) (omega arith),
       more-stop (a .names .now) (a .n) (a .s .now) (a .at) (a .k) (a .h) (a .b) (a .left) _
-          (c .before .before .before .before .before .operator-at .ensures .1)
-          (v .0) (v .1 .0) (c .before .before .before .g .given .1) (c .before .operator .result)
-          (c .before .operator .ensures) (inl (omega (arith, c .if1 .left))) q,
+          (c .before .before .before .before .before .operator-at .ensures .1) (v .0) (v .1 .0)
+          (c .before .before .before .g .given .1) (c .before .operator .result) (c .before .operator .ensures) (inl
+          (omega (arith, c .if1 .left))) q,
     )
 
 pub +tree-atom+tree-expr+tree-inside+tree-more-spec : {M : Type 1} → statement M

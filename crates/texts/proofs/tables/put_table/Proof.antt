@@ -4,14 +4,14 @@ use native.Mathlib.Omega.{arith}
 use denote.Ref.{now}
 use lib.ListN.{length, take, drop, length-drop}
 use lib.Seq.{length-take-le}
-use Rattle.texts.proofs.RecordLaws.{two-end}
+use Rattle.texts.proofs.RecordLaws.{two-writes, two-end}
 use Rattle.texts.proofs.TableLaws.{name-end, table-writes}
 use borrow.Author.Needs.{needs}
 use Rattle.texts.proofs.tables.put_table.Statement.{statement}
 use Rattle.texts.proofs.tables.put_table.Tie as tie
 use Rattle.texts.proofs.tables.put_table.Reads as reads
 use Rattle.texts.proofs.tables.put_table.Lts as lts
-use Rattle.texts.proofs.records.put_two.Reads as put-two-reads
+use Rattle.writing.proofs.puts.put_two.Reads as put-two-reads
 use Rattle.texts.proofs.tables.put_head.Reads as put-head-reads
 use Rattle.texts.proofs.tables.put_lines.Reads as put-lines-reads
 
@@ -64,44 +64,10 @@ put-lines-requires c κs =
     )
 
 put-two-requires : tie.Need-put-two-requires
-put-two-requires c κs =
-    let a = c .before .before .before .before .before .before .before .before .before .before .before .before .args in
-    let h = name-end (a .w) (a .n) (now (a .text)) (a .from) (a .to) (c .before .before .before .before .before
-    .before .before .before .before .before .before .before .pre .3) (c .before .before .before .before .before
-    .before .before .before .before .before .before .before .pre .4) (c .before .before .before .before .before
-    .before .before .put-head .ensures) in
-    omega (
-      arith,
-      c .before .before .before .before .before .before .before .before .before .before .before .before
-          .pre .5,
-      h,
-      c .before .before .before .before .before .before .before .put-head .ensures .kept,
-      c .before
-          .before .before .put-lines .ensures .0,
-      c .before .before .before .put-lines .ensures .1,
-    )
+put-two-requires c κs = search needs
 
 put-two-requires-2 : tie.Need-put-two-requires-2
-put-two-requires-2 c κs =
-    let a = c .before .before .before .before .before .before .before .before .before .before .before .before .before
-    .before .before .before .args in
-    let h = name-end (a .w) (a .n) (now (a .text)) (a .from) (a .to) (c .before .before .before .before .before
-    .before .before .before .before .before .before .before .before .before .before .before .pre .3) (c .before
-    .before .before .before .before .before .before .before .before .before .before .before .before .before
-    .before .before .pre .4) (c .before .before .before .before .before .before .before .before .before .before
-    .before .put-head .ensures) in
-    omega (
-      arith,
-      c .before .before .before .before .before .before .before .before .before .before .before .before .before
-          .before .before .before .pre .5,
-      h,
-      c .before .before .before .before .before .before .before .before .before .before .before .put-head .ensures
-          .kept,
-      c .before .before .before .before .before .before .before .put-lines .ensures .0,
-      c .before .before .before .before .before .before .before .put-lines .ensures .1,
-      two-end 4 (c .before .before .before .put-two .ensures),
-      c .before .before .before .put-two .ensures .kept,
-    )
+put-two-requires-2 c κs = search needs
 
 same-length : tie.Need-same-length
 same-length c = search needs
@@ -110,13 +76,38 @@ returns : tie.Need-returns
 returns c =
     let a = c .before .before .before .before .before .before .before .before .before .before .before .before .before
     .before .before .before .before .before .before .args in
+    let head = c .before .before .before .before .before .before .before .before .before .before .before .before
+    .before .before .put-head .ensures in
+    let h = name-end (a .w) (a .n) (now (a .text)) (a .from) (a .to)
+    (c .before .before .before .before .before .before .before .before .before .before .before .before .before
+    .before .before .before .before .before .before .pre .3)
+    (c .before .before .before .before .before .before .before .before .before .before .before .before .before
+    .before .before .before .before .before .before .pre .4) head in
+    let lines = c .before .before .before .before .before .before .before .before .before .before .put-lines .ensures in
+    let w = two-writes 4 (omega (
+      arith,
+      c .before .before .before .before .before .before .before .before .before
+          .before .before .before .before .before .before .before .before .before .before .pre .5,
+      h,
+      head .kept,
+      lines .0,
+      lines .1,
+    )) (c .before .before .before .before .before .before .put-two .ensures) in
+    let e = two-end 4 w in
+    let v = two-writes 5 (omega (
+      arith,
+      c .before .before .before .before .before .before .before .before .before
+          .before .before .before .before .before .before .before .before .before .before .pre .5,
+      h,
+      head .kept,
+      lines .0,
+      lines .1,
+      e,
+      w .kept,
+    )) (c .before .before .put-two2 .ensures) in
     λ forms e s.
-    table-writes (now (a .names)) (take (a .to - a .from) (drop (a .from) (now (a .text)))) (a .w) (a .n) forms e (c
-    .before .before .before .before .before .before .before .before .before .before .before .before .before
-    .before .put-head .ensures)
-    (c .before .before .before .before .before .before .before .before .before .before .put-lines .ensures .2 forms e
-    s) (c .before .before .before .before .before .before .put-two .ensures) (c .before .before .put-two2
-    .ensures)
+    table-writes (now (a .names)) (take (a .to - a .from) (drop (a .from) (now (a .text)))) (a .w) (a .n) forms e head
+    (lines .2 forms e s) w v
 
 pub put-table-spec : {M : Type 1} → statement M
 put-table-spec =

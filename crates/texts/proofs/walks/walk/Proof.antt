@@ -2,7 +2,7 @@ use Rattle.texts.proofs.FrameSteps.{walking-start, walking-left, walkin
 use Rattle.texts.proofs.SplitSteps.{piece-length}
 use Rattle.texts.proofs.FrameViews.{most-up}
 use Rattle.texts.specs.FrameWalk.{isWrong, WalkedAs}
-use Rattle.texts.specs.FrameReader.{readFrame}
+use Rattle.text_laws.specs.FrameReader.{readFrame}
 use Rattle.texts.specs.declared.walks.Walked.{Walked}
 use Rattle.texts.specs.declared.walks.Stage.{Stage}
 use Rattle.rules.specs.Limits.{textMost}

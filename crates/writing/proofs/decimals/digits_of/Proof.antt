@@ -35,8 +35,11 @@ array-write-text c = search needs
 
 returns : tie.Need-returns Inv-loop μ-loop
 returns c =
-    let l = c .before .before .loop in
-    (digits-first (l .start) (l .left) (l .text) (omega arith) (omega arith) (omega arith) ∙ l .inv .2, omega arith, rw length-set (l .inv .1))
+    let l = c .before .before .loop in (
+      digits-first (l .start) (l .left) (l .text) (omega arith) (omega arith) (omega arith) ∙ l .inv .2,
+      omega arith,
+      rw length-set (l .inv .1),
+    )
 
 loop-less : tie.Need-loop-less Inv-loop μ-loop
 loop-less c = search needs

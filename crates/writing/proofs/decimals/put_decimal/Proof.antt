@@ -29,8 +29,10 @@ same-length c = search needs
 
 returns : tie.Need-returns
 returns c =
+    let c₈ = c .before .before .before .before .before .before .before .before in
     let d = c .before .before .before .before .before .before .before .digits-of in
-    rw (digits-part (d .result .text) (d .result .start) (c .before .before .before .before .before .before .before .before .before .args .number) (d .ensures .0) (d .ensures .2)) at (c .before .before .put
+    rw (digits-part (d .result .text) (d .result .start) (c₈ .before .args .number) (d .ensures .0) (d .ensures .2))
+    at (c .before .before .put
     .ensures)
 
 pub put-decimal-spec : {M : Type 1} → statement M

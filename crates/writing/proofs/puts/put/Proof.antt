@@ -26,10 +26,17 @@ sub-if2 : tie.Need-sub-if2 Inv-loop μ-loop
 sub-if2 c = search needs
 
 returns-2 : tie.Need-returns-2 Inv-loop μ-loop
-returns-2 c = put-none (now (c .before .before .args .out)) (c .before .before .args .at) (now (c .before .before .args .word)) (omega arith)
+returns-2 c =
+    put-none (now (c .before .before .args .out)) (c .before .before .args .at) (now (c .before .before .args .word))
+    (omega arith)
 
 loop-holds : tie.Need-loop-holds Inv-loop μ-loop
-loop-holds c = (omega arith, refl, paste-zero (now (c .before .before .args .out)) (c .before .before .args .at) (now (c .before .before .args .word)))
+loop-holds c = (
+  omega arith,
+  refl,
+  paste-zero (now (c .before .before .args .out)) (c .before .before .args .at) (now (c .before
+      .before .args .word)),
+)
 
 shared-slice-read-out : tie.Need-shared-slice-read-out Inv-loop μ-loop
 shared-slice-read-out c = search needs
@@ -48,11 +55,10 @@ loop-less c = search needs
 
 loop-again : tie.Need-loop-again Inv-loop μ-loop
 loop-again c =
-    let l = c .before .before .loop in (
-      omega arith,
-      rw length-set (l .inv .1),
-      rw (l .inv .2, add-one) (paste-suc (now (c .before .before .before .before .before .args .out)) (c .before .before .before .before .before .args .at) (now (c .before .before .before .before .before .args .word)) (l .i) 0 (omega arith) (omega arith)),
-    )
+    let a = c .before .before .before .before .before .args in
+    let l = c .before .before .loop in
+    let more = paste-suc (now (a .out)) (a .at) (now (a .word)) (l .i) 0 (omega arith) (omega arith) in
+    (omega arith, rw length-set (l .inv .1), rw (l .inv .2, add-one) more)
 
 add-result : tie.Need-add-result Inv-loop μ-loop
 add-result c = search needs
@@ -64,7 +70,8 @@ returns-3 : tie.Need-returns-3 Inv-loop μ-loop
 returns-3 c =
     let l = c .before .loop in
     let e : l .i ≡ length (now (c .before .before .before .before .args .word)) = omega arith in
-    rw (l .inv .2, e, take-length) (put-some (now (c .before .before .before .before .args .out)) (c .before .before .before .before .args .at) (now (c .before .before .before .before .args .word)) (omega arith))
+    rw (l .inv .2, e, take-length) (put-some (now (c .before .before .before .before .args .out)) (c .before .before
+    .before .before .args .at) (now (c .before .before .before .before .args .word)) (omega arith))
 
 pub put-spec : {M : Type 1} → statement M
 put-spec =

@@ -15,7 +15,8 @@ use Rattle.writing.proofs.puts.put_two.Reads as put-two-reads
 returns : tie.Need-returns
 returns c =
     let w = now (c .before .before .before .args .word) in
-    put-none (now (c .before .before .before .args .out)) (c .before .before .before .args .at) (counted w) (omega (arith, counted-length w))
+    put-none (now (c .before .before .before .args .out)) (c .before .before .before .args .at) (counted w) (omega
+    (arith, counted-length w))
 
 sub-room : tie.Need-sub-room
 sub-room c = search needs
@@ -23,12 +24,14 @@ sub-room c = search needs
 returns-2 : tie.Need-returns-2
 returns-2 c =
     let w = now (c .before .before .before .before .args .word) in
-    put-none (now (c .before .before .before .before .args .out)) (c .before .before .before .before .args .at) (counted w) (omega (arith, counted-length w))
+    put-none (now (c .before .before .before .before .args .out)) (c .before .before .before .before .args .at)
+    (counted w) (omega (arith, counted-length w))
 
 returns-3 : tie.Need-returns-3
 returns-3 c =
     let w = now (c .before .before .before .before .before .args .word) in
-    put-none (now (c .before .before .before .before .before .args .out)) (c .before .before .before .before .before .args .at) (counted w) (omega (arith, counted-length w))
+    put-none (now (c .before .before .before .before .before .args .out)) (c .before .before .before .before .before
+    .args .at) (counted w) (omega (arith, counted-length w))
 
 put-two-requires : tie.Need-put-two-requires
 put-two-requires c κs = search needs
@@ -41,8 +44,11 @@ same-length c = search needs
 
 returns-4 : tie.Need-returns-4
 returns-4 c =
-    let w = now (c .before .before .before .before .before .before .before .before .before .before .before .before .before .args .word) in
-    put-join (now (c .before .before .before .before .before .before .before .before .before .before .before .before .before .args .out)) (c .before .before .before .before .before .before .before .before .before .before .before .before .before .args .at) (le2 (length w)) w (omega (arith, counted-length w)) (c .before .before .before .before .before .before .put-two .ensures)
+    let c₈ = c .before .before .before .before .before .before .before .before in
+    let w = now (c₈ .before .before .before .before .before .args .word) in
+    put-join (now (c₈ .before .before .before .before .before .args .out)) (c₈ .before .before .before .before
+    .before .args .at) (le2 (length w)) w (omega (arith, counted-length w)) (c .before .before .before .before
+    .before .before .put-two .ensures)
     (c .before .before .put .ensures)
 
 pub put-counted-spec : {M : Type 1} → statement M

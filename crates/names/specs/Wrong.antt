@@ -1,0 +1,137 @@
+-- Answers of wrong programs: of each, what is claimed is a promise, and it is false (proofs/RuledOut). A program that
+-- keeps the promises is none of these. [01, The lines of a text] [01, The form for each place]
+use mathlib.Core.Path.{_≡_}
+use mathlib.Core.Bool.{Bool, true, false}
+use mathlib.Core.List.{List, [], _∷_, _++_}
+use Prim.Native.Nat.{ℕ}
+use lib.ListN.{getD, replicate, set}
+use Rattle.base.specs.Bytes.{bytes}
+use Rattle.base.specs.Lists.{same}
+use Rattle.rules.specs.Limits.{fieldsMost, shortMost}
+use Rattle.rules.specs.Names.{isLabel, isShort, isReserved}
+use Rattle.names.specs.Classes.{digitClass, operatorClass, spaceClass, classTable, hasClass, isWordIn}
+use Rattle.names.specs.Repeats.{padTo, sameName, namesAlike, firstRepeat, remainders, startOf, atMost}
+
+pub data Claim : Type 0 where
+  -- the table of classes
+  makesTable : List ℕ → Claim
+  -- what a lent table says of a byte: a digit, an operator, a space, a letter or digit
+  saysDigit : List ℕ → ℕ → Bool → Claim
+  saysOperator : List ℕ → ℕ → Bool → Claim
+  saysSpace : List ℕ → ℕ → Bool → Claim
+  saysWord : List ℕ → ℕ → Bool → Claim
+  -- whether a word is a label, a short name, reserved, and the same as another
+  saysLabel : List ℕ → Bool → Claim
+  saysShort : List ℕ → Bool → Claim
+  saysReserved : List ℕ → Bool → Claim
+  saysSame : List ℕ → List ℕ → Bool → Claim
+  -- the byte of an index
+  answersByte : List ℕ → ℕ → ℕ → Claim
+  -- a name as it is held, and whether two held ones are the same
+  holds : List ℕ → List ℕ → Claim
+  saysAlike : List ℕ → List ℕ → Bool → Claim
+  -- where the names that may be like the one of an index begin, and the first of n that repeats an earlier one
+  begins : List ℕ → ℕ → ℕ → ℕ → Claim
+  repeatsAt : List (List ℕ) → ℕ → ℕ → Claim
+
+abbrev pub Claimed : Claim → Type 0
+Claimed (makesTable r) = r ≡ classTable
+Claimed (saysDigit classes b r) = r ≡ hasClass digitClass classes b
+Claimed (saysOperator classes b r) = r ≡ hasClass operatorClass classes b
+Claimed (saysSpace classes b r) = r ≡ hasClass spaceClass classes b
+Claimed (saysWord classes b r) = r ≡ isWordIn classes b
+Claimed (saysLabel w r) = r ≡ isLabel w
+Claimed (saysShort w r) = r ≡ isShort w
+Claimed (saysReserved w r) = r ≡ isReserved w
+Claimed (saysSame a b r) = r ≡ same a b
+Claimed (answersByte w i r) = r ≡ getD w i 0
+Claimed (holds w r) = r ≡ padTo shortMost w
+Claimed (saysAlike a b r) = r ≡ sameName a b
+Claimed (begins seen key j r) = r ≡ startOf seen key j
+Claimed (repeatsAt names n r) = r ≡ firstRepeat (namesAlike names) (atMost fieldsMost n)
+
+abbrev pub AllFalse : List Claim → Type 0
+AllFalse [] = Unit {0}
+AllFalse (c ∷ cs) = (Claimed c → ⊥) × AllFalse cs
+
+-- ── short ways to write what is lent ──
+
+-- a table in which no byte has a class
+abbrev pub noClasses : List ℕ
+noClasses = replicate 256 0
+
+-- A, B, none, A, none
+abbrev pub lentNames : List (List ℕ)
+lentNames =
+    padTo shortMost (bytes "A")
+    ∷ padTo shortMost (bytes "B")
+    ∷ padTo shortMost []
+    ∷ padTo shortMost (bytes "A")
+    ∷ padTo shortMost []
+    ∷ []
+
+-- one remainder is marked
+abbrev pub marked : ℕ → List ℕ
+marked i = set (replicate remainders 0) i 1
+
+-- ── the answers ──
+
+abbrev pub wrong : List Claim
+wrong =
+    -- every byte a letter; a space counted as an operator
+    makesTable (replicate 256 1)
+    ∷ makesTable (set classTable 32 3)
+    -- a letter taken for a digit; the right table instead of the lent one
+    ∷ saysDigit classTable 65 true
+    ∷ saysDigit noClasses 48 true
+    -- a parenthesis taken for an operator; `!` left out
+    ∷ saysOperator classTable 40 true
+    ∷ saysOperator classTable 33 false
+    -- a tab taken for a space; no space known
+    ∷ saysSpace classTable 9 true
+    ∷ saysSpace classTable 32 false
+    -- operators in words; digits left out
+    ∷ saysWord classTable 43 true
+    ∷ saysWord classTable 48 false
+    -- a label of 41 bytes, and one of 40 refused; two spaces together; two hyphens refused; a hyphen at the end; none
+    ∷ saysLabel (replicate 41 65) true
+    ∷ saysLabel (replicate 40 65) false
+    ∷ saysLabel (bytes "A  B") true
+    ∷ saysLabel (bytes "A--B") false
+    ∷ saysLabel (bytes "A-") true
+    ∷ saysLabel [] true
+    -- an underscore for the hyphen
+    ∷ saysLabel (bytes "A_B") true
+    -- a short name of 9 bytes, and one of 8 refused; a digit in front; a reserved word; only reserved words
+    ∷ saysShort (bytes "ABCDEFGHI") true
+    ∷ saysShort (bytes "ABCDEFGH") false
+    ∷ saysShort (bytes "1A") true
+    ∷ saysShort (bytes "bits") true
+    ∷ saysShort (bytes "Len") false
+    -- another reserved word; one left out
+    ∷ saysReserved (bytes "Variable") true
+    ∷ saysReserved (bytes "present") false
+    -- a word and one that it begins; case ignored; nothing the same
+    ∷ saysSame (bytes "bit") (bytes "bits") true
+    ∷ saysSame (bytes "V") (bytes "v") true
+    ∷ saysSame (bytes "bits") (bytes "bits") false
+    -- the first byte in every place; the last one behind the end
+    ∷ answersByte (bytes "AB") 1 65
+    ∷ answersByte (bytes "AB") 2 66
+    -- a held name cut at 7 bytes; the first byte in every place; spaces behind its end
+    ∷ holds (bytes "ABCDEFGH") (padTo shortMost (bytes "ABCDEFG"))
+    ∷ holds (bytes "AB") (replicate shortMost 65)
+    ∷ holds (bytes "AB") (bytes "AB      ")
+    -- two fields without a short name repeat each other; names that begin alike; no name like itself
+    ∷ saysAlike (padTo shortMost []) (padTo shortMost []) true
+    ∷ saysAlike (padTo shortMost (bytes "A")) (padTo shortMost (bytes "AB")) true
+    ∷ saysAlike (padTo shortMost (bytes "A")) (padTo shortMost (bytes "A")) false
+    -- the search left out where the key was seen; another remainder of the key
+    ∷ begins (marked 60) 60 7 7
+    ∷ begins (marked 1) 60 7 0
+    -- the earlier of two repeats; counted from 1; two without a name; beyond the names that were asked for
+    ∷ repeatsAt lentNames 5 0
+    ∷ repeatsAt lentNames 5 4
+    ∷ repeatsAt (padTo shortMost [] ∷ padTo shortMost [] ∷ []) 2 1
+    ∷ repeatsAt lentNames 3 1
+    ∷ []

@@ -1,0 +1,61 @@
+use mathlib.Core.Path.{refl}
+use Rattle.packets.specs.NamesTest.{labelAt, labelKey}
+use borrow.Author.Needs.{needs}
+use Rattle.packets.proofs.unique.gather.Statement.{statement}
+use Rattle.packets.proofs.unique.gather.Tie as tie
+use Rattle.packets.proofs.unique.gather.Reads as reads
+use Rattle.packets.proofs.unique.gather.Lts as lts
+use Rattle.packets.proofs.unique.held_short.Reads as held-short-reads
+use Rattle.packets.proofs.unique.label_key.Reads as label-key-reads
+
+mul-places : tie.Need-mul-places
+mul-places c = search needs
+
+slice-write-places : tie.Need-slice-write-places
+slice-write-places c = search needs
+
+label-key-requires : tie.Need-label-key-requires
+label-key-requires c κs = search needs
+
+mul-keys : tie.Need-mul-keys
+mul-keys c = search needs
+
+slice-write-keys : tie.Need-slice-write-keys
+slice-write-keys c = search needs
+
+held-short-requires : tie.Need-held-short-requires
+held-short-requires c κs = search needs
+
+mul-t8 : tie.Need-mul-t8
+mul-t8 c = search needs
+
+element-set-from-names : tie.Need-element-set-from-names
+element-set-from-names c = search needs
+
+same-length : tie.Need-same-length
+same-length c = search needs
+
+same-length-2 : tie.Need-same-length-2
+same-length-2 c = search needs
+
+returns : tie.Need-returns
+unfolding labelAt labelKey
+returns c =
+    let e = c .before .before .before .before .before .pre .0 .1 in
+    (refl, (rw (c .before .label-key .ensures, e), rw (c .held-short .ensures, e)))
+
+pub gather-spec : {M : Type 1} → statement M
+gather-spec =
+    tie.close
+    (tie.spec
+    mul-places
+    slice-write-places
+    label-key-requires
+    mul-keys
+    slice-write-keys
+    held-short-requires
+    mul-t8
+    element-set-from-names
+    same-length
+    same-length-2
+    returns)

@@ -1,0 +1,395 @@
+-- What is kept has a fixed size: the bounds that the code's buffers need.
+use mathlib.Core.Path.{_≡_, refl, ap, ap₂, _∙_}
+use mathlib.Core.Bool.{Bool, true, false, cond, _&&_}
+use mathlib.Core.List.{List, [], _∷_, _++_, map, foldl}
+use mathlib.Core.Option.{Option, none, some, Option·map}
+use Prim.Native.Nat.{ℕ, suc, _-_, _≤_, _<_, max}
+use native.Mathlib.Omega.{arith}
+use lib.Dec.{ltb, leb, eqb}
+use lib.ListN.{length, length-append, take, drop}
+use borrow.Author.Tests.{ltb-true, ltb-false, leb-true, leb-false}
+use Rattle.base.specs.Bytes.{bytes}
+use Rattle.base.specs.Lists.{all, listOf, same}
+use Rattle.base.proofs.Lists.{and-left, and-right, and-both, all-append, not-both, or-false-right}
+use Rattle.rules.specs.Answers.{Answer, refused}
+use Rattle.rules.specs.Limits.{textMost, fieldsMost, labelMost}
+use Rattle.rules.specs.Names.{isLabel, isAllowed, lineFeed}
+use Rattle.rules.specs.Operators.{code}
+use Rattle.rules.specs.Trees.{Tree, num, read, two, negation, depth, storedTree, isInRange, isSmall, isNumber}
+use Rattle.rules.specs.Fields.{Width, fixed, measured, rest, Field, Form, trees, widthTrees}
+use Rattle.rules.specs.Within.{isWidth, isFormed, keepsSize}
+use Rattle.rules.specs.Frames.{Cell, Row, bitRow, longRow, isCell, isRow, Slot, slotsIn, tens, units, border}
+use Rattle.text_laws.specs.FrameReader.{readName, readTens, readRow, closing}
+use Rattle.text_laws.specs.LineReader.{readForm}
+use Rattle.text_laws.specs.Resolving.{indexOf, renameTree, renameWidth, renameField}
+use Rattle.text_laws.proofs.FormExact.{form-sound}
+use Rattle.text_laws.proofs.RowReader.{Reads, row-sound}
+use Rattle.text_laws.specs.Lowest.{lower, broken}
+use Rattle.text_laws.specs.Judging.{faces, resolvedIn, rules, Judged, isOpen, isMany, isFull, many}
+use Rattle.text_laws.specs.Judging.{withForm, judge}
+use Rattle.text_laws.specs.Fold.{Stage, opening, blank, tensRuler, unitsRuler, topBorder, firstRow, rowBorder}
+use Rattle.text_laws.specs.Fold.{rowOrBlank, whereLine, lastBlank, firstField, fieldLine, lost, Found}
+use Rattle.text_laws.specs.Fold.{Kept, fresh, onward, losing, wrong, expect, openingName, withName, withWidth}
+use Rattle.text_laws.specs.Fold.{withRow, withField, linedAt, lined, put, over, fed, kept}
+
+-- ── names resolved in whatever way: the same form and size ──
+
+module _ {N : Type 0} (g : List ℕ → N) where
+  same-depth : (t : Tree (List ℕ)) → depth (renameTree g t) ≡ depth t
+  unfolding depth renameTree
+  same-depth (num n) = refl
+  same-depth (read w) = refl
+  same-depth (two o x y) = ap₂ (λ a b. suc (max a b)) (same-depth x) (same-depth y)
+  same-depth (negation x) = ap suc (same-depth x)
+
+  same-stored : (t : Tree (List ℕ)) → storedTree (λ a. 0) (renameTree g t) ≡ storedTree (λ w. 0) t
+  unfolding storedTree renameTree
+  same-stored (num n) = refl
+  same-stored (read w) = refl
+  same-stored (two o x y) = ap₂ (λ (a b : List ℕ). code o ∷ (a ++ b)) (same-stored x) (same-stored y)
+  same-stored (negation x) = rw (same-stored x) refl
+
+  same-small : (t : Tree (List ℕ)) → isSmall (renameTree g t) ≡ isSmall t
+  same-small t = rw (same-depth t, same-stored t) refl
+
+  same-range : (t : Tree (List ℕ)) → isInRange (renameTree g t) ≡ isInRange t
+  unfolding isInRange renameTree
+  same-range (num n) = refl
+  same-range (read w) = refl
+  same-range (two o x y) = ap₂ _&&_ (same-range x) (same-range y)
+  same-range (negation x) = same-range x
+
+  same-number : (t : Tree (List ℕ)) → isNumber (renameTree g t) ≡ isNumber t
+  unfolding renameTree
+  same-number (num n) = refl
+  same-number (read w) = refl
+  same-number (two o x y) = refl
+  same-number (negation x) = refl
+
+  -- a test that says the same of a tree and the renamed one, over the trees of a field
+  module _ (p : Tree N → Bool) (q : Tree (List ℕ) → Bool) (h : (t : Tree (List ℕ)) → p (renameTree g t) ≡ q t) where
+    maybe-trees : (o : Option (Tree (List ℕ))) (l : List (Tree N)) (m : List (Tree (List ℕ))) → all p l ≡ all q m
+        → all p (listOf (Option·map (renameTree g) o) ++ l) ≡ all q (listOf o ++ m)
+    unfolding all
+    maybe-trees none l m e = e
+    maybe-trees (some t) l m e = rw (h t, e) refl
+
+    width-trees : (v : Width (List ℕ)) (l : List (Tree N)) (m : List (Tree (List ℕ))) → all p l ≡ all q m
+        → all p (widthTrees (renameWidth g v) ++ l) ≡ all q (widthTrees v ++ m)
+    unfolding all
+    width-trees (fixed n) l m e = e
+    width-trees (measured u t) l m e = rw (h t, e) refl
+    width-trees rest l m e = e
+
+    last-trees : (o : Option (Tree (List ℕ))) → all p (listOf (Option·map (renameTree g) o)) ≡ all q (listOf o)
+    unfolding all
+    last-trees none = refl
+    last-trees (some t) = rw (h t) refl
+
+    field-trees : (x : Form) → all p (trees (renameField g x)) ≡ all q (trees x)
+    field-trees x =
+        width-trees (x .width) _ (listOf (x .constraint) ++ listOf (x .condition))
+        (maybe-trees (x .constraint) _ (listOf (x .condition)) (last-trees (x .condition)))
+
+  same-width : (v : Width (List ℕ)) → isWidth (renameWidth g v) ≡ isWidth v
+  same-width (fixed n) = refl
+  same-width (measured u t) = rw (same-number t) refl
+  same-width rest = refl
+
+  same-formed : (x : Form) → isFormed (renameField g x) ≡ isFormed x
+  same-formed x = rw (same-width (x .width), field-trees isInRange isInRange same-range x) refl
+
+-- formed and of the right size
+abbrev pub isKept : {N : Type 0} → Field N → Bool
+isKept f = isFormed f && all isSmall (trees f)
+
+kept-renamed : (g : List ℕ → ℕ) (x : Form) → isKept (renameField g x) ≡ isKept x
+kept-renamed g x = rw (same-formed g x, field-trees g isSmall isSmall (same-small g) x) refl
+
+-- ── field lines ──
+
+pub record FewFields (j : Judged) : Type 0 where
+  pub count : j .count ≤ fieldsMost
+  pub fields : length (j .fields) ≤ j .count
+  pub formed : all isKept (j .fields) ≡ true
+
+-- behind a line over size nothing is kept
+open-small : (cells : List Slot) (p : ℕ) (o : Option Answer) (before : List Form) (x : Form)
+    → isOpen (lower o (broken 6 p (rules cells) before x)) ≡ true → keepsSize before x ≡ true
+unfolding broken
+open-small cells p o before x h = go (keepsSize before x) refl
+  where
+    closed : (a : Option Answer) → isOpen (lower a (some (refused 6 p))) ≡ false
+    closed none = refl
+    closed (some a) = last (ltb 6 (a .number)) refl
+      where
+        last : (b : Bool) → ltb 6 (a .number) ≡ b → isOpen (cond b (some (refused 6 p)) (some a)) ≡ false
+        last true e = refl
+        last false e = e
+
+    go : (b : Bool) → keepsSize before x ≡ b → keepsSize before x ≡ true
+    go true e = e
+    go false e = absurd (not-both (isOpen (lower o (broken 6 p (rules cells) before x))) h (rw e (closed o)))
+
+few-form : (cells : List Slot) (p : ℕ) (j : Judged) (l : List ℕ) (o : Option Form) → readForm l ≡ o
+    → j .count < fieldsMost → FewFields j → FewFields (withForm cells p j o)
+unfolding withForm
+few-form cells p j l none e lt h = record {
+  count = lt;
+  fields = (let n = h .fields in omega arith);
+  formed = h .formed;
+}
+few-form cells p j l (some x) e lt h =
+    go (isOpen (lower (j .lowest) (broken 6 p (rules cells) (faces (j .fields)) x))) refl
+  where
+    here : Option Answer
+    here = lower (j .lowest) (broken 6 p (rules cells) (faces (j .fields)) x)
+
+    more : List (Field ℕ)
+    more = j .fields ++ (resolvedIn (j .fields) x ∷ [])
+
+    formed-x : isOpen here ≡ true → isKept (resolvedIn (j .fields) x) ≡ true
+    formed-x k =
+        kept-renamed (indexOf (faces (j .fields) ++ (x ∷ []))) x
+        ∙ and-both (isFormed x) (all isSmall (trees x)) (form-sound l x e .formed)
+        (open-small cells p (j .lowest) (faces (j .fields)) x k)
+
+    go : (b : Bool) → isOpen here ≡ b
+        → FewFields (record { count = suc (j .count); fields = cond b more (j .fields); lowest = here })
+    go true k = record {
+      count = lt;
+      fields = (let n = h .fields in let m = length-append (j .fields) (resolvedIn (j .fields) x ∷ []) in
+          omega (arith, n, m));
+      formed = all-append isKept (j .fields) (resolvedIn (j .fields) x ∷ []) (h .formed)
+          (unfold all in rw (formed-x k) refl);
+    }
+    go false k = record {
+      count = lt;
+      fields = (let n = h .fields in omega arith);
+      formed = h .formed;
+    }
+
+few-judge : (cells : List Slot) (p : ℕ) (j : Judged) (l : List ℕ) → FewFields j → FewFields (judge cells p j l)
+unfolding judge
+few-judge cells p j l h = go (isFull j) refl
+  where
+    go : (b : Bool) → isFull j ≡ b → FewFields (cond b (many j) (withForm cells p j (readForm l)))
+    go true e = record { count = h .count; fields = h .fields; formed = h .formed }
+    go false e =
+        few-form cells p j l (readForm l) refl
+        (leb-false fieldsMost (j .count) (or-false-right (isMany (j .lowest)) (leb fieldsMost (j .count)) e)) h
+
+-- ── lines ──
+
+pub record Small (f : Found) : Type 0 where
+  pub name : length (f .name) ≤ labelMost
+  pub width : f .width ≤ 32
+  pub cells : length (f .cells) ≤ fieldsMost
+  pub texts : all (λ c. isLabel (c .text)) (f .cells) ≡ true
+  pub judged : FewFields (f .judged)
+
+small-same : (f g : Found) → f .name ≡ g .name → f .width ≡ g .width → f .cells ≡ g .cells → FewFields (g .judged)
+    → Small f → Small g
+small-same f g name width cells h s = record {
+  name = rw name at (s .name);
+  width = rw width at (s .width);
+  cells = rw cells at (s .cells);
+  texts = rw cells at (s .texts);
+  judged = h;
+}
+
+small-onward : (s : Stage) (f : Found) → Small f → Small (onward s f)
+small-onward s f h = small-same f (onward s f) refl refl refl (h .judged) h
+
+small-losing : (a : Answer) (f : Found) → Small f → Small (losing a f)
+small-losing a f h = small-same f (losing a f) refl refl refl
+    (record { count = h .judged .count; fields = h .judged .fields; formed = h .judged .formed }) h
+
+small-expect : (w : List ℕ) (s : Stage) (f : Found) (l : List ℕ) → Small f → Small (expect w s f l)
+small-expect w s f l h = go (same l w)
+  where
+    go : (b : Bool) → Small (cond b (onward s f) (wrong f))
+    go true = small-onward s f h
+    go false = small-losing (refused 3 (suc (f .lines))) f h
+
+label-short : (w : List ℕ) → isLabel w ≡ true → length w ≤ labelMost
+unfolding isLabel
+label-short w h = leb-true (length w) labelMost (and-left (leb (length w) labelMost) _ h)
+
+-- a NAME is a label
+abbrev Labels : Option (List ℕ) → Type 0
+Labels none = Unit {0}
+Labels (some n) = isLabel n ≡ true
+
+name-label : (s : List ℕ) → Labels (readName s)
+unfolding readName
+name-label s = go (length s - length closing)
+  where
+    kept-name : (n : ℕ) (x : Bool) → (same (drop n s) closing && isLabel (take n s)) ≡ x
+        → Labels (cond x (some (take n s)) none)
+    kept-name n true e = and-right (same (drop n s) closing) (isLabel (take n s)) e
+    kept-name n false e = tt
+
+    go : (n : ℕ) → Labels (cond (same (drop n s) closing && isLabel (take n s)) (some (take n s)) none)
+    go n = kept-name n (same (drop n s) closing && isLabel (take n s)) refl
+
+opening-label : (l : List ℕ) → Labels (openingName l)
+unfolding openingName
+opening-label l = go (same (take 3 l) (bytes "An ")) (same (take 2 l) (bytes "A "))
+  where
+    go : (a b : Bool) → Labels (cond a (readName (drop 3 l)) (cond b (readName (drop 2 l)) none))
+    go true b = name-label (drop 3 l)
+    go false true = name-label (drop 2 l)
+    go false false = tt
+
+small-name : (f : Found) (o : Option (List ℕ)) → Labels o → Small f → Small (withName f o)
+small-name f none k h = small-losing (refused 3 (suc (f .lines))) f h
+small-name f (some n) k h = record {
+  name = label-short n k;
+  width = h .width;
+  cells = h .cells;
+  texts = h .texts;
+  judged = h .judged;
+}
+
+small-tens : (f : Found) (l : List ℕ) → Small f → Small (withWidth f (readTens l))
+unfolding readTens
+small-tens f l h = go (same l (tens 8)) (same l (tens 16)) (same l (tens 32))
+  where
+    some-width : (w : ℕ) → w ≤ 32 → Small (withWidth f (some w))
+    some-width w le = record {
+      name = h .name;
+      width = le;
+      cells = h .cells;
+      texts = h .texts;
+      judged = h .judged;
+    }
+
+    go : (a b c : Bool) → Small (withWidth f (cond a (some 8) (cond b (some 16) (cond c (some 32) none))))
+    go true b c = some-width 8 (omega arith)
+    go false true c = some-width 16 (omega arith)
+    go false false true = some-width 32 (omega arith)
+    go false false false = small-losing (refused 3 (suc (f .lines))) f h
+
+-- a row's cells show labels
+cells-labels : (cs : List Cell) → all isCell cs ≡ true
+    → all (λ (c : Slot). isLabel (c .text)) (map (λ (c : Cell). record { long = false; bits = c .bits; text = c .text }) cs)
+    ≡ true
+unfolding all
+cells-labels [] h = refl
+cells-labels (c ∷ cs) h =
+    let k : isCell c ≡ true = and-left (isCell c) (all isCell cs) h in
+    rw (and-left (isLabel (c .text)) _ k, cells-labels cs (and-right (isCell c) (all isCell cs) h)) refl
+
+row-labels : (w : ℕ) (r : Row) → isRow w r ≡ true → all (λ c. isLabel (c .text)) (slotsIn r) ≡ true
+unfolding all
+row-labels w (bitRow cs) h = cells-labels cs (and-left (all isCell cs) _ h)
+row-labels w (longRow c) h =
+    let k : isCell c ≡ true = and-left (isCell c) (eqb (c .bits) w) h in
+    rw (and-left (isLabel (c .text)) _ k) refl
+
+small-row : (w : ℕ) (l : List ℕ) (f : Found) (o : Option Row) → Reads w l o → Small f → Small (withRow f o)
+small-row w l f none k h = small-losing (refused 3 (suc (f .lines))) f h
+small-row w l f (some r) k h = go (ltb fieldsMost (length (f .cells ++ slotsIn r))) refl
+  where
+    go : (b : Bool) → ltb fieldsMost (length (f .cells ++ slotsIn r)) ≡ b
+        → Small (record {
+          lines = suc (f .lines);
+          stage = rowBorder;
+          name = f .name;
+          width = f .width;
+          cells = cond b (f .cells) (f .cells ++ slotsIn r);
+          judged = cond b (many (f .judged)) (f .judged);
+        })
+    go true e = record {
+      name = h .name;
+      width = h .width;
+      cells = h .cells;
+      texts = h .texts;
+      judged = record { count = h .judged .count; fields = h .judged .fields; formed = h .judged .formed };
+    }
+    go false e = record {
+      name = h .name;
+      width = h .width;
+      cells = ltb-false fieldsMost (length (f .cells ++ slotsIn r)) e;
+      texts = all-append (λ c. isLabel (c .text)) (f .cells) (slotsIn r) (h .texts) (row-labels w r (k .0));
+      judged = h .judged;
+    }
+
+small-field : (f : Found) (l : List ℕ) → Small f → Small (withField f l)
+small-field f l h =
+    small-same f (withField f l) refl refl refl (few-judge (f .cells) (suc (f .lines)) (f .judged) l (h .judged)) h
+
+pub small-line : (s : Stage) (f : Found) (l : List ℕ) → Small f → Small (linedAt s f l)
+unfolding linedAt
+small-line opening f l h = small-name f (openingName l) (opening-label l) h
+small-line blank f l h = small-expect [] tensRuler f l h
+small-line tensRuler f l h = small-tens f l h
+small-line unitsRuler f l h = small-expect (units (f .width)) topBorder f l h
+small-line topBorder f l h = small-expect (border (f .width)) firstRow f l h
+small-line firstRow f l h = small-row (f .width) l f (readRow (f .width) l) (row-sound (f .width) l) h
+small-line rowBorder f l h = small-expect (border (f .width)) rowOrBlank f l h
+small-line rowOrBlank f [] h = small-onward whereLine f h
+small-line rowOrBlank f (b ∷ l) h =
+    small-row (f .width) (b ∷ l) f (readRow (f .width) (b ∷ l)) (row-sound (f .width) (b ∷ l)) h
+small-line whereLine f l h = small-expect (bytes "where:") lastBlank f l h
+small-line lastBlank f l h = small-expect [] firstField f l h
+small-line firstField f l h = small-field f l h
+small-line fieldLine f l h = small-field f l h
+small-line lost f l h = h
+
+-- ── bytes ──
+
+pub record Bounded (k : Kept) : Type 0 where
+  pub size : k .size ≤ textMost
+  pub line : length (k .line) ≤ k .size
+  pub found : Small (k .found)
+
+bounded-fed : (k : Kept) (b : ℕ) → Bounded k → Bounded (fed k b)
+unfolding fed
+bounded-fed k b h = go (ltb (k .size) textMost) refl (isAllowed b) (eqb b lineFeed)
+  where
+    go : (x : Bool) → ltb (k .size) textMost ≡ x → (y z : Bool)
+        → Bounded (cond x
+        (cond y (cond z (put k [] (lined (k .found) (k .line))) (put k (k .line ++ (b ∷ [])) (k .found)))
+        (put k (k .line) (losing (refused 2 0) (k .found))))
+        (over k))
+    go true e true true = record {
+      size = ltb-true (k .size) textMost e;
+      line = omega arith;
+      found = small-line (k .found .stage) (k .found) (k .line) (h .found);
+    }
+    go true e true false = record {
+      size = ltb-true (k .size) textMost e;
+      line = (let n = h .line in let m = length-append (k .line) (b ∷ []) in omega (arith, n, m));
+      found = h .found;
+    }
+    go true e false z = record {
+      size = ltb-true (k .size) textMost e;
+      line = (let n = h .line in omega arith);
+      found = small-losing (refused 2 0) (k .found) (h .found);
+    }
+    go false e y z = record {
+      size = h .size;
+      line = h .line;
+      found = small-losing (refused 1 0) (k .found) (h .found);
+    }
+
+bounded-all : (t : List ℕ) (k : Kept) → Bounded k → Bounded (foldl fed k t)
+bounded-all [] k h = h
+bounded-all (b ∷ t) k h = bounded-all t (fed k b) (bounded-fed k b h)
+
+-- whatever the text
+pub kept-bounded : (t : List ℕ) → Bounded (kept t)
+unfolding kept all
+kept-bounded t = bounded-all t fresh (record {
+  size = omega arith;
+  line = omega arith;
+  found = record {
+    name = omega arith;
+    width = omega arith;
+    cells = omega arith;
+    texts = refl;
+    judged = record { count = omega arith; fields = omega arith; formed = refl };
+  };
+})

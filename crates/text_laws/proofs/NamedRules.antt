@@ -1,0 +1,142 @@
+-- A description's fields and the forms of its lines keep the same rules.
+use mathlib.Core.Path.{_≡_, refl, ap, sym, _∙_}
+use mathlib.Core.Bool.{Bool, true, false, cond, _||_, not}
+use mathlib.Core.List.{List, [], _∷_}
+use mathlib.Core.Option.{Option, none, some, Option·none-ne-some}
+use Prim.Native.Nat.{ℕ, suc, _<_}
+use native.Mathlib.Omega.{arith}
+use native.Mathlib.Decide.{decLt}
+use lib.ListN.{length, getElem?}
+use Rattle.base.specs.Lists.{any, same, Each, firstBreak, listOf}
+use Rattle.base.proofs.Lists.{or-right, not-both, same-true, same-self}
+use Rattle.base.proofs.Lookups.{each-any, each-breaks, kept-at, element-below, element-parts, element-any}
+use Rattle.rules.specs.Names.{isShort}
+use Rattle.rules.specs.Fields.{Field, Form, isRest, readNames}
+use Rattle.rules.specs.Within.{sameShort, keepsForm, keepsSize, clash, keepsNames, keepsRest}
+use Rattle.rules.specs.Frames.{Slot}
+use Rattle.rules.specs.Spelling.{shows, mismatch, NameOf}
+use Rattle.text_laws.proofs.NamedFields.{
+  NamedField,
+  formed-names,
+  same-small,
+  same-shows,
+  same-fixed-width,
+  same-rest-width,
+  same-none,
+}
+
+-- ── the field of a name ──
+
+-- NameOf, of fields over anything
+abbrev pub NameIn : {N : Type 0} → List (Field N) → ℕ → List ℕ → Type 0
+NameIn {N} fields i s = (f : Field N) × (getElem? fields i ≡ some f) × (any (same s) (readNames f) ≡ true)
+
+-- the name is the short name
+listed-is : (o : Option (List ℕ)) (w : List ℕ) → any (same w) (listOf o) ≡ true → o ≡ some w
+unfolding any
+listed-is none w h = absurd (not-both false h refl)
+listed-is (some a) w h = go (same w a) refl h
+  where
+    go : (b : Bool) → same w a ≡ b → b || false ≡ true → some a ≡ some w
+    go true e k = ap {B = Option (List ℕ)} some (sym (same-true w a e))
+    go false e k = absurd (not-both false k refl)
+
+both-short : (a b : Option (List ℕ)) (w : List ℕ) → any (same w) (listOf a) ≡ true → any (same w) (listOf b) ≡ true
+    → sameShort a b ≡ true
+both-short a b w p q = rw (listed-is a w p, listed-is b w q) (same-self w)
+
+module _ {N : Type 0} (fields : List (Field N)) where
+  name-once : firstBreak keepsNames [] fields ≡ none → (i j : ℕ) (w : List ℕ) → NameIn fields i w → NameIn fields j w
+      → i < j → ⊥
+  name-once h i j w p q lt =
+      let x = p .0 in
+      let y = q .0 in
+      let s = element-parts fields j y (q .1) in
+      let k : keepsNames (s .0) y ≡ true =
+      kept-at keepsNames (s .0) y (s .1) (rw (s .2) at h) in
+      let below : i < length (s .0) = omega (arith, s .3) in
+      let e : getElem? (s .0) i ≡ some x =
+      sym (element-below (s .0) (y ∷ s .1) i below) ∙ (rw (s .2) at (p .1)) in
+      let c : clash y x ≡ true =
+      or-right (same (y .label) (x .label)) (sameShort (y .short) (x .short))
+      (both-short (y .short) (x .short) w (q .2) (p .2)) in
+      let a : any (clash y) (s .0) ≡ true = element-any (clash y) (s .0) i x e c in
+      not-both (not (any (clash y) (s .0))) k (rw a)
+
+  -- short names are unique
+  pub name-unique : firstBreak keepsNames [] fields ≡ none → (i j : ℕ) (w : List ℕ) → NameIn fields i w
+      → NameIn fields j w → i ≡ j
+  name-unique h i j w p q = go (decLt i j) (decLt j i)
+    where
+      go : Dec (i < j) → Dec (j < i) → i ≡ j
+      go (yes a) d = absurd (name-once h i j w p q a)
+      go (no a) (yes b) = absurd (name-once h j i w q p b)
+      go (no a) (no b) = omega arith
+
+  -- and have their form
+  pub name-short : firstBreak keepsForm [] fields ≡ none → (i : ℕ) (w : List ℕ) → NameIn fields i w → isShort w ≡ true
+  name-short h i w p =
+      let x = p .0 in
+      let s = element-parts fields i x (p .1) in
+      let k : keepsForm (s .0) x ≡ true = kept-at keepsForm (s .0) x (s .1) (rw (s .2) at h) in
+      rw (listed-is (x .short) w (p .2)) at (formed-names x k .1)
+
+-- ── the rules ──
+
+module _ (R : ℕ → List ℕ → Type 0) where
+  pub same-sizes : (fields : List (Field ℕ)) (forms : List Form) → Each (NamedField R) fields forms
+      → firstBreak keepsSize [] fields ≡ firstBreak keepsSize [] forms
+  same-sizes fields forms h = each-breaks (NamedField R) keepsSize keepsSize [] [] fields forms tt h
+      (λ b x a e y c u v p n. same-small x y n)
+
+  pub same-unique : (fields : List (Field ℕ)) (forms : List Form) → Each (NamedField R) fields forms
+      → firstBreak keepsNames [] fields ≡ firstBreak keepsNames [] forms
+  same-unique fields forms h = each-breaks (NamedField R) keepsNames keepsNames [] [] fields forms tt h
+      (λ b x a e y c u v p n. ap not (each-any (NamedField R) (clash x) (clash y)
+      (λ f g m. rw (n .label, n .short, m .label, m .short)) b e p))
+
+  pub same-rests : (fields : List (Field ℕ)) (forms : List Form) → Each (NamedField R) fields forms
+      → firstBreak keepsRest [] fields ≡ firstBreak keepsRest [] forms
+  same-rests fields forms h = each-breaks (NamedField R) keepsRest keepsRest [] [] fields forms tt h
+      (λ b x a e y c u v p n. rw (
+        each-any (NamedField R) isRest isRest (λ f g m. same-rest-width (m .width)) b e p,
+        same-fixed-width (n .width),
+        same-none (n .condition),
+      ))
+
+  pub same-mismatch : (i : ℕ) (cs : List Slot) (fields : List (Field ℕ)) (forms : List Form)
+      → Each (NamedField R) fields forms → mismatch i cs fields ≡ mismatch i cs forms
+  unfolding mismatch
+  same-mismatch i [] [] [] h = refl
+  same-mismatch i [] [] (y ∷ forms) h = absurd h
+  same-mismatch i [] (x ∷ fields) [] h = absurd h
+  same-mismatch i [] (x ∷ fields) (y ∷ forms) h = refl
+  same-mismatch i (c ∷ cs) [] [] h = refl
+  same-mismatch i (c ∷ cs) [] (y ∷ forms) h = absurd h
+  same-mismatch i (c ∷ cs) (x ∷ fields) [] h = absurd h
+  same-mismatch i (c ∷ cs) (x ∷ fields) (y ∷ forms) h =
+      rw (same-shows c x y (h .0), same-mismatch (suc i) cs fields forms (h .1))
+
+-- cells and fields that agree everywhere
+module _ {N : Type 0} where
+  pub mismatch-each : (i : ℕ) (cs : List Slot) (fs : List (Field N)) → mismatch i cs fs ≡ none
+      → Each (λ c f. shows c f ≡ true) cs fs
+  unfolding mismatch
+  mismatch-each i [] [] h = tt
+  mismatch-each i [] (f ∷ fs) h = absurd (Option·none-ne-some i (sym h))
+  mismatch-each i (c ∷ cs) [] h = absurd (Option·none-ne-some i (sym h))
+  mismatch-each i (c ∷ cs) (f ∷ fs) h = go (shows c f) refl h (mismatch-each (suc i) cs fs)
+    where
+      go : (b : Bool) → shows c f ≡ b → cond b (mismatch (suc i) cs fs) (some i) ≡ none
+          → (mismatch (suc i) cs fs ≡ none → Each (λ c f. shows c f ≡ true) cs fs)
+          → (shows c f ≡ true) × Each (λ c f. shows c f ≡ true) cs fs
+      go true e k f′ = (e, f′ k)
+      go false e k f′ = absurd (Option·none-ne-some i (sym k))
+
+  pub each-mismatch : (i : ℕ) (cs : List Slot) (fs : List (Field N)) → Each (λ c f. shows c f ≡ true) cs fs
+      → mismatch i cs fs ≡ none
+  unfolding mismatch
+  each-mismatch i [] [] h = refl
+  each-mismatch i [] (f ∷ fs) h = absurd h
+  each-mismatch i (c ∷ cs) [] h = absurd h
+  each-mismatch i (c ∷ cs) (f ∷ fs) h = rw (h .0) (each-mismatch (suc i) cs fs (h .1))

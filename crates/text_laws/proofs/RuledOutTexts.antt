@@ -1,0 +1,170 @@
+-- What the promise of a text rules out. A text and an output have one outcome (TextResults), which computes (TextSeen);
+-- each claim of specs/WrongTexts has another, by one computation.
+use mathlib.Core.Path.{_≡_, refl, subst}
+use mathlib.Core.Bool.{Bool, true, not}
+use mathlib.Core.Logic.{_⊎_, inl, inr}
+use mathlib.Core.List.{List, [], _∷_, _++_}
+use Prim.Native.Nat.{ℕ}
+use Rattle.base.proofs.Lists.{every-passes, other-numbers}
+use Rattle.base.specs.Bytes.{digits}
+use Rattle.base.specs.Lists.{all, any, same, lastIs, sum, joined, tabulate, firstBreak}
+use Rattle.rules.specs.Operators.{operator, operators}
+use Rattle.rules.specs.Names.{
+  isLetter,
+  isDigit,
+  isSpace,
+  isPrintable,
+  isAllowed,
+  isWordByte,
+  isLabelByte,
+  noTwoSpaces,
+  isLabel,
+  reserved,
+  isReserved,
+  isShort,
+}
+use Rattle.rules.specs.Trees.{depth, le2, le4, storedTree, isInRange, hasType}
+use Rattle.rules.specs.Stored.{storedIn, storedFieldIn, fieldBody, headBody}
+use Rattle.rules.specs.Frames.{tens, units, border, cellText, rowLines, headLines, cells}
+use Rattle.rules.specs.Spelling.{mismatch}
+use Rattle.rules.specs.Refusals.{ruleBroken}
+use Rattle.rules.specs.Answers.{ofText}
+use Rattle.rules.specs.Promises.{delivered}
+use Rattle.rules.specs.Pages.{notTimes}
+use Rattle.text_laws.specs.Reader.{
+  after,
+  firstOf,
+  insert,
+  longestFirst,
+  order,
+  skip,
+  skipBehind,
+  operatorAt,
+  word,
+  behind,
+  scan,
+  wordValue,
+  isNumeral,
+  isNumberWord,
+  andThen,
+  leaf,
+  close,
+  inside,
+  atom,
+  step,
+  expr,
+  more,
+}
+use Rattle.text_laws.specs.LineReader as Lines
+use Rattle.text_laws.specs.LineReader.{
+  literal,
+  begins,
+  labelEnds,
+  labelText,
+  labelBehind,
+  readLabel,
+  readName,
+  readShort,
+  readTree,
+  unitOf,
+  readUnit,
+  readMeasure,
+  readWidth,
+  readPhrase,
+  readMaybe,
+  isCondition,
+  isConstraint,
+  readConstraint,
+  readCondition,
+  isRemark,
+  readForm,
+}
+use Rattle.text_laws.specs.FrameReader as Frames
+use Rattle.text_laws.specs.FrameReader.{
+  onFirst,
+  pieces,
+  rest,
+  lead,
+  leftTrim,
+  keepEnd,
+  rightTrim,
+  cellOf,
+  keepRow,
+  longOf,
+  readRow,
+  closing,
+  readTens,
+  onName,
+  onWidth,
+  onRow,
+  rowOrEnd,
+  opened,
+  onSame,
+  run,
+  rightFrom,
+  rightLines,
+  whole,
+  readFrame,
+}
+use Rattle.text_laws.specs.Resolving.{firstIndex, renameTree, resolve}
+use Rattle.rules.specs.Fields.{Description}
+use Rattle.rules.specs.Stored.{stored}
+use Rattle.rules.specs.Answers.{Answer, refused}
+use Rattle.rules.specs.Promises.{Outcome, leaves, ReadsText}
+use Rattle.rules.specs.Marked.{tag, tagText}
+use Rattle.rules.specs.Pages.{tagLines}
+use Rattle.laws.proofs.RuledOut.{numbers}
+use Rattle.text_laws.specs.WrongTexts.{Claim, reads, Claimed, AllFalse, wrongTexts}
+use Rattle.text_laws.proofs.TextResults.{text-unique}
+use Rattle.text_laws.proofs.TextSeen.{formsOf, seen, outcomeOf, outcome-is}
+
+-- ── another outcome than the one there is ──
+
+pub other : {text out : List ℕ} {o p : Outcome} → ReadsText text out o → not (same (numbers p) (numbers o)) ≡ true
+    → ReadsText text out p → ⊥
+other {text} {out} {o} {p} known differs claim =
+    other-numbers numbers p o differs (text-unique text out p o claim known)
+
+abbrev isOther : Claim → Bool
+isOther (reads text out r after) =
+    not (same (numbers (leaves (ofText r) after)) (numbers (outcomeOf (seen text) out)))
+
+ruled-out : (c : Claim) → isOther c ≡ true → Claimed c → ⊥
+ruled-out (reads text out r after) h p = other (outcome-is text out) h p
+
+-- ── what computes ──
+
+abbrev barredText : List ℕ
+barredText = tagLines 1 ++ (0x7F ∷ [])
+
+record Computed : Type 0 where
+  spelled : seen tagText ≡ inr tag
+  barred : seen barredText ≡ inl (refused 2 0)
+  others : all isOther wrongTexts ≡ true
+
+computed : Computed
+unfolding digits all any same lastIs sum joined tabulate firstBreak operator operators isLetter isDigit isSpace
+    isPrintable isAllowed isWordByte isLabelByte noTwoSpaces isLabel reserved isReserved isShort depth le2 le4
+    storedTree isInRange hasType storedIn storedFieldIn fieldBody headBody tens units border cellText rowLines
+    headLines cells mismatch ruleBroken ofText delivered notTimes after firstOf insert longestFirst order skip
+    skipBehind operatorAt word behind scan wordValue isNumeral isNumberWord andThen leaf close inside atom step
+    expr more Lines.readField literal begins labelEnds labelText labelBehind readLabel readName readShort
+    readTree unitOf readUnit readMeasure readWidth readPhrase readMaybe isCondition isConstraint readConstraint
+    readCondition isRemark readForm Frames.readName Frames.step onFirst pieces rest lead leftTrim keepEnd
+    rightTrim cellOf keepRow longOf readRow closing readTens onName onWidth onRow rowOrEnd opened onSame run
+    rightFrom rightLines whole readFrame firstIndex renameTree resolve formsOf seen
+computed = record { spelled = refl; barred = refl; others = refl }
+
+-- the outcomes of two texts
+known : (text out : List ℕ) (s : Answer ⊎ Description) → seen text ≡ s → ReadsText text out (outcomeOf s out)
+known text out s e = subst (λ (r : Answer ⊎ Description). ReadsText text out (outcomeOf r out)) e (outcome-is text out)
+
+pub tag-known : {out : List ℕ} → ReadsText tagText out (delivered (stored tag) out)
+tag-known {out} = known tagText out (inr tag) (computed .spelled)
+
+pub barred-known : {out : List ℕ} → ReadsText (tagLines 1 ++ (0x7F ∷ [])) out (leaves (refused 2 0) out)
+barred-known {out} = known barredText out (inl (refused 2 0)) (computed .barred)
+
+-- each wrong program's answer is ruled out
+pub texts-ruled-out : AllFalse wrongTexts
+texts-ruled-out = every-passes isOther ruled-out wrongTexts (computed .others)
