@@ -9,7 +9,7 @@ use lib.Dec.{eqb}
 use lib.ListN.{length, getD, drop}
 use borrow.Author.Tests.{eqb-true, not-true}
 use Rattle.base.specs.Lists.{all, same, isNone}
-use Rattle.base.proofs.Lists.{every-passes, same-true}
+use Rattle.base.proofs.Lists.{and-both, not-both, every-passes, same-true, same-self}
 use Rattle.base.proofs.Breaks.{and-true}
 use Rattle.rules.specs.declared.Fault.{Fault}
 use Rattle.rules.specs.Limits.{openMost}
@@ -25,10 +25,12 @@ use Rattle.rules.specs.Frames.{Frame, isFrame}
 use Rattle.rules.specs.Spelling.{Spells}
 use Rattle.rules.specs.Refusals.{ruleBroken, Refuses}
 use Rattle.rules.specs.Reading.{Part, reading, partIn, partBytes}
-use Rattle.rules.specs.Answers.{Answer, faultNumber}
+use Rattle.rules.specs.Answers.{Answer, accepted, faultNumber}
 use Rattle.rules.specs.Promises.{
   Outcome,
+  notGood,
   byTable,
+  ChecksTable,
   packetOutcome,
   movedBy,
   Lends,
@@ -54,6 +56,7 @@ use Rattle.rules.specs.Cases.{
   unspelled,
   spells,
   stores,
+  checks,
   unframed,
   breaks,
   keeps,
@@ -67,7 +70,9 @@ use Rattle.rules.specs.Cases.{
   AllHold,
 }
 use Rattle.laws.proofs.WithinTest.{isWithin, within, outside}
+use Rattle.laws.proofs.Readers.{describedIn}
 use Rattle.laws.proofs.Unique.{stored-unique}
+use Rattle.laws.proofs.Decidable.{described-good}
 use Rattle.laws.proofs.RuledOut.{good-stored, labelAt, answerNumbers, numbers, placeNumbers}
 use Rattle.text_laws.specs.Reader.{Out, fail, got, expr}
 use Rattle.text_laws.proofs.ReaderUnique.{tree-unique, found-whole}
@@ -152,6 +157,44 @@ by-stored : {A : Type 0} (d : Description) → Within d → (f : Description →
 by-stored d w f e (yes g) = ap f (stored-unique current (g .description) d (g .within) w (g .isStored))
 by-stored d w f e (no bad) = absurd (bad (good-stored d w))
 
+-- a table is good where what is read from it is within the limits and has this table
+abbrev pub isGood : List ℕ → Bool
+isGood table = isWithin (describedIn current table) && same (stored (describedIn current table)) table
+
+good-passed : (table : List ℕ) → isGood table ≡ true → Good table
+good-passed table h =
+    let e = and-true (isWithin (describedIn current table)) (same (stored (describedIn current table)) table) h in
+    record { description = describedIn current table; within = within _ (e .0); isStored = same-true _ _ (e .1) }
+
+inside : (d : Description) → Within d → isWithin d ≡ true
+inside d w = go (isWithin d) refl
+  where
+    go : (b : Bool) → isWithin d ≡ b → b ≡ true
+    go true e = refl
+    go false e = absurd (outside d e w)
+
+good-failed : (table : List ℕ) → isGood table ≡ false → Good table → ⊥
+good-failed table h g =
+    let e : g .description ≡ describedIn current table = described-good current table g in
+    let s = subst (λ (d : Description). stored d ≡ table) e (g .isStored) in
+    not-both (isGood table)
+    (and-both _ _ (inside _ (subst Within e (g .within))) (ap (λ (l : List ℕ). same l table) s ∙ same-self table)) h
+
+abbrev pub tableAnswer : List ℕ → Bool → Answer
+tableAnswer table true = accepted (length table)
+tableAnswer table false = notGood
+
+checked : (table : List ℕ) (a : Answer)
+    → same (answerNumbers a) (answerNumbers (tableAnswer table (isGood table))) ≡ true → ChecksTable table a
+checked table a h good = answer-same a (tableAnswer table (isGood table)) h ∙ go (isGood table) refl good
+  where
+    go : (b : Bool) → isGood table ≡ b → (good : Dec (Good table))
+        → tableAnswer table b ≡ byTable good (λ d. accepted (length table)) notGood
+    go true e (yes g) = refl
+    go true e (no bad) = absurd (bad (good-passed table e))
+    go false e (yes g) = absurd (good-failed table e g)
+    go false e (no bad) = refl
+
 found-in : (d : Description) (name : List ℕ) (a : Answer) → Within d
     → same (answerNumbers a) (answerNumbers (firstNamed name 0 (d .fields))) ≡ true → FindsField (stored d) name a
 found-in d name a w h good =
@@ -224,6 +267,7 @@ isRight (faults s t n) = isTree t (readWhole s) && isFaultOf n (evaluate noField
 isRight (unspelled s) = not (isWhole (readWhole s))
 isRight (spells text d) = isSpelled d (seen text)
 isRight (stores d table) = isWithin d && same (stored d) table
+isRight (checks table a) = same (answerNumbers a) (answerNumbers (tableAnswer table (isGood table)))
 isRight (unframed f) = not (isFrame f)
 isRight (breaks f forms a) = isFrame f && isAnswer a (ruleBroken f forms)
 isRight (keeps f forms) = isFrame f && isNone (ruleBroken f forms)
@@ -255,6 +299,7 @@ right (faults s t n) h =
 right (unspelled s) h = none-found s (not-true (isWhole (readWhole s)) h)
 right (spells text d) h = spelled-by text d (seen text) (is-seen text) h
 right (stores d table) h = fitting d _ (λ w e. same-true _ _ e) h
+right (checks table a) h = checked table a h
 right (unframed f) h = not-true (isFrame f) h
 right (breaks f forms a) h = both _ _ (λ e. e) (answer-is a (ruleBroken f forms)) h
 right (keeps f forms) h = both _ _ (λ e. e) (none-is (ruleBroken f forms)) h

@@ -110,6 +110,7 @@ use Rattle.cases.proofs.SameTree.{sameTree}
 use Rattle.text_laws.proofs.TextSeen.{formsOf, seen}
 use Rattle.rules.specs.Cases.{AllHold}
 use Rattle.rules.specs.Marked.{bladeReport, marked}
+use Rattle.laws.proofs.Readers as Tables
 use Rattle.laws.proofs.WithinTest.{within}
 use Rattle.base.proofs.Also.{_also_}
 use Rattle.cases.specs.LinesOfAText.{linesOfAText}
@@ -136,6 +137,9 @@ unfolding digits all any same lastIs sum joined tabulate firstBreak operator ope
     isConstraint readConstraint readCondition isRemark readForm Frames.readName Frames.step onFirst pieces rest
     lead leftTrim keepEnd rightTrim cellOf keepRow longOf readRow closing readTens onName onWidth onRow rowOrEnd
     opened onSame run rightFrom rightLines whole readFrame firstIndex renameTree resolve sameTree formsOf seen
+    Tables.readTwo Tables.readFour Tables.readCounted Tables.codeIn Tables.codeOf Tables.readAfter
+    Tables.readTree Tables.treeOf Tables.readFixed Tables.readMeasured Tables.readWidth Tables.fieldFrom
+    Tables.readField Tables.readFields Tables.describedIn
 cases-hold = (
   -- M4, the fifth of the list, for every byte
   in-order (take 4 marked) (drop 4 marked) (all-right (take 4 marked) refl)

@@ -3,7 +3,7 @@ use mathlib.Core.List.{List, [], _∷_, _++_}
 use mathlib.Core.Option.{none, some}
 use Prim.Native.Nat.{ℕ, _-_}
 use Prim.Native.String.{String}
-use lib.ListN.{replicate, take, drop}
+use lib.ListN.{replicate, take, drop, set}
 use Rattle.base.specs.Bytes.{bytes}
 use Rattle.base.specs.Lists.{joined}
 use Rattle.rules.specs.declared.Fault.{Fault}
@@ -15,7 +15,7 @@ use Rattle.rules.specs.Trees.{num}
 use Rattle.rules.specs.Fields.{fixed}
 use Rattle.rules.specs.Answers.{accepted, refused, ofTable, ofPacket, ofText, ofListing}
 use Rattle.rules.specs.Promises.{leaves}
-use Rattle.rules.specs.Cases.{Case, breaks, refuses, answers, stands, named, unnamed}
+use Rattle.rules.specs.Cases.{Case, checks, breaks, refuses, answers, stands, named, unnamed}
 use Rattle.rules.specs.Marked.{tagText, tagTable}
 use Rattle.rules.specs.Pages.{oneIsOne, notTimes, long, tagHead, tagLines, tagUnended, crowded}
 use Rattle.rules.specs.Sheets.{bitsOf, longOf, sheet, plain, requiring, depending, summed, left, isOne}
@@ -188,6 +188,31 @@ outputs =
     ∷ answers [] (replicate 50 9) (leaves (refused 3 1) (replicate 50 9))
     ∷ []
 
+-- the Tag table with another byte
+abbrev tagWith : ℕ → ℕ → List ℕ
+tagWith i b = set tagTable i b
+
+abbrev tables : List Case
+tables =
+    checks tagTable (accepted 44)
+    -- 21: no bytes, a byte less, a byte more
+    ∷ checks [] (refused 21 0)
+    ∷ checks (take 43 tagTable) (refused 21 0)
+    ∷ checks (tagTable ++ (0 ∷ [])) (refused 21 0)
+    -- 21: a record's length or kind, W, the number of fields, NAME
+    ∷ checks (tagWith 0 0x0E) (refused 21 0)
+    ∷ checks (tagWith 2 0x02) (refused 21 0)
+    ∷ checks (tagWith 4 9) (refused 21 0)
+    ∷ checks (tagWith 6 2) (refused 21 0)
+    ∷ checks (tagWith 12 0x2D) (refused 21 0)
+    ∷ checks (tagWith 15 0x06) (refused 21 0)
+    ∷ checks (tagWith 42 0x04) (refused 21 0)
+    -- 21: a width that leaves a row unfilled, a code that says nothing, a field that is not there
+    ∷ checks (tagWith 26 7) (refused 21 0)
+    ∷ checks (tagWith 30 0x26) (refused 21 0)
+    ∷ checks (tagWith 32 1) (refused 21 0)
+    ∷ []
+
 abbrev answersOfTheCode : List Case
 answersOfTheCode =
     -- 01's numbers for the answers of the code
@@ -219,4 +244,4 @@ answersOfTheCode =
     ∷ []
 
 abbrev pub refusalNumbers : List Case
-refusalNumbers = rules ++ (laterRules ++ (lines ++ (counts ++ (forms ++ (wholeTexts ++ (outputs ++ answersOfTheCode))))))
+refusalNumbers = rules ++ (laterRules ++ (lines ++ (counts ++ (forms ++ (wholeTexts ++ (outputs ++ (tables ++ answersOfTheCode)))))))

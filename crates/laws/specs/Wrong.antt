@@ -110,15 +110,19 @@ crossed = page (named "A" "X" (fixed 8) none none ∷ named "X" "A" (fixed 8) no
 
 -- ── the answers ──
 
-abbrev pub wrong : List Claim
-wrong =
+abbrev wrongTables : List Claim
+wrongTables =
     -- 21 for every table
     checks bladeReport notGood
     ∷ reads bladeReport m1 notGood lentRun
     -- another length for a table
     ∷ checks bladeReport (accepted 0)
+    ∷ []
+
+abbrev wrongReadings : List Claim
+wrongReadings =
     -- every packet accepted, and nothing written
-    ∷ reads bladeReport m1 (accepted 64) lentRun
+    reads bladeReport m1 (accepted 64) lentRun
     ∷ reads bladeReport m3 (accepted 56) lentRun
     -- the first field read truly, the rest called absent
     ∷ reads bladeReport m1 (accepted 64) (runOf (entry 0 2 1 ∷ replicate 6 absent))
@@ -156,14 +160,22 @@ wrong =
     -- V for L in Borrower's condition; L for N in the width of Readings
     ∷ reads bladeReport m2 (refused 24 7) lentRun
     ∷ reads bladeReport m1 (refused 28 0) lentRun
+    ∷ []
+
+abbrev wrongListings : List Claim
+wrongListings =
     -- a listing: nothing written; a wrong line; a line left out; 21 for a good table; no refusal printed
-    ∷ lists bladeReport m1 (accepted (length m1Listing)) lentOutput
+    lists bladeReport m1 (accepted (length m1Listing)) lentOutput
     ∷ lists bladeReport m1 (accepted (length m1Listing)) (outputOf (bytes "Version: 0 2 2\n" ++ m1Rest))
     ∷ lists bladeReport m1 (accepted (length m1Rest)) (outputOf m1Rest)
     ∷ lists bladeReport m1 (accepted 16) (outputOf (bytes "refused 21 at 0\n"))
     ∷ lists bladeReport m3 (accepted 0) lentOutput
+    ∷ []
+
+abbrev wrongParts : List Claim
+wrongParts =
     -- a part: the empty one for Readings; its neighbour's bytes; its own bytes from elsewhere
-    ∷ hands bladeReport m1 5 [] 0
+    hands bladeReport m1 5 [] 0
     ∷ hands bladeReport m1 5 (0x00 ∷ 0x09 ∷ []) 6
     ∷ hands bladeReport m1 5 (0xAA ∷ 0xBB ∷ []) 0
     -- a part for a field that has none: of bits, absent, of a refused packet
@@ -179,8 +191,12 @@ wrong =
     ∷ placesPart bladeReport m1 0 (partFrom 0 1)
     ∷ placesPart bladeReport m2 4 (partFrom 2 2)
     ∷ placesPart bladeReport m3 3 (partFrom 1 1)
+    ∷ []
+
+abbrev wrongNames : List Claim
+wrongNames =
     -- a field by name: no name found; labels or short names passed over; indexes from 1; case ignored; a prefix taken
-    ∷ finds bladeReport (bytes "V") (refused 30 0)
+    finds bladeReport (bytes "V") (refused 30 0)
     ∷ finds bladeReport (bytes "Blade") (refused 30 0)
     ∷ finds bladeReport (bytes "Blade") (accepted 4)
     ∷ finds bladeReport (bytes "v") (accepted 0)
@@ -188,8 +204,12 @@ wrong =
     -- the later of two fields that have the name; 21 for a good table
     ∷ finds crossed (bytes "X") (accepted 1)
     ∷ finds bladeReport (bytes "V") notGood
+    ∷ []
+
+abbrev wrongLabels : List Claim
+wrongLabels =
     -- a label: the empty part; the short name; the neighbour's; its own bytes from elsewhere; one beyond the fields
-    ∷ labels bladeReport 0 [] 0
+    labels bladeReport 0 [] 0
     ∷ labels bladeReport 0 (bytes "V") 37
     ∷ labels bladeReport 0 (bytes "On Loan") 58
     ∷ labels bladeReport 0 (bytes "Version") 0
@@ -202,8 +222,12 @@ wrong =
     ∷ placesLabel bladeReport 0 (partFrom 28 12)
     ∷ placesLabel bladeReport 0 (partFrom 26 9)
     ∷ placesLabel bladeReport 7 (partFrom 186 3)
+    ∷ []
+
+abbrev wrongAnswers : List Claim
+wrongAnswers =
     -- a number: 24 told as 25; 0 for a refusal; the bit total of an accepted packet
-    ∷ tellsNumber (Refused BitsMissing 7) 25
+    tellsNumber (Refused BitsMissing 7) 25
     ∷ tellsNumber (Refused BitsMissing 7) 0
     ∷ tellsNumber PacketAnswer.NotGood 0
     ∷ tellsNumber (Accepted 64) 64
@@ -218,3 +242,6 @@ wrong =
     ∷ tellsAmount (Accepted 64) 0
     ∷ tellsAmount (Accepted 64) 8
     ∷ []
+
+abbrev pub wrong : List Claim
+wrong = wrongTables ++ (wrongReadings ++ (wrongListings ++ (wrongParts ++ (wrongNames ++ (wrongLabels ++ wrongAnswers)))))
