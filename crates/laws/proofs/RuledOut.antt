@@ -10,6 +10,7 @@ use Rattle.base.specs.Bytes.{digits}
 use Rattle.base.specs.Lists.{all, any, same, lastIs, sum, joined, firstBreak}
 use Rattle.base.proofs.Lists.{every-passes, not-same}
 use Rattle.base.proofs.Breaks.{and-true}
+use Rattle.rules.specs.Limits.{limits}
 use Rattle.rules.specs.Operators.{operator}
 use Rattle.rules.specs.Names.{
   isLetter,
@@ -69,6 +70,7 @@ use Rattle.laws.specs.Wrong.{
   tellsNumber,
   tellsPlace,
   tellsAmount,
+  tellsLimits,
   lentOutput,
   Claimed,
   AllFalse,
@@ -160,6 +162,7 @@ claimed (placesLabel d i part) = placeNumbers part
 claimed (tellsNumber r n) = single n
 claimed (tellsPlace r n) = single n
 claimed (tellsAmount r n) = single n
+claimed (tellsLimits l) = l
 
 abbrev pub given : Claim → List ℕ
 given (checks d r) = answerNumbers (accepted (length (stored d)))
@@ -173,6 +176,7 @@ given (placesLabel d i part) = placeNumbers (labelAt d i)
 given (tellsNumber r n) = single (ofPacket r .number)
 given (tellsPlace r n) = single (ofPacket r .place)
 given (tellsAmount r n) = single (ofPacket r .amount)
+given (tellsLimits l) = limits
 
 -- what is claimed of a table is of the table of a description within the limits
 abbrev pub isFitting : Claim → Bool
@@ -187,6 +191,7 @@ isFitting (placesLabel d i part) = isWithin d
 isFitting (tellsNumber r n) = true
 isFitting (tellsPlace r n) = true
 isFitting (tellsAmount r n) = true
+isFitting (tellsLimits l) = true
 
 two-parts : {m n : ℕ} {s t : List ℕ} → (s ≡ t) × (m ≡ n) → m ∷ s ≡ n ∷ t
 two-parts {n = n} {s = s} q = ap (λ (k : ℕ). k ∷ s) (q .1) ∙ ap (λ (l : List ℕ). n ∷ l) (q .0)
@@ -204,6 +209,7 @@ claim-only (placesLabel d i part) h p = ap placeNumbers (label-place-only d i pa
 claim-only (tellsNumber r n) h p = ap single p
 claim-only (tellsPlace r n) h p = ap single p
 claim-only (tellsAmount r n) h p = ap single p
+claim-only (tellsLimits l) h p = p
 
 abbrev pub isOther : Claim → Bool
 isOther c = isFitting c && not (same (claimed c) (given c))

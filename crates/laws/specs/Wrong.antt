@@ -4,13 +4,14 @@ use mathlib.Core.Path.{_≡_}
 use mathlib.Core.List.{List, [], _∷_, _++_}
 use mathlib.Core.Option.{none, some}
 use Prim.Native.Nat.{ℕ}
-use lib.ListN.{length, replicate, drop}
+use lib.ListN.{length, replicate, take, drop, set}
 use Rattle.base.specs.Bytes.{bytes}
 use Rattle.base.specs.Lists.{joined, Every}
 use Rattle.rules.specs.declared.Op.the-variants.{Eq}
 use Rattle.rules.specs.declared.Fault.the-variants.{BitsMissing}
 use Rattle.rules.specs.declared.PacketAnswer.{PacketAnswer}
 use Rattle.rules.specs.declared.PacketAnswer.the-variants.{Accepted, Refused, LeftOver}
+use Rattle.rules.specs.Limits.{limits}
 use Rattle.rules.specs.Trees.{num, read, two}
 use Rattle.rules.specs.Fields.{fixed, Description}
 use Rattle.rules.specs.Stored.{stored}
@@ -57,6 +58,8 @@ pub data Claim : Type 0 where
   tellsNumber : PacketAnswer → ℕ → Claim
   tellsPlace : PacketAnswer → ℕ → Claim
   tellsAmount : PacketAnswer → ℕ → Claim
+  -- the limits
+  tellsLimits : List ℕ → Claim
 
 abbrev pub lentOutput : List ℕ
 lentOutput = replicate 120 9
@@ -73,6 +76,7 @@ Claimed (placesLabel d i part) = PlacesLabel (stored d) i part
 Claimed (tellsNumber r n) = n ≡ ofPacket r .number
 Claimed (tellsPlace r n) = n ≡ ofPacket r .place
 Claimed (tellsAmount r n) = n ≡ ofPacket r .amount
+Claimed (tellsLimits l) = l ≡ limits
 
 abbrev pub AllFalse : List Claim → Type 0
 AllFalse = Every (λ c. Claimed c → ⊥)
@@ -241,6 +245,10 @@ wrongAnswers =
     ∷ tellsAmount LeftOver 72
     ∷ tellsAmount (Accepted 64) 0
     ∷ tellsAmount (Accepted 64) 8
+    -- the limits: one field more; a byte less for a label; one left out
+    ∷ tellsLimits (set limits 1 65)
+    ∷ tellsLimits (set limits 3 39)
+    ∷ tellsLimits (take 9 limits)
     ∷ []
 
 abbrev pub wrong : List Claim
