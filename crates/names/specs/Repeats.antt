@@ -1,4 +1,4 @@
--- The first of some things that is like an earlier one, and names held as arrays of 8 bytes, zeros for none.
+-- The first of some things that is like an earlier one, and names held as arrays of bytes, zeros for none.
 -- [01, The form for each place]
 use mathlib.Core.Bool.{Bool, cond, _&&_, not}
 use mathlib.Core.List.{List, [], _∷_}

@@ -76,8 +76,9 @@ marked i = set (replicate remainders 0) i 1
 
 -- ── the answers ──
 
-abbrev pub wrong : List Claim
-wrong =
+-- of bytes
+abbrev pub wrongBytes : List Claim
+wrongBytes =
     -- every byte a letter; a space counted as an operator
     makesTable (replicate 256 1)
     ∷ makesTable (set classTable 32 3)
@@ -93,8 +94,16 @@ wrong =
     -- operators in words; digits left out
     ∷ saysWord classTable 43 true
     ∷ saysWord classTable 48 false
+    -- the first byte in every place; the last one behind the end
+    ∷ answersByte (bytes "AB") 1 65
+    ∷ answersByte (bytes "AB") 2 66
+    ∷ []
+
+-- of words
+abbrev pub wrongWords : List Claim
+wrongWords =
     -- a label of 41 bytes, and one of 40 refused; two spaces together; two hyphens refused; a hyphen at the end; none
-    ∷ saysLabel (replicate 41 65) true
+    saysLabel (replicate 41 65) true
     ∷ saysLabel (replicate 40 65) false
     ∷ saysLabel (bytes "A  B") true
     ∷ saysLabel (bytes "A--B") false
@@ -115,11 +124,13 @@ wrong =
     ∷ saysSame (bytes "bit") (bytes "bits") true
     ∷ saysSame (bytes "V") (bytes "v") true
     ∷ saysSame (bytes "bits") (bytes "bits") false
-    -- the first byte in every place; the last one behind the end
-    ∷ answersByte (bytes "AB") 1 65
-    ∷ answersByte (bytes "AB") 2 66
+    ∷ []
+
+-- of held names
+abbrev pub wrongHeld : List Claim
+wrongHeld =
     -- a held name cut at 7 bytes; the first byte in every place; spaces behind its end
-    ∷ holds (bytes "ABCDEFGH") (padTo shortMost (bytes "ABCDEFG"))
+    holds (bytes "ABCDEFGH") (padTo shortMost (bytes "ABCDEFG"))
     ∷ holds (bytes "AB") (replicate shortMost 65)
     ∷ holds (bytes "AB") (bytes "AB      ")
     -- two fields without a short name repeat each other; names that begin alike; no name like itself
@@ -135,3 +146,6 @@ wrong =
     ∷ repeatsAt (padTo shortMost [] ∷ padTo shortMost [] ∷ []) 2 1
     ∷ repeatsAt lentNames 3 1
     ∷ []
+
+abbrev pub wrong : List Claim
+wrong = wrongBytes ++ (wrongWords ++ wrongHeld)

@@ -16,7 +16,7 @@ use Rattle.rules.specs.Lines.{shortText}
 use Rattle.text_laws.specs.Reader.{after, word, behind}
 use Rattle.text_laws.proofs.ReaderWords.{word-behind, word-is, behind-is, short-bytes}
 use Rattle.text_laws.specs.LineReader.{hit, bind, keep, literal, begins, labelEnds, labelText}
-use Rattle.text_laws.specs.LineReader.{labelBehind, readLabel, readName, readShort}
+use Rattle.text_laws.specs.LineReader.{labelBehind, readLabel, readClosedName, readShort}
 use Rattle.text_laws.proofs.Combine.{Holds, holds-keep, holds-cond, holds-bind, literal-sound}
 use Rattle.text_laws.proofs.Combine.{differs}
 
@@ -90,8 +90,8 @@ label-finds w r h st =
 
 -- what stands behind ` (`
 name-sound : (s : List ℕ)
-    → Holds (λ o r. (32 ∷ 40 ∷ s ≡ shortText o ++ r) × (ifAny isShort o ≡ true)) (readName s)
-unfolding readName
+    → Holds (λ o r. (32 ∷ 40 ∷ s ≡ shortText o ++ r) × (ifAny isShort o ≡ true)) (readClosedName s)
+unfolding readClosedName
 name-sound s =
     holds-bind (λ w r. (s ≡ w ++ r) × (isShort w ≡ true))
     (λ o r. (32 ∷ 40 ∷ s ≡ shortText o ++ r) × (ifAny isShort o ≡ true))
@@ -109,16 +109,16 @@ name-sound s =
 pub short-sound : (s : List ℕ) → Holds (λ o r. (s ≡ shortText o ++ r) × (ifAny isShort o ≡ true)) (readShort s)
 unfolding readShort
 short-sound s =
-    holds-cond Good (begins (bytes " (") s) (bind (literal (bytes " (") s) (λ _ r. readName r)) (hit none s)
-    (λ _. holds-bind (λ _ r. s ≡ bytes " (" ++ r) Good (literal (bytes " (") s) (λ _ r. readName r)
+    holds-cond Good (begins (bytes " (") s) (bind (literal (bytes " (") s) (λ _ r. readClosedName r)) (hit none s)
+    (λ _. holds-bind (λ _ r. s ≡ bytes " (" ++ r) Good (literal (bytes " (") s) (λ _ r. readClosedName r)
     (literal-sound (bytes " (") s) (λ _ r e. rw e (name-sound r)))
     (λ _. (refl, refl))
   where
     Good : Option (List ℕ) → List ℕ → Type 0
     Good o r = (s ≡ shortText o ++ r) × (ifAny isShort o ≡ true)
 
-name-finds : (w r : List ℕ) → isShort w ≡ true → readName (w ++ (41 ∷ r)) ≡ hit (some w) r
-unfolding readName literal after isWordByte isLetter isDigit
+name-finds : (w r : List ℕ) → isShort w ≡ true → readClosedName (w ++ (41 ∷ r)) ≡ hit (some w) r
+unfolding readClosedName literal after isWordByte isLetter isDigit
 name-finds w r h =
     let b = short-bytes w h in rw (word-is w (41 ∷ r) b refl, behind-is w (41 ∷ r) b refl, h)
 

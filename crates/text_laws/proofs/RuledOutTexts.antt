@@ -63,7 +63,7 @@ use Rattle.text_laws.specs.LineReader.{
   labelText,
   labelBehind,
   readLabel,
-  readName,
+  readClosedName,
   readShort,
   readTree,
   unitOf,
@@ -148,7 +148,7 @@ unfolding digits all any same lastIs sum joined tabulate firstBreak operator ope
     storedTree isInRange hasType storedIn storedFieldIn fieldBody headBody tens units border cellText rowLines
     headLines cells mismatch ruleBroken ofText delivered notTimes after firstOf insert longestFirst order skip
     skipBehind operatorAt word behind scan wordValue isNumeral isNumberWord andThen leaf close inside atom step
-    expr more Lines.readField literal begins labelEnds labelText labelBehind readLabel readName readShort
+    expr more Lines.readField literal begins labelEnds labelText labelBehind readLabel readClosedName readShort
     readTree unitOf readUnit readMeasure readWidth readPhrase readMaybe isCondition isConstraint readConstraint
     readCondition isRemark readForm Frames.readName Frames.step onFirst pieces rest lead leftTrim keepEnd
     rightTrim cellOf keepRow longOf readRow closing readTens onName onWidth onRow rowOrEnd opened onSame run

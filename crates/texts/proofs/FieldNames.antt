@@ -14,7 +14,7 @@ use Rattle.base.proofs.Places.{drop-more}
 use Rattle.rules.specs.Names.{isLabel, isShort}
 use Rattle.text_laws.specs.Reader.{after, word, behind}
 use Rattle.text_laws.specs.LineReader.{miss, hit, passed, literal, begins, labelEnds, labelText, labelBehind}
-use Rattle.text_laws.specs.LineReader.{readLabel, readName, readShort}
+use Rattle.text_laws.specs.LineReader.{readLabel, readClosedName, readShort}
 use Rattle.texts.specs.FieldPlaces.{SameLabel, WithinLabel, NameIs, SameShort, WithinShort}
 use Rattle.texts.specs.declared.labels.Label.the-variants as label
 use Rattle.texts.specs.declared.labels.Short.{Short}
@@ -109,16 +109,16 @@ module _ (s : List ℕ) (at end : ℕ) (lo : at ≤ end) (hi : end ≤ length s)
 -- ── short names ──
 
 name-is : (z q : List ℕ) → isShort (word z) ≡ true → literal (bytes ")") (behind z) ≡ hit tt q
-    → readName z ≡ hit (some (word z)) q
-unfolding readName
+    → readClosedName z ≡ hit (some (word z)) q
+unfolding readClosedName
 name-is z q y l = rw (y, l) refl
 
-name-open : (z : List ℕ) → isShort (word z) ≡ true → literal (bytes ")") (behind z) ≡ miss → readName z ≡ miss
-unfolding readName
+name-open : (z : List ℕ) → isShort (word z) ≡ true → literal (bytes ")") (behind z) ≡ miss → readClosedName z ≡ miss
+unfolding readClosedName
 name-open z y l = rw (y, l) refl
 
-name-other : (z : List ℕ) → isShort (word z) ≡ false → readName z ≡ miss
-unfolding readName
+name-other : (z : List ℕ) → isShort (word z) ≡ false → readClosedName z ≡ miss
+unfolding readClosedName
 name-other z n = rw n refl
 
 module _ (s : List ℕ) (at end : ℕ) (lo : at ≤ end) (hi : end ≤ length s) (e : drop end s ≡ behind (drop at s)) where
@@ -126,7 +126,7 @@ module _ (s : List ℕ) (at end : ℕ) (lo : at ≤ end) (hi : end ≤ length s)
   short-word b y = ap isShort (sym (word-part s at end lo hi e)) ∙ y
 
   abbrev pub NameAt : Short → Type 0
-  NameAt r = WithinShort s at r × SameShort s (readName (drop at s)) r
+  NameAt r = WithinShort s at r × SameShort s (readClosedName (drop at s)) r
 
   pub name-yes : isShort (take (end - at) (drop at s)) ≡ true → begins (bytes ")") (drop end s) ≡ true
       → NameAt (short.At at end (end + 1))
@@ -135,7 +135,7 @@ module _ (s : List ℕ) (at end : ℕ) (lo : at ≤ end) (hi : end ≤ length s)
       let u : at + 1 ≤ end = longer s at end lo hi e isShort refl y in
       let l = literal-at (bytes ")") s end hi b in
       let h : end + 1 ≤ length s = l .0 in
-      let r : readName (drop at s) ≡ hit (some (word (drop at s))) (drop (end + 1) s) =
+      let r : readClosedName (drop at s) ≡ hit (some (word (drop at s))) (drop (end + 1) s) =
       name-is (drop at s) (drop (end + 1) s) (short-word true y) (ap (literal (bytes ")")) (sym e) ∙ l .1) in (
         (omega arith, lo, omega arith, h),
         rw r (at, end, end + 1, refl, (omega arith, word-part s at end lo hi e), refl),
@@ -153,7 +153,7 @@ module _ (s : List ℕ) (at end : ℕ) (lo : at ≤ end) (hi : end ≤ length s)
   name-no y = (tt, rw (name-other (drop at s) (short-word false y)) refl)
 
 short-there : (z q : List ℕ) → begins (bytes " (") z ≡ true → literal (bytes " (") z ≡ hit tt q
-    → readShort z ≡ readName q
+    → readShort z ≡ readClosedName q
 unfolding readShort
 short-there z q y l = rw (y, l) refl
 
@@ -174,7 +174,7 @@ module _ (s : List ℕ) (at : ℕ) (le : at ≤ length s) where
   short-room y = literal-at (bytes " (") s at le y .0
 
   pub short-named : (r : Short) → begins (bytes " (") (drop at s) ≡ true → WithinShort s (at + 2) r
-      → SameShort s (readName (drop (at + 2) s)) r → ShortAt r
+      → SameShort s (readClosedName (drop (at + 2) s)) r → ShortAt r
   short-named r y w h =
       let e = short-there (drop at s) (drop (at + 2) s) y (literal-at (bytes " (") s at le y .1) in
       (within-less s at r w, rw e h)

@@ -21,6 +21,7 @@ use Rattle.texts.specs.LinePlaces.{spanOf, treeOf, noParts, MaybeIs, Wid
 use Rattle.texts.specs.PartPlaces.{widthDepth, WidthAs, Ending, readEnds, maybeDepth, EndsAs, readBehind}
 use Rattle.texts.specs.PartPlaces.{smallAs, BehindFor}
 use Rattle.writing.specs.declared.spans.Span.{Span}
+use Rattle.texts.specs.declared.parts.TreeAt.{TreeAt}
 use Rattle.texts.specs.declared.parts.Parts.{Parts}
 use Rattle.texts.specs.declared.labels.Label.{Label}
 use Rattle.texts.specs.declared.labels.Label.the-variants as label
@@ -98,69 +99,66 @@ module _ (s : List ℕ) (start label : ℕ) (name : Span) (at : ℕ) where
   pub behind-none : {r : Parts} → r ≡ noParts (spanOf start (length s)) → readWidth (drop at s) ≡ miss → Behind r
   behind-none e m = refused e (λ w h. behind-miss w h (drop at s) m)
 
-  module _ {k b a d z n : ℕ} (x : WidthAs s (readWidth (drop at s)) k b a d z n) where
-    pub behind-width : {r : Parts} → r ≡ noParts (spanOf start (length s))
-        → ((form : Ending) → formOf (readEnds form (drop n s)) ≡ none) → Behind r
-    behind-width e f =
-        refused e
-        (λ w h. behind-is w h (drop at s) (drop n s) (x .width) (x .isRead) ∙ f (ending w h (x .width)))
+-- the parts of a line that has a form
+abbrev wholeParts : Span → ℕ → ℕ → Span → ℕ → TreeAt → TreeAt → TreeAt → Bool → Parts
+wholeParts line kind label short bits width constraint condition small = record {
+  line = line;
+  kind = kind;
+  label = label;
+  short = short;
+  bits = bits;
+  width = width;
+  constraint = constraint;
+  condition = condition;
+  small = small;
+}
 
-    pub behind-whole : {a₁ d₁ z₁ a₂ d₂ z₂ : ℕ} {small : Bool} → EndsAs s n a₁ d₁ z₁ a₂ d₂ z₂
-        → label ≤ length s → name .at + name .len ≤ length s → a ≤ length s
-        → small ≡ (smallAs d z && (smallAs d₁ z₁ && smallAs d₂ z₂))
-        → Behind (record {
-          line = spanOf start (length s);
-          kind = k;
-          label = label;
-          short = name;
-          bits = b;
-          width = treeOf a z;
-          constraint = treeOf a₁ z₁;
-          condition = treeOf a₂ z₂;
-          small = small;
-        })
-    unfolding BehindFor
-    behind-whole {a₁} {d₁} {z₁} {a₂} {d₂} {z₂} {small} y i j l m = (refl, whole)
-      where
-        sizes : (w : List ℕ) (h : Option (List ℕ))
-            → small ≡ all isSmall (trees (ending w h (x .width) (y .constraint) (y .condition)))
-        sizes w h =
-            rw (all-join isSmall (widthTrees (x .width)) (listOf (y .constraint) ++ listOf (y .condition)))
-            (rw (all-join isSmall (listOf (y .constraint)) (listOf (y .condition)))
-            (rw (width-small s (x .width) k b a d z (x .parts) (x .deep))
-            (rw (maybe-small s (y .constraint) a₁ d₁ z₁ (y .first) (y .firstDepth))
-            (rw (maybe-small s (y .condition) a₂ d₂ z₂ (y .second) (y .secondDepth)) m))))
+module _ (s : List ℕ) (start label : ℕ) (name : Span) (at : ℕ) {k b a d z n : ℕ}
+    (x : WidthAs s (readWidth (drop at s)) k b a d z n) where
+  pub behind-width : {r : Parts} → r ≡ noParts (spanOf start (length s))
+      → ((form : Ending) → formOf (readEnds form (drop n s)) ≡ none) → Behind s start label name at r
+  behind-width e f =
+      refused s start label name at e
+      (λ w h. behind-is w h (drop at s) (drop n s) (x .width) (x .isRead) ∙ f (ending w h (x .width)))
 
-        whole : BehindFor s label name at (record {
-          line = spanOf start (length s);
-          kind = k;
-          label = label;
-          short = name;
-          bits = b;
-          width = treeOf a z;
-          constraint = treeOf a₁ z₁;
-          condition = treeOf a₂ z₂;
-          small = small;
-        })
-        whole w h p q =
-            let e : formOf (readBehind w h (drop at s))
-            ≡ some (ending w h (x .width) (y .constraint) (y .condition)) =
-            behind-is w h (drop at s) (drop n s) (x .width) (x .isRead) ∙ y .isRead (ending w h (x .width)) in
-            rw e (record {
-              fits = record {
-                label = i;
-                short = j;
-                width = l;
-                constraint = y .firstWithin;
-                condition = y .secondWithin;
-              };
-              label = p;
-              short = q;
-              width = x .parts;
-              constraint = y .first;
-              condition = y .second;
-              small = sizes w h;
-            })
+  pub behind-whole : {a₁ d₁ z₁ a₂ d₂ z₂ : ℕ} {small : Bool} → EndsAs s n a₁ d₁ z₁ a₂ d₂ z₂
+      → label ≤ length s → name .at + name .len ≤ length s → a ≤ length s
+      → small ≡ (smallAs d z && (smallAs d₁ z₁ && smallAs d₂ z₂))
+      → Behind s start label name at
+      (wholeParts (spanOf start (length s)) k label name b (treeOf a z) (treeOf a₁ z₁) (treeOf a₂ z₂) small)
+  unfolding BehindFor
+  behind-whole {a₁} {d₁} {z₁} {a₂} {d₂} {z₂} {small} y i j l m = (refl, whole)
+    where
+      sizes : (w : List ℕ) (h : Option (List ℕ))
+          → small ≡ all isSmall (trees (ending w h (x .width) (y .constraint) (y .condition)))
+      sizes w h =
+          rw (all-join isSmall (widthTrees (x .width)) (listOf (y .constraint) ++ listOf (y .condition)))
+          (rw (all-join isSmall (listOf (y .constraint)) (listOf (y .condition)))
+          (rw (width-small s (x .width) k b a d z (x .parts) (x .deep))
+          (rw (maybe-small s (y .constraint) a₁ d₁ z₁ (y .first) (y .firstDepth))
+          (rw (maybe-small s (y .condition) a₂ d₂ z₂ (y .second) (y .secondDepth)) m))))
+
+      whole : BehindFor s label name at
+          (wholeParts (spanOf start (length s)) k label name b (treeOf a z) (treeOf a₁ z₁) (treeOf a₂ z₂) small)
+      whole w h p q =
+          let e : formOf (readBehind w h (drop at s))
+          ≡ some (ending w h (x .width) (y .constraint) (y .condition)) =
+          behind-is w h (drop at s) (drop n s) (x .width) (x .isRead) ∙ y .isRead (ending w h (x .width)) in
+          rw e (record {
+            fits = record {
+              label = i;
+              short = j;
+              width = l;
+              constraint = y .firstWithin;
+              condition = y .secondWithin;
+            };
+            label = p;
+            short = q;
+            width = x .parts;
+            constraint = y .first;
+            condition = y .second;
+            small = sizes w h;
+          })
 
 -- ── the line ──
 

@@ -169,12 +169,13 @@ module _ (text : List ℕ) (at i w : ℕ) (m : Option ℕ) (ms : List (List ℕ)
             decides = d ∙ ap (λ (c : List Slot). mismatch i (c ++ joined slotsIn rows) (drop i forms)) (s .cells);
           })
 
+-- the line of a long row begins with a colon
+abbrev isLong : List ℕ → Bool
+isLong line = eqb (getD line 0 0) 58
+
 -- at the place a of the line, with the cell's end at b
 module _ (text line : List ℕ) (at a i w : ℕ) (m : Option ℕ) (ms : List (List ℕ)) (forms : List Form)
     (x : CellsLeft text line at a i w m ms forms) where
-  abbrev long : Bool
-  long = eqb (getD line 0 0) 58
-
   module _ (b : ℕ) (h : b ≡ a + upTo (getD line 0 0) (drop a line)) (lt : a < length line) (le : b ≤ length line)
     where
       abbrev chars : List ℕ
@@ -194,9 +195,9 @@ module _ (text line : List ℕ) (at a i w : ℕ) (m : Option ℕ) (ms : List (Li
       cut : pieces (getD line 0 0) (drop a line) ≡ chars ∷ pieces (getD line 0 0) (drop (b + 1) line)
       cut = piece-at (getD line 0 0) line a b h cell-in
 
-      decided : m ≡ mismatch i (shownOf long chars ∷ (cellsIn line (b + 1) ++ joined slotsIn (x .rows))) (drop i forms)
+      decided : m ≡ mismatch i (shownOf (isLong line) chars ∷ (cellsIn line (b + 1) ++ joined slotsIn (x .rows))) (drop i forms)
       decided = x .decides ∙ ap
-          (λ (ps : List (List ℕ)). mismatch i (map (shownOf long) ps ++ joined slotsIn (x .rows)) (drop i forms)) cut
+          (λ (ps : List (List ℕ)). mismatch i (map (shownOf (isLong line)) ps ++ joined slotsIn (x .rows)) (drop i forms)) cut
 
       cells-are : all isCell (map cellOf (chars ∷ pieces (getD line 0 0) (drop (b + 1) line))) ≡ true
       cells-are = ap (λ (ps : List (List ℕ)). all isCell (map cellOf ps)) (sym cut) ∙ x .areCells
@@ -216,19 +217,19 @@ module _ (text line : List ℕ) (at a i w : ℕ) (m : Option ℕ) (ms : List (Li
           ap (indexOr n) (sym d)
 
       module _ (n : ℕ) (k : length forms ≡ n) (below : i < n) (parts : List Parts) (f : LinesFor text forms parts) where
-        one : (y : Bool) → ShowsIs chars long text (lineAt parts i) y
+        one : (y : Bool) → ShowsIs chars (isLong line) text (lineAt parts i) y
             → m ≡ cond y (mismatch (suc i) (cellsIn line (b + 1) ++ joined slotsIn (x .rows)) (drop (suc i) forms))
             (some i)
         unfolding mismatch
         one y s =
             let o = form-at forms i (omega (arith, k, below)) in
-            let z : y ≡ shows (shownOf long chars) (o .0) = s (o .0) (f i (o .0) (o .1)) labelled in
+            let z : y ≡ shows (shownOf (isLong line) chars) (o .0) = s (o .0) (f i (o .0) (o .1)) labelled in
             decided ∙ rw (o .2, z) refl
 
-        cells-differ : ShowsIs chars long text (lineAt parts i) false → i ≡ indexOr n m
+        cells-differ : ShowsIs chars (isLong line) text (lineAt parts i) false → i ≡ indexOr n m
         cells-differ s = ap (indexOr n) (sym (one false s))
 
-        cells-agree : ShowsIs chars long text (lineAt parts i) true → CellsLeft text line at (b + 1)
+        cells-agree : ShowsIs chars (isLong line) text (lineAt parts i) true → CellsLeft text line at (b + 1)
             (i + 1) w m ms forms
         unfolding all
         cells-agree s = record {
@@ -265,7 +266,7 @@ module _ (text line : List ℕ) (at a i w : ℕ) (m : Option ℕ) (ms : List (Li
       };
       decides =
           x .decides
-          ∙ ap (λ (l : List ℕ). mismatch i (map (shownOf long) (pieces (getD line 0 0) l) ++ joined slotsIn (x .rows))
+          ∙ ap (λ (l : List ℕ). mismatch i (map (shownOf (isLong line)) (pieces (getD line 0 0) l) ++ joined slotsIn (x .rows))
           (drop i forms)) (drop-of-length-le line {i = a} ge);
     }
 

@@ -42,8 +42,8 @@ next-digits w i lt d =
       rw (add-one i) (and-right (isDigit (getD w i 0)) (all isDigit (drop (suc i) w)) a),
     )
 
-pub upto-digit : (w : List ℕ) (v i : ℕ) → i < length w → Upto w v i → (48 ≤ getD w i 0) × (getD w i 0 ≤ 57)
-upto-digit w v i lt u = digit-range (getD w i 0) (next-digits w i lt (u .digits) .0)
+pub upto-digit : (w : List ℕ) (v i : ℕ) → i < length w → Upto w v i → isDigit (getD w i 0) ≡ true
+upto-digit w v i lt u = next-digits w i lt (u .digits) .0
 
 pub upto-step : (w : List ℕ) (v i : ℕ) → i < length w → Upto w v i → Upto w (v * 10 + (getD w i 0 - 48)) (i + 1)
 upto-step w v i lt u =

@@ -199,73 +199,73 @@ module _ (s : List ℕ) (x : Form) (p : Parts) (is : PartsAre s x p) where
           ∙ length-take-le (p .short .len) (drop (p .short .at) s)
           (omega (arith, length-drop (p .short .at) s, is .fits .short))
 
-  module _ (small : all isSmall (trees x) ≡ true) where
-    behind : all isSmall (listOf (x .constraint) ++ listOf (x .condition)) ≡ true
-    behind = all-back isSmall (widthTrees (x .width)) (listOf (x .constraint) ++ listOf (x .condition)) small
+module _ (s : List ℕ) (x : Form) (p : Parts) (is : PartsAre s x p) (small : all isSmall (trees x) ≡ true) where
+  behind : all isSmall (listOf (x .constraint) ++ listOf (x .condition)) ≡ true
+  behind = all-back isSmall (widthTrees (x .width)) (listOf (x .constraint) ++ listOf (x .condition)) small
 
-    pub width-most : p .width .size ≤ storedMost
-    width-most =
-        width-small s (x .width) (p .kind) (p .bits) (p .width) (is .width)
-        (all-front isSmall (widthTrees (x .width)) (listOf (x .constraint) ++ listOf (x .condition)) small)
+  pub width-most : p .width .size ≤ storedMost
+  width-most =
+      width-small s (x .width) (p .kind) (p .bits) (p .width) (is .width)
+      (all-front isSmall (widthTrees (x .width)) (listOf (x .constraint) ++ listOf (x .condition)) small)
 
-    pub constraint-most : p .constraint .size ≤ storedMost
-    constraint-most =
-        maybe-small s (x .constraint) (p .constraint) (is .constraint)
-        (all-front isSmall (listOf (x .constraint)) (listOf (x .condition)) behind)
+  pub constraint-most : p .constraint .size ≤ storedMost
+  constraint-most =
+      maybe-small s (x .constraint) (p .constraint) (is .constraint)
+      (all-front isSmall (listOf (x .constraint)) (listOf (x .condition)) behind)
 
-    pub condition-most : p .condition .size ≤ storedMost
-    condition-most =
-        maybe-small s (x .condition) (p .condition) (is .condition)
-        (all-back isSmall (listOf (x .constraint)) (listOf (x .condition)) behind)
+  pub condition-most : p .condition .size ≤ storedMost
+  condition-most =
+      maybe-small s (x .condition) (p .condition) (is .condition)
+      (all-back isSmall (listOf (x .constraint)) (listOf (x .condition)) behind)
 
-    pub parts-sized : length s ≤ textMost → Sized p
-    parts-sized le = record {
-      label = omega (arith, is .fits .label, le);
-      short = omega (arith, is .fits .short, le);
-      width = width-most;
-      constraint = constraint-most;
-      condition = condition-most;
-    }
+  pub parts-sized : length s ≤ textMost → Sized p
+  parts-sized le = record {
+    label = omega (arith, is .fits .label, le);
+    short = omega (arith, is .fits .short, le);
+    width = width-most;
+    constraint = constraint-most;
+    condition = condition-most;
+  }
 
-  module _ (names : List (List ℕ)) (i : ℕ) where
-    pub body-length : 4 + length (fieldBody (indexed names i x)) ≡ fieldSize p
-    unfolding fieldBody
-    body-length =
-        let f = indexed names i x in
-        let a = counted (f .label) in
-        let b = counted (storedName (f .short)) in
-        let v = storedWidth (f .width) in
-        let c = counted (storedMaybe (f .constraint)) in
-        let d = counted (storedMaybe (f .condition)) in
-        rw (
-          length-append a (b ++ (v ++ (c ++ d))),
-          length-append b (v ++ (c ++ d)),
-          length-append v (c ++ d),
-          length-append c d,
-        )
-        (omega (
-          arith,
-          size-sum p,
-          counted-length (f .label),
-          label-length,
-          counted-length (storedName (f .short)),
-          short-length,
-          width-length s (lookUp names i) (x .width) p (is .width),
-          maybe-counted s (lookUp names (i + 1)) (x .constraint) (p .constraint) (is .constraint),
-          maybe-counted s (lookUp names i) (x .condition) (p .condition) (is .condition),
-        ))
+module _ (s : List ℕ) (x : Form) (p : Parts) (is : PartsAre s x p) (names : List (List ℕ)) (i : ℕ) where
+  pub body-length : 4 + length (fieldBody (indexed names i x)) ≡ fieldSize p
+  unfolding fieldBody
+  body-length =
+      let f = indexed names i x in
+      let a = counted (f .label) in
+      let b = counted (storedName (f .short)) in
+      let v = storedWidth (f .width) in
+      let c = counted (storedMaybe (f .constraint)) in
+      let d = counted (storedMaybe (f .condition)) in
+      rw (
+        length-append a (b ++ (v ++ (c ++ d))),
+        length-append b (v ++ (c ++ d)),
+        length-append v (c ++ d),
+        length-append c d,
+      )
+      (omega (
+        arith,
+        size-sum p,
+        counted-length (f .label),
+        label-length s x p is,
+        counted-length (storedName (f .short)),
+        short-length s x p is,
+        width-length s (lookUp names i) (x .width) p (is .width),
+        maybe-counted s (lookUp names (i + 1)) (x .constraint) (p .constraint) (is .constraint),
+        maybe-counted s (lookUp names i) (x .condition) (p .condition) (is .condition),
+      ))
 
-    pub field-length : length (storedField (indexed names i x)) ≡ fieldSize p
-    unfolding storedFieldIn
-    field-length =
-        let f = indexed names i x in
-        rw (
-          length-append (le2 (4 + length (fieldBody f))) (le2 (kindNumber (f .width)) ++ fieldBody f),
-          length-append (le2 (kindNumber (f .width))) (fieldBody f),
-          two-length (4 + length (fieldBody f)),
-          two-length (kindNumber (f .width)),
-        )
-        (omega (arith, body-length))
+  pub field-length : length (storedField (indexed names i x)) ≡ fieldSize p
+  unfolding storedFieldIn
+  field-length =
+      let f = indexed names i x in
+      rw (
+        length-append (le2 (4 + length (fieldBody f))) (le2 (kindNumber (f .width)) ++ fieldBody f),
+        length-append (le2 (kindNumber (f .width))) (fieldBody f),
+        two-length (4 + length (fieldBody f)),
+        two-length (kindNumber (f .width)),
+      )
+      (omega (arith, body-length))
 
 -- the length of a line of a text
 pub line-length : (text : List ℕ) (p : Parts) → p .line .at + p .line .len ≤ length text

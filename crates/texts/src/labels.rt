@@ -6,7 +6,7 @@ use names::labels::is_short;
 ghost use mathlib.Core.Path.{_≡_};
 ghost use Prim.Native.Nat.{_≤_};
 ghost use lib.ListN.{length, drop};
-ghost use Rattle.text_laws.specs.LineReader.{labelEnds, labelBehind, readLabel, readName, readShort};
+ghost use Rattle.text_laws.specs.LineReader.{labelEnds, labelBehind, readLabel, readClosedName, readShort};
 ghost use Rattle.texts.specs.FieldPlaces.{SameLabel, WithinLabel, SameShort, WithinShort};
 
 // The place behind a label.
@@ -64,7 +64,7 @@ pub(crate) fn label_at(s: &[u8], at: usize) -> Label
 fn name_at(s: &[u8], at: usize) -> Short
     requires { ⌜ at ≤ length (now s) ⌝ }
     ensures place { λ r. ⌜ WithinShort (now (s .entry)) at r ⌝ }
-    ensures same { λ r. ⌜ SameShort (now (s .entry)) (readName (drop at (now (s .entry)))) r ⌝ }
+    ensures same { λ r. ⌜ SameShort (now (s .entry)) (readClosedName (drop at (now (s .entry)))) r ⌝ }
 {
     let end = word_end(s, at);
     if is_short(&s[at..end]) {

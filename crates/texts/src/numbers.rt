@@ -1,4 +1,6 @@
 // The value of a number word.
+use names::classes::class_table;
+use names::classes::is_digit_in;
 use rules::NUMBER_MOST;
 ghost use mathlib.Core.Bool.{true};
 ghost use mathlib.Core.Path.{_≡_};
@@ -11,14 +13,12 @@ pub(crate) fn word_value(w: &[u8]) -> usize
     ensures most { λ r. ⌜ r ≤ numberMost ⌝ }
     ensures same { λ r. ⌜ (isNumberWord (now (w .entry)) ≡ true → r ≡ wordValue (now (w .entry))) ⌝ }
 {
+    let classes = class_table();
     let mut v: usize = 0;
     let mut i = 0;
     while i < w.len() {
         let c = w[i];
-        if c < b'0' {
-            return 0;
-        }
-        if c > b'9' {
+        if !is_digit_in(&classes, c) {
             return 0;
         }
         v = v * 10 + (c as usize - 48);
