@@ -1,13 +1,13 @@
 -- Laws of tests, of tests over lists, and of equal lists.
 use mathlib.Core.Path.{_≡_, refl, ap, sym, _∙_}
-use mathlib.Core.Bool.{Bool, true, false, _&&_, _||_}
+use mathlib.Core.Bool.{Bool, true, false, _&&_, _||_, not, false≢true}
 use mathlib.Core.Logic.{_⊎_, inl, inr, _↔_}
 use mathlib.Core.List.{List, [], _∷_, _++_, List·Memᴰ, List·Memᴰ·head, List·Memᴰ·tail}
 use Prim.Native.Nat.{ℕ, _≤_}
 use native.Mathlib.Omega.{arith}
 use lib.Dec.{leb, eqb}
 use borrow.Author.Tests.{eqb-true, eq-eqb, leb-true, le-leb}
-use Rattle.base.specs.Lists.{all, any, same, headIs, between}
+use Rattle.base.specs.Lists.{all, any, same, headIs, between, Every}
 
 -- ── tests ──
 
@@ -114,6 +114,13 @@ all-weaken p q f [] h = refl
 all-weaken p q f (x ∷ l) h = and-both (q x) (all q l) (f x (and-left (p x) (all p l) h))
     (all-weaken p q f l (and-right (p x) (all p l) h))
 
+-- each element is such as the test says
+pub every-passes : {A : Type 0} {P : A → Type 0} (p : A → Bool) → ((x : A) → p x ≡ true → P x) → (l : List A)
+    → all p l ≡ true → Every P l
+unfolding all
+every-passes p f [] h = tt
+every-passes p f (x ∷ l) h = (f x (and-left (p x) (all p l) h), every-passes p f l (and-right (p x) (all p l) h))
+
 -- a first element there is
 pub head-split : (p : ℕ → Bool) (s : List ℕ) → headIs p s ≡ true → (c : ℕ) × (v : List ℕ) × (s ≡ c ∷ v) × (p c ≡ true)
 head-split p [] h = absurd (not-both false h refl)
@@ -138,6 +145,14 @@ pub same-self : (s : List ℕ) → same s s ≡ true
 unfolding same
 same-self [] = refl
 same-self (x ∷ s) = and-both (eqb x x) (same s s) (eq-eqb x x refl) (same-self s)
+
+pub not-same : (s t : List ℕ) → not (same s t) ≡ true → s ≡ t → ⊥
+not-same s t n e = false≢true (sym (ap not (ap (λ u. same u t) e ∙ same-self t)) ∙ n)
+
+-- what has other numbers is another
+pub other-numbers : {A : Type 0} (numbers : A → List ℕ) (a b : A) → not (same (numbers a) (numbers b)) ≡ true
+    → a ≡ b → ⊥
+other-numbers numbers a b n e = not-same (numbers a) (numbers b) n (ap numbers e)
 
 pub same-exact : (s t : List ℕ) → (same s t ≡ true) ↔ (s ≡ t)
 same-exact s t = (same-true s t, λ e. rw e (same-self t))

@@ -63,6 +63,11 @@ Each R [] (y ∷ m) = ⊥
 Each R (x ∷ l) [] = ⊥
 Each R (x ∷ l) (y ∷ m) = R x y × Each R l m
 
+-- each element is such
+abbrev pub Every : {A : Type 0} → (A → Type 0) → List A → Type 0
+Every P [] = Unit {0}
+Every P (x ∷ l) = P x × Every P l
+
 -- the index of the first element that does not keep a rule, which may look at the elements before it
 unfoldable pub firstBreak : {A : Type 0} → (List A → A → Bool) → List A → List A → Option ℕ
 firstBreak keeps before [] = none

@@ -1,3 +1,5 @@
--- Marked, Worked  M1 to M10 and the worked cases hold
-pub mod Marked
+-- SameTree, CaseTests  a case holds where its test passes
+-- Worked               M1 to M10 and the worked cases hold
+pub mod SameTree
+pub mod CaseTests
 pub mod Worked

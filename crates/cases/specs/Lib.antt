@@ -1,2 +1,18 @@
--- Worked  worked cases that M1 to M10 leave open
+-- Worked           all worked cases hold: a list for each section of 01
+-- LinesOfAText     frames, labels and short names
+-- Expressions      trees: spelling, values, limits
+-- Fields           how many fields, their names, widths and rows
+-- StoredTable      tables, and what is looked up in them
+-- Spelling         texts that spell a description
+-- ReadingAPacket   packets, and what is handed out
+-- RefusalNumbers   numbers and places of refusals
+-- Listing          listings
+pub mod LinesOfAText
+pub mod Expressions
+pub mod Fields
+pub mod StoredTable
+pub mod Spelling
+pub mod ReadingAPacket
+pub mod RefusalNumbers
+pub mod Listing
 pub mod Worked

@@ -1,15 +1,16 @@
 -- What the promises rule out. For the stored table of a description within the limits, a promise allows one answer and
 -- one buffer; of other numbers it is false. Each claim of specs/Wrong has other numbers, by one computation.
-use mathlib.Core.Path.{_≡_, refl, sym, ap, _∙_}
-use mathlib.Core.Bool.{Bool, true, _&&_, not, false≢true}
+use mathlib.Core.Path.{_≡_, refl, ap, _∙_}
+use mathlib.Core.Bool.{Bool, true, _&&_, not}
 use mathlib.Core.List.{List, [], _∷_}
 use Prim.Native.Nat.{ℕ}
 use native.Mathlib.Omega.{arith}
 use lib.ListN.{length, getElem?}
 use Rattle.base.specs.Bytes.{digits}
 use Rattle.base.specs.Lists.{all, any, same, lastIs, sum, joined, firstBreak}
-use Rattle.base.proofs.Lists.{same-self}
+use Rattle.base.proofs.Lists.{every-passes, not-same}
 use Rattle.base.proofs.Breaks.{and-true}
+use Rattle.rules.specs.Limits.{limits}
 use Rattle.rules.specs.Operators.{operator}
 use Rattle.rules.specs.Names.{
   isLetter,
@@ -69,6 +70,7 @@ use Rattle.laws.specs.Wrong.{
   tellsNumber,
   tellsPlace,
   tellsAmount,
+  tellsLimits,
   lentOutput,
   Claimed,
   AllFalse,
@@ -160,6 +162,7 @@ claimed (placesLabel d i part) = placeNumbers part
 claimed (tellsNumber r n) = single n
 claimed (tellsPlace r n) = single n
 claimed (tellsAmount r n) = single n
+claimed (tellsLimits l) = l
 
 abbrev pub given : Claim → List ℕ
 given (checks d r) = answerNumbers (accepted (length (stored d)))
@@ -173,6 +176,7 @@ given (placesLabel d i part) = placeNumbers (labelAt d i)
 given (tellsNumber r n) = single (ofPacket r .number)
 given (tellsPlace r n) = single (ofPacket r .place)
 given (tellsAmount r n) = single (ofPacket r .amount)
+given (tellsLimits l) = limits
 
 -- what is claimed of a table is of the table of a description within the limits
 abbrev pub isFitting : Claim → Bool
@@ -187,6 +191,7 @@ isFitting (placesLabel d i part) = isWithin d
 isFitting (tellsNumber r n) = true
 isFitting (tellsPlace r n) = true
 isFitting (tellsAmount r n) = true
+isFitting (tellsLimits l) = true
 
 two-parts : {m n : ℕ} {s t : List ℕ} → (s ≡ t) × (m ≡ n) → m ∷ s ≡ n ∷ t
 two-parts {n = n} {s = s} q = ap (λ (k : ℕ). k ∷ s) (q .1) ∙ ap (λ (l : List ℕ). n ∷ l) (q .0)
@@ -204,12 +209,10 @@ claim-only (placesLabel d i part) h p = ap placeNumbers (label-place-only d i pa
 claim-only (tellsNumber r n) h p = ap single p
 claim-only (tellsPlace r n) h p = ap single p
 claim-only (tellsAmount r n) h p = ap single p
+claim-only (tellsLimits l) h p = p
 
 abbrev pub isOther : Claim → Bool
 isOther c = isFitting c && not (same (claimed c) (given c))
-
-not-same : (s t : List ℕ) → not (same s t) ≡ true → s ≡ t → ⊥
-not-same s t n e = false≢true (sym (ap not (ap (λ u. same u t) e ∙ same-self t)) ∙ n)
 
 pub ruled-out : (c : Claim) → isOther c ≡ true → Claimed c → ⊥
 ruled-out c h p =
@@ -217,9 +220,7 @@ ruled-out c h p =
     not-same (claimed c) (given c) (e .1) (claim-only c (e .0) p)
 
 pub all-out : (cs : List Claim) → all isOther cs ≡ true → AllFalse cs
-unfolding all
-all-out [] h = tt
-all-out (c ∷ cs) h = let e = and-true (isOther c) (all isOther cs) h in (ruled-out c (e .0), all-out cs (e .1))
+all-out = every-passes isOther ruled-out
 
 -- each wrong program's answer is ruled out
 pub all-ruled-out : AllFalse wrong

@@ -4,13 +4,14 @@ use mathlib.Core.Path.{_≡_}
 use mathlib.Core.List.{List, [], _∷_, _++_}
 use mathlib.Core.Option.{none, some}
 use Prim.Native.Nat.{ℕ}
-use lib.ListN.{length, replicate, drop}
+use lib.ListN.{length, replicate, take, drop, set}
 use Rattle.base.specs.Bytes.{bytes}
-use Rattle.base.specs.Lists.{joined}
+use Rattle.base.specs.Lists.{joined, Every}
 use Rattle.rules.specs.declared.Op.the-variants.{Eq}
 use Rattle.rules.specs.declared.Fault.the-variants.{BitsMissing}
 use Rattle.rules.specs.declared.PacketAnswer.{PacketAnswer}
 use Rattle.rules.specs.declared.PacketAnswer.the-variants.{Accepted, Refused, LeftOver}
+use Rattle.rules.specs.Limits.{limits}
 use Rattle.rules.specs.Trees.{num, read, two}
 use Rattle.rules.specs.Fields.{fixed, Description}
 use Rattle.rules.specs.Stored.{stored}
@@ -57,6 +58,8 @@ pub data Claim : Type 0 where
   tellsNumber : PacketAnswer → ℕ → Claim
   tellsPlace : PacketAnswer → ℕ → Claim
   tellsAmount : PacketAnswer → ℕ → Claim
+  -- the limits
+  tellsLimits : List ℕ → Claim
 
 abbrev pub lentOutput : List ℕ
 lentOutput = replicate 120 9
@@ -73,10 +76,10 @@ Claimed (placesLabel d i part) = PlacesLabel (stored d) i part
 Claimed (tellsNumber r n) = n ≡ ofPacket r .number
 Claimed (tellsPlace r n) = n ≡ ofPacket r .place
 Claimed (tellsAmount r n) = n ≡ ofPacket r .amount
+Claimed (tellsLimits l) = l ≡ limits
 
 abbrev pub AllFalse : List Claim → Type 0
-AllFalse [] = Unit {0}
-AllFalse (c ∷ cs) = (Claimed c → ⊥) × AllFalse cs
+AllFalse = Every (λ c. Claimed c → ⊥)
 
 -- ── short ways to write what was left in a buffer ──
 
@@ -111,15 +114,19 @@ crossed = page (named "A" "X" (fixed 8) none none ∷ named "X" "A" (fixed 8) no
 
 -- ── the answers ──
 
-abbrev pub wrong : List Claim
-wrong =
+abbrev wrongTables : List Claim
+wrongTables =
     -- 21 for every table
     checks bladeReport notGood
     ∷ reads bladeReport m1 notGood lentRun
     -- another length for a table
     ∷ checks bladeReport (accepted 0)
+    ∷ []
+
+abbrev wrongReadings : List Claim
+wrongReadings =
     -- every packet accepted, and nothing written
-    ∷ reads bladeReport m1 (accepted 64) lentRun
+    reads bladeReport m1 (accepted 64) lentRun
     ∷ reads bladeReport m3 (accepted 56) lentRun
     -- the first field read truly, the rest called absent
     ∷ reads bladeReport m1 (accepted 64) (runOf (entry 0 2 1 ∷ replicate 6 absent))
@@ -157,14 +164,22 @@ wrong =
     -- V for L in Borrower's condition; L for N in the width of Readings
     ∷ reads bladeReport m2 (refused 24 7) lentRun
     ∷ reads bladeReport m1 (refused 28 0) lentRun
+    ∷ []
+
+abbrev wrongListings : List Claim
+wrongListings =
     -- a listing: nothing written; a wrong line; a line left out; 21 for a good table; no refusal printed
-    ∷ lists bladeReport m1 (accepted (length m1Listing)) lentOutput
+    lists bladeReport m1 (accepted (length m1Listing)) lentOutput
     ∷ lists bladeReport m1 (accepted (length m1Listing)) (outputOf (bytes "Version: 0 2 2\n" ++ m1Rest))
     ∷ lists bladeReport m1 (accepted (length m1Rest)) (outputOf m1Rest)
     ∷ lists bladeReport m1 (accepted 16) (outputOf (bytes "refused 21 at 0\n"))
     ∷ lists bladeReport m3 (accepted 0) lentOutput
+    ∷ []
+
+abbrev wrongParts : List Claim
+wrongParts =
     -- a part: the empty one for Readings; its neighbour's bytes; its own bytes from elsewhere
-    ∷ hands bladeReport m1 5 [] 0
+    hands bladeReport m1 5 [] 0
     ∷ hands bladeReport m1 5 (0x00 ∷ 0x09 ∷ []) 6
     ∷ hands bladeReport m1 5 (0xAA ∷ 0xBB ∷ []) 0
     -- a part for a field that has none: of bits, absent, of a refused packet
@@ -180,8 +195,12 @@ wrong =
     ∷ placesPart bladeReport m1 0 (partFrom 0 1)
     ∷ placesPart bladeReport m2 4 (partFrom 2 2)
     ∷ placesPart bladeReport m3 3 (partFrom 1 1)
+    ∷ []
+
+abbrev wrongNames : List Claim
+wrongNames =
     -- a field by name: no name found; labels or short names passed over; indexes from 1; case ignored; a prefix taken
-    ∷ finds bladeReport (bytes "V") (refused 30 0)
+    finds bladeReport (bytes "V") (refused 30 0)
     ∷ finds bladeReport (bytes "Blade") (refused 30 0)
     ∷ finds bladeReport (bytes "Blade") (accepted 4)
     ∷ finds bladeReport (bytes "v") (accepted 0)
@@ -189,8 +208,12 @@ wrong =
     -- the later of two fields that have the name; 21 for a good table
     ∷ finds crossed (bytes "X") (accepted 1)
     ∷ finds bladeReport (bytes "V") notGood
+    ∷ []
+
+abbrev wrongLabels : List Claim
+wrongLabels =
     -- a label: the empty part; the short name; the neighbour's; its own bytes from elsewhere; one beyond the fields
-    ∷ labels bladeReport 0 [] 0
+    labels bladeReport 0 [] 0
     ∷ labels bladeReport 0 (bytes "V") 37
     ∷ labels bladeReport 0 (bytes "On Loan") 58
     ∷ labels bladeReport 0 (bytes "Version") 0
@@ -203,8 +226,12 @@ wrong =
     ∷ placesLabel bladeReport 0 (partFrom 28 12)
     ∷ placesLabel bladeReport 0 (partFrom 26 9)
     ∷ placesLabel bladeReport 7 (partFrom 186 3)
+    ∷ []
+
+abbrev wrongAnswers : List Claim
+wrongAnswers =
     -- a number: 24 told as 25; 0 for a refusal; the bit total of an accepted packet
-    ∷ tellsNumber (Refused BitsMissing 7) 25
+    tellsNumber (Refused BitsMissing 7) 25
     ∷ tellsNumber (Refused BitsMissing 7) 0
     ∷ tellsNumber PacketAnswer.NotGood 0
     ∷ tellsNumber (Accepted 64) 64
@@ -218,4 +245,11 @@ wrong =
     ∷ tellsAmount LeftOver 72
     ∷ tellsAmount (Accepted 64) 0
     ∷ tellsAmount (Accepted 64) 8
+    -- the limits: one field more; a byte less for a label; one left out
+    ∷ tellsLimits (set limits 1 65)
+    ∷ tellsLimits (set limits 3 39)
+    ∷ tellsLimits (take 9 limits)
     ∷ []
+
+abbrev pub wrong : List Claim
+wrong = wrongTables ++ (wrongReadings ++ (wrongListings ++ (wrongParts ++ (wrongNames ++ (wrongLabels ++ wrongAnswers)))))

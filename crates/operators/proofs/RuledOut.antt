@@ -1,10 +1,10 @@
 -- No promise allows an answer of specs/Wrong: each has other numbers, by one computation.
-use mathlib.Core.Path.{_≡_, refl, ap, sym, _∙_}
-use mathlib.Core.Bool.{Bool, true, not, false≢true}
+use mathlib.Core.Path.{_≡_, refl}
+use mathlib.Core.Bool.{Bool, true, not}
 use mathlib.Core.List.{List, [], _∷_}
 use Prim.Native.Nat.{ℕ}
 use Rattle.base.specs.Lists.{all, same}
-use Rattle.base.proofs.Lists.{and-left, and-right, same-self}
+use Rattle.base.proofs.Lists.{every-passes, other-numbers}
 use Rattle.rules.specs.declared.ValueType.{ValueType}
 use Rattle.rules.specs.declared.Decider.{Decider}
 use Rattle.rules.specs.Operators.{operator, operators, code}
@@ -53,26 +53,16 @@ symbolNumbers (Symbol.Is o n) = code o ∷ n ∷ []
 
 -- ── other numbers ──
 
-other : {A : Type 0} (numbers : A → List ℕ) (a b : A) → not (same (numbers a) (numbers b)) ≡ true → a ≡ b → ⊥
-other numbers a b d e =
-    false≢true (ap not (sym (same-self (numbers a)) ∙ ap (λ x. same (numbers a) (numbers x)) e) ∙ d)
-
 abbrev differs : Claim → Bool
 differs (hasRow o r) = not (same (rowNumbers r) (rowNumbers (rowOf o)))
 differs (says c r) = not (same (codeNumbers r) (codeNumbers (codeOf c)))
 differs (begins a b r) = not (same (symbolNumbers r) (symbolNumbers (symbolOf a b)))
 
 one-false : (c : Claim) → differs c ≡ true → Claimed c → ⊥
-one-false (hasRow o r) d = other rowNumbers r (rowOf o) d
-one-false (says c r) d = other codeNumbers r (codeOf c) d
-one-false (begins a b r) d = other symbolNumbers r (symbolOf a b) d
-
-each-false : (cs : List Claim) → all differs cs ≡ true → AllFalse cs
-unfolding all
-each-false [] e = tt
-each-false (c ∷ cs) e =
-    (one-false c (and-left (differs c) (all differs cs) e), each-false cs (and-right (differs c) (all differs cs) e))
+one-false (hasRow o r) d = other-numbers rowNumbers r (rowOf o) d
+one-false (says c r) d = other-numbers codeNumbers r (codeOf c) d
+one-false (begins a b r) d = other-numbers symbolNumbers r (symbolOf a b) d
 
 pub ruled-out : AllFalse wrong
 unfolding all same rowOf codeOf codeIn symbolOf symbolIn operators operator
-ruled-out = each-false wrong refl
+ruled-out = every-passes differs one-false wrong refl

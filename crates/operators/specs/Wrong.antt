@@ -2,6 +2,7 @@
 use mathlib.Core.Path.{_≡_}
 use mathlib.Core.List.{List, [], _∷_}
 use Prim.Native.Nat.{ℕ}
+use Rattle.base.specs.Lists.{Every}
 use Rattle.rules.specs.declared.Op.{Op}
 use Rattle.rules.specs.declared.Op.the-variants.{Or, And, Eq, Lt, Le, Sub, Mul}
 use Rattle.rules.specs.declared.ValueType.the-variants.{Number, YesNo}
@@ -50,5 +51,4 @@ wrong =
     ∷ []
 
 abbrev pub AllFalse : List Claim → Type 0
-AllFalse [] = Unit {0}
-AllFalse (c ∷ cs) = (Claimed c → ⊥) × AllFalse cs
+AllFalse = Every (λ c. Claimed c → ⊥)

@@ -1,13 +1,12 @@
 -- What the promises rule out: each allows one answer and one output, and each claim of specs/Wrong has other numbers,
 -- by one computation.
-use mathlib.Core.Path.{_≡_, refl, sym, ap, _∙_}
-use mathlib.Core.Bool.{Bool, true, not, false≢true}
+use mathlib.Core.Path.{_≡_, refl, ap, _∙_}
+use mathlib.Core.Bool.{Bool, true, not}
 use mathlib.Core.List.{List, [], _∷_, _++_}
 use Prim.Native.Nat.{ℕ}
 use lib.ListN.{length, drop}
 use Rattle.base.specs.Lists.{all, same}
-use Rattle.base.proofs.Lists.{same-self}
-use Rattle.base.proofs.Breaks.{and-true}
+use Rattle.base.proofs.Lists.{every-passes, not-same}
 use Rattle.requests.specs.Words.{before, nextWord, digitOf, numberFrom, hexBytes, fitting}
 use Rattle.requests.specs.Wrong.{Claim, finds, steps, reads, fills, lent, Claimed, AllFalse, wrong}
 
@@ -38,17 +37,10 @@ claim-only (fills s n after) p =
 abbrev isOther : Claim → Bool
 isOther c = not (same (claimed c) (given c))
 
-not-same : (s t : List ℕ) → not (same s t) ≡ true → s ≡ t → ⊥
-not-same s t n e = false≢true (sym (ap not (ap (λ u. same u t) e ∙ same-self t)) ∙ n)
-
-all-out : (cs : List Claim) → all isOther cs ≡ true → AllFalse cs
-unfolding all
-all-out [] h = tt
-all-out (c ∷ cs) h =
-    let e = and-true (isOther c) (all isOther cs) h in
-    (λ p. not-same (claimed c) (given c) (e .0) (claim-only c p), all-out cs (e .1))
+ruled-out : (c : Claim) → isOther c ≡ true → Claimed c → ⊥
+ruled-out c h p = not-same (claimed c) (given c) h (claim-only c p)
 
 -- each wrong program's answer is ruled out
 pub all-ruled-out : AllFalse wrong
 unfolding all same before nextWord digitOf numberFrom hexBytes fitting
-all-ruled-out = all-out wrong refl
+all-ruled-out = every-passes isOther ruled-out wrong refl

@@ -3,6 +3,7 @@ use mathlib.Core.Path.{_≡_}
 use mathlib.Core.List.{List, [], _∷_}
 use Prim.Native.Nat.{ℕ}
 use Rattle.base.specs.Bytes.{bytes}
+use Rattle.base.specs.Lists.{Every}
 use Rattle.requests.specs.Words.{before, nextWord, numberFrom, Holds}
 
 pub data Claim : Type 0 where
@@ -25,8 +26,7 @@ Claimed (reads s n) = n ≡ numberFrom 0 s
 Claimed (fills s n after) = Holds s lent n after
 
 abbrev pub AllFalse : List Claim → Type 0
-AllFalse [] = Unit {0}
-AllFalse (c ∷ cs) = (Claimed c → ⊥) × AllFalse cs
+AllFalse = Every (λ c. Claimed c → ⊥)
 
 abbrev pub wrong : List Claim
 wrong =

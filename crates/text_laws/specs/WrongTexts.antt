@@ -7,7 +7,7 @@ use Prim.Native.Nat.{ℕ, _+_}
 use Prim.Native.String.{String}
 use lib.ListN.{length, replicate, take, drop}
 use Rattle.base.specs.Bytes.{bytes}
-use Rattle.base.specs.Lists.{joined}
+use Rattle.base.specs.Lists.{joined, Every}
 use Rattle.rules.specs.declared.Op.the-variants.{Or, And, Eq, Ne, Ge, Sub}
 use Rattle.rules.specs.declared.TextAnswer.{TextAnswer}
 use Rattle.rules.specs.declared.TextAnswer.the-variants.{
@@ -40,8 +40,7 @@ abbrev pub Claimed : Claim → Type 0
 Claimed (reads text out r after) = ReadsText text out (leaves (ofText r) after)
 
 abbrev pub AllFalse : List Claim → Type 0
-AllFalse [] = Unit {0}
-AllFalse (c ∷ cs) = (Claimed c → ⊥) × AllFalse cs
+AllFalse = Every (λ c. Claimed c → ⊥)
 
 -- ── short ways to write claims ──
 

@@ -1,6 +1,5 @@
 -- No reply and no span of a wrong export keeps the export's promise.
 use mathlib.Core.Path.{refl}
-use lib.Dec.{leb→le}
 use Rattle.base.specs.Bytes.{digits}
 use Rattle.base.specs.Lists.{all, any, same, lastIs, sum, joined, firstBreak}
 use Rattle.rules.specs.Operators.{operator}
@@ -16,7 +15,6 @@ use Rattle.rules.specs.Names.{
   isReserved,
   isShort,
 }
-use Rattle.rules.specs.Limits.{textMost}
 use Rattle.rules.specs.Trees.{depth, le2, le4, storedTree, isInRange, hasType}
 use Rattle.rules.specs.Values.{apply, decides, evaluate}
 use Rattle.rules.specs.Within.{rowsFit}
@@ -24,10 +22,10 @@ use Rattle.rules.specs.Stored.{storedIn, storedFieldIn, fieldBody, headBody}
 use Rattle.rules.specs.Reading.{bitsAt, valueIn, readField, readFields, reading}
 use Rattle.rules.specs.Listing.{entryLines, linesText}
 use Rattle.rules.specs.Answers.{faultNumber}
-use Rattle.rules.specs.Promises.{delivered, readingAnswer, packetOutcome, readingLines, firstNamed, spelled}
+use Rattle.rules.specs.Promises.{delivered, readingAnswer, packetOutcome, readingLines, firstNamed}
 use Rattle.laws.specs.Wrong.{AllFalse}
 use Rattle.laws.proofs.RuledOut.{all-out}
-use Rattle.text_laws.proofs.RuledOutTexts.{other, tag-known}
+use Rattle.text_laws.proofs.RuledOutTexts.{other, tag-known, barred-known}
 use Rattle.umarekoza.specs.WrongReplies.{wrongReplies, WrongTextReplies}
 
 pub replies-ruled-out : AllFalse wrongReplies
@@ -39,4 +37,8 @@ replies-ruled-out = all-out wrongReplies refl
 
 pub text-replies-ruled-out : WrongTextReplies
 unfolding digits same joined operator le2 le4 storedTree storedIn storedFieldIn fieldBody headBody delivered
-text-replies-ruled-out = record { nothing = other tag-known refl; lengthless = other tag-known refl }
+text-replies-ruled-out = record {
+  nothing = other tag-known refl;
+  lengthless = other tag-known refl;
+  renumbered = other barred-known refl;
+}

@@ -1,6 +1,6 @@
 -- Replies and spans of wrong exports: of each, what is claimed is the export's promise, and it is false
 -- (proofs/RuledOutReplies).
-use mathlib.Core.List.{List, [], _∷_}
+use mathlib.Core.List.{List, [], _∷_, _++_}
 use Prim.Native.Nat.{ℕ}
 use lib.ListN.{length, replicate}
 use Rattle.base.specs.Bytes.{bytes}
@@ -8,6 +8,7 @@ use Rattle.rules.specs.Promises.{leaves, ReadsText}
 use Rattle.rules.specs.Reading.{Part}
 use Rattle.rules.specs.Cases.{lentRun}
 use Rattle.rules.specs.Marked.{bladeReport, m1, m1Listing, tagText, tagTable}
+use Rattle.rules.specs.Pages.{tagLines}
 use Rattle.laws.specs.Wrong.{
   Claim,
   checks,
@@ -35,25 +36,31 @@ abbrev pub wrongReplies : List Claim
 wrongReplies =
     -- a table: no length for a good one; a place for it
     checks bladeReport (replyAnswer (reply 0 0 0))
-    ∷ checks bladeReport (replyAnswer (reply 0 1 189))
-    -- a packet: bytes for bits; number and place exchanged
+    ∷ checks bladeReport (replyAnswer (reply 0 1 201))
+    -- a packet: bytes for bits; number and place exchanged; the table read in its place
     ∷ reads bladeReport m1 (replyAnswer (reply 0 0 8)) (runOf m1Entries)
     ∷ reads bladeReport [] (replyAnswer (reply 1 24 0)) lentRun
-    -- a listing: its lines counted; no length
+    ∷ reads bladeReport m1 (replyAnswer (reply 25 1 0)) lentRun
+    -- a listing: its lines counted; no length; that of the table in the packet's place
     ∷ lists bladeReport m1 (replyAnswer (reply 0 0 8)) (outputOf m1Listing)
     ∷ lists bladeReport m1 (replyAnswer (reply 0 0 0)) (outputOf m1Listing)
-    -- a field's bytes: in bits; start and length exchanged
+    ∷ lists bladeReport m1 (replyAnswer (reply 0 0 16)) (outputOf (bytes "refused 25 at 1\n"))
+    -- a field's bytes: in bits; start and length exchanged; none, as where the table is read in the packet's place
     ∷ placesPart bladeReport m1 5 (spanPart (span 32 16))
     ∷ placesPart bladeReport m1 5 (spanPart (span 2 4))
-    -- a field by name: the index as the place; 11 for a name that no field has
+    ∷ placesPart bladeReport m1 5 (spanPart (span 0 0))
+    -- a field by name: the index as the place; 11 or 31 for a name that no field has
     ∷ finds bladeReport (bytes "N") (replyAnswer (reply 0 2 0))
     ∷ finds bladeReport (bytes "X") (replyAnswer (reply 11 0 0))
-    -- a label: the record's place; start and length exchanged
+    ∷ finds bladeReport (bytes "X") (replyAnswer (reply 31 0 0))
+    -- a label: the record's place; start and length exchanged; the first field's for every field
     ∷ placesLabel bladeReport 0 (spanPart (span 22 7))
     ∷ placesLabel bladeReport 0 (spanPart (span 7 28))
+    ∷ placesLabel bladeReport 1 (spanPart (span 28 7))
     ∷ []
 
--- a text: accepted with nothing written; the table written, and its length left out
+-- a text: accepted with nothing written; the table written, and its length left out; 2 told as 3
 pub record WrongTextReplies : Type 0 where
   pub nothing : ReadsText tagText (replicate 44 9) (leaves (replyAnswer (reply 0 0 44)) (replicate 44 9)) → ⊥
   pub lengthless : ReadsText tagText (replicate 44 9) (leaves (replyAnswer (reply 0 0 0)) tagTable) → ⊥
+  pub renumbered : ReadsText (tagLines 1 ++ (0x7F ∷ [])) [] (leaves (replyAnswer (reply 3 0 0)) []) → ⊥

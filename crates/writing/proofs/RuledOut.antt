@@ -1,11 +1,11 @@
 -- No promise allows an answer of specs/Wrong: each has other numbers, by one computation.
-use mathlib.Core.Path.{_≡_, refl, ap, sym, _∙_}
-use mathlib.Core.Bool.{Bool, true, not, false≢true}
+use mathlib.Core.Path.{_≡_, refl}
+use mathlib.Core.Bool.{Bool, true, not}
 use mathlib.Core.List.{List, [], _∷_}
 use Prim.Native.Nat.{ℕ}
 use Rattle.base.specs.Bytes.{digits, decimal}
 use Rattle.base.specs.Lists.{all, same}
-use Rattle.base.proofs.Lists.{and-left, and-right, same-self}
+use Rattle.base.proofs.Lists.{every-passes, other-numbers}
 use Rattle.rules.specs.Trees.{le2}
 use Rattle.rules.specs.Stored.{counted}
 use Rattle.rules.specs.Promises.{Outcome, leaves, delivered}
@@ -34,10 +34,6 @@ outcomeNumbers o = o .answer .number ∷ o .answer .place ∷ o .answer .amount 
 
 -- ── other numbers ──
 
-other : {A : Type 0} (numbers : A → List ℕ) (a b : A) → not (same (numbers a) (numbers b)) ≡ true → a ≡ b → ⊥
-other numbers a b d e =
-    false≢true (ap not (sym (same-self (numbers a)) ∙ ap (λ x. same (numbers a) (numbers x)) e) ∙ d)
-
 abbrev placedElse : Placed → Placed → Bool
 placedElse a b = not (same (placedNumbers a) (placedNumbers b))
 
@@ -50,19 +46,13 @@ differs (delivers w room after) =
     not (same (outcomeNumbers (leaves (deliveryAnswer room w) after)) (outcomeNumbers (delivered w lent)))
 
 one-false : (c : Claim) → differs c ≡ true → Claimed c → ⊥
-one-false (puts at w r) d = other placedNumbers r (put lent at w) d
-one-false (putsTwo at n r) d = other placedNumbers r (put lent at (le2 n)) d
-one-false (putsCounted at w r) d = other placedNumbers r (put lent at (counted w)) d
-one-false (putsDecimal at n r) d = other placedNumbers r (put lent at (decimal n)) d
+one-false (puts at w r) d = other-numbers placedNumbers r (put lent at w) d
+one-false (putsTwo at n r) d = other-numbers placedNumbers r (put lent at (le2 n)) d
+one-false (putsCounted at w r) d = other-numbers placedNumbers r (put lent at (counted w)) d
+one-false (putsDecimal at n r) d = other-numbers placedNumbers r (put lent at (decimal n)) d
 one-false (delivers w room after) d =
-    other outcomeNumbers (leaves (deliveryAnswer room w) after) (delivered w lent) d
-
-each-false : (cs : List Claim) → all differs cs ≡ true → AllFalse cs
-unfolding all
-each-false [] e = tt
-each-false (c ∷ cs) e =
-    (one-false c (and-left (differs c) (all differs cs) e), each-false cs (and-right (differs c) (all differs cs) e))
+    other-numbers outcomeNumbers (leaves (deliveryAnswer room w) after) (delivered w lent) d
 
 pub ruled-out : AllFalse wrong
 unfolding all same put le2 digits delivered
-ruled-out = each-false wrong refl
+ruled-out = every-passes differs one-false wrong refl

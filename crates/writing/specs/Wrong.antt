@@ -5,6 +5,7 @@ use mathlib.Core.List.{List, [], _∷_}
 use Prim.Native.Nat.{ℕ}
 use lib.ListN.{replicate}
 use Rattle.base.specs.Bytes.{bytes, decimal}
+use Rattle.base.specs.Lists.{Every}
 use Rattle.rules.specs.Trees.{le2}
 use Rattle.rules.specs.Stored.{counted}
 use Rattle.rules.specs.Promises.{leaves, delivered}
@@ -33,8 +34,7 @@ Claimed (putsDecimal at n r) = r ≡ put lent at (decimal n)
 Claimed (delivers w room after) = leaves (deliveryAnswer room w) after ≡ delivered w lent
 
 abbrev pub AllFalse : List Claim → Type 0
-AllFalse [] = Unit {0}
-AllFalse (c ∷ cs) = (Claimed c → ⊥) × AllFalse cs
+AllFalse = Every (λ c. Claimed c → ⊥)
 
 abbrev pub wrong : List Claim
 wrong =

@@ -1,0 +1,17 @@
+-- Worked cases: listings. [01, The blade report, marked cases and listing]
+use mathlib.Core.List.{List, [], _∷_, _++_}
+use lib.ListN.{replicate}
+use Rattle.base.specs.Bytes.{bytes}
+use Rattle.rules.specs.Cases.{Case, prints}
+use Rattle.rules.specs.Marked.{bladeReport, m1}
+use Rattle.rules.specs.Pages.{m2, m2Listing, m3}
+
+abbrev pub listings : List Case
+listings =
+    -- an absent field, a refusal at a field, a refusal without one
+    prints bladeReport m2 m2Listing
+    ∷ prints bladeReport m3 (bytes "refused 24 at 7\n")
+    ∷ prints bladeReport [] (bytes "refused 24 at 1\n")
+    ∷ prints bladeReport (m1 ++ (0 ∷ [])) (bytes "refused 28 at 0\n")
+    ∷ prints bladeReport (replicate 2049 0) (bytes "refused 22 at 0\n")
+    ∷ []
