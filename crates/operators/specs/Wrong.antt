@@ -6,7 +6,7 @@ use Rattle.base.specs.Lists.{Every}
 use Rattle.rules.specs.declared.Op.{Op}
 use Rattle.rules.specs.declared.Op.the-variants.{Or, And, Eq, Lt, Le, Sub, Mul}
 use Rattle.rules.specs.declared.ValueType.the-variants.{Number, YesNo}
-use Rattle.rules.specs.declared.Decider.the-variants.{ByYes, ByNo, Neither}
+use Rattle.rules.specs.declared.Decider.the-variants.{ByNo, Neither}
 use Rattle.operators.specs.declared.rows.Row.{Row}
 use Rattle.operators.specs.declared.codes.Code.{Code}
 use Rattle.operators.specs.declared.symbols.Symbol.{Symbol}

@@ -1,5 +1,5 @@
 -- Products                          a product of two 32-bit numbers
--- TreeSteps, TreeNodes              one step of checking, skipping and evaluating a stored tree
+-- TreeSteps, TreeTypes              one step of checking, skipping and evaluating a stored tree
 -- TreeSound, TreeComplete           what the check finds is stored, and what is stored is found
 -- TreeValues                        a stored tree's value
 -- PartsLaws, RecordLaws             the parts of a record and the field stored there
@@ -15,7 +15,7 @@
 -- LookupSteps, LookupStored, LookupPromises   records by index and fields by name
 pub mod Products
 pub mod TreeSteps
-pub mod TreeNodes
+pub mod TreeTypes
 pub mod TreeSound
 pub mod TreeComplete
 pub mod TreeValues

@@ -1,18 +1,18 @@
 -- The lines that are written for a stored description's fields are those of the listing.
-use mathlib.Core.Path.{_≡_, refl, sym, _∙_, ap}
-use mathlib.Core.Bool.{Bool, true, false, cond, _||_, false≢true}
+use mathlib.Core.Path.{_≡_, refl, sym, ap}
+use mathlib.Core.Bool.{true, false, false≢true}
 use mathlib.Core.List.{List, [], _∷_, _++_, append-assoc}
 use mathlib.Core.Option.{none}
-use Prim.Native.Nat.{ℕ, zero, suc, _+_, _*_, _-_, _<_, _≤_}
+use Prim.Native.Nat.{ℕ, suc, _+_, _-_, _<_, _≤_}
 use native.Mathlib.Omega.{arith}
-use native.Mathlib.Nat.{add-zero, add-assoc}
-use lib.Dec.{ltb, eqb}
-use lib.ListN.{length, getD, take, drop, length-append}
+use native.Mathlib.Nat.{add-zero}
+use lib.Dec.{eqb}
+use lib.ListN.{length, getD, take, drop}
 use lib.Seq.{take-at}
 use borrow.Author.Tests.{le-ltb}
 use Rattle.base.specs.Lists.{all, joined, firstBreak}
 use Rattle.base.specs.Places.{Stands}
-use Rattle.base.proofs.Places.{stands-left, stands-right, stands-some, stands-in}
+use Rattle.base.proofs.Places.{stands-left, stands-right, stands-some}
 use Rattle.base.proofs.Breaks.{firstBreak-cons}
 use Rattle.rules.specs.Names.{isLabel}
 use Rattle.rules.specs.Fields.{Width, fixed, measured, rest, Field, isFixed, isFixedWidth}
@@ -24,7 +24,7 @@ use Rattle.laws.proofs.ReadsFields.{label-length, formed-parts}
 use Rattle.rules.specs.Limits.{labelMost}
 use Rattle.packets.specs.declared.records.Parts.{Parts}
 use Rattle.packets.specs.Parts.{tableMost, ending, partsAt}
-use Rattle.packets.specs.PartsStand.{In, PartsStand}
+use Rattle.packets.specs.PartsStand.{PartsStand}
 use Rattle.packets.specs.LineTexts.{entryIn, stateText, lineText, linesFrom}
 use Rattle.packets.proofs.RecordLaws.{record-parts}
 use Rattle.packets.proofs.FieldBounds.{field-bounds}

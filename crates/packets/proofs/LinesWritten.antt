@@ -1,13 +1,13 @@
 -- The lines of fields, written one behind the other.
-use mathlib.Core.Path.{_≡_, refl, sym, _∙_, ap}
+use mathlib.Core.Path.{_≡_, refl, sym, _∙_}
 use mathlib.Core.Bool.{Bool, true, false, cond, _||_}
-use mathlib.Core.List.{List, [], _∷_, _++_, append-assoc, append-nil}
+use mathlib.Core.List.{List, [], _++_, append-assoc, append-nil}
 use Prim.Native.Nat.{ℕ, zero, suc, _+_, _*_, _-_, _<_, _≤_}
 use native.Mathlib.Omega.{arith}
 use native.Mathlib.Nat.{sub-zero}
 use lib.Dec.{ltb, eqb}
 use lib.ListN.{length, take, drop, length-append, length-take}
-use borrow.Author.Tests.{lt-ltb, le-ltb, ltb-true, ltb-false}
+use borrow.Author.Tests.{lt-ltb, le-ltb, ltb-false}
 use Rattle.base.specs.Bytes.{bytes}
 use Rattle.rules.specs.Limits.{fieldsMost, labelMost}
 use Rattle.packets.specs.declared.records.Parts.{Parts}
@@ -16,7 +16,7 @@ use Rattle.base.specs.Writes.{Writes}
 use Rattle.rules.specs.Listing.{refusedLine, bitsLine}
 use Rattle.writing.specs.Fits.{Fits}
 use Rattle.writing.proofs.FitsLaws.{fits-none, fits-join}
-use Rattle.packets.specs.LineTexts.{entryIn, stateText, isNoLabel, lineText, linesFrom, lineMost, listingMost}
+use Rattle.packets.specs.LineTexts.{entryIn, stateText, lineText, linesFrom, lineMost, listingMost}
 use Rattle.packets.proofs.WriteLaws.{digits-length, state-length}
 
 pub line-length : (s : List ℕ) (p : Parts) (run : List ℕ) (i : ℕ) → length (lineText s p run i) ≤ lineMost

@@ -1,18 +1,17 @@
 -- The listing that is written by a table is that of the description it stores.
 use mathlib.Core.Path.{_≡_, refl, sym, _∙_, ap}
 use mathlib.Core.List.{List, [], _∷_, _++_}
-use Prim.Native.Nat.{ℕ, _+_, _*_, _<_, _≤_}
+use Prim.Native.Nat.{ℕ, _+_, _<_, _≤_}
 use native.Mathlib.Omega.{arith}
 use native.Mathlib.Nat.{zero-add}
 use lib.ListN.{length, getD}
-use Rattle.base.specs.Lists.{joined}
 use Rattle.base.specs.Places.{twoAt}
 use Rattle.rules.specs.declared.PacketAnswer.{PacketAnswer}
 use Rattle.rules.specs.declared.TableAnswer.{TableAnswer}
 use Rattle.rules.specs.Fields.{Description}
 use Rattle.rules.specs.Within.{Within}
 use Rattle.rules.specs.Stored.{recordOf, stored, Good}
-use Rattle.rules.specs.Reading.{Entry, Reading, complete, reading, absent, bitTotal, numbersOf}
+use Rattle.rules.specs.Reading.{Entry, complete, reading, absent, bitTotal}
 use Rattle.rules.specs.Listing.{refusedLine, bitsLine, linesText, entryLines}
 use Rattle.rules.specs.Answers.{Answer, accepted, ofTable, ofPacket}
 use Rattle.rules.specs.Promises.{readingAnswer, listing, refusal, notGood, byTable, ChecksTable}

@@ -1,7 +1,7 @@
 -- From the walk over records to the promises on a field's index and label.
-use mathlib.Core.Path.{_≡_, refl, sym, _∙_, ap}
+use mathlib.Core.Path.{_≡_, refl, ap}
 use mathlib.Core.List.{List, [], _∷_}
-use mathlib.Core.Option.{Option, none, some}
+use mathlib.Core.Option.{none}
 use Prim.Native.Nat.{ℕ, zero, suc, _+_, _<_, _≤_}
 use native.Mathlib.Omega.{arith}
 use lib.ListN.{length, take, drop, getElem?}
@@ -9,16 +9,13 @@ use Rattle.base.specs.Lists.{joined}
 use Rattle.base.specs.Places.{twoAt}
 use Rattle.rules.specs.declared.TableAnswer.{TableAnswer}
 use Rattle.rules.specs.declared.FieldAnswer.{FieldAnswer}
-use Rattle.rules.specs.Fields.{Field, Description}
-use Rattle.rules.specs.Stored.{recordOf, headBody, storedField, stored, Good}
+use Rattle.rules.specs.Fields.{Field}
+use Rattle.rules.specs.Stored.{recordOf, headBody, storedField, Good}
 use Rattle.rules.specs.Answers.{Answer, ofTable, ofField}
-use Rattle.rules.specs.Reading.{Part, partFrom, noPart, partBytes}
+use Rattle.rules.specs.Reading.{partFrom}
 use Rattle.rules.specs.Promises.{
-  byTable,
   ChecksTable,
   FindsField,
-  firstNamed,
-  labelOf,
   labelBy,
   PlacesLabel,
   movedBy,

@@ -1,31 +1,22 @@
 -- The parts that the lengths of a record give are those of the field that is stored there, and the other way round.
-use mathlib.Core.Path.{_≡_, refl, sym, _∙_, ap}
-use mathlib.Core.Bool.{Bool, true, false, cond}
-use mathlib.Core.List.{List, [], _∷_, _++_}
-use Prim.Native.Nat.{ℕ, _+_, _*_, _-_, _<_, _≤_}
+use mathlib.Core.Path.{_≡_}
+use mathlib.Core.List.{List}
+use Prim.Native.Nat.{ℕ, _+_, _-_, _<_, _≤_}
 use native.Mathlib.Omega.{arith}
-use lib.Dec.{eqb}
-use lib.ListN.{length, length-append}
+use lib.ListN.{length}
 use Rattle.base.specs.Places.{Stands, IsBytes, twoAt}
-use Rattle.base.proofs.Places.{stands-none, stands-join, stands-left, stands-right, stands-end}
+use Rattle.base.proofs.Places.{stands-none, stands-join, stands-left, stands-right}
 use Rattle.laws.proofs.PlacesOfNumbers.{length-le2, stands-two, two-stands}
-use Rattle.rules.specs.Trees.{Tree, le2}
-use Rattle.rules.specs.Fields.{Width, fixed, measured, rest, Field}
+use Rattle.rules.specs.Trees.{le2}
+use Rattle.rules.specs.Fields.{Width, fixed, measured, rest}
 use Rattle.rules.specs.Stored.{
   counted,
   kindNumber,
   storedExpression,
   storedWidth,
-  storedName,
-  storedMaybe,
-  fieldBody,
-  storedField,
 }
-use Rattle.writing.specs.declared.spans.Span.{Span}
-use Rattle.packets.specs.declared.records.WidthParts.{WidthParts}
-use Rattle.packets.specs.declared.records.Parts.{Parts}
-use Rattle.packets.specs.Parts.{ending, spanAt, widthAt, partsAt}
-use Rattle.packets.specs.PartsStand.{In, WidthStands, PartsStand}
+use Rattle.packets.specs.Parts.{ending, spanAt, widthAt}
+use Rattle.packets.specs.PartsStand.{In, WidthStands}
 
 -- ── a length and the bytes behind it ──
 

@@ -1,7 +1,7 @@
 -- Where a stored table's fields begin, and how many there are.
-use mathlib.Core.Path.{_≡_, refl, sym, _∙_, ap}
-use mathlib.Core.List.{List, [], _∷_, _++_, append-assoc}
-use Prim.Native.Nat.{ℕ, zero, suc, _+_, _*_, _<_, _≤_}
+use mathlib.Core.Path.{_≡_, refl, _∙_}
+use mathlib.Core.List.{List, [], _++_}
+use Prim.Native.Nat.{ℕ, _+_, _<_, _≤_}
 use native.Mathlib.Omega.{arith}
 use native.Mathlib.Nat.{zero-add}
 use lib.ListN.{length, length-append}
@@ -13,7 +13,7 @@ use Rattle.base.proofs.Places.{stands-all, stands-left, stands-right}
 use Rattle.base.proofs.Breaks.{and-true}
 use Rattle.rules.specs.Limits.{fieldsMost}
 use Rattle.rules.specs.Trees.{le2}
-use Rattle.rules.specs.Fields.{Field, Description}
+use Rattle.rules.specs.Fields.{Description}
 use Rattle.rules.specs.Within.{Within}
 use Rattle.rules.specs.Stored.{recordOf, counted, headBody, storedField, stored, storedIn}
 use Rattle.laws.proofs.PlacesOfNumbers.{length-le2, stands-two}

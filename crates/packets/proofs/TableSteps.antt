@@ -20,7 +20,7 @@ use Rattle.packets.specs.Parts.{tableMost, spanAt, partsAt}
 use Rattle.packets.specs.FieldTest.{bytesIn}
 use Rattle.packets.specs.NamesTest.{placesFrom, FieldPlaces, Gathered}
 use Rattle.packets.specs.TableTest.{walkAt, headTest, GatheredBy}
-use Rattle.packets.proofs.FieldSteps.{parts-inside, field-ends, field-next}
+use Rattle.packets.proofs.FieldSteps.{parts-inside, field-next}
 use Rattle.packets.proofs.WalkLaws.{past-bad, walk-parts}
 
 -- ── the first record ──

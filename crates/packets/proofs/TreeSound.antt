@@ -4,23 +4,28 @@ use mathlib.Core.Bool.{Bool, true, false, cond}
 use mathlib.Core.List.{List, [], _∷_}
 use Prim.Native.Nat.{ℕ, zero, suc, _+_, _-_, _<_, _≤_}
 use native.Mathlib.Omega.{arith}
-use lib.ListN.{length}
-use borrow.Author.Tests.{le-leb}
-use Rattle.base.specs.Places.{Stands, IsBytes}
+use lib.Dec.{ltb}
+use lib.ListN.{length, getD}
+use borrow.Author.Tests.{le-leb, ltb-true, ltb-false}
+use Rattle.base.specs.Places.{Stands, IsBytes, fourAt}
 use Rattle.base.proofs.Lists.{and-both}
-use Rattle.base.proofs.Places.{stands-front, stands-join}
+use Rattle.base.proofs.Places.{stands-none, stands-front, stands-join, four-below}
+use Rattle.laws.proofs.PlacesOfNumbers.{four-stands}
 use Rattle.rules.specs.declared.Op.{Op}
 use Rattle.rules.specs.declared.ValueType.{ValueType}
 use Rattle.rules.specs.declared.ValueType.the-variants.{Number, YesNo}
 use Rattle.rules.specs.Limits.{numberMost}
-use Rattle.rules.specs.Operators.{code, takes, gives, notCode}
-use Rattle.rules.specs.Trees.{Tree, num, read, two, negation, depth, storedTree, isInRange, sameType, hasType}
+use Rattle.rules.specs.Operators.{code, takes, gives, numberCode, fieldCode, notCode}
+use Rattle.rules.specs.Trees.{Tree, num, read, two, negation, le4, depth, storedTree, isInRange, sameType, hasType}
 use Rattle.rules.specs.Stored.{storedExpression}
 use Rattle.packets.specs.declared.trees.Cursor.{Cursor}
-use Rattle.packets.specs.declared.trees.Node.{Node}
+use Rattle.operators.specs.declared.codes.Code.{Code}
+use Rattle.operators.specs.Codes.{codeOf}
 use Rattle.packets.specs.declared.trees.Checked.{Checked}
-use Rattle.packets.specs.StoredTrees.{marked, nodeAt, checkField, checkNot, checkTwo, onTree, checkNode, checkAt}
-use Rattle.packets.proofs.TreeNodes.{NodeStands, node-stands, same-type-true, same-type-self}
+use Rattle.packets.specs.StoredTrees.{cursor, marked, checkNumber, checkField, checkNot, checkTwo}
+use Rattle.packets.specs.StoredTrees.{onTree, checkCode, checkAt}
+use Rattle.operators.proofs.CodeLaws.{Codes, codes}
+use Rattle.packets.proofs.TreeTypes.{same-type-true, same-type-self}
 
 -- what a check promises of the tree that it found
 abbrev pub Found : ℕ → List ℕ → List ℕ → ℕ → ValueType → Cursor → Type 0
@@ -42,61 +47,95 @@ moved d s marks at k ty n c h w = subst₂ (λ (j : ValueType) (m : Cursor). Fou
 
 -- ── numbers and fields ──
 
-number-found : (d : ℕ) (s marks : List ℕ) (at n : ℕ) (c : Cursor) → NodeStands s at (Node.Number n c)
-    → Found (suc d) s marks at Number c
+number-found : (d : ℕ) (s marks : List ℕ) (at : ℕ) → IsBytes s → getD s at 0 ≡ numberCode → at + 4 < length s
+    → Found (suc d) s marks at Number (cursor (at + 5))
 unfolding storedTree depth isInRange hasType
-number-found d s marks at n c w = (num n, refl, le-leb n numberMost (w .0), omega arith, w .1, w .2)
+number-found d s marks at bs e lt =
+    let n = fourAt s (at + 1) in
+    let most : n ≤ numberMost = omega (arith, four-below s (at + 1) bs) in
+    let five : at + 5 ≡ at + 1 + 4 = omega arith in
+    let four : Stands s (at + 1) (le4 n) (at + 5) = rw five (four-stands s (at + 1) bs (omega arith)) in (
+      num n,
+      refl,
+      le-leb n numberMost most,
+      omega arith,
+      stands-front s at (at + 1) (at + 5) numberCode (le4 n) (omega arith) refl e four,
+      omega arith,
+    )
 
-field-found : (d : ℕ) (s marks : List ℕ) (at i : ℕ) (c : Cursor) → NodeStands s at (Node.Field i c)
-    → marked marks i ≡ true → Found (suc d) s marks at Number c
-unfolding storedTree depth isInRange hasType
-field-found d s marks at i c w m = (read i, m, refl, omega arith, w .0, w .1)
-
-sound-field : (d : ℕ) (s marks : List ℕ) (at i : ℕ) (n : Cursor) (ty : ValueType) (c : Cursor)
-    → NodeStands s at (Node.Field i n) → checkField marks i n ≡ Checked.Tree ty c → Found (suc d) s marks at ty c
-sound-field d s marks at i n ty c w h = go (marked marks i) refl h
+sound-number : (d : ℕ) (s marks : List ℕ) (at : ℕ) (ty : ValueType) (c : Cursor) → IsBytes s → at < length s
+    → getD s at 0 ≡ numberCode → checkNumber s at ≡ Checked.Tree ty c → Found (suc d) s marks at ty c
+sound-number d s marks at ty c bs lt e h = go (ltb (length s - at) 5) refl h
   where
-    go : (m : Bool) → marked marks i ≡ m → cond m (Checked.Tree Number n) Checked.Bad ≡ Checked.Tree ty c
+    go : (b : Bool) → ltb (length s - at) 5 ≡ b
+        → cond b Checked.Bad (Checked.Tree Number (cursor (at + 5))) ≡ Checked.Tree ty c
         → Found (suc d) s marks at ty c
-    go true f g = moved (suc d) s marks at Number ty n c g (field-found d s marks at i n w f)
-    go false f g = absurd (clash ty c g)
+    go true f g = absurd (clash ty c g)
+    go false f g = moved (suc d) s marks at Number ty (cursor (at + 5)) c g
+        (number-found d s marks at bs e (omega (arith, ltb-false (length s - at) 5 f)))
+
+field-found : (d : ℕ) (s marks : List ℕ) (at : ℕ) → getD s at 0 ≡ fieldCode → at + 1 < length s
+    → marked marks (getD s (at + 1) 0) ≡ true → Found (suc d) s marks at Number (cursor (at + 2))
+unfolding storedTree depth isInRange hasType
+field-found d s marks at e lt f =
+    let i = getD s (at + 1) 0 in (
+      read i,
+      f,
+      refl,
+      omega arith,
+      stands-front s at (at + 1) (at + 2) fieldCode (i ∷ []) (omega arith) refl e
+          (stands-front s (at + 1) (at + 2) (at + 2) i [] lt (omega arith) refl (stands-none s (at + 2))),
+      omega arith,
+    )
+
+sound-field : (d : ℕ) (s marks : List ℕ) (at : ℕ) (ty : ValueType) (c : Cursor) → at < length s
+    → getD s at 0 ≡ fieldCode → checkField s marks at ≡ Checked.Tree ty c → Found (suc d) s marks at ty c
+sound-field d s marks at ty c lt e h = go (ltb (length s - at) 2) (marked marks (getD s (at + 1) 0)) refl refl h
+  where
+    go : (b m : Bool) → ltb (length s - at) 2 ≡ b → marked marks (getD s (at + 1) 0) ≡ m
+        → cond b Checked.Bad (cond m (Checked.Tree Number (cursor (at + 2))) Checked.Bad) ≡ Checked.Tree ty c
+        → Found (suc d) s marks at ty c
+    go true m f f′ g = absurd (clash ty c g)
+    go false true f f′ g = moved (suc d) s marks at Number ty (cursor (at + 2)) c g
+        (field-found d s marks at e (omega (arith, ltb-false (length s - at) 2 f)) f′)
+    go false false f f′ g = absurd (clash ty c g)
 
 -- ── operands ──
 
-not-found : (d : ℕ) (s marks : List ℕ) (at : ℕ) (first c : Cursor) → NodeStands s at (Node.Not first)
-    → Found d s marks (first .at) YesNo c → Found (suc d) s marks at YesNo c
+not-found : (d : ℕ) (s marks : List ℕ) (at : ℕ) (c : Cursor) → at < length s → getD s at 0 ≡ notCode
+    → Found d s marks (at + 1) YesNo c → Found (suc d) s marks at YesNo c
 unfolding storedTree depth isInRange hasType
-not-found d s marks at first c n w = (
+not-found d s marks at c lt e w = (
   negation (w .0),
   w .1,
   w .2,
   omega (arith, w .3),
-  stands-front s at (first .at) (c .at) notCode (storedExpression (w .0)) (n .0) (n .2) (n .1) (w .4),
+  stands-front s at (at + 1) (c .at) notCode (storedExpression (w .0)) lt refl e (w .4),
   w .5,
 )
 
-sound-not : (d : ℕ) (s marks : List ℕ) (at : ℕ) (first : Cursor) (ty : ValueType) (c : Cursor)
-    → NodeStands s at (Node.Not first) → (r : Checked)
-    → ((k : ValueType) (n : Cursor) → r ≡ Checked.Tree k n → Found d s marks (first .at) k n)
+sound-not : (d : ℕ) (s marks : List ℕ) (at : ℕ) (ty : ValueType) (c : Cursor) → at < length s
+    → getD s at 0 ≡ notCode → (r : Checked)
+    → ((k : ValueType) (n : Cursor) → r ≡ Checked.Tree k n → Found d s marks (at + 1) k n)
     → onTree r checkNot ≡ Checked.Tree ty c → Found (suc d) s marks at ty c
-sound-not d s marks at first ty c w (Checked.Tree Number n) ih h = absurd (clash ty c h)
-sound-not d s marks at first ty c w (Checked.Tree YesNo n) ih h =
-    moved (suc d) s marks at YesNo ty n c h (not-found d s marks at first n w (ih YesNo n refl))
-sound-not d s marks at first ty c w Checked.Bad ih h = absurd (clash ty c h)
+sound-not d s marks at ty c lt e (Checked.Tree Number n) ih h = absurd (clash ty c h)
+sound-not d s marks at ty c lt e (Checked.Tree YesNo n) ih h =
+    moved (suc d) s marks at YesNo ty n c h (not-found d s marks at n lt e (ih YesNo n refl))
+sound-not d s marks at ty c lt e Checked.Bad ih h = absurd (clash ty c h)
 
-two-found : (d : ℕ) (s marks : List ℕ) (at : ℕ) (o : Op) (first mid c : Cursor) → NodeStands s at (Node.Two o first)
-    → Found d s marks (first .at) (takes o) mid → Found d s marks (mid .at) (takes o) c
+two-found : (d : ℕ) (s marks : List ℕ) (at : ℕ) (o : Op) (mid c : Cursor) → at < length s → getD s at 0 ≡ code o
+    → Found d s marks (at + 1) (takes o) mid → Found d s marks (mid .at) (takes o) c
     → Found (suc d) s marks at (gives o) c
 unfolding storedTree depth isInRange hasType
-two-found d s marks at o first mid c n u v =
+two-found d s marks at o mid c lt e u v =
     let l = storedExpression (u .0) in
     let r = storedExpression (v .0) in (
       two o (u .0) (v .0),
       and-both _ _ (same-type-self (gives o)) (and-both _ _ (u .1) (v .1)),
       and-both _ _ (u .2) (v .2),
       omega (arith, u .3, v .3),
-      stands-front s at (first .at) (c .at) (code o) _ (n .0) (n .2) (n .1)
-          (stands-join s (first .at) (mid .at) (c .at) l r (u .4) (v .4)),
+      stands-front s at (at + 1) (c .at) (code o) _ lt refl e
+          (stands-join s (at + 1) (mid .at) (c .at) l r (u .4) (v .4)),
       v .5,
     )
 
@@ -111,42 +150,40 @@ joins o a b n ty c h = go (sameType a (takes o)) (sameType b (takes o)) refl ref
     go true false f g x = absurd (clash ty c x)
     go false q f g x = absurd (clash ty c x)
 
-sound-right : (d : ℕ) (s marks : List ℕ) (at : ℕ) (o : Op) (first : Cursor) (ty : ValueType) (c : Cursor)
-    → NodeStands s at (Node.Two o first)
-    → (a : ValueType) (mid : Cursor) → Found d s marks (first .at) a mid → (r : Checked)
+sound-right : (d : ℕ) (s marks : List ℕ) (at : ℕ) (o : Op) (ty : ValueType) (c : Cursor) → at < length s
+    → getD s at 0 ≡ code o → (a : ValueType) (mid : Cursor) → Found d s marks (at + 1) a mid → (r : Checked)
     → ((k : ValueType) (n : Cursor) → r ≡ Checked.Tree k n → Found d s marks (mid .at) k n)
     → onTree r (λ b n. checkTwo o a b n) ≡ Checked.Tree ty c → Found (suc d) s marks at ty c
-sound-right d s marks at o first ty c x a mid u (Checked.Tree b n) ih h =
+sound-right d s marks at o ty c lt e a mid u (Checked.Tree b n) ih h =
     let w = joins o a b n ty c h in
-    let left = subst (λ (k : ValueType). Found d s marks (first .at) k mid) (w .0) u in
+    let left = subst (λ (k : ValueType). Found d s marks (at + 1) k mid) (w .0) u in
     let right = subst (λ (k : ValueType). Found d s marks (mid .at) k n) (w .1) (ih b n refl) in
-    moved (suc d) s marks at (gives o) ty n c (w .2) (two-found d s marks at o first mid n x left right)
-sound-right d s marks at o first ty c x a mid u Checked.Bad ih h = absurd (clash ty c h)
+    moved (suc d) s marks at (gives o) ty n c (w .2) (two-found d s marks at o mid n lt e left right)
+sound-right d s marks at o ty c lt e a mid u Checked.Bad ih h = absurd (clash ty c h)
 
-sound-left : (d : ℕ) (s marks : List ℕ) (at : ℕ) (o : Op) (first : Cursor) (ty : ValueType) (c : Cursor)
-    → NodeStands s at (Node.Two o first) → (check : ℕ → Checked)
+sound-left : (d : ℕ) (s marks : List ℕ) (at : ℕ) (o : Op) (ty : ValueType) (c : Cursor) → at < length s
+    → getD s at 0 ≡ code o → (check : ℕ → Checked)
     → ((p : ℕ) (k : ValueType) (n : Cursor) → check p ≡ Checked.Tree k n → Found d s marks p k n)
-    → (r : Checked) → check (first .at) ≡ r
+    → (r : Checked) → check (at + 1) ≡ r
     → onTree r (λ a mid. onTree (check (mid .at)) (λ b n. checkTwo o a b n)) ≡ Checked.Tree ty c
     → Found (suc d) s marks at ty c
-sound-left d s marks at o first ty c x check ih (Checked.Tree a mid) f h =
-    sound-right d s marks at o first ty c x a mid (ih (first .at) a mid f) (check (mid .at)) (ih (mid .at)) h
-sound-left d s marks at o first ty c x check ih Checked.Bad f h = absurd (clash ty c h)
+sound-left d s marks at o ty c lt e check ih (Checked.Tree a mid) f h =
+    sound-right d s marks at o ty c lt e a mid (ih (at + 1) a mid f) (check (mid .at)) (ih (mid .at)) h
+sound-left d s marks at o ty c lt e check ih Checked.Bad f h = absurd (clash ty c h)
 
 -- ── the whole ──
 
-sound-node : (d : ℕ) (s marks : List ℕ) (at : ℕ) (k : Node) (ty : ValueType) (c : Cursor) → NodeStands s at k
-    → (check : ℕ → Checked)
+sound-code : (d : ℕ) (s marks : List ℕ) (at : ℕ) (k : Code) (ty : ValueType) (c : Cursor) → IsBytes s → at < length s
+    → Codes (getD s at 0) k → (check : ℕ → Checked)
     → ((p : ℕ) (j : ValueType) (n : Cursor) → check p ≡ Checked.Tree j n → Found d s marks p j n)
-    → checkNode k check marks ≡ Checked.Tree ty c → Found (suc d) s marks at ty c
-sound-node d s marks at (Node.Number n next) ty c w check ih h =
-    moved (suc d) s marks at Number ty next c h (number-found d s marks at n next w)
-sound-node d s marks at (Node.Field i next) ty c w check ih h = sound-field d s marks at i next ty c w h
-sound-node d s marks at (Node.Two o first) ty c w check ih h =
-    sound-left d s marks at o first ty c w check ih (check (first .at)) refl h
-sound-node d s marks at (Node.Not first) ty c w check ih h =
-    sound-not d s marks at first ty c w (check (first .at)) (ih (first .at)) h
-sound-node d s marks at Node.Nothing ty c w check ih h = absurd (clash ty c h)
+    → checkCode k check s marks at ≡ Checked.Tree ty c → Found (suc d) s marks at ty c
+sound-code d s marks at Code.Number ty c bs lt e check ih h = sound-number d s marks at ty c bs lt e h
+sound-code d s marks at Code.Field ty c bs lt e check ih h = sound-field d s marks at ty c lt e h
+sound-code d s marks at (Code.Two o) ty c bs lt e check ih h =
+    sound-left d s marks at o ty c lt e check ih (check (at + 1)) refl h
+sound-code d s marks at Code.Not ty c bs lt e check ih h =
+    sound-not d s marks at ty c lt e (check (at + 1)) (ih (at + 1)) h
+sound-code d s marks at Code.Other ty c bs lt e check ih h = absurd (clash ty c h)
 
 pub check-sound : (d : ℕ) (s marks : List ℕ) (at : ℕ) (ty : ValueType) (c : Cursor) → IsBytes s
     → checkAt d s marks at ≡ Checked.Tree ty c
@@ -159,5 +196,12 @@ pub check-sound : (d : ℕ) (s marks : List ℕ) (at : ℕ) (ty : ValueType) (c 
 unfolding checkAt
 check-sound zero s marks at ty c bs h = absurd (clash ty c h)
 check-sound (suc d) s marks at ty c bs h =
-    sound-node d s marks at (nodeAt s at) ty c (node-stands s at bs) (checkAt d s marks)
-    (λ p k n. check-sound d s marks p k n bs) h
+    go (λ p k n. check-sound d s marks p k n bs) (ltb at (length s)) refl h
+  where
+    go : ((p : ℕ) (k : ValueType) (n : Cursor) → checkAt d s marks p ≡ Checked.Tree k n → Found d s marks p k n)
+        → (b : Bool) → ltb at (length s) ≡ b
+        → cond b (checkCode (codeOf (getD s at 0)) (checkAt d s marks) s marks at) Checked.Bad ≡ Checked.Tree ty c
+        → Found (suc d) s marks at ty c
+    go ih true e g = sound-code d s marks at (codeOf (getD s at 0)) ty c bs (ltb-true at (length s) e)
+        (codes (getD s at 0)) (checkAt d s marks) ih g
+    go ih false e g = absurd (clash ty c g)

@@ -6,10 +6,11 @@ use Prim.Native.Nat.{ℕ, _+_, _-_, _≤_}
 use native.Mathlib.Omega.{arith}
 use lib.Dec.{eqb}
 use lib.ListN.{length}
-use borrow.Author.Tests.{leb-true}
+use borrow.Author.Tests.{le-ltb, leb-true}
 use Rattle.base.specs.Places.{Stands}
 use Rattle.base.proofs.Lists.{and-left, and-right}
-use Rattle.base.proofs.Places.{stands-rest, stands-left, stands-right}
+use Rattle.base.proofs.Places.{stands-in, stands-byte, stands-rest, stands-left, stands-right, stands-some}
+use Rattle.laws.proofs.PlacesOfNumbers.{length-le4, stands-four}
 use Rattle.rules.specs.declared.Op.{Op}
 use Rattle.rules.specs.declared.ValueType.{ValueType}
 use Rattle.rules.specs.declared.ValueType.the-variants.{Number, YesNo}
@@ -18,11 +19,13 @@ use Rattle.rules.specs.Operators.{takes, gives}
 use Rattle.rules.specs.Trees.{Tree, num, read, two, negation, depth, storedTree, isInRange, sameType, hasType}
 use Rattle.rules.specs.Values.{Value, value, fault, apply, decides, withRight, withLeft, opposite, yesNo, evaluate}
 use Rattle.rules.specs.Stored.{storedExpression}
+use Rattle.operators.specs.declared.codes.Code.{Code}
+use Rattle.operators.specs.Codes.{codeOf}
 use Rattle.packets.specs.declared.trees.Evaluated.{Evaluated}
-use Rattle.packets.specs.StoredTrees.{cursor, skipAt, placed, runValue, onValue, valueAt}
+use Rattle.packets.specs.StoredTrees.{cursor, skipAt, placed, runValue, onValue, valueCode, valueAt}
 use Rattle.packets.proofs.TreeSteps.{value-step}
-use Rattle.packets.proofs.TreeNodes.{number-there, field-there, two-there, not-there}
-use Rattle.packets.proofs.TreeComplete.{skip-stored}
+use Rattle.operators.proofs.CodeLaws.{code-number, code-field, code-not, code-two}
+use Rattle.packets.proofs.TreeComplete.{code-there, skip-stored}
 
 -- ── operands' values ──
 
@@ -53,30 +56,43 @@ two-placed o (fault g) w mid next val skip e f = refl
 
 -- ── a stored tree's value ──
 
+value-there : (d : ℕ) (s run : List ℕ) (at b x : ℕ) (w : List ℕ) (k : Code) → (d ≡ 0 → ⊥) → Stands s at (x ∷ w) b
+    → codeOf x ≡ k → valueAt d s run at ≡ valueCode k (valueAt (d - 1) s run) (skipAt (d - 1) s) s run at
+value-there d s run at b x w k ne p f =
+    value-step d s run at ne (stands-in s at b x w p) (code-there s at b x w k p f) refl
+
 pub value-stored : (d : ℕ) (s run : List ℕ) (at : ℕ) (t : Tree ℕ) (next : ℕ) → isInRange t ≡ true → depth t ≤ d
     → Stands s at (storedExpression t) next → valueAt d s run at ≡ placed (evaluate (runValue run) t) next
 unfolding storedTree depth isInRange evaluate
 value-stored d s run at (num n) next r le p =
-    value-step d s run at (omega arith) refl (number-there s at next n (leb-true n numberMost r) p)
+    let rest = stands-rest s at next _ _ p in
+    let in-s = stands-some s at next _ _ p in
+    let four = stands-four s (at + 1) next n rest (leb-true n numberMost r) in
+    let five : next ≡ at + 5 = omega (arith, p .end, length-le4 n) in
+    value-there d s run at next _ _ Code.Number (omega arith) p code-number
+    ∙ rw (le-ltb (length s - at) 5 (omega arith), four, five)
 value-stored d s run at (read i) next r le p =
-    value-step d s run at (omega arith) refl (field-there s at next i p)
+    let in-s = stands-some s at next _ _ p in
+    let byte = stands-byte s (at + 1) next i [] (stands-rest s at next _ _ p) in
+    let two : next ≡ at + 2 = p .end in
+    value-there d s run at next _ _ Code.Field (omega arith) p code-field
+    ∙ rw (le-ltb (length s - at) 2 (omega arith), byte, two)
 value-stored d s run at (two o a b) next r le p =
     let env = runValue run in
     let l = storedExpression a in
     let mid = at + 1 + length l in
     let q = stands-rest s at next _ _ p in
     let there = stands-right s (at + 1) next l _ q in
-    let in-b = and-right (isInRange a) (isInRange b) r in
     let left = value-stored (d - 1) s run (at + 1) a mid (and-left (isInRange a) (isInRange b) r) (omega arith)
     (stands-left s (at + 1) next l _ q) in
-    let right = value-stored (d - 1) s run mid b next in-b (omega arith) there in
-    let past = skip-stored (d - 1) s mid b next in-b (omega arith) there in
-    value-step d s run at (omega arith) refl (two-there s at next o _ p)
+    let right = value-stored (d - 1) s run mid b next (and-right (isInRange a) (isInRange b) r) (omega arith) there in
+    let past = skip-stored (d - 1) s mid b next (omega arith) there in
+    value-there d s run at next _ _ (Code.Two o) (omega arith) p (code-two o)
     ∙ rw left
     (two-placed o (evaluate env a) (evaluate env b) mid next (valueAt (d - 1) s run) (skipAt (d - 1) s) right past)
 value-stored d s run at (negation a) next r le p =
     let part = value-stored (d - 1) s run (at + 1) a next r (omega arith) (stands-rest s at next _ _ p) in
-    value-step d s run at (omega arith) refl (not-there s at next _ p)
+    value-there d s run at next _ _ Code.Not (omega arith) p code-not
     ∙ rw part (not-placed (evaluate (runValue run) a) next)
 
 -- ── what a tree may not read does not matter ──

@@ -1,18 +1,13 @@
 -- What is copied, the lengths of digits, and how much room a line's parts take.
-use mathlib.Core.Path.{_≡_, sym, _∙_}
 use mathlib.Core.Bool.{Bool, true, false, cond}
-use mathlib.Core.List.{List, [], _∷_, _++_, append-assoc}
-use Prim.Native.Nat.{ℕ, zero, suc, _+_, _-_, _/_, _%_, _<_, _≤_}
-use native.Mathlib.Numerals.{add-one}
+use mathlib.Core.List.{_++_}
+use Prim.Native.Nat.{ℕ, zero, suc, _+_, _-_, _/_, _%_, _≤_}
 use native.Mathlib.Omega.{arith}
 use lib.Dec.{ltb}
-use lib.ListN.{length, getD, take, drop, set, length-append}
-use lib.Seq.{take-suc, drop-cons, set-at, length-take-le}
-use borrow.Author.Tests.{lt-ltb, le-ltb}
+use lib.ListN.{length, length-append}
 use Rattle.base.specs.Bytes.{bytes, digit, digits, decimal}
 use Rattle.rules.specs.Reading.{Entry, isPresent}
 use Rattle.rules.specs.Listing.{entryText}
-use Rattle.base.specs.Writes.{Writes}
 use Rattle.packets.specs.LineTexts.{stateText}
 
 -- no more digits than places

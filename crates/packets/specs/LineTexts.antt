@@ -1,7 +1,7 @@
 -- The text of a field's line, from the parts of its record and its entry in a run.
 -- This mirrors the code: no public promise rests on this file.
 use mathlib.Core.Bool.{Bool, cond, _||_}
-use mathlib.Core.List.{List, [], _∷_, _++_}
+use mathlib.Core.List.{List, [], _++_}
 use Prim.Native.Nat.{ℕ, zero, suc, _+_, _*_, _-_}
 use lib.Dec.{ltb, eqb}
 use lib.ListN.{length, getD, take, drop}

@@ -1,9 +1,9 @@
 -- Where the parts of a field's record stand, by its lengths.
 -- This mirrors the code: no public promise rests on this file.
 use mathlib.Core.Path.{_≡_}
-use mathlib.Core.Bool.{Bool, cond}
+use mathlib.Core.Bool.{cond}
 use mathlib.Core.List.{List}
-use Prim.Native.Nat.{ℕ, _+_, _*_, _-_, _≤_}
+use Prim.Native.Nat.{ℕ, _+_, _*_, _≤_}
 use lib.Dec.{eqb}
 use Rattle.base.specs.Places.{twoAt}
 use Rattle.writing.specs.declared.spans.Span.{Span}

@@ -15,7 +15,6 @@ use Rattle.rules.specs.Values.{Value, value, fault, yesNo, apply, decides}
 use Rattle.operators.specs.declared.codes.Code.{Code}
 use Rattle.operators.specs.Codes.{codeOf}
 use Rattle.packets.specs.declared.trees.Cursor.{Cursor}
-use Rattle.packets.specs.declared.trees.Node.{Node}
 use Rattle.packets.specs.declared.trees.Checked.{Checked}
 use Rattle.packets.specs.declared.trees.Checked.the-variants.{Tree, Bad}
 use Rattle.packets.specs.declared.trees.Evaluated.{Evaluated}
@@ -24,33 +23,18 @@ use Rattle.packets.specs.declared.trees.Evaluated.the-variants.{Stop}
 abbrev pub cursor : ℕ → Cursor
 cursor n = record { at = n }
 
--- ── what stands at a place ──
-
-abbrev pub numberNode : List ℕ → ℕ → Node
-numberNode s at = cond (ltb (length s - at) 5) Node.Nothing (Node.Number (fourAt s (at + 1)) (cursor (at + 5)))
-
-abbrev pub fieldNode : List ℕ → ℕ → Node
-fieldNode s at = cond (ltb (length s - at) 2) Node.Nothing (Node.Field (getD s (at + 1) 0) (cursor (at + 2)))
-
--- by the first byte
-abbrev pub nodeOf : Code → List ℕ → ℕ → Node
-nodeOf Code.Number s at = numberNode s at
-nodeOf Code.Field s at = fieldNode s at
-nodeOf (Code.Two o) s at = Node.Two o (cursor (at + 1))
-nodeOf Code.Not s at = Node.Not (cursor (at + 1))
-nodeOf Code.Other s at = Node.Nothing
-
-unfoldable pub nodeAt : List ℕ → ℕ → Node
-nodeAt s at = cond (ltb at (length s)) (nodeOf (codeOf (getD s at 0)) s at) Node.Nothing
-
 -- ── checking ──
 
 -- the field of index i may be read
 abbrev pub marked : List ℕ → ℕ → Bool
 marked marks i = eqb (getD marks i 0) 1
 
-abbrev pub checkField : List ℕ → ℕ → Cursor → Checked
-checkField marks i next = cond (marked marks i) (Tree Number next) Bad
+abbrev pub checkNumber : List ℕ → ℕ → Checked
+checkNumber s at = cond (ltb (length s - at) 5) Bad (Tree Number (cursor (at + 5)))
+
+abbrev pub checkField : List ℕ → List ℕ → ℕ → Checked
+checkField s marks at =
+    cond (ltb (length s - at) 2) Bad (cond (marked marks (getD s (at + 1) 0)) (Tree Number (cursor (at + 2))) Bad)
 
 abbrev pub checkNot : ValueType → Cursor → Checked
 checkNot k next = cond (sameType k YesNo) (Tree YesNo next) Bad
@@ -63,32 +47,35 @@ abbrev pub onTree : Checked → (ValueType → Cursor → Checked) → Checked
 onTree (Tree k next) f = f k next
 onTree Bad f = Bad
 
--- check checks an operand
-abbrev pub checkNode : Node → (ℕ → Checked) → List ℕ → Checked
-checkNode (Node.Number n next) check marks = Tree Number next
-checkNode (Node.Field i next) check marks = checkField marks i next
-checkNode (Node.Two o left) check marks =
-    onTree (check (left .at)) (λ a right. onTree (check (right .at)) (λ b next. checkTwo o a b next))
-checkNode (Node.Not operand) check marks = onTree (check (operand .at)) checkNot
-checkNode Node.Nothing check marks = Bad
+-- by the first byte; check checks an operand
+abbrev pub checkCode : Code → (ℕ → Checked) → List ℕ → List ℕ → ℕ → Checked
+checkCode Code.Number check s marks at = checkNumber s at
+checkCode Code.Field check s marks at = checkField s marks at
+checkCode (Code.Two o) check s marks at =
+    onTree (check (at + 1)) (λ a mid. onTree (check (mid .at)) (λ b next. checkTwo o a b next))
+checkCode Code.Not check s marks at = onTree (check (at + 1)) checkNot
+checkCode Code.Other check s marks at = Bad
 
 unfoldable pub checkAt : ℕ → List ℕ → List ℕ → ℕ → Checked
 checkAt zero s marks at = Bad
-checkAt (suc d) s marks at = checkNode (nodeAt s at) (checkAt d s marks) marks
+checkAt (suc d) s marks at =
+    cond (ltb at (length s)) (checkCode (codeOf (getD s at 0)) (checkAt d s marks) s marks at) Bad
 
 -- ── skipping ──
 
--- skip goes past an operand
-abbrev pub skipNode : Node → (ℕ → ℕ) → ℕ → ℕ
-skipNode (Node.Number n next) skip at = next .at
-skipNode (Node.Field i next) skip at = next .at
-skipNode (Node.Two o left) skip at = skip (skip (left .at))
-skipNode (Node.Not operand) skip at = skip (operand .at)
-skipNode Node.Nothing skip at = at
+abbrev pub skipOver : List ℕ → ℕ → ℕ → ℕ
+skipOver s n at = cond (ltb (length s - at) n) at (at + n)
+
+abbrev pub skipCode : Code → (ℕ → ℕ) → List ℕ → ℕ → ℕ
+skipCode Code.Number skip s at = skipOver s 5 at
+skipCode Code.Field skip s at = skipOver s 2 at
+skipCode (Code.Two o) skip s at = skip (skip (at + 1))
+skipCode Code.Not skip s at = skip (at + 1)
+skipCode Code.Other skip s at = at
 
 unfoldable pub skipAt : ℕ → List ℕ → ℕ → ℕ
 skipAt zero s at = at
-skipAt (suc d) s at = skipNode (nodeAt s at) (skipAt d s) at
+skipAt (suc d) s at = cond (ltb at (length s)) (skipCode (codeOf (getD s at 0)) (skipAt d s) s at) at
 
 -- ── evaluating ──
 
@@ -101,26 +88,33 @@ placed (fault f) next = Stop f
 abbrev pub runValue : List ℕ → ℕ → Value
 runValue run i = cond (eqb (getD run (4 * i) 0) 1) (value (getD run (4 * i + 3) 0)) (fault AbsentRead)
 
-abbrev pub fieldValue : List ℕ → ℕ → Cursor → Evaluated
-fieldValue run i next = placed (runValue run i) (next .at)
+abbrev pub readNumber : List ℕ → ℕ → Evaluated
+readNumber s at =
+    cond (ltb (length s - at) 5) (Stop OutOfRange) (Evaluated.Value (fourAt s (at + 1)) (cursor (at + 5)))
+
+abbrev pub readField : List ℕ → List ℕ → ℕ → Evaluated
+readField s run at =
+    cond (ltb (length s - at) 2) (Stop OutOfRange) (placed (runValue run (getD s (at + 1) 0)) (at + 2))
 
 -- goes on with a value and the place past its tree
 abbrev pub onValue : Evaluated → (ℕ → Cursor → Evaluated) → Evaluated
 onValue (Evaluated.Value x next) f = f x next
 onValue (Stop g) f = Stop g
 
--- val evaluates an operand, skip goes past one
-abbrev pub valueNode : Node → (ℕ → Evaluated) → (ℕ → ℕ) → List ℕ → Evaluated
-valueNode (Node.Number n next) val skip run = Evaluated.Value n next
-valueNode (Node.Field i next) val skip run = fieldValue run i next
-valueNode (Node.Two o left) val skip run =
-    onValue (val (left .at)) (λ x right.
-    cond (decides o x) (Evaluated.Value x (cursor (skip (right .at))))
-    (onValue (val (right .at)) (λ y next. placed (apply o x y) (next .at))))
-valueNode (Node.Not operand) val skip run =
-    onValue (val (operand .at)) (λ x next. Evaluated.Value (yesNo (eqb x 0)) next)
-valueNode Node.Nothing val skip run = Stop OutOfRange
+-- by the first byte; val evaluates an operand, skip goes past one
+abbrev pub valueCode : Code → (ℕ → Evaluated) → (ℕ → ℕ) → List ℕ → List ℕ → ℕ → Evaluated
+valueCode Code.Number val skip s run at = readNumber s at
+valueCode Code.Field val skip s run at = readField s run at
+valueCode (Code.Two o) val skip s run at =
+    onValue (val (at + 1)) (λ x mid.
+    cond (decides o x) (Evaluated.Value x (cursor (skip (mid .at))))
+    (onValue (val (mid .at)) (λ y next. placed (apply o x y) (next .at))))
+valueCode Code.Not val skip s run at =
+    onValue (val (at + 1)) (λ x next. Evaluated.Value (yesNo (eqb x 0)) next)
+valueCode Code.Other val skip s run at = Stop OutOfRange
 
 unfoldable pub valueAt : ℕ → List ℕ → List ℕ → ℕ → Evaluated
 valueAt zero s run at = Stop OutOfRange
-valueAt (suc d) s run at = valueNode (nodeAt s at) (valueAt d s run) (skipAt d s) run
+valueAt (suc d) s run at =
+    cond (ltb at (length s)) (valueCode (codeOf (getD s at 0)) (valueAt d s run) (skipAt d s) s run at)
+    (Stop OutOfRange)

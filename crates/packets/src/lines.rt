@@ -4,7 +4,6 @@ use crate::records::Parts;
 use rules::LABEL_MOST;
 use writing::decimals::put_decimal;
 use writing::puts::put;
-ghost use mathlib.Core.Path.{_≡_};
 ghost use mathlib.Core.List.{_++_};
 ghost use Prim.Native.Nat.{_+_, _*_, _≤_, _<_};
 ghost use lib.ListN.{length};

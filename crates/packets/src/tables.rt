@@ -21,7 +21,7 @@ ghost use lib.ListN.{length};
 ghost use Rattle.rules.specs.Within.{isRowWidth};
 ghost use Rattle.rules.specs.Promises.{ChecksTable};
 ghost use Rattle.rules.specs.Limits.{fieldsMost};
-ghost use Rattle.packets.specs.Parts.{placeMost, tableMost};
+ghost use Rattle.packets.specs.Parts.{tableMost};
 ghost use Rattle.packets.specs.TableTest.{GatheredBy, walkAt, headTest, lastTest, tableTest};
 ghost use Rattle.rules.specs.Answers.{ofTable};
 

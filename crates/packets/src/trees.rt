@@ -13,23 +13,12 @@ ghost use lib.ListN.{length, getD};
 ghost use Rattle.base.specs.Places.{fourAt};
 ghost use Rattle.rules.specs.Trees.{sameType};
 ghost use Rattle.rules.specs.Values.{yesNo, inRange, apply, decides};
-ghost use Rattle.packets.specs.StoredTrees.{cursor, numberNode, fieldNode, nodeAt};
-ghost use Rattle.packets.specs.StoredTrees.{checkField, checkNot, checkTwo, checkAt};
-ghost use Rattle.packets.specs.StoredTrees.{skipAt, placed, fieldValue, valueAt};
+ghost use Rattle.packets.specs.StoredTrees.{checkNumber, checkField, checkNot, checkTwo, checkAt};
+ghost use Rattle.packets.specs.StoredTrees.{cursor, skipOver, skipAt, placed, readNumber, readField, valueAt};
 
 // A place in the bytes of a table.
 pub(crate) struct Cursor {
     pub at: usize,
-}
-
-// What stands at a place: a number or the index of a field, with the place past it; an operator, with the place of its
-// first operand; or no tree.
-pub(crate) enum Node {
-    Number(u32, Cursor),
-    Field(u8, Cursor),
-    Two(Op, Cursor),
-    Not(Cursor),
-    Nothing,
 }
 
 // The type of a tree with the place past it.
@@ -99,16 +88,6 @@ pub(crate) fn same_type(a: ValueType, b: ValueType) -> bool
             ValueType::YesNo => true,
         },
     }
-}
-
-// A field that may be read is a number.
-fn check_field(marks: &[u8], i: u8, next: Cursor) -> Checked
-    ensures { λ r. ⌜ r ≡ checkField (now (marks .entry)) i next ⌝ }
-{
-    if byte_at(marks, i as usize) == 1 {
-        return Checked::Tree(ValueType::Number, next);
-    }
-    Checked::Bad
 }
 
 fn check_not(k: ValueType, next: Cursor) -> Checked
@@ -188,71 +167,69 @@ fn combine(op: Op, x: u32, y: u32, next: Cursor) -> Evaluated
     }
 }
 
-// The value of a field: present if run[4 * i] is 1, and then run[4 * i + 3].
-fn field_value(run: &[u32], i: u8, next: Cursor) -> Evaluated
-    ensures { λ r. ⌜ r ≡ fieldValue (now (run .entry)) i next ⌝ }
-{
-    let at = 4 * index(i);
-    if number_at(run, at) == 1 {
-        return Evaluated::Value(number_at(run, at + 3), next);
-    }
-    Evaluated::Stop(Fault::AbsentRead)
-}
-
 impl Cursor {
-    fn number(self, s: &[u8]) -> Node
+    // The cursor n places on, if as many bytes are there.
+    fn over(self, s: &[u8], n: usize) -> Self
         requires { ⌜ self .at < length (now s) ⌝ }
-        ensures { λ r. ⌜ r ≡ numberNode (now (s .entry)) (self .at) ⌝ }
+        ensures { λ r. ⌜ r ≡ cursor (skipOver (now (s .entry)) n (self .at)) ⌝ }
+    {
+        let at = self.at;
+        if s.len() - at < n {
+            return self;
+        }
+        Cursor { at: at + n }
+    }
+
+    fn check_number(self, s: &[u8]) -> Checked
+        requires { ⌜ self .at < length (now s) ⌝ }
+        ensures { λ r. ⌜ r ≡ checkNumber (now (s .entry)) (self .at) ⌝ }
     {
         let at = self.at;
         if s.len() - at < 5 {
-            return Node::Nothing;
+            return Checked::Bad;
         }
-        Node::Number(four_at(s, at + 1), Cursor { at: at + 5 })
+        Checked::Tree(ValueType::Number, Cursor { at: at + 5 })
     }
 
-    fn field(self, s: &[u8]) -> Node
+    fn check_field(self, s: &[u8], marks: &[u8]) -> Checked
         requires { ⌜ self .at < length (now s) ⌝ }
-        ensures { λ r. ⌜ r ≡ fieldNode (now (s .entry)) (self .at) ⌝ }
+        ensures { λ r. ⌜ r ≡ checkField (now (s .entry)) (now (marks .entry)) (self .at) ⌝ }
     {
         let at = self.at;
         if s.len() - at < 2 {
-            return Node::Nothing;
+            return Checked::Bad;
         }
-        Node::Field(s[at + 1], Cursor { at: at + 2 })
-    }
-
-    // What stands here.
-    fn node(self, s: &[u8]) -> Node
-        ensures { λ r. ⌜ r ≡ nodeAt (now (s .entry)) (self .at) ⌝ }
-    {
-        let at = self.at;
-        if s.len() <= at {
-            return Node::Nothing;
-        }
-        let c = code_of(s[at]);
-        match c {
-            Code::Number => self.number(s),
-            Code::Field => self.field(s),
-            Code::Two(op) => Node::Two(op, Cursor { at: at + 1 }),
-            Code::Not => Node::Not(Cursor { at: at + 1 }),
-            Code::Other => Node::Nothing,
+        if byte_at(marks, index(s[at + 1])) == 1 {
+            Checked::Tree(ValueType::Number, Cursor { at: at + 2 })
+        } else {
+            Checked::Bad
         }
     }
 
-    // The type of the stored tree here; a field may be read if its mark is 1.
+    // The type of the stored tree here, of at most the given depth; a field is read where its mark is 1.
     pub(crate) fn check(self, s: &[u8], depth: usize, marks: &[u8]) -> Checked
         ensures { λ r. ⌜ r ≡ checkAt depth (now (s .entry)) (now (marks .entry)) (self .at) ⌝ }
     {
         if depth == 0 {
             return Checked::Bad;
         }
-        let node = self.node(s);
-        match node {
-            Node::Number(_, next) => Checked::Tree(ValueType::Number, next),
-            Node::Field(i, next) => check_field(marks, i, next),
-            Node::Two(op, left) => {
-                let Checked::Tree(a, right) = left.check(s, depth - 1, marks) else {
+        let at = self.at;
+        if s.len() <= at {
+            return Checked::Bad;
+        }
+        let c = code_of(s[at]);
+        let past = Cursor { at: at + 1 };
+        match c {
+            Code::Number => self.check_number(s),
+            Code::Field => self.check_field(s, marks),
+            Code::Not => {
+                let Checked::Tree(found, next) = past.check(s, depth - 1, marks) else {
+                    return Checked::Bad;
+                };
+                check_not(found, next)
+            }
+            Code::Two(op) => {
+                let Checked::Tree(a, right) = past.check(s, depth - 1, marks) else {
                     return Checked::Bad;
                 };
                 let Checked::Tree(b, next) = right.check(s, depth - 1, marks) else {
@@ -260,13 +237,7 @@ impl Cursor {
                 };
                 check_two(op, a, b, next)
             }
-            Node::Not(operand) => {
-                let Checked::Tree(a, next) = operand.check(s, depth - 1, marks) else {
-                    return Checked::Bad;
-                };
-                check_not(a, next)
-            }
-            Node::Nothing => Checked::Bad,
+            Code::Other => Checked::Bad,
         }
     }
 
@@ -277,32 +248,76 @@ impl Cursor {
         if depth == 0 {
             return self;
         }
-        let node = self.node(s);
-        match node {
-            Node::Number(_, next) => next,
-            Node::Field(_, next) => next,
-            Node::Two(_, left) => {
-                let right = left.skip(s, depth - 1);
+        let at = self.at;
+        if s.len() <= at {
+            return self;
+        }
+        let c = code_of(s[at]);
+        let past = Cursor { at: at + 1 };
+        match c {
+            Code::Number => self.over(s, 5),
+            Code::Field => self.over(s, 2),
+            Code::Not => past.skip(s, depth - 1),
+            Code::Two(_) => {
+                let right = past.skip(s, depth - 1);
                 right.skip(s, depth - 1)
             }
-            Node::Not(operand) => operand.skip(s, depth - 1),
-            Node::Nothing => self,
+            Code::Other => self,
         }
     }
 
-    // The value of the stored tree here, by a run of four numbers a field.
+    fn number(self, s: &[u8]) -> Evaluated
+        requires { ⌜ self .at < length (now s) ⌝ }
+        ensures { λ r. ⌜ r ≡ readNumber (now (s .entry)) (self .at) ⌝ }
+    {
+        let at = self.at;
+        if s.len() - at < 5 {
+            return Evaluated::Stop(Fault::OutOfRange);
+        }
+        Evaluated::Value(four_at(s, at + 1), Cursor { at: at + 5 })
+    }
+
+    fn field(self, s: &[u8], run: &[u32]) -> Evaluated
+        requires { ⌜ self .at < length (now s) ⌝ }
+        ensures { λ r. ⌜ r ≡ readField (now (s .entry)) (now (run .entry)) (self .at) ⌝ }
+    {
+        let at = self.at;
+        if s.len() - at < 2 {
+            return Evaluated::Stop(Fault::OutOfRange);
+        }
+        let i = 4 * index(s[at + 1]);
+        if number_at(run, i) == 1 {
+            Evaluated::Value(number_at(run, i + 3), Cursor { at: at + 2 })
+        } else {
+            Evaluated::Stop(Fault::AbsentRead)
+        }
+    }
+
+    // The value of the stored tree here; field i is present if run[4 * i] is 1, and its value is run[4 * i + 3].
     pub(crate) fn value(self, s: &[u8], depth: usize, run: &[u32]) -> Evaluated
         ensures { λ r. ⌜ r ≡ valueAt depth (now (s .entry)) (now (run .entry)) (self .at) ⌝ }
     {
         if depth == 0 {
             return Evaluated::Stop(Fault::OutOfRange);
         }
-        let node = self.node(s);
-        match node {
-            Node::Number(x, next) => Evaluated::Value(x, next),
-            Node::Field(i, next) => field_value(run, i, next),
-            Node::Two(op, left) => {
-                let v = left.value(s, depth - 1, run);
+        let at = self.at;
+        if s.len() <= at {
+            return Evaluated::Stop(Fault::OutOfRange);
+        }
+        let c = code_of(s[at]);
+        let past = Cursor { at: at + 1 };
+        match c {
+            Code::Number => self.number(s),
+            Code::Field => self.field(s, run),
+            Code::Not => {
+                let v = past.value(s, depth - 1, run);
+                let Evaluated::Value(x, next) = v else {
+                    return v;
+                };
+                Evaluated::Value(yes_no(x == 0), next)
+            }
+            Code::Two(op) => {
+                let v = past.value(s, depth - 1, run);
                 let Evaluated::Value(x, right) = v else {
                     return v;
                 };
@@ -315,14 +330,7 @@ impl Cursor {
                 };
                 combine(op, x, y, next)
             }
-            Node::Not(operand) => {
-                let v = operand.value(s, depth - 1, run);
-                let Evaluated::Value(x, next) = v else {
-                    return v;
-                };
-                Evaluated::Value(yes_no(x == 0), next)
-            }
-            Node::Nothing => Evaluated::Stop(Fault::OutOfRange),
+            Code::Other => Evaluated::Stop(Fault::OutOfRange),
         }
     }
 }

@@ -1,7 +1,7 @@
 -- What is put where there is room, and where there is none.
-use mathlib.Core.Path.{_≡_, refl, sym, _∙_, ap}
-use mathlib.Core.Bool.{Bool, true, false, cond}
-use mathlib.Core.List.{List, _++_, append-assoc}
+use mathlib.Core.Path.{_≡_, sym, _∙_, ap}
+use mathlib.Core.Bool.{true, false}
+use mathlib.Core.List.{List, _++_}
 use Prim.Native.Nat.{ℕ, _+_, _≤_, _<_}
 use native.Mathlib.Omega.{arith}
 use borrow.Author.Tests.{le-leb, lt-leb, le-ltb, lt-ltb}
@@ -11,7 +11,7 @@ use Rattle.base.specs.Writes.{Writes}
 use Rattle.base.proofs.Writing.{writes-join}
 use Rattle.rules.specs.Trees.{le2}
 use Rattle.rules.specs.Stored.{counted}
-use Rattle.rules.specs.Promises.{overlaid, leaves, delivered}
+use Rattle.rules.specs.Promises.{leaves, delivered}
 use Rattle.writing.specs.Delivery.{deliveryAnswer}
 use Rattle.writing.specs.Puts.{Placed, placed, nowhere, put}
 

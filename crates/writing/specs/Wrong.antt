@@ -4,7 +4,7 @@ use mathlib.Core.Bool.{Bool, true, false}
 use mathlib.Core.List.{List, [], _∷_}
 use Prim.Native.Nat.{ℕ}
 use lib.ListN.{replicate}
-use Rattle.base.specs.Bytes.{bytes, decimal}
+use Rattle.base.specs.Bytes.{decimal}
 use Rattle.base.specs.Lists.{Every}
 use Rattle.rules.specs.Trees.{le2}
 use Rattle.rules.specs.Stored.{counted}

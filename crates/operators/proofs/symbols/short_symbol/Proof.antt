@@ -1,9 +1,6 @@
-use Prim.Native.Nat.{ℕ}
-use mathlib.Core.List.{[], _∷_}
 use borrow.Author.Tests.{ne-eqb}
 use Rattle.base.specs.Lists.{same}
 use Rattle.rules.specs.Operators.{operator, operators}
-use Rattle.operators.specs.declared.symbols.Symbol.{Symbol}
 use Rattle.operators.specs.Symbols.{symbolIn}
 use Rattle.operators.proofs.SymbolLaws.{ofLength, symbol-of-length}
 use Rattle.operators.proofs.symbols.short_symbol.Statement.{statement}

@@ -2,7 +2,7 @@ use Rattle.rules.specs.Answers.{ofListing}
 use native.Mathlib.Omega.{arith}
 use denote.Ref.{now}
 use lib.Seq.{length-take-le}
-use mathlib.Core.Path.{_≡_, sym}
+use mathlib.Core.Path.{sym}
 use borrow.Author.Needs.{needs}
 use Rattle.packets.proofs.listing.deliver_first.Statement.{statement}
 use Rattle.packets.proofs.listing.deliver_first.Tie as tie

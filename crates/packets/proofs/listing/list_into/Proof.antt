@@ -3,10 +3,7 @@ use Rattle.packets.proofs.LinesWritten.{refusal-inside}
 use Rattle.packets.proofs.PacketPromises.{good-from, good-few}
 use Rattle.base.proofs.Writing.{writes-inside}
 use Rattle.packets.proofs.ListingStored.{into-good, into-bad}
-use mathlib.Core.Path.{_≡_, refl, sym, _∙_}
 use native.Mathlib.Omega.{arith}
-use denote.Ref.{now}
-use lib.ListN.{length, take}
 use borrow.Author.Needs.{needs}
 use Rattle.packets.proofs.listing.list_into.Statement.{statement}
 use Rattle.packets.proofs.listing.list_into.Tie as tie

@@ -1,8 +1,5 @@
-use mathlib.Core.Path.{_≡_}
-use Rattle.packets.specs.Parts.{partsAt}
 use native.Mathlib.Omega.{arith}
 use Prim.Native.Nat.{_-_}
-use denote.Ref.{now}
 use Rattle.packets.proofs.LinesWritten.{Lines, lines-start, lines-end, lines-stop, lines-step}
 use borrow.Author.Needs.{needs}
 use Rattle.packets.proofs.listing.put_lines.Statement.{statement}

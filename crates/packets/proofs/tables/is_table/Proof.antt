@@ -5,7 +5,7 @@ use lib.ListN.{length}
 use denote.Ref.{now}
 use borrow.Author.Tests.{le-leb, lt-leb, not-true, not-false}
 use Rattle.rules.specs.Limits.{fieldsMost}
-use Rattle.packets.specs.TableTest.{tableTest, GatheredBy}
+use Rattle.packets.specs.TableTest.{tableTest}
 use Rattle.packets.proofs.TableSteps.{head-is, row-positive, walk-of, walk-past, walk-places, count-most}
 use Rattle.packets.proofs.TableSteps.{gathered-past}
 use Rattle.packets.proofs.NameSteps.{all-places, gathered-keys, gathered-unique}

@@ -1,5 +1,4 @@
-use Rattle.operators.specs.Rows.{rowOf}
-use Rattle.packets.proofs.TreeNodes.{types-of}
+use Rattle.packets.proofs.TreeTypes.{types-of}
 use borrow.Author.Needs.{needs}
 use Rattle.packets.proofs.trees.check_two.Statement.{statement}
 use Rattle.packets.proofs.trees.check_two.Tie as tie

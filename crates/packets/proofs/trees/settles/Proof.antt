@@ -1,6 +1,6 @@
 use Rattle.rules.specs.Values.{decides}
 use Rattle.operators.specs.Rows.{rowOf}
-use Rattle.packets.proofs.TreeNodes.{settled-by}
+use Rattle.packets.proofs.TreeTypes.{settled-by}
 use borrow.Author.Needs.{needs}
 use Rattle.packets.proofs.trees.settles.Statement.{statement}
 use Rattle.packets.proofs.trees.settles.Tie as tie

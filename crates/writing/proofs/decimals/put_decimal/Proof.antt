@@ -1,4 +1,3 @@
-use mathlib.Core.Path.{_≡_}
 use native.Mathlib.Omega.{arith}
 use Rattle.writing.proofs.DigitLaws.{digits-part}
 use borrow.Author.Needs.{needs}

@@ -1,8 +1,4 @@
-use mathlib.Core.Path.{_≡_, refl, sym, _∙_, ap}
-use native.Mathlib.Omega.{arith}
 use denote.Ref.{now}
-use lib.ListN.{length}
-use Rattle.rules.specs.Promises.{delivered}
 use Rattle.writing.proofs.PutLaws.{deliver-none, deliver-some}
 use borrow.Author.Needs.{needs}
 use Rattle.writing.proofs.delivery.deliver.Statement.{statement}

@@ -1,6 +1,6 @@
 use native.Mathlib.Omega.{arith}
 use denote.Ref.{now}
-use lib.ListN.{length, length-append}
+use lib.ListN.{length}
 use Rattle.rules.specs.Trees.{le2}
 use Rattle.rules.specs.Stored.{counted}
 use Rattle.writing.proofs.PutLaws.{put-none, put-join, counted-length}
