@@ -1,4 +1,4 @@
--- What M1 to M10 leave open is worked in cases, a list for each section of 01, so that no definition is hollow: all hold.
+-- All worked cases hold: a list for each section of 01, of what M1 to M10 leave open, so that no definition is hollow.
 use Rattle.rules.specs.Cases.{AllHold}
 use Rattle.cases.specs.LinesOfAText.{linesOfAText}
 use Rattle.cases.specs.Expressions.{expressions}
