@@ -8,6 +8,7 @@ use Rattle.cases.specs.Spelling.{spelling}
 use Rattle.cases.specs.ReadingAPacket.{readingAPacket}
 use Rattle.cases.specs.RefusalNumbers.{refusalNumbers}
 use Rattle.cases.specs.Listing.{listings}
+use Rattle.cases.specs.Promised.{promised, AllSo}
 
 pub record Worked : Type 0 where
   pub lines : AllHold linesOfAText
@@ -18,3 +19,4 @@ pub record Worked : Type 0 where
   pub packets : AllHold readingAPacket
   pub refusals : AllHold refusalNumbers
   pub listings : AllHold listings
+  pub promises : AllSo promised
