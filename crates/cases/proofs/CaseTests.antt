@@ -82,26 +82,23 @@ use Rattle.text_laws.proofs.TextSeen.{seen, Seen, is-seen, outcomeOf, outcome-i
 
 -- ── equal by their numbers ──
 
+abbrev pub answer-from : List ℕ → Answer
+answer-from l = record { number = getD l 0 0; place = getD l 1 0; amount = getD l 2 0 }
+
+abbrev pub outcome-from : List ℕ → Outcome
+outcome-from l = record { answer = answer-from l; buffer = drop 3 l }
+
+abbrev pub part-from : List ℕ → Part
+part-from l = record { start = getD l 0 0; size = getD l 1 0 }
+
 answer-same : (a b : Answer) → same (answerNumbers a) (answerNumbers b) ≡ true → a ≡ b
-answer-same a b h = ap from (same-true _ _ h)
-  where
-    from : List ℕ → Answer
-    from l = record { number = getD l 0 0; place = getD l 1 0; amount = getD l 2 0 }
+answer-same a b h = ap answer-from (same-true _ _ h)
 
 outcome-same : (o p : Outcome) → same (numbers o) (numbers p) ≡ true → o ≡ p
-outcome-same o p h = ap from (same-true _ _ h)
-  where
-    from : List ℕ → Outcome
-    from l = record {
-      answer = record { number = getD l 0 0; place = getD l 1 0; amount = getD l 2 0 };
-      buffer = drop 3 l;
-    }
+outcome-same o p h = ap outcome-from (same-true _ _ h)
 
 part-same : (p q : Part) → same (placeNumbers p) (placeNumbers q) ≡ true → p ≡ q
-part-same p q h = ap from (same-true _ _ h)
-  where
-    from : List ℕ → Part
-    from l = record { start = getD l 0 0; size = getD l 1 0 }
+part-same p q h = ap part-from (same-true _ _ h)
 
 -- ── expressions ──
 
@@ -152,7 +149,7 @@ fault-of n (fault f) h = (f, refl, eqb-true (faultNumber f) n h)
 -- ── tables ──
 
 -- what the table of a description gives is what the description gives
-by-stored : {A : Type 0} (d : Description) → Within d → (f : Description → A) (e : A) (good : Dec (Good (stored d)))
+pub by-stored : {A : Type 0} (d : Description) → Within d → (f : Description → A) (e : A) (good : Dec (Good (stored d)))
     → byTable good f e ≡ f d
 by-stored d w f e (yes g) = ap f (stored-unique current (g .description) d (g .within) w (g .isStored))
 by-stored d w f e (no bad) = absurd (bad (good-stored d w))

@@ -121,8 +121,10 @@ use Rattle.cases.specs.Spelling.{spelling}
 use Rattle.cases.specs.ReadingAPacket.{readingAPacket}
 use Rattle.cases.specs.RefusalNumbers.{refusalNumbers}
 use Rattle.cases.specs.Listing.{listings}
+use Rattle.cases.specs.Promised.{promised}
 use Rattle.cases.specs.Worked.{Worked}
 use Rattle.cases.proofs.CaseTests.{all-right, in-order}
+use Rattle.cases.proofs.ClaimTests.{all-so}
 
 cases-hold : AllHold marked × Worked
 unfolding digits all any same lastIs sum joined tabulate firstBreak operator operators isLetter isDigit isSpace
@@ -154,6 +156,7 @@ cases-hold = (
     packets = all-right readingAPacket refl;
     refusals = all-right refusalNumbers refl;
     listings = all-right listings refl;
+    promises = all-so promised refl;
   },
 )
 

@@ -7,6 +7,7 @@
 -- ReadingAPacket   packets, and what is handed out
 -- RefusalNumbers   numbers and places of refusals
 -- Listing          listings
+-- Promised         right answers, one for each sort of claim
 pub mod LinesOfAText
 pub mod Expressions
 pub mod Fields
@@ -15,4 +16,5 @@ pub mod Spelling
 pub mod ReadingAPacket
 pub mod RefusalNumbers
 pub mod Listing
+pub mod Promised
 pub mod Worked

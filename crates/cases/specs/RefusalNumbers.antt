@@ -155,7 +155,9 @@ abbrev wholeTexts : List Case
 wholeTexts =
     -- 6: depth, stored form
     refuses deep (refused 6 11)
-    ∷ refuses (pairText ("A: 4 bits; !(!(1==1))&&1==1&&1==1&&1==1&&1==1&&1==1&&1==1&&1==1&&1==1&&1==1.\n" ∷ "B: 4 bits.\n" ∷ []))
+    ∷ refuses
+    (pairText
+    ("A: 4 bits; !(!(1==1))&&1==1&&1==1&&1==1&&1==1&&1==1&&1==1&&1==1&&1==1&&1==1.\n" ∷ "B: 4 bits.\n" ∷ []))
     (refused 6 11)
     -- 7: order, width; before 9 at an earlier line
     ∷ refuses (pairText ("B: 4 bits.\n" ∷ "A: 4 bits.\n" ∷ [])) (refused 7 11)
@@ -167,7 +169,7 @@ wholeTexts =
     ("A: 4 bits.\n" ∷ "A: 4 bits.\n" ∷ []))
     (refused 8 12)
     ∷ refuses shared (refused 8 12)
-    -- 9: a name that is unknown, of a later field, a label; a condition that reads its own field; a number for a constraint
+    -- 9: a name that is unknown, of a later field, a label; a condition that reads its own field; wrong type
     ∷ refuses (pairText ("A (a): 4 bits.\n" ∷ "B: 4 bits; z == 1.\n" ∷ [])) (refused 9 12)
     ∷ refuses forward (refused 9 11)
     ∷ refuses byLabel (refused 9 11)
@@ -244,4 +246,13 @@ answersOfTheCode =
     ∷ []
 
 abbrev pub refusalNumbers : List Case
-refusalNumbers = rules ++ (laterRules ++ (lines ++ (counts ++ (forms ++ (wholeTexts ++ (outputs ++ (tables ++ answersOfTheCode)))))))
+refusalNumbers =
+    rules
+    ++ (laterRules
+    ++ (lines
+    ++ (counts
+    ++ (forms
+    ++ (wholeTexts
+    ++ (outputs
+    ++ (tables
+    ++ answersOfTheCode)))))))

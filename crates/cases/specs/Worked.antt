@@ -1,4 +1,4 @@
--- What M1 to M10 leave open is worked in cases, a list for each section of 01, so that no definition is hollow: all hold.
+-- All worked cases hold: a list for each section of 01, of what M1 to M10 leave open, so that no definition is hollow.
 use Rattle.rules.specs.Cases.{AllHold}
 use Rattle.cases.specs.LinesOfAText.{linesOfAText}
 use Rattle.cases.specs.Expressions.{expressions}
@@ -8,6 +8,7 @@ use Rattle.cases.specs.Spelling.{spelling}
 use Rattle.cases.specs.ReadingAPacket.{readingAPacket}
 use Rattle.cases.specs.RefusalNumbers.{refusalNumbers}
 use Rattle.cases.specs.Listing.{listings}
+use Rattle.cases.specs.Promised.{promised, AllSo}
 
 pub record Worked : Type 0 where
   pub lines : AllHold linesOfAText
@@ -18,3 +19,4 @@ pub record Worked : Type 0 where
   pub packets : AllHold readingAPacket
   pub refusals : AllHold refusalNumbers
   pub listings : AllHold listings
+  pub promises : AllSo promised
