@@ -1,47 +1,63 @@
-//! The verb `bytes`.
+//! The verb `bytes`. Standard output has the field's bytes and nothing else; all else goes to standard error.
 
-use crate::inputs::{Input, Source};
-use crate::read::{packet, refuse_source};
-use crate::{explain, outputs, Failure, Status};
+use crate::fields::{described, index_of, Described};
+use crate::packets::{Name, Packets};
+use crate::sources::SourceName;
+use crate::{explain, hex, json, outputs, Failure, Status};
 use std::ffi::OsStr;
 use umarekoza::Refusal;
 
-pub fn run(source: &Input, input: &Input, field: &OsStr, hex: bool) -> Result<Status, Failure> {
-    let source = Source::read(source)?;
+pub fn run(source: &SourceName, packets: &Packets, field: &OsStr, as_hex: bool) -> Result<Status, Failure> {
+    let source = source.read()?;
+    let refused = |refusal: Refusal| {
+        outputs::complain(&refusal.to_string());
+        Ok(Status::Refused)
+    };
     let table = match source.table() {
         Ok(table) => table,
-        Err(refusal) => return refuse_source(&source, refusal),
+        Err(refusal) => {
+            explain::source(&source, refusal);
+            return refused(refusal);
+        }
     };
+    let fields = described(&table);
     let index = match index_of(&table, field) {
         Ok(index) => index,
         Err(refusal) => {
-            outputs::print(format!("{refusal}\n").as_bytes())?;
-            explain::field(&source.input, &table, field, refusal);
+            explain::field(&source.input, &fields, field, refusal);
+            return refused(refusal);
+        }
+    };
+    let mut status = Status::Accepted;
+    packets.each(&mut |name, packet| {
+        let packet = packet.map_err(|why| Failure::Said(format!("{name}: {why}")))?;
+        status = write(name, &table, packet, (index, &fields), as_hex)?;
+        Ok(())
+    })?;
+    Ok(status)
+}
+
+fn write(
+    name: &Name<'_>,
+    table: &[u8],
+    packet: &[u8],
+    (index, described): (usize, &[Described]),
+    as_hex: bool,
+) -> Result<Status, Failure> {
+    let fields = match umarekoza::fields_of(table, packet) {
+        Ok(fields) => fields,
+        Err(refusal) => {
+            explain::packet(name, described, refusal);
+            outputs::complain(&refusal.to_string());
             return Ok(Status::Refused);
         }
     };
-    let packet = packet(input, hex)?;
-    match umarekoza::fields_of(&table, &packet) {
-        Ok(fields) => {
-            let bytes = umarekoza::field_bytes(&table, &packet, index);
-            if let Some(field) = fields.get(index).filter(|_| bytes.is_empty()) {
-                explain::no_bytes(&table, input, index, field);
-            }
-            outputs::print(bytes)
-        }
-        Err(refusal) => {
-            outputs::print(format!("{refusal}\n").as_bytes())?;
-            explain::packet(&table, input, refusal);
+    match json::bytes_of(&fields[index], umarekoza::field_bytes(table, packet, index)) {
+        Some(bytes) if as_hex => outputs::print_line(&hex::written(bytes)),
+        Some(bytes) => outputs::print(bytes),
+        None => {
+            explain::no_bytes(name, &described[index], &fields[index]);
             Ok(Status::Refused)
         }
     }
-}
-
-/// The index of the field with this name; where there is none, the index that is written there, if it is one.
-fn index_of(table: &[u8], field: &OsStr) -> Result<usize, Refusal> {
-    umarekoza::find_field(table, field.as_encoded_bytes()).or_else(|refusal| {
-        let digits = field.to_str().filter(|word| word.bytes().all(|byte| byte.is_ascii_digit()));
-        let index = digits.and_then(|word| word.parse().ok());
-        index.filter(|index| umarekoza::field_label(table, *index).is_some()).ok_or(refusal)
-    })
 }

@@ -1,0 +1,80 @@
+//! Answers as objects of JSON.
+
+use crate::explain::field_of;
+use crate::fields::Described;
+use crate::hex::written;
+use serde_json::{json, Map, Value};
+use umarekoza::{Field, Kind, Refusal};
+
+/// An accepted packet.
+pub fn accepted(name: &str, table: &[u8], packet: &[u8], described: &[Described], fields: &[Field]) -> Value {
+    let field = |(index, (described, field)): (usize, (&Described, &Field))| {
+        field_object(described, field, bytes_of(field, umarekoza::field_bytes(table, packet, index)))
+    };
+    let fields: Vec<Value> = described.iter().zip(fields).enumerate().map(field).collect();
+    json!({ "name": name, "result": "accepted", "bits": 8 * packet.len(), "fields": fields })
+}
+
+/// A field; what an absent one has not, and what a field of its kind has not, is null.
+fn field_object(described: &Described, field: &Field, bytes: Option<&[u8]>) -> Value {
+    let present = |number: u32| field.present.then_some(number);
+    let bytes = bytes.filter(|_| !described.is_fixed()).map(written);
+    json!({
+        "label": described.label,
+        "short": described.short,
+        "kind": kind(described.kind),
+        "present": field.present,
+        "offset": present(field.offset),
+        "width": present(field.width),
+        "value": present(field.value).filter(|_| described.is_fixed()),
+        "bytes": bytes,
+    })
+}
+
+fn kind(kind: Kind) -> &'static str {
+    match kind {
+        Kind::Fixed => "fixed",
+        Kind::Measured => "measured",
+        Kind::Rest => "rest",
+    }
+}
+
+/// The bytes of a field, if it is present, starts on a byte and has whole ones.
+pub fn bytes_of<'a>(field: &Field, bytes: &'a [u8]) -> Option<&'a [u8]> {
+    (field.present && field.offset % 8 == 0 && field.width % 8 == 0).then_some(bytes)
+}
+
+/// A refused packet, with the label of the field that is refused.
+pub fn refused_packet(name: &str, fields: &[Described], refusal: Refusal) -> Value {
+    let mut object = refused(name, refusal);
+    object.insert("field".to_string(), json!(field_of(fields, refusal)));
+    Value::Object(object)
+}
+
+/// A page or table, accepted with the length of its table, or refused.
+pub fn source(name: &str, kind: &str, table: &Result<Vec<u8>, Refusal>) -> Value {
+    let mut object = match table {
+        Ok(table) => object(json!({ "name": name, "result": "accepted", "bytes": table.len() })),
+        Err(refusal) => refused(name, *refusal),
+    };
+    object.insert("kind".to_string(), json!(kind));
+    Value::Object(object)
+}
+
+/// A file that could not be read.
+pub fn failed(name: &str, why: &str) -> Value {
+    json!({ "name": name, "result": "not read", "error": why })
+}
+
+fn refused(name: &str, refusal: Refusal) -> Map<String, Value> {
+    let meaning = refusal.meaning().map(|meaning| meaning.what);
+    let Refusal { number, place } = refusal;
+    object(json!({ "name": name, "result": "refused", "number": number, "place": place, "meaning": meaning }))
+}
+
+fn object(value: Value) -> Map<String, Value> {
+    match value {
+        Value::Object(object) => object,
+        _ => Map::new(),
+    }
+}
