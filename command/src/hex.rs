@@ -105,8 +105,8 @@ mod tests {
         ] {
             assert_eq!(bytes_of(right).unwrap(), M1);
         }
-        assert_eq!(bytes_of(b"").unwrap(), []);
-        assert_eq!(bytes_of(b" \n").unwrap(), []);
+        assert!(bytes_of(b"").unwrap().is_empty());
+        assert!(bytes_of(b" \n").unwrap().is_empty());
     }
 
     #[test]

@@ -67,6 +67,13 @@ impl Packets {
         Ok(())
     }
 
+    /// The only one, which is no folder.
+    pub fn only(&self) -> Result<(Name<'_>, Vec<u8>), String> {
+        let name = Name { input: &self.inputs[0], line: None };
+        let packet = self.packet(name.input).map_err(|why| format!("{name}: {why}"))?;
+        Ok((name, packet))
+    }
+
     fn packet(&self, input: &Input) -> Result<Vec<u8>, String> {
         let bytes = input.bytes()?;
         match self.hex {

@@ -1,6 +1,6 @@
 //! How far a long run is, on a terminal's standard error.
 
-use indicatif::{ProgressBar, ProgressStyle};
+use indicatif::{ProgressBar, ProgressDrawTarget, ProgressStyle};
 use std::sync::OnceLock;
 
 /// From so many on, it is shown.
@@ -17,7 +17,7 @@ pub struct Progress {
 impl Progress {
     pub fn new(what: &str, all: Option<usize>) -> Self {
         let all = all.map(|all| all as u64);
-        let bar = all.map_or_else(ProgressBar::new_spinner, ProgressBar::new);
+        let bar = ProgressBar::with_draw_target(all, ProgressDrawTarget::hidden());
         let template = if all.is_some() { "{pos} of {len}" } else { "{pos}" };
         if let Ok(style) = ProgressStyle::with_template(&format!("{template} {what}")) {
             bar.set_style(style);
@@ -28,8 +28,9 @@ impl Progress {
     /// Counts one more.
     pub fn step(&self) {
         self.bar.inc(1);
-        if self.all.unwrap_or(self.bar.position()) >= MANY {
-            let _ = SHOWN.set(self.bar.clone());
+        let many = self.all.unwrap_or(self.bar.position()) >= MANY;
+        if many && SHOWN.set(self.bar.clone()).is_ok() {
+            self.bar.set_draw_target(ProgressDrawTarget::stderr());
         }
     }
 }
