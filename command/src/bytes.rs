@@ -1,9 +1,9 @@
 //! The verb `bytes`. Standard output has the field's bytes and nothing else; all else goes to standard error.
 
-use crate::fields::{described, index_of};
+use crate::fields::{described, index_of, whole_bytes};
 use crate::packets::Packets;
 use crate::sources::SourceName;
-use crate::{explain, hex, json, outputs, Failure, Status};
+use crate::{explain, hex, outputs, Failure, Status};
 use std::ffi::OsStr;
 use umarekoza::Refusal;
 
@@ -25,7 +25,7 @@ pub fn run(source: &SourceName, packets: &Packets, field: &OsStr, as_hex: bool) 
         Ok(fields) => fields,
         Err(refusal) => return Ok(refuse(refusal, || explain::packet(&name, &described, refusal))),
     };
-    match json::bytes_of(&fields[index], umarekoza::field_bytes(&table, &packet, index)) {
+    match whole_bytes(&fields[index], umarekoza::field_bytes(&table, &packet, index)) {
         Some(bytes) if as_hex => outputs::print_line(&hex::written(bytes)),
         Some(bytes) => outputs::print(bytes),
         None => {

@@ -89,7 +89,10 @@ mod tests {
     fn wrong_dumps() {
         let cases: [(&[u8], &str); 6] = [
             (b"00000000: 6207  b.\n*\n", "line 2, column 1: a line of a dump begins with its offset and `: `"),
-            (b"00000000: 6207  b.\n00000004: 01  .", "line 2, column 1: the offset is 4, and 2 is due: lines are missing"),
+            (
+                b"00000000: 6207  b.\n00000004: 01  .",
+                "line 2, column 1: the offset is 4, and 2 is due: lines are missing",
+            ),
             (b"00000000: 6207", "line 1, column 15: two spaces and the bytes as text are due behind the digits"),
             (b"00000000: 620  b.", "line 1, column 11: an odd number of digits, 3: they come in pairs"),
             (b"00000000: 62g7  b.", "line 1, column 13: `g` is no hexadecimal digit"),

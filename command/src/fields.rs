@@ -1,7 +1,7 @@
 //! The fields of a table, and a field by its name or index.
 
 use std::ffi::OsStr;
-use umarekoza::{Kind, Refusal};
+use umarekoza::{Field, Kind, Refusal};
 
 /// What a table says of a field.
 pub struct Described {
@@ -34,6 +34,12 @@ pub fn index_of(table: &[u8], field: &OsStr) -> Result<usize, Refusal> {
         let index = digits.and_then(|word| word.parse().ok());
         index.filter(|index| umarekoza::field_label(table, *index).is_some()).ok_or(refusal)
     })
+}
+
+/// The bytes of a field, if it is present, starts on a byte and has whole ones.
+pub fn whole_bytes<'a>(field: &Field, bytes: &'a [u8]) -> Option<&'a [u8]> {
+    let whole = field.offset.is_multiple_of(8) && field.width.is_multiple_of(8);
+    (field.present && whole).then_some(bytes)
 }
 
 /// The label or short name that is most like a name, if one is like it.

@@ -1,7 +1,7 @@
 //! Answers as objects of JSON.
 
 use crate::explain::field_of;
-use crate::fields::Described;
+use crate::fields::{whole_bytes, Described};
 use crate::hex::written;
 use serde_json::{json, Map, Value};
 use umarekoza::{Field, Kind, Refusal};
@@ -9,7 +9,7 @@ use umarekoza::{Field, Kind, Refusal};
 /// An accepted packet.
 pub fn accepted(name: &str, table: &[u8], packet: &[u8], described: &[Described], fields: &[Field]) -> Value {
     let field = |(index, (described, field)): (usize, (&Described, &Field))| {
-        field_object(described, field, bytes_of(field, umarekoza::field_bytes(table, packet, index)))
+        field_object(described, field, whole_bytes(field, umarekoza::field_bytes(table, packet, index)))
     };
     let fields: Vec<Value> = described.iter().zip(fields).enumerate().map(field).collect();
     json!({ "name": name, "result": "accepted", "bits": 8 * packet.len(), "fields": fields })
@@ -37,11 +37,6 @@ fn kind(kind: Kind) -> &'static str {
         Kind::Measured => "measured",
         Kind::Rest => "rest",
     }
-}
-
-/// The bytes of a field, if it is present, starts on a byte and has whole ones.
-pub fn bytes_of<'a>(field: &Field, bytes: &'a [u8]) -> Option<&'a [u8]> {
-    (field.present && field.offset % 8 == 0 && field.width % 8 == 0).then_some(bytes)
 }
 
 /// A refused packet, with the label of the field that is refused.

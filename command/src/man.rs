@@ -13,7 +13,7 @@ pub fn page() -> String {
         command.get_subcommands().filter(|verb| verb.get_name() != "help").cloned().collect();
     let usages: Vec<String> = verbs.iter().map(usage).collect();
     page += &usages.join(".br\n");
-    page += &format!(".SH DESCRIPTION\n{}.SH VERBS\n", NOTES.map(|note| line(note)).join(".PP\n"));
+    page += &format!(".SH DESCRIPTION\n{}.SH VERBS\n", NOTES.map(line).join(".PP\n"));
     for verb in &verbs {
         page += &verb_section(verb);
     }

@@ -1,6 +1,6 @@
 //! The verb `read`.
 
-use crate::fields::{described, index_of, Described};
+use crate::fields::{described, index_of, whole_bytes, Described};
 use crate::packets::{Name, Packets};
 use crate::requests::Form;
 use crate::sources::{Source, SourceName};
@@ -127,7 +127,7 @@ impl Reader<'_> {
         };
         let (described, field) = (&self.fields[self.index], &fields[self.index]);
         let bytes = umarekoza::field_bytes(self.table, packet, self.index);
-        match json::bytes_of(field, bytes) {
+        match whole_bytes(field, bytes) {
             _ if !field.present => outputs::print_line("absent"),
             _ if described.is_fixed() => outputs::print_line(&field.value.to_string()),
             Some(bytes) => outputs::print_line(&hex::written(bytes)),

@@ -72,8 +72,8 @@ impl Source {
             bytes => format!("begins with `{}`", shown(&bytes[..bytes.len().min(3)])),
         };
         Some(format!(
-            "it {begins} and is taken for a table; a page begins with `A NAME is formatted as follows:` or `An ..`, and \
-             with --page it is read as a page"
+            "it {begins} and is taken for a table; a page begins with `A NAME is formatted as follows:` or \
+             `An ..`, and with --page it is read as a page"
         ))
     }
 }

@@ -208,8 +208,8 @@ fn what_a_source_is_taken_for() {
         place.put("page", page);
         let taken = format!(
             "umarekoza: page: this is not a good table (number 21)\n  it {begins} and is taken for a table; a page \
-             begins with `A NAME is formatted as follows:` or `An ..`, and with --page it is read as a page\n  to mend \
-             it: write it again from its page with `umarekoza table PAGE -o TABLE`\n"
+             begins with `A NAME is formatted as follows:` or `An ..`, and with --page it is read as a page\n  \
+             to mend it: write it again from its page with `umarekoza table PAGE -o TABLE`\n"
         );
         place.run(&["read", "page", "m1"]).left(1, "refused 21 at 0\n", &taken);
         place.run(&["check", "page"]).left(1, "page: table refused 21 at 0\n0 accepted, 1 refused\n", &taken);
