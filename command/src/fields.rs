@@ -1,7 +1,7 @@
 //! The fields of a table, and a field by its name or index.
 
 use std::ffi::OsStr;
-use umarekoza::{Field, Kind, Refusal};
+use umarekoza::{Field, Kind, Refusal, RUN_MOST};
 
 /// What a table says of a field.
 pub struct Described {
@@ -25,6 +25,15 @@ pub fn described(table: &[u8]) -> Vec<Described> {
         Some(Described { label, short: umarekoza::field_short(table, index).map(text), kind })
     };
     (0..).map_while(field).collect()
+}
+
+/// A packet's bits, and its fields in the order of the table, of which there are so many.
+pub fn reading(table: &[u8], packet: &[u8], count: usize) -> Result<(u64, Vec<Field>), Refusal> {
+    let mut run = [0; RUN_MOST];
+    let bits = umarekoza::read_packet(table, packet, &mut run)?;
+    let fields =
+        run.chunks_exact(4).take(count).map(|four| Field::from([four[0], four[1], four[2], four[3]]));
+    Ok((bits, fields.collect()))
 }
 
 /// The index of the field with this name; where there is none, the index that is written there, if it is one.

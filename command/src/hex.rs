@@ -64,7 +64,7 @@ pub fn group(text: &[u8], bytes: &mut Vec<u8>) -> Result<usize, (usize, String)>
         Some(byte) if digits.is_empty() || !b" \t\r:,".contains(byte) => {
             Err((length, format!("{} is no hexadecimal digit", shown(*byte))))
         }
-        None if digits.is_empty() => Err((0, "no digits follow `0x`".to_string())),
+        None if digits.is_empty() => Err((0, "hexadecimal digits are due".to_string())),
         _ if digits.len() % 2 == 1 => {
             Err((0, format!("an odd number of digits, {}: they come in pairs", digits.len())))
         }
@@ -116,7 +116,7 @@ mod tests {
             (b"620", "line 1, column 1: an odd number of digits, 3: they come in pairs"),
             (b"62 0g", "line 1, column 5: `g` is no hexadecimal digit"),
             (b"62\n0\xFF", "line 2, column 2: the byte FF is no hexadecimal digit"),
-            (b"62 0x", "line 1, column 4: no digits follow `0x`"),
+            (b"62 0x", "line 1, column 4: hexadecimal digits are due"),
             (b"62 0x 07", "line 1, column 6: the byte 20 is no hexadecimal digit"),
             (b"620x07", "line 1, column 4: `x` is no hexadecimal digit"),
             (b":62", "line 1, column 1: `:` stands between bytes only"),

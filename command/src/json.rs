@@ -1,24 +1,31 @@
 //! Answers as objects of JSON.
 
 use crate::explain::field_of;
-use crate::fields::{whole_bytes, Described};
+use crate::fields::{reading, whole_bytes, Described};
 use crate::hex::written;
 use serde_json::{json, Map, Value};
 use umarekoza::{Field, Kind, Refusal};
 
-/// An accepted packet.
-pub fn accepted(name: &str, table: &[u8], packet: &[u8], described: &[Described], fields: &[Field]) -> Value {
-    let field = |(index, (described, field)): (usize, (&Described, &Field))| {
-        field_object(described, field, whole_bytes(field, umarekoza::field_bytes(table, packet, index)))
+/// A packet, accepted or refused.
+pub fn packet(name: &str, table: &[u8], packet: &[u8], described: &[Described]) -> Result<Value, Value> {
+    let (bits, fields) = reading(table, packet, described.len())
+        .map_err(|refusal| refused_packet(name, described, refusal))?;
+    let long_bytes = |index, described: &Described, field: &Field| {
+        let bytes = (!described.is_fixed()).then(|| umarekoza::field_bytes(table, packet, index))?;
+        whole_bytes(field, bytes).map(written)
     };
-    let fields: Vec<Value> = described.iter().zip(fields).enumerate().map(field).collect();
-    json!({ "name": name, "result": "accepted", "bits": 8 * packet.len(), "fields": fields })
+    let both = described.iter().zip(&fields).enumerate();
+    let objects: Vec<Value> = both
+        .map(|(index, (described, field))| {
+            field_object(described, field, long_bytes(index, described, field))
+        })
+        .collect();
+    Ok(json!({ "name": name, "result": "accepted", "bits": bits, "fields": objects }))
 }
 
 /// A field; what an absent one has not, and what a field of its kind has not, is null.
-fn field_object(described: &Described, field: &Field, bytes: Option<&[u8]>) -> Value {
+fn field_object(described: &Described, field: &Field, bytes: Option<String>) -> Value {
     let present = |number: u32| field.present.then_some(number);
-    let bytes = bytes.filter(|_| !described.is_fixed()).map(written);
     json!({
         "label": described.label,
         "short": described.short,
@@ -40,7 +47,7 @@ fn kind(kind: Kind) -> &'static str {
 }
 
 /// A refused packet, with the label of the field that is refused.
-pub fn refused_packet(name: &str, fields: &[Described], refusal: Refusal) -> Value {
+fn refused_packet(name: &str, fields: &[Described], refusal: Refusal) -> Value {
     let mut object = refused(name, refusal);
     object.insert("field".to_string(), json!(field_of(fields, refusal)));
     Value::Object(object)

@@ -105,12 +105,9 @@ impl Reader<'_> {
     }
 
     fn object(&self, name: &Name<'_>, packet: &[u8]) -> Result<Status, Failure> {
-        let (object, status) = match fields_of(self.table, packet) {
-            Ok(fields) => {
-                let object = json::accepted(&name.plain(), self.table, packet, self.fields, &fields);
-                (object, Status::Accepted)
-            }
-            Err(refusal) => (json::refused_packet(&name.plain(), self.fields, refusal), Status::Refused),
+        let (object, status) = match json::packet(&name.plain(), self.table, packet, self.fields) {
+            Ok(object) => (object, Status::Accepted),
+            Err(object) => (object, Status::Refused),
         };
         outputs::print_line(&object.to_string())?;
         Ok(status)

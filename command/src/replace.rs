@@ -50,10 +50,10 @@ fn put(path: &Path, bytes: &[u8], old: Option<&Metadata>) -> io::Result<()> {
     let beside = tempfile::Builder::new().prefix(".umarekoza-").tempdir_in(folder)?;
     let new = beside.path().join("new");
     let mut file = OpenOptions::new().write(true).create_new(true).open(&new)?;
-    file.write_all(bytes)?;
     if let Some(old) = old {
         keep(&file, old)?;
     }
+    file.write_all(bytes)?;
     file.sync_all()?;
     fs::rename(&new, path)
 }
