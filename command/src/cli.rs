@@ -30,10 +30,26 @@ pub fn command() -> Command {
 }
 
 /// What a shell reads to complete the command's words.
-pub fn completions(shell: Shell) -> Vec<u8> {
+pub fn completions(shell: Shell) -> String {
     let mut script = Vec::new();
     clap_complete::generate(shell, &mut command(), NAME, &mut script);
-    script
+    let script = String::from_utf8_lossy(&script).into_owned();
+    match shell {
+        Shell::Bash => script.split_inclusive('\n').map(words_to_complete).collect(),
+        _ => script,
+    }
+}
+
+/// A line of bash's completions without the names of arguments, such as `<PAGE>`, which are no words to be written.
+fn words_to_complete(line: &str) -> String {
+    let Some((start, words)) = line.split_once("opts=\"") else { return line.to_string() };
+    let words: Vec<&str> = words
+        .trim_end()
+        .trim_end_matches('"')
+        .split(' ')
+        .filter(|word| !word.starts_with(['<', '[']))
+        .collect();
+    format!("{start}opts=\"{}\"\n", words.join(" "))
 }
 
 fn table() -> Command {

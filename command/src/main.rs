@@ -75,6 +75,6 @@ fn run() -> Result<Status, Failure> {
         Request::Check { files, deep, sort, json } => check::run(&files, deep, sort, json),
         Request::Explain { numbers } => numbers::run(&numbers),
         Request::Man => outputs::print(man::page().as_bytes()),
-        Request::Completions(shell) => outputs::print(&cli::completions(shell)),
+        Request::Completions(shell) => outputs::print(cli::completions(shell).as_bytes()),
     }
 }

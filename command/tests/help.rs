@@ -82,4 +82,7 @@ fn bash_completes() {
     complete("umarekoza re", 1).accepted("read\n");
     complete("umarekoza read --j", 2).accepted("--json\n");
     complete("umarekoza check --r", 2).accepted("--recursive\n");
+    complete("umarekoza bytes ''", 2).accepted("-h --hex --page --table --to-hex --help\n");
+    complete("umarekoza explain ''", 2).accepted("-h --help\n");
+    complete("umarekoza read page", 2).accepted("\n");
 }

@@ -1,6 +1,7 @@
 """Python's buffers as the pointers that the library takes, without a copy."""
 
 import ctypes
+import operator
 from contextlib import ExitStack
 
 _WRITABLE = 0x0001
@@ -60,12 +61,11 @@ class Lent(ExitStack):
         return address, length
 
     def _lend(self, buffer, flags):
-        if isinstance(buffer, str):
-            raise TypeError("bytes are wanted, not a str")
         view = _View()
         _get(buffer, view, flags)
         self.callback(_release, view)
-        lent = (view.buf or 0, view.len)
+        # An empty buffer may have any address, and NULL is taken as one.
+        lent = (view.buf, view.len) if view.len else (0, 0)
         self._all.append(lent)
         return lent
 
@@ -79,7 +79,7 @@ class Lent(ExitStack):
 
 def index_of(index):
     """A field's index as the library takes it."""
-    index = index.__index__()
+    index = operator.index(index)
     if index < 0:
         raise ValueError("an index counts from 0")
     return min(index, _SIZE_MOST)
