@@ -11,7 +11,7 @@ pub fn page() -> String {
     page += &format!(".SH NAME\n{NAME} \\- {}\n.SH SYNOPSIS\n", escaped(&about));
     let verbs: Vec<Command> =
         command.get_subcommands().filter(|verb| verb.get_name() != "help").cloned().collect();
-    let usages: Vec<String> = verbs.iter().map(usage).collect();
+    let usages: Vec<String> = verbs.iter().map(usage).chain(OTHERS.map(line)).collect();
     page += &usages.join(".br\n");
     page += &format!(".SH DESCRIPTION\n{}.SH VERBS\n", NOTES.map(line).join(".PP\n"));
     for verb in &verbs {
@@ -23,6 +23,9 @@ pub fn page() -> String {
     }
     page + ".fi\n"
 }
+
+/// What clap adds to the verbs.
+const OTHERS: [&str; 2] = ["umarekoza help [VERB]", "umarekoza --version"];
 
 const EXAMPLES: [&str; 4] = [
     "umarekoza check page.txt",

@@ -42,7 +42,7 @@ fn mixed(test: &str) -> Place {
 #[test]
 fn only_regular_files_are_read() {
     let place = mixed("mixed");
-    place.run(&["check", "pages"]).left(
+    place.run_briefly(&["check", "pages"]).left(
         0,
         "pages/one: page accepted\npages/soft: page accepted\n2 accepted, 0 refused\n",
         "umarekoza: pages/deeper: left out: this is a folder\n\
@@ -55,7 +55,7 @@ fn only_regular_files_are_read() {
 #[test]
 fn folders_below() {
     let place = mixed("below");
-    let left = place.run(&["check", "-r", "pages"]);
+    let left = place.run_briefly(&["check", "-r", "pages"]);
     let lines = "pages/deeper/two: page accepted\npages/one: page accepted\npages/soft: page accepted\n\
                  3 accepted, 0 refused\n";
     assert_eq!((left.status, left.text().as_str()), (0, lines));

@@ -50,6 +50,7 @@ fn the_man_page_has_each_verb_and_option() {
     assert_eq!((page.status, page.err.as_str()), (0, ""));
     let page = page.text();
     assert!(page.starts_with(".TH UMAREKOZA 1 "));
+    assert!(page.contains("\numarekoza help [VERB]\n"));
     for verb in VERBS {
         assert!(page.contains(&format!("\n.SS {verb}\n")), "{verb}");
     }

@@ -30,8 +30,8 @@ fn what_is_no_regular_file_stays() {
     symlink("pipe", place.folder.join("link")).unwrap();
     let sort = |name: &str| fs::symlink_metadata(place.folder.join(name)).unwrap().file_type();
     let pipe = "not written: this is a pipe, no regular file\n";
-    place.run(&["table", "page", "-o", "pipe"]).left(2, "", &format!("umarekoza: pipe: {pipe}"));
-    place.run(&["table", "page", "-o", "link"]).left(2, "", &format!("umarekoza: link: {pipe}"));
+    place.run_briefly(&["table", "page", "-o", "pipe"]).left(2, "", &format!("umarekoza: pipe: {pipe}"));
+    place.run_briefly(&["table", "page", "-o", "link"]).left(2, "", &format!("umarekoza: link: {pipe}"));
     place.run(&["table", "page", "-o", "socket"]).failed(&["socket: not written: this is a socket"]);
     assert!(sort("pipe").is_fifo() && sort("socket").is_socket() && sort("link").is_symlink());
     assert_eq!(place.names(), ["link", "m1", "page", "pipe", "socket"]);

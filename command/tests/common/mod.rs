@@ -70,6 +70,13 @@ impl Place {
         left(self.command(arguments).stdin(Stdio::null()).output().unwrap())
     }
 
+    /// Runs the command, and ends it with status 124 if it hangs.
+    pub fn run_briefly(&self, arguments: &[&str]) -> Left {
+        let mut timeout = Command::new("timeout");
+        timeout.args(["60", env!("CARGO_BIN_EXE_umarekoza")]).args(arguments).current_dir(&self.folder);
+        left(timeout.stdin(Stdio::null()).output().unwrap())
+    }
+
     /// Runs a line of bash, in which `umarekoza` is the command.
     pub fn shell(&self, line: &str) -> Left {
         let mut bash = Command::new("bash");
