@@ -115,7 +115,7 @@ def listing(table, packet):
 
 
 def find_field(table, name):
-    """The index, from 0, of the first field with this label or short name. Refuses by 21, and by 30 if there is none."""
+    """The index, from 0, of the first field with this label or short name. Refuses by 21, and by 30 if none has it."""
     return _calls.find_field(table, name.encode() if isinstance(name, str) else name)
 
 
