@@ -1,77 +1,74 @@
 //! The verb `check`.
 
-use crate::inputs::{Input, Source};
-use crate::{explain, outputs, Failure, Status};
-use std::io::{self, IsTerminal, Write};
-
-/// From so many files on, a terminal shows how far the checks are.
-const MANY: usize = 50;
+use crate::folders::{files, Found};
+use crate::inputs::Input;
+use crate::progress::Progress;
+use crate::sources::{Sort, Source};
+use crate::{explain, json, outputs, Failure, Status};
 
 #[derive(Default)]
 struct Tally {
     accepted: usize,
     refused: usize,
     failed: usize,
+    /// Objects of JSON are printed, and no summary.
+    json: bool,
 }
 
-pub fn run(inputs: &[Input]) -> Result<Status, Failure> {
-    let mut tally = Tally::default();
-    let mut files = Vec::new();
-    for input in inputs {
-        match input.files() {
-            Ok(some) => files.extend(some),
-            Err(failure) => tally.fail(&failure),
+pub fn run(inputs: &[Input], deep: bool, sort: Sort, json: bool) -> Result<Status, Failure> {
+    let mut tally = Tally { json, ..Tally::default() };
+    let found: Vec<Found> = inputs.iter().flat_map(|input| files(input, deep)).collect();
+    let progress = Progress::new("files", Some(found.len()));
+    for found in found {
+        progress.step();
+        let read = found.and_then(|input| match input.bytes() {
+            Ok(bytes) => Ok(Source { input, bytes, sort }),
+            Err(why) => Err((input, why)),
+        });
+        match read {
+            Ok(source) => tally.check(&source)?,
+            Err((input, why)) => tally.fail(&input, &why)?,
         }
     }
-    let shows = files.len() >= MANY && io::stderr().is_terminal();
-    for (done, file) in files.iter().enumerate() {
-        let source = Source::read(file);
-        if shows {
-            progress(done, files.len());
-        }
-        tally.check(source)?;
+    drop(progress);
+    if !json {
+        outputs::print_line(&tally.summary())?;
     }
-    if shows {
-        wipe();
-    }
-    outputs::print(tally.summary().as_bytes())?;
     Ok(tally.status())
 }
 
 impl Tally {
-    fn check(&mut self, source: Result<Source, Failure>) -> Result<(), Failure> {
-        let source = match source {
-            Ok(source) => source,
-            Err(failure) => {
-                self.fail(&failure);
-                return Ok(());
-            }
-        };
-        let file = &source.input;
-        let kind = if source.is_page() { "page" } else { "table" };
-        match source.table() {
-            Ok(_) => {
-                self.accepted += 1;
-                outputs::print(format!("{file}: {kind} accepted\n").as_bytes())?;
-            }
-            Err(refusal) => {
-                self.refused += 1;
-                outputs::print(format!("{file}: {kind} {refusal}\n").as_bytes())?;
-                explain::source(&source, refusal);
-            }
+    fn check(&mut self, source: &Source) -> Result<(), Failure> {
+        let (file, kind, table) = (&source.input, source.kind(), source.table());
+        match &table {
+            Ok(_) => self.accepted += 1,
+            Err(_) => self.refused += 1,
+        }
+        if self.json {
+            let name = file.name().to_string_lossy();
+            outputs::print_line(&json::source(&name, kind, &table).to_string())?;
+        } else if let Err(refusal) = table {
+            outputs::print_line(&format!("{file}: {kind} {refusal}"))?;
+            explain::source(source, refusal);
+        } else {
+            outputs::print_line(&format!("{file}: {kind} accepted"))?;
         }
         Ok(())
     }
 
-    fn fail(&mut self, failure: &str) {
+    fn fail(&mut self, input: &Input, why: &str) -> Result<(), Failure> {
         self.failed += 1;
-        outputs::complain(failure);
+        if self.json {
+            outputs::print_line(&json::failed(&input.name().to_string_lossy(), why).to_string())?;
+        }
+        outputs::complain(&format!("{input}: {why}"));
+        Ok(())
     }
 
     fn summary(&self) -> String {
-        let Tally { accepted, refused, failed } = self;
+        let Tally { accepted, refused, failed, .. } = self;
         let unread = if *failed == 0 { String::new() } else { format!(", {failed} not read") };
-        format!("{accepted} accepted, {refused} refused{unread}\n")
+        format!("{accepted} accepted, {refused} refused{unread}")
     }
 
     fn status(&self) -> Status {
@@ -81,14 +78,4 @@ impl Tally {
             _ => Status::Accepted,
         }
     }
-}
-
-/// Shows on a terminal how many files are done; what is written next takes its place.
-fn progress(done: usize, all: usize) {
-    let mut err = io::stderr().lock();
-    let _ = write!(err, "\x1B[K{done} of {all} files\r").and_then(|()| err.flush());
-}
-
-fn wipe() {
-    let _ = write!(io::stderr().lock(), "\x1B[K");
 }

@@ -1,14 +1,13 @@
 //! Files and standard input, read whole.
 
-use crate::Failure;
-use std::ffi::OsString;
+use crate::{names, standard};
+use std::ffi::OsStr;
 use std::fmt;
-use std::fs::{self, File};
-use std::io::{self, Read};
+use std::fs::File;
+use std::io::{self, BufRead, BufReader, Read};
 use std::path::{Path, PathBuf};
-use umarekoza::Refusal;
 
-/// No file of more bytes than this is read.
+/// No file of more bytes than this is read, and no longer line.
 const MOST_BYTES: u64 = 64 << 20;
 
 #[derive(Clone, PartialEq, Eq, PartialOrd, Ord)]
@@ -19,21 +18,23 @@ pub enum Input {
 
 impl fmt::Display for Input {
     fn fmt(&self, to: &mut fmt::Formatter<'_>) -> fmt::Result {
-        match self {
-            Input::Standard => to.write_str("standard input"),
-            Input::File(path) => write!(to, "{}", path.display()),
-        }
+        to.write_str(&names::shown(self.name().as_encoded_bytes()))
     }
 }
 
 impl Input {
     /// The input of an argument: `-` is standard input.
-    pub fn named(word: &OsString) -> Self {
-        if word == "-" {
+    pub fn named(path: &Path) -> Self {
+        if path.as_os_str() == "-" {
             Input::Standard
         } else {
-            Input::File(word.into())
+            Input::File(path.to_path_buf())
         }
+    }
+
+    /// The path, as it is; or what is read in its stead.
+    pub fn name(&self) -> &OsStr {
+        self.path().map_or("standard input".as_ref(), Path::as_os_str)
     }
 
     pub fn path(&self) -> Option<&Path> {
@@ -43,46 +44,47 @@ impl Input {
         }
     }
 
-    /// All bytes.
-    pub fn bytes(&self) -> Result<Vec<u8>, Failure> {
-        let bytes = match self {
-            Input::Standard => limited(io::stdin().lock()),
-            Input::File(path) => file_bytes(path),
-        };
-        let bytes = bytes.map_err(|error| format!("{self}: {}", reason(&error)))?;
-        if bytes.len() as u64 > MOST_BYTES {
-            return Err(format!("{self}: over {} MiB, too large to be read", MOST_BYTES >> 20));
-        }
-        Ok(bytes)
+    /// All bytes, or why they cannot be read.
+    pub fn bytes(&self) -> Result<Vec<u8>, String> {
+        let mut bytes = Vec::new();
+        let read = self.reader().and_then(|reader| reader.take(MOST_BYTES + 1).read_to_end(&mut bytes));
+        read.map_err(|error| reason(&error))?;
+        fitting(bytes, "too large to be read")
     }
 
-    /// The files that the input stands for: those in a folder, in the order of their names, or itself.
-    pub fn files(&self) -> Result<Vec<Input>, Failure> {
-        let Some(path) = self.path().filter(|path| path.is_dir()) else { return Ok(vec![self.clone()]) };
-        let failed = |error: io::Error| format!("{self}: {}", reason(&error));
-        let mut files = Vec::new();
-        for entry in fs::read_dir(path).map_err(failed)? {
-            let path = entry.map_err(failed)?.path();
-            if !path.is_dir() {
-                files.push(Input::File(path));
-            }
+    /// Its lines, without their ends, each as soon as it is there.
+    pub fn lines(&self) -> Result<impl Iterator<Item = Result<Vec<u8>, String>>, String> {
+        let mut reader = self.reader().map_err(|error| reason(&error))?;
+        Ok(std::iter::from_fn(move || line(&mut reader).transpose()))
+    }
+
+    fn reader(&self) -> io::Result<Box<dyn BufRead>> {
+        match self {
+            Input::Standard if !standard::input_was_open() => Err(io::Error::other("it is closed")),
+            Input::Standard => Ok(Box::new(io::stdin().lock())),
+            Input::File(path) if path.is_dir() => Err(io::Error::from(io::ErrorKind::IsADirectory)),
+            Input::File(path) => Ok(Box::new(BufReader::new(File::open(path)?))),
         }
-        files.sort();
-        Ok(files)
     }
 }
 
-fn file_bytes(path: &Path) -> io::Result<Vec<u8>> {
-    if path.is_dir() {
-        return Err(io::Error::from(io::ErrorKind::IsADirectory));
+fn line(reader: &mut dyn BufRead) -> Result<Option<Vec<u8>>, String> {
+    let mut line = Vec::new();
+    let read = reader.take(MOST_BYTES + 1).read_until(b'\n', &mut line);
+    if read.map_err(|error| reason(&error))? == 0 {
+        return Ok(None);
     }
-    limited(File::open(path)?)
+    let mut line = fitting(line, "too long a line to be read")?;
+    if line.ends_with(b"\n") {
+        line.pop();
+    }
+    Ok(Some(line))
 }
 
-/// All bytes, or one more than may be read.
-fn limited(reader: impl Read) -> io::Result<Vec<u8>> {
-    let mut bytes = Vec::new();
-    reader.take(MOST_BYTES + 1).read_to_end(&mut bytes)?;
+fn fitting(bytes: Vec<u8>, what: &str) -> Result<Vec<u8>, String> {
+    if bytes.len() as u64 > MOST_BYTES {
+        return Err(format!("over {} MiB, {what}", MOST_BYTES >> 20));
+    }
     Ok(bytes)
 }
 
@@ -92,31 +94,6 @@ pub fn reason(error: &io::Error) -> String {
         io::ErrorKind::NotFound => "there is no such file or folder".to_string(),
         io::ErrorKind::IsADirectory => "this is a folder, not a file".to_string(),
         io::ErrorKind::PermissionDenied => "permission denied".to_string(),
-        _ => error.to_string(),
-    }
-}
-
-/// A page or a table.
-pub struct Source {
-    pub input: Input,
-    pub bytes: Vec<u8>,
-}
-
-impl Source {
-    pub fn read(input: &Input) -> Result<Self, Failure> {
-        Ok(Source { input: input.clone(), bytes: input.bytes()? })
-    }
-
-    /// A file whose first byte is `A` is a page, any other a table.
-    pub fn is_page(&self) -> bool {
-        self.bytes.first() == Some(&b'A')
-    }
-
-    /// The table of a page, or the table itself if it is good.
-    pub fn table(&self) -> Result<Vec<u8>, Refusal> {
-        if self.is_page() {
-            return umarekoza::table_of(&self.bytes);
-        }
-        umarekoza::check_table(&self.bytes).map(|()| self.bytes.clone())
+        _ => names::shown(error.to_string().as_bytes()),
     }
 }

@@ -1,22 +1,36 @@
 //! The command `umarekoza`: arguments, files and exit status round the library. Whether a page, a table or a
 //! packet is accepted is the library's answer alone.
 //!
-//! `arguments` reads the command line, `inputs` the files, `hex` packets written in hexadecimal; `table`, `read`,
-//! `bytes` and `check` are the verbs; `explain` writes what a refusal means, in the words of `meanings`; `outputs`
-//! writes results.
+//! `cli` has the verbs and options, and `requests` reads a command line by them. `inputs` reads files, `folders`
+//! what is in folders, `sources` pages and tables, `packets` packets, `hex` and `dump` those that are written in
+//! hexadecimal. `table`, `read`, `bytes`, `check` and `numbers` are the verbs, `man` and clap_complete make the man
+//! page and the completions. `explain` says what a refusal means, `json` says answers for programs, `fields` finds
+//! fields, `names` shows names. `outputs` and `replace` write results, with `progress` beside them.
 
-mod arguments;
 mod bytes;
 mod check;
+mod cli;
+mod dump;
 mod explain;
+mod fields;
+mod folders;
 mod hex;
 mod inputs;
-mod meanings;
+mod json;
+mod man;
+mod names;
+mod numbers;
 mod outputs;
+mod packets;
+mod progress;
 mod read;
+mod replace;
+mod requests;
+mod sources;
+mod standard;
 mod table;
 
-use arguments::Request;
+use requests::Request;
 use std::env;
 use std::process::ExitCode;
 
@@ -28,24 +42,39 @@ enum Status {
     Failed = 2,
 }
 
-/// What went wrong with arguments or files: a message for standard error.
-type Failure = String;
+/// What went wrong with arguments, files or standard output.
+enum Failure {
+    /// A message for standard error.
+    Said(String),
+    /// Nobody reads standard output any longer: there is nothing to say.
+    Closed,
+}
+
+impl From<String> for Failure {
+    fn from(message: String) -> Self {
+        Failure::Said(message)
+    }
+}
 
 fn main() -> ExitCode {
     let status = run().unwrap_or_else(|failure| {
-        outputs::complain(&failure);
+        if let Failure::Said(message) = failure {
+            outputs::complain(&message);
+        }
         Status::Failed
     });
     ExitCode::from(status as u8)
 }
 
 fn run() -> Result<Status, Failure> {
-    match arguments::request(env::args_os().skip(1))? {
-        Request::Help => outputs::print(arguments::HELP.as_bytes()),
-        Request::Version => outputs::print(concat!("umarekoza ", env!("CARGO_PKG_VERSION"), "\n").as_bytes()),
-        Request::Table { page, table } => table::run(&page, &table),
-        Request::Read { source, packets, hex } => read::run(&source, &packets, hex),
-        Request::Bytes { source, packet, field, hex } => bytes::run(&source, &packet, &field, hex),
-        Request::Check { files } => check::run(&files),
+    match requests::request(env::args_os())? {
+        Request::Print(text) => outputs::print(text.as_bytes()),
+        Request::Table { page, table } => table::run(&page, table.as_deref()),
+        Request::Read { source, packets, form } => read::run(&source, &packets, &form),
+        Request::Bytes { source, packets, field, as_hex } => bytes::run(&source, &packets, &field, as_hex),
+        Request::Check { files, deep, sort, json } => check::run(&files, deep, sort, json),
+        Request::Explain { numbers } => numbers::run(&numbers),
+        Request::Man => outputs::print(man::page().as_bytes()),
+        Request::Completions(shell) => outputs::print(cli::completions(shell).as_bytes()),
     }
 }

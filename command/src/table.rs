@@ -1,26 +1,42 @@
 //! The verb `table`.
 
-use crate::inputs::{Input, Source};
+use crate::inputs::Input;
+use crate::replace::replace;
+use crate::sources::{Sort, SourceName};
 use crate::{explain, outputs, Failure, Status};
-use std::fs;
+use std::fs::{self, Metadata};
+use std::io::{self, IsTerminal};
+use std::os::unix::fs::MetadataExt;
 use std::path::Path;
 
-pub fn run(page: &Input, table: &Path) -> Result<Status, Failure> {
-    let source = Source::read(page)?;
-    if is_same(page, table) {
-        return Err(format!("{page}: the table would take the place of its page; choose another name"));
+pub fn run(page: &Input, table: Option<&Path>) -> Result<Status, Failure> {
+    let source = SourceName { input: page.clone(), sort: Sort::Page }.read()?;
+    if table.is_some_and(|table| is_same(page, table)) {
+        let message = format!("{page}: the table would take the place of its page; choose another name");
+        return Err(Failure::Said(message));
     }
-    match umarekoza::table_of(&source.bytes) {
-        Ok(bytes) => outputs::replace(table, &bytes).map(|()| Status::Accepted),
-        Err(refusal) => {
-            outputs::print(format!("{refusal}\n").as_bytes())?;
-            explain::page(&source, refusal);
+    if table.is_none() && io::stdout().is_terminal() {
+        return Err(Failure::Said(
+            "a table is not written to a terminal: `-o FILE` writes a file".to_string(),
+        ));
+    }
+    match (umarekoza::table_of(&source.bytes), table) {
+        (Ok(bytes), Some(table)) => replace(table, &bytes).map(|()| Status::Accepted),
+        (Ok(bytes), None) => outputs::print(&bytes),
+        (Err(refusal), table) => {
+            if table.is_some() {
+                outputs::print_line(&refusal.to_string())?;
+            } else {
+                outputs::complain(&refusal.to_string());
+            }
+            explain::source(&source, refusal);
             Ok(Status::Refused)
         }
     }
 }
 
 fn is_same(page: &Input, table: &Path) -> bool {
-    let page = page.path().and_then(|path| fs::canonicalize(path).ok());
-    page.is_some_and(|page| fs::canonicalize(table).is_ok_and(|table| table == page))
+    let file = |metadata: Metadata| (metadata.dev(), metadata.ino());
+    let page = page.path().and_then(|path| fs::metadata(path).ok()).map(file);
+    page.is_some_and(|page| fs::metadata(table).is_ok_and(|table| file(table) == page))
 }

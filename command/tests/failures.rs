@@ -7,31 +7,48 @@ use common::*;
 use std::ffi::OsStr;
 use std::fs::{self, File};
 use std::os::unix::ffi::OsStrExt;
-use std::process::Stdio;
 
 #[test]
 fn wrong_arguments() {
     let place = Place::new("arguments");
-    let cases: [(&[&str], &str); 14] = [
-        (&[], "a verb is missing"),
-        (&["reed", "page", "m1"], "no verb `reed`"),
-        (&["table", "page"], "`-o TABLE` is missing"),
-        (&["table", "page", "-o"], "the file after `-o`"),
-        (&["table", "page", "-o", "-"], "not to standard output"),
-        (&["table", "page", "-o", "a", "-o", "b"], "twice"),
-        (&["table", "page", "m1", "-o", "a"], "`table` takes"),
-        (&["read", "page"], "`read` takes"),
-        (&["bytes", "page", "m1"], "`bytes` takes"),
-        (&["check"], "`check` takes"),
-        (&["check", "--hex", "page"], "`--hex` goes with"),
-        (&["read", "page", "m1", "-o", "a"], "`-o` goes with"),
-        (&["read", "--hexx", "page", "m1"], "no option `--hexx`"),
-        (&["read", "-", "-"], "once only"),
+    let cases: [(&[&str], &str); 15] = [
+        (&[], "requires a subcommand"),
+        (&["rd", "page", "m1"], "The subcommand 'rd' wasn't recognized"),
+        (&["table", "page"], "--output <TABLE>"),
+        (&["table", "page", "-o"], "requires a value"),
+        (&["table", "page", "-o", "a", "-o", "b"], "more than once"),
+        (&["table", "page", "m1", "-o", "a"], "'m1' which wasn't expected"),
+        (&["read", "page"], "<PACKET>..."),
+        (&["read", "--json", "--field", "N", "page", "m1"], "cannot be used with"),
+        (&["read", "--page", "--table", "page", "m1"], "cannot be used with"),
+        (&["bytes", "page", "m1"], "<FIELD>"),
+        (&["check"], "<FILE>..."),
+        (&["check", "--hex", "page"], "'--hex' which wasn't expected"),
+        (&["read", "page", "m1", "-o", "a"], "'-o' which wasn't expected"),
+        (&["explain", "x"], "'x'"),
+        (&["completions", "csh"], "'csh' isn't a valid value"),
     ];
     for (arguments, words) in cases {
-        place.run(arguments).failed(&[words, "umarekoza --help"]);
+        place.run(arguments).failed(&["umarekoza: ", words, "'--help'"]);
     }
+    place.run(&["read", "-", "-"]).left(2, "", "umarekoza: standard input `-` can stand there once only\n");
     assert_eq!(place.names(), ["m1", "page"]);
+}
+
+#[test]
+fn did_you_mean() {
+    let place = Place::new("mean");
+    place.run(&["reed", "page", "m1"]).failed(&["Did you mean 'read'?"]);
+    place.run(&["read", "--hexx", "page", "m1"]).failed(&["Did you mean '--hex'?"]);
+    place.run(&["read", "page", "m1", "--field", "Borower"]).left(
+        1,
+        "refused 30 at 0\n",
+        "umarekoza: page, field `Borower`: no field has this name or index (number 30)\n  \
+         did you mean `Borrower`?\n  \
+         the labels are: Version, On Loan, Cells, Blade, Borrower, Readings, Sum\n  \
+         to mend it: give a label, a short name or an index from 0\n",
+    );
+    place.run(&["bytes", "page", "m1", "sum"]).refused_quietly(&["did you mean `Sum`?"]);
 }
 
 #[test]
@@ -41,9 +58,13 @@ fn arguments_that_are_no_text() {
     let mut command = place.command(&["read", "page"]);
     left(command.arg(odd).output().unwrap()).failed(&["no such file"]);
     let mut command = place.command(&["bytes", "page", "m1"]);
-    left(command.arg(odd).output().unwrap()).refused("refused 30 at 0", &["no field"]);
+    left(command.arg(odd).output().unwrap()).refused_quietly(&[
+        "refused 30 at 0",
+        "no field",
+        "`\\xff\\xfe`",
+    ]);
     let mut command = place.command(&[]);
-    left(command.arg(odd).output().unwrap()).failed(&["no verb"]);
+    left(command.arg(odd).output().unwrap()).failed(&["wasn't recognized"]);
 }
 
 #[test]
@@ -64,11 +85,9 @@ fn missing_files_and_folders() {
     place.run(&["table", "page", "-o", ".."]).failed(&["..: not written"]);
     place.run(&["read", "none", "m1"]).failed(&["none: "]);
     place.run(&["read", "folder", "m1"]).failed(&["folder: this is a folder"]);
-    place.run(&["read", "page", "folder"]).failed(&["folder: this is a folder"]);
+    place.run(&["bytes", "page", "folder", "Sum"]).failed(&["folder: this is a folder"]);
     place.run(&["bytes", "page", "none", "Sum"]).failed(&["none: "]);
     assert_eq!(place.names(), ["folder", "m1", "page"]);
-    let left = place.run(&["read", "page", "none", "m1"]);
-    assert_eq!((left.status, left.text().as_str()), (2, M1_LISTING));
 }
 
 #[test]
@@ -76,16 +95,6 @@ fn a_page_keeps_its_place() {
     let place = Place::new("same");
     place.run(&["table", "page", "-o", "./page"]).failed(&["would take the place of its page"]);
     assert_eq!(place.get("page"), BLADE.as_bytes());
-}
-
-#[test]
-fn wrong_hexadecimal() {
-    let place = Place::new("hex");
-    place.put("digit", "62 07 0g");
-    place.put("odd", "62 07 0");
-    place.run(&["read", "--hex", "page", "digit"]).failed(&["digit: line 1, column 8: `g`"]);
-    place.run(&["read", "--hex", "page", "odd"]).failed(&["odd: the number of hexadecimal digits is odd"]);
-    place.run(&["bytes", "--hex", "page", "m1", "Sum"]).failed(&["m1: line 1, column 2: the byte 07"]);
 }
 
 #[test]
@@ -103,13 +112,36 @@ fn files_of_megabytes() {
 #[test]
 fn standard_output_that_is_full_or_closed() {
     let place = Place::new("full");
-    let full = File::options().write(true).open("/dev/full").unwrap();
-    left(place.command(&["read", "page", "m1"]).stdout(full).output().unwrap())
-        .failed(&["standard output: "]);
-    let mut command = place.command(&["read", "page", "-"]);
-    command.stdin(Stdio::piped()).stdout(Stdio::piped()).stderr(Stdio::piped());
-    let mut child = command.spawn().unwrap();
-    drop(child.stdout.take());
-    drop(child.stdin.take());
-    left(child.wait_with_output().unwrap()).failed(&["standard output: "]);
+    place.put("m2", M2);
+    for arguments in [
+        &["read", "page", "m1"][..],
+        &["read", "--json", "page", "m1", "m2"],
+        &["bytes", "page", "m1", "Sum"],
+        &["check", "page"],
+        &["table", "page", "-o", "-"],
+        &["--help"],
+    ] {
+        let full = File::options().write(true).open("/dev/full").unwrap();
+        left(place.command(arguments).stdout(full).output().unwrap())
+            .failed(&["umarekoza: standard output: "]);
+        let closed = "umarekoza: standard output: it is closed\n";
+        place.shell(&format!("umarekoza {} >&-", arguments.join(" "))).left(2, "", closed);
+    }
+    place.shell("umarekoza table page -o table >&-").accepted("");
+}
+
+#[test]
+fn standard_input_that_is_closed() {
+    let place = Place::new("closed");
+    place.shell("umarekoza read page - <&-").left(2, "", "umarekoza: standard input: it is closed\n");
+}
+
+#[test]
+fn a_closed_pipe_ends_it_quietly() {
+    let place = Place::new("pipe");
+    place.put("lines", "62 07 01 2C AA BB 00 09\n".repeat(5000));
+    let first = place.shell("set -o pipefail; umarekoza read --lines page lines | head -n 1");
+    first.left(2, "==> lines:1 <==\n", "");
+    let first = place.shell("set -o pipefail; umarekoza read --json --lines page lines | head -c 1");
+    first.left(2, "{", "");
 }

@@ -69,7 +69,12 @@ fn form_of_a_line_5() {
 #[test]
 fn large_expression_6() {
     let sum = format!("N <= 20{}", " + 1".repeat(12));
-    page_refused("6", &[("N <= 20", &sum)], "refused 6 at 19", &["page:19: ", "12"]);
+    page_refused(
+        "6",
+        &[("N <= 20", &sum)],
+        "refused 6 at 19",
+        &["page:19: ", "its depth is over 12", "a number or name has depth 1"],
+    );
 }
 
 #[test]
@@ -118,7 +123,7 @@ fn bad_table_21() {
     place.put("empty", "");
     for table in ["table", "empty"] {
         place.run(&["read", table, "m1"]).refused("refused 21 at 0", &[table, "not a good table"]);
-        place.run(&["bytes", table, "m1", "N"]).refused("refused 21 at 0", &[table]);
+        place.run(&["bytes", table, "m1", "N"]).refused_quietly(&["refused 21 at 0", table]);
     }
     let left = place.run(&["check", "table"]);
     assert_eq!(
@@ -141,7 +146,7 @@ fn packets_22_to_28() {
     for (packet, line, words) in cases {
         place.put("packet", packet);
         place.run(&["read", "page", "packet"]).refused(line, &[words, "to mend it: "]);
-        place.run(&["bytes", "page", "packet", "Blade"]).refused(line, &[words, "to mend it: "]);
+        place.run(&["bytes", "page", "packet", "Blade"]).refused_quietly(&[line, words, "to mend it: "]);
     }
     place.put("packet", "");
     place.run(&["read", "page", "packet"]).refused("refused 24 at 1", &["field `Version`"]);
@@ -162,7 +167,12 @@ fn no_such_field_30() {
     let place = Place::new("30");
     for field in ["Borrowers", "bor", "7", "+4", "99999999999999999999", "-", ""] {
         let words = ["page, field `", "Version, On Loan, Cells, Blade, Borrower, Readings, Sum"];
-        place.run(&["bytes", "page", "m1", field]).refused("refused 30 at 0", &words);
+        place.run(&["bytes", "page", "m1", "--", field]).refused_quietly(&[
+            "refused 30 at 0",
+            words[0],
+            words[1],
+        ]);
+        place.run(&["read", "page", "m1", "--field", field]).refused("refused 30 at 0", &words);
     }
 }
 
@@ -171,6 +181,7 @@ fn a_refused_packet_among_others() {
     let place = Place::new("among");
     place.put("short", &M1[..7]);
     let left = place.run(&["read", "page", "m1", "short", "m1"]);
-    assert_eq!((left.status, left.text()), (1, format!("{M1_LISTING}refused 24 at 7\n{M1_LISTING}")));
+    let lines = format!("==> m1 <==\n{M1_LISTING}==> short <==\nrefused 24 at 7\n==> m1 <==\n{M1_LISTING}");
+    assert_eq!((left.status, left.text()), (1, lines));
     left.says(&["short, field `Sum`"]);
 }

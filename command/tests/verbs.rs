@@ -3,7 +3,6 @@
 mod common;
 
 use common::*;
-use std::fs;
 
 const TAG: &str = "A Tag is formatted as follows:\n\n 0\n 0 1 2 3 4 5 6 7\n+-+-+-+-+-+-+-+-+\n\
                    |       K       |\n+-+-+-+-+-+-+-+-+\n\nwhere:\n\nKind (K): 1 byte; K == 7.\n";
@@ -32,7 +31,9 @@ fn read_by_page_and_by_table() {
     place.put("m2", M2);
     place.run(&["read", "page", "m1"]).accepted(M1_LISTING);
     place.run(&["table", "page", "-o", "table"]).accepted("");
-    place.run(&["read", "table", "m1", "m2"]).accepted(format!("{M1_LISTING}{M2_LISTING}"));
+    place
+        .run(&["read", "table", "m1", "m2"])
+        .accepted(format!("==> m1 <==\n{M1_LISTING}==> m2 <==\n{M2_LISTING}"));
 }
 
 #[test]
@@ -62,15 +63,24 @@ fn a_name_goes_before_an_index() {
 }
 
 #[test]
-fn fields_without_bytes_are_explained() {
+fn fields_without_bytes_are_refused() {
     let place = Place::new("empty");
     place.put("m2", M2);
-    let left = place.run(&["bytes", "page", "m2", "Borrower"]);
-    assert_eq!((left.status, left.text().as_str()), (0, ""));
-    left.says(&["m2, field `Borrower`", "absent"]);
-    let left = place.run(&["bytes", "page", "m1", "L"]);
-    assert_eq!((left.status, left.text().as_str()), (0, ""));
-    left.says(&["field `On Loan`", "does not start on a byte"]);
+    let absent = "umarekoza: m2, field `Borrower`: it is absent\n";
+    place.run(&["bytes", "page", "m2", "Borrower"]).left(1, "", absent);
+    let unaligned = "umarekoza: m1, field `On Loan`: it does not start on a byte or has not whole bytes; \
+                     `read` shows where it is\n";
+    place.run(&["bytes", "page", "m1", "L"]).left(1, "", unaligned);
+    place.put("none", [0x40, 7, 0, 9]);
+    place.run(&["bytes", "page", "none", "Readings"]).accepted("");
+}
+
+#[test]
+fn bytes_in_hexadecimal() {
+    let place = Place::new("to-hex");
+    place.run(&["bytes", "--to-hex", "page", "m1", "Readings"]).accepted("aabb\n");
+    place.put("none", [0x40, 7, 0, 9]);
+    place.run(&["bytes", "--to-hex", "page", "none", "Readings"]).accepted("\n");
 }
 
 #[test]
@@ -81,44 +91,4 @@ fn check_pages_and_tables() {
     place.run(&["check", "page", "table"]).accepted(lines);
     let lines = "standard input: page accepted\n1 accepted, 0 refused\n";
     place.run_on(&["check", "-"], BLADE.as_bytes()).accepted(lines);
-}
-
-#[test]
-fn check_a_folder_of_many_files() {
-    let place = Place::new("folder");
-    fs::create_dir_all(place.folder.join("pages/deeper")).unwrap();
-    let mut lines = String::new();
-    for number in 0..300 {
-        place.put(&format!("pages/{number:03}.txt"), BLADE);
-        lines += &format!("pages/{number:03}.txt: page accepted\n");
-    }
-    place.run(&["check", "pages"]).accepted(format!("{lines}300 accepted, 0 refused\n"));
-    place.put("pages/000.txt", "A page");
-    let left = place.run(&["check", "pages"]);
-    assert_eq!(left.status, 1);
-    assert!(left.text().starts_with("pages/000.txt: page refused 3 at 1\npages/001.txt: page accepted\n"));
-    assert!(left.text().ends_with("\n299 accepted, 1 refused\n"));
-    left.says(&["pages/000.txt:1", "A page"]);
-}
-
-#[test]
-fn check_goes_on_behind_what_it_cannot_read() {
-    let place = Place::new("goes-on");
-    fs::create_dir(place.folder.join("empty")).unwrap();
-    let left = place.run(&["check", "none", "page", "empty"]);
-    assert_eq!(left.text(), "page: page accepted\n1 accepted, 0 refused, 1 not read\n");
-    assert_eq!(left.status, 2);
-    left.says(&["none: there is no such file"]);
-}
-
-#[test]
-fn help_and_version() {
-    let place = Place::new("help");
-    let help = place.run(&["--help"]);
-    for verb in ["table PAGE -o TABLE", "read SOURCE PACKET", "bytes SOURCE PACKET FIELD", "check FILE"] {
-        assert!(help.text().contains(verb));
-    }
-    assert_eq!((help.status, help.err.as_str()), (0, ""));
-    place.run(&["read", "--help"]).accepted(&help.out);
-    place.run(&["--version"]).accepted(concat!("umarekoza ", env!("CARGO_PKG_VERSION"), "\n"));
 }

@@ -1,10 +1,15 @@
-//! The functions of the static library, each behind a safe one of the same name. All unsafe code is here.
+//! The functions of the static library, each behind a safe one of the same name. All unsafe code is here. What the
+//! library has no function for yet is in `stand_ins`, under the name that it will have.
 //!
 //! A slice crosses as its own pointer and its length; that of an empty one is not null, aligned, and valid for the
 //! length 0. The library reads the shared slices only, writes within the lent ones only, and keeps no pointer;
 //! Rust's borrows see to it that no two overlap.
 
+mod stand_ins;
+
 use crate::Refusal;
+
+pub use stand_ins::{count_fields, field_kind, field_short};
 
 #[repr(C)]
 #[derive(Clone, Copy)]

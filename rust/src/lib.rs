@@ -45,14 +45,21 @@
 
 mod calls;
 mod limits;
+mod meanings;
 mod packets;
 mod refusal;
 mod tables;
 
 pub use limits::{FIELDS_MOST, LISTING_MOST, PACKET_MOST, RUN_MOST, TABLE_MOST, TEXT_MOST};
+pub use meanings::{meanings, Meaning};
 pub use packets::{field_bytes, fields_of, list_packet, listing, read_packet, Field};
 pub use refusal::Refusal;
-pub use tables::{check_table, field_label, find_field, table_of, write_table};
+pub use tables::{
+    check_table, count_fields, field_kind, field_label, field_short, find_field, table_of, write_table, Kind,
+};
+
+/// The version of this crate.
+pub const VERSION: &str = env!("CARGO_PKG_VERSION");
 
 /// What `write` writes to an output of `room` bytes.
 fn written(room: usize, write: impl FnOnce(&mut [u8]) -> Result<usize, Refusal>) -> Result<Vec<u8>, Refusal> {

@@ -1,3 +1,4 @@
+use crate::{meanings, Meaning};
 use std::error::Error;
 use std::fmt;
 
@@ -14,6 +15,18 @@ pub struct Refusal {
     pub number: u32,
     /// The line or field, counted from 1, or 0.
     pub place: u32,
+}
+
+impl Refusal {
+    /// What the number means, and how to mend what is refused. None for a number that no refusal has.
+    ///
+    /// ```
+    /// let refusal = umarekoza::Refusal { number: 28, place: 0 };
+    /// assert_eq!(refusal.meaning().unwrap().what, "bits are left over behind the last field");
+    /// ```
+    pub fn meaning(self) -> Option<&'static Meaning> {
+        meanings().iter().find(|meaning| meaning.number == self.number)
+    }
 }
 
 impl fmt::Display for Refusal {

@@ -128,6 +128,26 @@ fn names_and_labels() {
 }
 
 #[test]
+fn kinds_and_short_names() {
+    let (table, rest) = (blade(), table_of(include_bytes!("../../examples/pages/gait-burst.txt")).unwrap());
+    let shorts: [Option<&[u8]>; 8] =
+        [Some(b"V"), Some(b"L"), Some(b"N"), None, Some(b"Bor"), None, None, None];
+    for (index, short) in shorts.into_iter().enumerate() {
+        assert_eq!(field_short(&table, index), short);
+        let kind = match index {
+            5 => Ok(Kind::Measured),
+            7 => refused(30, 0),
+            _ => Ok(Kind::Fixed),
+        };
+        assert_eq!(field_kind(&table, index), kind);
+    }
+    assert_eq!((count_fields(&table), count_fields(b"no table")), (Ok(7), refused(21, 0)));
+    assert_eq!((field_kind(b"", 0), field_short(b"", 0)), (refused(21, 0), None));
+    let kinds: Vec<Kind> = (0..).map_while(|index| field_kind(&rest, index).ok()).collect();
+    assert_eq!(kinds, [[Kind::Fixed; 4].as_slice(), &[Kind::Rest, Kind::Fixed]].concat());
+}
+
+#[test]
 fn empty_slices() {
     assert_eq!(write_table(b"", &mut []), refused(3, 1));
     assert_eq!(write_table(BLADE, &mut []), refused(11, 0));

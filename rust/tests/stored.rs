@@ -51,7 +51,13 @@ fn answer(request: &str) -> String {
     let words: Vec<&str> = request.split(' ').collect();
     match *words {
         ["text", room, text] => written(number(room), &bytes(text)),
-        ["table", table] => settled(check_table(&bytes(table)).map(|()| "ok".to_string())),
+        ["table", table] => {
+            let table = bytes(table);
+            // The number of fields stands in the head, behind its length, kind and W.
+            let count = |()| usize::from(u16::from_le_bytes([table[6], table[7]]));
+            assert_eq!(count_fields(&table), check_table(&table).map(count));
+            settled(check_table(&table).map(|()| "ok".to_string()))
+        }
         ["read", run_len, table, packet] => settled(read(number(run_len), &bytes(table), &bytes(packet))),
         ["part", index, table, packet] => {
             let packet = bytes(packet);

@@ -70,6 +70,21 @@ impl Place {
         left(self.command(arguments).stdin(Stdio::null()).output().unwrap())
     }
 
+    /// Runs the command, and ends it with status 124 if it hangs.
+    pub fn run_briefly(&self, arguments: &[&str]) -> Left {
+        let mut timeout = Command::new("timeout");
+        timeout.args(["60", env!("CARGO_BIN_EXE_umarekoza")]).args(arguments).current_dir(&self.folder);
+        left(timeout.stdin(Stdio::null()).output().unwrap())
+    }
+
+    /// Runs a line of bash, in which `umarekoza` is the command.
+    pub fn shell(&self, line: &str) -> Left {
+        let mut bash = Command::new("bash");
+        bash.arg("-c").arg(format!("umarekoza() {{ \"$UMAREKOZA\" \"$@\"; }}\n{line}"));
+        bash.env("UMAREKOZA", env!("CARGO_BIN_EXE_umarekoza")).current_dir(&self.folder);
+        left(bash.output().unwrap())
+    }
+
     /// Runs the command with these bytes on standard input.
     pub fn run_on(&self, arguments: &[&str], input: &[u8]) -> Left {
         let mut command = self.command(arguments);
@@ -78,6 +93,16 @@ impl Place {
         child.stdin.take().unwrap().write_all(input).unwrap();
         left(child.wait_with_output().unwrap())
     }
+}
+
+/// What a program of Python prints.
+pub fn python(program: &str, arguments: &[&str], input: &[u8]) -> Left {
+    let mut command = Command::new("python3");
+    command.arg("-c").arg(program).args(arguments);
+    command.stdin(Stdio::piped()).stdout(Stdio::piped()).stderr(Stdio::piped());
+    let mut child = command.spawn().unwrap();
+    child.stdin.take().unwrap().write_all(input).unwrap();
+    left(child.wait_with_output().unwrap())
 }
 
 impl Drop for Place {
@@ -97,6 +122,17 @@ impl Left {
     pub fn accepted(&self, out: impl AsRef<[u8]>) {
         assert_eq!((self.status, self.err.as_str()), (0, ""));
         assert_eq!(self.text(), String::from_utf8_lossy(out.as_ref()));
+    }
+
+    /// Refused: nothing on standard output, and these words on standard error.
+    pub fn refused_quietly(&self, words: &[&str]) {
+        assert_eq!((self.status, self.text().as_str()), (1, ""), "{}", self.err);
+        self.says(words);
+    }
+
+    /// This status, this on standard output and this on standard error.
+    pub fn left(&self, status: i32, out: &str, err: &str) {
+        assert_eq!((self.text().as_str(), self.err.as_str(), self.status), (out, err, status));
     }
 
     /// Refused: this line alone on standard output, and these words on standard error.

@@ -1,0 +1,82 @@
+//! Answers as objects of JSON.
+
+use crate::explain::field_of;
+use crate::fields::{reading, whole_bytes, Described};
+use crate::hex::written;
+use serde_json::{json, Map, Value};
+use umarekoza::{Field, Kind, Refusal};
+
+/// A packet, accepted or refused.
+pub fn packet(name: &str, table: &[u8], packet: &[u8], described: &[Described]) -> Result<Value, Value> {
+    let (bits, fields) = reading(table, packet, described.len())
+        .map_err(|refusal| refused_packet(name, described, refusal))?;
+    let long_bytes = |index, described: &Described, field: &Field| {
+        let bytes = (!described.is_fixed()).then(|| umarekoza::field_bytes(table, packet, index))?;
+        whole_bytes(field, bytes).map(written)
+    };
+    let both = described.iter().zip(&fields).enumerate();
+    let objects: Vec<Value> = both
+        .map(|(index, (described, field))| {
+            field_object(described, field, long_bytes(index, described, field))
+        })
+        .collect();
+    Ok(json!({ "name": name, "result": "accepted", "bits": bits, "fields": objects }))
+}
+
+/// A field; what an absent one has not, and what a field of its kind has not, is null.
+fn field_object(described: &Described, field: &Field, bytes: Option<String>) -> Value {
+    let present = |number: u32| field.present.then_some(number);
+    json!({
+        "label": described.label,
+        "short": described.short,
+        "kind": kind(described.kind),
+        "present": field.present,
+        "offset": present(field.offset),
+        "width": present(field.width),
+        "value": present(field.value).filter(|_| described.is_fixed()),
+        "bytes": bytes,
+    })
+}
+
+fn kind(kind: Kind) -> &'static str {
+    match kind {
+        Kind::Fixed => "fixed",
+        Kind::Measured => "measured",
+        Kind::Rest => "rest",
+    }
+}
+
+/// A refused packet, with the label of the field that is refused.
+fn refused_packet(name: &str, fields: &[Described], refusal: Refusal) -> Value {
+    let mut object = refused(name, refusal);
+    object.insert("field".to_string(), json!(field_of(fields, refusal)));
+    Value::Object(object)
+}
+
+/// A page or table, accepted with the length of its table, or refused.
+pub fn source(name: &str, kind: &str, table: &Result<Vec<u8>, Refusal>) -> Value {
+    let mut object = match table {
+        Ok(table) => object(json!({ "name": name, "result": "accepted", "bytes": table.len() })),
+        Err(refusal) => refused(name, *refusal),
+    };
+    object.insert("kind".to_string(), json!(kind));
+    Value::Object(object)
+}
+
+/// A file that could not be read.
+pub fn failed(name: &str, why: &str) -> Value {
+    json!({ "name": name, "result": "not read", "error": why })
+}
+
+fn refused(name: &str, refusal: Refusal) -> Map<String, Value> {
+    let meaning = refusal.meaning().map(|meaning| meaning.what);
+    let Refusal { number, place } = refusal;
+    object(json!({ "name": name, "result": "refused", "number": number, "place": place, "meaning": meaning }))
+}
+
+fn object(value: Value) -> Map<String, Value> {
+    match value {
+        Value::Object(object) => object,
+        _ => Map::new(),
+    }
+}

@@ -1,0 +1,143 @@
+"""Packet diagrams as a person writes them, turned into field tables, and packets read by a table: calls of the proved
+library by ctypes. Document 01 has the rules, the numbers and the places; only 30, for a field that is not there, is
+document 02's.
+
+A text, table, packet or name is anything with the bytes of one: bytes, bytearray, memoryview, mmap; none is copied. A
+name may be a str too. What is written to is a bytearray or another buffer that may be written, and for a run one of
+unsigned 32-bit numbers, such as array('I').
+
+The shared library is libumarekoza.so.0, or the file that the environment names in UMAREKOZA_LIBRARY.
+
+    >>> import pathlib, umarekoza
+    >>> table = umarekoza.table_of(pathlib.Path('examples/pages/blade-report.txt').read_bytes())
+    >>> packet = bytes.fromhex('6207012caabb0009')
+    >>> umarekoza.fields_of(table, packet)[umarekoza.find_field(table, 'Borrower')]
+    Field(present=True, offset=16, width=16, value=300)
+    >>> umarekoza.fields_of(table, packet[:7])
+    Traceback (most recent call last):
+    umarekoza.Refusal: refused 24 at 7
+"""
+
+import enum
+from array import array
+from itertools import takewhile
+from typing import NamedTuple
+
+from . import _calls
+from ._calls import Refusal
+
+__all__ = [
+    "FIELDS_MOST", "Field", "Kind", "LISTING_MOST", "PACKET_MOST", "RUN_MOST", "Refusal", "TABLE_MOST", "TEXT_MOST",
+    "VERSION", "check_table", "count_fields", "field_bytes", "field_kind", "field_label", "field_short", "fields_of",
+    "find_field", "list_packet", "listing", "read_packet", "table_of", "write_table",
+]  # fmt: skip
+
+VERSION = "0.1.0"
+
+# The limits of document 01 that a caller meets: bytes of a text, fields, bytes of a packet.
+TEXT_MOST = 16384
+FIELDS_MOST = 64
+PACKET_MOST = 2048
+
+# A run of so many numbers, and an output of so many bytes for a table or for a listing, is always enough.
+RUN_MOST = 256
+TABLE_MOST = 27190
+LISTING_MOST = 3979
+
+# No number of a reading, which is 0 or 1 where a field begins.
+_UNTOUCHED = 0xFFFFFFFF
+
+
+class Kind(enum.Enum):
+    """The kind of a field; one that is measured or the rest is long and has no value."""
+
+    FIXED = 2
+    MEASURED = 3
+    REST = 4
+
+
+class Field(NamedTuple):
+    """One field of a reading. Offset and width are in bits; an absent field has 0 for all, a long one the value 0."""
+
+    present: bool
+    offset: int
+    width: int
+    value: int
+
+
+def write_table(text, out):
+    """Writes the table of a page text to the start of out and answers its length. Refuses by 1 to 11."""
+    return _calls.write_table(text, out)
+
+
+def table_of(text):
+    """The table of a page text, as bytes. Refuses by 1 to 10."""
+    out = bytearray(TABLE_MOST)
+    return bytes(memoryview(out)[: write_table(text, out)])
+
+
+def check_table(table):
+    """Refuses a table that is not good, by 21."""
+    _calls.check_table(table)
+
+
+def read_packet(table, packet, run):
+    """Writes four numbers a field to the start of run: present (1 or 0), offset, width and value. Answers the bits of
+    the packet. Refuses by 21 to 28."""
+    return _calls.read_packet(table, packet, run)
+
+
+def fields_of(table, packet):
+    """The fields of a packet, in the order of the table. Refuses by 21, 22 and 24 to 28."""
+    run = array("I", [_UNTOUCHED]) * RUN_MOST
+    read_packet(table, packet, run)
+    fields = (Field._make(run[at : at + 4]) for at in range(0, RUN_MOST, 4))
+    touched = takewhile(lambda field: field.present != _UNTOUCHED, fields)
+    return [field._replace(present=field.present == 1) for field in touched]
+
+
+def field_bytes(table, packet, index):
+    """The bytes of a field, as a memoryview of that very part of the packet: if the packet is accepted and the field is
+    present, starts on a byte and has whole bytes. Else the empty part at the packet's start."""
+    return _calls.part(packet, _calls.field_bytes(table, packet, index))
+
+
+def list_packet(table, packet, out):
+    """Writes the listing of a packet, or the line of its refusal, to the start of out and answers its length. Refuses
+    by 11 if out is too short."""
+    return _calls.list_packet(table, packet, out)
+
+
+def listing(table, packet):
+    """The listing of a packet, or the line of its refusal, as bytes."""
+    out = bytearray(LISTING_MOST)
+    return bytes(memoryview(out)[: list_packet(table, packet, out)])
+
+
+def find_field(table, name):
+    """The index, from 0, of the first field with this label or short name. Refuses by 21, and by 30 if none has it."""
+    return _calls.find_field(table, name.encode() if isinstance(name, str) else name)
+
+
+def field_label(table, index):
+    """The label of a field; None if the table is not good or has no such field."""
+    return _word(table, _calls.field_label(table, index))
+
+
+def count_fields(table):
+    """The number of a table's fields. Refuses by 21."""
+    return _calls.count_fields(table)
+
+
+def field_kind(table, index):
+    """The kind of a field. Refuses by 21, and by 30 if there is no such field."""
+    return Kind(_calls.field_kind(table, index))
+
+
+def field_short(table, index):
+    """The short name of a field; None if it has none, the table is not good, or there is no such field."""
+    return _word(table, _calls.field_short(table, index))
+
+
+def _word(table, span):
+    return str(_calls.part(table, span), "ascii") or None
