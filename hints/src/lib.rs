@@ -22,6 +22,7 @@ mod lines;
 mod meanings;
 mod names;
 mod operators;
+mod packets;
 mod pages;
 mod plain;
 mod reads;
@@ -31,6 +32,7 @@ mod sizes;
 mod trees;
 
 pub use hint::{Also, Hint, Verdict, ALSO_MOST};
+pub use packets::{packet_hint, plain_packet, PacketHint};
 pub use pages::page_hint;
 pub use plain::plain;
 pub use shown::shown;
