@@ -1,11 +1,11 @@
-//! Hints beside the library's refusals, over generated pages: never another number or line, a column for each page
-//! that is refused by 2 to 10, and nothing but plain characters. Of an accepted page no hint finds a mistake.
+//! Hints beside the library's refusals, over generated pages and packets: never another number, line or field. Each
+//! page that is refused by 2 to 10 gets a column, each packet by 24 to 28 its reason, and all text is plain.
 
 use std::collections::BTreeMap;
-use umarekoza::{table_of, write_table, Refusal};
+use umarekoza::{fields_of, table_of, write_table, Field, Refusal};
 use umarekoza_compare::runs::Settings;
-use umarekoza_hints::{page_hint, plain, Hint, Verdict, ALSO_MOST};
-use umarekoza_model::generate::{text, Rng};
+use umarekoza_hints::{packet_hint, page_hint, plain, plain_packet, Hint, Verdict, ALSO_MOST};
+use umarekoza_model::generate::{packet, table, text, Rng};
 use umarekoza_model::protocol::to_hex;
 
 fn verdict(refusal: Refusal) -> Verdict {
@@ -20,26 +20,36 @@ fn page(rng: &mut Rng) -> Vec<u8> {
     text(rng)
 }
 
-fn is_shown(text: &str) -> bool {
+fn is_plain(text: &str) -> bool {
     text.bytes().all(|byte| (b' '..=b'~').contains(&byte) || byte == b'\n')
+}
+
+/// The refusal of a page, by 11 if it needs more room than one byte less than its table; and that table's length.
+fn refusal_of(page: &[u8]) -> (Verdict, Option<usize>) {
+    match table_of(page) {
+        Err(refusal) => (verdict(refusal), None),
+        Ok(table) => {
+            let short = write_table(page, &mut vec![0; table.len() - 1]);
+            (verdict(short.unwrap_err()), Some(table.len()))
+        }
+    }
 }
 
 /// What is wrong with the hint for a refused page.
 fn wrong(hint: &Hint, verdict: Verdict, page: &[u8]) -> Option<&'static str> {
     let located = (2..=10).contains(&verdict.number);
-    let told = [&hint.message, &hint.label].into_iter().chain(&hint.notes);
+    let mut told = [&hint.message, &hint.label].into_iter().chain(&hint.notes);
     if hint.number != verdict.number {
         Some("another number")
     } else if verdict.place != 0 && hint.line != verdict.place as usize {
         Some("another line")
-    } else if located && (hint.column == 0 || hint.width == 0 || hint.label.is_empty()) {
+    } else if located && (hint.line == 0 || hint.column == 0 || hint.width == 0 || hint.label.is_empty()) {
         Some("no column")
-    } else if hint.message.is_empty() || !told.into_iter().all(|text| is_shown(text) && !text.contains('\n'))
-    {
+    } else if hint.message.is_empty() || !told.all(|text| is_plain(text) && !text.contains('\n')) {
         Some("no message, or one that is not plain")
     } else if hint.also.len() > ALSO_MOST || hint.also.iter().any(|also| also.column == 0 || also.line == 0) {
         Some("too many further mistakes, or one without a place")
-    } else if !is_shown(&plain(hint, "page", page)) {
+    } else if !is_plain(&plain(hint, "page\u{1B}", page)) {
         Some("its text is not plain")
     } else {
         None
@@ -47,24 +57,23 @@ fn wrong(hint: &Hint, verdict: Verdict, page: &[u8]) -> Option<&'static str> {
 }
 
 #[test]
-fn hints_agree_with_the_library() {
+fn hints_for_pages_agree_with_the_library() {
     let settings = Settings::from_environment().unwrap();
     println!("{} pages from seed {}", settings.cases, settings.seed);
     let mut rng = Rng::new(settings.seed);
     let mut numbers: BTreeMap<u32, u64> = BTreeMap::new();
     for number in 0..settings.cases {
         let page = page(&mut rng);
-        let (refusal, accepted) = match table_of(&page) {
-            Err(refusal) => (refusal, false),
-            Ok(table) => (write_table(&page, &mut vec![0; table.len() - 1]).unwrap_err(), true),
-        };
-        let hint = page_hint(&page, verdict(refusal));
-        let found = wrong(&hint, verdict(refusal), &page);
-        let room = table_of(&page).map(|table| table.len().to_string());
-        let counts =
-            room.is_ok_and(|room| !hint.message.replace(',', "").contains(&format!(" {room} bytes")));
-        assert!(found.is_none() && !(accepted && counts), "{number}: {found:?} {hint:?}\n{}", to_hex(&page));
-        *numbers.entry(refusal.number).or_default() += 1;
+        let (verdict, needed) = refusal_of(&page);
+        let hint = page_hint(&page, verdict);
+        let found = wrong(&hint, verdict, &page);
+        let counts = |length: usize| hint.message.replace(',', "").ends_with(&format!(" {length} bytes"));
+        assert!(
+            found.is_none() && needed.is_none_or(counts),
+            "page {number}: {found:?} {hint:?}\n{}",
+            to_hex(&page)
+        );
+        *numbers.entry(verdict.number).or_default() += 1;
     }
     println!("{numbers:?}");
     let due = settings.cases >= 10_000;
@@ -77,12 +86,97 @@ fn no_hint_argues_with_a_verdict() {
     let mut rng = Rng::new(1);
     for _ in 0..3000 {
         let page = page(&mut rng);
-        let due = table_of(&page).map_or_else(verdict, |_| Verdict { number: 11, place: 0 });
+        let (due, _) = refusal_of(&page);
         for other in [Verdict { number: due.number % 11 + 1, ..due }, Verdict { place: due.place + 1, ..due }]
         {
             let hint = page_hint(&page, other);
             assert_eq!((hint.number, hint.line), (other.number, other.place as usize));
             assert!(hint.column == 0 && hint.also.is_empty() && !hint.message.is_empty(), "{hint:?}");
         }
+    }
+}
+
+fn numbers_of(field: &Field) -> [u32; 4] {
+    [u32::from(field.present), field.offset, field.width, field.value]
+}
+
+/// Whether a field of a good table is the rest field.
+fn is_rest(table: &[u8], index: usize) -> bool {
+    let number = |at: usize| usize::from(u16::from_le_bytes([table[at], table[at + 1]]));
+    let record = (0..=index).fold(0, |at, _| at + number(at));
+    number(record + 2) == 4
+}
+
+/// A packet changed from a byte on: cut there, changed there, or longer.
+fn changed(rng: &mut Rng, packet: &[u8]) -> (Vec<u8>, usize) {
+    let (mut changed, at) = (packet.to_vec(), rng.below(packet.len()));
+    match rng.below(3) {
+        0 => changed.truncate(at),
+        1 if !packet.is_empty() => changed[at] = rng.byte(),
+        _ => {
+            changed.push(rng.byte());
+            return (changed, packet.len());
+        }
+    }
+    (changed, at)
+}
+
+/// The numbers of the fields before a refused one, where they are those of the unchanged packet: fields that end
+/// before the change, and no rest field.
+fn unchanged(table: &[u8], fields: &[Field], from: usize, refused: Refusal) -> Option<Vec<[u32; 4]>> {
+    let count = if refused.number == 28 { fields.len() } else { refused.place as usize - 1 };
+    let same = |(index, field): (usize, &Field)| {
+        (field.offset + field.width) as usize <= 8 * from && !is_rest(table, index)
+    };
+    let fields = &fields[..count];
+    fields.iter().enumerate().all(same).then(|| fields.iter().map(numbers_of).collect())
+}
+
+#[test]
+fn hints_for_packets_agree_with_the_library() {
+    let settings = Settings::from_environment().unwrap();
+    let mut rng = Rng::new(settings.seed);
+    let mut numbers: BTreeMap<u32, u64> = BTreeMap::new();
+    for number in 0..settings.cases {
+        let table = table(&mut rng);
+        let packet = packet(&mut rng, &table);
+        let Ok(fields) = fields_of(&table, &packet) else { continue };
+        let (packet, from) = changed(&mut rng, &packet);
+        let Err(refused) = fields_of(&table, &packet) else { continue };
+        if !(24..=28).contains(&refused.number) {
+            continue;
+        }
+        let Some(before) = unchanged(&table, &fields, from, refused) else { continue };
+        let hint = packet_hint(&table, &packet, &before, verdict(refused));
+        let meaning = packet_hint(&[], &packet, &[], verdict(refused));
+        let agrees = hint.number == refused.number && hint.field == refused.place as usize;
+        assert!(
+            agrees && hint.message != meaning.message && is_plain(&plain_packet(&hint, "packet\u{1B}")),
+            "packet {number}: {hint:?} {refused:?}\n{}\n{}",
+            to_hex(&table),
+            to_hex(&packet)
+        );
+        *numbers.entry(refused.number).or_default() += 1;
+    }
+    println!("{numbers:?}");
+    let due = settings.cases >= 10_000;
+    assert!(!due || (24..=28).all(|number| numbers.contains_key(&number)), "not every number turned up");
+}
+
+/// Whatever the table, the packet and the numbers before are, there is a hint with the verdict's number and field.
+#[test]
+fn hints_for_packets_answer_every_input() {
+    let mut rng = Rng::new(2);
+    for _ in 0..5000 {
+        let table = table(&mut rng);
+        let packet = packet(&mut rng, &table);
+        let fields = rng.below(70);
+        let before: Vec<[u32; 4]> = (0..fields)
+            .map(|_| [rng.below(3) as u32, rng.bits() as u32, rng.bits() as u32, rng.below(9) as u32])
+            .collect();
+        let due = Verdict { number: rng.between(20, 31) as u32, place: rng.below(70) as u32 };
+        let hint = packet_hint(&table, &packet, &before, due);
+        assert_eq!((hint.number, hint.field), (due.number, due.place as usize));
+        assert!(is_plain(&plain_packet(&hint, "packet")));
     }
 }

@@ -166,10 +166,9 @@ fn unit(line: &[u8], at: usize) -> Result<(u32, usize), Fault> {
         b"byte" | b"bytes" if spaced => Ok((8, end)),
         b"bit" | b"bits" | b"byte" | b"bytes" => Err(expected(line, at, "a space before the unit")),
         [] => match line.get(word_at) {
-            None | Some(b';' | b'.' | b',') => {
-                Err(expected(line, at, "a unit").note(format!("a width ends with a space and {UNITS}")))
-            }
-            _ => Err(behind(line, at, "a unit").note(format!("a width ends with a space and {UNITS}"))),
+            None | Some(b';' | b'.' | b',') => Err(expected(line, at, "a space and a unit")
+                .note(format!("a width ends with a space and {UNITS}"))),
+            _ => Err(behind(line, at, &format!("a space and {UNITS}"))),
         },
         _ if spaced => Err(no_unit(word, word_at)),
         _ => Err(behind(line, at, "a space and the unit")),

@@ -31,7 +31,9 @@ pub fn packet_hint(table: &[u8], packet: &[u8], before: &[[u32; 4]], verdict: Ve
     let fields = fields_of(table).unwrap_or_default();
     let place = verdict.place as usize;
     let told = match (verdict.number, place.checked_sub(1)) {
-        (28, None) if before.len() == fields.len() => left_over(&fields, packet, before),
+        (28, None) if !fields.is_empty() && before.len() == fields.len() => {
+            left_over(&fields, packet, before)
+        }
         (24..=27, Some(index)) if index < fields.len() && before.len() >= index => {
             let reading = Reading { fields: &fields, packet, before: &before[..index], index };
             reading.fault().filter(|fault| fault.number == verdict.number)

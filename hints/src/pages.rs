@@ -86,7 +86,7 @@ fn mistakes_of_plain(text: &[u8]) -> Vec<Mistake> {
     found.extend(sizes(&fields));
     found.extend(repeats(&fields));
     if right_forms {
-        let compared = frame.whole && lines.tail.is_empty();
+        let compared = frame.whole && lines.tail.is_empty() && !fields.lines.is_empty();
         found.extend(compared.then(|| disagreements(&lines, &frame.cells, &fields)).into_iter().flatten());
         found.extend(reads::mistakes(&fields));
         found.extend(behind_rest(&fields));

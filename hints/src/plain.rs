@@ -19,14 +19,16 @@ pub fn plain(hint: &Hint, name: &str, text: &[u8]) -> String {
     match (hint.line, hint.column) {
         (0, _) => _ = writeln!(out, "{margin}--> {name}"),
         (number, 0) => {
-            _ = writeln!(out, "{margin}--> {name}:{number}\n{margin} |\n{number} | {}", cut(line, 0).0)
+            let shown = format!("{number} | {}", cut(line, 0).0);
+            _ = writeln!(out, "{margin}--> {name}:{number}\n{margin} |\n{}", shown.trim_end());
         }
         (number, column) => {
             let (part, at) = cut(line, column - 1);
             let carets = "^".repeat(hint.width.min((part.len() + 1).saturating_sub(at)).max(1));
-            let mark = format!("{}{carets} {}", " ".repeat(at), hint.label);
-            _ = writeln!(out, "{margin}--> {name}:{number}:{column}\n{margin} |\n{number} | {part}");
-            _ = writeln!(out, "{margin} | {}", mark.trim_end());
+            let shown = format!("{number} | {part}");
+            let mark = format!("{margin} | {}{carets} {}", " ".repeat(at), hint.label);
+            _ = writeln!(out, "{margin}--> {name}:{number}:{column}\n{margin} |\n{}", shown.trim_end());
+            _ = writeln!(out, "{}", mark.trim_end());
         }
     }
     for note in &hint.notes {
