@@ -49,8 +49,5 @@ fn cut(line: &[u8], at: usize) -> (String, usize) {
     let start = if line.len() <= 2 * AROUND { 0 } else { at.saturating_sub(AROUND).min(line.len() - AROUND) };
     let end = line.len().min(start + 2 * AROUND);
     let (before, behind) = (if start > 0 { ".." } else { "" }, if end < line.len() { ".." } else { "" });
-    (
-        format!("{before}{}{behind}", shown(&line[start..end])).trim_end().to_string(),
-        at - start + before.len(),
-    )
+    (format!("{before}{}{behind}", shown(&line[start..end])), at - start + before.len())
 }

@@ -32,7 +32,7 @@ pub fn of_range(what: &str, rule: &Tree, fields: &[StoredField], step: &Tree) ->
             step.fields().iter().map(|index| format!("`{}`", name_of(fields, *index))).collect();
         return Some(match names.as_slice() {
             [] => "use smaller numbers".to_string(),
-            names => format!("keep {} small by constraints on their lines", names.join(" and ")),
+            names => format!("keep {} small by a constraint", names.join(" and ")),
         });
     }
     let enough = Tree::two(operator(">=")?, (**left).clone(), (**right).clone());
