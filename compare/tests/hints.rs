@@ -4,7 +4,7 @@
 use std::collections::BTreeMap;
 use umarekoza::{fields_of, table_of, write_table, Field, Refusal};
 use umarekoza_compare::runs::Settings;
-use umarekoza_hints::{packet_hint, page_hint, plain, plain_packet, Hint, Verdict, ALSO_MOST};
+use umarekoza_hints::{fields_before, packet_hint, page_hint, plain, plain_packet, Hint, Verdict, ALSO_MOST};
 use umarekoza_model::generate::{packet, table, text, Rng};
 use umarekoza_model::protocol::to_hex;
 
@@ -100,38 +100,6 @@ fn numbers_of(field: &Field) -> [u32; 4] {
     [u32::from(field.present), field.offset, field.width, field.value]
 }
 
-/// Whether a field of a good table is the rest field.
-fn is_rest(table: &[u8], index: usize) -> bool {
-    let number = |at: usize| usize::from(u16::from_le_bytes([table[at], table[at + 1]]));
-    let record = (0..=index).fold(0, |at, _| at + number(at));
-    number(record + 2) == 4
-}
-
-/// A packet changed from a byte on: cut there, changed there, or longer.
-fn changed(rng: &mut Rng, packet: &[u8]) -> (Vec<u8>, usize) {
-    let (mut changed, at) = (packet.to_vec(), rng.below(packet.len()));
-    match rng.below(3) {
-        0 => changed.truncate(at),
-        1 if !packet.is_empty() => changed[at] = rng.byte(),
-        _ => {
-            changed.push(rng.byte());
-            return (changed, packet.len());
-        }
-    }
-    (changed, at)
-}
-
-/// The numbers of the fields before a refused one, where they are those of the unchanged packet: fields that end
-/// before the change, and no rest field.
-fn unchanged(table: &[u8], fields: &[Field], from: usize, refused: Refusal) -> Option<Vec<[u32; 4]>> {
-    let count = if refused.number == 28 { fields.len() } else { refused.place as usize - 1 };
-    let same = |(index, field): (usize, &Field)| {
-        (field.offset + field.width) as usize <= 8 * from && !is_rest(table, index)
-    };
-    let fields = &fields[..count];
-    fields.iter().enumerate().all(same).then(|| fields.iter().map(numbers_of).collect())
-}
-
 #[test]
 fn hints_for_packets_agree_with_the_library() {
     let settings = Settings::from_environment().unwrap();
@@ -140,23 +108,19 @@ fn hints_for_packets_agree_with_the_library() {
     for number in 0..settings.cases {
         let table = table(&mut rng);
         let packet = packet(&mut rng, &table);
-        let Ok(fields) = fields_of(&table, &packet) else { continue };
-        let (packet, from) = changed(&mut rng, &packet);
-        let Err(refused) = fields_of(&table, &packet) else { continue };
-        if !(24..=28).contains(&refused.number) {
-            continue;
-        }
-        let Some(before) = unchanged(&table, &fields, from, refused) else { continue };
-        let hint = packet_hint(&table, &packet, &before, verdict(refused));
-        let meaning = packet_hint(&[], &packet, &[], verdict(refused));
-        let agrees = hint.number == refused.number && hint.field == refused.place as usize;
-        assert!(
-            agrees && hint.message != meaning.message && is_plain(&plain_packet(&hint, "packet\u{1B}")),
-            "packet {number}: {hint:?} {refused:?}\n{}\n{}",
-            to_hex(&table),
-            to_hex(&packet)
-        );
-        *numbers.entry(refused.number).or_default() += 1;
+        let before = fields_before(&table, &packet);
+        let found = match fields_of(&table, &packet) {
+            Ok(fields) => before == fields.iter().map(numbers_of).collect::<Vec<_>>(),
+            Err(refused) => {
+                *numbers.entry(refused.number).or_default() += 1;
+                let hint = packet_hint(&table, &packet, &before, verdict(refused));
+                let meaning = packet_hint(&[], &packet, &[], verdict(refused));
+                (hint.number, hint.field) == (refused.number, refused.place as usize)
+                    && (refused.number < 24 || hint.message != meaning.message)
+                    && is_plain(&plain_packet(&hint, "packet\u{1B}"))
+            }
+        };
+        assert!(found, "packet {number}: {before:?}\n{}\n{}", to_hex(&table), to_hex(&packet));
     }
     println!("{numbers:?}");
     let due = settings.cases >= 10_000;

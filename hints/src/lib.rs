@@ -32,7 +32,7 @@ mod sizes;
 mod trees;
 
 pub use hint::{Also, Hint, Verdict, ALSO_MOST};
-pub use packets::{packet_hint, plain_packet, PacketHint};
+pub use packets::{fields_before, packet_hint, plain_packet, PacketHint};
 pub use pages::page_hint;
 pub use plain::plain;
 pub use shown::shown;

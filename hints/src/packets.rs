@@ -36,7 +36,7 @@ pub fn packet_hint(table: &[u8], packet: &[u8], before: &[[u32; 4]], verdict: Ve
         }
         (24..=27, Some(index)) if index < fields.len() && before.len() >= index => {
             let reading = Reading { fields: &fields, packet, before: &before[..index], index };
-            reading.fault().filter(|fault| fault.number == verdict.number)
+            reading.step().err().flatten().filter(|told| told.number == verdict.number)
         }
         _ => None,
     };
@@ -48,6 +48,18 @@ pub fn packet_hint(table: &[u8], packet: &[u8], before: &[[u32; 4]], verdict: Ve
         return PacketHint { number: verdict.number, field: place, label, message, notes };
     };
     PacketHint { number, field: place, label, message, notes }
+}
+
+/// The numbers of the fields before the first refused one, by a plain reading of the packet: all fields if none is
+/// refused.
+pub fn fields_before(table: &[u8], packet: &[u8]) -> Vec<[u32; 4]> {
+    let fields = fields_of(table).unwrap_or_default();
+    let mut before = Vec::new();
+    for index in 0..fields.len() {
+        let Ok(numbers) = (Reading { fields: &fields, packet, before: &before, index }).step() else { break };
+        before.push(numbers);
+    }
+    before
 }
 
 /// The hint for a packet as lines of text; `name` is how the packet is called, in plain characters.
@@ -123,51 +135,50 @@ impl Reading<'_> {
         }
     }
 
-    /// What refuses the field, if anything does.
-    fn fault(&self) -> Option<Told> {
+    /// The numbers of the field, or what refuses it, if that can be told.
+    fn step(&self) -> Result<[u32; 4], Option<Told>> {
         let field = self.field();
         if let Some(condition) = &field.condition {
-            match value_of(condition, &|index| self.value(index, None)) {
-                Ok(0) => return None,
-                Ok(_) => {}
-                Err(fault) => return self.faulted("condition", condition, fault, None),
+            let value = value_of(condition, &|index| self.value(index, None));
+            if value.map_err(|fault| self.faulted("condition", condition, fault, None))? == 0 {
+                return Ok([0; 4]);
             }
         }
         let (total, place) = (8 * self.packet.len() as u64, end_of(self.before));
-        let left = total.checked_sub(place)?;
+        let left = total.checked_sub(place).ok_or(None)?;
         let width = match &field.width {
             StoredWidth::Fixed(bits) => u64::from(*bits),
-            StoredWidth::Rest => return self.rest(place, left),
-            StoredWidth::Measured { unit, tree } => match value_of(tree, &|index| self.value(index, None)) {
-                Ok(value) => u64::from(value) * u64::from(*unit),
-                Err(fault) => return self.faulted("width", tree, fault, None),
-            },
+            StoredWidth::Rest => self.rest(place, left)?,
+            StoredWidth::Measured { unit, tree } => {
+                let value = value_of(tree, &|index| self.value(index, None));
+                let value = value.map_err(|fault| self.faulted("width", tree, fault, None))?;
+                u64::from(value) * u64::from(*unit)
+            }
         };
         if width > left {
-            return Some(self.missing(width, place, left));
+            return Err(Some(self.missing(width, place, left)));
         }
         let fixed = matches!(field.width, StoredWidth::Fixed(_));
-        self.constraint(fixed.then(|| bits_at(self.packet, place, width)))
+        let own = fixed.then(|| bits_at(self.packet, place, width));
+        self.constraint(own)?;
+        let number = |number: u64| u32::try_from(number).unwrap_or(u32::MAX);
+        Ok([1, number(place), number(width), own.unwrap_or_default()])
     }
 
-    /// The rest field: the fields behind it may need more than is left.
-    fn rest(&self, place: u64, left: u64) -> Option<Told> {
+    /// The width of the rest field: the fields behind it may need more than is left.
+    fn rest(&self, place: u64, left: u64) -> Result<u64, Told> {
         let bits = |field: &StoredField| match field.width {
             StoredWidth::Fixed(bits) => u64::from(bits),
             _ => 0,
         };
         let behind: u64 = self.fields[self.index + 1..].iter().map(bits).sum();
-        if behind <= left {
-            return self.constraint(None);
-        }
-        let message = format!(
-            "the fields behind {} need {} from bit {} on, {}",
-            quoted(&self.field().label),
-            counted(behind, "bit"),
-            spelled(place),
-            left_in_words(left)
-        );
-        Some(Told { number: 24, message, notes: vec![self.length()] })
+        let label = quoted(&self.field().label);
+        left.checked_sub(behind).ok_or_else(|| {
+            let (needs, from) = (counted(behind, "bit"), spelled(place));
+            let message =
+                format!("the fields behind {label} need {needs} from bit {from} on, {}", left_in_words(left));
+            Told { number: 24, message, notes: vec![self.length()] }
+        })
     }
 
     fn length(&self) -> String {
@@ -188,17 +199,16 @@ impl Reading<'_> {
         Told { number: 24, message, notes }
     }
 
-    fn constraint(&self, own: Option<u32>) -> Option<Told> {
-        let rule = self.field().constraint.as_ref()?;
+    fn constraint(&self, own: Option<u32>) -> Result<(), Option<Told>> {
+        let Some(rule) = &self.field().constraint else { return Ok(()) };
         match value_of(rule, &|index| self.value(index, own)) {
             Ok(0) => {
-                let label = quoted(&self.field().label);
-                let message =
-                    format!("the constraint of {label} does not hold: `{}`", written(rule, self.fields));
-                Some(Told { number: 25, message, notes: self.values(rule, own).into_iter().collect() })
+                let (label, whole) = (quoted(&self.field().label), written(rule, self.fields));
+                let message = format!("the constraint of {label} does not hold: `{whole}`");
+                Err(Some(Told { number: 25, message, notes: self.values(rule, own).into_iter().collect() }))
             }
-            Ok(_) => None,
-            Err(fault) => self.faulted("constraint", rule, fault, own),
+            Ok(_) => Ok(()),
+            Err(fault) => Err(self.faulted("constraint", rule, fault, own)),
         }
     }
 
