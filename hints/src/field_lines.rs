@@ -179,15 +179,15 @@ fn no_unit(word: &[u8], at: usize) -> Fault {
     let message = format!("expected {UNITS}, found {}", quoted(word));
     let small = word.to_ascii_lowercase();
     let mend = match small.as_slice() {
-        b"octet" | b"octets" | b"b" | b"bytes" | b"byte" => Some("did you mean `bytes`?"),
+        b"octet" | b"octets" | b"bytes" | b"byte" => Some("did you mean `bytes`?"),
         b"bits" | b"bit" => Some("did you mean `bits`?"),
         _ => None,
     };
     let fault = Fault::new(at..at + word.len(), message, "no unit").note_if(mend.map(str::to_string));
-    match mend {
-        None => fault.note("only short names are read, and an operator stands between operands"),
-        Some(_) => fault,
+    if small.starts_with(b"b") || mend.is_some() {
+        return fault;
     }
+    fault.note("only short names are read, and an operator stands between operands")
 }
 
 /// The constraint, if `; ` begins one, and the place behind it.

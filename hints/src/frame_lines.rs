@@ -35,6 +35,8 @@ pub fn kind_found(line: &[u8]) -> String {
         b"where:" => "`where:`".to_string(),
         [b'|', .., b'|'] | [b':', .., b':'] => "a row".to_string(),
         [b'+', b'-', ..] => "a border".to_string(),
+        [b' ', b'0', b' ', b'1', ..] => "a units ruler".to_string(),
+        [b' ', b'0', b' ', b' ', ..] => "a tens ruler".to_string(),
         _ => quoted(line),
     }
 }
@@ -114,6 +116,11 @@ pub fn units(line: &[u8], widths: &[usize]) -> Result<usize, Fault> {
     }
 }
 
+/// Whether a line is a right ruler, of whichever kind.
+fn is_ruler(line: &[u8]) -> bool {
+    ROW_BITS.iter().any(|bits| tens_ruler(*bits) == line || units_ruler(*bits) == line)
+}
+
 /// What is wrong with a ruler: it is of another width, or differs at some byte.
 fn ruler_fault(line: &[u8], what: &str, rulers: &[(usize, Vec<u8>)], other: bool) -> Fault {
     if other {
@@ -123,11 +130,11 @@ fn ruler_fault(line: &[u8], what: &str, rulers: &[(usize, Vec<u8>)], other: bool
     let ruler = rulers.iter().rev().map(|(_, ruler)| &ruler[..]);
     let nearest = ruler.max_by_key(|ruler| common(line, ruler)).unwrap_or_default();
     let at = common(line, nearest);
-    let message = if line.is_empty() {
-        format!("expected {what}, found an empty line")
-    } else {
-        format!("expected {what}, found {}", found(line, at))
-    };
+    if at < 2 || is_ruler(line) {
+        let message = format!("expected {what}, found {}", kind_found(line));
+        return Fault::new(0..line.len(), message, format!("expected {what}")).note(WIDTHS);
+    }
+    let message = format!("expected {what}, found {}", found(line, at));
     let label = nearest.get(at).map_or("expected the line's end".to_string(), |due| {
         format!("expected {}", if *due == b' ' { "a space".to_string() } else { quoted(&[*due]) })
     });
@@ -168,7 +175,9 @@ pub fn where_line(line: &[u8]) -> Result<(), Fault> {
     let fault = Fault::new(0..line.len(), message, "expected `where:`");
     match line {
         _ if line.eq_ignore_ascii_case(b"where:") => Err(fault.note("it is written in small letters")),
-        [b'|' | b':' | b'+', ..] => Err(fault.note("no empty line stands between a diagram's rows")),
+        [b'|' | b':' | b'+', ..] => {
+            Err(fault.note("take the empty line above out: none stands between a diagram's rows"))
+        }
         _ => Err(fault),
     }
 }

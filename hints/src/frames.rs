@@ -42,6 +42,10 @@ pub fn read(lines: &Lines) -> Frame {
                 reader.keep(part, line, at + 1);
                 (part, at) = (next, at + 1);
             }
+            Err(fault) if reader.is_extra(part, at) => {
+                mistakes.push(extra(fault, line).at(3, at + 1));
+                at += 1;
+            }
             Err(fault) => {
                 mistakes.push(fault.at(3, at + 1));
                 if let Ok(next) = reader.judge_plain(part, unblanked(line), at + 1) {
@@ -58,6 +62,12 @@ pub fn read(lines: &Lines) -> Frame {
     mistakes.extend(reader.ending(part, at));
     let fields_from = Some(at).filter(|_| part == Part::Fields);
     Frame { mistakes, cells: reader.cells, whole, fields_from }
+}
+
+/// A line that is one too many.
+fn extra(fault: Fault, line: &[u8]) -> Fault {
+    let label = if line.is_empty() { "an empty line too many" } else { "a line too many" };
+    Fault::new(0..line.len(), fault.message, label).note("take this line out")
 }
 
 /// A line without the blanks at its end.
@@ -148,9 +158,9 @@ impl Reader<'_> {
         self.bits = self.bits.or(told.ok());
     }
 
-    /// How to go on behind a wrong line: it is what comes next, or the next line is.
-    fn resume(&mut self, part: Part, at: usize) -> Option<(Part, usize)> {
-        let next = match part {
+    /// What comes behind this part.
+    fn next(&self, part: Part, at: usize) -> Part {
+        match part {
             Part::Opening => Part::Gap,
             Part::Gap => Part::Tens,
             Part::Tens => Part::Units,
@@ -161,16 +171,33 @@ impl Reader<'_> {
             Part::FirstRow | Part::RowOrGap => Part::Border,
             Part::Where => Part::LastGap,
             Part::LastGap | Part::Fields => Part::Fields,
-        };
-        let fits = |at: usize| {
-            let line = self.lines.ended.get(at)?;
-            let known = self.bits.is_some() || part != Part::TopBorder;
-            (known && self.judge(next, line, at + 1).is_ok()).then_some((next, at))
-        };
-        if part == Part::RowOrGap && next == Part::Where {
+        }
+    }
+
+    fn fits(&self, part: Part, at: usize) -> bool {
+        let known = self.bits.is_some() || part != Part::FirstRow;
+        let line = self.lines.ended.get(at);
+        known && line.is_some_and(|line| self.judge(part, line, at + 1).is_ok())
+    }
+
+    /// Whether a wrong line is one too many: the next is right in its place, and this one is empty or neither what
+    /// comes behind nor a damaged line before that.
+    fn is_extra(&self, part: Part, at: usize) -> bool {
+        let next = self.next(part, at);
+        let empty = self.lines.ended[at].is_empty() || part == Part::LastGap;
+        self.fits(part, at + 1) && (empty || !(self.fits(next, at) || self.fits(next, at + 1)))
+    }
+
+    /// How to go on behind a wrong line: it is what comes next, or the next line is.
+    fn resume(&self, part: Part, at: usize) -> Option<(Part, usize)> {
+        let next = self.next(part, at);
+        if next == Part::Where && part == Part::RowOrGap {
             return Some((next, at));
         }
-        fits(at).or_else(|| fits(at + 1))
+        if part == Part::Where && self.fits(Part::RowOrGap, at) {
+            return Some((Part::RowOrGap, at));
+        }
+        [at, at + 1].into_iter().find(|at| self.fits(next, *at)).map(|at| (next, at))
     }
 
     /// The end of the page: where lines are missing, and bytes behind the last LF.

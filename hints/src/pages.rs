@@ -4,12 +4,13 @@ use crate::cells::{disagreements, too_many};
 use crate::characters;
 use crate::faults::Mistake;
 use crate::field_lines::Width;
-use crate::fields::Fields;
+use crate::fields::{Field, Fields};
 use crate::frames;
 use crate::hint::{Hint, Verdict, ALSO_MOST};
 use crate::lines::split;
 use crate::meanings::meaning_of;
 use crate::reads;
+use crate::rows::Cell;
 use crate::shown::{counted, is_plain, spelled};
 use crate::sizes::{behind_rest, repeats, sizes};
 
@@ -87,11 +88,22 @@ fn mistakes_of_plain(text: &[u8]) -> Vec<Mistake> {
     found.extend(repeats(&fields));
     if right_forms {
         let compared = frame.whole && lines.tail.is_empty() && !fields.lines.is_empty();
-        found.extend(compared.then(|| disagreements(&lines, &frame.cells, &fields)).into_iter().flatten());
-        found.extend(reads::mistakes(&fields));
-        found.extend(behind_rest(&fields));
+        let cells = if compared { disagreements(&lines, &frame.cells, &fields) } else { Vec::new() };
+        if is_told_apart(&cells, &frame.cells, &fields) {
+            found.extend(reads::mistakes(&fields));
+            found.extend(behind_rest(&fields));
+        }
+        found.extend(cells);
     }
     found
+}
+
+/// Whether names and types can be judged beside these disagreements: no field line is missing or too many, and none
+/// that disagrees has a width that may have to be fixed.
+fn is_told_apart(disagreements: &[Mistake], cells: &[Cell], fields: &Fields) -> bool {
+    let disagrees = |field: &Field| disagreements.iter().any(|mistake| mistake.line == field.number);
+    let measured = fields.right().any(|(field, form)| !form.is_fixed() && disagrees(field));
+    disagreements.is_empty() || (cells.len() == fields.lines.len() && !measured)
 }
 
 /// The hint for a page whose table is longer than the output.

@@ -1,8 +1,6 @@
 //! Number 3: the lines above the field lines.
 
-mod common;
-
-use common::{told, with, BLADE};
+use crate::common::{told, with, BLADE};
 
 const BORDER: &str = "+-+-+-+-+-+-+-+-+-+-+-+-+-+-+-+-+\n";
 const SUM: &str = "|             Sum               |\n";
@@ -119,6 +117,32 @@ error[3]: expected the border, found a row
   = note: a border stands above and below each row
 ";
     told(with(&[(&format!("{CELLS}\n{BORDER}"), &format!("{CELLS}\n"))]), 3, 7, due);
+}
+
+#[test]
+fn lines_too_many() {
+    let due = "\
+error[3]: expected the border, found an empty line
+ --> page.txt:7:1
+  |
+7 |
+  | ^ an empty line too many
+  = note: take this line out
+also: page.txt:24:6: error[7]: cell 7 (line 13): `Sum`, 16 bits; this line: 8 bits
+";
+    let page = with(&[(CELLS, &format!("{CELLS}\n")), ("Sum: 2 bytes", "Sum: 1 byte")]);
+    told(page, 3, 7, due);
+    let due = "\
+error[3]: expected `where:`, found a row
+ --> page.txt:9:1
+  |
+9 | |           Borrower            |
+  | ^^^^^^^^^^^^^^^^^^^^^^^^^^^^^^^^^ expected `where:`
+  = note: take the empty line above out: none stands between a diagram's rows
+also: page.txt:18:24: error[5]: `=` is no operator
+";
+    let page = with(&[(&format!("{CELLS}\n{BORDER}"), &format!("{CELLS}\n{BORDER}\n")), ("V == 1", "V = 1")]);
+    told(page, 3, 9, due);
 }
 
 #[test]

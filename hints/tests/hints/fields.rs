@@ -1,8 +1,6 @@
 //! Numbers 6 to 10: field lines of right form against their limits, their cells and each other.
 
-mod common;
-
-use common::{told, with};
+use crate::common::{told, with};
 
 const VERSION: &str = "Version (V): 2 bits; V == 1.";
 const ON_LOAN: &str = "On Loan (L): 1 bit.";

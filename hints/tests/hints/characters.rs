@@ -1,8 +1,6 @@
 //! Number 2, and the lengths 1, 4 and 11.
 
-mod common;
-
-use common::{told, with, BLADE};
+use crate::common::{told, with, BLADE};
 
 const ALLOWED: &str = "a page has the characters from space to `~` and LF line ends, no others";
 

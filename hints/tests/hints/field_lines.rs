@@ -1,8 +1,6 @@
 //! Number 5: the form of field lines.
 
-mod common;
-
-use common::{told, with};
+use crate::common::{told, with};
 
 const SHORTS: &str =
     "a short name is a letter and up to 7 letters or digits, and none of `bit`, `bits`, `byte`, \
@@ -154,6 +152,10 @@ fn missing_stops_units_and_spaces() {
         "                       ^ a space too many",
         &["one space at most stands on each side of an operator"],
     );
+}
+
+#[test]
+fn wrong_units_stops_and_phrases() {
     line_told(
         BLADE,
         "Blade: 1 octets.",
