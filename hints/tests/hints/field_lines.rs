@@ -109,7 +109,7 @@ fn wrong_numbers() {
 }
 
 #[test]
-fn missing_stops_units_and_spaces() {
+fn missing_stops_and_units() {
     line_told(
         ON_LOAN,
         "On Loan (L): 1 bit",
@@ -124,6 +124,10 @@ fn missing_stops_units_and_spaces() {
         "        ^ expected a space and a unit",
         &["a width ends with a space and `bit`, `bits`, `byte` or `bytes`"],
     );
+}
+
+#[test]
+fn spaces_too_few_or_too_many() {
     line_told(
         BLADE,
         "Blade: 1byte.",
