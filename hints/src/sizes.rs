@@ -30,10 +30,9 @@ fn size_fault(what: &str, tree: &Tree) -> Option<Fault> {
     };
     let mut fault = Fault::new(tree.span.clone(), format!("the {what} is too large: {found}"), found);
     if deep {
-        fault = fault.note(
-            "a number or name has depth 1, an operator 1 more than its deeper operand: parentheses that pair \
-             operands make a long chain less deep, as in `(a+b)+(c+d)`",
-        );
+        fault = fault
+            .note("a number or name has depth 1, an operator 1 more than its deeper operand")
+            .note("parentheses make a long chain less deep, as in `(a+b)+(c+d)`");
     }
     if long {
         fault = fault.note("a number takes 5 bytes, a name 2, an operator 1");

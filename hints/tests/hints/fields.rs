@@ -33,8 +33,10 @@ fn expressions_that_are_too_large() {
     let due: (_, _, &[_]) = (
         "the constraint is too large: depth 13, at most 12",
         "                    ^^^^^^^^^^^^^^^^^^^^^^^^^^^^ depth 13, at most 12",
-        &["a number or name has depth 1, an operator 1 more than its deeper operand: parentheses that pair \
-           operands make a long chain less deep, as in `(a+b)+(c+d)`"],
+        &[
+            "a number or name has depth 1, an operator 1 more than its deeper operand",
+            "parentheses make a long chain less deep, as in `(a+b)+(c+d)`",
+        ],
     );
     line_told(6, &[(ON_LOAN, deep)], deep, due);
     let long = "Readings: (1+1+1+1+1+1)*(1+1+1+1+1+1)*(1+1+1+1+1+1)*(1+1+1+1+1+1)*N bytes.";

@@ -2,6 +2,7 @@
 
 mod characters;
 mod common;
+mod documented;
 mod field_lines;
 mod fields;
 mod frames;

@@ -19,19 +19,25 @@ fn table(fields: &[(u8, &str, &str, &[u8])]) -> Vec<u8> {
 
 /// The table of the blade report, as docs/RULES.md has it.
 fn blade() -> Vec<u8> {
+    blade_with(&[2, 2])
+}
+
+/// The same with another width of `Readings`, in bytes.
+pub fn blade_with(readings: &[u8]) -> Vec<u8> {
+    let readings = [&[8, 0, readings.len() as u8, 0][..], readings, &[0, 0, 0, 0]].concat();
     table(&[
         (2, "Version", "V", &[2, 0, 8, 0, 0x20, 2, 0, 1, 1, 0, 0, 0, 0, 0]),
         (2, "On Loan", "L", &[1, 0, 0, 0, 0, 0]),
         (2, "Cells", "N", &[5, 0, 8, 0, 0x23, 2, 2, 1, 20, 0, 0, 0, 0, 0]),
         (2, "Blade", "", &[8, 0, 0, 0, 0, 0]),
         (2, "Borrower", "Bor", &[16, 0, 0, 0, 8, 0, 0x20, 2, 1, 1, 1, 0, 0, 0]),
-        (3, "Readings", "", &[8, 0, 2, 0, 2, 2, 0, 0, 0, 0]),
+        (3, "Readings", "", &readings),
         (2, "Sum", "", &[16, 0, 0, 0, 0, 0]),
     ])
 }
 
 /// The numbers of M1's fields.
-const M1: [[u32; 4]; 7] = [
+pub const M1: [[u32; 4]; 7] = [
     [1, 0, 2, 1],
     [1, 2, 1, 1],
     [1, 3, 5, 2],
