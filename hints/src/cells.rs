@@ -6,6 +6,7 @@ use crate::fields::{Field, Fields};
 use crate::lines::Lines;
 use crate::rows::Cell;
 use crate::shown::{counted, quoted};
+use crate::trees::Tree;
 
 const FIELDS_MOST: usize = 64;
 
@@ -79,7 +80,8 @@ impl Page<'_> {
             (Width::Fixed(bits), None) => fixed_in_long(form, &told, *bits),
             (Width::Measured { unit, tree }, Some(_)) => {
                 let value = tree.constant().map(|value| u64::from(value) * u64::from(*unit));
-                not_fixed(field, form, &told, value.filter(|bits| (1..=32).contains(bits)))
+                let name = self.unknown_name(field, tree);
+                not_fixed(field, form, &told, value.filter(|bits| (1..=32).contains(bits))).note_if(name)
             }
             (Width::Rest, Some(_)) => {
                 let message = format!("{told}; this line: `variable`");
@@ -89,6 +91,16 @@ impl Page<'_> {
             (_, None) => return None,
         };
         Some(fault.note_if(self.counts()))
+    }
+
+    /// A width that is only a name, which no field has.
+    fn unknown_name(&self, field: &Field, tree: &Tree) -> Option<String> {
+        let name = field.part(&tree.names().next().filter(|name| *name == tree.span)?);
+        let has =
+            |(other, form): (&Field, &FieldLine)| form.short.as_ref().map(|short| other.part(short) == name);
+        let known = self.fields.right().any(|named| has(named) == Some(true));
+        let note = format!("{} is taken for a short name; a fixed width is a number", quoted(name));
+        (!known).then_some(note)
     }
 
     /// A line whose names the cell does not show.

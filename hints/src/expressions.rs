@@ -1,9 +1,10 @@
 //! Expressions read from a field line, and what is wrong with one.
 
+use crate::expression_faults::{behind, broken_number, is_sign, no_number, signs};
 use crate::faults::Fault;
 use crate::names::{is_reserved, OF_SHORTS, SHORT_MOST};
 use crate::operators::{operator_at, Operator, ATOM, COMPARISON};
-use crate::shown::{counted, found, quoted, shown, word_length};
+use crate::shown::{counted, found, quoted, word_length};
 use crate::trees::{Kind, Node, Tree};
 
 const OPEN_MOST: usize = 12;
@@ -107,6 +108,9 @@ impl Reader<'_> {
         if word.len() > length {
             return Err(no_number(word, length, from));
         }
+        if let [b',' | b'_' | b'.', b'0'..=b'9', ..] = self.rest()[length..] {
+            return Err(broken_number(self.rest(), from));
+        }
         if length > 1 && digits[0] == b'0' {
             let message = format!("the number {} begins with 0", quoted(digits));
             let plain = digits.iter().position(|digit| *digit != b'0').unwrap_or(length - 1);
@@ -152,59 +156,10 @@ impl Reader<'_> {
                 .note("one space at most stands on each side of an operator, none inside parentheses"),
             ([b'!', ..], _) => fault.note("`!` has its operand in parentheses: `!(..)`"),
             ([b'-', ..], _) => fault.note("there are no negative numbers"),
-            ([b'=', ..], Some(b'=')) => fault.note("did you mean `==`?"),
+            ([b'=' | b'<' | b'>' | b'&' | b'|', ..], Some(before)) if is_sign(*before) => {
+                signs(self.line, at)
+            }
             _ => fault,
         }
     }
-}
-
-/// A word that begins with digits and goes on with letters.
-fn no_number(word: &[u8], digits: usize, at: usize) -> Fault {
-    let spot = at..at + word.len();
-    let message = format!("{} is no number", quoted(word));
-    if word.starts_with(b"0x") || word.starts_with(b"0X") {
-        let value = std::str::from_utf8(&word[2..]).ok().and_then(|hex| u32::from_str_radix(hex, 16).ok());
-        let mend = value.map(|value| format!("did you mean `{value}`?"));
-        return Fault::new(spot, format!("{message}: numbers are decimal"), "numbers are decimal")
-            .note_if(mend);
-    }
-    let mend = format!("did you mean `{} {}`?", shown(&word[..digits]), shown(&word[digits..]));
-    let unit = is_reserved(&word[digits..]);
-    let why = if unit { "a space is missing before the unit" } else { "a letter follows its digits" };
-    Fault::new(spot, format!("{message}: {why}"), why).note_if(unit.then_some(mend))
-}
-
-/// What is wrong behind an operand, where an operator or `due` has to follow.
-pub fn behind(line: &[u8], at: usize, due: &str) -> Fault {
-    let sign = at + usize::from(line.get(at) == Some(&b' '));
-    let rest = line.get(sign..).unwrap_or_default();
-    let unknown = |length: usize, mend: &str| {
-        let symbol = quoted(&rest[..length]);
-        Fault::new(sign..sign + length, format!("{symbol} is no operator"), "no such operator").note(mend)
-    };
-    match rest {
-        _ if operator_at(rest).is_some_and(|operator| operator.level == COMPARISON) => {
-            let length = operator_at(rest).map_or(1, |operator| operator.symbol.len());
-            let message = "a second comparison: only one stands between `&&`, `||` and parentheses";
-            Fault::new(sign..sign + length, message, "the second comparison")
-                .note("join two comparisons with `&&`, as in `1 <= N && N <= 20`")
-        }
-        [b'=', b'<' | b'>', ..] => unknown(2, &format!("did you mean `{}=`?", char::from(rest[1]))),
-        [b'=', ..] => unknown(1, "did you mean `==`?"),
-        [b'&', ..] => unknown(1, "did you mean `&&`?"),
-        [b'|', ..] => unknown(1, "did you mean `||`?"),
-        [b'!', ..] => unknown(1, "did you mean `!=`?"),
-        [b'/' | b'%' | b'^', ..] => unknown(1, "numbers are joined by `+`, `-` and `*`"),
-        [b'_', ..] => {
-            Fault::new(sign..sign + 1, "`_` is not allowed in a name", "not allowed").note(OF_SHORTS)
-        }
-        [b' ', ..] if sign > at => Fault::new(sign..sign + 1, "a space too many", "a space too many")
-            .note("one space at most stands on each side of an operator"),
-        _ => expected(line, at, due),
-    }
-}
-
-/// Something else stands where `due` has to.
-pub fn expected(line: &[u8], at: usize, due: &str) -> Fault {
-    Fault::new(at..at + 1, format!("expected {due}, found {}", found(line, at)), format!("expected {due}"))
 }

@@ -1,6 +1,7 @@
 //! Number 5: the form of a field line.
 
-use crate::expressions::{behind, expected, read as read_expression};
+use crate::expression_faults::{behind, expected};
+use crate::expressions::read as read_expression;
 use crate::faults::Fault;
 use crate::names::{is_label_byte, label_fault, short_fault};
 use crate::shown::{counted, found, quoted, word_length};
@@ -59,7 +60,8 @@ pub fn read(line: &[u8]) -> Result<FieldLine, Fault> {
     let width_span = at..end;
     let (constraint, end) = constraint(line, end)?;
     let (condition, end) = condition(line, end)?;
-    stop(line, end, constraint.as_ref().or(condition.as_ref()))?;
+    let due = if condition.is_some() { "`.`" } else { "`;` or `.`" };
+    stop(line, end, due, constraint.is_some() || condition.is_some())?;
     Ok(FieldLine { label, short, width, width_span, constraint, condition })
 }
 
@@ -68,6 +70,12 @@ fn label(line: &[u8]) -> Result<(Range<usize>, usize), Fault> {
     if line.is_empty() {
         return Err(Fault::new(0..1, "an empty line below `where:`", "expected a field line")
             .note("every line below `where:` is a field line; take the empty line out"));
+    }
+    let blanks = line.iter().take_while(|byte| **byte == b' ').count();
+    if blanks > 0 {
+        let message =
+            if blanks == 1 { "blank at the start of the line" } else { "blanks at the start of the line" };
+        return Err(Fault::new(0..blanks, message, message));
     }
     let end = line.iter().position(|byte| !is_label_byte(*byte)).unwrap_or(line.len());
     let label = match line.get(end) {
@@ -139,7 +147,10 @@ fn width(line: &[u8], at: usize) -> Result<(Width, usize), Fault> {
         return Ok((Width::Rest, at + VARIABLE.len()));
     }
     let (tree, end) = read_expression(line, at)?;
-    let (unit, end) = unit(line, end)?;
+    let (unit, end) = unit(line, end).map_err(|fault| {
+        let variable = line[at..end].eq_ignore_ascii_case(VARIABLE);
+        fault.note_if(variable.then(|| "did you mean `variable`?".to_string()))
+    })?;
     match tree.single() {
         None => Ok((Width::Measured { unit, tree }, end)),
         Some(number) => {
@@ -148,9 +159,10 @@ fn width(line: &[u8], at: usize) -> Result<(Width, usize), Fault> {
                 return Ok((Width::Fixed(bits as u32), end));
             }
             let message = format!("a fixed width is 1 to 32 bits, found {}", counted(bits, "bit"));
-            Err(Fault::new(at..end, message, "1 to 32 bits").note(
-                "give the bits to several fields; if the length differs, measure it by a field: `N bytes`",
-            ))
+            let mend =
+                "give the bits to several fields; if the length differs, measure it by a field: `N bytes`";
+            let mend = (bits > 0).then(|| mend.to_string());
+            Err(Fault::new(at..end, message, "1 to 32 bits").note_if(mend))
         }
     }
 }
@@ -194,7 +206,8 @@ fn no_unit(word: &[u8], at: usize) -> Fault {
 fn constraint(line: &[u8], at: usize) -> Result<(Option<Tree>, usize), Fault> {
     let Some(from) = part(line, at)? else { return Ok((None, at)) };
     let rest = &line[from..];
-    if &rest[..word_length(rest)] == b"present" {
+    let word = &rest[..word_length(rest)];
+    if word == b"present" || rest.to_ascii_lowercase().starts_with(b"present only ") {
         return Ok((None, at));
     }
     let (tree, end) = read_expression(line, from)?;
@@ -207,7 +220,9 @@ fn condition(line: &[u8], at: usize) -> Result<(Option<Tree>, usize), Fault> {
     let same = line[from..].iter().zip(PRESENT).take_while(|(byte, due)| byte == due).count();
     if same < PRESENT.len() {
         let fault = expected(line, from + same, &quoted(&PRESENT[same..]));
-        return Err(fault.note("a line has one constraint at most, and its condition comes last"));
+        let present = line[from..].to_ascii_lowercase().starts_with(b"present");
+        let second = "a line has one constraint at most: join two with `&&`";
+        return Err(fault.note_if((!present).then(|| second.to_string())));
     }
     let (tree, end) = read_expression(line, from + same)?;
     Ok((Some(tree), end))
@@ -222,8 +237,8 @@ fn part(line: &[u8], at: usize) -> Result<Option<usize>, Fault> {
     }
 }
 
-/// The full stop, and a space before a remark. `last` is the expression before it, if there is one.
-fn stop(line: &[u8], at: usize, last: Option<&Tree>) -> Result<(), Fault> {
+/// The full stop, and a space before a remark; `due` has to stand here, behind an expression or not.
+fn stop(line: &[u8], at: usize, due: &str, is_behind: bool) -> Result<(), Fault> {
     match &line[at..] {
         [b'.'] | [b'.', b' ', ..] => Ok(()),
         [b'.', ..] => Err(expected(line, at + 1, "a space before the remark")
@@ -231,11 +246,12 @@ fn stop(line: &[u8], at: usize, last: Option<&Tree>) -> Result<(), Fault> {
         [] => {
             Err(Fault::new(at..at + 1, "expected `.`, found the end of the line", "the full stop is missing"))
         }
-        [b',', ..] => Err(expected(line, at, "`;` or `.`").note("did you mean `;`?")),
+        [b',', ..] => Err(expected(line, at, due).note("did you mean `;`?")),
+        [b';', ..] => Err(expected(line, at, due).note("the condition comes last")),
         [b' ', b';' | b'.', ..] => {
             Err(Fault::new(at..at + 1, format!("a space before {}", found(line, at + 1)), "a space too many"))
         }
-        _ if last.is_some() => Err(behind(line, at, "`;` or `.`")),
-        _ => Err(expected(line, at, "`;` or `.`").note("a remark stands behind the full stop")),
+        _ if is_behind => Err(behind(line, at, due)),
+        _ => Err(expected(line, at, due).note("a remark stands behind the full stop")),
     }
 }

@@ -49,7 +49,8 @@ fn common(line: &[u8], due: &[u8]) -> usize {
 /// The opening line.
 pub fn opening(line: &[u8]) -> Result<(), Fault> {
     let wrong = |at: usize, due: &str| {
-        let there = if line.is_empty() { kind_found(line) } else { found(line, at) };
+        let begun = line.get(at).is_some_and(u8::is_ascii_alphanumeric) || at > 0;
+        let there = if begun { found(line, at) } else { kind_found(line) };
         let message = format!("expected {OPENING}, found {there}");
         Err(Fault::new(at..at + 1, message, format!("expected {due}"))
             .note("NAME is what the page describes"))
@@ -63,7 +64,10 @@ pub fn opening(line: &[u8]) -> Result<(), Fault> {
         if &line[start..] == ENDING.trim_ascii_start() {
             return wrong(start, "NAME");
         }
-        let (at, same) = ending_begun(line, start);
+        let (at, mut same) = ending_begun(line, start);
+        if line.get(at + same).is_some_and(u8::is_ascii_alphanumeric) {
+            same = ENDING[..same].iter().rposition(|byte| *byte == b' ').map_or(0, |space| space + 1);
+        }
         return wrong(at + same, &quoted(&ENDING[same..]));
     };
     label_fault(name, start, "NAME").map_or(Ok(()), Err)

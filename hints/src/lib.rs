@@ -6,11 +6,13 @@
 //! meaning is told.
 //!
 //! In reading order: `hint` is what is answered, `faults` what is found; `characters` (2), `frame_lines`, `rows`,
-//! `frames` (3), `names`, `operators`, `trees`, `expressions`, `field_lines`, `fields` (5), `sizes` (6, 8, 10),
+//! `frames` (3), `names`, `operators`, `trees`, `expressions`,
+//! `expression_faults`, `field_lines`, `fields` (5), `sizes` (6, 8, 10),
 //! `cells` (4, 7), `reads` (9) find it, `pages` puts it together, `plain` writes it out. `packets` is for packets.
 
 mod cells;
 mod characters;
+mod expression_faults;
 mod expressions;
 mod faults;
 mod field_lines;

@@ -53,9 +53,10 @@ pub fn label_fault(label: &[u8], at: usize, what: &str) -> Option<Fault> {
 /// What is wrong with a short name that stands at this byte of its line.
 pub fn short_fault(short: &[u8], at: usize) -> Option<Fault> {
     let spot = |from: usize, length: usize| at + from..at + from + length;
-    let (spot, broken) = if short.is_empty() {
-        (spot(0, 1), "it is empty".to_string())
-    } else if let Some(odd) = short.iter().position(|byte| !byte.is_ascii_alphanumeric()) {
+    if short.is_empty() {
+        return Some(Fault::new(spot(0, 1), "the short name is empty", "no short name").note(OF_SHORTS));
+    }
+    let (spot, broken) = if let Some(odd) = short.iter().position(|byte| !byte.is_ascii_alphanumeric()) {
         (spot(odd, 1), format!("{} is not allowed in a short name", quoted(&short[odd..=odd])))
     } else if !short[0].is_ascii_alphabetic() {
         (spot(0, 1), "a short name begins with a letter".to_string())

@@ -31,7 +31,10 @@ pub fn found(line: &[u8], at: usize) -> String {
     let word = word_length(rest);
     match rest.first() {
         None => "the end of the line".to_string(),
-        Some(b' ') => "a space".to_string(),
+        Some(b' ') => match rest.get(1) {
+            None | Some(b' ') => "a space".to_string(),
+            Some(_) => format!("a space and {}", found(line, at + 1)),
+        },
         Some(_) => quoted(&rest[..word.max(1)]),
     }
 }

@@ -186,7 +186,69 @@ fn wrong_units_stops_and_phrases() {
         "Borrower (Bor): 2 bytes; present when L == 1.",
         "expected `only when `, found `when`",
         "                                 ^ expected `only when `",
-        &["a line has one constraint at most, and its condition comes last"],
+        &[],
+    );
+    line_told(
+        BORROWER,
+        "Borrower (Bor): 2 bytes; Present only when L == 1.",
+        "expected `present only when `, found `Present`",
+        "                         ^ expected `present only when `",
+        &[],
+    );
+}
+
+#[test]
+fn words_and_signs_of_other_languages() {
+    let no_operator = |line: &str, sign: &str, caret: &str, mend: &[&str]| {
+        line_told(CELLS, line, &format!("`{sign}` is no operator"), caret, mend);
+    };
+    let mends = ["did you mean `&&`?", "did you mean `!(`?", "did you mean `!=`?"];
+    line_told(
+        CELLS,
+        "Cells (N): 5 bits; N <= 20 and L == 1.",
+        "expected an operator, `;` or `.`, found `and`",
+        "                           ^^^ no operator",
+        &mends[..1],
+    );
+    no_operator(
+        "Cells (N): 5 bits; not(N > 20).",
+        "not(",
+        "                   ^^^^ no such operator",
+        &mends[1..2],
+    );
+    no_operator("Cells (N): 5 bits; N <> 20.", "<>", "                     ^^ no such operator", &mends[2..]);
+    no_operator("Cells (N): 5 bits; N << 1 == 2.", "<<", "                     ^^ no such operator", &[]);
+    line_told(
+        CELLS,
+        "Cells (N): 5 bits; N <= 1,000.",
+        "`1,000` is no number: a number is digits alone",
+        "                        ^^^^^ digits alone",
+        &[],
+    );
+}
+
+#[test]
+fn parts_too_many() {
+    line_told(
+        CELLS,
+        "Cells (N): 5 bits; N <= 20; N > 0.",
+        "expected `present only when `, found `N`",
+        "                            ^ expected `present only when `",
+        &["a line has one constraint at most: join two with `&&`"],
+    );
+    line_told(
+        BORROWER,
+        "Borrower (Bor): 2 bytes; present only when L == 1; Bor > 0.",
+        "expected `.`, found `;`",
+        "                                                 ^ expected `.`",
+        &["the condition comes last"],
+    );
+    line_told(
+        READINGS,
+        "Readings: variable bytes.",
+        "expected `;` or `.`, found a space and `bytes`",
+        "                  ^ expected `;` or `.`",
+        &["a remark stands behind the full stop"],
     );
 }
 

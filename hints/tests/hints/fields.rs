@@ -80,6 +80,19 @@ fn a_width_unlike_its_cell() {
     );
     line_told(7, &[(SUM, "Sum: N bytes.")], "Sum: N bytes.", due);
     let due: (_, _, &[_]) = (
+        "cell 7 (line 12): `Sum`, 16 bits; this line: `two bytes`",
+        "     ^^^^^^^^^ not fixed",
+        &[
+            "a calculated width is never fixed: its field has a row of its own between `:`",
+            "`two` is taken for a short name; a fixed width is a number",
+        ],
+    );
+    line_told(7, &[(SUM, "Sum: two bytes.")], "Sum: two bytes.", due);
+}
+
+#[test]
+fn a_variable_width_in_a_cell_between_bars() {
+    let due: (_, _, &[_]) = (
         "cell 7 (line 12): `Sum`, 16 bits; this line: `variable`",
         "     ^^^^^^^^ not fixed",
         &["a `variable` field has a row of its own between `:`"],
