@@ -1,6 +1,6 @@
 //! Number 5: the form of field lines.
 
-use crate::common::{told, with};
+use crate::common::{form_told, told, with, BLADE_LINE, BORROWER, CELLS, ON_LOAN, READINGS, VERSION};
 
 const SHORTS: &str =
     "a short name is a letter and up to 7 letters or digits, and none of `bit`, `bits`, `byte`, \
@@ -9,116 +9,17 @@ const FORM: &str =
     "the form is `Label (Short): 2 bytes; CONSTRAINT; present only when CONDITION.`; short name, \
                     constraint and condition may be left out";
 
-/// The blade report with one line replaced is refused by 5 there, and this is told: a message, a caret with its
-/// label, and notes.
-#[track_caller]
-fn line_told(from: &str, to: &str, message: &str, caret: &str, notes: &[&str]) {
-    let page = with(&[(from, to)]);
-    let place = page.lines().position(|line| line == to).unwrap() + 1;
-    let column = caret.find('^').unwrap() + 1;
-    let mut due = format!("error[5]: {message}\n  --> page.txt:{place}:{column}\n   |\n");
-    due += &format!("{place} | {to}\n   | {caret}\n");
-    notes.iter().for_each(|note| due += &format!("   = note: {note}\n"));
-    told(page, 5, place as u32, &due);
-}
-
-const VERSION: &str = "Version (V): 2 bits; V == 1.";
-const ON_LOAN: &str = "On Loan (L): 1 bit.";
-const CELLS: &str = "Cells (N): 5 bits; N <= 20.";
-const BLADE: &str = "Blade: 1 byte.";
-const BORROWER: &str = "Borrower (Bor): 2 bytes; present only when L == 1.";
-const READINGS: &str = "Readings: N bytes.";
-
-#[test]
-fn wrong_operators() {
-    line_told(
-        VERSION,
-        "Version (V): 2 bits; V = 1.",
-        "`=` is no operator",
-        "                       ^ no such operator",
-        &["did you mean `==`?"],
-    );
-    line_told(
-        BORROWER,
-        "Borrower (Bor): 2 bytes; present only when L == 1 & N > 0.",
-        "`&` is no operator",
-        "                                                  ^ no such operator",
-        &["did you mean `&&`?"],
-    );
-    line_told(
-        READINGS,
-        "Readings: N / 2 bytes.",
-        "`/` is no operator",
-        "            ^ no such operator",
-        &["numbers are joined by `+`, `-` and `*`"],
-    );
-    line_told(
-        CELLS,
-        "Cells (N): 5 bits; N => 20.",
-        "`=>` is no operator",
-        "                     ^^ no such operator",
-        &["did you mean `>=`?"],
-    );
-    line_told(
-        CELLS,
-        "Cells (N): 5 bits; 1 <= N <= 20.",
-        "a second comparison: only one stands between `&&`, `||` and parentheses",
-        "                          ^^ the second comparison",
-        &["join two comparisons with `&&`, as in `1 <= N && N <= 20`"],
-    );
-}
-
-#[test]
-fn wrong_numbers() {
-    line_told(
-        VERSION,
-        "Version (V): 2 bits; V == 0x1.",
-        "`0x1` is no number: numbers are decimal",
-        "                          ^^^ numbers are decimal",
-        &["did you mean `1`?"],
-    );
-    line_told(
-        VERSION,
-        "Version (V): 2 bits; V == 01.",
-        "the number `01` begins with 0",
-        "                          ^^ no leading zeros",
-        &["did you mean `1`?"],
-    );
-    line_told(
-        VERSION,
-        "Version (V): 2 bits; V < 4294967296.",
-        "the number `4294967296` is over 4,294,967,295",
-        "                         ^^^^^^^^^^ at most 4,294,967,295",
-        &[],
-    );
-    line_told(
-        VERSION,
-        "Version (V): 2 bits; V > -1.",
-        "expected a number, a short name or `(`, found `-`",
-        "                         ^ expected an operand",
-        &["there are no negative numbers"],
-    );
-    let several = "give the bits to several fields; if the length differs, measure it by a field: `N bytes`";
-    line_told(
-        "Sum: 2 bytes.",
-        "Sum: 5 bytes.",
-        "a fixed width is 1 to 32 bits, found 40 bits",
-        "     ^^^^^^^ 1 to 32 bits",
-        &[several],
-    );
-}
-
 #[test]
 fn missing_stops_and_units() {
-    line_told(
+    form_told(
         ON_LOAN,
         "On Loan (L): 1 bit",
         "expected `.`, found the end of the line",
         "                  ^ the full stop is missing",
         &[],
     );
-    line_told(
-        BLADE,
+    form_told(
+        BLADE_LINE,
         "Blade: 1.",
         "expected a space and a unit, found `.`",
         "        ^ expected a space and a unit",
@@ -128,28 +29,28 @@ fn missing_stops_and_units() {
 
 #[test]
 fn spaces_too_few_or_too_many() {
-    line_told(
-        BLADE,
+    form_told(
+        BLADE_LINE,
         "Blade: 1byte.",
         "`1byte` is no number: a space is missing before the unit",
         "       ^^^^^ a space is missing before the unit",
         &["did you mean `1 byte`?"],
     );
-    line_told(
-        BLADE,
+    form_told(
+        BLADE_LINE,
         "Blade:1 byte.",
         "expected a space behind `:`, found `1`",
         "      ^ expected a space behind `:`",
         &[],
     );
-    line_told(
+    form_told(
         VERSION,
         "Version (V): 2 bits;V == 1.",
         "expected a space behind `;`, found `V`",
         "                    ^ expected a space behind `;`",
         &[],
     );
-    line_told(
+    form_told(
         VERSION,
         "Version (V): 2 bits; V  == 1.",
         "a space too many",
@@ -160,35 +61,35 @@ fn spaces_too_few_or_too_many() {
 
 #[test]
 fn wrong_units_stops_and_phrases() {
-    line_told(
-        BLADE,
+    form_told(
+        BLADE_LINE,
         "Blade: 1 octets.",
         "expected `bit`, `bits`, `byte` or `bytes`, found `octets`",
         "         ^^^^^^ no unit",
         &["did you mean `bytes`?"],
     );
-    line_told(
-        BLADE,
+    form_told(
+        BLADE_LINE,
         "Blade: 1 byte, its number.",
         "expected `;` or `.`, found `,`",
         "             ^ expected `;` or `.`",
         &["did you mean `;`?"],
     );
-    line_told(
-        BLADE,
+    form_told(
+        BLADE_LINE,
         "Blade: 1 byte.Its number.",
         "expected a space before the remark, found `Its`",
         "              ^ expected a space before the remark",
         &["behind the full stop comes nothing, or a space and a remark"],
     );
-    line_told(
+    form_told(
         BORROWER,
         "Borrower (Bor): 2 bytes; present when L == 1.",
         "expected `only when `, found `when`",
         "                                 ^ expected `only when `",
         &[],
     );
-    line_told(
+    form_told(
         BORROWER,
         "Borrower (Bor): 2 bytes; Present only when L == 1.",
         "expected `present only when `, found `Present`",
@@ -198,52 +99,22 @@ fn wrong_units_stops_and_phrases() {
 }
 
 #[test]
-fn words_and_signs_of_other_languages() {
-    let no_operator = |line: &str, sign: &str, caret: &str, mend: &[&str]| {
-        line_told(CELLS, line, &format!("`{sign}` is no operator"), caret, mend);
-    };
-    let mends = ["did you mean `&&`?", "did you mean `!(`?", "did you mean `!=`?"];
-    line_told(
-        CELLS,
-        "Cells (N): 5 bits; N <= 20 and L == 1.",
-        "expected an operator, `;` or `.`, found `and`",
-        "                           ^^^ no operator",
-        &mends[..1],
-    );
-    no_operator(
-        "Cells (N): 5 bits; not(N > 20).",
-        "not(",
-        "                   ^^^^ no such operator",
-        &mends[1..2],
-    );
-    no_operator("Cells (N): 5 bits; N <> 20.", "<>", "                     ^^ no such operator", &mends[2..]);
-    no_operator("Cells (N): 5 bits; N << 1 == 2.", "<<", "                     ^^ no such operator", &[]);
-    line_told(
-        CELLS,
-        "Cells (N): 5 bits; N <= 1,000.",
-        "`1,000` is no number: a number is digits alone",
-        "                        ^^^^^ digits alone",
-        &[],
-    );
-}
-
-#[test]
 fn parts_too_many() {
-    line_told(
+    form_told(
         CELLS,
         "Cells (N): 5 bits; N <= 20; N > 0.",
         "expected `present only when `, found `N`",
         "                            ^ expected `present only when `",
         &["a line has one constraint at most: join two with `&&`"],
     );
-    line_told(
+    form_told(
         BORROWER,
         "Borrower (Bor): 2 bytes; present only when L == 1; Bor > 0.",
         "expected `.`, found `;`",
         "                                                 ^ expected `.`",
         &["the condition comes last"],
     );
-    line_told(
+    form_told(
         READINGS,
         "Readings: variable bytes.",
         "expected `;` or `.`, found a space and `bytes`",
@@ -254,35 +125,35 @@ fn parts_too_many() {
 
 #[test]
 fn wrong_names() {
-    line_told(
-        BLADE,
+    form_told(
+        BLADE_LINE,
         "Blade (byte): 1 byte.",
         "`byte` is no short name: this word is reserved",
         "       ^^^^ this word is reserved",
         &[SHORTS],
     );
-    line_told(
+    form_told(
         CELLS,
         "Cells (NumberOfCells): 5 bits; N <= 20.",
         "`NumberOfCells` is no short name: 13 characters, at most 8",
         "       ^^^^^^^^^^^^^ 13 characters, at most 8",
         &[SHORTS],
     );
-    line_told(
+    form_told(
         READINGS,
         "Readings: NumberOfCells bytes.",
         "`NumberOfCells` is no short name: 13 characters, at most 8",
         "          ^^^^^^^^^^^^^ 13 characters, at most 8",
         &[SHORTS],
     );
-    line_told(
+    form_told(
         ON_LOAN,
         "On_Loan (L): 1 bit.",
         "`_` is not allowed in a label",
         "  ^ not allowed in a label",
         &["did you mean `On Loan`?"],
     );
-    line_told(
+    form_told(
         ON_LOAN,
         "On Loan(L): 1 bit.",
         "expected a space before `(`, found `(`",
@@ -301,12 +172,12 @@ error[5]: an empty line below `where:`
    | ^ expected a field line
    = note: every line below `where:` is a field line; take the empty line out
 ";
-    told(with(&[(BLADE, "Blade: 1 byte.\n")]), 5, 21, due);
+    told(with(&[(BLADE_LINE, "Blade: 1 byte.\n")]), 5, 21, due);
 }
 
 #[test]
 fn a_wrapped_remark() {
-    let page = with(&[(BLADE, "Blade: 1 byte. The number that is pressed\ninto the blade.")]);
+    let page = with(&[(BLADE_LINE, "Blade: 1 byte. The number that is pressed\ninto the blade.")]);
     let due = format!(
         "\
 error[5]: expected `: ` behind the label, found `.`
@@ -322,43 +193,11 @@ error[5]: expected `: ` behind the label, found `.`
 }
 
 #[test]
-fn parentheses() {
-    line_told(
-        VERSION,
-        "Version (V): 2 bits; (V == 1.",
-        "expected `)`, found `.`",
-        "                            ^ expected `)`",
-        &[],
-    );
-    line_told(
-        VERSION,
-        "Version (V): 2 bits; ( V == 1).",
-        "a space too many",
-        "                      ^ a space too many",
-        &["one space at most stands on each side of an operator, none inside parentheses"],
-    );
-    line_told(
-        VERSION,
-        "Version (V): 2 bits; ((((((((((((( V == 1))))))))))))).",
-        "over 12 parentheses open at once: this is the 13th",
-        "                                 ^ the 13th open parenthesis",
-        &[],
-    );
-    line_told(
-        VERSION,
-        "Version (V): 2 bits; !V == 1.",
-        "expected a number, a short name or `(`, found `!`",
-        "                     ^ expected an operand",
-        &["`!` has its operand in parentheses: `!(..)`"],
-    );
-}
-
-#[test]
 fn further_mistakes_of_forms() {
     let page = with(&[
         (VERSION, "Version (V): 2 bits; V = 1."),
         (ON_LOAN, "On Loan (V): 1 bit."),
-        (BLADE, "Blade: 1 octet."),
+        (BLADE_LINE, "Blade: 1 octet."),
         ("Sum: 2 bytes.", "Sum: 2 bytes"),
         (READINGS, "Cells: N bytes."),
     ]);

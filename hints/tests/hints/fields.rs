@@ -1,14 +1,6 @@
 //! Numbers 6 to 10: field lines of right form against their limits, their cells and each other.
 
-use crate::common::{told, with};
-
-const VERSION: &str = "Version (V): 2 bits; V == 1.";
-const ON_LOAN: &str = "On Loan (L): 1 bit.";
-const CELLS: &str = "Cells (N): 5 bits; N <= 20.";
-const BLADE: &str = "Blade: 1 byte.";
-const BORROWER: &str = "Borrower (Bor): 2 bytes; present only when L == 1.";
-const READINGS: &str = "Readings: N bytes.";
-const SUM: &str = "Sum: 2 bytes.";
+use crate::common::{told, with, BLADE_LINE, BORROWER, CELLS, ON_LOAN, READINGS, SUM, VERSION};
 
 /// The blade report with some lines replaced is refused by this number at the line that is now `line`, and this is
 /// told: a message, a caret with its label, and notes.
@@ -107,7 +99,7 @@ fn a_name_unlike_its_cell() {
         "^^^^^^ another name than its cell shows",
         &[SHOWS],
     );
-    line_told(7, &[(BLADE, "Blades: 1 byte.")], "Blades: 1 byte.", due);
+    line_told(7, &[(BLADE_LINE, "Blades: 1 byte.")], "Blades: 1 byte.", due);
 }
 
 #[test]

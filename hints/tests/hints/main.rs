@@ -3,6 +3,7 @@
 mod characters;
 mod common;
 mod documented;
+mod expressions;
 mod field_lines;
 mod fields;
 mod frames;
