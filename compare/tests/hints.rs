@@ -5,7 +5,7 @@ use std::collections::BTreeMap;
 use umarekoza::{fields_of, table_of, write_table, Field, Refusal};
 use umarekoza_compare::runs::Settings;
 use umarekoza_hints::{fields_before, packet_hint, page_hint, plain, plain_packet, Hint, Verdict, ALSO_MOST};
-use umarekoza_model::generate::{packet, table, text, Rng};
+use umarekoza_model::generate::{packet, spelled_text, table, text, Rng};
 use umarekoza_model::protocol::to_hex;
 
 fn verdict(refusal: Refusal) -> Verdict {
@@ -93,6 +93,41 @@ fn no_hint_argues_with_a_verdict() {
             assert_eq!((hint.number, hint.line), (other.number, other.place as usize));
             assert!(hint.column == 0 && hint.also.is_empty() && !hint.message.is_empty(), "{hint:?}");
         }
+    }
+}
+
+/// An accepted page with a blank behind some lines above the field lines, and without the full stop in some field
+/// lines; and the numbers of these lines.
+fn damaged(rng: &mut Rng, page: &[u8]) -> (Vec<u8>, Vec<usize>) {
+    let mut lines: Vec<Vec<u8>> = page.split_inclusive(|byte| *byte == b'\n').map(<[u8]>::to_vec).collect();
+    let fields = lines.iter().position(|line| line == b"where:\n").unwrap() + 2;
+    let mut changed = Vec::new();
+    for (index, line) in lines.iter_mut().enumerate().filter(|_| rng.one_in(6)) {
+        if index < fields {
+            line.insert(line.len() - 1, b' ');
+        } else {
+            line.remove(line.iter().position(|byte| *byte == b'.').unwrap());
+        }
+        changed.push(index + 1);
+    }
+    (lines.concat(), changed)
+}
+
+/// The mistakes that are told are those that were made, in the order of lines.
+#[test]
+fn further_mistakes_are_those_that_were_made() {
+    let mut rng = Rng::new(3);
+    for _ in 0..5000 {
+        let (page, _) = spelled_text(&mut rng);
+        let (page, changed) = damaged(&mut rng, &page);
+        let Err(refused) = table_of(&page) else { continue };
+        if refused.number == 1 {
+            continue;
+        }
+        let hint = page_hint(&page, verdict(refused));
+        let told: Vec<usize> =
+            [hint.line].into_iter().chain(hint.also.iter().map(|also| also.line)).collect();
+        assert_eq!(told, changed[..changed.len().min(ALSO_MOST + 1)], "{}", plain(&hint, "page", &page));
     }
 }
 
