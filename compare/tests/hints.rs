@@ -2,11 +2,13 @@
 //! page that is refused by 2 to 10 gets a column, each packet by 24 to 28 its reason, and all text is plain.
 
 use std::collections::BTreeMap;
+use std::fs;
+use std::path::Path;
 use umarekoza::{fields_of, table_of, write_table, Field, Refusal};
 use umarekoza_compare::runs::Settings;
 use umarekoza_hints::{fields_before, packet_hint, page_hint, plain, plain_packet, Hint, Verdict, ALSO_MOST};
 use umarekoza_model::generate::{packet, spelled_text, table, text, Rng};
-use umarekoza_model::protocol::to_hex;
+use umarekoza_model::protocol::{from_hex, to_hex};
 
 fn verdict(refusal: Refusal) -> Verdict {
     Verdict { number: refusal.number, place: refusal.place }
@@ -78,6 +80,29 @@ fn hints_for_pages_agree_with_the_library() {
     println!("{numbers:?}");
     let due = settings.cases >= 10_000;
     assert!(!due || (1..=11).all(|number| numbers.contains_key(&number)), "not every number turned up");
+}
+
+/// The text and the refusal of a stored case; none for other cases.
+fn stored(line: &str) -> Option<(Vec<u8>, Verdict)> {
+    let (request, answer) = line.split_once('\t')?;
+    let (_, text) = request.strip_prefix("text ")?.split_once(' ')?;
+    let (number, place) = answer.strip_prefix("refused ")?.split_once(' ')?;
+    Some((from_hex(text)?, Verdict { number: number.parse().ok()?, place: place.parse().ok()? }))
+}
+
+#[test]
+fn hints_for_pages_agree_with_the_stored_cases() {
+    let folder = Path::new(env!("CARGO_MANIFEST_DIR")).join("../vectors");
+    let mut refused = 0;
+    for file in ["spelled.tsv", "edge.tsv", "mutated.tsv"] {
+        for (page, verdict) in fs::read_to_string(folder.join(file)).unwrap().lines().filter_map(stored) {
+            let hint = page_hint(&page, verdict);
+            let found = wrong(&hint, verdict, &page);
+            assert!(found.is_none(), "{file}: {found:?} {hint:?}\n{}", to_hex(&page));
+            refused += 1;
+        }
+    }
+    assert_eq!(refused, 1142);
 }
 
 /// A wrong verdict gets the number's meaning alone, at its line.
