@@ -27,6 +27,19 @@ pub struct PacketHint {
 /// What a packet is refused for. `before` has the numbers of the fields before the refused one, or of all fields
 /// for 28: present, offset, width and value of each. Where these do not lead to the verdict, only the meaning of the
 /// number is told.
+///
+/// ```
+/// use umarekoza_hints::{packet_hint, Verdict};
+/// let table = [
+///     0x0D, 0x00, 0x01, 0x00, 0x08, 0x00, 0x01, 0x00, 0x03, 0x00, 0x54, 0x61, 0x67, // the head
+///     0x1B, 0x00, 0x02, 0x00, 0x04, 0x00, 0x4B, 0x69, 0x6E, 0x64, 0x01, 0x00, 0x4B, 0x08, 0x00, 0x08,
+///     0x00, 0x20, 0x02, 0x00, 0x01, 0x07, 0x00, 0x00, 0x00, 0x00, 0x00, // the field Kind
+///     0x04, 0x00, 0x05, 0x00, // the end
+/// ];
+/// let hint = packet_hint(&table, &[0x08], &[], Verdict { number: 25, place: 1 });
+/// assert_eq!(hint.message, "the constraint of `Kind` does not hold: `K == 7`");
+/// assert_eq!(hint.notes, ["`K` (Kind) is 8"]);
+/// ```
 pub fn packet_hint(table: &[u8], packet: &[u8], before: &[[u32; 4]], verdict: Verdict) -> PacketHint {
     let fields = fields_of(table).unwrap_or_default();
     let place = verdict.place as usize;

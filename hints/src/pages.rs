@@ -18,6 +18,38 @@ const TEXT_MOST: usize = 16_384;
 
 /// Where the mistake of a refused page is. Where this reading of the page does not come to the verdict's number and
 /// place, only the meaning of the number is told.
+///
+/// ```
+/// use umarekoza_hints::{page_hint, plain, Verdict};
+/// let page = b"\
+/// A Tag is formatted as follows:
+///
+///  0
+///  0 1 2 3 4 5 6 7
+/// +-+-+-+-+-+-+-+-+
+/// |       K       |
+/// +-+-+-+-+-+-+-+-+
+///
+/// where:
+///
+/// Kind (K): 1 byte; K = 7.
+/// ";
+/// let hint = page_hint(page, Verdict { number: 5, place: 11 });
+/// assert_eq!((hint.line, hint.column, hint.width), (11, 21, 1));
+/// let due = "\
+/// error[5]: `=` is no operator
+///   --> tag.txt:11:21
+///    |
+/// 11 | Kind (K): 1 byte; K = 7.
+///    |                     ^ no such operator
+///    = note: did you mean `==`?
+/// ";
+/// assert_eq!(plain(&hint, "tag.txt", page), due);
+///
+/// let other = page_hint(page, Verdict { number: 7, place: 11 });
+/// assert_eq!((other.line, other.column), (11, 0));
+/// assert_eq!(other.message, "this field line and its cell disagree");
+/// ```
 pub fn page_hint(text: &[u8], verdict: Verdict) -> Hint {
     let mut found = mistakes(text);
     if found.is_empty() && verdict == (Verdict { number: 11, place: 0 }) {
@@ -82,9 +114,12 @@ fn mistakes_of_plain(text: &[u8]) -> Vec<Mistake> {
     let Some(from) = frame.fields_from else { return found };
     let (fields, wrong_forms) = Fields::read(&lines.ended[from..], from + 1);
     let right_forms = wrong_forms.is_empty();
-    found.extend(too_many(&frame.cells, &fields));
     found.extend(wrong_forms);
     found.extend(sizes(&fields));
+    if let Some(too_many) = too_many(&frame.cells, &fields) {
+        found.push(too_many);
+        return found;
+    }
     found.extend(repeats(&fields));
     if right_forms {
         let compared = frame.whole && lines.tail.is_empty() && !fields.lines.is_empty();

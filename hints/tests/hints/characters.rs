@@ -153,7 +153,6 @@ error[4]: 66 field lines, at most 64
 201 | F65: 1 byte.
     | ^^^^^^^^^^^^ the 65th field line
     = note: every line below `where:` counts as a field
-also: page.txt:201:1: error[7]: no cell for field line 65
 ";
     told(long_page(64, 66), 4, 0, due);
 }
