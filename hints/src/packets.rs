@@ -7,7 +7,7 @@ mod written;
 
 use crate::hint::Verdict;
 use crate::meanings::meaning_of;
-use crate::shown::{counted, quoted, shown, spelled};
+use crate::shown::{counted, quoted, shown, shown_name, spelled};
 use stored::{fields_of, StoredField, StoredWidth, Tree};
 use values::{value_of, Fault};
 use written::{name_of, written};
@@ -77,7 +77,7 @@ pub fn fields_before(table: &[u8], packet: &[u8]) -> Vec<[u32; 4]> {
 
 /// The hint for a packet as lines of text; `name` is how the packet is called, in plain characters.
 pub fn plain_packet(hint: &PacketHint, name: &str) -> String {
-    let name: String = name.chars().map(|c| if (' '..='~').contains(&c) { c } else { '?' }).collect();
+    let name = shown_name(name);
     let field = match hint.field {
         0 => String::new(),
         field => format!(", field {field}: {}", hint.label),

@@ -2,18 +2,18 @@
 
 use crate::hint::Hint;
 use crate::lines::line_of;
-use crate::shown::shown;
+use crate::shown::{shown, shown_name};
 use std::fmt::Write;
 
 /// So many bytes of a line are shown on each side of the caret.
 const AROUND: usize = 80;
 
-/// The hint for a page, as lines of text that end in LF; `name` is how the page's file is called. What the page or
-/// the name holds besides the characters 0x20 to 0x7E is shown as question marks.
+/// The hint for a page, as lines of text that end in LF; `name` is how the page's file is called. What the page holds
+/// besides the characters 0x20 to 0x7E is shown as question marks, and what the name holds besides those, letters and
+/// digits.
 pub fn plain(hint: &Hint, name: &str, text: &[u8]) -> String {
     let mut out = format!("error[{}]: {}\n", hint.number, hint.message);
-    let name: String =
-        name.chars().map(|letter| if (' '..='~').contains(&letter) { letter } else { '?' }).collect();
+    let name = shown_name(name);
     let margin = " ".repeat(hint.line.to_string().len());
     let line = line_of(text, hint.line);
     match (hint.line, hint.column) {

@@ -12,6 +12,12 @@ pub fn shown(bytes: &[u8]) -> String {
     bytes.iter().map(|byte| if is_plain(*byte) { char::from(*byte) } else { '?' }).collect()
 }
 
+/// The name of a file as it may be shown: letters and digits of any alphabet too.
+pub fn shown_name(name: &str) -> String {
+    let is_shown = |letter: char| (' '..='~').contains(&letter) || letter.is_alphanumeric();
+    name.chars().map(|letter| if is_shown(letter) { letter } else { '?' }).collect()
+}
+
 /// Bytes between grave accents, cut where they are many.
 pub fn quoted(bytes: &[u8]) -> String {
     match bytes.get(..QUOTED) {

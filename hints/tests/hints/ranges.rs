@@ -1,7 +1,7 @@
 //! The bytes that are meant, for a renderer that draws a page with ranges of bytes.
 
 use crate::common::{with, BLADE};
-use umarekoza_hints::{page_hint, shown_page, Verdict};
+use umarekoza_hints::{page_hint, plain, shown_page, Verdict};
 
 /// What is drawn under the caret, and its range.
 fn marked(page: &str, number: u32, place: u32) -> (String, usize) {
@@ -19,6 +19,13 @@ fn a_range_is_within_its_line() {
     assert_eq!(marked(&page, 7, 23), (String::new(), page.len()));
     assert_eq!(marked("", 3, 1), (String::new(), 0));
     assert_eq!(page_hint(BLADE.as_bytes(), Verdict { number: 11, place: 0 }).range(BLADE.as_bytes()), None);
+}
+
+#[test]
+fn a_name_is_shown_without_control_characters() {
+    let hint = page_hint(BLADE.as_bytes(), Verdict { number: 11, place: 0 });
+    let told = plain(&hint, "p\u{E4}ge\u{1B}[31m\n\u{202E}.txt", BLADE.as_bytes());
+    assert_eq!(told.lines().nth(1), Some(" --> p\u{E4}ge?[31m??.txt"));
 }
 
 #[test]
