@@ -1,0 +1,166 @@
+//! Numbers 4 and 7: how many cells and field lines there are, and where they disagree.
+
+use crate::faults::{Fault, Mistake};
+use crate::field_lines::{FieldLine, Width};
+use crate::fields::{Field, Fields};
+use crate::lines::Lines;
+use crate::rows::Cell;
+use crate::shown::{counted, quoted};
+use crate::trees::Tree;
+
+const FIELDS_MOST: usize = 64;
+
+/// Number 4: over 64 cells or field lines.
+pub fn too_many(cells: &[Cell], fields: &Fields) -> Option<Mistake> {
+    let count = |number: usize, thing: &str| format!("{}, at most 64", counted(number as u64, thing));
+    let (spot, line, found, what) = if let Some(cell) = cells.get(FIELDS_MOST) {
+        (cell.text.clone(), cell.line, count(cells.len(), "cell"), "the 65th cell")
+    } else {
+        let field = fields.lines.get(FIELDS_MOST)?;
+        (0..field.line.len(), field.number, count(fields.lines.len(), "field line"), "the 65th field line")
+    };
+    let fault = Fault::new(spot, found, what).note("every line below `where:` counts as a field");
+    Some(fault.at(4, line).without_place())
+}
+
+/// Number 7: each line that disagrees with its cell; only the first where they are not equally many.
+pub fn disagreements(lines: &Lines, cells: &[Cell], fields: &Fields) -> Vec<Mistake> {
+    let page = Page { lines, cells, fields };
+    let mut found: Vec<Mistake> = fields
+        .right()
+        .enumerate()
+        .filter_map(|(index, (field, form))| Some(page.fault(index, field, form)?.at(7, field.number)))
+        .collect();
+    if cells.len() != fields.lines.len() {
+        found.truncate(1);
+    }
+    if found.is_empty() {
+        found.extend(page.cell_left());
+    }
+    found
+}
+
+struct Page<'a> {
+    lines: &'a Lines<'a>,
+    cells: &'a [Cell],
+    fields: &'a Fields<'a>,
+}
+
+impl Page<'_> {
+    fn text(&self, cell: &Cell) -> &[u8] {
+        &self.lines.ended[cell.line - 1][cell.text.clone()]
+    }
+
+    /// A cell in words.
+    fn told(&self, index: usize, cell: &Cell) -> String {
+        let width = cell.bits.map_or("a row between `:`".to_string(), |bits| counted(bits as u64, "bit"));
+        format!("cell {} (line {}): {}, {width}", index + 1, cell.line, quoted(self.text(cell)))
+    }
+
+    fn counts(&self) -> Option<String> {
+        let (cells, lines) = (self.cells.len() as u64, self.fields.lines.len() as u64);
+        let note = format!("there are {} and {}", counted(cells, "cell"), counted(lines, "field line"));
+        (cells != lines).then_some(note)
+    }
+
+    fn fault(&self, index: usize, field: &Field, form: &FieldLine) -> Option<Fault> {
+        let Some(cell) = self.cells.get(index) else {
+            let message = format!("no cell for field line {}", index + 1);
+            return Some(Fault::new(0..field.line.len(), message, "no cell").note_if(self.counts()));
+        };
+        let told = self.told(index, cell);
+        let is_shown = |name: &[u8]| name == self.text(cell);
+        let short = form.short.as_ref().map(|short| field.part(short));
+        if !is_shown(field.part(&form.label)) && !short.is_some_and(is_shown) {
+            return Some(self.misnamed(field, form, &told));
+        }
+        let fault = match (&form.width, cell.bits) {
+            (Width::Fixed(bits), Some(cell_bits)) if *bits as usize == cell_bits => return None,
+            (Width::Fixed(bits), Some(cell_bits)) => wide(form, &told, *bits as usize, cell_bits),
+            (Width::Fixed(bits), None) => fixed_in_long(form, &told, *bits),
+            (Width::Measured { unit, tree }, Some(_)) => {
+                let value = tree.constant().map(|value| u64::from(value) * u64::from(*unit));
+                let name = self.unknown_name(field, tree);
+                not_fixed(field, form, &told, value.filter(|bits| (1..=32).contains(bits))).note_if(name)
+            }
+            (Width::Rest, Some(_)) => {
+                let message = format!("{told}; this line: `variable`");
+                Fault::new(form.width_span.clone(), message, "not fixed")
+                    .note("a `variable` field has a row of its own between `:`")
+            }
+            (_, None) => return None,
+        };
+        Some(fault.note_if(self.counts()))
+    }
+
+    /// A width that is only a name, which no field has.
+    fn unknown_name(&self, field: &Field, tree: &Tree) -> Option<String> {
+        let name = field.part(&tree.names().next().filter(|name| *name == tree.span)?);
+        let has =
+            |(other, form): (&Field, &FieldLine)| form.short.as_ref().map(|short| other.part(short) == name);
+        let known = self.fields.right().any(|named| has(named) == Some(true));
+        let note = format!("{} is taken for a short name; a fixed width is a number", quoted(name));
+        (!known).then_some(note)
+    }
+
+    /// A line whose names the cell does not show.
+    fn misnamed(&self, field: &Field, form: &FieldLine, told: &str) -> Fault {
+        let label = field.part(&form.label);
+        let short = form.short.as_ref().map(|short| field.part(short));
+        let own = match short {
+            Some(short) => format!("{} ({})", quoted(label), quoted(short)),
+            None => quoted(label),
+        };
+        let message = format!("{told}; this line: {own}");
+        let elsewhere = self.cells.iter().enumerate().find(|(_, cell)| {
+            self.text(cell) == label || short.is_some_and(|short| self.text(cell) == short)
+        });
+        let place = elsewhere.map(|(index, cell)| {
+            format!(
+                "cell {} (line {}) shows this field: cells and lines have one order",
+                index + 1,
+                cell.line
+            )
+        });
+        let spot = form.label.start..form.short.as_ref().map_or(form.label.end, |short| short.end + 1);
+        Fault::new(spot, message, "another name than its cell shows")
+            .note_if(place)
+            .note_if(self.counts())
+            .note("a cell shows its field's label or short name, letter for letter")
+    }
+
+    /// The first cell that has no line.
+    fn cell_left(&self) -> Option<Mistake> {
+        let index = self.fields.lines.len();
+        let cell = self.cells.get(index)?;
+        let message = format!("no field line for {}", self.told(index, cell));
+        let fault = Fault::new(0..1, message, "a field line is missing here").note_if(self.counts());
+        Some(fault.at(7, self.lines.ended.len() + 1))
+    }
+}
+
+fn wide(form: &FieldLine, told: &str, bits: usize, cell_bits: usize) -> Fault {
+    let message = format!("{told}; this line: {}", counted(bits as u64, "bit"));
+    let cell_label = format!("its cell has {}", counted(cell_bits as u64, "bit"));
+    let between = 2 * bits - 1;
+    Fault::new(form.width_span.clone(), message, cell_label)
+        .note(format!("a cell of {} has {between} characters between its bars", counted(bits as u64, "bit")))
+}
+
+fn fixed_in_long(form: &FieldLine, told: &str, bits: u32) -> Fault {
+    let message = format!("{told}; this line: {}, a fixed width", counted(u64::from(bits), "bit"));
+    Fault::new(form.width_span.clone(), message, "fixed")
+        .note("a field of fixed width has a cell between `|`")
+}
+
+/// A width that is calculated, in a cell between bars. `bits` is what it comes to, where it could be fixed.
+fn not_fixed(field: &Field, form: &FieldLine, told: &str, bits: Option<u64>) -> Fault {
+    let message = format!("{told}; this line: {}", quoted(field.part(&form.width_span)));
+    let fault = Fault::new(form.width_span.clone(), message, "not fixed");
+    match bits {
+        Some(bits) => {
+            fault.note(format!("a calculated width is never fixed: write `{}`", counted(bits, "bit")))
+        }
+        None => fault.note("a calculated width is never fixed: its field has a row of its own between `:`"),
+    }
+}

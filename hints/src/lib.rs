@@ -1,0 +1,40 @@
+//! Hints beside the library's refusals: where the mistake of a page is, what was expected and found there, and how
+//! to mend it; and of a packet, which rule is broken and by which values.
+//!
+//! The verdict is the library's. Pages and tables are read here once more, in plain Rust, only to find the place
+//! within a line and the words; where this reading does not come to the same number and place, only the number's
+//! meaning is told.
+//!
+//! In reading order: `hint` is what is answered, `faults` what is found; `characters` (2), `frame_lines`, `rows`,
+//! `frames` (3), `names`, `operators`, `trees`, `expressions`,
+//! `expression_faults`, `field_lines`, `fields` (5), `sizes` (6, 8, 10),
+//! `cells` (4, 7), `reads` (9) find it, `pages` puts it together, `plain` writes it out. `packets` is for packets.
+
+mod cells;
+mod characters;
+mod expression_faults;
+mod expressions;
+mod faults;
+mod field_lines;
+mod fields;
+mod frame_lines;
+mod frames;
+mod hint;
+mod lines;
+mod meanings;
+mod names;
+mod operators;
+mod packets;
+mod pages;
+mod plain;
+mod reads;
+mod rows;
+mod shown;
+mod sizes;
+mod trees;
+
+pub use hint::{shown_page, Also, Hint, Verdict, ALSO_MOST};
+pub use packets::{fields_before, packet_hint, plain_packet, PacketHint};
+pub use pages::page_hint;
+pub use plain::plain;
+pub use shown::shown;

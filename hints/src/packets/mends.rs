@@ -1,0 +1,50 @@
+//! What to write instead of an expression that faults.
+
+use super::stored::{StoredField, Tree};
+use super::written::{name_of, written};
+use crate::operators::{Operator, OPERATORS};
+
+fn operator(symbol: &str) -> Option<Operator> {
+    OPERATORS.into_iter().find(|operator| operator.symbol == symbol)
+}
+
+/// For an expression that reads a field which is absent.
+pub fn of_absent(what: &str, rule: &Tree, fields: &[StoredField], absent: usize) -> Option<String> {
+    let there = fields.get(absent)?.condition.clone()?;
+    Some(match what {
+        "width" => format!("let this field be `present only when {}`", written(&there, fields)),
+        "condition" => {
+            let tested = Tree::two(operator("&&")?, there, rule.clone());
+            format!("write `present only when {}`", written(&tested, fields))
+        }
+        _ => {
+            let tested = Tree::two(operator("||")?, Tree::Not(Box::new(there)), rule.clone());
+            format!("write `{}`", written(&tested, fields))
+        }
+    })
+}
+
+/// For an expression with a step that leaves the range.
+pub fn of_range(what: &str, rule: &Tree, fields: &[StoredField], step: &Tree) -> Option<String> {
+    let Tree::Two(operation, left, right) = step else { return None };
+    if operation.symbol != "-" {
+        let names: Vec<String> =
+            step.fields().iter().map(|index| format!("`{}`", name_of(fields, *index))).collect();
+        return Some(match names.as_slice() {
+            [] => "use smaller numbers".to_string(),
+            names => format!("keep {} small by a constraint", names.join(" and ")),
+        });
+    }
+    let enough = Tree::two(operator(">=")?, (**left).clone(), (**right).clone());
+    Some(match what {
+        "width" => format!("let this field be `present only when {}`", written(&enough, fields)),
+        "condition" => {
+            let tested = Tree::two(operator("&&")?, enough, rule.clone());
+            format!("write `present only when {}`", written(&tested, fields))
+        }
+        _ => {
+            let tested = Tree::two(operator("&&")?, enough, rule.clone());
+            format!("write `{}`", written(&tested, fields))
+        }
+    })
+}

@@ -1,0 +1,91 @@
+//! Numbers 6, 8 and 10: expressions that are too large, names that are repeated, and what follows the rest field.
+
+use crate::faults::{Fault, Mistake};
+use crate::field_lines::{FieldLine, Width};
+use crate::fields::{Field, Fields};
+use crate::shown::quoted;
+use crate::trees::Tree;
+use std::ops::Range;
+
+const DEPTH_MOST: usize = 12;
+const STORED_MOST: usize = 120;
+
+/// Number 6, the first of each line.
+pub fn sizes(fields: &Fields) -> Vec<Mistake> {
+    let too_large = |(field, form): (&Field, &FieldLine)| {
+        let fault = form.expressions().find_map(|(what, tree)| size_fault(what, tree))?;
+        Some(fault.at(6, field.number))
+    };
+    fields.right().filter_map(too_large).collect()
+}
+
+fn size_fault(what: &str, tree: &Tree) -> Option<Fault> {
+    let (depth, stored) = (tree.depth(), tree.stored());
+    let (deep, long) = (depth > DEPTH_MOST, stored > STORED_MOST);
+    let found = match (deep, long) {
+        (true, true) => format!("depth {depth}, at most 12, and {stored} stored bytes, at most 120"),
+        (true, false) => format!("depth {depth}, at most 12"),
+        (false, true) => format!("{stored} stored bytes, at most 120"),
+        (false, false) => return None,
+    };
+    let mut fault = Fault::new(tree.span.clone(), format!("the {what} is too large: {found}"), found);
+    if deep {
+        fault = fault
+            .note("a number or name has depth 1, an operator 1 more than its deeper operand")
+            .note("parentheses make a long chain less deep, as in `(a+b)+(c+d)`");
+    }
+    if long {
+        fault = fault.note("a number takes 5 bytes, a name 2, an operator 1");
+    }
+    Some(fault)
+}
+
+/// Number 8, the first of each line.
+pub fn repeats(fields: &Fields) -> Vec<Mistake> {
+    let mut found = Vec::new();
+    for (index, (field, form)) in fields.right().enumerate() {
+        let earlier = || fields.right().take(index);
+        let label = earlier().find(|(other, its)| other.part(&its.label) == field.part(&form.label));
+        let same_short = |other: &Field, its: &FieldLine| {
+            let (its, own) = (its.short.as_ref()?, form.short.as_ref()?);
+            (other.part(its) == field.part(own)).then(|| own.clone())
+        };
+        let short = earlier().find_map(|(other, its)| Some((other.number, same_short(other, its)?)));
+        if let Some((other, _)) = label {
+            found.push(repeat(field, &form.label, "label", other.number));
+        } else if let Some((line, own)) = short {
+            found.push(repeat(field, &own, "short name", line));
+        }
+    }
+    found
+}
+
+fn repeat(field: &Field, part: &Range<usize>, what: &str, earlier: usize) -> Mistake {
+    let message = format!("the {what} {} stands on line {earlier} already", quoted(field.part(part)));
+    Fault::new(part.clone(), message, format!("first on line {earlier}"))
+        .note(format!("choose another {what}; large and small letters count"))
+        .at(8, field.number)
+}
+
+/// Number 10, where all lines before one are of right form.
+pub fn behind_rest(fields: &Fields) -> Vec<Mistake> {
+    let rest = |(_, form): &(&Field, &FieldLine)| matches!(form.width, Width::Rest);
+    let Some((first, _)) = fields.right().find(rest) else { return Vec::new() };
+    let behind = fields.right().filter(|(field, _)| field.number > first.number);
+    behind.filter_map(|(field, form)| Some(rest_fault(form, first.number)?.at(10, field.number))).collect()
+}
+
+fn rest_fault(form: &FieldLine, rest: usize) -> Option<Fault> {
+    let (spot, what) = match (&form.width, &form.condition) {
+        (Width::Rest, _) => (form.width_span.clone(), "a second `variable` field"),
+        (Width::Measured { .. }, _) => {
+            (form.width_span.clone(), "a measured width behind the `variable` field")
+        }
+        (Width::Fixed(_), Some(tree)) => (tree.span.clone(), "a condition behind the `variable` field"),
+        (Width::Fixed(_), None) => return None,
+    };
+    let message = format!("{what}, which is on line {rest}");
+    Some(Fault::new(spot, message, format!("line {rest} is `variable`")).note(
+        "one field is `variable` at most; behind it stand only fields of fixed width without a condition",
+    ))
+}
