@@ -21,7 +21,7 @@ use Rattle.rules.specs.Stored.{stored, Good}
 use Rattle.rules.specs.Editions.{current}
 use Rattle.rules.specs.Expressions.{SpellsTree}
 use Rattle.rules.specs.Lines.{Unresolved}
-use Rattle.rules.specs.Frames.{Frame, isFrame}
+use Rattle.rules.specs.Frames.{isFrame}
 use Rattle.rules.specs.Spelling.{Spells}
 use Rattle.rules.specs.Refusals.{ruleBroken, Refuses}
 use Rattle.rules.specs.Reading.{Part, reading, partIn, partBytes}

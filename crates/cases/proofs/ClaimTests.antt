@@ -1,5 +1,5 @@
 -- A claim of the promises holds where its numbers are those that the definitions give.
-use mathlib.Core.Path.{_≡_, refl, ap, sym, subst, _∙_}
+use mathlib.Core.Path.{_≡_, ap, sym, subst, _∙_}
 use mathlib.Core.Bool.{Bool, true, _&&_}
 use mathlib.Core.List.{List, [], _∷_}
 use Prim.Native.Nat.{ℕ}
@@ -7,22 +7,10 @@ use lib.ListN.{length, getD}
 use Rattle.base.specs.Lists.{all, same}
 use Rattle.base.proofs.Lists.{every-passes, same-true}
 use Rattle.base.proofs.Breaks.{and-true}
-use Rattle.rules.specs.Fields.{Description}
-use Rattle.rules.specs.Within.{Within}
 use Rattle.rules.specs.Stored.{stored}
 use Rattle.rules.specs.Reading.{Part, reading, partIn, partBytes}
 use Rattle.rules.specs.Answers.{accepted}
-use Rattle.rules.specs.Promises.{
-  delivered,
-  notGood,
-  packetOutcome,
-  movedBy,
-  Lends,
-  partBy,
-  firstNamed,
-  labelBy,
-  listing,
-}
+use Rattle.rules.specs.Promises.{delivered, notGood, movedBy, Lends, partBy, labelBy}
 use Rattle.laws.specs.Wrong.{
   Claim,
   checks,

@@ -1,5 +1,6 @@
 -- Answers of wrong programs: of each, what is claimed is a promise, and it is false (proofs/RuledOut). A program that
--- keeps the promises is none of these, and no export is: its promise is the entry's. [01, How the promises are judged] [01, Easy ways to go wrong]
+-- keeps the promises is none of these, and no export is: its promise is the entry's.
+-- [01, How the promises are judged] [01, Easy ways to go wrong]
 use mathlib.Core.Path.{_≡_}
 use mathlib.Core.List.{List, [], _∷_, _++_}
 use mathlib.Core.Option.{none, some}
@@ -252,4 +253,6 @@ wrongAnswers =
     ∷ []
 
 abbrev pub wrong : List Claim
-wrong = wrongTables ++ (wrongReadings ++ (wrongListings ++ (wrongParts ++ (wrongNames ++ (wrongLabels ++ wrongAnswers)))))
+wrong =
+    wrongTables
+    ++ (wrongReadings ++ (wrongListings ++ (wrongParts ++ (wrongNames ++ (wrongLabels ++ wrongAnswers)))))

@@ -1,9 +1,9 @@
--- The main results on texts: no text spells two descriptions, and every text and output has exactly one outcome.
+-- No text spells two descriptions, and no text and output has two outcomes.
 use mathlib.Core.Path.{_≡_, refl, ap, ap₂, sym, _∙_, subst}
-use mathlib.Core.Bool.{Bool, true, false}
+use mathlib.Core.Bool.{true, false}
 use mathlib.Core.Logic.{_⊎_, inl, inr}
 use mathlib.Core.List.{List, [], _∷_}
-use mathlib.Core.Option.{Option, none, some, Option·none-ne-some, Option·some-injective}
+use mathlib.Core.Option.{none, some, Option·none-ne-some, Option·some-injective}
 use Prim.Native.Nat.{ℕ, zero, suc, _≤_, _<_}
 use native.Mathlib.Omega.{arith}
 use native.Mathlib.Decide.{decLt}
@@ -23,8 +23,6 @@ use Rattle.rules.specs.Refusals.{
   Formless,
   FirstFormless,
   ruleBroken,
-  Plain,
-  Framed,
   Refuses,
   long,
   byte,
@@ -34,9 +32,8 @@ use Rattle.rules.specs.Refusals.{
   rule,
 }
 use Rattle.rules.specs.Promises.{Outcome, leaves, delivered, ReadsText, spelled, refuses}
-use Rattle.rules.specs.Results.{SpellingUnique, TextTotal, TextUnique}
+use Rattle.rules.specs.Results.{SpellingUnique, TextUnique}
 use Rattle.text_laws.proofs.NamedForms.{FormsOf, forms-named, description-settled}
-use Rattle.text_laws.proofs.Resolve.{resolved}
 use Rattle.text_laws.proofs.AllowedTexts.{spelled-allowed}
 
 -- ── lines without a form ──
@@ -61,18 +58,6 @@ formed-at (x ∷ forms) (l ∷ lines) h (suc i) lt f = formed-at forms lines (h 
 all-formed : (forms : List Form) (lines : List (List ℕ)) → Each (SpellsField Unresolved) forms lines
     → (i : ℕ) → FirstFormless lines i → ⊥
 all-formed forms lines h i p = formed-at forms lines h i (p .there) (p .formless)
-
--- some first line has no form
-abbrev Unformed : List (List ℕ) → Type 0
-Unformed lines = (i : ℕ) × FirstFormless lines i
-
--- each line has a form
-abbrev Formed : List (List ℕ) → Type 0
-Formed lines = (forms : List Form) × Each (SpellsField Unresolved) forms lines
-
--- an outcome there is
-abbrev Answered : List ℕ → List ℕ → Type 0
-Answered text out = (o : Outcome) × ReadsText text out o
 
 -- ── what an outcome says of the text, one stage after the other ──
 
@@ -105,11 +90,8 @@ module _ (text out : List ℕ) where
 
 module _
     (frame-unique : (t : List ℕ) (f g : Frame) → FrameOf t f → FrameOf t g → f ≡ g)
-    (frame-decidable : (t : List ℕ) → Dec ((f : Frame) × FrameOf t f))
     (form-unique : (l : List ℕ) (x y : Form) → SpellsField Unresolved x l → SpellsField Unresolved y l → x ≡ y)
-    (form-decidable : (l : List ℕ) → Dec ((x : Form) × SpellsField Unresolved x l))
     (right-unique : (t : List ℕ) (j k : ℕ) → RightLines t j → RightLines t k → j ≡ k)
-    (right-total : (t : List ℕ) → (k : ℕ) × RightLines t k)
   where
     -- ── forms ──
 
@@ -123,25 +105,6 @@ module _
     forms-unique (x ∷ forms) (y ∷ others) [] p q = absurd p
     forms-unique (x ∷ forms) (y ∷ others) (l ∷ lines) p q =
         ap₂ {C = List Form} _∷_ (form-unique l x y (p .0) (q .0)) (forms-unique forms others lines (p .1) (q .1))
-
-    forms-or : (lines : List (List ℕ)) → Unformed lines ⊎ Formed lines
-    forms-or [] = inr ([], tt)
-    forms-or (l ∷ lines) = go (form-decidable l) (forms-or lines)
-      where
-        go : Dec ((x : Form) × SpellsField Unresolved x l) → Unformed lines ⊎ Formed lines
-            → Unformed (l ∷ lines) ⊎ Formed (l ∷ lines)
-        go (no f) r =
-            inl (0, record { there = omega arith; formless = λ x h. f (x, h); earlier = λ j lt. absurd (omega arith) })
-        go (yes p) (inl q) =
-            inl (
-              suc (q .0),
-              record {
-                there = (let lt : q .0 < length lines = q .1 .there in omega arith);
-                formless = q .1 .formless;
-                earlier = elim [ zero ↦ λ lt f. f (p .0) (p .1) | suc j ↦ λ lt f. q .1 .earlier j (omega arith) f ];
-              },
-            )
-        go (yes p) (inr q) = inr (p .0 ∷ q .0, (p .1, q .1))
 
     -- ── no text spells two descriptions ──
 
@@ -235,47 +198,3 @@ module _
 
     pub text-unique : TextUnique
     text-unique text out o p a b = only-first text out o p (seen text out o a) (seen text out p b)
-
-    -- ── an outcome there is ──
-
-    refusal : (text out : List ℕ) (a : Answer) → Refuses text a → Answered text out
-    refusal text out a r = (leaves a out, refuses r)
-
-    by-rule : (text out : List ℕ) (f : Frame) → Framed text f → (forms : List Form)
-        → Each (SpellsField Unresolved) forms (f .lines) → (b : Option Answer) → ruleBroken f forms ≡ b
-        → Answered text out
-    by-rule text out f p forms h none e =
-        let r = resolved text f forms (p .isFrameOf) (p .few) h e in
-        (delivered (stored (r .0)) out, spelled (p .plain .size) (r .1))
-    by-rule text out f p forms h (some a) e = refusal text out a (rule forms p h e)
-
-    by-form : (text out : List ℕ) (f : Frame) → Framed text f → Answered text out
-    by-form text out f p = go (forms-or (f .lines))
-      where
-        go : Unformed (f .lines) ⊎ Formed (f .lines)
-            → Answered text out
-        go (inl q) = refusal text out (refused 5 (lineNumber f (q .0))) (form p (q .1))
-        go (inr q) = by-rule text out f p (q .0) (q .1) (ruleBroken f (q .0)) refl
-
-    by-number : (text out : List ℕ) (f : Frame) → Plain text → FrameOf text f → (b : Bool) → isOverfull f ≡ b
-        → Answered text out
-    by-number text out f p h true e = refusal text out (refused 4 0) (many p h e)
-    by-number text out f p h false e = by-form text out f (record { plain = p; isFrameOf = h; few = e })
-
-    by-frame : (text out : List ℕ) → Plain text → Dec ((f : Frame) × FrameOf text f) → Answered text out
-    by-frame text out p (yes q) = by-number text out (q .0) p (q .1) (isOverfull (q .0)) refl
-    by-frame text out p (no q) =
-        let r = right-total text in
-        refusal text out (refused 3 (suc (r .0))) (line p (λ f h. q (f, h)) (r .1))
-
-    by-bytes : (text out : List ℕ) → length text ≤ textMost → (b : Bool) → all isAllowed text ≡ b
-        → Answered text out
-    by-bytes text out le true e = by-frame text out (record { size = le; bytes = e }) (frame-decidable text)
-    by-bytes text out le false e = refusal text out (refused 2 0) (byte le e)
-
-    pub text-total : TextTotal
-    text-total text out = go (decLt textMost (length text))
-      where
-        go : Dec (textMost < length text) → Answered text out
-        go (yes h) = refusal text out (refused 1 0) (long h)
-        go (no h) = by-bytes text out (omega arith) (all isAllowed text) refl

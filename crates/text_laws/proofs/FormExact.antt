@@ -1,5 +1,4 @@
--- The reader answers a form to a line exactly when the line spells it: no line spells two, and whether one is spelled
--- can be decided.
+-- The reader answers a form to a line exactly when the line spells it: no line spells two.
 use mathlib.Core.Path.{_≡_, refl, ap}
 use mathlib.Core.Bool.{Bool, true, false, cond, _&&_}
 use mathlib.Core.Logic.{inl, inr}
@@ -7,11 +6,10 @@ use mathlib.Core.List.{List, [], _∷_, _++_}
 use mathlib.Core.Option.{Option, none, some}
 use Prim.Native.Nat.{ℕ}
 use lib.Dec.{eqb}
-use borrow.Author.Tests.{eqb-true, le-leb}
+use borrow.Author.Tests.{eqb-true}
 use Rattle.base.specs.Bytes.{bytes}
 use Rattle.base.specs.Lists.{all, ifAny, listOf}
 use Rattle.base.proofs.Lists.{and-left, and-right, and-both, not-both, all-append}
-use Rattle.rules.specs.Limits.{numberMost}
 use Rattle.rules.specs.Names.{isPrintable, isLabel, isShort}
 use Rattle.rules.specs.Trees.{Tree, isInRange}
 use Rattle.rules.specs.Fields.{Width, fixed, measured, rest, Form, widthTrees, trees}
@@ -159,18 +157,10 @@ form-complete l x q =
     rw (p .isText) (rw (field-finds x (p .width) (p .constraint) (p .condition) (p .remark) (q .formed) (p .isWidth)
     (p .isConstraint) (p .isCondition)) (rw (remark-finds (p .remark) (p .isRemark))))
 
--- ── unique and decidable ──
+-- ── unique ──
 
 pub form-unique : (l : List ℕ) (x y : Form) → SpellsField Unresolved x l → SpellsField Unresolved y l → x ≡ y
 form-unique l x y p q =
     let e : readForm l ≡ some x = form-complete l x p in
     let f : readForm l ≡ some y = form-complete l y q in
     cc
-
-pub form-decidable : (l : List ℕ) → Dec ((x : Form) × SpellsField Unresolved x l)
-form-decidable l = go (readForm l) refl
-  where
-    go : (o : Option Form) → readForm l ≡ o → Dec ((x : Form) × SpellsField Unresolved x l)
-    go none e = no (λ p. let f : readForm l ≡ some (p .0) = form-complete l (p .0) (p .1) in
-        let z : _≡_ {A = ℕ} 0 1 = cc in absurd (not-both true refl (ap (λ (n : ℕ). eqb n 0) z)))
-    go (some x) e = yes (x, form-sound l x e)

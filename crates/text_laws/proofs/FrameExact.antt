@@ -1,5 +1,4 @@
--- The frame of a text: what is read is its frame, its frame is read, it has one frame at most, and whether it has one
--- is decided.
+-- The frame of a text: what is read is its frame, its frame is read, and it has one frame at most.
 use mathlib.Core.Path.{_≡_, refl, ap, sym, _∙_}
 use mathlib.Core.Bool.{Bool, true, false, cond}
 use mathlib.Core.List.{List, [], _∷_, _++_, append-nil}
@@ -93,14 +92,7 @@ frame-complete t f x =
 pub frame-none : (t : List ℕ) → readFrame t ≡ none → (f : Frame) → FrameOf t f → ⊥
 frame-none t e f x = let p = frame-complete t f x in absurd (let z : _≡_ {A = ℕ} 0 1 = cc in omega arith)
 
--- ── one frame at most, and decided ──
+-- ── one frame at most ──
 
 pub frame-unique : (t : List ℕ) (f g : Frame) → FrameOf t f → FrameOf t g → f ≡ g
 frame-unique t f g x y = let p = frame-complete t f x in let q = frame-complete t g y in cc
-
-pub frame-decidable : (t : List ℕ) → Dec ((f : Frame) × FrameOf t f)
-frame-decidable t = go (readFrame t) refl
-  where
-    go : (o : Option Frame) → readFrame t ≡ o → Dec ((f : Frame) × FrameOf t f)
-    go none e = no (λ x. frame-none t e (x .0) (x .1))
-    go (some f) e = yes (f, frame-sound t f e)

@@ -151,9 +151,6 @@ right-lines t = record {
     there : rightFrom begun (linesOf t) ≤ lineCount t
     there = rw (lineCount-lines t) (right-there (linesOf t) begun)
 
-pub right-total : (t : List ℕ) → (k : ℕ) × RightLines t k
-right-total t = (rightLines t, right-lines t)
-
 pub right-unique : (t : List ℕ) (j k : ℕ) → RightLines t j → RightLines t k → j ≡ k
 right-unique t j k x y = go (ltb j k) refl (ltb k j) refl
   where

@@ -17,7 +17,7 @@ use Rattle.rules.specs.declared.ValueType.{ValueType}
 use Rattle.rules.specs.Limits.{fieldsMost}
 use Rattle.rules.specs.Names.{isLabel}
 use Rattle.rules.specs.Trees.{Tree, hasType}
-use Rattle.rules.specs.Fields.{Width, fixed, measured, rest, Field, Form, Description, isFixed, readNames}
+use Rattle.rules.specs.Fields.{Width, fixed, measured, rest, Field, Form, isFixed, readNames}
 use Rattle.rules.specs.Within.{Within, isRowWidth, keepsForm, keepsNames, keepsTypes, widthHasType, nameReadable}
 use Rattle.rules.specs.Lines.{SpellsField, Unresolved}
 use Rattle.rules.specs.Frames.{Frame, FrameOf, isFrame, isRow, isLine, cells, isOverfull}
@@ -191,8 +191,3 @@ pub resolved-spells : (text : List ℕ) (f : Frame) (forms : List Form) → Fram
     → Each (SpellsField Unresolved) forms (f .lines) → ruleBroken f forms ≡ none → Spells text (described f forms)
 resolved-spells text f forms frame few spelled kept =
     resolved-kept text f forms frame few spelled (rules-kept f forms kept)
-
-pub resolved : (text : List ℕ) (f : Frame) (forms : List Form) → FrameOf text f → isOverfull f ≡ false
-    → Each (SpellsField Unresolved) forms (f .lines) → ruleBroken f forms ≡ none → (d : Description) × Spells text d
-resolved text f forms frame few spelled kept =
-    (described f forms, resolved-spells text f forms frame few spelled kept)

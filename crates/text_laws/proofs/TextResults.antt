@@ -7,24 +7,23 @@ use Rattle.rules.specs.declared.TextAnswer.{TextAnswer}
 use Rattle.rules.specs.Promises.{ReadsText, leaves}
 use Rattle.rules.specs.Results.{SpellingUnique, TextTotal, TextUnique}
 use Rattle.laws.proofs.Settled as Settled
-use Rattle.text_laws.proofs.FormExact.{form-unique, form-decidable}
-use Rattle.text_laws.proofs.FrameExact.{frame-unique, frame-decidable}
-use Rattle.text_laws.proofs.FrameRight.{right-unique, right-total}
+use Rattle.text_laws.proofs.FormExact.{form-unique}
+use Rattle.text_laws.proofs.FrameExact.{frame-unique}
+use Rattle.text_laws.proofs.FrameRight.{right-unique}
 use Rattle.text_laws.proofs.Answered as Answered
+use Rattle.text_laws.proofs.TextSeen.{seen, outcomeOf, outcome-is}
 use Rattle.rules.specs.Answers.{ofText}
 
 pub spelling-unique : SpellingUnique
-spelling-unique =
-    Answered.spelling-unique frame-unique frame-decidable form-unique form-decidable right-unique right-total
+spelling-unique = Answered.spelling-unique frame-unique form-unique right-unique
 
 pub text-total : TextTotal
-text-total =
-    Answered.text-total frame-unique frame-decidable form-unique form-decidable right-unique right-total
+text-total text out = (outcomeOf (seen text) out, outcome-is text out)
 
 pub text-unique : TextUnique
-text-unique =
-    Answered.text-unique frame-unique frame-decidable form-unique form-decidable right-unique right-total
+text-unique = Answered.text-unique frame-unique form-unique right-unique
 
-pub text-settled : (text out : List ℕ) (a b : TextAnswer) (after other : List ℕ) → ReadsText text out (leaves (ofText a) after)
+pub text-settled : (text out : List ℕ) (a b : TextAnswer) (after other : List ℕ)
+    → ReadsText text out (leaves (ofText a) after)
     → ReadsText text out (leaves (ofText b) other) → (a ≡ b) × (after ≡ other)
 text-settled = Settled.text-settled text-unique
