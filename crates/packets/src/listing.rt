@@ -1,7 +1,7 @@
 // A packet's listing, written into a lent buffer.
+use crate::answers::amount_of;
 use crate::answers::number_of;
 use crate::answers::place_of;
-use crate::answers::amount_of;
 use crate::lines::put_line;
 use crate::readings::read_run;
 use crate::records::parts_at;

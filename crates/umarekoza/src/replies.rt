@@ -1,8 +1,8 @@
 // Answers as replies.
 use crate::Reply;
+use packets::answers::amount_of;
 use packets::answers::number_of;
 use packets::answers::place_of;
-use packets::answers::amount_of;
 use rules::FieldAnswer;
 use rules::ListingAnswer;
 use rules::PacketAnswer;
