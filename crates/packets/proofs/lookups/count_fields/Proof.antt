@@ -26,7 +26,8 @@ two-at-requires c κs = search needs
 
 returns-2 : tie.Need-returns-2
 returns-2 c =
-    let g = good-from _ _ _ (c .before .before .before .before .check-table .ensures) (c .before .before .checked .given .1) in
+    let g = good-from _ _ _ (c .before .before .before .before .check-table .ensures) (c .before .before .checked
+    .given .1) in
     rw (c .two-at .ensures .0) (count-told (now (c .before .before .before .before .before .before .args .table)) g)
 
 pub count-fields-spec : {M : Type 1} → statement M

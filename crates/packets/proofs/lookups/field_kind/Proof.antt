@@ -15,7 +15,8 @@ kind-of-requires : tie.Need-kind-of-requires
 kind-of-requires c κs = search needs
 
 returns : tie.Need-returns
-returns c = rw (c .kind-of .ensures) (kind-told (now (c .before .before .before .args .table)) (c .before .before .before .args .index) (c .before .find-record .result) (c .before .find-record .ensures))
+returns c = rw (c .kind-of .ensures) (kind-told (now (c .before .before .before .args .table)) (c .before .before
+    .before .args .index) (c .before .find-record .result) (c .before .find-record .ensures))
 
 pub field-kind-spec : {M : Type 1} → statement M
 field-kind-spec = tie.close (tie.spec find-record-requires kind-of-requires returns)

@@ -15,7 +15,8 @@ label-of-requires : tie.Need-label-of-requires
 label-of-requires c κs = search needs
 
 returns : tie.Need-returns
-returns c = rw (c .label-of .ensures) (label-on (now (c .before .before .before .args .table)) (c .before .before .before .args .index) (c .before .find-record .result) (c .before .find-record .ensures))
+returns c = rw (c .label-of .ensures) (label-on (now (c .before .before .before .args .table)) (c .before .before
+    .before .args .index) (c .before .find-record .result) (c .before .find-record .ensures))
 
 pub find-label-spec : {M : Type 1} → statement M
 find-label-spec = tie.close (tie.spec find-record-requires label-of-requires returns)

@@ -32,7 +32,8 @@ two-at-requires c κs = search needs
 returns-2 : tie.Need-returns-2
 returns-2 c =
     let s = now (c .before .before .before .before .before .before .before .args .table) in
-    let g = good-from _ _ _ (c .before .before .before .before .before .check-table .ensures) (c .before .before .before .checked .given .1) in
+    let g = good-from _ _ _ (c .before .before .before .before .before .check-table .ensures) (c .before .before
+    .before .checked .given .1) in
     (g, omega (arith, c .before .two-at .ensures .0))
 
 place-behind-requires : tie.Need-place-behind-requires
@@ -40,10 +41,12 @@ place-behind-requires c κs = search needs
 
 returns-3 : tie.Need-returns-3
 returns-3 c =
-    let s = now (c .before .before .before .before .before .before .before .before .before .args .table) in
-    let g = good-from _ _ _ (c .before .before .before .before .before .before .before .check-table .ensures) (c .before .before .before .before .before .checked .given .1) in
-    let lt : c .before .before .before .before .before .before .before .before .before .args .index < twoAt s 6 = omega (arith, c .before .before .before .two-at .ensures .0) in
-    let low = rw (← c .before .place-behind .ensures) at (placed s (c .before .before .before .before .before .before .before .before .before .args .index) g lt .is-low) in
+    let c₈ = c .before .before .before .before .before .before .before .before in
+    let s = now (c₈ .before .args .table) in
+    let g = good-from _ _ _ (c .before .before .before .before .before .before .before .check-table .ensures) (c
+    .before .before .before .before .before .checked .given .1) in
+    let lt : c₈ .before .args .index < twoAt s 6 = omega (arith, c .before .before .before .two-at .ensures .0) in
+    let low = rw (← c .before .place-behind .ensures) at (placed s (c₈ .before .args .index) g lt .is-low) in
     absurd (omega (arith, low))
 
 parts-at-requires : tie.Need-parts-at-requires
@@ -51,9 +54,15 @@ parts-at-requires c κs = search needs
 
 returns-4 : tie.Need-returns-4
 returns-4 c =
-    let s = now (c .before .before .before .before .before .before .before .before .before .before .args .table) in
-    let g = good-from _ _ _ (c .before .before .before .before .before .before .before .before .check-table .ensures) (c .before .before .before .before .before .before .checked .given .1) in
-    let lt : c .before .before .before .before .before .before .before .before .before .before .args .index < twoAt s 6 = omega (arith, c .before .before .before .before .two-at .ensures .0) in
+    let c₈ = c .before .before .before .before .before .before .before .before in
+    let s = now (c₈ .before .before .args .table) in
+    let g = good-from _ _ _ (c₈ .check-table .ensures) (c .before .before .before .before .before .before .checked
+    .given .1) in
+    let lt : c₈ .before .before .args .index < twoAt s 6 = omega (
+      arith,
+      c .before .before .before .before .two-at
+          .ensures .0,
+    ) in
     (g, lt, rw (← c .before .before .place-behind .ensures) (c .parts-at .ensures))
 
 pub find-record-spec : {M : Type 1} → statement M

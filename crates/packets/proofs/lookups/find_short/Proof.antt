@@ -15,7 +15,8 @@ short-of-requires : tie.Need-short-of-requires
 short-of-requires c κs = search needs
 
 returns : tie.Need-returns
-returns c = rw (c .short-of .ensures) (short-on (now (c .before .before .before .args .table)) (c .before .before .before .args .index) (c .before .find-record .result) (c .before .find-record .ensures))
+returns c = rw (c .short-of .ensures) (short-on (now (c .before .before .before .args .table)) (c .before .before
+    .before .args .index) (c .before .find-record .result) (c .before .find-record .ensures))
 
 pub find-short-spec : {M : Type 1} → statement M
 find-short-spec = tie.close (tie.spec find-record-requires short-of-requires returns)
