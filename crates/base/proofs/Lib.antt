@@ -5,8 +5,6 @@
 -- Lookups  tests and first breaks over joined and related lists
 -- Scans    tests over a list, one index after the other
 -- Joined   parts one after the other
--- Places   where bytes stand: joined, split, the byte in front, the end
--- Writing  bytes written one behind the other
 -- Also     facts one behind the other
 pub mod Lists
 pub mod Decimal
@@ -15,6 +13,4 @@ pub mod Tables
 pub mod Lookups
 pub mod Scans
 pub mod Joined
-pub mod Places
-pub mod Writing
 pub mod Also

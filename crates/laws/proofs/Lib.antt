@@ -13,6 +13,7 @@
 -- RunCover      the entries in the run after an accepted packet cover it
 -- RuledOut        the answers of wrong programs (specs/Wrong) are ruled out
 -- RuledOutAlways  what is ruled out for all inputs
+-- Places        where bytes stand: joined, split, the byte in front, the end
 pub mod WithinTest
 pub mod Readers
 pub mod ReadsNumbers
@@ -28,3 +29,4 @@ pub mod Settled
 pub mod RunCover
 pub mod RuledOut
 pub mod RuledOutAlways
+pub mod Places

@@ -4,8 +4,8 @@ use mathlib.Core.List.{List, [], _∷_}
 use Prim.Native.Nat.{ℕ, _+_, _*_, _/_, _%_, _<_, _≤_}
 use native.Mathlib.Omega.{arith}
 use lib.ListN.{length, getD}
-use Rattle.base.specs.Places.{Stands, IsBytes, twoAt, fourAt}
-use Rattle.base.proofs.Places.{stands-none, stands-byte, stands-rest, stands-next, stands-front}
+use Rattle.laws.specs.Places.{Stands, IsBytes, twoAt, fourAt}
+use Rattle.laws.proofs.Places.{stands-none, stands-byte, stands-rest, stands-next, stands-front}
 use Rattle.rules.specs.Limits.{numberMost}
 use Rattle.rules.specs.Trees.{le2, le4}
 

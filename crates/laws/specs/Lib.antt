@@ -1,2 +1,4 @@
 -- Wrong  answers of wrong programs, of which the promises are false
+-- Places  where bytes stand in a list: a helper of code and proofs; no public promise rests on it
 pub mod Wrong
+pub mod Places

@@ -10,7 +10,7 @@ use lib.Dec.{eqb}
 use lib.ListN.{length, getD}
 use borrow.Author.Tests.{eqb-true, eqb-false, eq-eqb}
 use Rattle.base.specs.Lists.{all, between, ifAny}
-use Rattle.base.specs.Places.{IsBytes}
+use Rattle.laws.specs.Places.{IsBytes}
 use Rattle.base.proofs.Lists.{and-left, and-right, and-both, or-cases, between-true}
 use Rattle.base.proofs.Lists as lists
 use Rattle.base.proofs.Breaks.{all-one}

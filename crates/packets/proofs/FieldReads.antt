@@ -9,7 +9,7 @@ use lib.Dec.{ltb, leb, eqb}
 use lib.ListN.{length}
 use borrow.Author.Tests.{eq-eqb, ne-eqb, eqb-true}
 use Rattle.base.specs.Lists.{all, ifAny, listOf}
-use Rattle.base.specs.Places.{Stands}
+use Rattle.laws.specs.Places.{Stands}
 use Rattle.base.proofs.Breaks.{and-true, or-true, all-one}
 use Rattle.rules.specs.declared.Fault.the-variants.{BitsMissing}
 use Rattle.rules.specs.declared.ValueType.{ValueType}

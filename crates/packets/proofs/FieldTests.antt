@@ -9,7 +9,7 @@ use lib.Dec.{leb, eqb}
 use lib.ListN.{length}
 use borrow.Author.Tests.{leb-true, le-leb, eqb-true, eq-eqb}
 use Rattle.base.specs.Lists.{all, between, ifAny, listOf}
-use Rattle.base.specs.Places.{Stands, IsBytes, twoAt}
+use Rattle.laws.specs.Places.{Stands, IsBytes, twoAt}
 use Rattle.base.proofs.Lists.{and-left, and-right, and-both}
 use Rattle.base.proofs.Lists as lists
 use Rattle.base.proofs.Breaks as breaks

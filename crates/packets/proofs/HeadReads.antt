@@ -5,8 +5,8 @@ use Prim.Native.Nat.{ℕ, _+_, _≤_}
 use native.Mathlib.Omega.{arith}
 use lib.ListN.{length}
 use Rattle.base.specs.Lists.{joined}
-use Rattle.base.specs.Places.{Stands, twoAt}
-use Rattle.base.proofs.Places.{stands-left, stands-right, stands-end}
+use Rattle.laws.specs.Places.{Stands, twoAt}
+use Rattle.laws.proofs.Places.{stands-left, stands-right, stands-end}
 use Rattle.rules.specs.Fields.{Description}
 use Rattle.rules.specs.Within.{Within}
 use Rattle.rules.specs.Stored.{recordOf, storedField, headBody, stored, storedIn}

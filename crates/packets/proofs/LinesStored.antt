@@ -11,8 +11,8 @@ use lib.ListN.{length, getD, take, drop}
 use lib.Seq.{take-at}
 use borrow.Author.Tests.{le-ltb}
 use Rattle.base.specs.Lists.{all, joined, firstBreak}
-use Rattle.base.specs.Places.{Stands}
-use Rattle.base.proofs.Places.{stands-left, stands-right, stands-some}
+use Rattle.laws.specs.Places.{Stands}
+use Rattle.laws.proofs.Places.{stands-left, stands-right, stands-some}
 use Rattle.base.proofs.Breaks.{firstBreak-cons}
 use Rattle.rules.specs.Names.{isLabel}
 use Rattle.rules.specs.Fields.{Width, fixed, measured, rest, Field, isFixed, isFixedWidth}

@@ -12,7 +12,7 @@ use Rattle.base.specs.Bytes.{bytes}
 use Rattle.rules.specs.Limits.{fieldsMost, labelMost}
 use Rattle.packets.specs.declared.records.Parts.{Parts}
 use Rattle.packets.specs.Parts.{tableMost, partsAt}
-use Rattle.base.specs.Writes.{Writes}
+use Rattle.writing.specs.Writes.{Writes}
 use Rattle.rules.specs.Listing.{refusedLine, bitsLine}
 use Rattle.writing.specs.Fits.{Fits}
 use Rattle.writing.proofs.FitsLaws.{fits-none, fits-join}

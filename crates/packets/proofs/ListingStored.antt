@@ -5,7 +5,7 @@ use Prim.Native.Nat.{ℕ, _+_, _<_, _≤_}
 use native.Mathlib.Omega.{arith}
 use native.Mathlib.Nat.{zero-add}
 use lib.ListN.{length, getD}
-use Rattle.base.specs.Places.{twoAt}
+use Rattle.laws.specs.Places.{twoAt}
 use Rattle.rules.specs.declared.PacketAnswer.{PacketAnswer}
 use Rattle.rules.specs.declared.TableAnswer.{TableAnswer}
 use Rattle.rules.specs.Fields.{Description}
@@ -16,7 +16,7 @@ use Rattle.rules.specs.Listing.{refusedLine, bitsLine, linesText, entryLines}
 use Rattle.rules.specs.Answers.{Answer, accepted, ofTable, ofPacket}
 use Rattle.rules.specs.Promises.{readingAnswer, listing, refusal, notGood, byTable, ChecksTable}
 use Rattle.packets.specs.RunRead.{RunHolds}
-use Rattle.base.specs.Writes.{Writes}
+use Rattle.writing.specs.Writes.{Writes}
 use Rattle.packets.specs.Listings.{ListsStored, ListsInto}
 use Rattle.packets.specs.LineTexts.{entryIn, linesFrom}
 use Rattle.packets.proofs.TableHead.{head-count, fields-stand}

@@ -8,8 +8,8 @@ use native.Mathlib.Omega.{arith}
 use lib.ListN.{length, take, drop, getElem?}
 use borrow.Author.Tests.{eq-eqb, ne-eqb}
 use Rattle.base.specs.Lists.{ifAny, joined}
-use Rattle.base.specs.Places.{twoAt}
-use Rattle.base.proofs.Places.{stands-some}
+use Rattle.laws.specs.Places.{twoAt}
+use Rattle.laws.proofs.Places.{stands-some}
 use Rattle.rules.specs.declared.TableAnswer.{TableAnswer}
 use Rattle.rules.specs.declared.FieldAnswer.{FieldAnswer}
 use Rattle.rules.specs.Names.{isShort}

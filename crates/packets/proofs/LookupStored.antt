@@ -11,8 +11,8 @@ use lib.Seq.{take-at}
 use borrow.Author.Tests.{le-ltb, eq-eqb, ne-eqb}
 use Rattle.base.specs.Lists.{all, any, same, ifAny, listOf, joined, firstBreak}
 use Rattle.rules.specs.declared.FieldAnswer.{FieldAnswer}
-use Rattle.base.specs.Places.{Stands}
-use Rattle.base.proofs.Places.{stands-left, stands-right, stands-some}
+use Rattle.laws.specs.Places.{Stands}
+use Rattle.laws.proofs.Places.{stands-left, stands-right, stands-some}
 use Rattle.base.proofs.Breaks.{firstBreak-cons}
 use Rattle.rules.specs.Names.{isLabel, isShort}
 use Rattle.rules.specs.Fields.{Field, cellNames}

@@ -10,7 +10,7 @@ use lib.ListN.{length, getD, length-append}
 use lib.Seq.{getD-append-seam}
 use borrow.Author.Tests.{ltb-true, ltb-false, eqb-true, eq-eqb, not-true}
 use Rattle.base.specs.Lists.{any, same, ifAny, joined, firstBreak}
-use Rattle.base.specs.Places.{Stands}
+use Rattle.laws.specs.Places.{Stands}
 use Rattle.base.proofs.Lists.{
   and-left,
   and-right,
@@ -22,7 +22,7 @@ use Rattle.base.proofs.Lists.{
   same-true,
   same-self,
 }
-use Rattle.base.proofs.Places.{stands-left, stands-right}
+use Rattle.laws.proofs.Places.{stands-left, stands-right}
 use Rattle.base.proofs.Breaks.{firstBreak-cons}
 use Rattle.rules.specs.Limits.{shortMost}
 use Rattle.rules.specs.Names.{isShort}

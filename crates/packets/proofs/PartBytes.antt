@@ -10,8 +10,8 @@ use lib.Dec.{leb, eqb}
 use lib.ListN.{length, getD, drop}
 use lib.Seq.{take-append-seam}
 use borrow.Author.Tests.{leb-true, le-leb, eqb-true, eq-eqb, ne-eqb}
-use Rattle.base.specs.Places.{Stands, IsBytes}
-use Rattle.base.proofs.Places.{stands-part, stands-none, stands-byte}
+use Rattle.laws.specs.Places.{Stands, IsBytes}
+use Rattle.laws.proofs.Places.{stands-part, stands-none, stands-byte}
 use Rattle.base.proofs.Lists.{and-left, and-right, and-both, not-both, or-cases}
 use Rattle.rules.specs.declared.Op.{Op}
 use Rattle.rules.specs.declared.Op.the-variants.{Or, And, Eq, Ne, Lt, Le, Gt, Ge, Add, Sub, Mul}

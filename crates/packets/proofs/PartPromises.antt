@@ -7,7 +7,7 @@ use Prim.Native.Nat.{ℕ, zero, suc, _+_, _*_, _/_, _%_, _<_, _≤_}
 use native.Mathlib.Omega.{arith}
 use lib.Dec.{eqb}
 use lib.ListN.{length, getD, take, drop, List·getD-eq-default}
-use Rattle.base.specs.Places.{twoAt}
+use Rattle.laws.specs.Places.{twoAt}
 use Rattle.rules.specs.declared.TableAnswer.{TableAnswer}
 use Rattle.rules.specs.declared.PacketAnswer.{PacketAnswer}
 use Rattle.rules.specs.Stored.{Good}

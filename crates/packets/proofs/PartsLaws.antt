@@ -4,8 +4,8 @@ use mathlib.Core.List.{List}
 use Prim.Native.Nat.{ℕ, _+_, _-_, _<_, _≤_}
 use native.Mathlib.Omega.{arith}
 use lib.ListN.{length}
-use Rattle.base.specs.Places.{Stands, IsBytes, twoAt}
-use Rattle.base.proofs.Places.{stands-none, stands-join, stands-left, stands-right}
+use Rattle.laws.specs.Places.{Stands, IsBytes, twoAt}
+use Rattle.laws.proofs.Places.{stands-none, stands-join, stands-left, stands-right}
 use Rattle.laws.proofs.PlacesOfNumbers.{length-le2, stands-two, two-stands}
 use Rattle.rules.specs.Trees.{le2}
 use Rattle.rules.specs.Fields.{Width, fixed, measured, rest}

@@ -5,8 +5,8 @@ use mathlib.Core.List.{List, [], _∷_, _++_}
 use Prim.Native.Nat.{ℕ, _+_, _*_, _-_, _<_, _≤_}
 use native.Mathlib.Omega.{arith}
 use lib.ListN.{length, length-append}
-use Rattle.base.specs.Places.{Stands, IsBytes, twoAt}
-use Rattle.base.proofs.Places.{stands-join, stands-left, stands-right}
+use Rattle.laws.specs.Places.{Stands, IsBytes, twoAt}
+use Rattle.laws.proofs.Places.{stands-join, stands-left, stands-right}
 use Rattle.laws.proofs.PlacesOfNumbers.{length-le2, stands-two, two-stands}
 use Rattle.rules.specs.Trees.{Tree, le2}
 use Rattle.rules.specs.Fields.{Width, fixed, measured, rest, Field}

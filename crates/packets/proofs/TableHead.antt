@@ -8,8 +8,8 @@ use lib.ListN.{length, length-append}
 use borrow.Author.Tests.{leb-true}
 use lib.Dec.{leb}
 use Rattle.base.specs.Lists.{joined}
-use Rattle.base.specs.Places.{Stands, twoAt}
-use Rattle.base.proofs.Places.{stands-all, stands-left, stands-right}
+use Rattle.laws.specs.Places.{Stands, twoAt}
+use Rattle.laws.proofs.Places.{stands-all, stands-left, stands-right}
 use Rattle.base.proofs.Breaks.{and-true}
 use Rattle.rules.specs.Limits.{fieldsMost}
 use Rattle.rules.specs.Trees.{le2}

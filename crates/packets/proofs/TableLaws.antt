@@ -8,9 +8,9 @@ use lib.Dec.{leb}
 use lib.ListN.{length}
 use borrow.Author.Tests.{le-leb}
 use Rattle.base.specs.Lists.{any, joined}
-use Rattle.base.specs.Places.{IsBytes, twoAt}
+use Rattle.laws.specs.Places.{IsBytes, twoAt}
 use Rattle.base.proofs.Lists.{and-left, and-right, and-both, not-both}
-use Rattle.base.proofs.Places.{stands-join, stands-left, stands-right}
+use Rattle.laws.proofs.Places.{stands-join, stands-left, stands-right}
 use Rattle.rules.specs.declared.TableAnswer.{TableAnswer}
 use Rattle.rules.specs.Fields.{Field, Description}
 use Rattle.rules.specs.Stored.{recordOf, storedField, headBody, stored, Good, storedIn}

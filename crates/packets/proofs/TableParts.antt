@@ -10,9 +10,9 @@ use lib.ListN.{length, length-append}
 use lib.Seq.{drop-length}
 use borrow.Author.Tests.{le-leb, eqb-true, eq-eqb}
 use Rattle.base.specs.Lists.{between, joined, firstBreak}
-use Rattle.base.specs.Places.{Stands, IsBytes, twoAt}
+use Rattle.laws.specs.Places.{Stands, IsBytes, twoAt}
 use Rattle.base.proofs.Lists.{and-left, and-right, and-both, between-true}
-use Rattle.base.proofs.Places.{stands-none, stands-all}
+use Rattle.laws.proofs.Places.{stands-none, stands-all}
 use Rattle.base.proofs.Breaks.{firstBreak-cons}
 use Rattle.rules.specs.Limits.{fieldsMost}
 use Rattle.rules.specs.Trees.{le2}

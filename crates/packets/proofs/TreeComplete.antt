@@ -6,9 +6,9 @@ use Prim.Native.Nat.{ℕ, _+_, _-_, _≤_}
 use native.Mathlib.Omega.{arith}
 use lib.ListN.{length, getD}
 use borrow.Author.Tests.{le-ltb}
-use Rattle.base.specs.Places.{Stands}
+use Rattle.laws.specs.Places.{Stands}
 use Rattle.base.proofs.Lists.{and-left, and-right}
-use Rattle.base.proofs.Places.{stands-in, stands-byte, stands-rest, stands-left, stands-right, stands-some}
+use Rattle.laws.proofs.Places.{stands-in, stands-byte, stands-rest, stands-left, stands-right, stands-some}
 use Rattle.rules.specs.declared.ValueType.{ValueType}
 use Rattle.rules.specs.declared.ValueType.the-variants.{Number, YesNo}
 use Rattle.rules.specs.Operators.{takes, gives}

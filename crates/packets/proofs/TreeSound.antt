@@ -7,9 +7,9 @@ use native.Mathlib.Omega.{arith}
 use lib.Dec.{ltb}
 use lib.ListN.{length, getD}
 use borrow.Author.Tests.{le-leb, ltb-true, ltb-false}
-use Rattle.base.specs.Places.{Stands, IsBytes, fourAt}
+use Rattle.laws.specs.Places.{Stands, IsBytes, fourAt}
 use Rattle.base.proofs.Lists.{and-both}
-use Rattle.base.proofs.Places.{stands-none, stands-front, stands-join, four-below}
+use Rattle.laws.proofs.Places.{stands-none, stands-front, stands-join, four-below}
 use Rattle.laws.proofs.PlacesOfNumbers.{four-stands}
 use Rattle.rules.specs.declared.Op.{Op}
 use Rattle.rules.specs.declared.ValueType.{ValueType}

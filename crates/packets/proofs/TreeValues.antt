@@ -7,9 +7,9 @@ use native.Mathlib.Omega.{arith}
 use lib.Dec.{eqb}
 use lib.ListN.{length}
 use borrow.Author.Tests.{le-ltb, leb-true}
-use Rattle.base.specs.Places.{Stands}
+use Rattle.laws.specs.Places.{Stands}
 use Rattle.base.proofs.Lists.{and-left, and-right}
-use Rattle.base.proofs.Places.{stands-in, stands-byte, stands-rest, stands-left, stands-right, stands-some}
+use Rattle.laws.proofs.Places.{stands-in, stands-byte, stands-rest, stands-left, stands-right, stands-some}
 use Rattle.laws.proofs.PlacesOfNumbers.{length-le4, stands-four}
 use Rattle.rules.specs.declared.Op.{Op}
 use Rattle.rules.specs.declared.ValueType.{ValueType}

@@ -8,9 +8,9 @@ use native.Mathlib.Omega.{arith}
 use lib.Dec.{eqb}
 use lib.ListN.{length}
 use Rattle.base.specs.Lists.{all, any, ifAny, joined, firstBreak}
-use Rattle.base.specs.Places.{Stands, IsBytes}
+use Rattle.laws.specs.Places.{Stands, IsBytes}
 use Rattle.base.proofs.Lists.{and-left, and-right, and-both}
-use Rattle.base.proofs.Places.{stands-none, stands-join, stands-left, stands-right}
+use Rattle.laws.proofs.Places.{stands-none, stands-join, stands-left, stands-right}
 use Rattle.base.proofs.Breaks.{firstBreak-cons}
 use Rattle.rules.specs.declared.ValueType.the-variants.{YesNo}
 use Rattle.rules.specs.Trees.{isSmall, hasType}

@@ -10,9 +10,9 @@ use lib.Dec.{ltb, eqb}
 use lib.ListN.{length, length-append}
 use borrow.Author.Tests.{eqb-true, le-ltb, lt-ltb}
 use Rattle.base.specs.Lists.{joined, sum, firstBreak}
-use Rattle.base.specs.Places.{Stands, twoAt}
+use Rattle.laws.specs.Places.{Stands, twoAt}
 use Rattle.base.proofs.Breaks.{firstBreak-cons}
-use Rattle.base.proofs.Places.{stands-left, stands-right}
+use Rattle.laws.proofs.Places.{stands-left, stands-right}
 use Rattle.rules.specs.declared.PacketAnswer.{PacketAnswer}
 use Rattle.rules.specs.Fields.{Field, Description, fixedBits}
 use Rattle.rules.specs.Within.{keepsForm, keepsSize, keepsTypes, indexReadable, Within}

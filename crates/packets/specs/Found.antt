@@ -6,7 +6,7 @@ use mathlib.Core.List.{List}
 use Prim.Native.Nat.{ℕ, _<_, _≤_}
 use lib.Dec.{eqb}
 use lib.ListN.{length}
-use Rattle.base.specs.Places.{twoAt}
+use Rattle.laws.specs.Places.{twoAt}
 use Rattle.rules.specs.declared.FieldAnswer.{FieldAnswer}
 use Rattle.rules.specs.Reading.{Part}
 use Rattle.rules.specs.Stored.{Good}

@@ -8,7 +8,7 @@ use Rattle.rules.specs.Within.{Within}
 use Rattle.rules.specs.Stored.{stored, Good}
 use Rattle.rules.specs.Listing.{linesText}
 use Rattle.rules.specs.Promises.{notGood, byTable, refusal, listing}
-use Rattle.base.specs.Writes.{Writes}
+use Rattle.writing.specs.Writes.{Writes}
 
 -- by each description that the table stores
 pub record ListsStored (table packet before after : List ℕ) (next : ℕ) : Type 0 where

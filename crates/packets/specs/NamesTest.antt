@@ -6,7 +6,7 @@ use Prim.Native.Nat.{ℕ, zero, suc, _+_, _-_, _*_, _/_, _<_, _≤_}
 use lib.Dec.{eqb, ltb}
 use lib.ListN.{length, take, getD}
 use Rattle.base.specs.Lists.{same}
-use Rattle.base.specs.Places.{twoAt}
+use Rattle.laws.specs.Places.{twoAt}
 use Rattle.names.specs.Repeats.{padTo, namesAlike, firstRepeat}
 use Rattle.rules.specs.Limits.{shortMost}
 use Rattle.writing.specs.declared.spans.Span.{Span}

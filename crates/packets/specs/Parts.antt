@@ -5,7 +5,7 @@ use mathlib.Core.Bool.{cond}
 use mathlib.Core.List.{List}
 use Prim.Native.Nat.{ℕ, _+_, _*_, _≤_}
 use lib.Dec.{eqb}
-use Rattle.base.specs.Places.{twoAt}
+use Rattle.laws.specs.Places.{twoAt}
 use Rattle.writing.specs.declared.spans.Span.{Span}
 use Rattle.rules.specs.Limits.{fieldsMost, labelMost, shortMost, storedMost}
 use Rattle.packets.specs.declared.records.WidthParts.{WidthParts}

@@ -2,7 +2,7 @@
 use mathlib.Core.Path.{_≡_}
 use mathlib.Core.List.{List}
 use Prim.Native.Nat.{ℕ}
-use Rattle.base.specs.Places.{Stands}
+use Rattle.laws.specs.Places.{Stands}
 use Rattle.rules.specs.Fields.{Width, fixed, measured, rest, Field}
 use Rattle.rules.specs.Stored.{kindNumber, storedExpression, storedName, storedMaybe}
 use Rattle.writing.specs.declared.spans.Span.{Span}

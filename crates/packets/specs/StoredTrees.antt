@@ -4,7 +4,7 @@ use mathlib.Core.List.{List}
 use Prim.Native.Nat.{ℕ, zero, suc, _+_, _*_, _-_}
 use lib.Dec.{eqb, ltb}
 use lib.ListN.{length, getD}
-use Rattle.base.specs.Places.{fourAt}
+use Rattle.laws.specs.Places.{fourAt}
 use Rattle.rules.specs.declared.Op.{Op}
 use Rattle.rules.specs.declared.ValueType.{ValueType}
 use Rattle.rules.specs.declared.ValueType.the-variants.{Number, YesNo}

@@ -5,7 +5,7 @@ use Prim.Native.Nat.{ℕ, zero, suc, _+_, _%_}
 use lib.Dec.{leb, eqb}
 use lib.ListN.{length}
 use Rattle.base.specs.Lists.{between}
-use Rattle.base.specs.Places.{twoAt}
+use Rattle.laws.specs.Places.{twoAt}
 use Rattle.rules.specs.Names.{isLabel}
 use Rattle.rules.specs.Within.{isRowWidth}
 use Rattle.rules.specs.Limits.{fieldsMost}

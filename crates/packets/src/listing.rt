@@ -23,7 +23,7 @@ ghost use Rattle.base.specs.Bytes.{bytes};
 ghost use Rattle.rules.specs.Listing.{refusedLine, bitsLine};
 ghost use Rattle.writing.specs.Puts.{nowhere};
 ghost use Rattle.writing.specs.Fits.{Fits};
-ghost use Rattle.base.specs.Places.{twoAt};
+ghost use Rattle.laws.specs.Places.{twoAt};
 ghost use Rattle.rules.specs.Limits.{fieldsMost};
 ghost use Rattle.rules.specs.Answers.{ofListing};
 ghost use Rattle.rules.specs.Promises.{leaves, delivered, ListsPacket};

@@ -11,7 +11,7 @@ use rules::TableAnswer;
 use writing::spans::Span;
 ghost use mathlib.Core.Path.{_≡_};
 ghost use denote.Ref.{ptr};
-ghost use Rattle.base.specs.Places.{twoAt};
+ghost use Rattle.laws.specs.Places.{twoAt};
 ghost use Rattle.rules.specs.Reading.{partFrom};
 ghost use Rattle.rules.specs.Promises.{
   FindsField,

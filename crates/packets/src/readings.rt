@@ -14,7 +14,7 @@ ghost use denote.Ref.{ptr};
 ghost use lib.ListN.{length, take, drop};
 ghost use Rattle.rules.specs.Reading.{partFrom};
 ghost use Rattle.rules.specs.Promises.{ReadsPacket, ReadsPartly, PlacesPart, LendsPart, leaves, leavesPartly};
-ghost use Rattle.base.specs.Places.{twoAt};
+ghost use Rattle.laws.specs.Places.{twoAt};
 ghost use Rattle.rules.specs.Limits.{fieldsMost};
 ghost use Rattle.packets.specs.Parts.{runMost};
 ghost use Rattle.packets.specs.RunRead.{ReadsRun, countIn};

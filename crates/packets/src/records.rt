@@ -3,7 +3,7 @@ use writing::spans::Span;
 ghost use mathlib.Core.Path.{_≡_};
 ghost use Prim.Native.Nat.{_+_, _≤_};
 ghost use lib.ListN.{getD};
-ghost use Rattle.base.specs.Places.{twoAt};
+ghost use Rattle.laws.specs.Places.{twoAt};
 ghost use Rattle.packets.specs.Parts.{placeMost, tableMost, Spans, Widths, partsAt};
 
 // The record kinds of fields.

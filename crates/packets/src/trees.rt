@@ -10,7 +10,7 @@ use rules::ValueType;
 ghost use mathlib.Core.Path.{_≡_};
 ghost use Prim.Native.Nat.{_+_, _<_};
 ghost use lib.ListN.{length, getD};
-ghost use Rattle.base.specs.Places.{fourAt};
+ghost use Rattle.laws.specs.Places.{fourAt};
 ghost use Rattle.rules.specs.Trees.{sameType};
 ghost use Rattle.rules.specs.Values.{yesNo, inRange, apply, decides};
 ghost use Rattle.packets.specs.StoredTrees.{checkNumber, checkField, checkNot, checkTwo, checkAt};

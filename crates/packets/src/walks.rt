@@ -16,7 +16,7 @@ ghost use Prim.Native.Nat.{_+_, _*_, _≤_, _<_};
 ghost use lib.ListN.{length};
 ghost use Rattle.rules.specs.Reading.{bitTotal};
 ghost use Rattle.rules.specs.Limits.{fieldsMost, packetMost};
-ghost use Rattle.base.specs.Places.{twoAt};
+ghost use Rattle.laws.specs.Places.{twoAt};
 ghost use Rattle.packets.specs.Parts.{runMost};
 ghost use Rattle.packets.specs.Steps.{entryIn, foundOf};
 ghost use Rattle.packets.specs.Walks.{putAt, keptAt, refusedOf, Steps, Walks};

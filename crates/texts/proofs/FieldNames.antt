@@ -10,7 +10,7 @@ use lib.ListN.{length, take, drop, getD, length-drop, length-append}
 use lib.Seq.{drop-cons, drop-length, take-at}
 use Rattle.base.specs.Bytes.{bytes}
 use Rattle.base.specs.Lists.{isNone}
-use Rattle.base.proofs.Places.{drop-more}
+use Rattle.laws.proofs.Places.{drop-more}
 use Rattle.rules.specs.Names.{isLabel, isShort}
 use Rattle.text_laws.specs.Reader.{after, word, behind}
 use Rattle.text_laws.specs.LineReader.{miss, hit, passed, literal, begins, labelEnds, labelText, labelBehind}

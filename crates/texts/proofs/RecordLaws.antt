@@ -7,8 +7,8 @@ use native.Mathlib.Nat.{sub-zero}
 use native.Mathlib.Omega.{arith}
 use lib.ListN.{length, take, drop, set, length-append, length-take, length-set}
 use lib.Seq.{length-take-le}
-use Rattle.base.specs.Writes.{Writes}
-use Rattle.base.proofs.Writing.{writes-none, writes-byte, writes-join}
+use Rattle.writing.specs.Writes.{Writes}
+use Rattle.writing.proofs.Writing.{writes-none, writes-byte, writes-join}
 use Rattle.writing.specs.Puts.{placed, put}
 use Rattle.writing.proofs.PutLaws.{put-writes}
 use Rattle.rules.specs.Limits.{storedMost}

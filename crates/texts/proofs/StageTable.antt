@@ -9,7 +9,7 @@ use lib.ListN.{length, take, drop, take-append-drop, length-drop}
 use lib.Seq.{length-take-le}
 use borrow.Author.Tests.{lt-ltb, le-ltb}
 use Rattle.base.specs.Lists.{all}
-use Rattle.base.specs.Writes.{Writes}
+use Rattle.writing.specs.Writes.{Writes}
 use Rattle.rules.specs.declared.TextAnswer.{TextAnswer}
 use Rattle.rules.specs.Limits.{textMost, fieldsMost}
 use Rattle.rules.specs.Trees.{isSmall}

@@ -7,8 +7,8 @@ use native.Mathlib.Numerals.{add-one}
 use native.Mathlib.Omega.{arith}
 use lib.ListN.{length, take, drop, getElem?, length-append, length-drop}
 use lib.Seq.{length-take-le}
-use Rattle.base.specs.Writes.{Writes}
-use Rattle.base.proofs.Writing.{writes-none, writes-join}
+use Rattle.writing.specs.Writes.{Writes}
+use Rattle.writing.proofs.Writing.{writes-none, writes-join}
 use Rattle.rules.specs.Trees.{le2}
 use Rattle.rules.specs.Fields.{Form}
 use Rattle.rules.specs.Stored.{counted, recordOf, storedField}

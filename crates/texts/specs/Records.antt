@@ -7,7 +7,7 @@ use Prim.Native.Nat.{ℕ, zero, suc, _+_, _≤_}
 use lib.Dec.{eqb}
 use lib.ListN.{length, getElem?}
 use Rattle.base.specs.Lists.{all}
-use Rattle.base.specs.Writes.{Writes}
+use Rattle.writing.specs.Writes.{Writes}
 use Rattle.rules.specs.Limits.{textMost, storedMost}
 use Rattle.rules.specs.Trees.{le2, isSmall}
 use Rattle.rules.specs.Fields.{Field, Form, trees}

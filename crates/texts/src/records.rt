@@ -11,7 +11,7 @@ ghost use mathlib.Core.Option.{Option, Option·map};
 ghost use mathlib.Core.Path.{_≡_};
 ghost use Prim.Native.Nat.{ℕ, _+_, _≤_, _<_};
 ghost use lib.ListN.{length};
-ghost use Rattle.base.specs.Writes.{Writes};
+ghost use Rattle.writing.specs.Writes.{Writes};
 ghost use Rattle.rules.specs.Limits.{textMost, fieldsMost, storedMost};
 ghost use Rattle.rules.specs.Trees.{Tree};
 ghost use Rattle.rules.specs.Stored.{counted, storedWidth, storedName, storedMaybe, fieldBody, storedField};

@@ -12,7 +12,7 @@ ghost use mathlib.Core.Path.{_≡_};
 ghost use Prim.Native.Nat.{ℕ, _+_, _-_, _≤_, _<_};
 ghost use lib.ListN.{length, take, drop};
 ghost use Rattle.base.specs.Lists.{all};
-ghost use Rattle.base.specs.Writes.{Writes};
+ghost use Rattle.writing.specs.Writes.{Writes};
 ghost use Rattle.rules.specs.Limits.{textMost, fieldsMost};
 ghost use Rattle.rules.specs.Trees.{le2, isSmall};
 ghost use Rattle.rules.specs.Fields.{Form, trees};

@@ -7,7 +7,7 @@ use native.Mathlib.Omega.{arith}
 use lib.Dec.{ltb}
 use lib.ListN.{length, length-append}
 use borrow.Author.Tests.{ltb-true, ltb-false}
-use Rattle.base.proofs.Writing.{writes-none, writes-join}
+use Rattle.writing.proofs.Writing.{writes-none, writes-join}
 use Rattle.writing.specs.Puts.{Placed, placed, nowhere, put}
 use Rattle.writing.specs.Fits.{Fits}
 use Rattle.writing.proofs.PutLaws.{put-none, put-writes}

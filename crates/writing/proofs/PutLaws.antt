@@ -7,8 +7,8 @@ use native.Mathlib.Omega.{arith}
 use borrow.Author.Tests.{le-leb, lt-leb, le-ltb, lt-ltb}
 use lib.ListN.{length, take, drop, length-append, take-append-drop}
 use lib.Seq.{take-length, take-paste, drop-paste, length-paste}
-use Rattle.base.specs.Writes.{Writes}
-use Rattle.base.proofs.Writing.{writes-join}
+use Rattle.writing.specs.Writes.{Writes}
+use Rattle.writing.proofs.Writing.{writes-join}
 use Rattle.rules.specs.Trees.{le2}
 use Rattle.rules.specs.Stored.{counted}
 use Rattle.rules.specs.Promises.{leaves, delivered}

@@ -1,7 +1,7 @@
 use denote.Ref.{now}
 use Rattle.packets.proofs.LinesWritten.{refusal-inside}
 use Rattle.packets.proofs.PacketPromises.{good-from, good-few}
-use Rattle.base.proofs.Writing.{writes-inside}
+use Rattle.writing.proofs.Writing.{writes-inside}
 use Rattle.packets.proofs.ListingStored.{into-good, into-bad}
 use native.Mathlib.Omega.{arith}
 use borrow.Author.Needs.{needs}

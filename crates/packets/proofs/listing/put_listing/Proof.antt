@@ -1,7 +1,7 @@
 use mathlib.Core.Path.{sym, _∙_}
 use native.Mathlib.Omega.{arith}
 use denote.Ref.{now}
-use Rattle.base.proofs.Writing.{writes-inside}
+use Rattle.writing.proofs.Writing.{writes-inside}
 use Rattle.writing.proofs.FitsLaws.{fits-join}
 use Rattle.packets.proofs.LinesWritten.{listing-inside, refusal-inside}
 use Rattle.packets.proofs.ListingStored.{listed-accepted, listed-refused}

@@ -1,7 +1,7 @@
 use native.Mathlib.Omega.{arith}
 use Prim.Native.Nat.{_<_}
 use denote.Ref.{now}
-use Rattle.base.specs.Places.{twoAt}
+use Rattle.laws.specs.Places.{twoAt}
 use Rattle.packets.proofs.PacketPromises.{good-from, bad-from, not-good}
 use Rattle.packets.proofs.LookupPromises.{placed}
 use borrow.Author.Needs.{needs}

@@ -3,7 +3,7 @@ use Prim.Native.Nat.{_+_}
 use native.Mathlib.Omega.{arith}
 use denote.Ref.{now}
 use lib.ListN.{getD, List·getD-eq-default}
-use Rattle.base.specs.Places.{twoAt}
+use Rattle.laws.specs.Places.{twoAt}
 use borrow.Author.Needs.{needs}
 use Rattle.packets.proofs.records.two_at.Statement.{statement}
 use Rattle.packets.proofs.records.two_at.Tie as tie

@@ -1,4 +1,4 @@
-use Rattle.base.specs.Places.{twoAt, fourAt}
+use Rattle.laws.specs.Places.{twoAt, fourAt}
 use borrow.Author.Needs.{needs}
 use Rattle.packets.proofs.trees.four_at.Statement.{statement}
 use Rattle.packets.proofs.trees.four_at.Tie as tie

@@ -2,7 +2,7 @@ use Prim.Native.Nat.{_+_}
 use native.Mathlib.Omega.{arith}
 use Rattle.texts.specs.StoredTrees.{lookUp}
 use denote.Ref.{now}
-use Rattle.base.proofs.Writing.{writes-join}
+use Rattle.writing.proofs.Writing.{writes-join}
 use Rattle.texts.proofs.RecordLaws.{maybe-end}
 use Rattle.texts.proofs.RecordSizes.{constraint-most, condition-most}
 use borrow.Author.Needs.{needs}

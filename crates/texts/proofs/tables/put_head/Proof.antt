@@ -2,7 +2,7 @@ use Prim.Native.Nat.{_+_}
 use native.Mathlib.Omega.{arith}
 use lib.ListN.{length}
 use denote.Ref.{now}
-use Rattle.base.proofs.Writing.{writes-join}
+use Rattle.writing.proofs.Writing.{writes-join}
 use Rattle.texts.proofs.RecordLaws.{two-writes, counted-writes, two-end}
 use Rattle.texts.proofs.TableLaws.{head-writes}
 use borrow.Author.Needs.{needs}

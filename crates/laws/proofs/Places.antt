@@ -7,7 +7,7 @@ use native.Mathlib.Nat.{add-zero}
 use native.Mathlib.Numerals.{add-one}
 use lib.ListN.{length, getD, take, drop, length-append, length-drop, take-append-drop, drop-of-length-le}
 use lib.Seq.{getD-drop, drop-drop, drop-append-seam, drop-cons, length-take-le}
-use Rattle.base.specs.Places.{Stands, IsBytes, twoAt, fourAt}
+use Rattle.laws.specs.Places.{Stands, IsBytes, twoAt, fourAt}
 
 -- ── lists from a place on ──
 

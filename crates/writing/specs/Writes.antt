@@ -1,4 +1,5 @@
 -- What writing into a buffer leaves in it.
+-- A helper of code and proofs: no public promise rests on this file.
 use mathlib.Core.Path.{_≡_}
 use mathlib.Core.List.{List, _++_}
 use Prim.Native.Nat.{ℕ, _+_}

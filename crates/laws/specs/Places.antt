@@ -1,4 +1,5 @@
 -- Where bytes stand in a list, and the little-endian numbers that stand there.
+-- A helper of code and proofs: no public promise rests on this file.
 use mathlib.Core.Path.{_≡_}
 use mathlib.Core.List.{List, _++_}
 use Prim.Native.Nat.{ℕ, _+_, _*_, _<_}

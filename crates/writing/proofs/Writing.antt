@@ -6,7 +6,7 @@ use native.Mathlib.Numerals.{add-one}
 use native.Mathlib.Omega.{arith}
 use lib.ListN.{length, getD, take, drop, set, length-append, length-take, length-set}
 use lib.Seq.{take-suc, take-suc-set, drop-drop, drop-set-lt}
-use Rattle.base.specs.Writes.{Writes}
+use Rattle.writing.specs.Writes.{Writes}
 
 -- what lies further beyond
 drop-further : (a b : List ℕ) (n m : ℕ) → drop n a ≡ drop n b → drop (n + m) a ≡ drop (n + m) b
