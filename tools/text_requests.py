@@ -1,5 +1,5 @@
-"""The requests of crates/runs on texts, with their answers: the Tag and the blade report of document 01, a TCP header and
-a QUIC long header, with outputs that are exactly long enough, too short and longer; and those of spelled.tsv, edge.tsv
+"""The requests of crates/runs on texts, with their answers: the Tag and the blade report of document 01, a TCP header
+and a QUIC long header, with outputs that are exactly long enough, too short and longer; and those of spelled.tsv, edge.tsv
 and mutated.tsv of the vectors.
 """
 from runs import BLADE, ROOM, TAG, both, field, fixed, measured, number, rest, spelled, table

@@ -1,5 +1,5 @@
-//! A folder and a file that are read-only. The test is alone in its program: a command that was just copied cannot be run while
-//! another thread starts one.
+//! A folder and a file that are read-only. The test is alone in its program: a command that was just copied cannot be
+//! run while another thread starts one.
 #![cfg(unix)]
 
 mod common;

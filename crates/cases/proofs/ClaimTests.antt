@@ -34,7 +34,8 @@ use Rattle.cases.specs.Promised.{AllSo}
 use Rattle.cases.proofs.CaseTests.{answer-from, outcome-from, part-from, by-stored}
 
 -- the bytes that begin at a place are those of a part, as lent from the first place of a block
-lent : (buffer : List ℕ) (part : Part) (bytes : List ℕ) (start : ℕ) → start ∷ bytes ≡ part .start ∷ partBytes buffer part
+lent : (buffer : List ℕ) (part : Part) (bytes : List ℕ) (start : ℕ)
+    → start ∷ bytes ≡ part .start ∷ partBytes buffer part
     → Lends buffer (0, 0) part bytes (movedBy start (0, 0))
 lent buffer part bytes start e = record {
   content = cc;

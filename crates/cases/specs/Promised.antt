@@ -1,4 +1,5 @@
--- Right answers: for each sort of claim of which laws/specs/Wrong lists false ones, one that holds, so that none of those
+-- Right answers: for each sort of claim of which laws/specs/Wrong lists false ones, one that holds, so that none of
+-- those
 -- is false for want of any answer. [01, The blade report, marked cases and listing]
 use mathlib.Core.List.{List, [], _∷_}
 use lib.ListN.{length}

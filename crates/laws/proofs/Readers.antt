@@ -101,10 +101,12 @@ unfoldable pub readFields : ℕ → ℕ → Reader (List (Field ℕ))
 readFields first zero s = ([], s)
 readFields first (suc n) s = andThen (readField first s) (λ f r. andThen (readFields first n r) (λ l q. (f ∷ l, q)))
 
--- the description that a stored table of an edition stores; the first record's length and kind, and the last record, are skipped
+-- the description that a stored table of an edition stores; the first record's length and kind, and the last record,
+-- are skipped
 unfoldable pub describedIn : Edition → List ℕ → Description
 describedIn e s =
     andThen (readTwo (drop 2 (drop 2 s))) (λ row s₁.
     andThen (readTwo s₁) (λ count s₂.
     andThen (readCounted s₂) (λ name s₃.
-    andThen (readFields (e .fixedKind) count s₃) (λ fields r. record { name = name; rowWidth = row; fields = fields }))))
+    andThen (readFields (e .fixedKind) count s₃) (λ fields r.
+    record { name = name; rowWidth = row; fields = fields }))))

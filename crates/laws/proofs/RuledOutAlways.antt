@@ -73,7 +73,8 @@ module _ (table packet run after : List ℕ) where
       ap (λ (o : Outcome). o .answer .amount) e ∙ f .total (sym (ap (λ (o : Outcome). o .answer .number) e))
 
   -- a refusal changes nothing
-  pub refusal-keeps : (r : PacketAnswer) → (ofPacket r .number ≡ 0 → ⊥) → ReadsPacket table packet run (leaves (ofPacket r) after)
+  pub refusal-keeps : (r : PacketAnswer) → (ofPacket r .number ≡ 0 → ⊥)
+      → ReadsPacket table packet run (leaves (ofPacket r) after)
       → after ≡ run
   refusal-keeps r n p =
       let good = good-decidable table in

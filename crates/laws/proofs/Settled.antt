@@ -154,13 +154,16 @@ pub table-settled : (table : List ℕ) (a b : TableAnswer) → ChecksTable table
 table-settled table a b p q = table-number a b (both table _ (ofTable a) (ofTable b) p q)
 
 pub packet-settled : (table packet run : List ℕ) (a b : PacketAnswer) (after other : List ℕ)
-    → ReadsPacket table packet run (leaves (ofPacket a) after) → ReadsPacket table packet run (leaves (ofPacket b) other)
+    → ReadsPacket table packet run (leaves (ofPacket a) after)
+    → ReadsPacket table packet run (leaves (ofPacket b) other)
     → (a ≡ b) × (after ≡ other)
 packet-settled table packet run a b after other p q =
-    apart ofPacket packet-number a b after other (both table _ (leaves (ofPacket a) after) (leaves (ofPacket b) other) p q)
+    apart ofPacket packet-number a b after other
+    (both table _ (leaves (ofPacket a) after) (leaves (ofPacket b) other) p q)
 
 pub listing-settled : (table packet out : List ℕ) (a b : ListingAnswer) (after other : List ℕ)
-    → ListsPacket table packet out (leaves (ofListing a) after) → ListsPacket table packet out (leaves (ofListing b) other)
+    → ListsPacket table packet out (leaves (ofListing a) after)
+    → ListsPacket table packet out (leaves (ofListing b) other)
     → (a ≡ b) × (after ≡ other)
 listing-settled table packet out a b after other p q =
     apart ofListing listing-number a b after other

@@ -27,7 +27,12 @@ row-bound w h =
 
 pub count-bound : (e : Edition) (n : ℕ) → between 1 n (e .fields) ≡ true → n < 65536
 count-bound e n h =
-    omega (arith, leb-true n (e .fields) (and-true (leb 1 n) (leb n (e .fields)) h .1), leb-true (e .fields) 256 (e .few))
+    omega (
+      arith,
+      leb-true n (e .fields) (and-true (leb 1 n) (leb n (e .fields)) h .1),
+      leb-true (e .fields) 256
+          (e .few),
+    )
 
 pub described-stored : (e : Edition) (d : Description) → WithinIn e d → describedIn e (storedIn e d) ≡ d
 unfolding describedIn storedIn headBody

@@ -13,7 +13,17 @@ use Rattle.rules.specs.Names.{isShort}
 use Rattle.rules.specs.Trees.{Tree, isSmall, isNumber, le2}
 use Rattle.rules.specs.Fields.{Width, fixed, measured, rest, Field, widthTrees, trees}
 use Rattle.rules.specs.Within.{isWidth, isFormed}
-use Rattle.rules.specs.Stored.{counted, kindNumber, storedExpression, storedWidth, storedName, storedMaybe, fieldBody, storedField, storedFieldIn}
+use Rattle.rules.specs.Stored.{
+  counted,
+  kindNumber,
+  storedExpression,
+  storedWidth,
+  storedName,
+  storedMaybe,
+  fieldBody,
+  storedField,
+  storedFieldIn,
+}
 use Rattle.laws.proofs.PlacesOfNumbers.{length-le2}
 use Rattle.laws.proofs.ReadsTrees.{small-bounds, length-stored}
 use Rattle.laws.proofs.ReadsFields.{label-length, short-length, unit-bound, fixed-bound, formed-parts}

@@ -59,7 +59,8 @@ module _ (s packet : List ℕ) (d : Description) (w : Within d) (is : stored d �
       → linesFrom s run 0 (twoAt s 6) (twoAt s 0) ++ (bitsLine (ofPacket a .amount) ++ (10 ∷ [])) ≡ listing d packet
   unfolding readingAnswer
   listed-accepted n =
-      let c = accepted-entries (reading d packet) (reading-told d packet) packet (sym (ap (λ (x : Answer). x .number) (h .answer)) ∙ n) in
+      let c = accepted-entries (reading d packet) (reading-told d packet) packet
+      (sym (ap (λ (x : Answer). x .number) (h .answer)) ∙ n) in
       let v : ofPacket a .amount ≡ bitTotal packet
       = ap (λ (x : Answer). x .amount) (h .answer) ∙ rw (c .1, readingAnswer) refl in
       ap (λ (n : ℕ). linesFrom s run 0 (twoAt s 6) (twoAt s 0) ++ (bitsLine n ++ (10 ∷ []))) v
@@ -81,7 +82,8 @@ good-answer table r n e (yes g) h = (g, refl)
 good-answer table r n e (no b) h = let z : _≡_ {A = Answer} (accepted n) notGood = rw (e, ofTable) at h in
     let q : _≡_ {A = ℕ} 0 21 = ap (λ (x : Answer). x .number) z in absurd (omega arith)
 
-pub into-good : (table packet before after : List ℕ) (next : ℕ) (r : TableAnswer) (n : ℕ) → ChecksTable table (ofTable r)
+pub into-good : (table packet before after : List ℕ) (next : ℕ) (r : TableAnswer) (n : ℕ)
+    → ChecksTable table (ofTable r)
     → r ≡ TableAnswer.Good n → ListsStored table packet before after next → ListsInto table packet before after next
 into-good table packet before after next r n c e l = record { text = go; inside = l .inside }
   where

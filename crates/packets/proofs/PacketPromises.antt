@@ -41,7 +41,8 @@ good-of table k h = go (good-decidable table) refl
     go (no n) e = let q = ap (λ (a : Answer). a .number) (h (no n)) in absurd (omega (arith, q))
 
 -- the answer of a check, told apart
-pub good-from : (table : List ℕ) (r : TableAnswer) (k : ℕ) → ChecksTable table (ofTable r) → r ≡ TableAnswer.Good k → Good table
+pub good-from : (table : List ℕ) (r : TableAnswer) (k : ℕ) → ChecksTable table (ofTable r) → r ≡ TableAnswer.Good k
+    → Good table
 good-from table r k h e = good-of table k (rw e at h)
 
 pub bad-from : (table : List ℕ) (r : TableAnswer) → ChecksTable table (ofTable r) → r ≡ TableAnswer.NotGood
@@ -89,7 +90,8 @@ zero-accepted (PacketAnswer.Refused f i) h = absurd (fault-positive f h)
 zero-accepted PacketAnswer.LeftOver h = absurd (omega (arith, h))
 
 -- the entries of an accepted packet
-pub accepted-complete : (got : Reading) → Told got → (packet : List ℕ) (r : PacketAnswer) → ofPacket r ≡ readingAnswer got packet
+pub accepted-complete : (got : Reading) → Told got → (packet : List ℕ) (r : PacketAnswer)
+    → ofPacket r ≡ readingAnswer got packet
     → isAccepted r ≡ true → (es : List Entry) × (got ≡ complete es)
 unfolding readingAnswer
 accepted-complete (complete es) t packet r e h = (es, refl)
@@ -120,12 +122,14 @@ module _ (table packet run : List ℕ) (r : PacketAnswer) (after : List ℕ) whe
   by-good good h (no n) = absurd (n good)
 
 module _ (table packet run : List ℕ) where
-  pub packet-not-good : ChecksTable table (ofTable TableAnswer.NotGood) → ReadsPacket table packet run (leaves (ofPacket PacketAnswer.NotGood) run)
+  pub packet-not-good : ChecksTable table (ofTable TableAnswer.NotGood)
+      → ReadsPacket table packet run (leaves (ofPacket PacketAnswer.NotGood) run)
   unfolding ofPacket
   packet-not-good h (yes g) = absurd (not-good table h g)
   packet-not-good h (no n) = refl
 
-  pub packet-too-long : Good table → packetMost < length packet → ReadsPacket table packet run (leaves (ofPacket PacketAnswer.TooLong) run)
+  pub packet-too-long : Good table → packetMost < length packet
+      → ReadsPacket table packet run (leaves (ofPacket PacketAnswer.TooLong) run)
   unfolding ofPacket packetOutcome reading readingAnswer
   packet-too-long good lt =
       let far : ltb packetMost (length packet) ≡ true = lt-ltb packetMost (length packet) lt in
@@ -157,10 +161,12 @@ module _ (table packet run : List ℕ) where
         rw (near, many, e, h g))
 
     pub packet-accepted : isAccepted r ≡ true
-        → ReadsPacket table packet run (leaves (ofPacket r) (take (4 * twoAt table 6) numbers ++ drop (4 * twoAt table 6) run))
+        → ReadsPacket table packet run
+        (leaves (ofPacket r) (take (4 * twoAt table 6) numbers ++ drop (4 * twoAt table 6) run))
     packet-accepted h = answered _ (λ g.
         let holds = reads (g .description) (g .within) (g .isStored) in
-        let c = accepted-complete (reading (g .description) packet) (reading-told (g .description) packet) packet r (holds .answer) h in
+        let c = accepted-complete (reading (g .description) packet) (reading-told (g .description) packet) packet r
+        (holds .answer) h in
         let n = good-count table g in
         let m = entries-count (g .description) packet (c .0) (c .1) in
         let k : 4 * twoAt table 6 ≡ 4 * length (c .0) = omega arith in

@@ -10,7 +10,16 @@ use Rattle.laws.proofs.Places.{stands-join, stands-left, stands-right}
 use Rattle.laws.proofs.PlacesOfNumbers.{length-le2, stands-two, two-stands}
 use Rattle.rules.specs.Trees.{Tree, le2}
 use Rattle.rules.specs.Fields.{Width, fixed, measured, rest, Field}
-use Rattle.rules.specs.Stored.{counted, kindNumber, storedWidth, storedName, storedMaybe, fieldBody, storedField, storedFieldIn}
+use Rattle.rules.specs.Stored.{
+  counted,
+  kindNumber,
+  storedWidth,
+  storedName,
+  storedMaybe,
+  fieldBody,
+  storedField,
+  storedFieldIn,
+}
 use Rattle.packets.specs.Parts.{ending, spanAt, widthAt, partsAt}
 use Rattle.packets.specs.PartsStand.{In, WidthStands, PartsStand}
 use Rattle.packets.proofs.PartsLaws.{counted-in, counted-build, WidthBounds, width-in, width-build}

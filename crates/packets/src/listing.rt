@@ -126,7 +126,8 @@ fn deliver_first(out: &mut [u8], from: &[u8], n: usize) -> ListingAnswer
 
 // The listing of a packet by a table, into an output.
 pub fn list_packet(table: &[u8], packet: &[u8], out: &mut [u8]) -> ListingAnswer
-    ensures { λ r. ⌜ ListsPacket (now (table .entry)) (now (packet .entry)) (now (out .entry)) (leaves (ofListing r) (now (out .exit))) ⌝ }
+    ensures { λ r. ⌜ ListsPacket (now (table .entry)) (now (packet .entry)) (now (out .entry)) (leaves (ofListing r)
+        (now (out .exit))) ⌝ }
 {
     let mut buffer = [0u8; LISTING_MOST];
     let n = list_into(&mut buffer, table, packet);

@@ -65,7 +65,8 @@ fn copy_numbers(dst: &mut [u32], src: &[u32], n: usize)
 
 // A packet read by a table: four numbers a field into the run.
 pub fn read_packet(table: &[u8], packet: &[u8], run: &mut [u32]) -> PacketAnswer
-    ensures { λ r. ⌜ ReadsPacket (now (table .entry)) (now (packet .entry)) (now (run .entry)) (leaves (ofPacket r) (now (run .exit))) ⌝ }
+    ensures { λ r. ⌜ ReadsPacket (now (table .entry)) (now (packet .entry)) (now (run .entry)) (leaves (ofPacket r)
+        (now (run .exit))) ⌝ }
 {
     let checked = check_table(table);
     let TableAnswer::Good(size) = checked else {

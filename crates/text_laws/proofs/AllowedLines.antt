@@ -166,7 +166,8 @@ module _ {N : Type 0} {R : N → List ℕ → Type 0} (short : (a : N) (w : List
       let own : printable (h .line .constraint) ≡ true =
       maybe-printable (bytes "; ") (phrases .0) (x .constraint) (h .line .constraint) (h .line .isConstraint) in
       let when : printable (h .line .condition) ≡ true =
-      maybe-printable (bytes "; present only when ") (phrases .1) (x .condition) (h .line .condition) (h .line .isCondition) in
+      maybe-printable (bytes "; present only when ") (phrases .1) (x .condition) (h .line .condition)
+      (h .line .isCondition) in
       rw (h .line .isText)
       (printable-both (x .label) _ label
       (printable-both (shortText (x .short)) _ name
@@ -174,4 +175,5 @@ module _ {N : Type 0} {R : N → List ℕ → Type 0} (short : (a : N) (w : List
       (printable-both (h .line .width) _ wide
       (printable-both (h .line .constraint) _ own
       (printable-both (h .line .condition) _ when
-      (printable-both (bytes ".") (h .line .remark) (phrases .3) (remark-printable (h .line .remark) (h .line .isRemark)))))))))
+      (printable-both (bytes ".") (h .line .remark) (phrases .3) (remark-printable (h .line .remark)
+      (h .line .isRemark)))))))))

@@ -21,8 +21,30 @@ use Rattle.rules.specs.Frames.{Row, Frame, frameText, FrameOf, headLines, slots
 use Rattle.rules.specs.Refusals.{ruleBroken, Plain, Framed, Refuses, long, byte, line, many}
 use Rattle.rules.specs.Refusals.{form, rule}
 use Rattle.rules.specs.Promises.{Outcome, leaves, delivered, ReadsText, spelled, refuses}
-use Rattle.text_laws.specs.FrameReader.{rest, linesOf, Top, State, begun, named, spaced, ruled, counted, bordered, rowed}
-use Rattle.text_laws.specs.FrameReader.{closed, headed, filled, onState, run, rightFrom, rightLines, whole, readFrame}
+use Rattle.text_laws.specs.FrameReader.{
+  rest,
+  linesOf,
+  Top,
+  State,
+  begun,
+  named,
+  spaced,
+  ruled,
+  counted,
+  bordered,
+  rowed,
+}
+use Rattle.text_laws.specs.FrameReader.{
+  closed,
+  headed,
+  filled,
+  onState,
+  run,
+  rightFrom,
+  rightLines,
+  whole,
+  readFrame,
+}
 use Rattle.text_laws.specs.Resolving.{resolve, described}
 use Rattle.text_laws.proofs.SplitLaws.{lines-joined}
 use Rattle.text_laws.proofs.FrameRun.{frame-kept, frameLines, lines-are-lines}
@@ -245,7 +267,8 @@ pub kept-answers : (text out : List ℕ) → ReadsText text out (finish (kept te
 unfolding kept
 kept-answers text out = go (decLt textMost (length text))
   where
-    by-bytes : length text ≤ textMost → (b : Bool) → all isAllowed text ≡ b → ReadsText text out (finish (kept text) out)
+    by-bytes : length text ≤ textMost → (b : Bool) → all isAllowed text ≡ b
+        → ReadsText text out (finish (kept text) out)
     by-bytes le true e = plain-answers text out (record { size = le; bytes = e })
     by-bytes le false e =
         refused-by text out (kept text) (refused 2 0)

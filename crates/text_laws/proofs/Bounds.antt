@@ -273,7 +273,12 @@ small-tens f l h = go (same l (tens 8)) (same l (tens 16)) (same l (tens 32))
 
 -- a row's cells show labels
 cells-labels : (cs : List Cell) → all isCell cs ≡ true
-    → all (λ (c : Slot). isLabel (c .text)) (map (λ (c : Cell). record { long = false; bits = c .bits; text = c .text }) cs)
+    → all (λ (c : Slot). isLabel (c .text)) (map (λ (c : Cell). record {
+      long = false;
+      bits = c .bits;
+      text =
+          c .text;
+    }) cs)
     ≡ true
 unfolding all
 cells-labels [] h = refl

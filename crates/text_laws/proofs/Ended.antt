@@ -84,8 +84,10 @@ module _ (p : ℕ) where
   behind-seven : (m : ℕ) (c d e : Option ℕ) → (r : Bool)
       → lower (orElse (at 8 c) (orElse (at 9 d) (orElse (at 10 e) none))) (at 7 (cond r (some m) none))
       ≡ orElse (at 7 (cond r (some m) none)) (orElse (at 8 c) (orElse (at 9 d) (at 10 e)))
-  behind-seven m (some i) d e true = lower-takes 8 (refused 7 (p + m)) (some (refused 8 (p + i))) (omega arith) (omega arith)
-  behind-seven m none (some i) e true = lower-takes 9 (refused 7 (p + m)) (some (refused 9 (p + i))) (omega arith) (omega arith)
+  behind-seven m (some i) d e true = lower-takes 8 (refused 7 (p + m)) (some (refused 8 (p + i))) (omega arith)
+      (omega arith)
+  behind-seven m none (some i) e true = lower-takes 9 (refused 7 (p + m)) (some (refused 9 (p + i))) (omega arith)
+      (omega arith)
   behind-seven m none none (some i) true =
       lower-takes 10 (refused 7 (p + m)) (some (refused 10 (p + i))) (omega arith) (omega arith)
   behind-seven m none none none true = refl

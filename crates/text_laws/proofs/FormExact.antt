@@ -17,7 +17,14 @@ use Rattle.rules.specs.Within.{isWidth, isFormed}
 use Rattle.rules.specs.Expressions.{SpellsAt, number, field, two-sided, negated, parentheses}
 use Rattle.rules.specs.Lines.{shortText, Remark, SpellsWidth, SpellsMaybe, SpellsField, Unresolved}
 use Rattle.text_laws.specs.LineReader.{Got, miss, hit, literal, readLabel, readShort, readWidth}
-use Rattle.text_laws.specs.LineReader.{isConstraint, isCondition, readConstraint, readCondition, readField, isRemark}
+use Rattle.text_laws.specs.LineReader.{
+  isConstraint,
+  isCondition,
+  readConstraint,
+  readCondition,
+  readField,
+  isRemark,
+}
 use Rattle.text_laws.specs.LineReader.{formOf, readForm}
 use Rattle.text_laws.proofs.Combine.{Holds, holds-bind, literal-sound, literal-finds}
 use Rattle.text_laws.proofs.LineNames.{label-sound, label-finds, short-sound, short-finds, short-stop}

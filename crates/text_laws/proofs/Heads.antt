@@ -16,7 +16,18 @@ use mathlib.Core.Logic.{_⊎_, inl, inr}
 use Rattle.rules.specs.Answers.{refused}
 use Rattle.rules.specs.Limits.{fieldsMost}
 use Rattle.rules.specs.Frames.{Row, Slot, slotsIn, units, border}
-use Rattle.text_laws.specs.FrameReader.{readName, readTens, readRow, Top, State, begun, named, spaced, ruled, counted}
+use Rattle.text_laws.specs.FrameReader.{
+  readName,
+  readTens,
+  readRow,
+  Top,
+  State,
+  begun,
+  named,
+  spaced,
+  ruled,
+  counted,
+}
 use Rattle.text_laws.specs.FrameReader.{bordered, rowed, closed, headed, filled, onName, onWidth, onRow, rowOrEnd}
 use Rattle.text_laws.specs.FrameReader.{opened, onSame, step, onState, run, rightFrom}
 use Rattle.text_laws.specs.Judging.{Judged, isMany, isFull, many, judge}
@@ -101,7 +112,8 @@ fills-field cs p ls cells j l (fits a b e c h) = go (ltb (length ls) fieldsMost)
         spills (or-right (ltb fieldsMost (length cs)) (ltb fieldsMost (length (ls ++ (l ∷ []))))
         (lt-ltb fieldsMost (length (ls ++ (l ∷ []))) (omega (arith, longer, n))))
         (full-many cells (p + length ls) j l
-        (or-right (isMany (j .lowest)) (leb fieldsMost (j .count)) (le-leb fieldsMost (j .count) (omega (arith, c, n)))))
+        (or-right (isMany (j .lowest)) (leb fieldsMost (j .count)) (le-leb fieldsMost (j .count) (omega
+        (arith, c, n)))))
 fills-field cs p ls cells j l (spills o e) =
     spills (go (or-cases (ltb fieldsMost (length cs)) (ltb fieldsMost (length ls)) o))
     (full-many cells (p + length ls) j l (or-left (isMany (j .lowest)) (leb fieldsMost (j .count)) (rw e refl)))

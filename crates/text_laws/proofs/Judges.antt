@@ -149,7 +149,8 @@ module _ (cells : List Slot) (p : ℕ) (lines : List (List ℕ)) (j : Judged) (l
       (rw f (lower-stays 6 (refused 5 (p + i)) (broken 6 (p + length lines) (rules cells) (faces (j .fields)) x)
       (broken-above 6 (p + length lines) (rules cells) (faces (j .fields)) x) (omega arith)))
   formed x h (over-size {i = i} forms g s f) =
-      over-size {i = i} (forms ++ (x ∷ [])) (each-joined (SpellsField Unresolved) forms lines g (x ∷ []) (l ∷ []) (h, tt))
+      over-size {i = i} (forms ++ (x ∷ [])) (each-joined (SpellsField Unresolved) forms lines g (x ∷ []) (l ∷ [])
+      (h, tt))
       (rw (break-more keepsSize forms x, s) refl)
       (rw f (lower-stays 6 (refused 6 (p + i)) (broken 6 (p + length lines) (rules cells) (faces (j .fields)) x)
       (broken-above 6 (p + length lines) (rules cells) (faces (j .fields)) x) (omega arith)))

@@ -70,7 +70,8 @@ maybe-finds b phrase (some t) u r w st e = rw e (phrase-finds phrase u r t w st)
 
 -- ── condition ──
 
-condition-there : (o : Option (Tree (List ℕ))) (u r : List ℕ) → SpellsMaybe Unresolved (bytes "; present only when ") o u
+condition-there : (o : Option (Tree (List ℕ))) (u r : List ℕ)
+    → SpellsMaybe Unresolved (bytes "; present only when ") o u
     → isCondition (u ++ (46 ∷ r)) ≡ not (isNone o)
 unfolding isCondition begins after
 condition-there none u r e = rw e refl

@@ -17,7 +17,18 @@ use Rattle.text_laws.specs.FrameReader.{readTens, readRow}
 use Rattle.text_laws.specs.LineReader.{readForm}
 use Rattle.text_laws.specs.Resolving.{indexOf}
 use Rattle.text_laws.specs.Lowest.{lower, broken}
-use Rattle.text_laws.specs.Judging.{face, faces, resolvedIn, rules, Judged, isOpen, isFull, many, grown, withRules}
+use Rattle.text_laws.specs.Judging.{
+  face,
+  faces,
+  resolvedIn,
+  rules,
+  Judged,
+  isOpen,
+  isFull,
+  many,
+  grown,
+  withRules,
+}
 use Rattle.text_laws.specs.Judging.{withForm, judge}
 use Rattle.text_laws.specs.Fold.{Stage, opening, blank, tensRuler, unitsRuler, topBorder, firstRow, rowBorder}
 use Rattle.text_laws.specs.Fold.{rowOrBlank, whereLine, lastBlank, firstField, fieldLine, lost, Found, Kept}
@@ -97,7 +108,8 @@ goes-form cells p j fs (some x) h =
     seen-grown true =
         faces-append fs (resolvedIn fs x)
         ∙ ap₂ {C = List Form} (λ (l : List Form) (y : Form). l ++ (y ∷ [])) (h .seen)
-        (renamed-face (indexOf (faces fs ++ (x ∷ []))) x ∙ sym (renamed-face (indexOf (faces (j .fields) ++ (x ∷ []))) x))
+        (renamed-face (indexOf (faces fs ++ (x ∷ []))) x ∙ sym (renamed-face (indexOf (faces (j .fields) ++
+        (x ∷ []))) x))
         ∙ sym (faces-append (j .fields) (resolvedIn (j .fields) x))
     seen-grown false = h .seen
 
@@ -127,7 +139,8 @@ module _ (f : Found) (fs : List (Field ℕ)) (h : StandIn (f .judged) fs) where
   moves-expect : (w : List ℕ) (s : Stage) (l : List ℕ) → Moves (expect w s f l) (expect w s (foundWith f fs) l)
   moves-expect w s l = go (same l w)
     where
-      go : (t : Bool) → Moves (cond t (onward s f) (wrong f)) (cond t (onward s (foundWith f fs)) (wrong (foundWith f fs)))
+      go : (t : Bool) → Moves (cond t (onward s f) (wrong f)) (cond t (onward s (foundWith f fs)) (wrong
+          (foundWith f fs)))
       go true = moves-onward s
       go false = moves-losing (refused 3 (suc (f .lines)))
 

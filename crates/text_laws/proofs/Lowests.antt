@@ -84,7 +84,8 @@ module _ {A : Type 0} where
       → Above n (broken n p rs before x)
   unfolding broken
   broken-above n p [] before x = tt
-  broken-above n p (r ∷ rs) before x = go (r before x) (broken (suc n) p rs before x) (broken-above (suc n) p rs before x)
+  broken-above n p (r ∷ rs) before x = go (r before x) (broken (suc n) p rs before x) (broken-above
+      (suc n) p rs before x)
     where
       go : (b : Bool) (o : Option Answer) → Above (suc n) o → Above n (cond b o (some (refused n p)))
       go true o h = above-less n (suc n) (omega arith) o h

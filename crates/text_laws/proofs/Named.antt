@@ -55,7 +55,8 @@ module _ {N : Type 0} {R : N → List ℕ → Type 0} where
       (p .0, p .1, parentheses (p .2))
 
   -- and the other way
-  pub named-spelled : {k b : ℕ} {t : Tree N} {u : Tree (List ℕ)} {s : List ℕ} → SpellsAt Unresolved k b u s → Named R t u
+  pub named-spelled : {k b : ℕ} {t : Tree N} {u : Tree (List ℕ)} {s : List ℕ} → SpellsAt Unresolved k b u s
+      → Named R t u
       → SpellsAt R k b t s
   named-spelled (number h e) named-number = number h e
   named-spelled (field e) (named-field {a = a} r) = field (subst (λ w. R a w) (e .0) r)

@@ -225,7 +225,8 @@ module _ {N : Type 0} {R : N → List ℕ → Type 0} where
   spelled-field short x s h =
       let w = spelled-width short (x .width) (h .line .width) (h .line .isWidth) in
       let c = spelled-maybe short (bytes "; ") (x .constraint) (h .line .constraint) (h .line .isConstraint) in
-      let d = spelled-maybe short (bytes "; present only when ") (x .condition) (h .line .condition) (h .line .isCondition) in
+      let d = spelled-maybe short (bytes "; present only when ") (x .condition) (h .line .condition)
+      (h .line .isCondition) in
       go (w .0) (c .0) (d .0) (w .1) (c .1) (d .1) (w .2) (c .2) (d .2)
     where
       go : (w : Width (List ℕ)) (c d : Option (Tree (List ℕ))) → NamedWidth R (x .width) w

@@ -23,7 +23,15 @@ use Rattle.rules.specs.Lines.{SpellsField, Unresolved}
 use Rattle.rules.specs.Frames.{Frame, FrameOf, isFrame, isRow, isLine, cells, isOverfull}
 use Rattle.rules.specs.Spelling.{Spells, NameOf, shows}
 use Rattle.rules.specs.Refusals.{ruleBroken}
-use Rattle.text_laws.specs.Resolving.{firstIndex, indexOf, renameTree, renameWidth, renameField, resolve, described}
+use Rattle.text_laws.specs.Resolving.{
+  firstIndex,
+  indexOf,
+  renameTree,
+  renameWidth,
+  renameField,
+  resolve,
+  described,
+}
 use Rattle.text_laws.proofs.Named.{renamed}
 use Rattle.text_laws.proofs.NamedFields.{
   NamedWidth,

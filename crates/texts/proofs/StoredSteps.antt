@@ -165,7 +165,8 @@ module _ (names : List (List ℕ)) (n : ℕ) (s : List ℕ) (at end : ℕ) (lo :
   unfolding leaf isNumberWord isNumeral
   leaf-number v r k y q m =
       let u : at + 1 ≤ end = longer s at end lo hi e isNumberWord refl y in
-      let x : StoredIs names n (num (wordValue (word (drop at s)))) r = is-number names n (wordValue (word (drop at s))) end r
+      let x : StoredIs names n (num (wordValue (word (drop at s)))) r =
+      is-number names n (wordValue (word (drop at s))) end r
       (rw part-is at (rw (q y) at m)) in
       let d : drop (r .next) s ≡ behind (drop at s) = rw (m .next) e in (
         here-within s (at + 1) at 0 r (rw (m .next) u) (rw (m .next) hi) (rw (m .next, m .len) (omega arith)),
