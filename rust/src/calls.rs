@@ -16,6 +16,15 @@ pub struct Answer {
 
 #[repr(C)]
 #[derive(Clone, Copy)]
+pub struct Partial {
+    number: u32,
+    place: u32,
+    length: u64,
+    count: u64,
+}
+
+#[repr(C)]
+#[derive(Clone, Copy)]
 pub struct Span {
     offset: u64,
     length: u64,
@@ -31,6 +40,14 @@ impl Answer {
     }
 }
 
+impl Partial {
+    /// What goes with an acceptance, or the refusal; and how many fields were read.
+    pub fn settled(self) -> (Result<u64, Refusal>, usize) {
+        let Partial { number, place, length, count } = self;
+        (Answer { number, place, length }.settled(), count as usize)
+    }
+}
+
 impl Span {
     /// The part of `whole` that the span is.
     pub fn part_of(self, whole: &[u8]) -> &[u8] {
@@ -39,7 +56,7 @@ impl Span {
 }
 
 mod library {
-    use super::{Answer, Span};
+    use super::{Answer, Partial, Span};
 
     extern "C" {
         pub fn umarekoza_write_table(
@@ -79,6 +96,17 @@ mod library {
             name_len: usize,
         ) -> Answer;
         pub fn umarekoza_field_label(table: *const u8, table_len: usize, index: usize) -> Span;
+        pub fn umarekoza_field_short(table: *const u8, table_len: usize, index: usize) -> Span;
+        pub fn umarekoza_count_fields(table: *const u8, table_len: usize) -> Answer;
+        pub fn umarekoza_field_kind(table: *const u8, table_len: usize, index: usize) -> Answer;
+        pub fn umarekoza_read_partly(
+            table: *const u8,
+            table_len: usize,
+            packet: *const u8,
+            packet_len: usize,
+            run: *mut u32,
+            run_len: usize,
+        ) -> Partial;
     }
 }
 
@@ -121,4 +149,26 @@ pub fn find_field(table: &[u8], name: &[u8]) -> Answer {
 pub fn field_label(table: &[u8], index: usize) -> Span {
     // SAFETY: the pointer is valid for its length.
     unsafe { library::umarekoza_field_label(table.as_ptr(), table.len(), index) }
+}
+
+pub fn field_short(table: &[u8], index: usize) -> Span {
+    // SAFETY: the pointer is valid for its length.
+    unsafe { library::umarekoza_field_short(table.as_ptr(), table.len(), index) }
+}
+
+pub fn count_fields(table: &[u8]) -> Answer {
+    // SAFETY: the pointer is valid for its length.
+    unsafe { library::umarekoza_count_fields(table.as_ptr(), table.len()) }
+}
+
+pub fn field_kind(table: &[u8], index: usize) -> Answer {
+    // SAFETY: the pointer is valid for its length.
+    unsafe { library::umarekoza_field_kind(table.as_ptr(), table.len(), index) }
+}
+
+pub fn read_partly(table: &[u8], packet: &[u8], run: &mut [u32]) -> Partial {
+    let (run, run_len) = (run.as_mut_ptr(), run.len());
+    let (table_at, packet_at) = (table.as_ptr(), packet.as_ptr());
+    // SAFETY: all pointers are valid for their lengths, and `run` is aligned and lent for the call alone.
+    unsafe { library::umarekoza_read_partly(table_at, table.len(), packet_at, packet.len(), run, run_len) }
 }

@@ -85,3 +85,59 @@ pub fn find_field(table: &[u8], name: &[u8]) -> Result<usize, Refusal> {
 pub fn field_label(table: &[u8], index: usize) -> Option<&[u8]> {
     Some(calls::field_label(table, index).part_of(table)).filter(|label| !label.is_empty())
 }
+
+/// The short name of the field with this index, as that part of the table. None if the table is not good, has no such
+/// field, or the field has none.
+///
+/// ```
+/// # let page = include_bytes!("../../examples/pages/blade-report.txt");
+/// # let table = umarekoza::table_of(page)?;
+/// assert_eq!(umarekoza::field_short(&table, 4), Some(&b"Bor"[..]));
+/// assert_eq!(umarekoza::field_short(&table, 3), None); // Blade
+/// # Ok::<(), umarekoza::Refusal>(())
+/// ```
+pub fn field_short(table: &[u8], index: usize) -> Option<&[u8]> {
+    Some(calls::field_short(table, index).part_of(table)).filter(|short| !short.is_empty())
+}
+
+/// How many fields a table has. Refuses by 21.
+///
+/// ```
+/// # let page = include_bytes!("../../examples/pages/blade-report.txt");
+/// # let table = umarekoza::table_of(page)?;
+/// assert_eq!(umarekoza::count_fields(&table), Ok(7));
+/// # Ok::<(), umarekoza::Refusal>(())
+/// ```
+pub fn count_fields(table: &[u8]) -> Result<usize, Refusal> {
+    calls::count_fields(table).settled().map(|count| count as usize)
+}
+
+/// How a field's width is given.
+#[derive(Clone, Copy, Debug, PartialEq, Eq, Hash)]
+pub enum Kind {
+    /// By a number of bits, 1 to 32: the field has a value.
+    Fixed,
+    /// By an expression: a long field.
+    Measured,
+    /// By what is left of the packet: a long field.
+    Rest,
+}
+
+/// The kind of the field with this index. Refuses by 21, and by 30 if there is none.
+///
+/// ```
+/// use umarekoza::{field_kind, Kind, Refusal};
+/// # let page = include_bytes!("../../examples/pages/blade-report.txt");
+/// # let table = umarekoza::table_of(page)?;
+/// assert_eq!(field_kind(&table, 0), Ok(Kind::Fixed)); // Version
+/// assert_eq!(field_kind(&table, 5), Ok(Kind::Measured)); // Readings
+/// assert_eq!(field_kind(&table, 7), Err(Refusal { number: 30, place: 0 }));
+/// # Ok::<(), umarekoza::Refusal>(())
+/// ```
+pub fn field_kind(table: &[u8], index: usize) -> Result<Kind, Refusal> {
+    Ok(match calls::field_kind(table, index).settled()? {
+        2 => Kind::Fixed,
+        3 => Kind::Measured,
+        _ => Kind::Rest,
+    })
+}

@@ -153,7 +153,7 @@ pub extern "C" fn umarekoza_field_kind(table: &[u8], index: usize) -> Reply
     field_reply(field_kind(table, index))
 }
 
-// A packet is read by a table as far as it goes, into a run of four numbers for each field before the first refused one.
+// A packet is read by a table as far as it goes: four numbers for each field before the first refused one.
 #[no_mangle]
 pub extern "C" fn umarekoza_read_partly(table: &[u8], packet: &[u8], run: &mut [u32]) -> Partial
     ensures { λ r. ⌜ ReadsPartly (now (table .entry)) (now (packet .entry)) (now (run .entry))
