@@ -10,7 +10,7 @@ use Rattle.base.proofs.Breaks.{and-true}
 use Rattle.rules.specs.Stored.{stored}
 use Rattle.rules.specs.Reading.{Part, reading, partIn, partBytes}
 use Rattle.rules.specs.Answers.{accepted}
-use Rattle.rules.specs.Promises.{delivered, notGood, movedBy, Lends, partBy, labelBy}
+use Rattle.rules.specs.Promises.{delivered, notGood, movedBy, Lends, partBy, labelBy, shortBy, Partly}
 use Rattle.laws.specs.Wrong.{
   Claim,
   checks,
@@ -25,11 +25,16 @@ use Rattle.laws.specs.Wrong.{
   tellsPlace,
   tellsAmount,
   tellsLimits,
+  counts,
+  tellsKind,
+  shorts,
+  placesShort,
+  readsPartly,
   lentOutput,
   Claimed,
 }
 use Rattle.laws.proofs.WithinTest.{within}
-use Rattle.laws.proofs.RuledOut.{labelAt, claimed, given, isFitting}
+use Rattle.laws.proofs.RuledOut.{labelAt, shortAt, claimed, given, isFitting}
 use Rattle.cases.specs.Promised.{AllSo}
 use Rattle.cases.proofs.CaseTests.{answer-from, outcome-from, part-from, by-stored}
 
@@ -42,11 +47,15 @@ lent buffer part bytes start e = record {
   place = ap (λ (l : List ℕ). movedBy (getD l 0 0) (0, 0)) e;
 }
 
+partly-from : List ℕ → Partly
+partly-from [] = record { outcome = outcome-from []; count = 0 }
+partly-from (n ∷ l) = record { outcome = outcome-from l; count = n }
+
 first-same : {m n : ℕ} → m ∷ [] ≡ n ∷ [] → m ≡ n
 first-same e = ap (λ (l : List ℕ). getD l 0 0) e
 
 claim-so : (c : Claim) → isFitting c ≡ true → claimed c ≡ given c → Claimed c
-unfolding partBy labelBy
+unfolding partBy labelBy shortBy partly-from
 claim-so (checks d a) h e = λ good.
     ap answer-from e ∙ sym (by-stored d (within d h) (λ c. accepted (length (stored d))) notGood good)
 claim-so (reads d packet a after) h e = λ good. ap outcome-from e ∙ sym (by-stored d (within d h) _ _ good)
@@ -75,6 +84,19 @@ claim-so (tellsNumber r n) h e = first-same e
 claim-so (tellsPlace r n) h e = first-same e
 claim-so (tellsAmount r n) h e = first-same e
 claim-so (tellsLimits l) h e = e
+claim-so (counts d a) h e = λ good.
+    ap answer-from e ∙ sym (by-stored d (within d h) (λ c. accepted (length (c .fields))) notGood good)
+claim-so (tellsKind d i a) h e = λ good. ap answer-from e ∙ sym (by-stored d (within d h) _ _ good)
+claim-so (shorts d i bytes start) h e = (
+  (0, 0),
+  λ good.
+      subst (λ (part : Part). Lends (stored d) (0, 0) part bytes (movedBy start (0, 0)))
+      (sym (by-stored d (within d h) (λ c. shortAt c i) _ good))
+      (lent (stored d) (shortAt d i) bytes start e),
+)
+claim-so (placesShort d i part) h e = λ good.
+    ap part-from e ∙ sym (by-stored d (within d h) (λ c. shortAt c i) _ good)
+claim-so (readsPartly d packet a after n) h e = λ good. ap partly-from e ∙ sym (by-stored d (within d h) _ _ good)
 
 abbrev pub isSo : Claim → Bool
 isSo c = isFitting c && same (claimed c) (given c)

@@ -25,10 +25,10 @@ use Rattle.rules.specs.Stored.{storedIn, storedFieldIn, fieldBody, headBody}
 use Rattle.rules.specs.Frames.{tens, units, border, cellText, rowLines, isFrame, headLines, cells}
 use Rattle.rules.specs.Spelling.{mismatch}
 use Rattle.rules.specs.Refusals.{ruleBroken}
-use Rattle.rules.specs.Reading.{bitsAt, valueIn, readField, readFields, reading}
+use Rattle.rules.specs.Reading.{bitsAt, valueIn, readField, readFields, reading, fieldsBefore, entriesBefore}
 use Rattle.rules.specs.Listing.{entryLines, linesText}
 use Rattle.rules.specs.Answers.{faultNumber, ofTable, ofPacket, ofText, ofListing}
-use Rattle.rules.specs.Promises.{delivered, readingAnswer, packetOutcome, firstNamed, readingLines}
+use Rattle.rules.specs.Promises.{delivered, readingAnswer, packetOutcome, partlyOutcome, firstNamed, readingLines}
 use Rattle.rules.specs.Pages.{manyFields, notTimes, andTimes}
 use Rattle.text_laws.specs.Reader.{
   after,
@@ -131,8 +131,8 @@ unfolding digits all any same lastIs sum joined tabulate firstBreak operator ope
     isPrintable isAllowed isWordByte isLabelByte noTwoSpaces isLabel reserved isReserved isShort depth le2 le4
     storedTree isInRange hasType apply decides evaluate rowsFit storedIn storedFieldIn fieldBody headBody tens
     units border cellText rowLines isFrame headLines cells mismatch ruleBroken bitsAt valueIn readField
-    readFields reading entryLines linesText faultNumber ofTable ofPacket ofText ofListing delivered
-    readingAnswer packetOutcome firstNamed readingLines manyFields notTimes andTimes after firstOf insert
+    readFields reading fieldsBefore entriesBefore entryLines linesText faultNumber ofTable ofPacket ofText ofListing delivered
+    readingAnswer packetOutcome partlyOutcome firstNamed readingLines manyFields notTimes andTimes after firstOf insert
     longestFirst order skip skipBehind operatorAt word behind scan wordValue isNumeral isNumberWord andThen leaf
     close inside atom step expr more Lines.readField literal begins labelEnds labelText labelBehind readLabel
     readClosedName readShort readTree unitOf readUnit readMeasure readWidth readPhrase readMaybe isCondition

@@ -1,7 +1,6 @@
 -- Right answers: for each sort of claim of which laws/specs/Wrong lists false ones, one that holds, so that none of
--- those
--- is false for want of any answer. [01, The blade report, marked cases and listing]
-use mathlib.Core.List.{List, [], _∷_}
+-- those is false for want of any answer. [01, The blade report, marked cases and listing]
+use mathlib.Core.List.{List, [], _∷_, _++_}
 use lib.ListN.{length}
 use Rattle.base.specs.Bytes.{bytes}
 use Rattle.base.specs.Lists.{Every}
@@ -27,9 +26,15 @@ use Rattle.laws.specs.Wrong.{
   tellsPlace,
   tellsAmount,
   tellsLimits,
+  counts,
+  tellsKind,
+  shorts,
+  placesShort,
+  readsPartly,
   Claimed,
   runOf,
   outputOf,
+  m1Six,
   m1Entries,
 }
 
@@ -48,6 +53,13 @@ promised =
     ∷ tellsPlace (Refused BitsMissing 7) 7
     ∷ tellsAmount (Accepted 64) 64
     ∷ tellsLimits limits
+    ∷ counts bladeReport (accepted 7)
+    ∷ tellsKind bladeReport 5 (accepted 3)
+    ∷ tellsKind bladeReport 7 (refused 30 0)
+    ∷ shorts bladeReport 0 (bytes "V") 37
+    ∷ placesShort bladeReport 3 (partFrom 0 0)
+    ∷ readsPartly bladeReport m3 (refused 24 7) (runOf m1Six) 6
+    ∷ readsPartly bladeReport (m1 ++ (0 ∷ [])) (refused 28 0) (runOf m1Entries) 7
     ∷ []
 
 abbrev pub AllSo : List Claim → Type 0

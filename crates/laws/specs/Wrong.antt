@@ -273,7 +273,7 @@ wrongAnswers =
     ∷ tellsLimits (take 9 limits)
     -- the number of fields: those with a short name alone; the table's length; 21 for a good table
     ∷ counts bladeReport (accepted 4)
-    ∷ counts bladeReport (accepted 189)
+    ∷ counts bladeReport (accepted 201)
     ∷ counts bladeReport notGood
     -- a kind: fixed for every field; the first record's; the last record's for an index beyond; none for a field
     ∷ tellsKind bladeReport 5 (accepted 2)
