@@ -1,5 +1,5 @@
 -- From the walk over records to the promises on a table's fields: how many, by name and by index.
-use mathlib.Core.Path.{_≡_, refl, sym, _∙_, ap}
+use mathlib.Core.Path.{_≡_, refl, ap}
 use mathlib.Core.Bool.{true, false≢true}
 use mathlib.Core.List.{List, [], _∷_}
 use mathlib.Core.Option.{Option, none, some}
@@ -7,7 +7,7 @@ use Prim.Native.Nat.{ℕ, zero, suc, _+_, _<_, _≤_}
 use native.Mathlib.Omega.{arith}
 use lib.ListN.{length, take, drop, getElem?}
 use borrow.Author.Tests.{eq-eqb, ne-eqb}
-use Rattle.base.specs.Lists.{ifAny, joined}
+use Rattle.base.specs.Lists.{ifAny}
 use Rattle.base.specs.Places.{twoAt}
 use Rattle.base.proofs.Places.{stands-some}
 use Rattle.rules.specs.declared.TableAnswer.{TableAnswer}

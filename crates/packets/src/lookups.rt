@@ -10,7 +10,6 @@ use rules::TABLE_MOST;
 use rules::TableAnswer;
 use writing::spans::Span;
 ghost use mathlib.Core.Path.{_≡_};
-ghost use Prim.Native.Nat.{_≤_};
 ghost use denote.Ref.{ptr};
 ghost use Rattle.base.specs.Places.{twoAt};
 ghost use Rattle.rules.specs.Reading.{partFrom};

@@ -1,6 +1,5 @@
 -- No reply and no span of a wrong export keeps the export's promise.
 use mathlib.Core.Path.{refl}
-use lib.Dec.{leb→le}
 use Rattle.base.specs.Bytes.{digits}
 use Rattle.base.specs.Lists.{all, any, same, lastIs, sum, joined, firstBreak}
 use Rattle.rules.specs.Operators.{operator}
@@ -16,7 +15,6 @@ use Rattle.rules.specs.Names.{
   isReserved,
   isShort,
 }
-use Rattle.rules.specs.Limits.{textMost}
 use Rattle.rules.specs.Trees.{depth, le2, le4, storedTree, isInRange, hasType}
 use Rattle.rules.specs.Values.{apply, decides, evaluate}
 use Rattle.rules.specs.Within.{rowsFit}
@@ -30,7 +28,6 @@ use Rattle.rules.specs.Promises.{
   packetOutcome,
   readingLines,
   firstNamed,
-  spelled,
   partlyOutcome,
 }
 use Rattle.laws.specs.Wrong.{AllFalse}
