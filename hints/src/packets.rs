@@ -12,6 +12,8 @@ use stored::{fields_of, StoredField, StoredWidth, Tree};
 use values::{value_of, Fault};
 use written::{name_of, written};
 
+const PACKET_MOST: usize = 2_048;
+
 /// What is said of a refused packet.
 #[derive(Clone, Debug, Default, PartialEq, Eq)]
 pub struct PacketHint {
@@ -44,6 +46,7 @@ pub fn packet_hint(table: &[u8], packet: &[u8], before: &[[u32; 4]], verdict: Ve
     let fields = fields_of(table).unwrap_or_default();
     let place = verdict.place as usize;
     let told = match (verdict.number, place.checked_sub(1)) {
+        (22, None) if packet.len() > PACKET_MOST => Some(too_long(packet)),
         (28, None) if !fields.is_empty() && before.len() == fields.len() => {
             left_over(&fields, packet, before)
         }
@@ -99,10 +102,16 @@ fn end_of(before: &[[u32; 4]]) -> u64 {
     last.map_or(0, |[_, offset, width, _]| u64::from(*offset) + u64::from(*width))
 }
 
+fn too_long(packet: &[u8]) -> Told {
+    let length = counted(packet.len() as u64, "byte");
+    let message = format!("the packet has {length}, at most {}", spelled(PACKET_MOST as u64));
+    Told { number: 22, message, notes: vec!["see that it is one packet, and in bytes".to_string()] }
+}
+
 /// Bits as whole bytes and bits.
 fn in_bytes(bits: u64) -> String {
     match (bits / 8, bits % 8) {
-        (0, bits) => format!("{}, less than a byte", counted(bits, "bit")),
+        (0, _) => "less than a byte".to_string(),
         (bytes, 0) => counted(bytes, "byte"),
         (bytes, bits) => format!("{} and {}", counted(bytes, "byte"), counted(bits, "bit")),
     }

@@ -108,6 +108,36 @@ error[28]: 8 bits are left over from bit 64 on: 1 byte
 }
 
 #[test]
+fn bits_that_are_less_than_a_byte() {
+    let table =
+        table(&[(2, "Count", "C", &[16, 0, 0, 0, 0, 0]), (3, "Data", "", &[1, 0, 2, 0, 2, 0, 0, 0, 0, 0])]);
+    let due = "\
+error[28]: 3 bits are left over from bit 21 on: less than a byte
+ --> packet.bin
+  = note: the packet has 3 bytes, 24 bits; `Data` is the last field that is present and ends at bit 21
+  = note: a field of `variable` width takes what is left
+";
+    told(&table, &[0, 5, 0], &[[1, 0, 16, 5], [1, 16, 5, 0]], (28, 0), due);
+    let due = "\
+error[28]: 11 bits are left over from bit 21 on: 1 byte and 3 bits
+ --> packet.bin
+  = note: the packet has 4 bytes, 32 bits; `Data` is the last field that is present and ends at bit 21
+  = note: a field of `variable` width takes what is left
+";
+    told(&table, &[0, 5, 0, 0], &[[1, 0, 16, 5], [1, 16, 5, 0]], (28, 0), due);
+}
+
+#[test]
+fn a_packet_that_is_too_long() {
+    let due = "\
+error[22]: the packet has 2,049 bytes, at most 2,048
+ --> packet.bin
+  = note: see that it is one packet, and in bytes
+";
+    told(&blade(), &[0; 2_049], &[], (22, 0), due);
+}
+
+#[test]
 fn a_constraint_that_does_not_hold() {
     let m5 = [0x22, 0x07, 0x01, 0x2C, 0xAA, 0xBB, 0x00, 0x09];
     let due = "\
