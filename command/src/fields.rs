@@ -14,6 +14,16 @@ impl Described {
     pub fn is_fixed(&self) -> bool {
         self.kind == Kind::Fixed
     }
+
+    /// A field of a packet as a listing has it.
+    pub fn line(&self, field: &Field) -> String {
+        let (label, Field { offset, width, value, .. }) = (&self.label, field);
+        match field.present {
+            false => format!("{label}: absent"),
+            true if self.is_fixed() => format!("{label}: {offset} {width} {value}"),
+            true => format!("{label}: {offset} {width}"),
+        }
+    }
 }
 
 /// All fields of a good table.
@@ -34,6 +44,16 @@ pub fn reading(table: &[u8], packet: &[u8], count: usize) -> Result<(u64, Vec<Fi
     let fields =
         run.chunks_exact(4).take(count).map(|four| Field::from([four[0], four[1], four[2], four[3]]));
     Ok((bits, fields.collect()))
+}
+
+/// The fields of a packet before the first refused one; all where none is.
+pub fn read_before(table: &[u8], packet: &[u8]) -> Vec<Field> {
+    umarekoza_hints::fields_before(table, packet).into_iter().map(Field::from).collect()
+}
+
+/// The four numbers of a field in a run.
+pub fn numbers_of(field: &Field) -> [u32; 4] {
+    [u32::from(field.present), field.offset, field.width, field.value]
 }
 
 /// The index of the field with this name; where there is none, the index that is written there, if it is one.

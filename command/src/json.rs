@@ -1,7 +1,7 @@
 //! Answers as objects of JSON.
 
 use crate::explain::field_of;
-use crate::fields::{reading, whole_bytes, Described};
+use crate::fields::{read_before, reading, whole_bytes, Described};
 use crate::hex::written;
 use serde_json::{json, Map, Value};
 use umarekoza::{Field, Kind, Refusal};
@@ -9,18 +9,24 @@ use umarekoza::{Field, Kind, Refusal};
 /// A packet, accepted or refused.
 pub fn packet(name: &str, table: &[u8], packet: &[u8], described: &[Described]) -> Result<Value, Value> {
     let (bits, fields) = reading(table, packet, described.len())
-        .map_err(|refusal| refused_packet(name, described, refusal))?;
-    let long_bytes = |index, described: &Described, field: &Field| {
-        let bytes = (!described.is_fixed()).then(|| umarekoza::field_bytes(table, packet, index))?;
-        whole_bytes(field, bytes).map(written)
-    };
-    let both = described.iter().zip(&fields).enumerate();
-    let objects: Vec<Value> = both
-        .map(|(index, (described, field))| {
-            field_object(described, field, long_bytes(index, described, field))
-        })
-        .collect();
+        .map_err(|refusal| refused_packet(name, table, packet, described, refusal))?;
+    let long_bytes = |index| umarekoza::field_bytes(table, packet, index);
+    let objects = objects(described, &fields, long_bytes);
     Ok(json!({ "name": name, "result": "accepted", "bits": bits, "fields": objects }))
+}
+
+/// The fields that were read, by their indices with the bytes of long ones.
+fn objects<'a>(
+    described: &[Described],
+    fields: &[Field],
+    bytes_of: impl Fn(usize) -> &'a [u8],
+) -> Vec<Value> {
+    let both = described.iter().zip(fields).enumerate();
+    both.map(|(index, (described, field))| {
+        let bytes = (!described.is_fixed()).then(|| bytes_of(index));
+        field_object(described, field, bytes.and_then(|bytes| whole_bytes(field, bytes)).map(written))
+    })
+    .collect()
 }
 
 /// A field; what an absent one has not, and what a field of its kind has not, is null.
@@ -46,10 +52,22 @@ fn kind(kind: Kind) -> &'static str {
     }
 }
 
-/// A refused packet, with the label of the field that is refused.
-fn refused_packet(name: &str, fields: &[Described], refusal: Refusal) -> Value {
+/// A refused packet, with the label of the field that is refused, and the fields that were read before it.
+fn refused_packet(
+    name: &str,
+    table: &[u8],
+    packet: &[u8],
+    described: &[Described],
+    refusal: Refusal,
+) -> Value {
+    let before = read_before(table, packet);
+    let long_bytes = |index: usize| {
+        let Field { offset, width, .. } = before[index];
+        &packet[offset as usize / 8..][..width as usize / 8]
+    };
     let mut object = refused(name, refusal);
-    object.insert("field".to_string(), json!(field_of(fields, refusal)));
+    object.insert("field".to_string(), json!(field_of(described, refusal)));
+    object.insert("fields".to_string(), json!(objects(described, &before, long_bytes)));
     Value::Object(object)
 }
 

@@ -1,0 +1,107 @@
+//! Refusals drawn on standard error, with colour on a terminal. What is drawn holds no control character: names, labels
+//! and lines are shown before they come here.
+
+use crate::progress;
+use codespan_reporting::diagnostic::{Diagnostic, Label};
+use codespan_reporting::files::{Error, Files};
+use codespan_reporting::term::termcolor::{BufferWriter, ColorChoice};
+use codespan_reporting::term::{emit, Chars, Config};
+use std::io::{self, IsTerminal, Write};
+use std::ops::Range;
+
+/// What is said of a refusal.
+pub struct Told {
+    pub number: u32,
+    pub message: String,
+    /// The file, with a line or a field.
+    pub place: String,
+    pub mark: Option<Mark>,
+    pub notes: Vec<String>,
+    /// Lines below.
+    pub below: Vec<String>,
+}
+
+/// A line with a place that is marked.
+pub struct Mark {
+    /// The name of the file.
+    pub name: String,
+    /// Line and column, from 1.
+    pub line: usize,
+    pub column: usize,
+    /// The line, or the part of it that is shown.
+    pub text: String,
+    /// What is marked in the text.
+    pub meant: Range<usize>,
+    pub label: String,
+}
+
+/// Draws it on standard error. There is nowhere to tell that this failed.
+pub fn draw(told: &Told) {
+    let choice = if io::stderr().is_terminal() { ColorChoice::Auto } else { ColorChoice::Never };
+    let writer = BufferWriter::stderr(choice);
+    let mut buffer = writer.buffer();
+    if emit(&mut buffer, &config(), told, &told.diagnostic()).is_err() {
+        return;
+    }
+    let mut bytes = buffer.into_inner();
+    while bytes.ends_with(b"\n\n") {
+        bytes.pop();
+    }
+    for line in &told.below {
+        bytes.extend(line.bytes().chain([b'\n']));
+    }
+    progress::aside(|| {
+        let _ = io::stderr().lock().write_all(&bytes);
+    });
+}
+
+fn config() -> Config {
+    Config { chars: Chars::ascii(), ..Config::default() }
+}
+
+impl Told {
+    fn diagnostic(&self) -> Diagnostic<()> {
+        let diagnostic = Diagnostic::error()
+            .with_code(self.number.to_string())
+            .with_notes(self.notes.iter().map(|note| format!("note: {note}")).collect());
+        match &self.mark {
+            Some(mark) => diagnostic.with_message(&self.message).with_labels(vec![Label::primary(
+                (),
+                mark.meant.clone(),
+            )
+            .with_message(&mark.label)]),
+            None => diagnostic.with_message(format!("{}\n --> {}", self.message, self.place)),
+        }
+    }
+
+    fn marked(&self) -> Result<&Mark, Error> {
+        self.mark.as_ref().ok_or(Error::FileMissing)
+    }
+}
+
+/// The only file is the marked line.
+impl<'a> Files<'a> for Told {
+    type FileId = ();
+    type Name = &'a str;
+    type Source = &'a str;
+
+    fn name(&'a self, (): ()) -> Result<&'a str, Error> {
+        Ok(&self.marked()?.name)
+    }
+
+    fn source(&'a self, (): ()) -> Result<&'a str, Error> {
+        Ok(&self.marked()?.text)
+    }
+
+    fn line_index(&'a self, (): (), _: usize) -> Result<usize, Error> {
+        Ok(self.marked()?.line - 1)
+    }
+
+    fn line_range(&'a self, (): (), _: usize) -> Result<Range<usize>, Error> {
+        Ok(0..self.marked()?.text.len())
+    }
+
+    fn column_number(&'a self, (): (), _: usize, _: usize) -> Result<usize, Error> {
+        Ok(self.marked()?.column)
+    }
+}
