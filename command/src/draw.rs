@@ -43,15 +43,11 @@ pub fn draw(told: &Told) {
     if emit(&mut buffer, &config(), told, &told.diagnostic()).is_err() {
         return;
     }
-    let mut bytes = buffer.into_inner();
-    while bytes.ends_with(b"\n\n") {
-        bytes.pop();
-    }
-    for line in &told.below {
-        bytes.extend(line.bytes().chain([b'\n']));
-    }
+    let drawn = String::from_utf8_lossy(buffer.as_slice()).into_owned();
+    let lines = drawn.trim_end().lines().map(str::trim_end).chain(told.below.iter().map(String::as_str));
+    let text: String = lines.map(|line| format!("{line}\n")).collect();
     progress::aside(|| {
-        let _ = io::stderr().lock().write_all(&bytes);
+        let _ = io::stderr().lock().write_all(text.as_bytes());
     });
 }
 

@@ -8,27 +8,23 @@ use std::fmt::Write;
 /// besides the characters 0x20 to 0x7E is shown as question marks, and what the name holds besides those, letters and
 /// digits.
 pub fn plain(hint: &Hint, name: &str, text: &[u8]) -> String {
-    let mut out = format!("error[{}]: {}\n", hint.number, hint.message);
     let name = shown_name(name);
-    let margin = " ".repeat(hint.line.to_string().len());
-    let (part, meant) = hint.shown_line(text);
-    let shown = format!("{} | {part}", hint.line);
-    match (hint.line, meant) {
-        (0, _) => _ = writeln!(out, "{margin}--> {name}"),
-        (number, None) => {
-            _ = writeln!(out, "{margin}--> {name}:{number}\n{margin} |\n{}", shown.trim_end());
+    let mut out = format!("error[{}]: {}\n", hint.number, hint.message);
+    let mut margin = String::new();
+    if let (part, Some(meant)) = hint.shown_line(text) {
+        margin = " ".repeat(hint.line.to_string().len());
+        let (before, carets) = (" ".repeat(meant.start), "^".repeat(meant.len().max(1)));
+        let mark = format!("{before}{carets} {}", hint.label);
+        _ = writeln!(out, "{margin} --> {name}:{}:{}\n{margin} |", hint.line, hint.column);
+        _ = writeln!(out, "{}", format!("{} | {part}", hint.line).trim_end());
+        _ = writeln!(out, "{}", format!("{margin} | {mark}").trim_end());
+        if !hint.notes.is_empty() {
+            _ = writeln!(out, "{margin} |");
         }
-        (number, Some(meant)) => {
-            let (before, carets) = (" ".repeat(meant.start), "^".repeat(meant.len().max(1)));
-            let mark = format!("{margin} | {before}{carets} {}", hint.label);
-            _ = writeln!(
-                out,
-                "{margin}--> {name}:{number}:{}\n{margin} |\n{}",
-                hint.column,
-                shown.trim_end()
-            );
-            _ = writeln!(out, "{}", mark.trim_end());
-        }
+    } else if hint.line > 0 {
+        _ = writeln!(out, " --> {name}:{}", hint.line);
+    } else {
+        _ = writeln!(out, " --> {name}");
     }
     for note in &hint.notes {
         _ = writeln!(out, "{margin} = note: {note}");

@@ -1,8 +1,6 @@
 //! Runs of the built command in folders of their own.
 #![allow(dead_code)]
 
-pub mod told;
-
 use std::fs;
 use std::io::Write;
 use std::path::{Path, PathBuf};

@@ -1,6 +1,7 @@
-//! The line and the bytes in it that are meant, for a renderer.
+//! The line and the bytes in it that are meant, for a renderer; and what no page of the command comes to.
 
 use crate::common::{with, BLADE};
+use crate::told_of;
 use umarekoza_hints::{page_hint, plain, Verdict};
 
 /// The line that is shown, what is meant in it, and where that begins.
@@ -47,4 +48,14 @@ fn a_name_is_shown_without_control_characters() {
 fn a_shown_line_has_a_character_for_each_byte() {
     let page = with(&[("Blade: 1 byte.", "Blade:\u{A0}1 byte. \x1B[0m")]);
     shows(&page, (2, 0), "Blade:??1 byte. ?[0m", "??", 6);
+}
+
+#[test]
+fn an_output_that_is_too_short() {
+    let due = "\
+error[11]: the output is too short: the page's table has 201 bytes
+ --> page.txt
+ = note: give it room for 201 bytes
+";
+    assert_eq!(told_of(BLADE.as_bytes(), 11, 0), due);
 }
