@@ -1,7 +1,7 @@
 /* Umarekoza: packet diagrams as tables, and packets read by them.
 
-   Link libumarekoza.a (x86-64 Linux). Numbers, places and bytes are those of document 01; only 30, for a name that no
-   field has, is not there: document 02 gives it where there is no such field.
+   Link libumarekoza.a (x86-64 Linux). Numbers, places and bytes are those of document 01; only 30, for a name or index
+   that no field has, is not there: document 02 gives it where there is no such field.
 
    Each function has a proved promise, which holds for all bytes and lengths: it settles the answer, and what every
    lent buffer holds afterwards. A buffer that is not written is left as it was, and so is any byte beyond what is
@@ -24,6 +24,8 @@
 extern "C" {
 #endif
 
+#define UMAREKOZA_VERSION "0.1.0"
+
 /* The limits of document 01 that a caller meets: bytes of a text, fields, bytes of a packet. */
 #define UMAREKOZA_TEXT_MOST 16384
 #define UMAREKOZA_FIELDS_MOST 64
@@ -39,6 +41,14 @@ struct umarekoza_answer {
     uint32_t number;
     uint32_t place;
     uint64_t length;
+};
+
+/* An answer, and the number of fields that were read before a refusal. */
+struct umarekoza_partial {
+    uint32_t number;
+    uint32_t place;
+    uint64_t length;
+    uint64_t count;
 };
 
 /* A part of a lent buffer: where it starts, and its length, in bytes. */
@@ -80,6 +90,23 @@ struct umarekoza_answer umarekoza_find_field(const uint8_t *table, size_t table_
 /* Where in the table the label of a field stands, by its index from 0. 0, 0 if the table is not good or there is no
    such field. */
 struct umarekoza_span umarekoza_field_label(const uint8_t *table, size_t table_len, size_t index);
+
+/* Where in the table the short name of a field stands, by its index from 0. 0, 0 if the table is not good, there is no
+   such field, or it has no short name. */
+struct umarekoza_span umarekoza_field_short(const uint8_t *table, size_t table_len, size_t index);
+
+/* The number of a table's fields. Accepted: their number, as the length. Refused: 21 at 0. */
+struct umarekoza_answer umarekoza_count_fields(const uint8_t *table, size_t table_len);
+
+/* The kind of a field, by its index from 0. Accepted, as the length: 2 (fixed), 3 (measured) or 4 (rest); those of 3
+   and 4 are long. Refused: 21 at 0 (the table), 30 at 0 (no such field). */
+struct umarekoza_answer umarekoza_field_kind(const uint8_t *table, size_t table_len, size_t index);
+
+/* Reads a packet by a table as umarekoza_read_packet does, with the same answers, as far as it goes: the run gets the
+   numbers of the fields before the first refused one, all of them where bits are left over (28) or the packet is
+   accepted, and count is the number of these fields. 21, 22 and 23: count 0, and run is unchanged. */
+struct umarekoza_partial umarekoza_read_partly(const uint8_t *table, size_t table_len, const uint8_t *packet,
+                                               size_t packet_len, uint32_t *run, size_t run_len);
 
 #ifdef __cplusplus
 }

@@ -50,6 +50,20 @@ static const char blade[] =
     "Readings: N bytes.\n"
     "Sum: 2 bytes.\n";
 
+/* A rest field alone. */
+static const char rest[] =
+    "A Note is formatted as follows:\n"
+    "\n"
+    " 0\n"
+    " 0 1 2 3 4 5 6 7\n"
+    "+-+-+-+-+-+-+-+-+\n"
+    ":     Text      :\n"
+    "+-+-+-+-+-+-+-+-+\n"
+    "\n"
+    "where:\n"
+    "\n"
+    "Text: variable.\n";
+
 static const uint8_t m1[8] = {0x62, 0x07, 0x01, 0x2C, 0xAA, 0xBB, 0x00, 0x09};
 
 static const char m1_listing[] =
@@ -82,6 +96,11 @@ static void expect(int holds, const char *what)
 static int is(struct umarekoza_answer a, uint32_t number, uint32_t place, uint64_t length)
 {
     return a.number == number && a.place == place && a.length == length;
+}
+
+static int reads(struct umarekoza_partial a, uint32_t number, uint32_t place, uint64_t length, uint64_t count)
+{
+    return a.number == number && a.place == place && a.length == length && a.count == count;
 }
 
 static int lies(struct umarekoza_span s, uint64_t offset, uint64_t length)
@@ -203,9 +222,69 @@ static void field_label(void)
     expect(lies(umarekoza_field_label(tag_table, 44, 0), 19, 4), "the label Kind");
 }
 
+static void field_short(void)
+{
+    expect(lies(umarekoza_field_short(NULL, 0, 0), 0, 0), "a short name in no table");
+    expect(lies(umarekoza_field_short(tag_table, 43, 0), 0, 0), "a short name in a part of the Tag table");
+    expect(lies(umarekoza_field_short(tag_table, 44, 1), 0, 0), "the short name of no field");
+    expect(lies(umarekoza_field_short(tag_table, 44, 0), 25, 1), "the short name K");
+    expect(lies(umarekoza_field_short(table, table_len, 3), 0, 0), "Blade has no short name");
+    expect(lies(umarekoza_field_short(table, table_len, 4), 137, 3), "the short name Bor");
+}
+
+static void count_fields(void)
+{
+    expect(is(umarekoza_count_fields(NULL, 0), 21, 0, 0), "the fields of no table");
+    expect(is(umarekoza_count_fields(tag_table, 43), 21, 0, 0), "the fields of a part of the Tag table");
+    expect(is(umarekoza_count_fields(tag_table, 44), 0, 0, 1), "the Tag table's field");
+    expect(is(umarekoza_count_fields(table, table_len), 0, 0, 7), "the blade report's fields");
+}
+
+static void field_kind(void)
+{
+    uint8_t out[64];
+    struct umarekoza_answer note = umarekoza_write_table(BYTES(rest), out, sizeof out);
+    expect(is(umarekoza_field_kind(NULL, 0, 0), 21, 0, 0), "a kind in no table");
+    expect(is(umarekoza_field_kind(table, table_len, 7), 30, 0, 0), "the kind of no field");
+    expect(is(umarekoza_field_kind(table, table_len, 0), 0, 0, 2), "the kind of Version");
+    expect(is(umarekoza_field_kind(table, table_len, 5), 0, 0, 3), "the kind of Readings");
+    expect(note.number == 0 && is(umarekoza_field_kind(out, note.length, 0), 0, 0, 4), "the kind of Text");
+}
+
+static void read_partly(void)
+{
+    static const uint8_t m4[9] = {0x62, 0x07, 0x01, 0x2C, 0xAA, 0xBB, 0x00, 0x09, 0x00};
+    static const uint8_t m6[2] = {0x55, 0x07};
+    static const uint32_t m6_numbers[8] = {1, 0, 2, 1, 1, 2, 1, 0};
+    static const uint8_t packet[UMAREKOZA_PACKET_MOST + 1];
+    uint32_t run[30];
+    memset(run, 9, sizeof run);
+    expect(reads(umarekoza_read_partly(NULL, 0, NULL, 0, NULL, 0), 21, 0, 0, 0), "reading nothing, partly");
+    expect(reads(umarekoza_read_partly(NULL, 0, m1, 8, run, 30), 21, 0, 0, 0), "by no table, partly");
+    expect(reads(umarekoza_read_partly(table, table_len, m1, 8, NULL, 0), 23, 0, 0, 0), "to no run, partly");
+    expect(reads(umarekoza_read_partly(table, table_len, m1, 7, run, 27), 23, 0, 0, 0), "to a short run, partly");
+    expect(reads(umarekoza_read_partly(table, table_len, packet, sizeof packet, run, 30), 22, 0, 0, 0),
+           "a packet too long, partly");
+    expect(reads(umarekoza_read_partly(table, table_len, NULL, 0, run, 30), 24, 1, 0, 0), "M7 partly");
+    expect(nines(run, 0, sizeof run), "a run of no fields");
+    expect(reads(umarekoza_read_partly(table, table_len, m6, 2, run, 30), 25, 3, 0, 2), "M6 partly");
+    expect(memcmp(run, m6_numbers, sizeof m6_numbers) == 0, "M6's numbers before Cells");
+    expect(nines(run, sizeof m6_numbers, sizeof run), "what lies beyond M6's numbers");
+    expect(reads(umarekoza_read_partly(table, table_len, m1, 7, run, 30), 24, 7, 0, 6), "M3 partly");
+    expect(memcmp(run, m1_numbers, 24 * 4) == 0, "M3's numbers before Sum");
+    expect(nines(run, 24 * 4, sizeof run), "what lies beyond M3's numbers");
+    expect(reads(umarekoza_read_partly(table, table_len, m4, 9, run, 30), 28, 0, 0, 7), "M4 partly");
+    expect(memcmp(run, m1_numbers, sizeof m1_numbers) == 0, "M4's numbers");
+    memset(run, 9, sizeof run);
+    expect(reads(umarekoza_read_partly(table, table_len, m1, 8, run, 30), 0, 0, 64, 7), "M1 partly");
+    expect(memcmp(run, m1_numbers, sizeof m1_numbers) == 0, "M1's numbers, partly");
+    expect(nines(run, sizeof m1_numbers, sizeof run), "what lies beyond M1's numbers, partly");
+}
+
 int main(void)
 {
     expect(sizeof(struct umarekoza_answer) == 16, "size of an answer");
+    expect(sizeof(struct umarekoza_partial) == 24, "size of an answer with a count");
     expect(sizeof(struct umarekoza_span) == 16, "size of a span");
     most();
     write_table();
@@ -215,5 +294,9 @@ int main(void)
     list_packet();
     find_field();
     field_label();
+    field_short();
+    count_fields();
+    field_kind();
+    read_partly();
     return failed;
 }

@@ -2,7 +2,7 @@
 //! the hints.
 
 use crate::draw::{draw, Mark, Told};
-use crate::fields::{nearest, numbers_of, read_before, Described};
+use crate::fields::{nearest, numbers_of, reading, Described};
 use crate::inputs::Input;
 use crate::names::shown;
 use crate::outputs::complain;
@@ -35,7 +35,7 @@ fn page(name: &str, bytes: &[u8], refusal: Refusal) -> Told {
 
 /// Explains the refusal of a packet, and shows of these fields those that were read before it.
 pub fn packet(name: &Name<'_>, table: &[u8], packet: &[u8], refusal: Refusal, shown: &[Described]) {
-    let before = read_before(table, packet);
+    let (_, before) = reading(table, packet);
     let numbers: Vec<[u32; 4]> = before.iter().map(numbers_of).collect();
     let hint = packet_hint(table, packet, &numbers, verdict(refusal));
     let place = match hint.field {

@@ -37,18 +37,14 @@ pub fn described(table: &[u8]) -> Vec<Described> {
     (0..).map_while(field).collect()
 }
 
-/// A packet's bits, and its fields in the order of the table, of which there are so many.
-pub fn reading(table: &[u8], packet: &[u8], count: usize) -> Result<(u64, Vec<Field>), Refusal> {
+/// The bits of a packet or its refusal, and its fields in the order of the table: those before the first refused one,
+/// or all.
+pub fn reading(table: &[u8], packet: &[u8]) -> (Result<u64, Refusal>, Vec<Field>) {
     let mut run = [0; RUN_MOST];
-    let bits = umarekoza::read_packet(table, packet, &mut run)?;
+    let (answer, count) = umarekoza::read_partly(table, packet, &mut run);
     let fields =
         run.chunks_exact(4).take(count).map(|four| Field::from([four[0], four[1], four[2], four[3]]));
-    Ok((bits, fields.collect()))
-}
-
-/// The fields of a packet before the first refused one; all where none is.
-pub fn read_before(table: &[u8], packet: &[u8]) -> Vec<Field> {
-    umarekoza_hints::fields_before(table, packet).into_iter().map(Field::from).collect()
+    (answer, fields.collect())
 }
 
 /// The four numbers of a field in a run.

@@ -1,32 +1,34 @@
 //! Answers as objects of JSON.
 
 use crate::explain::field_of;
-use crate::fields::{read_before, reading, whole_bytes, Described};
+use crate::fields::{reading, whole_bytes, Described};
 use crate::hex::written;
 use serde_json::{json, Map, Value};
 use umarekoza::{Field, Kind, Refusal};
 
-/// A packet, accepted or refused.
+/// A packet, accepted with its fields; or refused, with the label of the field that is, and the fields before it.
 pub fn packet(name: &str, table: &[u8], packet: &[u8], described: &[Described]) -> Result<Value, Value> {
-    let (bits, fields) = reading(table, packet, described.len())
-        .map_err(|refusal| refused_packet(name, table, packet, described, refusal))?;
-    let long_bytes = |index| umarekoza::field_bytes(table, packet, index);
-    let objects = objects(described, &fields, long_bytes);
-    Ok(json!({ "name": name, "result": "accepted", "bits": bits, "fields": objects }))
+    let (answer, fields) = reading(table, packet);
+    let objects = objects(described, &fields, packet);
+    match answer {
+        Ok(bits) => Ok(json!({ "name": name, "result": "accepted", "bits": bits, "fields": objects })),
+        Err(refusal) => {
+            let mut object = refused(name, refusal);
+            object.insert("field".to_string(), json!(field_of(described, refusal)));
+            object.insert("fields".to_string(), json!(objects));
+            Err(Value::Object(object))
+        }
+    }
 }
 
-/// The fields that were read, by their indices with the bytes of long ones.
-fn objects<'a>(
-    described: &[Described],
-    fields: &[Field],
-    bytes_of: impl Fn(usize) -> &'a [u8],
-) -> Vec<Value> {
-    let both = described.iter().zip(fields).enumerate();
-    both.map(|(index, (described, field))| {
-        let bytes = (!described.is_fixed()).then(|| bytes_of(index));
-        field_object(described, field, bytes.and_then(|bytes| whole_bytes(field, bytes)).map(written))
-    })
-    .collect()
+/// The fields that were read, long ones with their bytes.
+fn objects(described: &[Described], fields: &[Field], packet: &[u8]) -> Vec<Value> {
+    let object = |(described, field): (&Described, &Field)| {
+        let bytes = || packet[field.offset as usize / 8..][..field.width as usize / 8].as_ref();
+        let bytes = (!described.is_fixed()).then(bytes).and_then(|bytes| whole_bytes(field, bytes));
+        field_object(described, field, bytes.map(written))
+    };
+    described.iter().zip(fields).map(object).collect()
 }
 
 /// A field; what an absent one has not, and what a field of its kind has not, is null.
@@ -50,25 +52,6 @@ fn kind(kind: Kind) -> &'static str {
         Kind::Measured => "measured",
         Kind::Rest => "rest",
     }
-}
-
-/// A refused packet, with the label of the field that is refused, and the fields that were read before it.
-fn refused_packet(
-    name: &str,
-    table: &[u8],
-    packet: &[u8],
-    described: &[Described],
-    refusal: Refusal,
-) -> Value {
-    let before = read_before(table, packet);
-    let long_bytes = |index: usize| {
-        let Field { offset, width, .. } = before[index];
-        &packet[offset as usize / 8..][..width as usize / 8]
-    };
-    let mut object = refused(name, refusal);
-    object.insert("field".to_string(), json!(field_of(described, refusal)));
-    object.insert("fields".to_string(), json!(objects(described, &before, long_bytes)));
-    Value::Object(object)
 }
 
 /// A page or table, accepted with the length of its table, or refused.

@@ -1,15 +1,10 @@
-//! The functions of the static library, each behind a safe one of the same name. All unsafe code is here. What the
-//! library has no function for yet is in `stand_ins`, under the name that it will have.
+//! The functions of the static library, each behind a safe one of the same name. All unsafe code is here.
 //!
 //! A slice crosses as its own pointer and its length; that of an empty one is not null, aligned, and valid for the
 //! length 0. The library reads the shared slices only, writes within the lent ones only, and keeps no pointer;
 //! Rust's borrows see to it that no two overlap.
 
-mod stand_ins;
-
 use crate::Refusal;
-
-pub use stand_ins::{count_fields, field_kind, field_short};
 
 #[repr(C)]
 #[derive(Clone, Copy)]
@@ -17,6 +12,15 @@ pub struct Answer {
     number: u32,
     place: u32,
     length: u64,
+}
+
+#[repr(C)]
+#[derive(Clone, Copy)]
+pub struct Partial {
+    number: u32,
+    place: u32,
+    length: u64,
+    count: u64,
 }
 
 #[repr(C)]
@@ -36,6 +40,14 @@ impl Answer {
     }
 }
 
+impl Partial {
+    /// What goes with an acceptance, or the refusal; and how many fields were read.
+    pub fn settled(self) -> (Result<u64, Refusal>, usize) {
+        let Partial { number, place, length, count } = self;
+        (Answer { number, place, length }.settled(), count as usize)
+    }
+}
+
 impl Span {
     /// The part of `whole` that the span is.
     pub fn part_of(self, whole: &[u8]) -> &[u8] {
@@ -44,7 +56,7 @@ impl Span {
 }
 
 mod library {
-    use super::{Answer, Span};
+    use super::{Answer, Partial, Span};
 
     extern "C" {
         pub fn umarekoza_write_table(
@@ -84,6 +96,17 @@ mod library {
             name_len: usize,
         ) -> Answer;
         pub fn umarekoza_field_label(table: *const u8, table_len: usize, index: usize) -> Span;
+        pub fn umarekoza_field_short(table: *const u8, table_len: usize, index: usize) -> Span;
+        pub fn umarekoza_count_fields(table: *const u8, table_len: usize) -> Answer;
+        pub fn umarekoza_field_kind(table: *const u8, table_len: usize, index: usize) -> Answer;
+        pub fn umarekoza_read_partly(
+            table: *const u8,
+            table_len: usize,
+            packet: *const u8,
+            packet_len: usize,
+            run: *mut u32,
+            run_len: usize,
+        ) -> Partial;
     }
 }
 
@@ -126,4 +149,26 @@ pub fn find_field(table: &[u8], name: &[u8]) -> Answer {
 pub fn field_label(table: &[u8], index: usize) -> Span {
     // SAFETY: the pointer is valid for its length.
     unsafe { library::umarekoza_field_label(table.as_ptr(), table.len(), index) }
+}
+
+pub fn field_short(table: &[u8], index: usize) -> Span {
+    // SAFETY: the pointer is valid for its length.
+    unsafe { library::umarekoza_field_short(table.as_ptr(), table.len(), index) }
+}
+
+pub fn count_fields(table: &[u8]) -> Answer {
+    // SAFETY: the pointer is valid for its length.
+    unsafe { library::umarekoza_count_fields(table.as_ptr(), table.len()) }
+}
+
+pub fn field_kind(table: &[u8], index: usize) -> Answer {
+    // SAFETY: the pointer is valid for its length.
+    unsafe { library::umarekoza_field_kind(table.as_ptr(), table.len(), index) }
+}
+
+pub fn read_partly(table: &[u8], packet: &[u8], run: &mut [u32]) -> Partial {
+    let (run, run_len) = (run.as_mut_ptr(), run.len());
+    let (table_at, packet_at) = (table.as_ptr(), packet.as_ptr());
+    // SAFETY: all pointers are valid for their lengths, and `run` is aligned and lent for the call alone.
+    unsafe { library::umarekoza_read_partly(table_at, table.len(), packet_at, packet.len(), run, run_len) }
 }

@@ -3,7 +3,8 @@
 //! names the one number that it does not have.
 //!
 //! Every function answers for every input and panics for none. Functions that write to a lent slice change no
-//! byte of it where they refuse, and nothing beyond what they write where they accept.
+//! byte of it where they refuse, and nothing beyond what they write where they accept; [`read_partly`] alone writes
+//! what it read before a refusal.
 //!
 //! The library uses the stack of the thread that calls it: a call may need some tens of kilobytes.
 //!
@@ -52,13 +53,13 @@ mod tables;
 
 pub use limits::{FIELDS_MOST, LISTING_MOST, PACKET_MOST, RUN_MOST, TABLE_MOST, TEXT_MOST};
 pub use meanings::{meanings, Meaning};
-pub use packets::{field_bytes, fields_of, list_packet, listing, read_packet, Field};
+pub use packets::{field_bytes, fields_of, list_packet, listing, read_packet, read_partly, Field};
 pub use refusal::Refusal;
 pub use tables::{
     check_table, count_fields, field_kind, field_label, field_short, find_field, table_of, write_table, Kind,
 };
 
-/// The version of this crate.
+/// The version of this crate and of the library's header.
 pub const VERSION: &str = env!("CARGO_PKG_VERSION");
 
 /// What `write` writes to an output of `room` bytes.

@@ -38,6 +38,25 @@ pub fn read_packet(table: &[u8], packet: &[u8], run: &mut [u32]) -> Result<u64, 
     calls::read_packet(table, packet, run).settled()
 }
 
+/// Reads a packet by a table as far as it goes. Answers what [`read_packet`] answers, and how many fields' numbers are
+/// at the start of `run`: those before the first refused one, or all where bits are left over or the packet is accepted.
+///
+/// 21, 22 and 23 leave `run` as it was; numbers beyond those of the fields stay too.
+///
+/// ```
+/// use umarekoza::{read_partly, Refusal};
+/// # let page = include_bytes!("../../examples/pages/blade-report.txt");
+/// # let table = umarekoza::table_of(page)?;
+/// let mut run = [0; 28];
+/// let packet = [0x62, 0x07, 0x01, 0x2C, 0xAA, 0xBB, 0x00]; // half of Sum
+/// assert_eq!(read_partly(&table, &packet, &mut run), (Err(Refusal { number: 24, place: 7 }), 6));
+/// assert_eq!(run[16..], [1, 16, 16, 300, 1, 32, 16, 0, 0, 0, 0, 0]); // Borrower, Readings
+/// # Ok::<(), umarekoza::Refusal>(())
+/// ```
+pub fn read_partly(table: &[u8], packet: &[u8], run: &mut [u32]) -> (Result<u64, Refusal>, usize) {
+    calls::read_partly(table, packet, run).settled()
+}
+
 /// The fields of a packet, in the order of the table. Refuses by 21, 22 and 24 to 28.
 ///
 /// ```

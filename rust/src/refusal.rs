@@ -3,7 +3,7 @@ use std::error::Error;
 use std::fmt;
 
 /// A refusal: its number, and its place (a line of a text, a field of a packet, or 0). Both are document 01's; only
-/// 30, for a name that no field has, is not there: document 02 gives it where there is no such field.
+/// 30, for a name or index that no field has, is not there: document 02 gives it where there is no such field.
 ///
 /// ```
 /// let refusal = umarekoza::Refusal { number: 24, place: 7 };

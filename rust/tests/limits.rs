@@ -70,6 +70,12 @@ fn sums_and_products() {
 }
 
 #[test]
+fn version_of_the_header() {
+    let line = format!("#define UMAREKOZA_VERSION \"{}\"", umarekoza::VERSION);
+    assert!(text_of("include/umarekoza.h").lines().any(|other| other == line), "not there: {line}");
+}
+
+#[test]
 fn limits_of_the_header() {
     let header = text_of("include/umarekoza.h");
     for (name, limit) in LIMITS.into_iter().chain(LENGTHS) {

@@ -29,7 +29,18 @@ use Rattle.rules.specs.Values.{apply, decides, evaluate}
 use Rattle.rules.specs.Fields.{Description}
 use Rattle.rules.specs.Within.{rowsFit, Within}
 use Rattle.rules.specs.Stored.{storedIn, storedFieldIn, stored, fieldBody, headBody, Good}
-use Rattle.rules.specs.Reading.{Part, partIn, partBytes, bitsAt, valueIn, readField, readFields, reading}
+use Rattle.rules.specs.Reading.{
+  Part,
+  partIn,
+  partBytes,
+  bitsAt,
+  valueIn,
+  readField,
+  readFields,
+  reading,
+  fieldsBefore,
+  entriesBefore,
+}
 use Rattle.rules.specs.Listing.{entryLines, linesText}
 use Rattle.rules.specs.Answers.{Answer, accepted, faultNumber, ofPacket}
 use Rattle.rules.specs.Promises.{
@@ -54,6 +65,17 @@ use Rattle.rules.specs.Promises.{
   readingLines,
   listing,
   ListsPacket,
+  Partly,
+  leavesPartly,
+  partlyOutcome,
+  ReadsPartly,
+  shortOf,
+  shortBy,
+  PlacesShort,
+  LendsShort,
+  CountsFields,
+  kindAnswer,
+  TellsKind,
 }
 use Rattle.rules.specs.Cases.{lentRun}
 use Rattle.laws.proofs.WithinTest.{isWithin, within}
@@ -71,6 +93,11 @@ use Rattle.laws.specs.Wrong.{
   tellsPlace,
   tellsAmount,
   tellsLimits,
+  counts,
+  tellsKind,
+  shorts,
+  placesShort,
+  readsPartly,
   lentOutput,
   Claimed,
   AllFalse,
@@ -132,6 +159,33 @@ pub label-place-only : (d : Description) (i : ℕ) (part : Part) → Within d �
 unfolding labelBy
 label-place-only d i part w p = p (yes (good-stored d w))
 
+pub count-only : (d : Description) (a : Answer) → Within d → CountsFields (stored d) a
+    → a ≡ accepted (length (d .fields))
+count-only d a w p = p (yes (good-stored d w))
+
+pub kind-only : (d : Description) (i : ℕ) (a : Answer) → Within d → TellsKind (stored d) i a
+    → a ≡ kindAnswer (getElem? (d .fields) i)
+kind-only d i a w p = p (yes (good-stored d w))
+
+abbrev pub shortAt : Description → ℕ → Part
+shortAt d i = shortOf d i (getElem? (d .fields) i)
+
+pub short-only : (d : Description) (i : ℕ) (from : ℕ × ℕ) (bytes : List ℕ) (start : ℕ) → Within d
+    → LendsShort (stored d) i from bytes (movedBy start from)
+    → (bytes ≡ partBytes (stored d) (shortAt d i)) × (start ≡ shortAt d i .start)
+unfolding shortBy
+short-only d i from bytes start w p =
+    lent-only (stored d) from (shortAt d i) bytes start (p (yes (good-stored d w)))
+
+pub short-place-only : (d : Description) (i : ℕ) (part : Part) → Within d → PlacesShort (stored d) i part
+    → part ≡ shortAt d i
+unfolding shortBy
+short-place-only d i part w p = p (yes (good-stored d w))
+
+pub partly-only : (d : Description) (packet run : List ℕ) (p : Partly) → Within d
+    → ReadsPartly (stored d) packet run p → p ≡ partlyOutcome d packet run
+partly-only d packet run p w h = h (yes (good-stored d w))
+
 -- ── of other numbers it is false ──
 
 abbrev pub answerNumbers : Answer → List ℕ
@@ -145,6 +199,9 @@ partNumbers packet part = part .start ∷ partBytes packet part
 
 abbrev pub placeNumbers : Part → List ℕ
 placeNumbers part = part .start ∷ part .size ∷ []
+
+abbrev pub partlyNumbers : Partly → List ℕ
+partlyNumbers p = p .count ∷ numbers (p .outcome)
 
 abbrev pub single : ℕ → List ℕ
 single n = n ∷ []
@@ -163,6 +220,11 @@ claimed (tellsNumber r n) = single n
 claimed (tellsPlace r n) = single n
 claimed (tellsAmount r n) = single n
 claimed (tellsLimits l) = l
+claimed (counts d a) = answerNumbers a
+claimed (tellsKind d i a) = answerNumbers a
+claimed (shorts d i bytes start) = start ∷ bytes
+claimed (placesShort d i part) = placeNumbers part
+claimed (readsPartly d packet a after n) = partlyNumbers (leavesPartly a after n)
 
 abbrev pub given : Claim → List ℕ
 given (checks d r) = answerNumbers (accepted (length (stored d)))
@@ -177,6 +239,11 @@ given (tellsNumber r n) = single (ofPacket r .number)
 given (tellsPlace r n) = single (ofPacket r .place)
 given (tellsAmount r n) = single (ofPacket r .amount)
 given (tellsLimits l) = limits
+given (counts d a) = answerNumbers (accepted (length (d .fields)))
+given (tellsKind d i a) = answerNumbers (kindAnswer (getElem? (d .fields) i))
+given (shorts d i bytes start) = partNumbers (stored d) (shortAt d i)
+given (placesShort d i part) = placeNumbers (shortAt d i)
+given (readsPartly d packet a after n) = partlyNumbers (partlyOutcome d packet lentRun)
 
 -- what is claimed of a table is of the table of a description within the limits
 abbrev pub isFitting : Claim → Bool
@@ -192,6 +259,11 @@ isFitting (tellsNumber r n) = true
 isFitting (tellsPlace r n) = true
 isFitting (tellsAmount r n) = true
 isFitting (tellsLimits l) = true
+isFitting (counts d a) = isWithin d
+isFitting (tellsKind d i a) = isWithin d
+isFitting (shorts d i bytes start) = isWithin d
+isFitting (placesShort d i part) = isWithin d
+isFitting (readsPartly d packet a after n) = isWithin d
 
 two-parts : {m n : ℕ} {s t : List ℕ} → (s ≡ t) × (m ≡ n) → m ∷ s ≡ n ∷ t
 two-parts {n = n} {s = s} q = ap (λ (k : ℕ). k ∷ s) (q .1) ∙ ap (λ (l : List ℕ). n ∷ l) (q .0)
@@ -210,6 +282,12 @@ claim-only (tellsNumber r n) h p = ap single p
 claim-only (tellsPlace r n) h p = ap single p
 claim-only (tellsAmount r n) h p = ap single p
 claim-only (tellsLimits l) h p = p
+claim-only (counts d a) h p = ap answerNumbers (count-only d a (within d h) p)
+claim-only (tellsKind d i a) h p = ap answerNumbers (kind-only d i a (within d h) p)
+claim-only (shorts d i bytes start) h p = two-parts (short-only d i (p .0) bytes start (within d h) (p .1))
+claim-only (placesShort d i part) h p = ap placeNumbers (short-place-only d i part (within d h) p)
+claim-only (readsPartly d packet a after n) h p =
+    ap partlyNumbers (partly-only d packet lentRun (leavesPartly a after n) (within d h) p)
 
 abbrev pub isOther : Claim → Bool
 isOther c = isFitting c && not (same (claimed c) (given c))
@@ -228,7 +306,7 @@ unfolding digits all any same lastIs sum joined firstBreak operator isLetter isD
     isLabelByte noTwoSpaces isLabel reserved isReserved isShort depth le2 le4 storedTree isInRange hasType
     apply decides evaluate rowsFit storedIn storedFieldIn fieldBody headBody bitsAt valueIn readField readFields
     reading entryLines linesText faultNumber ofPacket delivered readingAnswer
-    packetOutcome readingLines firstNamed
+    packetOutcome readingLines firstNamed fieldsBefore entriesBefore partlyOutcome
 all-ruled-out = all-out wrong refl
 
 -- ── a table that is not good ──

@@ -28,6 +28,14 @@ use Rattle.rules.specs.Promises.{
   PlacesLabel,
   LendsLabel,
   ReadsText,
+  Partly,
+  leavesPartly,
+  ReadsPartly,
+  shortBy,
+  PlacesShort,
+  LendsShort,
+  CountsFields,
+  TellsKind,
 }
 use Rattle.rules.specs.Results.{TextUnique}
 use Rattle.laws.proofs.Decidable.{good-decidable}
@@ -188,6 +196,31 @@ part-place-settled table packet i part other p q = both table _ part other p q
 pub label-place-settled : (table : List ℕ) (i : ℕ) (part other : Part) → PlacesLabel table i part
     → PlacesLabel table i other → part ≡ other
 label-place-settled table i part other p q = both table _ part other p q
+
+pub lent-short-settled : (table : List ℕ) (i : ℕ) (from : ℕ × ℕ) (bytes others : List ℕ) (at other : ℕ × ℕ)
+    → LendsShort table i from bytes at → LendsShort table i from others other → (bytes ≡ others) × (at ≡ other)
+lent-short-settled table i from bytes others at other p q =
+    lent-settled table table from (λ good. shortBy good i) bytes others at other p q
+
+pub short-place-settled : (table : List ℕ) (i : ℕ) (part other : Part) → PlacesShort table i part
+    → PlacesShort table i other → part ≡ other
+short-place-settled table i part other p q = both table _ part other p q
+
+pub count-settled : (table : List ℕ) (a b : TableAnswer) → CountsFields table (ofTable a)
+    → CountsFields table (ofTable b) → a ≡ b
+count-settled table a b p q = table-number a b (both table _ (ofTable a) (ofTable b) p q)
+
+pub kind-settled : (table : List ℕ) (i : ℕ) (a b : FieldAnswer) → TellsKind table i (ofField a)
+    → TellsKind table i (ofField b) → a ≡ b
+kind-settled table i a b p q = field-number a b (both table _ (ofField a) (ofField b) p q)
+
+pub partly-settled : (table packet run : List ℕ) (a b : PacketAnswer) (after other : List ℕ) (n m : ℕ)
+    → ReadsPartly table packet run (leavesPartly (ofPacket a) after n)
+    → ReadsPartly table packet run (leavesPartly (ofPacket b) other m) → (a ≡ b) × (after ≡ other) × (n ≡ m)
+partly-settled table packet run a b after other n m p q =
+    let e = both table _ (leavesPartly (ofPacket a) after n) (leavesPartly (ofPacket b) other m) p q in
+    let o = apart ofPacket packet-number a b after other (ap (λ (x : Partly). x .outcome) e) in
+    (o .0, o .1, ap (λ (x : Partly). x .count) e)
 
 -- a text, whose outcome is the only one (texts, TextResults)
 pub text-settled : TextUnique → (text out : List ℕ) (a b : TextAnswer) (after other : List ℕ)

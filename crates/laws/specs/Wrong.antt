@@ -30,6 +30,12 @@ use Rattle.rules.specs.Promises.{
   PlacesLabel,
   LendsLabel,
   ListsPacket,
+  leavesPartly,
+  ReadsPartly,
+  PlacesShort,
+  LendsShort,
+  CountsFields,
+  TellsKind,
 }
 use Rattle.rules.specs.Cases.{lentRun, named, unnamed, entry}
 use Rattle.rules.specs.Marked.{bladeReport, m1, m1Listing}
@@ -60,6 +66,16 @@ pub data Claim : Type 0 where
   tellsAmount : PacketAnswer → ℕ → Claim
   -- the limits
   tellsLimits : List ℕ → Claim
+  -- the number of fields
+  counts : Description → Answer → Claim
+  -- the kind of the field of an index
+  tellsKind : Description → ℕ → Answer → Claim
+  -- its short name, and where in the table it begins
+  shorts : Description → ℕ → List ℕ → ℕ → Claim
+  -- where it begins, and its length
+  placesShort : Description → ℕ → Part → Claim
+  -- the answer to a packet, what a run of thirty 9s holds then, and how many fields it has
+  readsPartly : Description → List ℕ → Answer → List ℕ → ℕ → Claim
 
 abbrev pub lentOutput : List ℕ
 lentOutput = replicate 120 9
@@ -77,6 +93,11 @@ Claimed (tellsNumber r n) = n ≡ ofPacket r .number
 Claimed (tellsPlace r n) = n ≡ ofPacket r .place
 Claimed (tellsAmount r n) = n ≡ ofPacket r .amount
 Claimed (tellsLimits l) = l ≡ limits
+Claimed (counts d a) = CountsFields (stored d) a
+Claimed (tellsKind d i a) = TellsKind (stored d) i a
+Claimed (shorts d i short start) = (from : ℕ × ℕ) × LendsShort (stored d) i from short (movedBy start from)
+Claimed (placesShort d i part) = PlacesShort (stored d) i part
+Claimed (readsPartly d packet a after n) = ReadsPartly (stored d) packet lentRun (leavesPartly a after n)
 
 abbrev pub AllFalse : List Claim → Type 0
 AllFalse = Every (λ c. Claimed c → ⊥)
@@ -249,6 +270,34 @@ wrongAnswers =
     ∷ tellsLimits (set limits 1 65)
     ∷ tellsLimits (set limits 3 39)
     ∷ tellsLimits (take 9 limits)
+    -- the number of fields: those with a short name alone; the table's length; 21 for a good table
+    ∷ counts bladeReport (accepted 4)
+    ∷ counts bladeReport (accepted 201)
+    ∷ counts bladeReport notGood
+    -- a kind: fixed for every field; the first record's; the last record's for an index beyond; none for a field
+    ∷ tellsKind bladeReport 5 (accepted 2)
+    ∷ tellsKind bladeReport 0 (accepted 1)
+    ∷ tellsKind bladeReport 7 (accepted 5)
+    ∷ tellsKind bladeReport 0 (refused 30 0)
+    -- a short name: the empty part; the label; the neighbour's; its own bytes from elsewhere; the label for none
+    ∷ shorts bladeReport 0 [] 0
+    ∷ shorts bladeReport 0 (bytes "Version") 28
+    ∷ shorts bladeReport 0 (bytes "L") 67
+    ∷ shorts bladeReport 0 (bytes "V") 28
+    ∷ shorts bladeReport 3 (bytes "Blade") 108
+    -- where it lies: the empty part; its length taken in; where it would stand for a field that has none
+    ∷ placesShort bladeReport 0 (partFrom 0 0)
+    ∷ placesShort bladeReport 0 (partFrom 35 3)
+    ∷ placesShort bladeReport 3 (partFrom 115 0)
+    -- read as far as it goes: nothing written; the refused field counted; its numbers written, also where it breaks its
+    -- constraint; accepted; nothing where bits are left over
+    ∷ readsPartly bladeReport m3 (refused 24 7) lentRun 0
+    ∷ readsPartly bladeReport m3 (refused 24 7) (runOf m1Six) 7
+    ∷ readsPartly bladeReport m3 (refused 24 7) (runOf (m1Six ++ (absent ∷ []))) 6
+    ∷ readsPartly bladeReport (0x55 ∷ 0x07 ∷ []) (refused 25 3)
+    (runOf (entry 0 2 1 ∷ entry 2 1 0 ∷ entry 3 5 21 ∷ [])) 2
+    ∷ readsPartly bladeReport m3 (accepted 56) (runOf m1Six) 6
+    ∷ readsPartly bladeReport (m1 ++ (0x00 ∷ [])) (refused 28 0) lentRun 0
     ∷ []
 
 abbrev pub wrong : List Claim

@@ -9,7 +9,7 @@
 -- WalkLaws, NameLaws, TableParts, TableLaws    all fields, names, the whole table: tests and rules
 -- BitLaws, StepLaws, PacketWalk     bits, one field of a packet, and all
 -- RunEntries, FieldReads, FieldMatches, HeadReads, CopyLaws, WalkReads   what a stored table's walk reads
--- PacketPromises, PartPromises      from the walk to the promises
+-- PacketPromises, PartPromises, PartlyPromises   from the walk to the promises
 -- WriteLaws, LinesWritten           writing one byte, and one line, behind the other
 -- LinesStored, ListingTexts, ListingStored   what is written by a table is its description's listing
 -- LookupSteps, LookupStored, LookupPromises   records by index and fields by name
@@ -46,6 +46,7 @@ pub mod CopyLaws
 pub mod WalkReads
 pub mod PacketPromises
 pub mod PartPromises
+pub mod PartlyPromises
 pub mod WriteLaws
 pub mod LinesWritten
 pub mod LinesStored

@@ -1,33 +1,45 @@
--- From the walk over records to the promises on a field's index and label.
+-- From the walk over records to the promises on a table's fields: how many, by name and by index.
 use mathlib.Core.Path.{_≡_, refl, ap}
+use mathlib.Core.Bool.{true, false≢true}
 use mathlib.Core.List.{List, [], _∷_}
 use mathlib.Core.Option.{none}
 use Prim.Native.Nat.{ℕ, zero, suc, _+_, _<_, _≤_}
 use native.Mathlib.Omega.{arith}
 use lib.ListN.{length, take, drop, getElem?}
-use Rattle.base.specs.Lists.{joined}
+use borrow.Author.Tests.{eq-eqb, ne-eqb}
+use Rattle.base.specs.Lists.{ifAny}
 use Rattle.base.specs.Places.{twoAt}
+use Rattle.base.proofs.Places.{stands-some}
 use Rattle.rules.specs.declared.TableAnswer.{TableAnswer}
 use Rattle.rules.specs.declared.FieldAnswer.{FieldAnswer}
+use Rattle.rules.specs.Names.{isShort}
 use Rattle.rules.specs.Fields.{Field}
-use Rattle.rules.specs.Stored.{recordOf, headBody, storedField, Good}
+use Rattle.rules.specs.Stored.{recordOf, storedName, Good}
 use Rattle.rules.specs.Answers.{Answer, ofTable, ofField}
-use Rattle.rules.specs.Reading.{partFrom}
+use Rattle.rules.specs.Reading.{Part, partFrom, noPart}
 use Rattle.rules.specs.Promises.{
   ChecksTable,
   FindsField,
+  CountsFields,
+  TellsKind,
+  labelOf,
   labelBy,
-  PlacesLabel,
+  shortPart,
+  shortBy,
   movedBy,
-  LendsLabel,
+  Lends,
 }
 use Rattle.writing.specs.declared.spans.Span.{Span}
+use Rattle.packets.specs.declared.lookups.FieldRecord.{FieldRecord}
 use Rattle.packets.specs.Parts.{tableMost, spanOf, ending, partsAt}
-use Rattle.packets.specs.Lookups.{placeFrom, findFrom, OnTable}
+use Rattle.packets.specs.PartsStand.{In}
+use Rattle.packets.specs.Lookups.{placeFrom, findFrom}
+use Rattle.packets.specs.Found.{Finds, labelIn, filledSpan, shortIn, kindIn, OnTable, OnLabel, OnShort}
 use Rattle.packets.proofs.TableHead.{head-first, head-count, fields-stand}
 use Rattle.packets.proofs.TableParts.{table-length}
 use Rattle.packets.proofs.LinesStored.{label-inside}
 use Rattle.packets.proofs.LookupStored.{find-stored, Placed, place-stored}
+use Rattle.packets.proofs.PacketPromises.{not-good}
 
 -- ── the index of a name ──
 
@@ -47,7 +59,21 @@ module _ (table name : List ℕ) where
       (find-stored table (length table) (recordOf 5 []) l name (d .fields) [] 0 (twoAt table 0) (w .form) (w .size)
       (fields-stand d table (k .isStored) w))
 
--- ── the label of an index ──
+-- ── the number of fields ──
+
+module _ (table : List ℕ) where
+  pub count-bad : (r : TableAnswer) → ChecksTable table (ofTable r) → r ≡ TableAnswer.NotGood
+      → CountsFields table (ofTable TableAnswer.NotGood)
+  unfolding ofTable
+  count-bad r h e (yes k) = absurd (not-good table (rw e at h) k)
+  count-bad r h e (no b) = refl
+
+  pub count-told : Good table → CountsFields table (ofTable (TableAnswer.Good (twoAt table 6)))
+  unfolding ofTable
+  count-told g (yes k) = rw (head-count (k .description) table (k .isStored) (k .within))
+  count-told g (no b) = absurd (b g)
+
+-- ── the field of an index ──
 
 beyond : (fs : List (Field ℕ)) (k : ℕ) → length fs ≤ k → getElem? fs k ≡ none
 beyond [] zero h = refl
@@ -55,33 +81,47 @@ beyond [] (suc k) h = refl
 beyond (f ∷ fs) zero h = absurd (omega arith)
 beyond (f ∷ fs) (suc k) h = beyond fs k (omega arith)
 
+-- a short name's part, behind the label
+short-span : (s : List ℕ) (p : Span) (label : Part) (o : Option (List ℕ)) → ifAny isShort o ≡ true
+    → In s p (storedName o) → p .at ≡ label .start + label .size + 2
+    → (ending (filledSpan p) ≤ length s)
+    × (filledSpan p ≡ spanOf (shortPart label o .start) (shortPart label o .size))
+unfolding filledSpan isShort
+short-span s p label none h i a = rw (eq-eqb (p .len) 0 (omega (arith, i .end))) (omega arith, refl)
+short-span s p label (some []) h i a = absurd (false≢true h)
+short-span s p label (some (x ∷ w)) h i a =
+    let n : p .len ≡ length (x ∷ w) = omega (arith, i .end) in
+    let inside = stands-some s (p .at) (ending p) x w i in
+    let z : p .len ≡ 0 → ⊥ = λ e. omega arith in
+    rw (ne-eqb (p .len) 0 z) (inside, λ j. record { at = a j; len = n j })
+
+module _ (table : List ℕ) (part : Dec (Good table) → Part) where
+  -- the empty part
+  none-on : ((good : Dec (Good table)) → part good ≡ noPart) → OnTable table part (spanOf 0 0)
+  none-on h = record { is = λ good. rw (h good); within = omega arith }
+
+  -- what is handed back
+  pub on-placed : (r : Span) → OnTable table part r → (good : Dec (Good table)) → partFrom (r .at) (r .len) ≡ part good
+  on-placed r on good = ap (λ (x : Span). partFrom (x .at) (x .len)) (on .is good)
+
+  pub on-lent : (r : Span) (bytes : List ℕ) (from at : ℕ × ℕ) → OnTable table part r
+      → bytes ≡ take (r .len) (drop (r .at) table) → at ≡ movedBy (r .at) from
+      → (good : Dec (Good table)) → Lends table from (part good) bytes at
+  on-lent r bytes from at on content place good = record {
+    content = rw (← ap (λ (x : Span). x .at) (on .is good), ← ap (λ (x : Span). x .len) (on .is good)) content;
+    place = rw (← ap (λ (x : Span). x .at) (on .is good)) place;
+  }
+
 module _ (table : List ℕ) (i : ℕ) where
-  pub label-bad : ChecksTable table (ofTable TableAnswer.NotGood) → OnTable table i (spanOf 0 0)
-  unfolding ofTable labelBy
-  label-bad h = record { is = go; within = omega arith }
-    where
-      go : (good : Dec (Good table)) → spanOf 0 0 ≡ spanOf (labelBy good i .start) (labelBy good i .size)
-      go (yes g) = let q = ap (λ (a : Answer). a .number) (h (yes g)) in absurd (omega (arith, q))
-      go (no b) = refl
+  abbrev here : ℕ
+  here = placeFrom table i (twoAt table 0)
 
-  pub label-outside : Good table → twoAt table 6 ≤ i → OnTable table i (spanOf 0 0)
-  unfolding labelBy
-  label-outside g h = record { is = go; within = omega arith }
-    where
-      go : (good : Dec (Good table)) → spanOf 0 0 ≡ spanOf (labelBy good i .start) (labelBy good i .size)
-      go (no b) = refl
-      go (yes k) =
-          let c = head-count (k .description) table (k .isStored) (k .within) in
-          let e = beyond (k .description .fields) i (omega (arith, c)) in
-          rw (e, labelBy) refl
+  outside : (k : Good table) → twoAt table 6 ≤ i → getElem? (k .description .fields) i ≡ none
+  outside k h =
+      let c = head-count (k .description) table (k .isStored) (k .within) in
+      beyond (k .description .fields) i (omega (arith, c))
 
-  -- the label's part, by the record that the walk comes to
-  pub record LabelAt : Type 0 where
-    pub low : placeFrom table i (twoAt table 0) ≤ tableMost
-    pub inside : ending (partsAt table (placeFrom table i (twoAt table 0)) .label) ≤ length table
-    pub on : OnTable table i (partsAt table (placeFrom table i (twoAt table 0)) .label)
-
-  placed : (k : Good table) → i < twoAt table 6 → Placed table (length table) (recordOf 5 [])
+  pub placed : (k : Good table) → i < twoAt table 6 → Placed table (length table) (recordOf 5 [])
       (rw (k .isStored) at (table-length (k .description) (k .within))) (k .description .fields) i (twoAt table 0)
   placed k h =
       let d = k .description in
@@ -89,40 +129,88 @@ module _ (table : List ℕ) (i : ℕ) where
       place-stored table (length table) (recordOf 5 []) _ (d .fields) [] i (twoAt table 0) (w .form) (w .size)
       (fields-stand d table (k .isStored) w) (omega (arith, head-count d table (k .isStored) w))
 
-  pub label-found : Good table → i < twoAt table 6 → LabelAt
-  unfolding labelBy partsAt
-  label-found g h = record { low = p .is-low; inside = inside; on = record { is = go; within = inside } }
+  -- ── kind ──
+
+  pub kind-told : (r : FieldRecord) → Finds table i r → TellsKind table i (ofField (kindIn r))
+  unfolding ofField
+  kind-told FieldRecord.NotGood bad (yes k) = absurd (bad k)
+  kind-told FieldRecord.NotGood bad (no b) = refl
+  kind-told FieldRecord.Unknown h (yes k) = rw (outside k (h .1))
+  kind-told FieldRecord.Unknown h (no b) = absurd (b (h .0))
+  kind-told (FieldRecord.At p) h (yes k) =
+      let q = placed k (h .1) in rw (q .element, h .2, q .parts-are .kind)
+  kind-told (FieldRecord.At p) h (no b) = absurd (b (h .0))
+
+  -- ── label ──
+
+  label-facts : (k : Good table) (h : i < twoAt table 6)
+      → (partsAt table here .label .at ≡ labelOf (k .description) i (some (placed k h .field)) .start)
+      × (partsAt table here .label .len ≡ length (placed k h .field .label))
+  unfolding partsAt
+  label-facts k h =
+      let q = placed k h in
+      let first = head-first (k .description) table (k .isStored) (k .within) in
+      (omega (arith, q .place-is, first), omega (arith, q .parts-are .label .end))
+
+  label-found : (k : Good table) → i < twoAt table 6
+      → (ending (partsAt table here .label) ≤ length table)
+      × (partsAt table here .label ≡ spanOf (labelBy (yes k) i .start) (labelBy (yes k) i .size))
+  unfolding labelBy
+  label-found k h =
+      let q = placed k h in
+      let e = label-facts k h in (
+        label-inside table _ _ (q .field .label) (q .label-is) (q .parts-are .label),
+        rw (q .element, labelBy) (λ j. record { at = e .0 j; len = e .1 j }),
+      )
+
+  pub label-on : (r : FieldRecord) → Finds table i r → OnLabel table i (labelIn r)
+  unfolding labelBy
+  label-on FieldRecord.NotGood bad = none-on table _ go
     where
-      p : Placed table (length table) (recordOf 5 [])
-          (rw (g .isStored) at (table-length (g .description) (g .within))) (g .description .fields) i (twoAt table 0)
-      p = placed g h
-
-      inside : ending (partsAt table (placeFrom table i (twoAt table 0)) .label) ≤ length table
-      inside = label-inside table _ _ (p .field .label) (p .label-is) (p .parts-are .label)
-
-      go : (good : Dec (Good table)) → partsAt table (placeFrom table i (twoAt table 0)) .label
+      go : (good : Dec (Good table)) → labelBy good i ≡ noPart
+      go (yes k) = absurd (bad k)
+      go (no b) = refl
+  label-on FieldRecord.Unknown h = none-on table _ go
+    where
+      go : (good : Dec (Good table)) → labelBy good i ≡ noPart
+      go (yes k) = rw (outside k (h .1))
+      go (no b) = refl
+  label-on (FieldRecord.At p) h = rw (h .2) (record { is = go; within = label-found (h .0) (h .1) .0 })
+    where
+      go : (good : Dec (Good table)) → partsAt table here .label
           ≡ spanOf (labelBy good i .start) (labelBy good i .size)
-      go (no b) = absurd (b g)
-      go (yes k) =
-          let q = placed k h in
-          let l = q .parts-are .label in
-          let first = head-first (k .description) table (k .isStored) (k .within) in
-          let d = k .description in
-          let t = partsAt table (placeFrom table i (twoAt table 0)) .label in
-          let at : t .at ≡ length (recordOf 1 (headBody d)) + length (joined storedField (take i (d .fields))) + 6
-          = omega (arith, q .place-is, first) in
-          let len : t .len ≡ length (q .field .label) = omega (arith, l .end) in
-          rw (q .element, labelBy) (λ j. record { at = at j; len = len j })
+      go (yes k) = label-found k (h .1) .1
+      go (no b) = absurd (b (h .0))
 
--- ── what is handed back ──
+  -- ── short name ──
 
-pub label-placed : (table : List ℕ) (i : ℕ) (r : Span) → OnTable table i r
-    → PlacesLabel table i (partFrom (r .at) (r .len))
-label-placed table i r on good = ap (λ (x : Span). partFrom (x .at) (x .len)) (on .is good)
+  short-found : (k : Good table) → i < twoAt table 6
+      → (ending (filledSpan (partsAt table here .short)) ≤ length table)
+      × (filledSpan (partsAt table here .short) ≡ spanOf (shortBy (yes k) i .start) (shortBy (yes k) i .size))
+  unfolding shortBy partsAt
+  short-found k h =
+      let q = placed k h in
+      let e = label-facts k h in
+      let label = labelOf (k .description) i (some (q .field)) in
+      let a : partsAt table here .short .at ≡ label .start + label .size + 2 = omega (arith, e .0, e .1) in
+      rw (q .element, shortBy)
+      (short-span table (partsAt table here .short) label (q .field .short) (q .short-is) (q .parts-are .short) a)
 
-pub label-lent : (table : List ℕ) (i : ℕ) (r : Span) (bytes : List ℕ) (from at : ℕ × ℕ) → OnTable table i r
-    → bytes ≡ take (r .len) (drop (r .at) table) → at ≡ movedBy (r .at) from → LendsLabel table i from bytes at
-label-lent table i r bytes from at on content place good = record {
-  content = rw (← ap (λ (x : Span). x .at) (on .is good), ← ap (λ (x : Span). x .len) (on .is good)) content;
-  place = rw (← ap (λ (x : Span). x .at) (on .is good)) place;
-}
+  pub short-on : (r : FieldRecord) → Finds table i r → OnShort table i (shortIn r)
+  unfolding shortBy
+  short-on FieldRecord.NotGood bad = none-on table _ go
+    where
+      go : (good : Dec (Good table)) → shortBy good i ≡ noPart
+      go (yes k) = absurd (bad k)
+      go (no b) = refl
+  short-on FieldRecord.Unknown h = none-on table _ go
+    where
+      go : (good : Dec (Good table)) → shortBy good i ≡ noPart
+      go (yes k) = rw (outside k (h .1))
+      go (no b) = refl
+  short-on (FieldRecord.At p) h = rw (h .2) (record { is = go; within = short-found (h .0) (h .1) .0 })
+    where
+      go : (good : Dec (Good table)) → filledSpan (partsAt table here .short)
+          ≡ spanOf (shortBy good i .start) (shortBy good i .size)
+      go (yes k) = short-found k (h .1) .1
+      go (no b) = absurd (b (h .0))

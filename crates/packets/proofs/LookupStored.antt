@@ -140,6 +140,7 @@ module _ (s : List ℕ) (end : ℕ) (r : List ℕ) (short : end ≤ tableMost) w
     pub element : getElem? fs i ≡ some field
     pub place-is : placeFrom s i place ≡ place + length (joined storedField (take i fs))
     pub label-is : isLabel (field .label) ≡ true
+    pub short-is : ifAny isShort (field .short) ≡ true
     pub parts-are : PartsStand s (partsAt s (placeFrom s i place)) field
     pub is-low : placeFrom s i place ≤ tableMost
 
@@ -153,6 +154,7 @@ module _ (s : List ℕ) (end : ℕ) (r : List ℕ) (short : end ≤ tableMost) w
     element = refl;
     place-is = omega arith;
     label-is = w .label;
+    short-is = w .name;
     parts-are = w .parts;
     is-low = w .low;
   }
@@ -167,6 +169,7 @@ module _ (s : List ℕ) (end : ℕ) (r : List ℕ) (short : end ≤ tableMost) w
         element = ih .element;
         place-is = e ∙ omega (arith, ih .place-is, length-append (storedField f) (joined storedField (take i fs)));
         label-is = ih .label-is;
+        short-is = ih .short-is;
         parts-are = rw e (ih .parts-are);
         is-low = rw e (ih .is-low);
       }

@@ -57,12 +57,14 @@ module _ (s packet run : List ℕ) (n i place at : ℕ) (p : Parts) (found : Fou
       let t = stepAfter s run i p (fieldStep s packet run p (n - i - 1) place) in
       rw (m, here (step (entryIn e) next) (found-field found t e next goes to), left, d, parts)
 
-  pub walk-stop : (f : Fault) → found ≡ Found.Stop f → walkFrom s packet (n - i) i run place at ≡ stopped f (i + 1)
+  pub walk-stop : (f : Fault) → after ≡ runWith run i (fieldStep s packet run p (n - i - 1) place)
+      → found ≡ Found.Stop f → walkFrom s packet (n - i) i run place at ≡ stopped f (i + 1) after
   unfolding walkFrom
-  walk-stop f to =
+  walk-stop f left to =
       let m : n - i ≡ suc (n - (i + 1)) = omega arith in
+      let d : n - i - 1 ≡ n - (i + 1) = omega arith in
       let t = stepAfter s run i p (fieldStep s packet run p (n - i - 1) place) in
-      rw (m, here (stop f) (found-stop found t f goes to))
+      rw (m, here (stop f) (found-stop found t f goes to), left, d, parts)
 
 pub walk-end : (s packet run : List ℕ) (n place at : ℕ) → walkFrom s packet (n - n) n run place at ≡ ended run place
 unfolding walkFrom

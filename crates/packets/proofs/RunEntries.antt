@@ -6,14 +6,15 @@ use mathlib.Core.Option.{some}
 use Prim.Native.Nat.{ℕ, zero, suc, _+_, _*_, _<_, _≤_}
 use native.Mathlib.Omega.{arith}
 use lib.ListN.{length, getD, take, set, length-append, length-set, List·getD-append}
-use lib.Seq.{getD-take, take-suc-set}
+use lib.Seq.{getD-take, take-suc-set, take-set-le}
 use Rattle.base.specs.Lists.{joined}
 use Rattle.rules.specs.Fields.{Field}
 use Rattle.rules.specs.Within.{indexReadable}
-use Rattle.rules.specs.Reading.{Entry, absent, valueIn, numbersOf}
+use Rattle.rules.specs.Reading.{Entry, absent, valueIn, numbersOf, Step, step, stop}
+use Rattle.packets.specs.declared.steps.Numbers.{Numbers}
 use Rattle.packets.specs.StoredTrees.{runValue}
 use Rattle.packets.specs.Steps.{numbersIn}
-use Rattle.packets.specs.Walks.{putAt}
+use Rattle.packets.specs.Walks.{putAt, runWith}
 
 -- the run begins with the numbers of the entries
 abbrev pub Begins : List ℕ → List Entry → Type 0
@@ -98,6 +99,23 @@ pub put-begins : (run : List ℕ) (es : List Entry) (e : Entry) → Begins run e
 put-begins run es e b h =
     let n : 4 * length (es ++ (e ∷ [])) ≡ 4 * length es + 4 = omega (arith, length-append es (e ∷ [])) in
     rw (n, joined-more es e, ← b) (put-take run (length es) e h)
+
+-- what stands before an entry stays
+pub put-keeps : (run : List ℕ) (es : List Entry) (i : ℕ) (e : Numbers) → length es ≤ i → Begins run es
+    → Begins (putAt run i e) es
+unfolding putAt
+put-keeps run es i e h b =
+    let r₁ = set run (4 * i) (e .present) in
+    let r₂ = set r₁ (4 * i + 1) (e .offset) in
+    let r₃ = set r₂ (4 * i + 2) (e .width) in
+    take-set-le (4 * length es) r₃ (4 * i + 3) (e .value) (omega arith)
+    ∙ take-set-le (4 * length es) r₂ (4 * i + 2) (e .width) (omega arith)
+    ∙ take-set-le (4 * length es) r₁ (4 * i + 1) (e .offset) (omega arith)
+    ∙ take-set-le (4 * length es) run (4 * i) (e .present) (omega arith) ∙ b
+
+pub with-keeps : (run : List ℕ) (es : List Entry) (s : Step) → Begins run es → Begins (runWith run (length es) s) es
+with-keeps run es (step e next) b = put-keeps run es (length es) _ (omega arith) b
+with-keeps run es (stop f) b = b
 
 -- ── what may be read ──
 

@@ -1,5 +1,5 @@
 -- The walk over a stored table's records reads a packet as the description says.
-use mathlib.Core.Path.{_≡_, refl}
+use mathlib.Core.Path.{_≡_, refl, _∙_}
 use mathlib.Core.Bool.{Bool, true, false, cond}
 use mathlib.Core.List.{List, [], _∷_, _++_}
 use mathlib.Core.Option.{none}
@@ -30,6 +30,9 @@ use Rattle.rules.specs.Reading.{
   readField,
   readFields,
   reading,
+  onStep as stepsOn,
+  fieldsBefore,
+  entriesBefore,
   bitTotal,
 }
 use Rattle.rules.specs.Promises.{readingAnswer}
@@ -38,11 +41,11 @@ use Rattle.rules.specs.Limits.{packetMost}
 use Rattle.packets.specs.Parts.{tableMost, runMost}
 use Rattle.packets.specs.PartsStand.{PartsStand}
 use Rattle.packets.specs.Steps.{recordAt, laterBits, fieldStep}
-use Rattle.packets.specs.Walks.{stepAfter, runWith, Walk, onStep, walkFrom, walkAll, walkAnswer, Leaves, Walks}
-use Rattle.packets.specs.RunRead.{RunHolds, ReadsRun}
+use Rattle.packets.specs.Walks.{stepAfter, runWith, Walk, onStep, walkFrom, walkAll, walkAnswer, walkRun, Walks}
+use Rattle.packets.specs.RunRead.{RunHolds, countIn, RunBegins, ReadsRun}
 use Rattle.packets.proofs.RecordLaws.{record-parts}
 use Rattle.packets.proofs.FieldBounds.{field-bounds}
-use Rattle.packets.proofs.RunEntries.{Begins}
+use Rattle.packets.proofs.RunEntries.{Begins, with-keeps}
 use Rattle.packets.proofs.FieldReads.{fixed-part}
 use Rattle.packets.proofs.FieldMatches.{Matches, field-matches}
 use Rattle.packets.proofs.PacketWalk.{length-with}
@@ -84,11 +87,10 @@ later-sum before (f ∷ fs) s at end form size p le =
 
 -- ── all fields ──
 
--- a reading, and a walk of the code with the run that it leaves
-pub record WalkHolds (packet : List ℕ) (got : Reading) (w : Walk) : Type 0 where
+-- a reading of n fields, the entries before the first refused one, and a walk of the code with the run that it leaves
+pub record WalkHolds (packet : List ℕ) (n : ℕ) (got : Reading) (es : List Entry) (w : Walk) : Type 0 where
   pub answer : ofPacket (walkAnswer packet w) ≡ readingAnswer got packet
-  pub front : (entries : List Entry) → got ≡ complete entries → (after : List ℕ) → Leaves w after
-      → Begins after entries
+  pub begins : RunBegins n es (walkAnswer packet w) (walkRun w)
 
 at-end : (packet : List ℕ) (entries : List Entry) (run : List ℕ) (place : ℕ) → Begins run entries → (x : Bool)
     → eqb place (bitTotal packet) ≡ x
@@ -98,36 +100,62 @@ unfolding ofPacket readingAnswer
 at-end packet entries run place b true e = rw (eqb-true place (bitTotal packet) e)
 at-end packet entries run place b false e = refl
 
+end-count : (x : Bool) (place n : ℕ) → countIn (cond x (PacketAnswer.Accepted place) PacketAnswer.LeftOver) n ≡ n
+unfolding countIn
+end-count true place n = refl
+end-count false place n = refl
+
 complete-is : (x : Bool) (entries es : List Entry) → cond x (complete entries) leftOver ≡ complete es → entries ≡ es
 complete-is true entries es e = cc
 complete-is false entries es e = cc
 
-walk-on : (packet after : List ℕ) (entries : List Entry) (go : List Entry → ℕ → Reading) (walk : ℕ → Walk)
+-- a complete reading has the entries of all fields
+on-complete : (entries : List Entry) (t : Step) (go : List Entry → ℕ → Reading) (more : List Entry → ℕ → List Entry)
+    → ((l : List Entry) (next : ℕ) (es : List Entry) → go l next ≡ complete es → more l next ≡ es)
+    → (es : List Entry) → readOn entries t go ≡ complete es → stepsOn entries t more ≡ es
+on-complete entries (step e next) go more ih es h = ih (entries ++ (e ∷ [])) next es h
+on-complete entries (stop f) go more ih es h = let z : _≡_ {A = ℕ} 0 1 = cc in absurd (omega arith)
+
+complete-before : (packet : List ℕ) (fs : List (Field ℕ)) (entries : List Entry) (place : ℕ) (es : List Entry)
+    → readFields packet entries place fs ≡ complete es → fieldsBefore packet entries place fs ≡ es
+unfolding readFields fieldsBefore
+complete-before packet [] entries place es h = complete-is (eqb place (bitTotal packet)) entries es h
+complete-before packet (f ∷ fs) entries place es h =
+    on-complete entries (readField packet entries place (sum fixedBits fs) f)
+    (λ more next. readFields packet more next fs) (λ more next. fieldsBefore packet more next fs)
+    (λ l next other q. complete-before packet fs l next other q) es h
+
+walk-on : (packet : List ℕ) (n : ℕ) (after : List ℕ) (entries : List Entry) (go : List Entry → ℕ → Reading)
+    (more : List Entry → ℕ → List Entry) (walk : List ℕ → ℕ → Walk) → length entries ≤ n → Begins after entries
     → ((e : Entry) (next : ℕ) → Begins after (entries ++ (e ∷ []))
-    → WalkHolds packet (go (entries ++ (e ∷ [])) next) (walk next))
+    → WalkHolds packet n (go (entries ++ (e ∷ [])) next) (more (entries ++ (e ∷ [])) next) (walk after next))
     → (t m : Step) → Matches entries after t m
-    → WalkHolds packet (readOn entries t go) (onStep m (length entries + 1) walk)
-unfolding ofPacket readingAnswer walkAnswer
-walk-on packet after entries go walk ih (step e next) (step d m) q = rw (q .0) (ih e next (q .1))
-walk-on packet after entries go walk ih (step e next) (stop g) q = absurd q
-walk-on packet after entries go walk ih (stop f) (step d m) q = absurd q
-walk-on packet after entries go walk ih (stop f) (stop g) q =
-    record { answer = rw (q, add-one); front = λ es e. let z : _≡_ {A = ℕ} 0 1 = cc in absurd (omega arith) }
+    → WalkHolds packet n (readOn entries t go) (stepsOn entries t more) (onStep m (length entries + 1) after walk)
+unfolding ofPacket readingAnswer walkAnswer countIn
+walk-on packet n after entries go more walk le b ih (step e next) (step d m) q = rw (q .0) (ih e next (q .1))
+walk-on packet n after entries go more walk le b ih (step e next) (stop g) q = absurd q
+walk-on packet n after entries go more walk le b ih (stop f) (step d m) q = absurd q
+walk-on packet n after entries go more walk le b ih (stop f) (stop g) q =
+    record { answer = rw (q, add-one); begins = record { count = omega arith; most = le; front = b } }
 
 pub walk-reads : (s packet : List ℕ) (fs before : List (Field ℕ)) (entries : List Entry) (run : List ℕ)
-    (place at end : ℕ)
-    → length entries ≡ length before → Begins run entries → 4 * (length entries + length fs) ≤ length run
+    (n place at end : ℕ)
+    → length entries ≡ length before → n ≡ length entries + length fs → Begins run entries → 4 * n ≤ length run
     → firstBreak keepsForm before fs ≡ none → firstBreak keepsSize before fs ≡ none
     → firstBreak (keepsTypes indexReadable) before fs ≡ none
     → Stands s at (joined storedField fs) end → end ≤ tableMost
-    → WalkHolds packet (readFields packet entries place fs)
+    → WalkHolds packet n (readFields packet entries place fs) (fieldsBefore packet entries place fs)
     (walkFrom s packet (length fs) (length entries) run place at)
-unfolding walkFrom readFields walkAnswer
-walk-reads s packet [] before entries run place at end counts begins room form size types p le = record {
+unfolding walkFrom readFields fieldsBefore walkAnswer
+walk-reads s packet [] before entries run n place at end counts all begins room form size types p le = record {
   answer = at-end packet entries run place begins (eqb place (bitTotal packet)) refl;
-  front = λ es e after q. rw (q, ← complete-is (eqb place (bitTotal packet)) entries es e) begins;
+  begins = record {
+    count = end-count (eqb place (bitTotal packet)) place n ∙ omega arith;
+    most = omega arith;
+    front = begins;
+  };
 }
-walk-reads s packet (f ∷ fs) before entries run place at end counts begins room form size types p le =
+walk-reads s packet (f ∷ fs) before entries run n place at end counts all begins room form size types p le =
     let q = first-stands before f fs s at end form size p le in
     let e = firstBreak-cons keepsForm before f fs form in
     let z = firstBreak-cons keepsSize before f fs size in
@@ -137,36 +165,49 @@ walk-reads s packet (f ∷ fs) before entries run place at end counts begins roo
     let found = fieldStep s packet run r (length fs) place in
     let after = runWith run (length entries) found in
     let long : length after ≡ length run = length-with run (length entries) found in
-    walk-on packet after entries (λ more next. readFields packet more next fs)
-    (λ next. walkFrom s packet (length fs) (length entries + 1) after next (r .next))
+    walk-on packet n after entries (λ more next. readFields packet more next fs)
+    (λ more next. fieldsBefore packet more next fs)
+    (λ left next. walkFrom s packet (length fs) (length entries + 1) left next (r .next))
+    (omega arith) (with-keeps run entries found begins)
     (λ d next b.
-    let n : length (entries ++ (d ∷ [])) ≡ length entries + 1 = length-append entries (d ∷ []) in
-    rw n at (walk-reads s packet fs (before ++ (f ∷ [])) (entries ++ (d ∷ [])) after next (r .next) end
-    (omega (arith, length-append before (f ∷ []))) b (omega arith) (e .1) (z .1) (k .1) (q .later) le))
+    let m : length (entries ++ (d ∷ [])) ≡ length entries + 1 = length-append entries (d ∷ []) in
+    rw m at (walk-reads s packet fs (before ++ (f ∷ [])) (entries ++ (d ∷ [])) after n next (r .next) end
+    (omega (arith, length-append before (f ∷ []))) (omega arith) b (omega arith) (e .1) (z .1) (k .1) (q .later) le))
     (readField packet entries place (sum fixedBits fs) f) (stepAfter s run (length entries) r found)
     (field-matches s packet run before entries place f r counts begins (omega arith) (e .0) (z .0) (k .0) (q .parts)
     (length fs) (sum fixedBits fs) sums)
 
 pub walk-all : (d : Description) → Within d → (s packet run : List ℕ) → stored d ≡ s → runMost ≤ length run
-    → WalkHolds packet (readFields packet [] 0 (d .fields)) (walkAll s packet run)
+    → WalkHolds packet (length (d .fields)) (readFields packet [] 0 (d .fields))
+    (fieldsBefore packet [] 0 (d .fields)) (walkAll s packet run)
 unfolding walkAll joined
 walk-all d w s packet run e room =
     let h = head-stands d w s e in
     rw (h .count)
-    (walk-reads s packet (d .fields) [] [] run 0 (twoAt s 0) (h .end) refl refl (omega (arith, h .few)) (w .form)
-    (w .size) (w .types) (h .fields) (h .short))
+    (walk-reads s packet (d .fields) [] [] run (length (d .fields)) 0 (twoAt s 0) (h .end) refl (omega arith) refl
+    (omega (arith, h .few)) (w .form) (w .size) (w .types) (h .fields) (h .short))
 
 -- ── a packet read into a run ──
 
 module _ (d : Description) (s packet run : List ℕ) (r : PacketAnswer) (after : List ℕ) where
+  -- the entries of the fields before the first refused one
+  pub run-begins : Within d → stored d ≡ s → runMost ≤ length run → length packet ≤ packetMost
+      → Walks s packet run r after → RunBegins (length (d .fields)) (entriesBefore d packet) r after
+  unfolding entriesBefore
+  run-begins w e room le walks =
+      let near : ltb packetMost (length packet) ≡ false = le-ltb packetMost (length packet) le in
+      rw (near, walks .0, walks .1) (walk-all d w s packet run e room .begins)
+
   pub run-read : Within d → stored d ≡ s → runMost ≤ length run → length packet ≤ packetMost
-      → r ≡ walkAnswer packet (walkAll s packet run) → Leaves (walkAll s packet run) after
-      → RunHolds (reading d packet) packet r after
+      → Walks s packet run r after → RunHolds (reading d packet) packet r after
   unfolding reading
-  run-read w e room le is leaves =
+  run-read w e room le walks =
       let near : ltb packetMost (length packet) ≡ false = le-ltb packetMost (length packet) le in
       let h = walk-all d w s packet run e room in
-      rw near (record { answer = rw is (h .answer); front = λ es q. h .front es q after leaves })
+      rw (near, walks .0, walks .1) (record {
+        answer = h .answer;
+        front = λ es q. rw (complete-before packet (d .fields) [] 0 es q) at (h .begins .front);
+      })
 
   pub run-long : packetMost < length packet → r ≡ PacketAnswer.TooLong → RunHolds (reading d packet) packet r after
   unfolding reading ofPacket readingAnswer
@@ -178,4 +219,4 @@ module _ (d : Description) (s packet run : List ℕ) (r : PacketAnswer) (after :
 -- what a walk over all fields leaves in a run
 pub walks-read : (s packet run : List ℕ) {r : PacketAnswer} {after : List ℕ} → runMost ≤ length run
     → length packet ≤ packetMost → Walks s packet run r after → ReadsRun s packet r after
-walks-read s packet run room le w d within is = run-read d s packet run _ _ within is room le (w .0) (w .1)
+walks-read s packet run room le w d within is = run-read d s packet run _ _ within is room le w

@@ -1,17 +1,14 @@
 -- Records by index, and fields by name. This mirrors the code: no public promise rests on this file.
-use mathlib.Core.Path.{_≡_}
 use mathlib.Core.Bool.{Bool, false, cond, _||_}
 use mathlib.Core.List.{List}
-use Prim.Native.Nat.{ℕ, zero, suc, _+_, _-_, _≤_}
+use Prim.Native.Nat.{ℕ, zero, suc, _+_, _-_}
 use lib.Dec.{ltb, eqb}
 use lib.ListN.{length, take, drop}
 use Rattle.base.specs.Lists.{same}
 use Rattle.rules.specs.declared.FieldAnswer.{FieldAnswer}
 use Rattle.writing.specs.declared.spans.Span.{Span}
 use Rattle.packets.specs.declared.records.Parts.{Parts}
-use Rattle.rules.specs.Stored.{Good}
-use Rattle.rules.specs.Promises.{labelBy}
-use Rattle.packets.specs.Parts.{tableMost, spanOf, ending, partsAt}
+use Rattle.packets.specs.Parts.{tableMost, partsAt}
 
 -- the place behind n records
 unfoldable pub placeFrom : List ℕ → ℕ → ℕ → ℕ
@@ -33,8 +30,3 @@ findFrom s name i zero place = FieldAnswer.Unknown
 findFrom s name i (suc n) place =
     cond (ltb tableMost place) FieldAnswer.Unknown
     (cond (hasName s (partsAt s place) name) (FieldAnswer.At i) (findFrom s name (i + 1) n (partsAt s place .next)))
-
--- a field's label, which lies within the table
-pub record OnTable (table : List ℕ) (i : ℕ) (r : Span) : Type 0 where
-  pub is : (good : Dec (Good table)) → r ≡ spanOf (labelBy good i .start) (labelBy good i .size)
-  pub within : ending r ≤ length table

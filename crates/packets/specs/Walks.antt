@@ -39,22 +39,22 @@ runWith run i (stop f) = run
 
 -- ── all fields ──
 
--- the run and the place behind the fields; or a fault, with the field from 1
+-- the run and the place behind the fields; or a fault, with the field from 1, and the run that is left
 pub data Walk : Type 0 where
   ended : List ℕ → ℕ → Walk
-  stopped : Fault → ℕ → Walk
+  stopped : Fault → ℕ → List ℕ → Walk
 
-abbrev pub onStep : Step → ℕ → (ℕ → Walk) → Walk
-onStep (step e next) k go = go next
-onStep (stop f) k go = stopped f k
+abbrev pub onStep : Step → ℕ → List ℕ → (List ℕ → ℕ → Walk) → Walk
+onStep (step e next) k run go = go run next
+onStep (stop f) k run go = stopped f k run
 
 -- n fields from field i on
 unfoldable pub walkFrom : List ℕ → List ℕ → ℕ → ℕ → List ℕ → ℕ → ℕ → Walk
 walkFrom s packet zero i run place at = ended run place
 walkFrom s packet (suc n) i run place at =
     onStep (stepAfter s run i (recordAt s at) (fieldStep s packet run (recordAt s at) n place)) (i + 1)
-    (λ next. walkFrom s packet n (i + 1)
-    (runWith run i (fieldStep s packet run (recordAt s at) n place)) next (recordAt s at .next))
+    (runWith run i (fieldStep s packet run (recordAt s at) n place))
+    (λ after next. walkFrom s packet n (i + 1) after next (recordAt s at .next))
 
 unfoldable pub walkAll : List ℕ → List ℕ → List ℕ → Walk
 walkAll s packet run = walkFrom s packet (twoAt s 6) 0 run 0 (twoAt s 0)
@@ -62,16 +62,16 @@ walkAll s packet run = walkFrom s packet (twoAt s 6) 0 run 0 (twoAt s 0)
 unfoldable pub walkAnswer : List ℕ → Walk → PacketAnswer
 walkAnswer packet (ended run place) =
     cond (eqb place (bitTotal packet)) (PacketAnswer.Accepted place) PacketAnswer.LeftOver
-walkAnswer packet (stopped f k) = PacketAnswer.Refused f k
+walkAnswer packet (stopped f k run) = PacketAnswer.Refused f k
 
 abbrev pub refusedOf : Found → ℕ → PacketAnswer
 refusedOf (Found.Stop f) k = PacketAnswer.Refused f k
 refusedOf (Found.Field e next) k = PacketAnswer.LeftOver
 
--- the run after a walk to the end
-abbrev pub Leaves : Walk → List ℕ → Type 0
-Leaves (ended run place) after = after ≡ run
-Leaves (stopped f k) after = Unit {0}
+-- the run after a walk
+abbrev pub walkRun : Walk → List ℕ
+walkRun (ended run place) = run
+walkRun (stopped f k run) = run
 
 -- ── what the code does ──
 
@@ -83,4 +83,4 @@ Steps s packet run i later place p r after =
 
 -- all fields: the answer r, and the run before and after
 abbrev pub Walks : List ℕ → List ℕ → List ℕ → PacketAnswer → List ℕ → Type 0
-Walks s packet run r after = (r ≡ walkAnswer packet (walkAll s packet run)) × Leaves (walkAll s packet run) after
+Walks s packet run r after = (r ≡ walkAnswer packet (walkAll s packet run)) × (after ≡ walkRun (walkAll s packet run))

@@ -1,4 +1,4 @@
-// Fields of a table by index and by name.
+// Fields of a table: how many, by name, and by index with kind, label and short name.
 use crate::readings::Bytes;
 use crate::records::Parts;
 use crate::records::parts_at;
@@ -13,9 +13,25 @@ ghost use mathlib.Core.Path.{_≡_};
 ghost use denote.Ref.{ptr};
 ghost use Rattle.base.specs.Places.{twoAt};
 ghost use Rattle.rules.specs.Reading.{partFrom};
-ghost use Rattle.rules.specs.Promises.{FindsField, PlacesLabel, LendsLabel};
-ghost use Rattle.packets.specs.Lookups.{placeFrom, isNamedIn, hasName, findFrom, OnTable};
-ghost use Rattle.rules.specs.Answers.{ofField};
+ghost use Rattle.rules.specs.Promises.{
+  FindsField,
+  CountsFields,
+  TellsKind,
+  PlacesLabel,
+  LendsLabel,
+  PlacesShort,
+  LendsShort,
+};
+ghost use Rattle.packets.specs.Lookups.{placeFrom, isNamedIn, hasName, findFrom};
+ghost use Rattle.packets.specs.Found.{Finds, labelIn, filledSpan, shortIn, kindIn, OnLabel, OnShort};
+ghost use Rattle.rules.specs.Answers.{ofTable, ofField};
+
+// What is found for an index: no good table, no such field, or its record.
+enum FieldRecord {
+    NotGood,
+    Unknown,
+    At(Parts),
+}
 
 // The place behind n records.
 fn place_behind(table: &[u8], n: usize) -> usize
@@ -96,31 +112,99 @@ pub fn field_index(table: &[u8], name: &[u8]) -> FieldAnswer
     find_from(table, name, n, first)
 }
 
-// The label's part of the field of an index.
-fn find_label(table: &[u8], index: usize) -> Span
-    ensures { λ r. ⌜ OnTable (now (table .entry)) index r ⌝ }
+// The number of a table's fields.
+pub fn count_fields(table: &[u8]) -> TableAnswer
+    ensures { λ r. ⌜ CountsFields (now (table .entry)) (ofTable r) ⌝ }
 {
-    let none = Span { at: 0, len: 0 };
     let checked = check_table(table);
     let TableAnswer::Good(size) = checked else {
-        return none;
+        return TableAnswer::NotGood;
+    };
+    let n = two_at(table, 6);
+    TableAnswer::Good(n)
+}
+
+// The record of the field of an index.
+fn find_record(table: &[u8], index: usize) -> FieldRecord
+    ensures { λ r. ⌜ Finds (now (table .entry)) index r ⌝ }
+{
+    let checked = check_table(table);
+    let TableAnswer::Good(size) = checked else {
+        return FieldRecord::NotGood;
     };
     if two_at(table, 6) <= index {
-        return none;
+        return FieldRecord::Unknown;
     }
     let place = place_behind(table, index);
     if TABLE_MOST < place {
-        return none;
+        return FieldRecord::Unknown;
     }
     let parts = parts_at(table, place);
-    let label = parts.label;
-    if table.len() < label.at {
-        return none;
+    FieldRecord::At(parts)
+}
+
+fn label_of(found: FieldRecord) -> Span
+    ensures { λ r. ⌜ r ≡ labelIn found ⌝ }
+{
+    match found {
+        FieldRecord::NotGood => Span { at: 0, len: 0 },
+        FieldRecord::Unknown => Span { at: 0, len: 0 },
+        FieldRecord::At(parts) => parts.label,
     }
-    if table.len() - label.at < label.len {
-        return none;
+}
+
+// An empty part stands at the start.
+fn filled(span: Span) -> Span
+    ensures { λ r. ⌜ r ≡ filledSpan span ⌝ }
+{
+    if span.len == 0 {
+        return Span { at: 0, len: 0 };
     }
-    label
+    span
+}
+
+fn short_of(found: FieldRecord) -> Span
+    ensures { λ r. ⌜ r ≡ shortIn found ⌝ }
+{
+    match found {
+        FieldRecord::NotGood => Span { at: 0, len: 0 },
+        FieldRecord::Unknown => Span { at: 0, len: 0 },
+        FieldRecord::At(parts) => filled(parts.short),
+    }
+}
+
+fn kind_of(found: FieldRecord) -> FieldAnswer
+    ensures { λ r. ⌜ r ≡ kindIn found ⌝ }
+{
+    match found {
+        FieldRecord::NotGood => FieldAnswer::NotGood,
+        FieldRecord::Unknown => FieldAnswer::Unknown,
+        FieldRecord::At(parts) => FieldAnswer::At(parts.kind),
+    }
+}
+
+// The kind of the record of the field of an index.
+pub fn field_kind(table: &[u8], index: usize) -> FieldAnswer
+    ensures { λ r. ⌜ TellsKind (now (table .entry)) index (ofField r) ⌝ }
+{
+    let found = find_record(table, index);
+    kind_of(found)
+}
+
+// The label's part of the field of an index.
+fn find_label(table: &[u8], index: usize) -> Span
+    ensures { λ r. ⌜ OnLabel (now (table .entry)) index r ⌝ }
+{
+    let found = find_record(table, index);
+    label_of(found)
+}
+
+// Its short name's part.
+fn find_short(table: &[u8], index: usize) -> Span
+    ensures { λ r. ⌜ OnShort (now (table .entry)) index r ⌝ }
+{
+    let found = find_record(table, index);
+    short_of(found)
 }
 
 // Where the label of the field of an index lies in the table.
@@ -134,6 +218,17 @@ pub fn label_place(table: &[u8], index: usize) -> Bytes
     }
 }
 
+// Where its short name lies, the empty part at the start where it has none.
+pub fn short_place(table: &[u8], index: usize) -> Bytes
+    ensures { λ r. ⌜ PlacesShort (now (table .entry)) index (partFrom (r .start) (r .size)) ⌝ }
+{
+    let short = find_short(table, index);
+    Bytes {
+        start: short.at,
+        size: short.len,
+    }
+}
+
 // The label of the field of an index, as that part of the table.
 pub fn field_label<'a>(table: &'a [u8], index: usize) -> &'a [u8]
     ensures { λ r. ⌜ LendsLabel (now (table .entry)) index (ptr (table .entry)) (now r) (ptr r) ⌝ }
@@ -141,5 +236,15 @@ pub fn field_label<'a>(table: &'a [u8], index: usize) -> &'a [u8]
     let label = find_label(table, index);
     let start = label.at;
     let end = start + label.len;
+    &table[start..end]
+}
+
+// Its short name, as that part of the table.
+pub fn field_short<'a>(table: &'a [u8], index: usize) -> &'a [u8]
+    ensures { λ r. ⌜ LendsShort (now (table .entry)) index (ptr (table .entry)) (now r) (ptr r) ⌝ }
+{
+    let short = find_short(table, index);
+    let start = short.at;
+    let end = start + short.len;
     &table[start..end]
 }

@@ -1,4 +1,5 @@
-// Packets are read by a table: into a run of four numbers a field, and a field's bytes as a part of the packet.
+// Packets are read by a table: into a run of four numbers a field, whole or as far as it goes, and a field's bytes as a
+// part of the packet.
 use crate::records::two_at;
 use crate::tables::check_table;
 use crate::walks::walk_fields;
@@ -8,15 +9,15 @@ use rules::RUN_MOST;
 use rules::TableAnswer;
 ghost use mathlib.Core.Path.{_≡_};
 ghost use mathlib.Core.List.{_++_};
-ghost use Prim.Native.Nat.{_*_, _≤_, _<_};
+ghost use Prim.Native.Nat.{_*_, _-_, _≤_, _<_};
 ghost use denote.Ref.{ptr};
 ghost use lib.ListN.{length, take, drop};
 ghost use Rattle.rules.specs.Reading.{partFrom};
-ghost use Rattle.rules.specs.Promises.{ReadsPacket, PlacesPart, LendsPart, leaves};
+ghost use Rattle.rules.specs.Promises.{ReadsPacket, ReadsPartly, PlacesPart, LendsPart, leaves, leavesPartly};
 ghost use Rattle.base.specs.Places.{twoAt};
 ghost use Rattle.rules.specs.Limits.{fieldsMost};
 ghost use Rattle.packets.specs.Parts.{runMost};
-ghost use Rattle.packets.specs.RunRead.{ReadsRun};
+ghost use Rattle.packets.specs.RunRead.{ReadsRun, countIn};
 ghost use Rattle.packets.specs.FieldParts.{isAccepted, partAt, OnPacket};
 ghost use Rattle.rules.specs.Answers.{ofPacket};
 
@@ -84,6 +85,67 @@ pub fn read_packet(table: &[u8], packet: &[u8], run: &mut [u32]) -> PacketAnswer
         return answer;
     }
     answer
+}
+
+// What was read of a packet: the answer, and the number of fields whose numbers the run has.
+pub struct Partial {
+    pub answer: PacketAnswer,
+    pub count: usize,
+}
+
+// The number of fields before the first refused one, of n.
+fn count_of(answer: PacketAnswer, n: usize) -> usize
+    ensures { λ r. ⌜ r ≡ countIn answer n ⌝ }
+{
+    match answer {
+        PacketAnswer::Accepted(_) => n,
+        PacketAnswer::NotGood => 0,
+        PacketAnswer::TooLong => 0,
+        PacketAnswer::ShortRun => 0,
+        PacketAnswer::Refused(_, k) => one_less(k),
+        PacketAnswer::LeftOver => n,
+    }
+}
+
+fn one_less(k: usize) -> usize
+    ensures { λ r. ⌜ r ≡ k - 1 ⌝ }
+{
+    if k == 0 {
+        return 0;
+    }
+    k - 1
+}
+
+// A packet read by a table as far as it goes: four numbers into the run for each field before the first refused one.
+pub fn read_partly(table: &[u8], packet: &[u8], run: &mut [u32]) -> Partial
+    ensures { λ r. ⌜ ReadsPartly (now (table .entry)) (now (packet .entry)) (now (run .entry))
+        (leavesPartly (ofPacket (r .answer)) (now (run .exit)) (r .count)) ⌝ }
+{
+    let checked = check_table(table);
+    let TableAnswer::Good(size) = checked else {
+        return Partial {
+            answer: PacketAnswer::NotGood,
+            count: 0,
+        };
+    };
+    if PACKET_MOST < packet.len() {
+        return Partial {
+            answer: PacketAnswer::TooLong,
+            count: 0,
+        };
+    }
+    let n = two_at(table, 6);
+    if run.len() < 4 * n {
+        return Partial {
+            answer: PacketAnswer::ShortRun,
+            count: 0,
+        };
+    }
+    let mut numbers = [0u32; RUN_MOST];
+    let answer = walk_fields(table, packet, &mut numbers);
+    let count = count_of(answer, n);
+    copy_numbers(run, &numbers, 4 * count);
+    Partial { answer, count }
 }
 
 // The part of the field of an index by its numbers: whole bytes that start on a byte, else the empty part at 0.

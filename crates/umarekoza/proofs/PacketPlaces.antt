@@ -1,5 +1,5 @@
 -- The numbers and places of a packet's answers fit 32 bits: a place is at most the number of fields.
-use mathlib.Core.Path.{ap}
+use mathlib.Core.Path.{_≡_, refl, ap}
 use mathlib.Core.Bool.{Bool, true, false, cond, _&&_, not}
 use mathlib.Core.List.{List, [], _∷_, _++_}
 use Prim.Native.Nat.{ℕ, suc, _+_, _*_, _≤_}
@@ -29,8 +29,24 @@ use Rattle.rules.specs.Reading.{
   readFields,
   isTooLong,
   reading,
+  entriesBefore,
 }
-use Rattle.rules.specs.Promises.{Outcome, leaves, readingAnswer, runAfter, packetOutcome, ReadsPacket}
+use Rattle.rules.specs.Promises.{
+  Outcome,
+  leaves,
+  notGood,
+  byTable,
+  readingAnswer,
+  runAfter,
+  packetOutcome,
+  ReadsPacket,
+  Partly,
+  leavesPartly,
+  partly,
+  partlyNone,
+  partlyOutcome,
+  ReadsPartly,
+}
 use Rattle.laws.proofs.Decidable.{good-decidable}
 
 fault-low : (f : Fault) → faultNumber f ≤ 28
@@ -93,14 +109,41 @@ module _ (packet : List ℕ) where
       go true = omega arith
       go false = reading-low d
 
--- the place of an answer that keeps the promise
-pub place-low : (table packet run : List ℕ) (a : Answer) (after : List ℕ)
-    → ReadsPacket table packet run (leaves a after) → a .place ≤ fieldsMost
-place-low table packet run a after h = go (good-decidable table)
+  partly-low : (d : Description) (run : List ℕ)
+      → partlyOutcome d packet run .outcome .answer .place ≤ length (d .fields)
+  unfolding partlyOutcome
+  partly-low d run = go (not (isTooLong packet) && ltb (length run) (4 * length (d .fields)))
+    where
+      go : (b : Bool)
+          → cond b (partlyNone (refused 23 0) run)
+          (partly (readingAnswer (reading d packet) packet) run (entriesBefore d packet)) .outcome .answer .place
+          ≤ length (d .fields)
+      go true = omega arith
+      go false = reading-low d
+
+-- no place is beyond the fields, whatever a decision gives
+low-by : (table : List ℕ) (a : Answer) (v : Dec (Good table) → ℕ) → ((good : Dec (Good table)) → a .place ≡ v good)
+    → ((g : Good table) → v (yes g) ≤ length (g .description .fields)) → ((b : Good table → ⊥) → v (no b) ≡ 0)
+    → a .place ≤ fieldsMost
+low-by table a v is low none = go (good-decidable table)
   where
     go : Dec (Good table) → a .place ≤ fieldsMost
     go (yes g) =
-        let e = ap (λ (o : Outcome). o .answer .place) (h (yes g)) in
         let few = between-true 1 (length (g .description .fields)) fieldsMost (g .within .count) .1 in
-        omega (arith, e, few, outcome-low packet (g .description) run)
-    go (no n) = let e = ap (λ (o : Outcome). o .answer .place) (h (no n)) in omega (arith, e)
+        omega (arith, is (yes g), few, low g)
+    go (no b) = omega (arith, is (no b), none b)
+
+-- the place of an answer that keeps a promise
+pub place-low : (table packet run : List ℕ) (a : Answer) (after : List ℕ)
+    → ReadsPacket table packet run (leaves a after) → a .place ≤ fieldsMost
+place-low table packet run a after h =
+    low-by table a (λ good. byTable good (λ d. packetOutcome d packet run) (leaves notGood run) .answer .place)
+    (λ good. ap (λ (o : Outcome). o .answer .place) (h good)) (λ g. outcome-low packet (g .description) run) (λ b. refl)
+
+pub partly-place-low : (table packet run : List ℕ) (a : Answer) (after : List ℕ) (n : ℕ)
+    → ReadsPartly table packet run (leavesPartly a after n) → a .place ≤ fieldsMost
+partly-place-low table packet run a after n h =
+    low-by table a
+    (λ good. byTable good (λ d. partlyOutcome d packet run) (partlyNone notGood run) .outcome .answer .place)
+    (λ good. ap (λ (p : Partly). p .outcome .answer .place) (h good)) (λ g. partly-low packet (g .description) run)
+    (λ b. refl)

@@ -19,10 +19,10 @@ use Rattle.rules.specs.Trees.{depth, le2, le4, storedTree, isInRange, hasType}
 use Rattle.rules.specs.Values.{apply, decides, evaluate}
 use Rattle.rules.specs.Within.{rowsFit}
 use Rattle.rules.specs.Stored.{storedIn, storedFieldIn, fieldBody, headBody}
-use Rattle.rules.specs.Reading.{bitsAt, valueIn, readField, readFields, reading}
+use Rattle.rules.specs.Reading.{bitsAt, valueIn, readField, readFields, reading, fieldsBefore, entriesBefore}
 use Rattle.rules.specs.Listing.{entryLines, linesText}
 use Rattle.rules.specs.Answers.{faultNumber}
-use Rattle.rules.specs.Promises.{delivered, readingAnswer, packetOutcome, readingLines, firstNamed}
+use Rattle.rules.specs.Promises.{delivered, readingAnswer, packetOutcome, readingLines, firstNamed, partlyOutcome}
 use Rattle.laws.specs.Wrong.{AllFalse}
 use Rattle.laws.proofs.RuledOut.{all-out}
 use Rattle.text_laws.proofs.RuledOutTexts.{other, tag-known, barred-known}
@@ -33,6 +33,7 @@ unfolding digits all any same lastIs sum joined firstBreak operator isLetter isD
     isLabelByte noTwoSpaces isLabel reserved isReserved isShort depth le2 le4 storedTree isInRange hasType
     apply decides evaluate rowsFit storedIn storedFieldIn fieldBody headBody bitsAt valueIn readField readFields
     reading entryLines linesText faultNumber delivered readingAnswer packetOutcome readingLines firstNamed
+    fieldsBefore entriesBefore partlyOutcome
 replies-ruled-out = all-out wrongReplies refl
 
 pub text-replies-ruled-out : WrongTextReplies

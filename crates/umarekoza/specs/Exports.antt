@@ -4,9 +4,13 @@ use Rattle.rules.specs.Answers.{Answer}
 use Rattle.rules.specs.Reading.{Part, partFrom}
 use Rattle.umarekoza.specs.declared.Reply.{Reply}
 use Rattle.umarekoza.specs.declared.Span.{Span}
+use Rattle.umarekoza.specs.declared.Partial.{Partial}
 
 abbrev pub replyAnswer : Reply → Answer
 replyAnswer r = record { number = r .number; place = r .place; amount = r .length }
+
+abbrev pub partialAnswer : Partial → Answer
+partialAnswer r = record { number = r .number; place = r .place; amount = r .length }
 
 abbrev pub spanPart : Span → Part
 spanPart s = partFrom (s .offset) (s .length)

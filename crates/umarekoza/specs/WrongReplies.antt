@@ -9,6 +9,7 @@ use Rattle.rules.specs.Reading.{Part}
 use Rattle.rules.specs.Cases.{lentRun}
 use Rattle.rules.specs.Marked.{bladeReport, m1, m1Listing, tagText, tagTable}
 use Rattle.rules.specs.Pages.{tagLines}
+use Rattle.rules.specs.Pages.{m3}
 use Rattle.laws.specs.Wrong.{
   Claim,
   checks,
@@ -20,14 +21,23 @@ use Rattle.laws.specs.Wrong.{
   lentOutput,
   runOf,
   outputOf,
+  m1Six,
   m1Entries,
+  counts,
+  tellsKind,
+  placesShort,
+  readsPartly,
 }
 use Rattle.umarekoza.specs.declared.Reply.{Reply}
 use Rattle.umarekoza.specs.declared.Span.{Span}
-use Rattle.umarekoza.specs.Exports.{replyAnswer, spanPart}
+use Rattle.umarekoza.specs.declared.Partial.{Partial}
+use Rattle.umarekoza.specs.Exports.{replyAnswer, spanPart, partialAnswer}
 
 abbrev pub reply : ℕ → ℕ → ℕ → Reply
 reply n p l = record { number = n; place = p; length = l }
+
+abbrev pub partial : ℕ → ℕ → ℕ → ℕ → Partial
+partial n p l k = record { number = n; place = p; length = l; count = k }
 
 abbrev pub span : ℕ → ℕ → Span
 span o l = record { offset = o; length = l }
@@ -57,6 +67,18 @@ wrongReplies =
     ∷ placesLabel bladeReport 0 (spanPart (span 22 7))
     ∷ placesLabel bladeReport 0 (spanPart (span 7 28))
     ∷ placesLabel bladeReport 1 (spanPart (span 28 7))
+    -- the number of fields: as the place; counted from 0
+    ∷ counts bladeReport (replyAnswer (reply 0 7 0))
+    ∷ counts bladeReport (replyAnswer (reply 0 0 6))
+    -- a kind: as the number; as the place
+    ∷ tellsKind bladeReport 5 (replyAnswer (reply 3 0 0))
+    ∷ tellsKind bladeReport 5 (replyAnswer (reply 0 3 0))
+    -- a short name: start and length exchanged; the label
+    ∷ placesShort bladeReport 0 (spanPart (span 1 37))
+    ∷ placesShort bladeReport 0 (spanPart (span 28 7))
+    -- a packet as far as it goes: no count; the count as the length
+    ∷ readsPartly bladeReport m3 (partialAnswer (partial 24 7 0 0)) (runOf m1Six) 0
+    ∷ readsPartly bladeReport m3 (partialAnswer (partial 24 7 6 6)) (runOf m1Six) 6
     ∷ []
 
 -- a text: accepted with nothing written; the table written, and its length left out; 2 told as 3

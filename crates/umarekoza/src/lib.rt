@@ -7,10 +7,14 @@ use crate::replies::packet_reply;
 use crate::replies::table_reply;
 use crate::replies::text_reply;
 use packets::listing::list_packet;
+use packets::lookups::count_fields;
 use packets::lookups::field_index;
+use packets::lookups::field_kind;
 use packets::lookups::label_place;
+use packets::lookups::short_place;
 use packets::readings::field_place;
 use packets::readings::read_packet;
+use packets::readings::read_partly;
 use packets::tables::check_table;
 use texts::reading::read_text;
 ghost use Rattle.rules.specs.Promises.{
@@ -22,16 +26,30 @@ ghost use Rattle.rules.specs.Promises.{
   PlacesLabel,
   ListsPacket,
   ReadsText,
+  leavesPartly,
+  ReadsPartly,
+  PlacesShort,
+  CountsFields,
+  TellsKind,
 };
-ghost use Rattle.umarekoza.specs.Exports.{replyAnswer, spanPart};
+ghost use Rattle.umarekoza.specs.Exports.{replyAnswer, spanPart, partialAnswer};
 
 // Number 0 is acceptance, with place 0 and the length that is answered; else the number and place of the refusal, with
-// length 0. They are document 01's; only 30, for a name that no field has, is document 02's for no such field.
+// length 0. They are document 01's; only 30, for a name or index that no field has, is document 02's for no such field.
 #[repr(C)]
 pub struct Reply {
     pub number: u32,
     pub place: u32,
     pub length: u64,
+}
+
+// A reply, and the number of fields that were read before a refusal.
+#[repr(C)]
+pub struct Partial {
+    pub number: u32,
+    pub place: u32,
+    pub length: u64,
+    pub count: u64,
 }
 
 // Where a part of a lent buffer lies.
@@ -104,5 +122,50 @@ pub extern "C" fn umarekoza_field_label(table: &[u8], index: usize) -> Span
     Span {
         offset: part.start as u64,
         length: part.size as u64,
+    }
+}
+
+// Where the short name of the field of an index lies in the table.
+#[no_mangle]
+pub extern "C" fn umarekoza_field_short(table: &[u8], index: usize) -> Span
+    ensures { λ r. ⌜ PlacesShort (now (table .entry)) index (spanPart r) ⌝ }
+{
+    let part = short_place(table, index);
+    Span {
+        offset: part.start as u64,
+        length: part.size as u64,
+    }
+}
+
+// The fields of a table: the length is their number.
+#[no_mangle]
+pub extern "C" fn umarekoza_count_fields(table: &[u8]) -> Reply
+    ensures { λ r. ⌜ CountsFields (now (table .entry)) (replyAnswer r) ⌝ }
+{
+    table_reply(count_fields(table))
+}
+
+// The field of an index: the length is its record's kind.
+#[no_mangle]
+pub extern "C" fn umarekoza_field_kind(table: &[u8], index: usize) -> Reply
+    ensures { λ r. ⌜ TellsKind (now (table .entry)) index (replyAnswer r) ⌝ }
+{
+    field_reply(field_kind(table, index))
+}
+
+// A packet is read by a table as far as it goes: four numbers for each field before the first refused one.
+#[no_mangle]
+pub extern "C" fn umarekoza_read_partly(table: &[u8], packet: &[u8], run: &mut [u32]) -> Partial
+    ensures { λ r. ⌜ ReadsPartly (now (table .entry)) (now (packet .entry)) (now (run .entry))
+        (leavesPartly (partialAnswer r) (now (run .exit)) (r .count)) ⌝ }
+{
+    let read = read_partly(table, packet, run);
+    let answer = read.answer;
+    let reply = packet_reply(answer);
+    Partial {
+        number: reply.number,
+        place: reply.place,
+        length: reply.length,
+        count: read.count as u64,
     }
 }

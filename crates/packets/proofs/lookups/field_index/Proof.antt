@@ -5,14 +5,7 @@ use Prim.Native.Nat.{_<_, _≤_}
 use denote.Ref.{now}
 use Rattle.base.specs.Places.{twoAt}
 use Rattle.packets.proofs.PacketPromises.{good-from, bad-from}
-use Rattle.packets.proofs.LookupPromises.{
-  index-bad,
-  index-found,
-  label-bad,
-  label-outside,
-  label-found,
-  label-lent,
-}
+use Rattle.packets.proofs.LookupPromises.{index-bad, index-found}
 use borrow.Author.Needs.{needs}
 use Rattle.packets.proofs.lookups.field_index.Statement.{statement}
 use Rattle.packets.proofs.lookups.field_index.Tie as tie

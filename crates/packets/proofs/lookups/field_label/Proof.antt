@@ -1,18 +1,7 @@
-use mathlib.Core.Path.{_≡_, refl, sym, _∙_, ap}
-use native.Mathlib.Omega.{arith}
+use mathlib.Core.Path.{refl}
 use native.Mathlib.Nat.{add-sub-cancel-left}
-use Prim.Native.Nat.{_<_, _≤_}
 use denote.Ref.{now}
-use Rattle.base.specs.Places.{twoAt}
-use Rattle.packets.proofs.PacketPromises.{good-from, bad-from}
-use Rattle.packets.proofs.LookupPromises.{
-  index-bad,
-  index-found,
-  label-bad,
-  label-outside,
-  label-found,
-  label-lent,
-}
+use Rattle.packets.proofs.LookupPromises.{on-lent}
 use borrow.Author.Needs.{needs}
 use Rattle.packets.proofs.lookups.field_label.Statement.{statement}
 use Rattle.packets.proofs.lookups.field_label.Tie as tie
@@ -36,9 +25,8 @@ part-result-end : tie.Need-part-result-end
 part-result-end c = search needs
 
 returns : tie.Need-returns
-returns c = label-lent (now (c .before .before .before .before .args .table))
-    (c .before .before .before .before .args .index) (c .before .before .find-label .result) _ _ _
-    (c .before .before .find-label .ensures) (simp add-sub-cancel-left) refl
+returns c = on-lent (now (c .before .before .before .before .args .table)) _ (c .before .before .find-label .result)
+    _ _ _ (c .before .before .find-label .ensures) (simp add-sub-cancel-left) refl
 
 pub field-label-spec : {M : Type 1} → statement M
 field-label-spec =

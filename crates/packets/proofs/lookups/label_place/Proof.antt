@@ -1,5 +1,5 @@
 use denote.Ref.{now}
-use Rattle.packets.proofs.LookupPromises.{label-placed}
+use Rattle.packets.proofs.LookupPromises.{on-placed}
 use borrow.Author.Needs.{needs}
 use Rattle.packets.proofs.lookups.label_place.Statement.{statement}
 use Rattle.packets.proofs.lookups.label_place.Tie as tie
@@ -11,9 +11,7 @@ find-label-requires : tie.Need-find-label-requires
 find-label-requires c κs = search needs
 
 returns : tie.Need-returns
-returns c =
-    let find-label = c .find-label in
-    label-placed _ _ (find-label .result) (find-label .ensures)
+returns c = on-placed (now (c .before .before .args .table)) _ (c .find-label .result) (c .find-label .ensures)
 
 pub label-place-spec : {M : Type 1} → statement M
 label-place-spec = tie.close (tie.spec find-label-requires returns)

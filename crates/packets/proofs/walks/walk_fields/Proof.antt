@@ -82,8 +82,9 @@ returns c =
     (c .before .before .before .before .before .before .before .record-at .result) (c .before .before .before .before
     .before .one-field .result) (c .before .before .before .before .before .one-field .last .1 .1 .0) (c₈ .loop-test
     .taken) (c .before .before .before .before .before .before .before .record-at .ensures)
-    (c .before .before .before .before .before .one-field .ensures .0) _ told in
-    (rw h (c .refused .ensures ∙ rw told), rw h tt)
+    (c .before .before .before .before .before .one-field .ensures .0) _
+    (c .before .before .before .before .before .one-field .ensures .1) told in
+    (rw h (c .refused .ensures ∙ rw told), rw h refl)
 
 add-i : tie.Need-add-i Inv-loop μ-loop
 add-i c = search needs
