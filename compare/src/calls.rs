@@ -1,12 +1,12 @@
-//! The seven calls, each on slices between guards. Of each is compared: the answer as it is, number, place and
+//! The calls, each on slices between guards. Of each is compared: the answer as it is, number, place and
 //! length or offset and length; what was written; and that everything else that was lent is as it was.
 
-use crate::exports::{Answer, Exports, Span};
+use crate::exports::{Answer, Exports, Partial, Span};
 use crate::lent::{Lent, Unit};
 use crate::tally::Tally;
 use std::fmt::{Arguments, Debug};
 use umarekoza_model::generate::Rng;
-use umarekoza_model::{Reading, Refusal};
+use umarekoza_model::{Partly, Reading, Refusal};
 
 /// What the library did wrong.
 pub type Wrong = String;
@@ -110,6 +110,50 @@ impl Calls {
         // SAFETY: what is lent is valid for its length.
         let label = unsafe { (self.exports.field_label)(table.start(), table.len(), index) };
         self.counted(same(label, span(due)).and(kept(&[&table])), format_args!("field_label {index}"))
+    }
+
+    pub fn field_short(&mut self, table: &[u8], index: usize, due: (usize, usize)) -> Result<(), Wrong> {
+        let mut table = self.lent(table);
+        // SAFETY: what is lent is valid for its length.
+        let short = unsafe { (self.exports.field_short)(table.start(), table.len(), index) };
+        self.counted(same(short, span(due)).and(kept(&[&table])), format_args!("field_short {index}"))
+    }
+
+    /// The length is the number of fields.
+    pub fn count_fields(&mut self, table: &[u8], due: &Settled<usize>) -> Result<(), Wrong> {
+        let mut table = self.lent(table);
+        let due_answer = self.due(due, |count| *count as u64);
+        // SAFETY: what is lent is valid for its length.
+        let answer = unsafe { (self.exports.count_fields)(table.start(), table.len()) };
+        self.counted(same(answer, due_answer).and(kept(&[&table])), format_args!("count_fields"))
+    }
+
+    /// The length is the kind.
+    pub fn field_kind(&mut self, table: &[u8], index: usize, due: &Settled<usize>) -> Result<(), Wrong> {
+        let mut table = self.lent(table);
+        let due_answer = self.due(due, |kind| *kind as u64);
+        // SAFETY: what is lent is valid for its length.
+        let answer = unsafe { (self.exports.field_kind)(table.start(), table.len(), index) };
+        self.counted(same(answer, due_answer).and(kept(&[&table])), format_args!("field_kind {index}"))
+    }
+
+    /// The length is the bit total, the count that of the fields in the run.
+    pub fn read_partly(
+        &mut self,
+        (table, packet): (&[u8], &[u8]),
+        run_len: usize,
+        (fields, total): &Partly,
+    ) -> Result<(), Wrong> {
+        let (mut table, mut packet, mut run) = (self.lent(table), self.lent(packet), self.room(run_len));
+        let Answer { number, place, length } = self.due(total, |total| u64::from(*total));
+        let due = Partial { number, place, length, count: fields.len() as u64 };
+        let call = self.exports.read_partly;
+        let (table_at, packet_at) = (table.start(), packet.start());
+        // SAFETY: what is lent is valid for its length.
+        let answer = unsafe { call(table_at, table.len(), packet_at, packet.len(), run.start(), run.len()) };
+        let found =
+            same(answer, due).and(wrote(&run, Ok(fields.as_flattened()))).and(kept(&[&table, &packet]));
+        self.counted(found, format_args!("read_partly to {run_len}"))
     }
 
     fn lent(&mut self, bytes: &[u8]) -> Lent<u8> {

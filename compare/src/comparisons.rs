@@ -33,9 +33,12 @@ fn compare_text(calls: &mut Calls, text: &[u8]) -> Result<(), Wrong> {
 
 fn compare_table(calls: &mut Calls, table: &[u8]) -> Result<(), Wrong> {
     calls.check_table(table, &model::check_table(table))?;
+    calls.count_fields(table, &model::count_fields(table))?;
     for index in [0, calls.rng.below(8), calls.rng.below(FIELDS_MOST + 2), usize::MAX] {
         let (start, length) = model::field_label(table, index);
         calls.field_label(table, index, (start, length))?;
+        calls.field_short(table, index, model::field_short(table, index))?;
+        calls.field_kind(table, index, &model::field_kind(table, index))?;
         let name = name_like(&mut calls.rng, table, &table[start..start + length]);
         calls.find_field(table, &name, &model::find_field(table, &name))?;
     }
@@ -43,9 +46,10 @@ fn compare_table(calls: &mut Calls, table: &[u8]) -> Result<(), Wrong> {
 }
 
 fn compare_reading(calls: &mut Calls, table: &[u8], packet: &[u8]) -> Result<(), Wrong> {
-    let fields = model::field_count(table);
+    let fields = model::count_fields(table).unwrap_or(0);
     for run_len in rooms(&mut calls.rng, 4 * fields, RUN_MOST) {
         calls.read_packet((table, packet), run_len, &model::read_packet(table, packet, run_len))?;
+        calls.read_partly((table, packet), run_len, &model::read_partly(table, packet, run_len))?;
     }
     let indexes = [fields, fields, FIELDS_MOST + 2].map(|bound| calls.rng.below(bound));
     for index in indexes.into_iter().chain([usize::MAX]) {

@@ -1,4 +1,4 @@
-//! The seven exports as the header declares them, with all that they answer. Of the safe crate `umarekoza` only the
+//! The exports as the header declares them, with all that they answer. Of the safe crate `umarekoza` only the
 //! limits are used here, and its link: it drops parts of an answer, so its functions are left to its own tests.
 
 use umarekoza as _;
@@ -10,6 +10,16 @@ pub struct Answer {
     pub number: u32,
     pub place: u32,
     pub length: u64,
+}
+
+/// An answer, and the number of fields that were read before a refusal.
+#[repr(C)]
+#[derive(Clone, Copy, Debug, PartialEq, Eq)]
+pub struct Partial {
+    pub number: u32,
+    pub place: u32,
+    pub length: u64,
+    pub count: u64,
 }
 
 /// A part of a lent slice.
@@ -26,9 +36,11 @@ type Find = unsafe extern "C" fn(*const u8, usize, *const u8, usize) -> Answer;
 type Read = unsafe extern "C" fn(*const u8, usize, *const u8, usize, *mut u32, usize) -> Answer;
 type List = unsafe extern "C" fn(*const u8, usize, *const u8, usize, *mut u8, usize) -> Answer;
 type Part = unsafe extern "C" fn(*const u8, usize, *const u8, usize, usize) -> Span;
-type Label = unsafe extern "C" fn(*const u8, usize, usize) -> Span;
+type Name = unsafe extern "C" fn(*const u8, usize, usize) -> Span;
+type Kind = unsafe extern "C" fn(*const u8, usize, usize) -> Answer;
+type ReadPartly = unsafe extern "C" fn(*const u8, usize, *const u8, usize, *mut u32, usize) -> Partial;
 
-/// Seven functions that are compared with the model.
+/// The functions that are compared with the model.
 #[derive(Clone, Copy)]
 pub struct Exports {
     pub write_table: Write,
@@ -37,7 +49,11 @@ pub struct Exports {
     pub field_bytes: Part,
     pub list_packet: List,
     pub find_field: Find,
-    pub field_label: Label,
+    pub field_label: Name,
+    pub field_short: Name,
+    pub count_fields: Check,
+    pub field_kind: Kind,
+    pub read_partly: ReadPartly,
 }
 
 /// Those of the library.
@@ -49,6 +65,10 @@ pub const LIBRARY: Exports = Exports {
     list_packet: umarekoza_list_packet,
     find_field: umarekoza_find_field,
     field_label: umarekoza_field_label,
+    field_short: umarekoza_field_short,
+    count_fields: umarekoza_count_fields,
+    field_kind: umarekoza_field_kind,
+    read_partly: umarekoza_read_partly,
 };
 
 #[rustfmt::skip]
@@ -63,4 +83,9 @@ extern "C" {
                              out: *mut u8, out_len: usize) -> Answer;
     fn umarekoza_find_field(table: *const u8, table_len: usize, name: *const u8, name_len: usize) -> Answer;
     fn umarekoza_field_label(table: *const u8, table_len: usize, index: usize) -> Span;
+    fn umarekoza_field_short(table: *const u8, table_len: usize, index: usize) -> Span;
+    fn umarekoza_count_fields(table: *const u8, table_len: usize) -> Answer;
+    fn umarekoza_field_kind(table: *const u8, table_len: usize, index: usize) -> Answer;
+    fn umarekoza_read_partly(table: *const u8, table_len: usize, packet: *const u8, packet_len: usize,
+                             run: *mut u32, run_len: usize) -> Partial;
 }

@@ -1,7 +1,7 @@
 //! The comparison notices wrong programs: the library's functions, with one fault in one of them at a time.
 
 use std::sync::Mutex;
-use umarekoza_compare::exports::{Answer, Exports, Span, LIBRARY};
+use umarekoza_compare::exports::{Answer, Exports, Partial, Span, LIBRARY};
 use umarekoza_compare::runs::{generated, Settings, Tally};
 use Fault::*;
 
@@ -13,6 +13,7 @@ enum Fault {
     Refused(u32, u32, u64),
     AnySpan(u64, u64),
     EmptySpan(u64, u64),
+    Count(u64),
     Before(usize),
     First(usize),
     FirstOfEmpty(usize),
@@ -28,7 +29,7 @@ const OF_ANSWERS: [Fault; 6] = [
     Refused(0, 9, 0),
     Refused(0, 0, 9),
 ];
-const SPANS: [&str; 2] = ["field_bytes", "field_label"];
+const SPANS: [&str; 3] = ["field_bytes", "field_label", "field_short"];
 const OF_SPANS: [Fault; 4] = [AnySpan(1, 0), AnySpan(0, 1), EmptySpan(3, 0), EmptySpan(0, 3)];
 
 /// The call that goes wrong, and how.
@@ -48,6 +49,12 @@ fn answered(call: &str, Answer { number, place, length }: Answer) -> Answer {
         _ => (0, 0, 0),
     };
     Answer { number: number ^ a, place: place ^ b, length: length ^ c }
+}
+
+fn told_partly(call: &str, Partial { number, place, length, count }: Partial) -> Partial {
+    let Answer { number, place, length } = answered(call, Answer { number, place, length });
+    let d = if let Count(d) = fault(call) { d } else { 0 };
+    Partial { number, place, length, count: count ^ d }
 }
 
 fn placed(call: &str, Span { offset, length }: Span) -> Span {
@@ -95,9 +102,24 @@ wrong!(field_bytes, placed, table m *const u8, packet n *const u8; index -> Span
 wrong!(list_packet, answered, table m *const u8, packet n *const u8, out o *mut u8; -> Answer);
 wrong!(find_field, answered, table m *const u8, name n *const u8; -> Answer);
 wrong!(field_label, placed, table m *const u8; index -> Span);
+wrong!(field_short, placed, table m *const u8; index -> Span);
+wrong!(count_fields, answered, table m *const u8; -> Answer);
+wrong!(field_kind, answered, table m *const u8; index -> Answer);
+wrong!(read_partly, told_partly, table m *const u8, packet n *const u8, run o *mut u32; -> Partial);
 
-const EXPORTS: Exports =
-    Exports { write_table, check_table, read_packet, field_bytes, list_packet, find_field, field_label };
+const EXPORTS: Exports = Exports {
+    write_table,
+    check_table,
+    read_packet,
+    field_bytes,
+    list_packet,
+    find_field,
+    field_label,
+    field_short,
+    count_fields,
+    field_kind,
+    read_partly,
+};
 
 fn compared(call: &'static str, fault: Fault) -> Result<Tally, String> {
     *WRONG.lock().unwrap() = (call, fault);
@@ -107,13 +129,22 @@ fn compared(call: &'static str, fault: Fault) -> Result<Tally, String> {
 #[test]
 fn wrong_programs_are_noticed() {
     compared("", Nothing).unwrap_or_else(|wrong| panic!("without a fault: {wrong}"));
-    let with_buffers = [("check_table", 1), ("find_field", 2), ("field_bytes", 2), ("field_label", 1)];
-    let with_output = [("write_table", 2), ("read_packet", 3), ("list_packet", 3)];
+    let with_buffers = [
+        ("check_table", 1),
+        ("find_field", 2),
+        ("field_bytes", 2),
+        ("field_label", 1),
+        ("field_short", 1),
+        ("count_fields", 1),
+        ("field_kind", 1),
+    ];
+    let with_output = [("write_table", 2), ("read_packet", 3), ("list_packet", 3), ("read_partly", 3)];
     for (call, buffers) in with_buffers.into_iter().chain(with_output) {
         let of_answer = if SPANS.contains(&call) { &OF_SPANS[..] } else { &OF_ANSWERS };
         let of_buffers = (0..buffers).flat_map(|i| [Before(i), First(i), FirstOfEmpty(i), Behind(i)]);
         let beyond = with_output.contains(&(call, buffers)).then_some(LastOfLong(buffers - 1));
-        for fault in of_answer.iter().copied().chain(of_buffers).chain(beyond) {
+        let of_count = (call == "read_partly").then_some(Count(1));
+        for fault in of_answer.iter().copied().chain(of_buffers).chain(beyond).chain(of_count) {
             let wrong = compared(call, fault).err();
             let wrong = wrong.unwrap_or_else(|| panic!("{call}, {fault:?}: not noticed"));
             assert!(wrong.contains(&format!(": {call}")), "{call}, {fault:?}: {wrong}");

@@ -28,8 +28,8 @@ mod texts;
 mod trees;
 
 pub use listing::list_packet;
-pub use lookups::{field_count, field_label, find_field};
-pub use reading::{field_bytes, read_packet, Reading};
+pub use lookups::{count_fields, field_kind, field_label, field_short, find_field};
+pub use reading::{field_bytes, read_packet, read_partly, Partly, Reading};
 pub use refusals::Refusal;
 pub use tables::check_table;
 pub use texts::write_table;

@@ -1,5 +1,6 @@
-//! Fields found by name, and labels found by index, in a table.
+//! Fields of a table: how many, found by name, and by index with kind, label and short name.
 
+use crate::descriptions::Width;
 use crate::refusals::{refused, Refusal};
 use crate::tables::good_description;
 
@@ -13,9 +14,20 @@ pub fn find_field(table: &[u8], name: &[u8]) -> Result<usize, Refusal> {
     }
 }
 
-/// How many fields a table has; 0 if it is not good.
-pub fn field_count(table: &[u8]) -> usize {
-    good_description(table).map_or(0, |description| description.fields.len())
+/// How many fields a table has.
+pub fn count_fields(table: &[u8]) -> Result<usize, Refusal> {
+    good_description(table).map(|description| description.fields.len())
+}
+
+/// The kind of the record of a field: 2 fixed, 3 measured, 4 rest; 30 if there is no such field.
+pub fn field_kind(table: &[u8], index: usize) -> Result<usize, Refusal> {
+    let description = good_description(table)?;
+    match description.fields.get(index).map(|field| &field.width) {
+        Some(Width::Fixed(_)) => Ok(2),
+        Some(Width::Measured { .. }) => Ok(3),
+        Some(Width::Rest) => Ok(4),
+        None => refused(30, 0),
+    }
 }
 
 /// Start and length in the table of the label of a field; 0, 0 if the table is not good or has no such field.
@@ -25,6 +37,15 @@ pub fn field_label(table: &[u8], index: usize) -> (usize, usize) {
     // The head and the fields before; then length, kind and label length, two bytes each.
     let start = (0..=index).fold(0, |start, _| start + number_at(table, start));
     (start + 6, field.label.len())
+}
+
+/// The same of its short name; 0, 0 too if it has none.
+pub fn field_short(table: &[u8], index: usize) -> (usize, usize) {
+    let Ok(description) = good_description(table) else { return (0, 0) };
+    let Some(short) = description.fields.get(index).and_then(|field| field.short) else { return (0, 0) };
+    // Behind the label and two bytes of length.
+    let (start, length) = field_label(table, index);
+    (start + length + 2, short.len())
 }
 
 fn number_at(table: &[u8], at: usize) -> usize {

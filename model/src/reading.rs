@@ -28,6 +28,24 @@ pub fn read_described<'a>(
     packet: &[u8],
     run_len: usize,
 ) -> Result<(Description<'a>, Reading), Refusal> {
+    let description = described(table, packet, run_len)?;
+    let reading = read_fields(&description, packet)?;
+    Ok((description, reading))
+}
+
+/// The numbers of the fields before the first refused one, and the packet's bits or the refusal.
+pub type Partly = (Vec<[u32; 4]>, Result<u32, Refusal>);
+
+/// What is read of a packet by a table as far as it goes, for a run of `run_len` numbers.
+pub fn read_partly(table: &[u8], packet: &[u8], run_len: usize) -> Partly {
+    match described(table, packet, run_len) {
+        Ok(description) => fields_before(&description, packet),
+        Err(refusal) => (Vec::new(), Err(refusal)),
+    }
+}
+
+/// The description that a table holds, for a packet that is not too long and a run that is long enough.
+fn described<'a>(table: &'a [u8], packet: &[u8], run_len: usize) -> Result<Description<'a>, Refusal> {
     let description = good_description(table)?;
     if packet.len() > LONGEST_PACKET {
         return refused(22, 0);
@@ -35,8 +53,7 @@ pub fn read_described<'a>(
     if run_len < 4 * description.fields.len() {
         return refused(23, 0);
     }
-    let reading = read_fields(&description, packet)?;
-    Ok((description, reading))
+    Ok(description)
 }
 
 /// Start and length of the bytes of a field, if the packet is accepted and the field is present, starts on a
@@ -53,18 +70,22 @@ pub fn field_bytes(table: &[u8], packet: &[u8], index: usize) -> (usize, usize) 
 
 /// The reading of a packet that is not too long, by a description within the limits.
 pub fn read_fields(description: &Description, packet: &[u8]) -> Result<Reading, Refusal> {
+    let (fields, total) = fields_before(description, packet);
+    Ok(Reading { fields, total: total? })
+}
+
+/// The same as far as it goes.
+fn fields_before(description: &Description, packet: &[u8]) -> Partly {
     let mut walk = Walk::new(packet);
     let mut fields = Vec::with_capacity(description.fields.len());
     for (index, field) in description.fields.iter().enumerate() {
         match walk.field(field, &description.fields[index + 1..]) {
             Ok(numbers) => fields.push(numbers),
-            Err(number) => return refused(number, index as u32 + 1),
+            Err(number) => return (fields, refused(number, index as u32 + 1)),
         }
     }
-    if walk.place < walk.total {
-        return refused(28, 0);
-    }
-    Ok(Reading { fields, total: walk.total as u32 })
+    let total = if walk.place < walk.total { refused(28, 0) } else { Ok(walk.total as u32) };
+    (fields, total)
 }
 
 /// A walk through a packet: the place reached, and the value of each fixed field so far that is present.
