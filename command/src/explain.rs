@@ -83,3 +83,24 @@ fn meaning(place: String, refusal: Refusal, mut notes: Vec<String>) -> Told {
 fn verdict(refusal: Refusal) -> Verdict {
     Verdict { number: refusal.number, place: refusal.place }
 }
+
+#[cfg(test)]
+mod tests {
+    use super::page;
+    use umarekoza::Refusal;
+
+    const BLADE: &str = include_str!("../../examples/pages/blade-report.txt");
+
+    #[test]
+    fn only_the_meaning_where_the_hint_comes_to_another_refusal() {
+        let wrong = BLADE.replace("V == 1", "V = 1");
+        for (number, place) in [(7, 19), (5, 18), (9, 17)] {
+            let told = page("page", wrong.as_bytes(), Refusal { number, place });
+            assert_eq!((told.number, told.place), (number, format!("page:{place}")));
+            assert!(told.mark.is_none() && told.below.is_empty());
+        }
+        let told = page("page", wrong.as_bytes(), Refusal { number: 5, place: 17 });
+        assert_eq!(told.mark.map(|mark| (mark.line, mark.column)), Some((17, 24)));
+        assert_eq!(told.message, "`=` is no operator");
+    }
+}

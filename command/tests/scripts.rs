@@ -195,6 +195,14 @@ fn names_cannot_move_a_terminal() {
     place.put(name, BLADE);
     let shown = "a\\u{1b}[31m\\n\\u{9b}b";
     place.run(&["check", name]).accepted(format!("{shown}: page accepted\n1 accepted, 0 refused\n"));
+    place.put(name, BLADE.replace("V == 1", "V = \x1B[2J1"));
+    let left = place.run(&["check", name]);
+    assert_eq!(left.text(), format!("{shown}: page refused 2 at 0\n0 accepted, 1 refused\n"));
+    left.says(&[&format!(" --> {shown}:17:26\n"), "17 | Version (V): 2 bits; V = ?[2J1.\n"]);
+    place.put(name, &M1[..7]);
+    place
+        .run(&["read", "page", name])
+        .refused("refused 24 at 7", &[&format!(" --> {shown}, field 7: Sum\n")]);
     place.put(name, M1);
     place
         .run(&["read", "page", name, "m1"])
