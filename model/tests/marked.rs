@@ -1,7 +1,10 @@
 //! The marked cases M1 to M10 of document 01.
 
 use umarekoza_model::protocol::from_hex;
-use umarekoza_model::{field_bytes, field_label, find_field, list_packet, read_packet, write_table, Refusal};
+use umarekoza_model::{
+    count_fields, field_bytes, field_kind, field_label, field_short, find_field, list_packet, read_packet,
+    read_partly, write_table, Refusal,
+};
 
 const BLADE: &str = "\
 A Blade Report is formatted as follows:
@@ -82,6 +85,26 @@ fn m3_to_m7_refusals() {
 }
 
 #[test]
+fn m1_and_m3_to_m7_partly() {
+    let table = blade();
+    let (fields, total) = read_partly(&table, &packet("62 07 01 2C AA BB 00 09"), 28);
+    assert_eq!((fields.len(), fields[6], total), (7, [1, 48, 16, 9], Ok(64)));
+    let refused = |hex: &str, count: usize, number: u32, place: u32| {
+        let (before, refusal) = read_partly(&table, &packet(hex), 28);
+        assert_eq!((before.len(), refusal), (count, Err(Refusal { number, place })), "{hex}");
+        assert_eq!(before, &fields[..count], "{hex}");
+    };
+    refused("62 07 01 2C AA BB 00", 6, 24, 7);
+    refused("62 07 01 2C AA BB 00 09 00", 7, 28, 0);
+    refused("22 07 01 2C AA BB 00 09", 0, 25, 1);
+    refused("-", 0, 24, 1);
+    let m6 = read_partly(&table, &packet("55 07"), 28);
+    assert_eq!(m6, (vec![[1, 0, 2, 1], [1, 2, 1, 0]], Err(Refusal { number: 25, place: 3 })));
+    assert_eq!(read_partly(&table, &[], 27), (vec![], Err(Refusal { number: 23, place: 0 })));
+    assert_eq!(read_partly(&table[1..], &[], 28), (vec![], Err(Refusal { number: 21, place: 0 })));
+}
+
+#[test]
 fn m8_to_m9_expressions() {
     let read = |constraint: &str| {
         let text = one_byte(&format!("Kind (K): 8 bits; {constraint}."));
@@ -119,6 +142,12 @@ fn names_labels_and_parts() {
     }
     assert_eq!(field_label(&table, 7), (0, 0));
     assert_eq!(field_label(b"", 0), (0, 0));
+    let (start, length) = field_short(&table, 4);
+    assert_eq!(&table[start..start + length], b"Bor");
+    assert_eq!([3, 7].map(|index| field_short(&table, index)), [(0, 0); 2]);
+    assert_eq!((count_fields(&table), count_fields(b"")), (Ok(7), Err(Refusal { number: 21, place: 0 })));
+    assert_eq!([0, 5].map(|index| field_kind(&table, index)), [Ok(2), Ok(3)]);
+    assert_eq!(field_kind(&table, 7), Err(Refusal { number: 30, place: 0 }));
     let m1 = packet("62 07 01 2C AA BB 00 09");
     let parts = (0..8).map(|index| field_bytes(&table, &m1, index));
     assert_eq!(parts.collect::<Vec<_>>(), [(0, 0), (0, 0), (0, 0), (1, 1), (2, 2), (4, 2), (6, 2), (0, 0)]);

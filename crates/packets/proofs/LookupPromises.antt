@@ -31,10 +31,11 @@ use Rattle.rules.specs.Promises.{
 }
 use Rattle.writing.specs.declared.spans.Span.{Span}
 use Rattle.packets.specs.declared.lookups.FieldRecord.{FieldRecord}
+use Rattle.packets.specs.declared.records.Parts.{Parts}
 use Rattle.packets.specs.Parts.{tableMost, spanOf, ending, partsAt}
 use Rattle.packets.specs.PartsStand.{In}
 use Rattle.packets.specs.Lookups.{placeFrom, findFrom}
-use Rattle.packets.specs.Found.{Finds, labelIn, filledSpan, shortIn, kindIn, OnTable, OnLabel, OnShort}
+use Rattle.packets.specs.Found.{Finds, spanIn, labelIn, filledSpan, shortIn, kindIn, OnTable, OnLabel, OnShort}
 use Rattle.packets.proofs.TableHead.{head-first, head-count, fields-stand}
 use Rattle.packets.proofs.TableParts.{table-length}
 use Rattle.packets.proofs.LinesStored.{label-inside}
@@ -129,6 +130,29 @@ module _ (table : List ℕ) (i : ℕ) where
       place-stored table (length table) (recordOf 5 []) _ (d .fields) [] i (twoAt table 0) (w .form) (w .size)
       (fields-stand d table (k .isStored) w) (omega (arith, head-count d table (k .isStored) w))
 
+  -- a part of the record, where each decision has it or none
+  span-on : (part : Dec (Good table) → Part) (span : Parts → Span) → ((b : Good table → ⊥) → part (no b) ≡ noPart)
+      → ((k : Good table) → twoAt table 6 ≤ i → part (yes k) ≡ noPart)
+      → ((k : Good table) → i < twoAt table 6 → (ending (span (partsAt table here)) ≤ length table)
+      × (span (partsAt table here) ≡ spanOf (part (yes k) .start) (part (yes k) .size)))
+      → (r : FieldRecord) → Finds table i r → OnTable table part (spanIn span r)
+  span-on part span bad out found FieldRecord.NotGood h = none-on table part go
+    where
+      go : (good : Dec (Good table)) → part good ≡ noPart
+      go (yes k) = absurd (h k)
+      go (no b) = bad b
+  span-on part span bad out found FieldRecord.Unknown h = none-on table part go
+    where
+      go : (good : Dec (Good table)) → part good ≡ noPart
+      go (yes k) = out k (h .1)
+      go (no b) = bad b
+  span-on part span bad out found (FieldRecord.At p) h =
+      rw (h .2) (record { is = go; within = found (h .0) (h .1) .0 })
+    where
+      go : (good : Dec (Good table)) → span (partsAt table here) ≡ spanOf (part good .start) (part good .size)
+      go (yes k) = found k (h .1) .1
+      go (no b) = absurd (b (h .0))
+
   -- ── kind ──
 
   pub kind-told : (r : FieldRecord) → Finds table i r → TellsKind table i (ofField (kindIn r))
@@ -165,22 +189,7 @@ module _ (table : List ℕ) (i : ℕ) where
 
   pub label-on : (r : FieldRecord) → Finds table i r → OnLabel table i (labelIn r)
   unfolding labelBy
-  label-on FieldRecord.NotGood bad = none-on table _ go
-    where
-      go : (good : Dec (Good table)) → labelBy good i ≡ noPart
-      go (yes k) = absurd (bad k)
-      go (no b) = refl
-  label-on FieldRecord.Unknown h = none-on table _ go
-    where
-      go : (good : Dec (Good table)) → labelBy good i ≡ noPart
-      go (yes k) = rw (outside k (h .1))
-      go (no b) = refl
-  label-on (FieldRecord.At p) h = rw (h .2) (record { is = go; within = label-found (h .0) (h .1) .0 })
-    where
-      go : (good : Dec (Good table)) → partsAt table here .label
-          ≡ spanOf (labelBy good i .start) (labelBy good i .size)
-      go (yes k) = label-found k (h .1) .1
-      go (no b) = absurd (b (h .0))
+  label-on = span-on _ (λ p. p .label) (λ b. refl) (λ k h. rw (outside k h)) label-found
 
   -- ── short name ──
 
@@ -198,19 +207,4 @@ module _ (table : List ℕ) (i : ℕ) where
 
   pub short-on : (r : FieldRecord) → Finds table i r → OnShort table i (shortIn r)
   unfolding shortBy
-  short-on FieldRecord.NotGood bad = none-on table _ go
-    where
-      go : (good : Dec (Good table)) → shortBy good i ≡ noPart
-      go (yes k) = absurd (bad k)
-      go (no b) = refl
-  short-on FieldRecord.Unknown h = none-on table _ go
-    where
-      go : (good : Dec (Good table)) → shortBy good i ≡ noPart
-      go (yes k) = rw (outside k (h .1))
-      go (no b) = refl
-  short-on (FieldRecord.At p) h = rw (h .2) (record { is = go; within = short-found (h .0) (h .1) .0 })
-    where
-      go : (good : Dec (Good table)) → filledSpan (partsAt table here .short)
-          ≡ spanOf (shortBy good i .start) (shortBy good i .size)
-      go (yes k) = short-found k (h .1) .1
-      go (no b) = absurd (b (h .0))
+  short-on = span-on _ (λ p. filledSpan (p .short)) (λ b. refl) (λ k h. rw (outside k h)) short-found

@@ -13,6 +13,7 @@ use Rattle.rules.specs.Stored.{Good}
 use Rattle.rules.specs.Promises.{labelBy, shortBy}
 use Rattle.writing.specs.declared.spans.Span.{Span}
 use Rattle.packets.specs.declared.lookups.FieldRecord.{FieldRecord}
+use Rattle.packets.specs.declared.records.Parts.{Parts}
 use Rattle.packets.specs.Parts.{spanOf, ending, partsAt}
 use Rattle.packets.specs.Lookups.{placeFrom}
 
@@ -23,19 +24,21 @@ Finds table i FieldRecord.Unknown = Good table × (twoAt table 6 ≤ i)
 Finds table i (FieldRecord.At p) =
     Good table × (i < twoAt table 6) × (p ≡ partsAt table (placeFrom table i (twoAt table 0)))
 
+-- a part of the record, the empty part at the start where there is none
+abbrev pub spanIn : (Parts → Span) → FieldRecord → Span
+spanIn span FieldRecord.NotGood = spanOf 0 0
+spanIn span FieldRecord.Unknown = spanOf 0 0
+spanIn span (FieldRecord.At p) = span p
+
 abbrev pub labelIn : FieldRecord → Span
-labelIn FieldRecord.NotGood = spanOf 0 0
-labelIn FieldRecord.Unknown = spanOf 0 0
-labelIn (FieldRecord.At p) = p .label
+labelIn r = spanIn (λ p. p .label) r
 
 -- an empty part stands at the start
 unfoldable pub filledSpan : Span → Span
 filledSpan s = cond (eqb (s .len) 0) (spanOf 0 0) s
 
 abbrev pub shortIn : FieldRecord → Span
-shortIn FieldRecord.NotGood = spanOf 0 0
-shortIn FieldRecord.Unknown = spanOf 0 0
-shortIn (FieldRecord.At p) = filledSpan (p .short)
+shortIn r = spanIn (λ p. filledSpan (p .short)) r
 
 abbrev pub kindIn : FieldRecord → FieldAnswer
 kindIn FieldRecord.NotGood = FieldAnswer.NotGood

@@ -22,7 +22,14 @@ use Rattle.rules.specs.Stored.{storedIn, storedFieldIn, fieldBody, headBody}
 use Rattle.rules.specs.Reading.{bitsAt, valueIn, readField, readFields, reading, fieldsBefore, entriesBefore}
 use Rattle.rules.specs.Listing.{entryLines, linesText}
 use Rattle.rules.specs.Answers.{faultNumber}
-use Rattle.rules.specs.Promises.{delivered, readingAnswer, packetOutcome, readingLines, firstNamed, partlyOutcome}
+use Rattle.rules.specs.Promises.{
+  delivered,
+  readingAnswer,
+  packetOutcome,
+  readingLines,
+  firstNamed,
+  partlyOutcome,
+}
 use Rattle.laws.specs.Wrong.{AllFalse}
 use Rattle.laws.proofs.RuledOut.{all-out}
 use Rattle.text_laws.proofs.RuledOutTexts.{other, tag-known, barred-known}

@@ -5,7 +5,6 @@ use Prim.Native.Nat.{ℕ}
 use lib.ListN.{length, replicate}
 use Rattle.base.specs.Bytes.{bytes}
 use Rattle.rules.specs.Promises.{leaves, ReadsText}
-use Rattle.rules.specs.Reading.{Part}
 use Rattle.rules.specs.Cases.{lentRun}
 use Rattle.rules.specs.Marked.{bladeReport, m1, m1Listing, tagText, tagTable}
 use Rattle.rules.specs.Pages.{tagLines}
@@ -18,7 +17,6 @@ use Rattle.laws.specs.Wrong.{
   placesPart,
   finds,
   placesLabel,
-  lentOutput,
   runOf,
   outputOf,
   m1Six,

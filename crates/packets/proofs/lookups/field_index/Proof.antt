@@ -1,9 +1,4 @@
-use mathlib.Core.Path.{_≡_, refl, sym, _∙_, ap}
-use native.Mathlib.Omega.{arith}
-use native.Mathlib.Nat.{add-sub-cancel-left}
-use Prim.Native.Nat.{_<_, _≤_}
 use denote.Ref.{now}
-use Rattle.base.specs.Places.{twoAt}
 use Rattle.packets.proofs.PacketPromises.{good-from, bad-from}
 use Rattle.packets.proofs.LookupPromises.{index-bad, index-found}
 use borrow.Author.Needs.{needs}

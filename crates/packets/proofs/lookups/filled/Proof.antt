@@ -1,6 +1,5 @@
 use borrow.Author.Tests.{eq-eqb, ne-eqb}
 use Rattle.packets.specs.Found.{filledSpan}
-use borrow.Author.Needs.{needs}
 use Rattle.packets.proofs.lookups.filled.Statement.{statement}
 use Rattle.packets.proofs.lookups.filled.Tie as tie
 use Rattle.packets.proofs.lookups.filled.Reads as reads
