@@ -4,7 +4,7 @@
 use crate::progress;
 use codespan_reporting::diagnostic::{Diagnostic, Label};
 use codespan_reporting::files::{Error, Files};
-use codespan_reporting::term::termcolor::{BufferWriter, ColorChoice};
+use codespan_reporting::term::termcolor::{Buffer, BufferWriter, ColorChoice};
 use codespan_reporting::term::{emit, Chars, Config};
 use std::io::{self, IsTerminal, Write};
 use std::ops::Range;
@@ -38,36 +38,32 @@ pub struct Mark {
 /// Draws it on standard error. There is nowhere to tell that this failed.
 pub fn draw(told: &Told) {
     let choice = if io::stderr().is_terminal() { ColorChoice::Auto } else { ColorChoice::Never };
-    let writer = BufferWriter::stderr(choice);
-    let mut buffer = writer.buffer();
-    if emit(&mut buffer, &config(), told, &told.diagnostic()).is_err() {
-        return;
-    }
-    let drawn = String::from_utf8_lossy(buffer.as_slice()).into_owned();
-    let lines = drawn.trim_end().lines().map(str::trim_end).chain(told.below.iter().map(String::as_str));
-    let text: String = lines.map(|line| format!("{line}\n")).collect();
+    let text = told.drawn(BufferWriter::stderr(choice).buffer());
     progress::aside(|| {
         let _ = io::stderr().lock().write_all(text.as_bytes());
     });
 }
 
-fn config() -> Config {
-    Config { chars: Chars::ascii(), ..Config::default() }
-}
-
 impl Told {
+    /// The lines as they are drawn to a buffer, which says whether with colours.
+    pub fn drawn(&self, mut buffer: Buffer) -> String {
+        let config = Config { chars: Chars::ascii(), ..Config::default() };
+        // Neither the buffer nor the line that is marked can fail.
+        let _ = emit(&mut buffer, &config, self, &self.diagnostic());
+        let drawn = String::from_utf8_lossy(buffer.as_slice());
+        let lines = drawn.trim_end().lines().map(str::trim_end);
+        lines.chain(self.below.iter().map(String::as_str)).map(|line| format!("{line}\n")).collect()
+    }
+
     fn diagnostic(&self) -> Diagnostic<()> {
         let diagnostic = Diagnostic::error()
             .with_code(self.number.to_string())
             .with_notes(self.notes.iter().map(|note| format!("note: {note}")).collect());
-        match &self.mark {
-            Some(mark) => diagnostic.with_message(&self.message).with_labels(vec![Label::primary(
-                (),
-                mark.meant.clone(),
-            )
-            .with_message(&mark.label)]),
-            None => diagnostic.with_message(format!("{}\n --> {}", self.message, self.place)),
-        }
+        let Some(mark) = &self.mark else {
+            return diagnostic.with_message(format!("{}\n --> {}", self.message, self.place));
+        };
+        let label = Label::primary((), mark.meant.clone()).with_message(&mark.label);
+        diagnostic.with_message(&self.message).with_labels(vec![label])
     }
 
     fn marked(&self) -> Result<&Mark, Error> {

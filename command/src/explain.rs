@@ -86,8 +86,11 @@ fn verdict(refusal: Refusal) -> Verdict {
 
 #[cfg(test)]
 mod tests {
-    use super::page;
+    use super::{page, verdict};
+    use codespan_reporting::term::termcolor::Buffer;
     use umarekoza::Refusal;
+    use umarekoza_hints::{page_hint, plain};
+    use umarekoza_model::generate::{text, Rng};
 
     const BLADE: &str = include_str!("../../examples/pages/blade-report.txt");
 
@@ -102,5 +105,33 @@ mod tests {
         let told = page("page", wrong.as_bytes(), Refusal { number: 5, place: 17 });
         assert_eq!(told.mark.map(|mark| (mark.line, mark.column)), Some((17, 24)));
         assert_eq!(told.message, "`=` is no operator");
+    }
+
+    /// Whatever the page, it is drawn as the hints' plain text has it, and with colours nothing else is drawn.
+    #[test]
+    fn drawn_as_plain_text() {
+        let mut rng = Rng::new(1);
+        let cut = (0..BLADE.len()).map(|length| BLADE.as_bytes()[..length].to_vec());
+        for bytes in cut.chain((0..3000).map(|_| text(&mut rng))) {
+            let Err(refusal) = umarekoza::table_of(&bytes) else { continue };
+            let told = page("page", &bytes, refusal);
+            let due = plain(&page_hint(&bytes, verdict(refusal)), "page", &bytes);
+            assert_eq!(told.drawn(Buffer::no_color()), due);
+            let coloured = told.drawn(Buffer::ansi());
+            let parts = coloured.split("\x1B[").enumerate();
+            let bare: String = parts
+                .map(
+                    |(index, part)| {
+                        if index == 0 {
+                            part
+                        } else {
+                            part.split_once('m').map_or("", |(_, text)| text)
+                        }
+                    },
+                )
+                .collect();
+            let trimmed: String = bare.lines().map(|line| format!("{}\n", line.trim_end())).collect();
+            assert_eq!(trimmed, due);
+        }
     }
 }
