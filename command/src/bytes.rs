@@ -23,7 +23,7 @@ pub fn run(source: &SourceName, packets: &Packets, field: &OsStr, as_hex: bool) 
     let (name, packet) = packets.only().map_err(Failure::Said)?;
     let fields = match umarekoza::fields_of(&table, &packet) {
         Ok(fields) => fields,
-        Err(refusal) => return Ok(refuse(refusal, || explain::packet(&name, &described, refusal))),
+        Err(refusal) => return Ok(refuse(refusal, || explain::packet(&name, &table, &packet, refusal, &[]))),
     };
     match whole_bytes(&fields[index], umarekoza::field_bytes(&table, &packet, index)) {
         Some(bytes) if as_hex => outputs::print_line(&hex::written(bytes)),

@@ -37,21 +37,26 @@ pub fn run(inputs: &[Input], deep: bool, sort: Sort, json: bool) -> Result<Statu
     Ok(tally.status())
 }
 
+/// Prints whether a page or table is accepted, and explains why it is not.
+pub fn tell(source: &Source, json: bool) -> Result<Status, Failure> {
+    let (file, kind, table) = (&source.input, source.kind(), source.table());
+    if json {
+        let name = file.name().to_string_lossy();
+        outputs::print_line(&json::source(&name, kind, &table).to_string())?;
+    } else if let Err(refusal) = table {
+        outputs::print_line(&format!("{file}: {kind} {refusal}"))?;
+        explain::source(source, refusal);
+    } else {
+        outputs::print_line(&format!("{file}: {kind} accepted"))?;
+    }
+    Ok(if table.is_ok() { Status::Accepted } else { Status::Refused })
+}
+
 impl Tally {
     fn check(&mut self, source: &Source) -> Result<(), Failure> {
-        let (file, kind, table) = (&source.input, source.kind(), source.table());
-        match &table {
-            Ok(_) => self.accepted += 1,
-            Err(_) => self.refused += 1,
-        }
-        if self.json {
-            let name = file.name().to_string_lossy();
-            outputs::print_line(&json::source(&name, kind, &table).to_string())?;
-        } else if let Err(refusal) = table {
-            outputs::print_line(&format!("{file}: {kind} {refusal}"))?;
-            explain::source(source, refusal);
-        } else {
-            outputs::print_line(&format!("{file}: {kind} accepted"))?;
+        match tell(source, self.json)? {
+            Status::Accepted => self.accepted += 1,
+            _ => self.refused += 1,
         }
         Ok(())
     }

@@ -94,7 +94,8 @@ fn check() -> Command {
     Command::new("check")
         .about("Say of pages and tables whether they are right")
         .arg(file("files", "FILE", "Pages and tables, or folders of them").num_args(1..))
-        .arg(flag("recursive", "Go into the folders below too").short('r'))
+        .arg(flag("recursive", "Go into the folders below too").short('r').conflicts_with("watch"))
+        .arg(flag("watch", "Check a page again whenever its file changes, until interrupted"))
         .arg(flag("json", "Print an object of JSON for each file, one a line"))
         .args(sorts())
 }

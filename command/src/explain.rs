@@ -1,6 +1,8 @@
-//! Refusals explained on standard error: where, what and how to mend it.
+//! Refusals explained on standard error: where, what and how to mend it. The words for pages and packets are those of
+//! the hints.
 
-use crate::fields::{nearest, Described};
+use crate::draw::{draw, Mark, Told};
+use crate::fields::{nearest, numbers_of, reading, Described};
 use crate::inputs::Input;
 use crate::names::shown;
 use crate::outputs::complain;
@@ -8,36 +10,42 @@ use crate::packets::Name;
 use crate::sources::Source;
 use std::ffi::OsStr;
 use umarekoza::{Field, Refusal};
+use umarekoza_hints::{packet_hint, page_hint, Hint, Verdict};
 
-/// So many bytes of a line are shown.
-const SHOWN: usize = 120;
-
-/// Explains the refusal of a page, with the line, or of a table.
+/// Explains the refusal of a page or of a table.
 pub fn source(source: &Source, refusal: Refusal) {
-    if source.is_page() && refusal.place > 0 {
-        let (at, note) = line(source, refusal.place as usize);
-        return write(&at, refusal, &note);
-    }
-    let note = source.doubt().map_or(String::new(), |doubt| format!("\n  {doubt}"));
-    write(&source.input.to_string(), refusal, &note);
+    draw(&match source.is_page() {
+        true => page(&source.input.to_string(), &source.bytes, refusal),
+        false => meaning(source.input.to_string(), refusal, source.doubt().into_iter().collect()),
+    });
 }
 
-/// A line of a page by its name, and what stands there.
-fn line(source: &Source, place: usize) -> (String, String) {
-    let mut lines = source.bytes.split(|byte| *byte == b'\n').skip(place - 1);
-    let line = lines.next().unwrap_or_default();
-    let note = match (line, lines.next()) {
-        (_, Some(_)) => format!("\n    {}", start(line)),
-        ([], None) => "\n  the page ends before this line: a line is missing".to_string(),
-        (_, None) => format!("\n    {}\n  the page ends in this line, without a line end", start(line)),
+/// What is said of a refused page: the hint, whose column is 0 where it has no more than the number's meaning.
+fn page(name: &str, bytes: &[u8], refusal: Refusal) -> Told {
+    let hint = page_hint(bytes, verdict(refusal));
+    let (text, meant) = hint.shown_line(bytes);
+    let Hint { number, line, column, message, label, notes, also, .. } = hint;
+    let place = if line == 0 { name.to_string() } else { format!("{name}:{line}") };
+    let mark = meant.map(|meant| Mark { name: name.to_string(), line, column, text, meant, label });
+    let below = also.iter().map(|also| {
+        format!("also: {name}:{}:{}: error[{}]: {}", also.line, also.column, also.number, also.message)
+    });
+    Told { number, message, place, mark, notes, below: below.collect() }
+}
+
+/// Explains the refusal of a packet, and shows of these fields those that were read before it.
+pub fn packet(name: &Name<'_>, table: &[u8], packet: &[u8], refusal: Refusal, shown: &[Described]) {
+    let (_, before) = reading(table, packet);
+    let numbers: Vec<[u32; 4]> = before.iter().map(numbers_of).collect();
+    let hint = packet_hint(table, packet, &numbers, verdict(refusal));
+    let place = match hint.field {
+        0 => name.to_string(),
+        field => format!("{name}, field {field}: {}", hint.label),
     };
-    (format!("{}:{place}", source.input), note)
-}
-
-/// Explains the refusal of a packet, with the label of the field.
-pub fn packet(name: &Name<'_>, fields: &[Described], refusal: Refusal) {
-    let label = field_of(fields, refusal).map_or(String::new(), |label| format!(", field `{label}`"));
-    write(&format!("{name}{label}"), refusal, "");
+    let lines = shown.iter().zip(&before).map(|(described, field)| format!("  {}", described.line(field)));
+    let head = shown.iter().zip(&before).take(1).map(|_| "read before the refusal:".to_string());
+    let below = head.chain(lines).collect();
+    draw(&Told { number: hint.number, message: hint.message, place, mark: None, notes: hint.notes, below });
 }
 
 /// The label of the field that a packet's refusal names.
@@ -48,11 +56,11 @@ pub fn field_of(fields: &[Described], refusal: Refusal) -> Option<&str> {
 
 /// Explains that there is no such field, with the labels that there are.
 pub fn field(input: &Input, fields: &[Described], field: &OsStr, refusal: Refusal) {
-    let near = nearest(fields, &field.to_string_lossy());
-    let near = near.map_or(String::new(), |near| format!("\n  did you mean `{near}`?"));
+    let near = nearest(fields, &field.to_string_lossy()).map(|near| format!("did you mean `{near}`?"));
     let labels: Vec<&str> = fields.iter().map(|field| field.label.as_str()).collect();
-    let note = format!("{near}\n  the labels are: {}", labels.join(", "));
-    write(&format!("{input}, field `{}`", shown(field.as_encoded_bytes())), refusal, &note);
+    let labels = format!("the labels are: {}", labels.join(", "));
+    let place = format!("{input}, field `{}`", shown(field.as_encoded_bytes()));
+    draw(&meaning(place, refusal, near.into_iter().chain([labels]).collect()));
 }
 
 /// Says why a field has no bytes to write.
@@ -64,18 +72,66 @@ pub fn no_bytes(name: &Name<'_>, described: &Described, field: &Field) {
     complain(&format!("{name}, field `{}`: it {why}", described.label));
 }
 
-fn write(place: &str, refusal: Refusal, note: &str) {
+/// What a number means, with these notes and how to mend it.
+fn meaning(place: String, refusal: Refusal, mut notes: Vec<String>) -> Told {
     let number = refusal.number;
-    complain(&match refusal.meaning() {
-        Some(meaning) => {
-            format!("{place}: {} (number {number}){note}\n  to mend it: {}", meaning.what, meaning.mend)
-        }
-        None => format!("{place}: {refusal}{note}"),
-    });
+    let message = refusal.meaning().map_or(refusal.to_string(), |meaning| meaning.what.to_string());
+    notes.extend(refusal.meaning().map(|meaning| meaning.mend.to_string()));
+    Told { number, message, place, mark: None, notes, below: Vec::new() }
 }
 
-/// The start of a line, as it can be shown.
-fn start(line: &[u8]) -> String {
-    let end = if line.len() > SHOWN { ".." } else { "" };
-    shown(&line[..line.len().min(SHOWN)]) + end
+fn verdict(refusal: Refusal) -> Verdict {
+    Verdict { number: refusal.number, place: refusal.place }
+}
+
+#[cfg(test)]
+mod tests {
+    use super::{page, verdict};
+    use codespan_reporting::term::termcolor::Buffer;
+    use umarekoza::Refusal;
+    use umarekoza_hints::{page_hint, plain};
+    use umarekoza_model::generate::{text, Rng};
+
+    const BLADE: &str = include_str!("../../examples/pages/blade-report.txt");
+
+    #[test]
+    fn only_the_meaning_where_the_hint_comes_to_another_refusal() {
+        let wrong = BLADE.replace("V == 1", "V = 1");
+        for (number, place) in [(7, 19), (5, 18), (9, 17)] {
+            let told = page("page", wrong.as_bytes(), Refusal { number, place });
+            assert_eq!((told.number, told.place), (number, format!("page:{place}")));
+            assert!(told.mark.is_none() && told.below.is_empty());
+        }
+        let told = page("page", wrong.as_bytes(), Refusal { number: 5, place: 17 });
+        assert_eq!(told.mark.map(|mark| (mark.line, mark.column)), Some((17, 24)));
+        assert_eq!(told.message, "`=` is no operator");
+    }
+
+    /// Whatever the page, it is drawn as the hints' plain text has it, and with colours nothing else is drawn.
+    #[test]
+    fn drawn_as_plain_text() {
+        let mut rng = Rng::new(1);
+        let cut = (0..BLADE.len()).map(|length| BLADE.as_bytes()[..length].to_vec());
+        for bytes in cut.chain((0..3000).map(|_| text(&mut rng))) {
+            let Err(refusal) = umarekoza::table_of(&bytes) else { continue };
+            let told = page("page", &bytes, refusal);
+            let due = plain(&page_hint(&bytes, verdict(refusal)), "page", &bytes);
+            assert_eq!(told.drawn(Buffer::no_color()), due);
+            let coloured = told.drawn(Buffer::ansi());
+            let parts = coloured.split("\x1B[").enumerate();
+            let bare: String = parts
+                .map(
+                    |(index, part)| {
+                        if index == 0 {
+                            part
+                        } else {
+                            part.split_once('m').map_or("", |(_, text)| text)
+                        }
+                    },
+                )
+                .collect();
+            let trimmed: String = bare.lines().map(|line| format!("{}\n", line.trim_end())).collect();
+            assert_eq!(trimmed, due);
+        }
+    }
 }

@@ -14,6 +14,16 @@ impl Described {
     pub fn is_fixed(&self) -> bool {
         self.kind == Kind::Fixed
     }
+
+    /// A field of a packet as a listing has it.
+    pub fn line(&self, field: &Field) -> String {
+        let (label, Field { offset, width, value, .. }) = (&self.label, field);
+        match field.present {
+            false => format!("{label}: absent"),
+            true if self.is_fixed() => format!("{label}: {offset} {width} {value}"),
+            true => format!("{label}: {offset} {width}"),
+        }
+    }
 }
 
 /// All fields of a good table.
@@ -27,13 +37,19 @@ pub fn described(table: &[u8]) -> Vec<Described> {
     (0..).map_while(field).collect()
 }
 
-/// A packet's bits, and its fields in the order of the table, of which there are so many.
-pub fn reading(table: &[u8], packet: &[u8], count: usize) -> Result<(u64, Vec<Field>), Refusal> {
+/// The bits of a packet or its refusal, and its fields in the order of the table: those before the first refused one,
+/// or all.
+pub fn reading(table: &[u8], packet: &[u8]) -> (Result<u64, Refusal>, Vec<Field>) {
     let mut run = [0; RUN_MOST];
-    let bits = umarekoza::read_packet(table, packet, &mut run)?;
+    let (answer, count) = umarekoza::read_partly(table, packet, &mut run);
     let fields =
         run.chunks_exact(4).take(count).map(|four| Field::from([four[0], four[1], four[2], four[3]]));
-    Ok((bits, fields.collect()))
+    (answer, fields.collect())
+}
+
+/// The four numbers of a field in a run.
+pub fn numbers_of(field: &Field) -> [u32; 4] {
+    [u32::from(field.present), field.offset, field.width, field.value]
 }
 
 /// The index of the field with this name; where there is none, the index that is written there, if it is one.

@@ -6,21 +6,29 @@ use crate::hex::written;
 use serde_json::{json, Map, Value};
 use umarekoza::{Field, Kind, Refusal};
 
-/// A packet, accepted or refused.
+/// A packet, accepted with its fields; or refused, with the label of the field that is, and the fields before it.
 pub fn packet(name: &str, table: &[u8], packet: &[u8], described: &[Described]) -> Result<Value, Value> {
-    let (bits, fields) = reading(table, packet, described.len())
-        .map_err(|refusal| refused_packet(name, described, refusal))?;
-    let long_bytes = |index, described: &Described, field: &Field| {
-        let bytes = (!described.is_fixed()).then(|| umarekoza::field_bytes(table, packet, index))?;
-        whole_bytes(field, bytes).map(written)
+    let (answer, fields) = reading(table, packet);
+    let objects = objects(described, &fields, packet);
+    match answer {
+        Ok(bits) => Ok(json!({ "name": name, "result": "accepted", "bits": bits, "fields": objects })),
+        Err(refusal) => {
+            let mut object = refused(name, refusal);
+            object.insert("field".to_string(), json!(field_of(described, refusal)));
+            object.insert("fields".to_string(), json!(objects));
+            Err(Value::Object(object))
+        }
+    }
+}
+
+/// The fields that were read, long ones with their bytes.
+fn objects(described: &[Described], fields: &[Field], packet: &[u8]) -> Vec<Value> {
+    let object = |(described, field): (&Described, &Field)| {
+        let bytes = || packet[field.offset as usize / 8..][..field.width as usize / 8].as_ref();
+        let bytes = (!described.is_fixed()).then(bytes).and_then(|bytes| whole_bytes(field, bytes));
+        field_object(described, field, bytes.map(written))
     };
-    let both = described.iter().zip(&fields).enumerate();
-    let objects: Vec<Value> = both
-        .map(|(index, (described, field))| {
-            field_object(described, field, long_bytes(index, described, field))
-        })
-        .collect();
-    Ok(json!({ "name": name, "result": "accepted", "bits": bits, "fields": objects }))
+    described.iter().zip(fields).map(object).collect()
 }
 
 /// A field; what an absent one has not, and what a field of its kind has not, is null.
@@ -44,13 +52,6 @@ fn kind(kind: Kind) -> &'static str {
         Kind::Measured => "measured",
         Kind::Rest => "rest",
     }
-}
-
-/// A refused packet, with the label of the field that is refused.
-fn refused_packet(name: &str, fields: &[Described], refusal: Refusal) -> Value {
-    let mut object = refused(name, refusal);
-    object.insert("field".to_string(), json!(field_of(fields, refusal)));
-    Value::Object(object)
 }
 
 /// A page or table, accepted with the length of its table, or refused.

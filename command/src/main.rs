@@ -3,13 +3,15 @@
 //!
 //! `cli` has the verbs and options, and `requests` reads a command line by them. `inputs` reads files, `folders`
 //! what is in folders, `sources` pages and tables, `packets` packets, `hex` and `dump` those that are written in
-//! hexadecimal. `table`, `read`, `bytes`, `check` and `numbers` are the verbs, `man` and clap_complete make the man
-//! page and the completions. `explain` says what a refusal means, `json` says answers for programs, `fields` finds
-//! fields, `names` shows names. `outputs` and `replace` write results, with `progress` beside them.
+//! hexadecimal. `table`, `read`, `bytes`, `check`, `watch` and `numbers` are the verbs, `man` and clap_complete make
+//! the man page and the completions. `explain` says what a refusal means, `draw` draws that, `json` says answers for
+//! programs, `fields` finds fields, `names` shows names. `outputs` and `replace` write results, with `progress` beside
+//! them.
 
 mod bytes;
 mod check;
 mod cli;
+mod draw;
 mod dump;
 mod explain;
 mod fields;
@@ -29,6 +31,7 @@ mod requests;
 mod sources;
 mod standard;
 mod table;
+mod watch;
 
 use requests::Request;
 use std::env;
@@ -73,6 +76,7 @@ fn run() -> Result<Status, Failure> {
         Request::Read { source, packets, form } => read::run(&source, &packets, &form),
         Request::Bytes { source, packets, field, as_hex } => bytes::run(&source, &packets, &field, as_hex),
         Request::Check { files, deep, sort, json } => check::run(&files, deep, sort, json),
+        Request::Watch { files, sort, json } => watch::run(&files, sort, json),
         Request::Explain { numbers } => numbers::run(&numbers),
         Request::Man => outputs::print(man::page().as_bytes()),
         Request::Completions(shell) => outputs::print(cli::completions(shell).as_bytes()),

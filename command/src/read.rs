@@ -100,7 +100,7 @@ impl Reader<'_> {
         outputs::print(&umarekoza::listing(self.table, packet))?;
         match fields_of(self.table, packet) {
             Ok(_) => Ok(Status::Accepted),
-            Err(refusal) => Ok(self.refuse(name, refusal)),
+            Err(refusal) => Ok(self.refuse(name, packet, refusal)),
         }
     }
 
@@ -119,7 +119,7 @@ impl Reader<'_> {
             Ok(fields) => fields,
             Err(refusal) => {
                 outputs::print_line(&refusal.to_string())?;
-                return Ok(self.refuse(name, refusal));
+                return Ok(self.refuse(name, packet, refusal));
             }
         };
         let (described, field) = (&self.fields[self.index], &fields[self.index]);
@@ -136,8 +136,8 @@ impl Reader<'_> {
         }
     }
 
-    fn refuse(&self, name: &Name<'_>, refusal: Refusal) -> Status {
-        explain::packet(name, self.fields, refusal);
+    fn refuse(&self, name: &Name<'_>, packet: &[u8], refusal: Refusal) -> Status {
+        explain::packet(name, self.table, packet, refusal, self.fields);
         Status::Refused
     }
 }

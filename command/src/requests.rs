@@ -35,6 +35,11 @@ pub enum Request {
         sort: Sort,
         json: bool,
     },
+    Watch {
+        files: Vec<Input>,
+        sort: Sort,
+        json: bool,
+    },
     Explain {
         numbers: Vec<u32>,
     },
@@ -77,6 +82,11 @@ fn request_of(verb: &str, matches: &ArgMatches) -> Request {
             packets: packets(matches),
             field: matches.get_one::<OsString>("field").cloned().unwrap_or_default(),
             as_hex: matches.get_flag("to-hex"),
+        },
+        "check" if matches.get_flag("watch") => Request::Watch {
+            files: inputs(matches, "files"),
+            sort: sort(matches),
+            json: matches.get_flag("json"),
         },
         "check" => Request::Check {
             files: inputs(matches, "files"),

@@ -43,10 +43,13 @@ fn did_you_mean() {
     place.run(&["read", "page", "m1", "--field", "Borower"]).left(
         1,
         "refused 30 at 0\n",
-        "umarekoza: page, field `Borower`: no field has this name or index (number 30)\n  \
-         did you mean `Borrower`?\n  \
-         the labels are: Version, On Loan, Cells, Blade, Borrower, Readings, Sum\n  \
-         to mend it: give a label, a short name or an index from 0\n",
+        "\
+error[30]: no field has this name or index
+ --> page, field `Borower`
+ = note: did you mean `Borrower`?
+ = note: the labels are: Version, On Loan, Cells, Blade, Borrower, Readings, Sum
+ = note: give a label, a short name or an index from 0
+",
     );
     place.run(&["bytes", "page", "m1", "sum"]).refused_quietly(&["did you mean `Sum`?"]);
 }

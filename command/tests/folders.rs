@@ -103,5 +103,5 @@ fn a_folder_of_packets() {
         "==> packets/a <==\n{M1_LISTING}==> packets/b <==\n{M2_LISTING}==> packets/c <==\nrefused 24 at 7\n"
     );
     assert_eq!((left.status, left.text()), (1, lines));
-    left.says(&["packets/deeper: left out: this is a folder\n", "packets/c, field `Sum`: "]);
+    left.says(&["packets/deeper: left out: this is a folder\n", " --> packets/c, field 7: Sum\n"]);
 }

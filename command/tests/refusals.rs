@@ -1,4 +1,5 @@
-//! Each refusal that the command can meet, with its explanation.
+//! Each refusal that the command can meet: its line on standard output, what stays as it was, and words of what
+//! explains it. `hints_*` have the explanations whole.
 
 mod common;
 
@@ -23,30 +24,25 @@ fn page_refused(test: &str, changes: &[(&str, &str)], line: &str, words: &[&str]
 #[test]
 fn long_page_1() {
     let remark = format!("Sum: 2 bytes. {}", "x".repeat(umarekoza::TEXT_MOST));
-    page_refused("1", &[("Sum: 2 bytes.", &remark)], "refused 1 at 0", &["page: ", "longer than 16,384"]);
+    page_refused("1", &[("Sum: 2 bytes.", &remark)], "refused 1 at 0", &[" --> page\n", "at most 16,384"]);
 }
 
 #[test]
 fn wrong_byte_2() {
-    page_refused("2", &[("Sum: 2", "Sum:\t2")], "refused 2 at 0", &["tabs"]);
+    page_refused("2", &[("Sum: 2", "Sum:\t2")], "refused 2 at 0", &[" --> page:23:5\n", "tab"]);
 }
 
 #[test]
 fn wrong_line_3() {
-    let words = ["page:8: ", "    |          Borrower            |\n"];
+    let words = [" --> page:8:33\n", "8 | |          Borrower            |\n"];
     page_refused("3", &[("|           Borrower", "|          Borrower")], "refused 3 at 8", &words);
-    page_refused(
-        "3-end",
-        &[("Sum: 2 bytes.\n", "Sum: 2 bytes.")],
-        "refused 3 at 23",
-        &["without a line end"],
-    );
+    page_refused("3-end", &[("Sum: 2 bytes.\n", "Sum: 2 bytes.")], "refused 3 at 23", &["no line end"]);
     let lines = BLADE.split_once("where:").unwrap().1;
     page_refused(
         "3-cut",
         &[(lines, "\n")],
         "refused 3 at 16",
-        &["page:16: ", "the page ends before this line"],
+        &[" --> page:16:1\n", "the page ends too early"],
     );
 }
 
@@ -62,7 +58,7 @@ fn form_of_a_line_5() {
         "5",
         &[("Blade: 1 byte.", "Blade: 1 byte")],
         "refused 5 at 20",
-        &["page:20: ", "    Blade: 1 byte\n"],
+        &[" --> page:20:14\n", "20 | Blade: 1 byte\n"],
     );
 }
 
@@ -73,7 +69,7 @@ fn large_expression_6() {
         "6",
         &[("N <= 20", &sum)],
         "refused 6 at 19",
-        &["page:19: ", "its depth is over 12", "a number or name has depth 1"],
+        &[" --> page:19:20\n", "depth 14, at most 12", "a number or name has depth 1"],
     );
 }
 
@@ -83,20 +79,20 @@ fn cell_and_line_7() {
         "7",
         &[("Cells (N): 5", "Cells (N): 6")],
         "refused 7 at 19",
-        &["Cells (N): 6 bits; N <= 20."],
+        &[" --> page:19:12\n", "19 | Cells (N): 6 bits; N <= 20.\n"],
     );
     page_refused(
         "7-cell",
         &[("Sum: 2 bytes.\n", "")],
         "refused 7 at 23",
-        &["the page ends before this line"],
+        &[" --> page:23:1\n", "no field line for cell 7"],
     );
 }
 
 #[test]
 fn repeated_label_8() {
     let changes = [("Sum: 2 bytes.", "Blade: 2 bytes."), ("      Sum      ", "     Blade     ")];
-    page_refused("8", &changes, "refused 8 at 23", &["page:23: ", "Blade: 2 bytes."]);
+    page_refused("8", &changes, "refused 8 at 23", &[" --> page:23:1\n", "23 | Blade: 2 bytes.\n"]);
 }
 
 #[test]
@@ -105,7 +101,7 @@ fn unknown_name_9() {
         "9",
         &[("Readings: N", "Readings: X")],
         "refused 9 at 22",
-        &["page:22: ", "Readings: X bytes."],
+        &[" --> page:22:11\n", "22 | Readings: X bytes.\n"],
     );
 }
 
@@ -113,7 +109,7 @@ fn unknown_name_9() {
 fn behind_the_rest_10() {
     let row = ("|             Sum               |", ":             Sum               :");
     let changes = [row, ("Sum: 2 bytes.", "Sum: N bytes."), ("Readings: N bytes", "Readings: variable")];
-    page_refused("10", &changes, "refused 10 at 23", &["page:23: ", "`variable`"]);
+    page_refused("10", &changes, "refused 10 at 23", &[" --> page:23:6\n", "`variable`"]);
 }
 
 #[test]
@@ -130,7 +126,7 @@ fn bad_table_21() {
         (left.status, left.text().as_str()),
         (1, "table: table refused 21 at 0\n0 accepted, 1 refused\n")
     );
-    place.run(&["table", "empty", "-o", "out"]).refused("refused 3 at 1", &["empty:1: "]);
+    place.run(&["table", "empty", "-o", "out"]).refused("refused 3 at 1", &[" --> empty:1:1\n"]);
 }
 
 #[test]
@@ -138,18 +134,18 @@ fn packets_22_to_28() {
     let place = Place::new("packets");
     let cases: [(&[u8], &str, &str); 5] = [
         (&[0; 2049], "refused 22 at 0", "2,048"),
-        (&M1[..7], "refused 24 at 7", "packet, field `Sum`"),
-        (&[0x22, 7, 1, 0x2C, 0xAA, 0xBB, 0, 9], "refused 25 at 1", "field `Version`"),
-        (&[0x55, 7], "refused 25 at 3", "field `Cells`"),
+        (&M1[..7], "refused 24 at 7", " --> packet, field 7: Sum\n"),
+        (&[0x22, 7, 1, 0x2C, 0xAA, 0xBB, 0, 9], "refused 25 at 1", "field 1: Version\n"),
+        (&[0x55, 7], "refused 25 at 3", "field 3: Cells\n"),
         (&[0x62, 7, 1, 0x2C, 0xAA, 0xBB, 0, 9, 0], "refused 28 at 0", "left over"),
     ];
     for (packet, line, words) in cases {
         place.put("packet", packet);
-        place.run(&["read", "page", "packet"]).refused(line, &[words, "to mend it: "]);
-        place.run(&["bytes", "page", "packet", "Blade"]).refused_quietly(&[line, words, "to mend it: "]);
+        place.run(&["read", "page", "packet"]).refused(line, &[words, " = note: "]);
+        place.run(&["bytes", "page", "packet", "Blade"]).refused_quietly(&[line, words, " = note: "]);
     }
     place.put("packet", "");
-    place.run(&["read", "page", "packet"]).refused("refused 24 at 1", &["field `Version`"]);
+    place.run(&["read", "page", "packet"]).refused("refused 24 at 1", &["field 1: Version\n"]);
 }
 
 #[test]
@@ -158,8 +154,10 @@ fn faults_of_expressions_26_and_27() {
     place.put("m2", M2);
     place.put("absent", BLADE.replace("Sum: 2 bytes.", "Sum: 2 bytes; Bor == 300."));
     place.put("below", BLADE.replace("Readings: N bytes.", "Readings: N - 3 bytes."));
-    place.run(&["read", "absent", "m2"]).refused("refused 26 at 7", &["m2, field `Sum`", "absent"]);
-    place.run(&["read", "below", "m1"]).refused("refused 27 at 6", &["m1, field `Readings`", "below 0"]);
+    place.run(&["read", "absent", "m2"]).refused("refused 26 at 7", &[" --> m2, field 7: Sum\n", "absent"]);
+    place
+        .run(&["read", "below", "m1"])
+        .refused("refused 27 at 6", &[" --> m1, field 6: Readings\n", "below 0"]);
 }
 
 #[test]
@@ -183,5 +181,5 @@ fn a_refused_packet_among_others() {
     let left = place.run(&["read", "page", "m1", "short", "m1"]);
     let lines = format!("==> m1 <==\n{M1_LISTING}==> short <==\nrefused 24 at 7\n==> m1 <==\n{M1_LISTING}");
     assert_eq!((left.status, left.text()), (1, lines));
-    left.says(&["short, field `Sum`"]);
+    left.says(&[" --> short, field 7: Sum\n"]);
 }

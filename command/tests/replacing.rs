@@ -141,6 +141,6 @@ fn to_standard_output() {
     place.shell("umarekoza table page -o - | umarekoza read - m1").accepted(M1_LISTING);
     place.put("page", BLADE.replace("Sum: 2", "Sum: 3"));
     let left = place.run(&["table", "page", "-o", "-"]);
-    left.refused_quietly(&["refused 7 at 23", "page:23: "]);
+    left.refused_quietly(&["refused 7 at 23", " --> page:23:6\n"]);
     assert_eq!(place.names(), ["m1", "page"]);
 }

@@ -25,10 +25,19 @@ fn a_packet_on_each_line() {
             "==> packets:1 <==\n{M1_LISTING}==> packets:2 <==\nrefused 24 at 1\n\
              ==> packets:3 <==\nrefused 24 at 5\n==> packets:4 <==\n{M2_LISTING}"
         ),
-        "umarekoza: packets:2, field `Version`: the packet ends before the bits of this field do (number 24)\n  \
-         to mend it: the packet is cut short, or the page gives this field or an earlier one too many bits\n\
-         umarekoza: packets:3, field `Borrower`: the packet ends before the bits of this field do (number 24)\n  \
-         to mend it: the packet is cut short, or the page gives this field or an earlier one too many bits\n",
+        "\
+error[24]: `Version` needs 2 bits from bit 0 on, none is left
+ --> packets:2, field 1: Version
+ = note: the packet has 0 bytes, 0 bits
+error[24]: `Borrower` needs 16 bits from bit 16 on, none is left
+ --> packets:3, field 5: Borrower
+ = note: the packet has 2 bytes, 16 bits
+read before the refusal:
+  Version: 0 2 1
+  On Loan: 2 1 1
+  Cells: 3 5 2
+  Blade: 8 8 7
+",
     );
     place.run_on(&["read", "--lines", "page", "-"], b"62 7\n").left(
         2,
@@ -49,7 +58,7 @@ fn one_field_alone() {
     place.run(&["read", "--field", "Readings", "page", "m1"]).accepted("aabb\n");
     let left = place.run(&["read", "--field", "Sum", "page", "m1", "none", "short", "m2"]);
     assert_eq!((left.status, left.text().as_str()), (2, "9\nnot read\nrefused 24 at 7\n9\n"));
-    left.says(&["none: there is no such file", "short, field `Sum`"]);
+    left.says(&["none: there is no such file", " --> short, field 7: Sum\n"]);
     place.run(&["read", "--field", "sum", "page", "m1"]).refused("refused 30 at 0", &["did you mean `Sum`?"]);
 }
 
@@ -120,12 +129,21 @@ fn packets_as_json() {
         field("Readings", "null", "measured", ["16", "16", "null"], "\"aabb\""),
         field("Sum", "null", "fixed", ["32", "16", "9"], "null"),
     ];
+    let before = [
+        field("Version", "\"V\"", "fixed", ["0", "2", "1"], "null"),
+        field("On Loan", "\"L\"", "fixed", ["2", "1", "1"], "null"),
+        field("Cells", "\"N\"", "fixed", ["3", "5", "2"], "null"),
+        field("Blade", "null", "fixed", ["8", "8", "7"], "null"),
+        field("Borrower", "\"Bor\"", "fixed", ["16", "16", "300"], "null"),
+        field("Readings", "null", "measured", ["32", "16", "null"], "\"aabb\""),
+    ];
     let expected = format!(
         "{{\"bits\": 48, \"fields\": [{}], \"name\": \"a \\\"b\\\"\\u001b\\n\", \"result\": \"accepted\"}}\n\
-         {{\"field\": \"Sum\", \"meaning\": \"the packet ends before the bits of this field do\", \
+         {{\"field\": \"Sum\", \"fields\": [{}], \"meaning\": \"the packet ends before the bits of this field do\", \
          \"name\": \"short\", \"number\": 24, \"place\": 7, \"result\": \"refused\"}}\n\
          {{\"error\": \"there is no such file or folder\", \"name\": \"none\", \"result\": \"not read\"}}\n",
-        fields.join(", ")
+        fields.join(", "),
+        before.join(", ")
     );
     assert_eq!(objects(&left), expected);
     assert_eq!((left.status, left.err.as_str()), (2, "umarekoza: none: there is no such file or folder\n"));
@@ -135,11 +153,12 @@ fn packets_as_json() {
 #[test]
 fn lines_and_refused_sources_as_json() {
     let place = Place::new("json-lines");
-    let left = place.run_on(&["read", "--json", "--lines", "page", "-"], b"6207\n");
+    let left = place.run_on(&["read", "--json", "--lines", "page", "-"], b"\n");
     assert_eq!(
         objects(&left),
-        "{\"field\": \"Borrower\", \"meaning\": \"the packet ends before the bits of this field do\", \
-         \"name\": \"standard input:1\", \"number\": 24, \"place\": 5, \"result\": \"refused\"}\n"
+        "{\"field\": \"Version\", \"fields\": [], \
+         \"meaning\": \"the packet ends before the bits of this field do\", \
+         \"name\": \"standard input:1\", \"number\": 24, \"place\": 1, \"result\": \"refused\"}\n"
     );
     assert_eq!((left.status, left.err.as_str()), (1, ""));
     place.put("page", BLADE.replace("Sum: 2", "Sum: 3"));
@@ -176,6 +195,14 @@ fn names_cannot_move_a_terminal() {
     place.put(name, BLADE);
     let shown = "a\\u{1b}[31m\\n\\u{9b}b";
     place.run(&["check", name]).accepted(format!("{shown}: page accepted\n1 accepted, 0 refused\n"));
+    place.put(name, BLADE.replace("V == 1", "V = \x1B[2J1"));
+    let left = place.run(&["check", name]);
+    assert_eq!(left.text(), format!("{shown}: page refused 2 at 0\n0 accepted, 1 refused\n"));
+    left.says(&[&format!(" --> {shown}:17:26\n"), "17 | Version (V): 2 bits; V = ?[2J1.\n"]);
+    place.put(name, &M1[..7]);
+    place
+        .run(&["read", "page", name])
+        .refused("refused 24 at 7", &[&format!(" --> {shown}, field 7: Sum\n")]);
     place.put(name, M1);
     place
         .run(&["read", "page", name, "m1"])
@@ -207,9 +234,9 @@ fn what_a_source_is_taken_for() {
     for (page, begins, refused) in cases {
         place.put("page", page);
         let taken = format!(
-            "umarekoza: page: this is not a good table (number 21)\n  it {begins} and is taken for a table; a page \
-             begins with `A NAME is formatted as follows:` or `An ..`, and with --page it is read as a page\n  \
-             to mend it: write it again from its page with `umarekoza table PAGE -o TABLE`\n"
+            "error[21]: this is not a good table\n --> page\n = note: it {begins} and is taken for a table; a page \
+             begins with `A NAME is formatted as follows:` or `An ..`, and with --page it is read as a page\n \
+             = note: write it again from its page with `umarekoza table PAGE -o TABLE`\n"
         );
         place.run(&["read", "page", "m1"]).left(1, "refused 21 at 0\n", &taken);
         place.run(&["check", "page"]).left(1, "page: table refused 21 at 0\n0 accepted, 1 refused\n", &taken);
@@ -221,7 +248,7 @@ fn what_a_source_is_taken_for() {
     place.put("page", BLADE);
     place
         .run(&["read", "--table", "page", "m1"])
-        .refused("refused 21 at 0", &["page: this is not a good table"]);
+        .refused("refused 21 at 0", &["error[21]: this is not a good table\n --> page\n"]);
     let left = place.run(&["check", "--table", "page"]);
     assert!(left.text().starts_with("page: table refused 21 at 0\n") && !left.err.contains("taken for"));
 }

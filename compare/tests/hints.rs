@@ -4,7 +4,7 @@
 use std::collections::BTreeMap;
 use std::fs;
 use std::path::Path;
-use umarekoza::{fields_of, table_of, write_table, Field, Refusal};
+use umarekoza::{read_partly, table_of, write_table, Refusal, RUN_MOST};
 use umarekoza_compare::runs::Settings;
 use umarekoza_hints::{fields_before, packet_hint, page_hint, plain, plain_packet, Hint, Verdict, ALSO_MOST};
 use umarekoza_model::generate::{packet, spelled_text, table, text, Rng};
@@ -156,8 +156,12 @@ fn further_mistakes_are_those_that_were_made() {
     }
 }
 
-fn numbers_of(field: &Field) -> [u32; 4] {
-    [u32::from(field.present), field.offset, field.width, field.value]
+/// What the library reads of a packet before it refuses it, if it does.
+fn read_before(table: &[u8], packet: &[u8]) -> (Result<u64, Refusal>, Vec<[u32; 4]>) {
+    let mut run = [0; RUN_MOST];
+    let (answer, count) = read_partly(table, packet, &mut run);
+    let fours = run.chunks_exact(4).take(count).map(|four| [four[0], four[1], four[2], four[3]]);
+    (answer, fours.collect())
 }
 
 #[test]
@@ -168,15 +172,16 @@ fn hints_for_packets_agree_with_the_library() {
     for number in 0..settings.cases {
         let table = table(&mut rng);
         let packet = packet(&mut rng, &table);
-        let before = fields_before(&table, &packet);
-        let found = match fields_of(&table, &packet) {
-            Ok(fields) => before == fields.iter().map(numbers_of).collect::<Vec<_>>(),
+        let (answer, before) = read_before(&table, &packet);
+        let same = before == fields_before(&table, &packet);
+        let found = match answer {
+            Ok(_) => same,
             Err(refused) => {
                 *numbers.entry(refused.number).or_default() += 1;
                 let hint = packet_hint(&table, &packet, &before, verdict(refused));
                 let meaning = packet_hint(&[], &packet, &[], verdict(refused));
                 (hint.number, hint.field) == (refused.number, refused.place as usize)
-                    && (refused.number < 24 || hint.message != meaning.message)
+                    && (refused.number < 24 || (same && hint.message != meaning.message))
                     && is_plain(&plain_packet(&hint, "packet\u{1B}"))
             }
         };

@@ -32,28 +32,24 @@ pub struct Hint {
     pub also: Vec<Also>,
 }
 
+/// So many bytes of a line are shown on each side of the place.
+const AROUND: usize = 80;
+
 impl Hint {
-    /// The bytes that are meant, within the page as [`shown_page`] has it and within their line; none where there is
-    /// no column. Empty at the end of a line.
-    pub fn range(&self, page: &[u8]) -> Option<Range<usize>> {
-        let before = self.line.checked_sub(1).filter(|_| self.column > 0)?;
-        let lines = page.split_inclusive(|byte| *byte == b'\n').take(before);
-        let start: usize = lines.map(<[u8]>::len).sum();
-        let end = start + line_of(page, self.line).len();
-        let from = (start + self.column - 1).min(end);
-        Some(from..(from + self.width).min(end))
-    }
-}
-
-/// A page as it may be shown: a character for each byte, LFs kept, question marks for what is not allowed.
-pub fn shown_page(page: &[u8]) -> String {
-    page.split_inclusive(|byte| *byte == b'\n').map(shown_line).collect()
-}
-
-fn shown_line(line: &[u8]) -> String {
-    match line.strip_suffix(b"\n") {
-        Some(line) => shown(line) + "\n",
-        None => shown(line),
+    /// The line as it may be shown, and the bytes in it that are meant: empty at its end, and none where there is no
+    /// column. Of a long line the part round the place is shown. What is not from 0x20 to 0x7E is a question mark, a
+    /// character for each byte.
+    pub fn shown_line(&self, page: &[u8]) -> (String, Option<Range<usize>>) {
+        let line = line_of(page, self.line);
+        let at = self.column.saturating_sub(1).min(line.len());
+        let most = line.len().saturating_sub(AROUND);
+        let start = if line.len() <= 2 * AROUND { 0 } else { at.saturating_sub(AROUND).min(most) };
+        let end = line.len().min(start + 2 * AROUND);
+        let (before, behind) = (if start > 0 { ".." } else { "" }, if end < line.len() { ".." } else { "" });
+        let part = format!("{before}{}{behind}", shown(&line[start..end]));
+        let from = at - start + before.len();
+        let meant = from..(from + self.width).min(part.len());
+        (part, (self.column > 0).then_some(meant))
     }
 }
 

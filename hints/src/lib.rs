@@ -33,7 +33,7 @@ mod shown;
 mod sizes;
 mod trees;
 
-pub use hint::{shown_page, Also, Hint, Verdict, ALSO_MOST};
+pub use hint::{Also, Hint, Verdict, ALSO_MOST};
 pub use packets::{fields_before, packet_hint, plain_packet, PacketHint};
 pub use pages::page_hint;
 pub use plain::plain;

@@ -85,7 +85,7 @@ pub fn plain_packet(hint: &PacketHint, name: &str) -> String {
         0 => String::new(),
         field => format!(", field {field}: {}", hint.label),
     };
-    let notes: String = hint.notes.iter().map(|note| format!("  = note: {note}\n")).collect();
+    let notes: String = hint.notes.iter().map(|note| format!(" = note: {note}\n")).collect();
     format!("error[{}]: {}\n --> {name}{field}\n{notes}", hint.number, hint.message)
 }
 

@@ -38,10 +38,11 @@ const TEXT_MOST: usize = 16_384;
 /// assert_eq!((hint.line, hint.column, hint.width), (11, 21, 1));
 /// let due = "\
 /// error[5]: `=` is no operator
-///   --> tag.txt:11:21
+///    --> tag.txt:11:21
 ///    |
 /// 11 | Kind (K): 1 byte; K = 7.
 ///    |                     ^ no such operator
+///    |
 ///    = note: did you mean `==`?
 /// ";
 /// assert_eq!(plain(&hint, "tag.txt", page), due);

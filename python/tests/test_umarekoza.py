@@ -80,6 +80,17 @@ class Marked(unittest.TestCase):
         self.refused(22, 0, umarekoza.fields_of, TABLE, bytes(2049))
         self.refused(21, 0, umarekoza.fields_of, b"", M1)
 
+    def test_what_was_read_before_a_refusal(self):
+        run = array("I", [7] * 30)
+        refusal, count = umarekoza.read_partly(TABLE, M1[:7], run)
+        self.assertEqual(((refusal.number, refusal.place), count), ((24, 7), 6))
+        self.assertEqual(run[16:].tolist(), [1, 16, 16, 300, 1, 32, 16, 0, 7, 7, 7, 7, 7, 7])
+        run = array("I", [7] * 28)
+        self.assertEqual(umarekoza.read_partly(TABLE, M1, run), (None, 7))
+        self.assertEqual(run[24:].tolist(), [1, 48, 16, 9])
+        refusal, count = umarekoza.read_partly(TABLE, M1, array("I", [7] * 27))
+        self.assertEqual(((refusal.number, refusal.place), count), ((23, 0), 0))
+
     def test_fields_by_name_and_index(self):
         labels = ["Version", "On Loan", "Cells", "Blade", "Borrower", "Readings", "Sum"]
         self.assertEqual([umarekoza.field_label(TABLE, index) for index in range(8)], labels + [None])

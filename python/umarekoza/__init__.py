@@ -29,7 +29,7 @@ from ._calls import Refusal
 __all__ = [
     "FIELDS_MOST", "Field", "Kind", "LISTING_MOST", "PACKET_MOST", "RUN_MOST", "Refusal", "TABLE_MOST", "TEXT_MOST",
     "VERSION", "check_table", "count_fields", "field_bytes", "field_kind", "field_label", "field_short", "fields_of",
-    "find_field", "list_packet", "listing", "read_packet", "table_of", "write_table",
+    "find_field", "list_packet", "listing", "read_packet", "read_partly", "table_of", "write_table",
 ]  # fmt: skip
 
 VERSION = "0.1.0"
@@ -85,6 +85,12 @@ def read_packet(table, packet, run):
     """Writes four numbers a field to the start of run: present (1 or 0), offset, width and value. Answers the bits of
     the packet. Refuses by 21 to 28."""
     return _calls.read_packet(table, packet, run)
+
+
+def read_partly(table, packet, run):
+    """Reads a packet as far as it goes. Answers the refusal, or None where it is accepted, and how many fields' numbers
+    are at the start of run: those before the first refused one, or all."""
+    return _calls.read_partly(table, packet, run)
 
 
 def fields_of(table, packet):

@@ -28,6 +28,10 @@ class _Answer(ctypes.Structure):
         return self.length
 
 
+class _Partial(ctypes.Structure):
+    _fields_ = [*_Answer._fields_, ("count", ctypes.c_uint64)]
+
+
 class _Span(ctypes.Structure):
     _fields_ = [("offset", ctypes.c_uint64), ("length", ctypes.c_uint64)]
 
@@ -49,6 +53,10 @@ _field_bytes = _entry("field_bytes", _Span, 2, index=True)
 _list_packet = _entry("list_packet", _Answer, 3)
 _find_field = _entry("find_field", _Answer, 2)
 _field_label = _entry("field_label", _Span, 1, index=True)
+_field_short = _entry("field_short", _Span, 1, index=True)
+_count_fields = _entry("count_fields", _Answer, 1)
+_field_kind = _entry("field_kind", _Answer, 1, index=True)
+_read_partly = _entry("read_partly", _Partial, 3)
 
 
 def write_table(text, out):
@@ -68,6 +76,14 @@ def read_packet(table, packet, run):
         table, packet, (run, length) = lent.reads(table), lent.reads(packet), lent.writes_numbers(run)
         lent.see_that_none_overlap()
         return _read_packet(*table, *packet, run, length // 4).settled()
+
+
+def read_partly(table, packet, run):
+    with Lent() as lent:
+        table, packet, (run, length) = lent.reads(table), lent.reads(packet), lent.writes_numbers(run)
+        lent.see_that_none_overlap()
+        read = _read_partly(*table, *packet, run, length // 4)
+    return Refusal(read.number, read.place) if read.number else None, read.count
 
 
 def field_bytes(table, packet, index):
@@ -92,41 +108,24 @@ def field_label(table, index):
         return _field_label(*lent.reads(table), index_of(index))
 
 
+def field_short(table, index):
+    with Lent() as lent:
+        return _field_short(*lent.reads(table), index_of(index))
+
+
+def count_fields(table):
+    with Lent() as lent:
+        return _count_fields(*lent.reads(table)).settled()
+
+
+def field_kind(table, index):
+    with Lent() as lent:
+        return _field_kind(*lent.reads(table), index_of(index)).settled()
+
+
 def part(whole, span):
     """The part of a buffer that a span is, without a copy."""
     view = memoryview(whole)
     if view.ndim != 1 or view.format != "B":
         view = view.cast("B")
     return view[span.offset : span.offset + span.length]
-
-
-# What the library has no function for yet, found by the place of a field's label in its record: the kind and the length
-# of the label stand before it, the length of the short name and the short name behind it, all numbers in two bytes
-# [01, The stored table].
-
-
-def count_fields(table):
-    check_table(table)
-    count = 0
-    while field_label(table, count).length:
-        count += 1
-    return count
-
-
-def field_kind(table, index):
-    check_table(table)
-    label = field_label(table, index)
-    if not label.length:
-        raise Refusal(30, 0)
-    return _two(table, label.offset - 4)
-
-
-def field_short(table, index):
-    label = field_label(table, index)
-    behind = label.offset + label.length
-    length = _two(table, behind) if label.length else 0
-    return _Span(behind + 2, length) if length else _Span(0, 0)
-
-
-def _two(table, at):
-    return int.from_bytes(part(table, _Span(at, 2)), "little")

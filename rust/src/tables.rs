@@ -86,21 +86,18 @@ pub fn field_label(table: &[u8], index: usize) -> Option<&[u8]> {
     Some(calls::field_label(table, index).part_of(table)).filter(|label| !label.is_empty())
 }
 
-/// The short name of the field with this index, as that part of the table. None if the table is not good, has no such
-/// field, or the field has none.
-///
-/// ```
-/// # let page = include_bytes!("../../examples/pages/blade-report.txt");
-/// # let table = umarekoza::table_of(page)?;
-/// assert_eq!(umarekoza::field_short(&table, 4), Some(&b"Bor"[..]));
-/// assert_eq!(umarekoza::field_short(&table, 3), None); // Blade
-/// # Ok::<(), umarekoza::Refusal>(())
-/// ```
-pub fn field_short(table: &[u8], index: usize) -> Option<&[u8]> {
-    Some(calls::field_short(table, index).part_of(table)).filter(|short| !short.is_empty())
+/// The kind of a field [01, The stored table].
+#[derive(Clone, Copy, Debug, PartialEq, Eq, Hash)]
+pub enum Kind {
+    /// A number of bits that the page fixes, 1 to 32: the field has a value.
+    Fixed,
+    /// As many bits as an expression says: a long field, which has no value.
+    Measured,
+    /// All that is left: a long field, which has no value.
+    Rest,
 }
 
-/// How many fields a table has. Refuses by 21.
+/// The number of a table's fields. Refuses by 21.
 ///
 /// ```
 /// # let page = include_bytes!("../../examples/pages/blade-report.txt");
@@ -112,26 +109,14 @@ pub fn count_fields(table: &[u8]) -> Result<usize, Refusal> {
     calls::count_fields(table).settled().map(|count| count as usize)
 }
 
-/// How a field's width is given.
-#[derive(Clone, Copy, Debug, PartialEq, Eq, Hash)]
-pub enum Kind {
-    /// By a number of bits, 1 to 32: the field has a value.
-    Fixed,
-    /// By an expression: a long field.
-    Measured,
-    /// By what is left of the packet: a long field.
-    Rest,
-}
-
-/// The kind of the field with this index. Refuses by 21, and by 30 if there is none.
+/// The kind of the field with this index. Refuses by 21, and by 30 if there is no such field.
 ///
 /// ```
-/// use umarekoza::{field_kind, Kind, Refusal};
+/// use umarekoza::{field_kind, Kind};
 /// # let page = include_bytes!("../../examples/pages/blade-report.txt");
 /// # let table = umarekoza::table_of(page)?;
-/// assert_eq!(field_kind(&table, 0), Ok(Kind::Fixed)); // Version
+/// assert_eq!(field_kind(&table, 4), Ok(Kind::Fixed)); // Borrower
 /// assert_eq!(field_kind(&table, 5), Ok(Kind::Measured)); // Readings
-/// assert_eq!(field_kind(&table, 7), Err(Refusal { number: 30, place: 0 }));
 /// # Ok::<(), umarekoza::Refusal>(())
 /// ```
 pub fn field_kind(table: &[u8], index: usize) -> Result<Kind, Refusal> {
@@ -140,4 +125,18 @@ pub fn field_kind(table: &[u8], index: usize) -> Result<Kind, Refusal> {
         3 => Kind::Measured,
         _ => Kind::Rest,
     })
+}
+
+/// The short name of the field with this index, as that part of the table. None if it has none, the table is not
+/// good, or there is no such field.
+///
+/// ```
+/// # let page = include_bytes!("../../examples/pages/blade-report.txt");
+/// # let table = umarekoza::table_of(page)?;
+/// assert_eq!(umarekoza::field_short(&table, 4), Some(&b"Bor"[..]));
+/// assert_eq!(umarekoza::field_short(&table, 5), None);
+/// # Ok::<(), umarekoza::Refusal>(())
+/// ```
+pub fn field_short(table: &[u8], index: usize) -> Option<&[u8]> {
+    Some(calls::field_short(table, index).part_of(table)).filter(|short| !short.is_empty())
 }

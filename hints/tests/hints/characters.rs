@@ -1,4 +1,4 @@
-//! Number 2, and the lengths 1, 4 and 11.
+//! Number 2, and the lengths 1 and 4.
 
 use crate::common::{told, with, BLADE};
 
@@ -8,10 +8,11 @@ const ALLOWED: &str = "a page has the characters from space to `~` and LF line e
 fn a_tab() {
     let due = "\
 error[2]: this character is not allowed: tab (0x09)
-  --> page.txt:20:7
+   --> page.txt:20:7
    |
 20 | Blade:?1 byte.
    |       ^ tab
+   |
    = note: write spaces
    = note: ";
     told(with(&[("Blade: 1", "Blade:\t1")]), 2, 0, &format!("{due}{ALLOWED}\n"));
@@ -21,10 +22,11 @@ error[2]: this character is not allowed: tab (0x09)
 fn cr_lf_at_every_line_once() {
     let due = "\
 error[2]: every line ends in CR LF
- --> page.txt:1:40
+  --> page.txt:1:40
   |
 1 | A Blade Report is formatted as follows:?
   |                                        ^ CR
+  |
   = note: let lines end in LF alone: save the page with Unix line ends
   = note: ";
     told(BLADE.replace('\n', "\r\n"), 2, 0, &format!("{due}{ALLOWED}\n"));
@@ -37,10 +39,11 @@ error[2]: every line ends in CR LF
 fn cr_lf_at_some_lines_once() {
     let due = "\
 error[2]: 2 of 23 lines end in CR LF
-  --> page.txt:18:20
+   --> page.txt:18:20
    |
 18 | On Loan (L): 1 bit.?
    |                    ^ CR
+   |
    = note: let lines end in LF alone: save the page with Unix line ends
    = note: ";
     let page = with(&[("1 bit.\n", "1 bit.\r\n"), ("1 byte.\n", "1 byte.\r\n")]);
@@ -51,10 +54,11 @@ error[2]: 2 of 23 lines end in CR LF
 fn a_byte_order_mark() {
     let due = "\
 error[2]: this character is not allowed: byte order mark (U+FEFF)
- --> page.txt:1:1
+  --> page.txt:1:1
   |
 1 | ???A Blade Report is formatted as follows:
   | ^^^ byte order mark
+  |
   = note: save the page without a byte order mark
   = note: ";
     told(format!("\u{FEFF}{BLADE}"), 2, 0, &format!("{due}{ALLOWED}\n"));
@@ -68,10 +72,11 @@ error[2]: this character is not allowed: byte order mark (U+FEFF)
 fn smart_quotes_and_no_break_spaces() {
     let due = "\
 error[2]: this character is not allowed: left double quotation mark (U+201C)
-  --> page.txt:18:25
+   --> page.txt:18:25
    |
 18 | On Loan (L): 1 bit. See ???loans???.
    |                         ^^^ left double quotation mark
+   |
    = note: write `\"`
    = note: ";
     let also = "also: page.txt:20:7: error[2]: this character is not allowed: no-break space (U+00A0)\n";
@@ -83,19 +88,21 @@ error[2]: this character is not allowed: left double quotation mark (U+201C)
 fn nul_and_bytes_that_are_no_text() {
     let due = "\
 error[2]: this character is not allowed: NUL (0x00)
-  --> page.txt:23:14
+   --> page.txt:23:14
    |
 23 | Sum: 2 bytes.?
    |              ^ NUL
+   |
    = note: take it out; if every second character is one, save the page as plain ASCII
    = note: ";
     told(with(&[("Sum: 2 bytes.", "Sum: 2 bytes.\0")]), 2, 0, &format!("{due}{ALLOWED}\n"));
     let due = "\
 error[2]: the byte 0xE9 is not allowed
-  --> page.txt:23:15
+   --> page.txt:23:15
    |
 23 | Sum: 2 bytes. ?t?
    |               ^ the byte 0xE9
+   |
    = note: ";
     let page = [&BLADE.as_bytes()[..BLADE.len() - 1], b" \xE9t\xE9\n"].concat();
     told(page, 2, 0, &format!("{due}{ALLOWED}\n"));
@@ -105,10 +112,11 @@ error[2]: the byte 0xE9 is not allowed
 fn an_escape_sequence_is_not_sent_on() {
     let due = "\
 error[2]: this character is not allowed: escape (0x1B)
-  --> page.txt:23:15
+   --> page.txt:23:15
    |
 23 | Sum: 2 bytes. ?[31m
    |               ^ escape
+   |
    = note: take it out
    = note: ";
     told(with(&[("Sum: 2 bytes.", "Sum: 2 bytes. \x1B[31m")]), 2, 0, &format!("{due}{ALLOWED}\n"));
@@ -120,7 +128,7 @@ fn a_page_that_is_too_long() {
     let due = "\
 error[1]: the page has 16,385 bytes, at most 16,384
  --> page.txt
-  = note: shorten the remarks behind the full stops
+ = note: shorten the remarks behind the full stops
 ";
     told(with(&[("Sum: 2 bytes.", &format!("Sum: 2 bytes. {remark}"))]), 1, 0, due);
 }
@@ -139,30 +147,22 @@ fn long_page(cells: usize, lines: usize) -> String {
 fn too_many_fields() {
     let due = "\
 error[4]: 65 cells, at most 64
-   --> page.txt:134:8
+    --> page.txt:134:8
     |
 134 | |      F65      |
     |        ^^^ the 65th cell
+    |
     = note: every line below `where:` counts as a field
 ";
     told(long_page(65, 65), 4, 0, due);
     let due = "\
 error[4]: 66 field lines, at most 64
-   --> page.txt:201:1
+    --> page.txt:201:1
     |
 201 | F65: 1 byte.
     | ^^^^^^^^^^^^ the 65th field line
+    |
     = note: every line below `where:` counts as a field
 ";
     told(long_page(64, 66), 4, 0, due);
-}
-
-#[test]
-fn an_output_that_is_too_short() {
-    let due = "\
-error[11]: the output is too short: the page's table has 201 bytes
- --> page.txt
-  = note: give it room for 201 bytes
-";
-    told(BLADE, 11, 0, due);
 }

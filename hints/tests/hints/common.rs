@@ -1,6 +1,5 @@
-//! The blade report, changed, and what is told of it.
-
-use umarekoza_hints::{page_hint, plain, Verdict};
+//! The blade report, changed, and what is told of it, which `crate::told_of` answers. The tests of the command have these
+//! cases too.
 
 pub const BLADE: &str = "\
 A Blade Report is formatted as follows:
@@ -47,21 +46,38 @@ pub fn with(changes: &[(&str, &str)]) -> String {
 /// The page is refused by this number at this place, and this is told of it.
 #[track_caller]
 pub fn told(page: impl AsRef<[u8]>, number: u32, place: u32, due: &str) {
-    let page = page.as_ref();
-    let hint = page_hint(page, Verdict { number, place });
-    let told = plain(&hint, "page.txt", page);
+    let told = crate::told_of(page.as_ref(), number, place);
     assert_eq!(told, due, "told:\n{told}\ndue:\n{due}");
+}
+
+/// The blade report with some lines replaced is refused by this number at the line that is now `line`, and this is
+/// told: a message, a caret with its label, and notes.
+#[track_caller]
+pub fn line_told(number: u32, changes: &[(&str, &str)], line: &str, due: (&str, &str, &[&str])) {
+    let page = with(changes);
+    let place = page.lines().position(|other| other == line).unwrap() + 1;
+    told(&page, number, place as u32, &due_at(number, place, line, due));
+}
+
+pub fn due_at(
+    number: u32,
+    place: usize,
+    line: &str,
+    (message, caret, notes): (&str, &str, &[&str]),
+) -> String {
+    let column = caret.find('^').unwrap() + 1;
+    let mut due = format!("error[{number}]: {message}\n   --> page.txt:{place}:{column}\n   |\n");
+    due += &format!("{}\n   | {caret}\n", format!("{place} | {line}").trim_end());
+    if !notes.is_empty() {
+        due += "   |\n";
+    }
+    notes.iter().for_each(|note| due += &format!("   = note: {note}\n"));
+    due
 }
 
 /// The blade report with one line replaced is refused by 5 there, and this is told: a message, a caret with its
 /// label, and notes.
 #[track_caller]
 pub fn form_told(from: &str, to: &str, message: &str, caret: &str, notes: &[&str]) {
-    let page = with(&[(from, to)]);
-    let place = page.lines().position(|line| line == to).unwrap() + 1;
-    let column = caret.find('^').unwrap() + 1;
-    let mut due = format!("error[5]: {message}\n  --> page.txt:{place}:{column}\n   |\n");
-    due += &format!("{place} | {to}\n   | {caret}\n");
-    notes.iter().for_each(|note| due += &format!("   = note: {note}\n"));
-    told(page, 5, place as u32, &due);
+    line_told(5, &[(from, to)], to, (message, caret, notes));
 }

@@ -166,10 +166,11 @@ fn wrong_names() {
 fn an_empty_line() {
     let due = "\
 error[5]: an empty line below `where:`
-  --> page.txt:21:1
+   --> page.txt:21:1
    |
 21 |
    | ^ expected a field line
+   |
    = note: every line below `where:` is a field line; take the empty line out
 ";
     told(with(&[(BLADE_LINE, "Blade: 1 byte.\n")]), 5, 21, due);
@@ -181,10 +182,11 @@ fn a_wrapped_remark() {
     let due = format!(
         "\
 error[5]: expected `: ` behind the label, found `.`
-  --> page.txt:21:15
+   --> page.txt:21:15
    |
 21 | into the blade.
    |               ^ expected `: `
+   |
    = note: a remark stays on its field's line: if this line goes on with one, join the two
    = note: {FORM}
 "
@@ -203,10 +205,11 @@ fn further_mistakes_of_forms() {
     ]);
     let due = "\
 error[5]: `=` is no operator
-  --> page.txt:17:24
+   --> page.txt:17:24
    |
 17 | Version (V): 2 bits; V = 1.
    |                        ^ no such operator
+   |
    = note: did you mean `==`?
 also: page.txt:20:10: error[5]: expected `bit`, `bits`, `byte` or `bytes`, found `octet`
 also: page.txt:22:1: error[8]: the label `Cells` stands on line 19 already
@@ -221,10 +224,11 @@ fn ten_further_mistakes_at_most() {
     let page = with(&[("Sum: 2 bytes.\n", &lines)]);
     let mut due = "\
 error[5]: expected `bit`, `bits`, `byte` or `bytes`, found `octet`
-  --> page.txt:23:12
+   --> page.txt:23:12
    |
 23 | Field 1: 1 octet.
    |            ^^^^^ no unit
+   |
    = note: did you mean `bytes`?
 "
     .to_string();

@@ -1,23 +1,8 @@
 //! Numbers 6 to 10: field lines of right form against their limits, their cells and each other.
 
-use crate::common::{told, with, BLADE_LINE, BORROWER, CELLS, ON_LOAN, READINGS, SUM, VERSION};
-
-/// The blade report with some lines replaced is refused by this number at the line that is now `line`, and this is
-/// told: a message, a caret with its label, and notes.
-#[track_caller]
-fn line_told(number: u32, changes: &[(&str, &str)], line: &str, due: (&str, &str, &[&str])) {
-    let page = with(changes);
-    let place = page.lines().position(|other| other == line).unwrap() + 1;
-    told(&page, number, place as u32, &due_at(number, place, line, due));
-}
-
-fn due_at(number: u32, place: usize, line: &str, (message, caret, notes): (&str, &str, &[&str])) -> String {
-    let column = caret.find('^').unwrap() + 1;
-    let mut due = format!("error[{number}]: {message}\n  --> page.txt:{place}:{column}\n   |\n");
-    due += &format!("{}\n   | {caret}\n", format!("{place} | {line}").trim_end());
-    notes.iter().for_each(|note| due += &format!("   = note: {note}\n"));
-    due
-}
+use crate::common::{
+    due_at, line_told, told, with, BLADE_LINE, BORROWER, CELLS, ON_LOAN, READINGS, SUM, VERSION,
+};
 
 #[test]
 fn expressions_that_are_too_large() {

@@ -12,7 +12,7 @@ const LABELS: &str =
 fn blanks_at_the_end() {
     let due = "\
 error[3]: blank at the end of the line
-  --> page.txt:13:34
+   --> page.txt:13:34
    |
 13 | +-+-+-+-+-+-+-+-+-+-+-+-+-+-+-+-+
    |                                  ^ blank at the end of the line
@@ -20,7 +20,7 @@ error[3]: blank at the end of the line
     told(with(&[("+\n\nwhere", "+ \n\nwhere")]), 3, 13, due);
     let due = "\
 error[3]: blanks at the end of the line
-  --> page.txt:15:7
+   --> page.txt:15:7
    |
 15 | where:
    |       ^^ blanks at the end of the line
@@ -29,7 +29,7 @@ also: page.txt:17:24: error[5]: `=` is no operator
     told(with(&[("where:", "where:  "), ("V == 1", "V = 1")]), 3, 15, due);
     let due = "\
 error[3]: blank at the end of the line
- --> page.txt:3:23
+  --> page.txt:3:23
   |
 3 |  0                   1
   |                       ^ blank at the end of the line
@@ -48,7 +48,7 @@ also: page.txt:23:6: error[7]: cell 7 (line 12): `Sum`, 16 bits; this line: 24 b
 fn an_indented_page() {
     let due = "\
 error[3]: blanks at the start of the line
- --> page.txt:1:1
+  --> page.txt:1:1
   |
 1 |     A Blade Report is formatted as follows:
   | ^^^^ blanks at the start of the line
@@ -60,36 +60,39 @@ error[3]: blanks at the start of the line
 fn the_opening_line() {
     let due = "\
 error[3]: expected `A NAME is formatted as follows:`, found `The`
- --> page.txt:1:1
+  --> page.txt:1:1
   |
 1 | The Blade Report is formatted as follows:
   | ^ expected `A ` or `An `
+  |
   = note: NAME is what the page describes
 ";
     told(with(&[("A Blade", "The Blade")]), 3, 1, due);
     let due = "\
 error[3]: expected `A NAME is formatted as follows:`, found `laid`
- --> page.txt:1:19
+  --> page.txt:1:19
   |
 1 | A Blade Report is laid out as follows:
   |                   ^ expected `formatted as follows:`
+  |
   = note: NAME is what the page describes
 ";
     told(with(&[("is formatted", "is laid out")]), 3, 1, due);
     let due = format!(
         "\
 error[3]: NAME `Blade_Report` is no label: `_` is not allowed in a label
- --> page.txt:1:8
+  --> page.txt:1:8
   |
 1 | A Blade_Report is formatted as follows:
   |        ^ `_` is not allowed in a label
+  |
   = note: {LABELS}
 "
     );
     told(with(&[("Blade Report", "Blade_Report")]), 3, 1, &due);
     let due = "\
 error[3]: the page is empty: expected `A NAME is formatted as follows:`
- --> page.txt:1:1
+  --> page.txt:1:1
   |
 1 |
   | ^ expected `A NAME is formatted as follows:`
@@ -101,19 +104,21 @@ error[3]: the page is empty: expected `A NAME is formatted as follows:`
 fn a_border_that_is_missing() {
     let due = "\
 error[3]: expected the border, found an empty line
-  --> page.txt:13:1
+   --> page.txt:13:1
    |
 13 |
    | ^ the border is missing before this line
+   |
    = note: a border stands above and below each row
 ";
     told(with(&[(&format!("{SUM}{BORDER}"), SUM)]), 3, 13, due);
     let due = "\
 error[3]: expected the border, found a row
- --> page.txt:7:1
+  --> page.txt:7:1
   |
 7 | |           Borrower            |
   | ^^^^^^^^^^^^^^^^^^^^^^^^^^^^^^^^^ the border is missing before this line
+  |
   = note: a border stands above and below each row
 ";
     told(with(&[(&format!("{CELLS}\n{BORDER}"), &format!("{CELLS}\n"))]), 3, 7, due);
@@ -123,10 +128,11 @@ error[3]: expected the border, found a row
 fn lines_too_many() {
     let due = "\
 error[3]: expected the border, found an empty line
- --> page.txt:7:1
+  --> page.txt:7:1
   |
 7 |
   | ^ an empty line too many
+  |
   = note: take this line out
 also: page.txt:24:6: error[7]: cell 7 (line 13): `Sum`, 16 bits; this line: 8 bits
 ";
@@ -134,10 +140,11 @@ also: page.txt:24:6: error[7]: cell 7 (line 13): `Sum`, 16 bits; this line: 8 bi
     told(page, 3, 7, due);
     let due = "\
 error[3]: expected `where:`, found a row
- --> page.txt:9:1
+  --> page.txt:9:1
   |
 9 | |           Borrower            |
   | ^^^^^^^^^^^^^^^^^^^^^^^^^^^^^^^^^ expected `where:`
+  |
   = note: take the empty line above out: none stands between a diagram's rows
 also: page.txt:18:24: error[5]: `=` is no operator
 ";
@@ -149,7 +156,7 @@ also: page.txt:18:24: error[5]: `=` is no operator
 fn a_border_that_is_short() {
     let due = "\
 error[3]: this border has 31 characters, needs 33
-  --> page.txt:13:32
+   --> page.txt:13:32
    |
 13 | +-+-+-+-+-+-+-+-+-+-+-+-+-+-+-+
    |                                ^ 31 characters, needs 33
@@ -163,10 +170,11 @@ fn rows_that_are_short_or_long() {
     let due = format!(
         "\
 error[3]: this row has 32 characters, needs 33
- --> page.txt:8:33
+  --> page.txt:8:33
   |
 8 | |           Borrower           |
   |                                 ^ 32 characters, needs 33
+  |
   = note: {note}
 "
     );
@@ -174,10 +182,11 @@ error[3]: this row has 32 characters, needs 33
     let due = format!(
         "\
 error[3]: this row has 34 characters, needs 33
- --> page.txt:8:34
+  --> page.txt:8:34
   |
 8 | |           Borrower             |
   |                                  ^ 34 characters, needs 33
+  |
   = note: {note}
 "
     );
@@ -188,10 +197,11 @@ error[3]: this row has 34 characters, needs 33
 fn a_bar_at_a_wrong_column() {
     let due = "\
 error[3]: bar at column 18: bars stand under a `+` of the border, at odd columns
- --> page.txt:6:18
+  --> page.txt:6:18
   |
 6 | | V |L|  Cells   |    Blade     |
   |                  ^ bars stand at odd columns
+  |
   = note: a bit takes two columns: a cell of n bits has 2n - 1 characters between its bars
 ";
     told(with(&[(CELLS, "| V |L|  Cells   |    Blade     |")]), 3, 6, due);
@@ -201,7 +211,7 @@ error[3]: bar at column 18: bars stand under a `+` of the border, at odd columns
 fn rulers_of_another_width() {
     let due = "\
 error[3]: a ruler of another width: a row is 8, 16 or 32 bits
- --> page.txt:3:1
+  --> page.txt:3:1
   |
 3 |  0                   1                   2
   | ^^^^^^^^^^^^^^^^^^^^^^^^^^^^^^^^^^^^^^^^^^ a row is 8, 16 or 32 bits
@@ -209,7 +219,7 @@ error[3]: a ruler of another width: a row is 8, 16 or 32 bits
     told(with(&[("0                   1\n", "0                   1                   2\n")]), 3, 3, due);
     let due = "\
 error[3]: a ruler of another width: a row is 8, 16 or 32 bits
- --> page.txt:4:1
+  --> page.txt:4:1
   |
 4 |  0 1 2 3 4 5 6 7 8 9 0 1
   | ^^^^^^^^^^^^^^^^^^^^^^^^ a row is 8, 16 or 32 bits
@@ -217,19 +227,21 @@ error[3]: a ruler of another width: a row is 8, 16 or 32 bits
     told(with(&[("0 1 2 3 4 5\n", "0 1\n")]), 3, 4, due);
     let due = "\
 error[3]: this ruler has 16 bits, the line above is the tens ruler of 8 bits
- --> page.txt:4:1
+  --> page.txt:4:1
   |
 4 |  0 1 2 3 4 5 6 7 8 9 0 1 2 3 4 5
   | ^^^^^^^^^^^^^^^^^^^^^^^^^^^^^^^^ 16 bits
+  |
   = note: for 16 bits the line above is ` 0                   1`
 ";
     told(with(&[(" 0                   1\n", " 0\n")]), 3, 4, due);
     let due = "\
 error[3]: expected the units ruler, found `9`
- --> page.txt:4:16
+  --> page.txt:4:16
   |
 4 |  0 1 2 3 4 5 6 9 8 9 0 1 2 3 4 5
   |                ^ expected `7`
+  |
   = note: the units ruler of 16 bits is ` 0 1 2 3 4 5 6 7 8 9 0 1 2 3 4 5`
 ";
     told(with(&[("6 7 8 9", "6 9 8 9")]), 3, 4, due);
@@ -239,10 +251,11 @@ error[3]: expected the units ruler, found `9`
 fn no_line_end_at_the_end() {
     let due = "\
 error[3]: the last line has no line end
-  --> page.txt:23:14
+   --> page.txt:23:14
    |
 23 | Sum: 2 bytes.
    |              ^ no line end
+   |
    = note: end the last line too, with Enter
 ";
     told(&BLADE[..BLADE.len() - 1], 3, 23, due);
@@ -252,7 +265,7 @@ error[3]: the last line has no line end
 fn a_page_that_ends_early() {
     let due = "\
 error[3]: the page ends too early: expected a field line
-  --> page.txt:17:1
+   --> page.txt:17:1
    |
 17 |
    | ^ expected a field line
@@ -264,7 +277,7 @@ error[3]: the page ends too early: expected a field line
 fn the_line_where() {
     let due = "\
 error[3]: expected an empty line before `where:`
-  --> page.txt:14:1
+   --> page.txt:14:1
    |
 14 | where:
    | ^^^^^^ an empty line is missing before this one
@@ -272,16 +285,17 @@ error[3]: expected an empty line before `where:`
     told(with(&[("\n\nwhere:", "\nwhere:")]), 3, 14, due);
     let due = "\
 error[3]: expected `where:`, found `Where:`
-  --> page.txt:15:1
+   --> page.txt:15:1
    |
 15 | Where:
    | ^^^^^^ expected `where:`
+   |
    = note: it is written in small letters
 ";
     told(with(&[("where:", "Where:")]), 3, 15, due);
     let due = "\
 error[3]: expected an empty line, found `Version (V): 2 bits; V == 1.`
-  --> page.txt:16:1
+   --> page.txt:16:1
    |
 16 | Version (V): 2 bits; V == 1.
    | ^^^^^^^^^^^^^^^^^^^^^^^^^^^^ an empty line is missing before this one
@@ -294,7 +308,7 @@ fn cells_that_are_no_labels() {
     let cell = |cell: &str| with(&[(" Cells ", cell)]);
     let due = |message: &str, line: &str, caret: &str| {
         format!(
-            "error[3]: {message}\n --> page.txt:6:{}\n  |\n6 | {line}\n  | {caret}\n  = note: {LABELS}\n",
+            "error[3]: {message}\n  --> page.txt:6:{}\n  |\n6 | {line}\n  | {caret}\n  |\n  = note: {LABELS}\n",
             caret.find('^').unwrap() + 1
         )
     };
@@ -325,7 +339,7 @@ fn cells_that_are_no_labels() {
 fn rows_of_mixed_kinds() {
     let due = "\
 error[3]: a row that begins with `:` ends with `:`; found `|`
-  --> page.txt:10:33
+   --> page.txt:10:33
    |
 10 | :            Readings           |
    |                                 ^ expected `:`

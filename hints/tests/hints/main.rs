@@ -3,9 +3,17 @@
 mod characters;
 mod common;
 mod documented;
+mod examples;
 mod expressions;
 mod field_lines;
 mod fields;
 mod frames;
 mod packets;
 mod ranges;
+
+use umarekoza_hints::{page_hint, plain, Verdict};
+
+/// What is told of a page that is refused by this number at this place.
+fn told_of(page: &[u8], number: u32, place: u32) -> String {
+    plain(&page_hint(page, Verdict { number, place }), "page.txt", page)
+}

@@ -60,22 +60,22 @@ fn bits_that_are_missing() {
     let due = "\
 error[24]: `Sum` needs 16 bits from bit 48 on, 8 are left
  --> packet.bin, field 7: Sum
-  = note: the packet has 7 bytes, 56 bits
+ = note: the packet has 7 bytes, 56 bits
 ";
     told(&blade(), &m3, &M1[..6], (24, 7), due);
     let due = "\
 error[24]: `Version` needs 2 bits from bit 0 on, none is left
  --> packet.bin, field 1: Version
-  = note: the packet has 0 bytes, 0 bits
+ = note: the packet has 0 bytes, 0 bits
 ";
     told(&blade(), &[], &[], (24, 1), due);
     let cut = [0x62, 0x07, 0x01, 0x2C, 0xAA];
     let due = "\
 error[24]: `Readings` needs 16 bits from bit 32 on, 8 are left
  --> packet.bin, field 6: Readings
-  = note: the packet has 5 bytes, 40 bits
-  = note: its width is `N bytes`
-  = note: `N` (Cells) is 2
+ = note: the packet has 5 bytes, 40 bits
+ = note: its width is `N bytes`
+ = note: `N` (Cells) is 2
 ";
     told(&blade(), &cut, &M1[..5], (24, 6), due);
 }
@@ -90,7 +90,7 @@ fn bits_that_the_fields_behind_the_rest_need() {
     let due = "\
 error[24]: the fields behind `Data` need 16 bits from bit 16 on, 8 are left
  --> packet.bin, field 2: Data
-  = note: the packet has 3 bytes, 24 bits
+ = note: the packet has 3 bytes, 24 bits
 ";
     told(&table, &[0, 1, 2], &[[1, 0, 16, 1]], (24, 2), due);
 }
@@ -101,8 +101,8 @@ fn bits_that_are_left_over() {
     let due = "\
 error[28]: 8 bits are left over from bit 64 on: 1 byte
  --> packet.bin
-  = note: the packet has 9 bytes, 72 bits; `Sum` is the last field that is present and ends at bit 64
-  = note: a field of `variable` width takes what is left
+ = note: the packet has 9 bytes, 72 bits; `Sum` is the last field that is present and ends at bit 64
+ = note: a field of `variable` width takes what is left
 ";
     told(&blade(), &m4, &M1, (28, 0), due);
 }
@@ -114,15 +114,15 @@ fn bits_that_are_less_than_a_byte() {
     let due = "\
 error[28]: 3 bits are left over from bit 21 on: less than a byte
  --> packet.bin
-  = note: the packet has 3 bytes, 24 bits; `Data` is the last field that is present and ends at bit 21
-  = note: a field of `variable` width takes what is left
+ = note: the packet has 3 bytes, 24 bits; `Data` is the last field that is present and ends at bit 21
+ = note: a field of `variable` width takes what is left
 ";
     told(&table, &[0, 5, 0], &[[1, 0, 16, 5], [1, 16, 5, 0]], (28, 0), due);
     let due = "\
 error[28]: 11 bits are left over from bit 21 on: 1 byte and 3 bits
  --> packet.bin
-  = note: the packet has 4 bytes, 32 bits; `Data` is the last field that is present and ends at bit 21
-  = note: a field of `variable` width takes what is left
+ = note: the packet has 4 bytes, 32 bits; `Data` is the last field that is present and ends at bit 21
+ = note: a field of `variable` width takes what is left
 ";
     told(&table, &[0, 5, 0, 0], &[[1, 0, 16, 5], [1, 16, 5, 0]], (28, 0), due);
 }
@@ -132,7 +132,7 @@ fn a_packet_that_is_too_long() {
     let due = "\
 error[22]: the packet has 2,049 bytes, at most 2,048
  --> packet.bin
-  = note: see that it is one packet, and in bytes
+ = note: see that it is one packet, and in bytes
 ";
     told(&blade(), &[0; 2_049], &[], (22, 0), due);
 }
@@ -143,13 +143,13 @@ fn a_constraint_that_does_not_hold() {
     let due = "\
 error[25]: the constraint of `Version` does not hold: `V == 1`
  --> packet.bin, field 1: Version
-  = note: `V` (Version) is 0
+ = note: `V` (Version) is 0
 ";
     told(&blade(), &m5, &[], (25, 1), due);
     let due = "\
 error[25]: the constraint of `Cells` does not hold: `N <= 20`
  --> packet.bin, field 3: Cells
-  = note: `N` (Cells) is 21
+ = note: `N` (Cells) is 21
 ";
     told(&blade(), &[0x55, 0x07], &[[1, 0, 2, 1], [1, 2, 1, 0]], (25, 3), due);
 }
@@ -173,15 +173,15 @@ fn an_absent_field_that_is_read() {
     let due = "\
 error[26]: the width of `Data` reads `C`, which is absent: `C`
  --> packet.bin, field 3: Data
-  = note: `C` (Count) is absent
-  = note: let this field be `present only when F == 1`
+ = note: `C` (Count) is absent
+ = note: let this field be `present only when F == 1`
 ";
     told(&flagged(3, &[8, 0, 2, 0, 2, 1, 0, 0, 0, 0]), &[0], &ABSENT, (26, 3), due);
     let due = "\
 error[26]: the condition of `Data` reads `C`, which is absent: `C > 0 || F == 2`
  --> packet.bin, field 3: Data
-  = note: `C` (Count) is absent, `F` (Flag) is 0
-  = note: write `present only when F == 1 && (C > 0 || F == 2)`
+ = note: `C` (Count) is absent, `F` (Flag) is 0
+ = note: write `present only when F == 1 && (C > 0 || F == 2)`
 ";
     let either = [0x31, 0x24, 2, 1, 1, 0, 0, 0, 0, 0x20, 2, 0, 1, 2, 0, 0, 0];
     let rest = [&[8, 0, 0, 0, 17, 0][..], &either].concat();
@@ -189,8 +189,8 @@ error[26]: the condition of `Data` reads `C`, which is absent: `C > 0 || F == 2`
     let due = "\
 error[26]: the constraint of `Data` reads `C`, which is absent: `D < C`
  --> packet.bin, field 3: Data
-  = note: `D` (Data) is 5, `C` (Count) is absent
-  = note: write `!(F == 1) || D < C`
+ = note: `D` (Data) is 5, `C` (Count) is absent
+ = note: write `!(F == 1) || D < C`
 ";
     told(&flagged(2, &[8, 0, 5, 0, 0x22, 2, 2, 2, 1, 0, 0]), &[0, 5], &ABSENT, (26, 3), due);
 }
@@ -201,26 +201,26 @@ fn a_number_out_of_range() {
     let due = "\
 error[27]: the width of `Data` leaves the range: `C - 2` is 1 - 2, below 0
  --> packet.bin, field 3: Data
-  = note: the width is `C - 2`
-  = note: `C` (Count) is 1
-  = note: let this field be `present only when C >= 2`
+ = note: the width is `C - 2`
+ = note: `C` (Count) is 1
+ = note: let this field be `present only when C >= 2`
 ";
     told(&flagged(3, &[&[8, 0, 8, 0][..], &less, &[0, 0, 0, 0]].concat()), &[1, 1], &PRESENT, (27, 3), due);
     let due = "\
 error[27]: the condition of `Data` leaves the range: `C - 2` is 1 - 2, below 0
  --> packet.bin, field 3: Data
-  = note: the condition is `C - 2 == 0`
-  = note: `C` (Count) is 1
-  = note: write `present only when C >= 2 && C - 2 == 0`
+ = note: the condition is `C - 2 == 0`
+ = note: `C` (Count) is 1
+ = note: write `present only when C >= 2 && C - 2 == 0`
 ";
     let rest = [&[8, 0, 0, 0, 14, 0, 0x20][..], &less, &[1, 0, 0, 0, 0]].concat();
     told(&flagged(2, &rest), &[1, 1], &PRESENT, (27, 3), due);
     let due = "\
 error[27]: the constraint of `Data` leaves the range: `D * 4294967295` is 5 * 4294967295, over 4,294,967,295
  --> packet.bin, field 3: Data
-  = note: the constraint is `D * 4294967295 > C`
-  = note: `D` (Data) is 5, `C` (Count) is 1
-  = note: keep `D` small by a constraint
+ = note: the constraint is `D * 4294967295 > C`
+ = note: `D` (Data) is 5, `C` (Count) is 1
+ = note: keep `D` small by a constraint
 ";
     let rest = [8, 0, 11, 0, 0x24, 0x12, 2, 2, 1, 255, 255, 255, 255, 2, 1, 0, 0];
     told(&flagged(2, &rest), &[1, 1, 5], &PRESENT, (27, 3), due);
@@ -231,13 +231,13 @@ fn only_the_meaning_where_the_reading_differs() {
     let due = "\
 error[25]: the value breaks the constraint of this field
  --> packet.bin, field 2: On Loan
-  = note: the packet is of another kind, or the page too strict
+ = note: the packet is of another kind, or the page too strict
 ";
     told(&blade(), &[0x62, 0x07], &M1[..1], (25, 2), due);
     let due = "\
 error[21]: this is not a good table
  --> packet.bin
-  = note: write it again from its page
+ = note: write it again from its page
 ";
     told(b"no table", &[], &[], (21, 0), due);
 }

@@ -1,24 +1,40 @@
-//! The bytes that are meant, for a renderer that draws a page with ranges of bytes.
+//! The line and the bytes in it that are meant, for a renderer; and what no page of the command comes to.
 
 use crate::common::{with, BLADE};
-use umarekoza_hints::{page_hint, plain, shown_page, Verdict};
+use crate::told_of;
+use umarekoza_hints::{page_hint, plain, Verdict};
 
-/// What is drawn under the caret, and its range.
-fn marked(page: &str, number: u32, place: u32) -> (String, usize) {
-    let range = page_hint(page.as_bytes(), Verdict { number, place }).range(page.as_bytes()).unwrap();
-    (shown_page(page.as_bytes())[range.clone()].to_string(), range.start)
+/// The line that is shown, what is meant in it, and where that begins.
+fn shown(page: &str, number: u32, place: u32) -> (String, String, usize) {
+    let (line, meant) = page_hint(page.as_bytes(), Verdict { number, place }).shown_line(page.as_bytes());
+    let meant = meant.unwrap();
+    let marked = line[meant.clone()].to_string();
+    (line, marked, meant.start)
+}
+
+#[track_caller]
+fn shows(page: &str, (number, place): (u32, u32), line: &str, marked: &str, start: usize) {
+    assert_eq!(shown(page, number, place), (line.to_string(), marked.to_string(), start));
 }
 
 #[test]
-fn a_range_is_within_its_line() {
-    let page = with(&[("V == 1", "V = 1")]);
-    assert_eq!(marked(&page, 5, 17), ("=".to_string(), page.find("= 1").unwrap()));
-    let page = with(&[("1 bit.\n", "1 bit\n")]);
-    assert_eq!(marked(&page, 5, 18), (String::new(), page.find("1 bit\n").unwrap() + 5));
-    let page = with(&[("Sum: 2 bytes.\n", "")]);
-    assert_eq!(marked(&page, 7, 23), (String::new(), page.len()));
-    assert_eq!(marked("", 3, 1), (String::new(), 0));
-    assert_eq!(page_hint(BLADE.as_bytes(), Verdict { number: 11, place: 0 }).range(BLADE.as_bytes()), None);
+fn what_is_meant_is_within_its_line() {
+    shows(&with(&[("V == 1", "V = 1")]), (5, 17), "Version (V): 2 bits; V = 1.", "=", 23);
+    shows(&with(&[("1 bit.\n", "1 bit\n")]), (5, 18), "On Loan (L): 1 bit", "", 18);
+    shows(&with(&[("Sum: 2 bytes.\n", "")]), (7, 23), "", "", 0);
+    shows("", (3, 1), "", "", 0);
+    let whole = page_hint(BLADE.as_bytes(), Verdict { number: 11, place: 0 });
+    assert_eq!(whole.shown_line(BLADE.as_bytes()).1, None);
+}
+
+#[test]
+fn a_long_line_is_shown_round_the_place() {
+    let wrong = format!("Sum: 2 bytes; {} = N.", "1 + ".repeat(50) + "1");
+    let line = format!("..+ {}1 = N.", "1 + ".repeat(19));
+    shows(&with(&[("Sum: 2 bytes.", &wrong)]), (5, 23), &line, "=", 2 + 80);
+    let wrong = format!("Sum: 2 octets. {}", "x".repeat(200));
+    let line = format!("Sum: 2 octets. {}..", "x".repeat(145));
+    shows(&with(&[("Sum: 2 bytes.", &wrong)]), (5, 23), &line, "octets", 7);
 }
 
 #[test]
@@ -29,10 +45,17 @@ fn a_name_is_shown_without_control_characters() {
 }
 
 #[test]
-fn a_shown_page_has_a_character_for_each_byte() {
-    let page = with(&[("Blade: 1", "Blade:\u{A0}1"), ("Sum: 2 bytes.", "Sum: 2 bytes. \x1B[0m")]);
-    let shown = shown_page(page.as_bytes());
-    assert_eq!(shown.len(), page.len());
-    assert_eq!(marked(&page, 2, 0), ("??".to_string(), page.find('\u{A0}').unwrap()));
-    assert!(shown.ends_with("Sum: 2 bytes. ?[0m\n"));
+fn a_shown_line_has_a_character_for_each_byte() {
+    let page = with(&[("Blade: 1 byte.", "Blade:\u{A0}1 byte. \x1B[0m")]);
+    shows(&page, (2, 0), "Blade:??1 byte. ?[0m", "??", 6);
+}
+
+#[test]
+fn an_output_that_is_too_short() {
+    let due = "\
+error[11]: the output is too short: the page's table has 201 bytes
+ --> page.txt
+ = note: give it room for 201 bytes
+";
+    assert_eq!(told_of(BLADE.as_bytes(), 11, 0), due);
 }
