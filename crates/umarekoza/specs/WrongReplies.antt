@@ -7,8 +7,7 @@ use Rattle.base.specs.Bytes.{bytes}
 use Rattle.rules.specs.Promises.{leaves, ReadsText}
 use Rattle.rules.specs.Cases.{lentRun}
 use Rattle.rules.specs.Marked.{bladeReport, m1, m1Listing, tagText, tagTable}
-use Rattle.rules.specs.Pages.{tagLines}
-use Rattle.rules.specs.Pages.{m3}
+use Rattle.rules.specs.Pages.{tagLines, m3}
 use Rattle.laws.specs.Wrong.{
   Claim,
   checks,
