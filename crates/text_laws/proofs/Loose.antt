@@ -24,17 +24,13 @@ use Rattle.text_laws.specs.Fold.{rowOrBlank, whereLine, lastBlank, first
 use Rattle.text_laws.specs.Fold.{onward, losing, wrong, expect, openingName, withName, withWidth}
 use Rattle.text_laws.specs.Fold.{withRow, withField, linedAt, lined, put, over, fed, early, uncelled}
 use Rattle.text_laws.specs.Fold.{lowestAt, lowestOf, outcome, finish}
+use Rattle.text_laws.specs.Steady.{StandIn}
 use Rattle.text_laws.proofs.Faces.{renamed-face}
 
 -- ── other fields ──
 
 abbrev otherFields : Judged → List (Field ℕ) → Judged
 otherFields j fs = record { count = j .count; fields = fs; lowest = j .lowest }
-
--- fields that may stand in for those of j: alike in what later lines see, and the same where nothing was refused
-pub record StandIn (j : Judged) (fs : List (Field ℕ)) : Type 0 where
-  pub seen : faces fs ≡ faces (j .fields)
-  pub exact : j .lowest ≡ none → fs ≡ j .fields
 
 abbrev foundWith : Found → List (Field ℕ) → Found
 foundWith f fs = record {
