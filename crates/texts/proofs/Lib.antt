@@ -36,6 +36,9 @@
 -- RecordSizes              the lengths of what is stored of a line, by its parts
 -- RecordLaws               what is written of a line is its record
 -- TableLaws                what is written of all lines is the table, and its length
+-- HeldNames                names held by value: rule 9 of a line, and the record that is written of it
+-- Holding                  what the code writes of a field line stands in for the field that the fold keeps
+-- StateSteps               lines of the frame's head: what the code keeps behind them
 pub mod OperatorRows
 pub mod FirstSymbol
 pub mod ExprSigns
@@ -79,3 +82,6 @@ pub mod FrameParts
 pub mod RecordSizes
 pub mod RecordLaws
 pub mod TableLaws
+pub mod HeldNames
+pub mod Holding
+pub mod StateSteps

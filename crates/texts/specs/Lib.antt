@@ -10,6 +10,9 @@
 -- Records  the records that the code writes of the lines that it holds
 -- Stages  what is known of a text at each stage of reading it
 -- StoredPlaces  how stored expressions are made, and what is promised of them at places of a text
+-- Noted  the lowest refusal so far
+-- Slots  cells in their stored form
+-- States  what the code keeps of a text between two lines
 pub mod ExprPlaces
 pub mod FieldPlaces
 pub mod FramePlaces
@@ -22,3 +25,6 @@ pub mod LineTests
 pub mod Records
 pub mod Stages
 pub mod StoredPlaces
+pub mod Noted
+pub mod Slots
+pub mod States

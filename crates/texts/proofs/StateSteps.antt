@@ -1,0 +1,93 @@
+-- What the code keeps behind a line of the head, and behind a wrong line.
+use mathlib.Core.Path.{_≡_, refl, ap, sym, _∙_}
+use mathlib.Core.Bool.{Bool, true, false, cond}
+use mathlib.Core.List.{List, [], _∷_, _++_, append-nil}
+use mathlib.Core.Option.{Option, none, some, Option·none-ne-some}
+use Prim.Native.Nat.{ℕ, suc, _+_, _≤_}
+use native.Mathlib.Omega.{arith}
+use lib.Dec.{ltb}
+use lib.ListN.{length, take, length-append}
+use Rattle.base.specs.Lists.{same, any, joined}
+use Rattle.base.specs.Writes.{Writes}
+use Rattle.rules.specs.Limits.{fieldsMost}
+use Rattle.rules.specs.Answers.{refused}
+use Rattle.rules.specs.Fields.{Field, Form, isRest}
+use Rattle.rules.specs.Frames.{Row, Slot, slotsIn}
+use Rattle.rules.specs.Stored.{storedField}
+use Rattle.text_laws.specs.Judging.{face, faces, Judged, many}
+use Rattle.text_laws.specs.Fold as fold
+use Rattle.text_laws.specs.Steady.{StandIn}
+use Rattle.texts.specs.Noted.{noteOf}
+use Rattle.texts.specs.Slots.{storedSlot}
+use Rattle.texts.specs.States.{note, changed, madeWrong, expected, stageOf, Counts, Slots, Records, Named, Holds}
+use Rattle.texts.specs.declared.states.Stage.{Stage}
+use Rattle.texts.specs.declared.states.Stage.the-variants as at
+use Rattle.texts.specs.declared.states.Reading.{Reading}
+
+module _ (f : fold.Found) (r : Reading) {cells table : List ℕ} {labels shorts names : List (List ℕ)}
+    (h : Holds f r cells table labels shorts names) where
+  next-line : r .lines + 1 ≡ suc (f .lines)
+  next-line = let e = h .counts .lines in omega (arith, e)
+
+  -- a right line, with nothing to keep of it
+  pub holds-onward : (s : Stage)
+      → Holds (fold.onward (stageOf s) f) (changed r (r .lines + 1) s (r .note)) cells table labels shorts names
+  holds-onward s = record {
+    counts = record {
+      lines = next-line;
+      stage = refl;
+      width = h .counts .width;
+      name = h .counts .name;
+      cells = h .counts .cells;
+      count = h .counts .count;
+      fields = h .counts .fields;
+      rested = h .counts .rested;
+      lowest = h .counts .lowest;
+    };
+    slots = record { stored = h .slots .stored; end = h .slots .end; next = h .slots .next };
+    records = record {
+      fields = h .records .fields;
+      stands = h .records .stands;
+      stored = h .records .stored;
+      end = h .records .end;
+    };
+    named = h .named;
+  }
+
+  -- 3
+  pub holds-wrong : Holds (fold.wrong f) (madeWrong r) cells table labels shorts names
+  unfolding noteOf
+  holds-wrong = record {
+    counts = record {
+      lines = h .counts .lines;
+      stage = refl;
+      width = h .counts .width;
+      name = h .counts .name;
+      cells = h .counts .cells;
+      count = h .counts .count;
+      fields = h .counts .fields;
+      rested = h .counts .rested;
+      lowest = ap (λ (p : ℕ). some (refused 3 p)) next-line;
+    };
+    slots = record { stored = h .slots .stored; end = h .slots .end; next = h .slots .next };
+    records = record {
+      fields = h .records .fields;
+      stands = record {
+        seen = h .records .stands .seen;
+        exact = λ e. absurd (Option·none-ne-some (refused 3 (suc (f .lines))) (sym e));
+      };
+      stored = h .records .stored;
+      end = h .records .end;
+    };
+    named = h .named;
+  }
+
+  -- the line that must be this one
+  pub holds-expect : (w l : List ℕ) (s : Stage) (right : Bool) → right ≡ same l w
+      → Holds (fold.expect w (stageOf s) f l) (expected right r s) cells table labels shorts names
+  holds-expect w l s right e = rw (← e) (go right)
+    where
+      go : (b : Bool) → Holds (cond b (fold.onward (stageOf s) f) (fold.wrong f))
+          (cond b (changed r (r .lines + 1) s (r .note)) (madeWrong r)) cells table labels shorts names
+      go true = holds-onward s
+      go false = holds-wrong
