@@ -38,7 +38,8 @@
 -- TableLaws                what is written of all lines is the table, and its length
 -- HeldNames                names held by value: rule 9 of a line, and the record that is written of it
 -- Holding                  what the code writes of a field line stands in for the field that the fold keeps
--- StateSteps               lines of the frame's head: what the code keeps behind them
+-- StateSteps               what the code keeps behind a right line and behind a wrong one
+-- HeadSteps                what the code keeps behind the lines that hold NAME, W and cells
 pub mod OperatorRows
 pub mod FirstSymbol
 pub mod ExprSigns
@@ -85,3 +86,4 @@ pub mod TableLaws
 pub mod HeldNames
 pub mod Holding
 pub mod StateSteps
+pub mod HeadSteps

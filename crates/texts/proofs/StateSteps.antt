@@ -1,4 +1,4 @@
--- What the code keeps behind a line of the head, and behind a wrong line.
+-- What the code keeps behind a right line of which it keeps nothing, and behind a wrong line.
 use mathlib.Core.Path.{_≡_, refl, ap, sym, _∙_}
 use mathlib.Core.Bool.{Bool, true, false, cond}
 use mathlib.Core.List.{List, [], _∷_, _++_, append-nil}
@@ -19,14 +19,43 @@ use Rattle.text_laws.specs.Fold as fold
 use Rattle.text_laws.specs.Steady.{StandIn}
 use Rattle.texts.specs.Noted.{noteOf}
 use Rattle.texts.specs.Slots.{storedSlot}
-use Rattle.texts.specs.States.{note, changed, madeWrong, expected, stageOf, Counts, Slots, Records, Named, Holds}
+use Rattle.texts.specs.States.{note, changed, madeWrong, expected, Room, Taken}
+use Rattle.texts.specs.States.{stageOf, Counts, Slots, Records, Holds}
+use Rattle.texts.specs.declared.notes.Note.{Note}
 use Rattle.texts.specs.declared.states.Stage.{Stage}
 use Rattle.texts.specs.declared.states.Stage.the-variants as at
 use Rattle.texts.specs.declared.states.Reading.{Reading}
 
+-- ── safe ──
+
+pub room-changed : (r : Reading) (n : ℕ) (s : Stage) (a : Note) → Room r → Room (changed r n s a)
+room-changed r n s a h = record {
+  width = h .width;
+  name = h .name;
+  front = h .front;
+  cells = h .cells;
+  slots = h .slots;
+  cell = h .cell;
+  count = h .count;
+  fields = h .fields;
+  end = h .end;
+}
+
+pub taken-wrong : (r : Reading) → Room r → Taken r (madeWrong r)
+taken-wrong r h = (room-changed r (r .lines) at.Lost (note 3 (r .lines + 1)) h, omega arith)
+
+pub taken-onward : (r : Reading) (s : Stage) (a : Note) → Room r → Taken r (changed r (r .lines + 1) s a)
+taken-onward r s a h = (room-changed r (r .lines + 1) s a h, omega arith)
+
+pub taken-expect : (right : Bool) (r : Reading) (s : Stage) → Room r → Taken r (expected right r s)
+taken-expect true r s h = taken-onward r s (r .note) h
+taken-expect false r s h = taken-wrong r h
+
+-- ── what is held ──
+
 module _ (f : fold.Found) (r : Reading) {cells table : List ℕ} {labels shorts names : List (List ℕ)}
     (h : Holds f r cells table labels shorts names) where
-  next-line : r .lines + 1 ≡ suc (f .lines)
+  pub next-line : r .lines + 1 ≡ suc (f .lines)
   next-line = let e = h .counts .lines in omega (arith, e)
 
   -- a right line, with nothing to keep of it

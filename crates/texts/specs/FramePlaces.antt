@@ -4,7 +4,9 @@ use mathlib.Core.List.{List, [], _∷_}
 use mathlib.Core.Option.{Option, none, some}
 use Prim.Native.Nat.{ℕ, suc}
 use lib.Dec.{eqb}
+use lib.ListN.{drop}
 use Rattle.rules.specs.Frames.{tensAt, unitsAt, borderAt}
+use Rattle.text_laws.specs.FrameReader.{readName}
 use Rattle.texts.specs.declared.rulers.Ruler.{Ruler}
 use Rattle.texts.specs.declared.rulers.Ruler.the-variants.{Tens, Units, Border}
 
@@ -27,3 +29,7 @@ widthOr (some w) = w
 abbrev pub isSome : {A : Type 0} → Option A → Bool
 isSome none = false
 isSome (some a) = true
+
+-- the NAME behind an article of so many bytes, 0 for none
+unfoldable pub nameBehind : List ℕ → ℕ → Option (List ℕ)
+nameBehind l a = cond (eqb a 0) none (readName (drop a l))

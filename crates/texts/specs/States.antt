@@ -1,6 +1,6 @@
 -- What the code keeps of a text between two lines: mirrors the code, no public promise rests on it.
 use mathlib.Core.Path.{_≡_}
-use mathlib.Core.Bool.{Bool, false, cond}
+use mathlib.Core.Bool.{Bool, true, false, cond}
 use mathlib.Core.List.{List, [], _++_}
 use mathlib.Core.Option.{Option, none, some}
 use Prim.Native.Nat.{ℕ, suc, _+_, _*_, _≤_}
@@ -12,7 +12,7 @@ use Rattle.rules.specs.Stored.{storedName, storedField}
 use Rattle.names.specs.Repeats.{padTo}
 use Rattle.text_laws.specs.Judging.{faces}
 use Rattle.text_laws.specs.Fold as fold
-use Rattle.text_laws.specs.Steady.{StandIn}
+use Rattle.text_laws.specs.Steady.{StandIn, isHead, Steady}
 use Rattle.texts.specs.Noted.{noteOf}
 use Rattle.texts.specs.Slots.{storedSlot}
 use Rattle.texts.specs.declared.notes.Note.{Note}
@@ -58,6 +58,40 @@ changed r lines s n = record {
   note = n;
 }
 
+-- with other numbers of the head
+abbrev pub withHead : Reading → ℕ → ℕ → ℕ → ℕ → ℕ → Reading
+withHead r width name end cells slots = record {
+  lines = r .lines;
+  stage = r .stage;
+  width = width;
+  name = name;
+  cells = cells;
+  slots = slots;
+  cell = r .cell;
+  count = r .count;
+  fields = r .fields;
+  end = end;
+  rested = r .rested;
+  note = r .note;
+}
+
+-- with other numbers of field lines
+abbrev pub withLine : Reading → ℕ → ℕ → ℕ → ℕ → Bool → Reading
+withLine r cell count fields end rested = record {
+  lines = r .lines;
+  stage = r .stage;
+  width = r .width;
+  name = r .name;
+  cells = r .cells;
+  slots = r .slots;
+  cell = cell;
+  count = count;
+  fields = fields;
+  end = end;
+  rested = rested;
+  note = r .note;
+}
+
 -- behind a wrong line
 abbrev pub madeWrong : Reading → Reading
 madeWrong r = changed r (r .lines) at.Lost (note 3 (r .lines + 1))
@@ -73,14 +107,20 @@ abbrev pub slotMost : ℕ
 slotMost = 43
 
 abbrev pub rowMost : ℕ
-rowMost = 159
+rowMost = 195
 
 abbrev pub recordMost : ℕ
 recordMost = 424
 
+-- room for all cells and one row more, and for NAME and all records
+abbrev pub slotsMost : ℕ
+slotsMost = slotMost * fieldsMost + rowMost
+
+abbrev pub recordsMost : ℕ
+recordsMost = labelMost + recordMost * fieldsMost
+
 -- the numbers are such that one more line can be taken
 pub record Room (r : Reading) : Type 0 where
-  pub lines : r .lines ≤ textMost
   pub width : r .width ≤ 32
   pub name : r .name ≤ labelMost
   pub front : r .name ≤ r .end
@@ -90,6 +130,10 @@ pub record Room (r : Reading) : Type 0 where
   pub count : r .count ≤ fieldsMost
   pub fields : r .fields ≤ r .count
   pub end : r .end ≤ labelMost + recordMost * r .fields
+
+-- the same behind a line that was taken
+abbrev pub Taken : Reading → Reading → Type 0
+Taken r q = Room q × (q .lines ≤ r .lines + 1)
 
 -- ── what stands for what the fold keeps ──
 
@@ -150,3 +194,9 @@ pub record Holds (f : fold.Found) (r : Reading) (cells table : List ℕ) (labels
   pub slots : Slots f r cells
   pub records : Records f r table
   pub named : Named (faces (f .judged .fields)) labels shorts names
+
+-- one line of the head, with the buffers of cells and of records before and behind it
+abbrev pub HeadStep : (fold.Found → fold.Found) → Reading → Reading → List ℕ → List ℕ → List ℕ → List ℕ → Type 0
+HeadStep step r q cells cells′ table table′ =
+    (f : fold.Found) (labels shorts names : List (List ℕ)) → Steady f → isHead (f .stage) ≡ true
+    → Holds f r cells table labels shorts names → Holds (step f) q cells′ table′ labels shorts names

@@ -5,6 +5,7 @@ mod ends;
 mod expressions;
 mod field_clauses;
 mod field_lines;
+mod head_lines;
 mod held_names;
 mod labels;
 mod leaves;

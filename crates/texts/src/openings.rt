@@ -10,11 +10,12 @@ ghost use lib.Dec.{eqb};
 ghost use lib.ListN.{length, getD};
 ghost use Rattle.rules.specs.Frames.{Frame, FrameOf};
 ghost use Rattle.text_laws.specs.FrameReader.{readName, opened};
-ghost use Rattle.texts.specs.FramePlaces.{isSome};
+ghost use Rattle.text_laws.specs.Fold.{openingName};
+ghost use Rattle.texts.specs.FramePlaces.{isSome, nameBehind};
 ghost use Rattle.texts.specs.LinePlaces.{spanIn};
 
 // A name and the closing words of an opening line.
-fn is_named(s: &[u8]) -> bool
+pub(crate) fn is_named(s: &[u8]) -> bool
     ensures { λ r. ⌜ r ≡ isSome (readName (now (s .entry))) ⌝ }
 {
     if s.len() < 25 {
@@ -40,6 +41,23 @@ pub(crate) fn is_opening(line: &[u8]) -> bool
         return is_named(&line[2..]);
     }
     false
+}
+
+// The length of `A ` or `An ` in front of a line, 0 where neither stands there.
+pub(crate) fn article(line: &[u8]) -> usize
+    ensures place { λ r. ⌜ r ≤ length (now (line .entry)) ⌝ }
+    ensures name { λ r. ⌜ openingName (now (line .entry)) ≡ nameBehind (now (line .entry)) r ⌝ }
+{
+    if line.len() < 3 {
+        return 0;
+    }
+    if same_words(&line[0..3], b"An ") {
+        return 3;
+    }
+    if same_words(&line[0..2], b"A ") {
+        return 2;
+    }
+    0
 }
 
 // The length of `A ` or `An `.

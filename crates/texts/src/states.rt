@@ -90,7 +90,7 @@ pub(crate) fn onward(mut r: Reading, s: Stage, n: Note) -> Reading
 }
 
 // 3 at this line.
-fn wrong(r: Reading) -> Reading
+pub(crate) fn wrong(r: Reading) -> Reading
     requires { ⌜ r .lines ≤ textMost ⌝ }
     ensures { λ q. ⌜ q ≡ madeWrong r ⌝ }
 {
