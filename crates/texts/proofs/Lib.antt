@@ -8,6 +8,8 @@
 -- FrameLeaves              bytes, lines, rulers and the opening line, as the code reads them
 -- RowLeaves                cells and long rows, as the code reads them
 -- TreeTypes                the types of a line's expressions, by the stored forms that the code makes
+-- NoteLaws                 the lower of two notes
+-- HeldClashes              a field's names held against those of earlier fields
 -- LineSearches             searches over the field lines that the code holds
 -- FirstBreaks              the first line that breaks a rule, by a search over indexes
 -- LineRules                what the code tests of the lines says which rule their forms break
@@ -25,6 +27,9 @@
 -- FieldParts               the parts of a whole field line
 -- FieldLines                 the parts of all field lines of a text
 -- SplitSteps               the pieces of a text from a place on
+-- RowTests                 the row of a line, as the code tests it
+-- SlotLaws                 a cell as it is kept, and whether it is one for the field of a line
+-- SlotRows                 the cells of a row that is read, and cells put one behind the other
 -- RowTally                 the number of cells of a row, as the code counts them
 -- FrameViews               what the code sees of a state, line by line
 -- FrameSteps               the walk over the lines of a text: what is left decides
@@ -50,10 +55,12 @@ pub mod FieldClauses
 pub mod FrameLeaves
 pub mod RowLeaves
 pub mod TreeTypes
+pub mod NoteLaws
 pub mod LineSearches
 pub mod FirstBreaks
 pub mod LineRules
 pub mod LineClashes
+pub mod HeldClashes
 pub mod LineTypes
 pub mod TableIndexes
 pub mod StageFrames
@@ -69,11 +76,14 @@ pub mod FieldParts
 pub mod FieldLines
 pub mod SplitSteps
 pub mod RowTally
+pub mod RowTests
 pub mod FrameViews
 pub mod FrameSteps
 pub mod LineSkips
 pub mod CellNames
 pub mod RowShown
+pub mod SlotLaws
+pub mod SlotRows
 pub mod MismatchSteps
 pub mod FrameParts
 pub mod RecordSizes

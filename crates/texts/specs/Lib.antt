@@ -4,6 +4,9 @@
 -- FrameWalk  what the walk over the lines of a frame keeps and answers
 -- LinePlaces  where the parts of field lines stand, as the code holds them
 -- PartPlaces  widths and what stands behind them, at places of a text
+-- HeldNames  the names of fields as the code holds them
+-- Noted  a refusal as the code notes it
+-- Slots  the cells of rows as the code keeps them
 -- Mismatches  cells held against field lines
 -- StoredTrees  expressions in their stored form, with their types, as the code makes them
 -- LineTests  what the code tests of the field lines that it holds
@@ -16,6 +19,9 @@ pub mod FramePlaces
 pub mod FrameWalk
 pub mod LinePlaces
 pub mod PartPlaces
+pub mod HeldNames
+pub mod Noted
+pub mod Slots
 pub mod Mismatches
 pub mod StoredTrees
 pub mod LineTests
