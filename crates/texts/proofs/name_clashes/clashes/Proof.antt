@@ -2,7 +2,15 @@ use mathlib.Core.Bool.{true, false}
 use mathlib.Core.Path.{sym, _∙_}
 use Prim.Native.Nat.{_-_}
 use native.Mathlib.Omega.{arith}
-use Rattle.texts.proofs.HeldClashes.{Left, clash-start, clash-next, clash-none, clash-here, label-here, short-here}
+use Rattle.texts.proofs.HeldClashes.{
+  Left,
+  clash-start,
+  clash-next,
+  clash-none,
+  clash-here,
+  label-here,
+  short-here,
+}
 use borrow.Author.Needs.{needs}
 use Rattle.texts.proofs.name_clashes.clashes.Statement.{statement}
 use Rattle.texts.proofs.name_clashes.clashes.Tie as tie
@@ -18,7 +26,8 @@ abbrev μ-earlier : tie.MeasureT-earlier
 μ-earlier labels shorts n label short i₀ i = n - i
 
 earlier-holds : tie.Need-earlier-holds Inv-earlier μ-earlier
-earlier-holds c = clash-start (c .args .labels .now) (c .args .shorts .now) (c .args .label) (c .args .short) (c .args .n)
+earlier-holds c = clash-start (c .args .labels .now) (c .args .shorts .now) (c .args .label) (c .args .short) (c
+    .args .n)
 
 mul-same-label : tie.Need-mul-same-label Inv-earlier μ-earlier
 mul-same-label c = search needs
@@ -46,21 +55,49 @@ earlier-less c = search needs
 
 earlier-again : tie.Need-earlier-again Inv-earlier μ-earlier
 earlier-again c =
-    clash-next (c .before .before .before .before .before .before .before .before .args .labels .now) (c .before .before .before .before .before .before .before .before .args .shorts .now) (c .before .before .before .before .before .before .before .before .args .label) (c .before .before .before .before .before .before .before .before .args .short) (c .before .before .before .before .before .before .before .before .args .n) (c .before .before .before .before .before .before .before .earlier .i) (omega arith) (c .before .before .before .before .before .before .before .earlier .inv)
-    (short-here (c .before .before .before .before .before .before .before .before .args .labels .now) (c .before .before .before .before .before .before .before .before .args .shorts .now) (c .before .before .before .before .before .before .before .before .args .label) (c .before .before .before .before .before .before .before .before .args .short) (c .before .before .before .before .before .before .before .before .args .n) (c .before .before .before .before .before .before .before .earlier .i) (sym (c .before .before .before .before .same-label .ensures) ∙ c .before .before .before .if2 .left) false (sym (c .before .same-name .ensures) ∙ c .if3 .left))
+    clash-next (c .before .before .before .before .before .before .before .before .args .labels .now) (c .before
+    .before .before .before .before .before .before .before .args .shorts .now) (c .before .before .before .before
+    .before .before .before .before .args .label) (c .before .before .before .before .before .before .before .before
+    .args .short) (c .before .before .before .before .before .before .before .before .args .n) (c .before .before
+    .before .before .before .before .before .earlier .i) (omega arith) (c .before .before .before .before .before
+    .before .before .earlier .inv)
+    (short-here (c .before .before .before .before .before .before .before .before .args .labels .now) (c .before
+    .before .before .before .before .before .before .before .args .shorts .now) (c .before .before .before .before
+    .before .before .before .before .args .label) (c .before .before .before .before .before .before .before .before
+    .args .short) (c .before .before .before .before .before .before .before .before .args .n) (c .before .before
+    .before .before .before .before .before .earlier .i) (sym (c .before .before .before .before .same-label
+    .ensures) ∙ c .before .before .before .if2 .left) false (sym (c .before .same-name .ensures) ∙ c .if3 .left))
 
 returns : tie.Need-returns Inv-earlier μ-earlier
-returns c = clash-none (c .before .before .args .labels .now) (c .before .before .args .shorts .now) (c .before .before .args .label) (c .before .before .args .short) (c .before .before .args .n) (c .before .earlier .i) (omega arith) (c .before .earlier .inv)
+returns c = clash-none (c .before .before .args .labels .now) (c .before .before .args .shorts .now) (c .before
+    .before .args .label) (c .before .before .args .short) (c .before .before .args .n) (c .before .earlier .i)
+    (omega arith) (c .before .earlier .inv)
 
 returns-2 : tie.Need-returns-2 Inv-earlier μ-earlier
 returns-2 c =
-    clash-here (c .before .before .before .before .before .args .labels .now) (c .before .before .before .before .before .args .shorts .now) (c .before .before .before .before .before .args .label) (c .before .before .before .before .before .args .short) (c .before .before .before .before .before .args .n) (c .before .before .before .before .earlier .i) (omega arith) (c .before .before .before .before .earlier .inv)
-    (label-here (c .before .before .before .before .before .args .labels .now) (c .before .before .before .before .before .args .shorts .now) (c .before .before .before .before .before .args .label) (c .before .before .before .before .before .args .short) (c .before .before .before .before .before .args .n) (c .before .before .before .before .earlier .i) (sym (c .before .same-label .ensures) ∙ c .if2 .taken))
+    clash-here (c .before .before .before .before .before .args .labels .now) (c .before .before .before .before
+    .before .args .shorts .now) (c .before .before .before .before .before .args .label) (c .before .before .before
+    .before .before .args .short) (c .before .before .before .before .before .args .n) (c .before .before .before
+    .before .earlier .i) (omega arith) (c .before .before .before .before .earlier .inv)
+    (label-here (c .before .before .before .before .before .args .labels .now) (c .before .before .before .before
+    .before .args .shorts .now) (c .before .before .before .before .before .args .label) (c .before .before .before
+    .before .before .args .short) (c .before .before .before .before .before .args .n) (c .before .before .before
+    .before .earlier .i) (sym (c .before .same-label .ensures) ∙ c .if2 .taken))
 
 returns-3 : tie.Need-returns-3 Inv-earlier μ-earlier
 returns-3 c =
-    clash-here (c .before .before .before .before .before .before .before .before .args .labels .now) (c .before .before .before .before .before .before .before .before .args .shorts .now) (c .before .before .before .before .before .before .before .before .args .label) (c .before .before .before .before .before .before .before .before .args .short) (c .before .before .before .before .before .before .before .before .args .n) (c .before .before .before .before .before .before .before .earlier .i) (omega arith) (c .before .before .before .before .before .before .before .earlier .inv)
-    (short-here (c .before .before .before .before .before .before .before .before .args .labels .now) (c .before .before .before .before .before .before .before .before .args .shorts .now) (c .before .before .before .before .before .before .before .before .args .label) (c .before .before .before .before .before .before .before .before .args .short) (c .before .before .before .before .before .before .before .before .args .n) (c .before .before .before .before .before .before .before .earlier .i) (sym (c .before .before .before .before .same-label .ensures) ∙ c .before .before .before .if2 .left) true (sym (c .before .same-name .ensures) ∙ c .if3 .taken))
+    clash-here (c .before .before .before .before .before .before .before .before .args .labels .now) (c .before
+    .before .before .before .before .before .before .before .args .shorts .now) (c .before .before .before .before
+    .before .before .before .before .args .label) (c .before .before .before .before .before .before .before .before
+    .args .short) (c .before .before .before .before .before .before .before .before .args .n) (c .before .before
+    .before .before .before .before .before .earlier .i) (omega arith) (c .before .before .before .before .before
+    .before .before .earlier .inv)
+    (short-here (c .before .before .before .before .before .before .before .before .args .labels .now) (c .before
+    .before .before .before .before .before .before .before .args .shorts .now) (c .before .before .before .before
+    .before .before .before .before .args .label) (c .before .before .before .before .before .before .before .before
+    .args .short) (c .before .before .before .before .before .before .before .before .args .n) (c .before .before
+    .before .before .before .before .before .earlier .i) (sym (c .before .before .before .before .same-label
+    .ensures) ∙ c .before .before .before .if2 .left) true (sym (c .before .same-name .ensures) ∙ c .if3 .taken))
 
 pub clashes-spec : {M : Type 1} → statement M
 clashes-spec =

@@ -33,7 +33,8 @@ returns : tie.Need-returns Inv-loop μ-loop
 returns c =
     let p = c .before .part-end in
     let v = c .before .before .before .loop in
-    sym (v .inv .2 ∙ fits-none (c .before .before .before .before .before .args .w) (c .before .before .before .before .before .args .l .now) (v .at) (v .bits) (p .result) (p .ensures .1) (omega arith)
+    sym (v .inv .2 ∙ fits-none (c .before .before .before .before .before .args .w) (c .before .before .before
+    .before .before .args .l .now) (v .at) (v .bits) (p .result) (p .ensures .1) (omega arith)
     (omega arith) (omega arith))
 
 sub-is-cell : tie.Need-sub-is-cell Inv-loop μ-loop
@@ -55,7 +56,8 @@ returns-2 c =
     let v = c .before .before .before .before .before .before .loop in
     let n : isCell (cellOf (take (p .result - v .at) (drop (v .at) l))) ≡ false =
     sym (c .before .is-cell .ensures) ∙ not-true (c .before .is-cell .result) (c .if2 .taken) in
-    sym (v .inv .2 ∙ fits-stop (c .before .before .before .before .before .before .before .before .args .w) l (v .at) (v .bits) (p .result) (p .ensures .1) (omega arith) n)
+    sym (v .inv .2 ∙ fits-stop (c .before .before .before .before .before .before .before .before .args .w) l (v .at)
+    (v .bits) (p .result) (p .ensures .1) (omega arith) n)
 
 sub-bits : tie.Need-sub-bits Inv-loop μ-loop
 sub-bits c = search needs
@@ -81,12 +83,14 @@ loop-again c =
     sym (c .before .is-cell .ensures) ∙ not-false (c .before .is-cell .result) (c .if2 .left) in (
       omega arith,
       omega arith,
-      v .inv .2 ∙ fits-next (c .before .before .before .before .before .before .before .before .args .w) l (v .at) (v .bits) (p .result) (p .ensures .1) (omega arith) n,
+      v .inv .2 ∙ fits-next (c .before .before .before .before .before .before .before .before .args .w) l (v .at) (v
+          .bits) (p .result) (p .ensures .1) (omega arith) n,
     )
 
 returns-3 : tie.Need-returns-3 Inv-loop μ-loop
 returns-3 c =
-    sym (c .before .loop .inv .2 ∙ fits-end (c .before .before .before .args .w) (c .before .before .before .args .l .now) (c .before .loop .at) (c .before .loop .bits) (omega arith) (omega arith))
+    sym (c .before .loop .inv .2 ∙ fits-end (c .before .before .before .args .w) (c .before .before .before .args .l
+    .now) (c .before .loop .at) (c .before .loop .bits) (omega arith) (omega arith))
 
 pub is-bits-spec : {M : Type 1} → statement M
 is-bits-spec =

@@ -23,13 +23,21 @@ sub-if1 : tie.Need-sub-if1
 sub-if1 c = search needs
 
 returns : tie.Need-returns
-returns c = ((omega arith, omega arith), end-none (c .before .before .before .before .args .cells .now) (c .before .before .before .before .args .at) _ (omega arith) (c .before .wide .ensures .0) (c .if1 .taken))
+returns c = (
+  (omega arith, omega arith),
+  end-none (c .before .before .before .before .args .cells .now) (c .before
+      .before .before .before .args .at) _ (omega arith) (c .before .wide .ensures .0) (c .if1 .taken),
+)
 
 add-result : tie.Need-add-result
 add-result c = search needs
 
 returns-2 : tie.Need-returns-2
-returns-2 c = ((omega arith, omega arith), end-some (c .before .before .before .before .args .cells .now) (c .before .before .before .before .args .at) _ (omega arith) (c .before .wide .ensures .0))
+returns-2 c = (
+  (omega arith, omega arith),
+  end-some (c .before .before .before .before .args .cells .now) (c .before
+      .before .before .before .args .at) _ (omega arith) (c .before .wide .ensures .0),
+)
 
 pub slot-end-spec : {M : Type 1} → statement M
 slot-end-spec =

@@ -44,12 +44,22 @@ is-place-in-requires c κs = search needs
 
 returns : tie.Need-returns
 returns c =
-    slot-yes (c .before .before .before .before .before .before .before .before .before .before .args .cells .now) (c .before .before .before .before .before .before .before .before .before .before .args .line .now) (c .before .before .before .before .before .before .before .before .before .before .args .at) (c .before .before .before .before .before .before .before .slot-end .result) (c .before .before .before .before .before .before .before .before .before .before .args .p) (c .before .before .before .before .before .before .before .slot-end .ensures .1)
-    (c .before .before .before .before .before .is-name-in .result) (c .is-place-in .result) (c .before .before .before .before .before .is-name-in .ensures) (c .before .before .before .before .if1 .taken) (rw (c .before .wide .ensures .0) at (c .is-place-in .ensures))
+    slot-yes (c .before .before .before .before .before .before .before .before .before .before .args .cells .now) (c
+    .before .before .before .before .before .before .before .before .before .before .args .line .now) (c .before
+    .before .before .before .before .before .before .before .before .before .args .at) (c .before .before .before
+    .before .before .before .before .slot-end .result) (c .before .before .before .before .before .before .before
+    .before .before .before .args .p) (c .before .before .before .before .before .before .before .slot-end .ensures
+    .1)
+    (c .before .before .before .before .before .is-name-in .result) (c .is-place-in .result) (c .before .before
+    .before .before .before .is-name-in .ensures) (c .before .before .before .before .if1 .taken) (rw (c .before
+    .wide .ensures .0) at (c .is-place-in .ensures))
 
 returns-2 : tie.Need-returns-2
 returns-2 c =
-    slot-not (c .before .before .before .before .before .before .args .cells .now) (c .before .before .before .before .before .before .args .line .now) (c .before .before .before .before .before .before .args .at) (c .before .before .before .slot-end .result) (c .before .before .before .before .before .before .args .p) (c .before .before .before .slot-end .ensures .1)
+    slot-not (c .before .before .before .before .before .before .args .cells .now) (c .before .before .before .before
+    .before .before .args .line .now) (c .before .before .before .before .before .before .args .at) (c .before
+    .before .before .slot-end .result) (c .before .before .before .before .before .before .args .p) (c .before
+    .before .before .slot-end .ensures .1)
     (c .before .is-name-in .result) (c .before .is-name-in .ensures) (c .if1 .left)
 
 pub slot-shows-spec : {M : Type 1} → statement M

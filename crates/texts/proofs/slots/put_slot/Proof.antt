@@ -62,8 +62,17 @@ same-length c = search needs
 
 returns : tie.Need-returns
 returns c =
-    slot-put (c .before .before .before .before .before .before .before .before .before .before .before .before .before .before .before .before .args .chars .now) (c .before .before .before .before .before .before .before .before .before .before .before .before .before .before .before .before .args .long) (c .before .before .before .before .before .before .before .before .before .before .before .before .before .spaces-end .result) (c .before .before .before .before .before .before .before .before .before .before .before .trimmed .result) (c .before .before .before .before .before .before .before .before .before .before .before .before .before .spaces-end .ensures .1)
-    (c .before .before .before .before .before .before .before .before .before .before .before .trimmed .ensures .0) (c .before .before .before .before .before .before .before .before .before .before .before .trimmed .ensures .1) (c .before .before .before .before .before .before .before .before .before .before .before .before .before .spaces-end .ensures .0) (c .before .before .before .before .before .before .before .before .before .before .before .before .before .before .before .before .pre .1) (rw (c .before .before .before .before .before .before .before .before .before .before .yes-no .ensures) at (c .before .before .before .before .before .before .before .put .ensures)) (c .before .before .put2 .ensures)
+    let a = c .before .before .before .before .before .before .before .before .before .before .before .before .before
+    .before .before .before .args in
+    let f = c .before .before .before .before .before .before .before .before .before .before .before .before .before
+    .spaces-end in
+    let t = c .before .before .before .before .before .before .before .before .before .before .before .trimmed in
+    let y = c .before .before .before .before .before .before .before .before .before .before .yes-no .ensures in
+    slot-put (a .chars .now) (a .long) (f .result) (t .result) (f .ensures .1) (t .ensures .0) (t .ensures .1)
+    (f .ensures .0) (c .before .before .before .before .before .before .before .before .before .before .before
+    .before .before .before .before .before .pre .1)
+    (rw y at (c .before .before .before .before .before .before .before .put .ensures)) (c .before .before .put2
+    .ensures)
 
 pub put-slot-spec : {M : Type 1} → statement M
 put-slot-spec =

@@ -22,7 +22,12 @@ shared-slice-read-bar : tie.Need-shared-slice-read-bar Inv-loop μ-loop
 shared-slice-read-bar c = search needs
 
 loop-holds : tie.Need-loop-holds Inv-loop μ-loop
-loop-holds c = (omega arith, refl, putting-start _ (c .before .before .before .args .line .now) (c .before .before .before .args .at) (c .before .before .before .pre .3))
+loop-holds c = (
+  omega arith,
+  refl,
+  putting-start _ (c .before .before .before .args .line .now) (c .before .before
+      .before .args .at) (c .before .before .before .pre .3),
+)
 
 part-end-requires : tie.Need-part-end-requires Inv-loop μ-loop
 part-end-requires c κs = search needs
@@ -57,8 +62,12 @@ loop-again c =
     let p = c .before .before .before .before .before .part-end in
     let v = c .before .before .before .before .before .before .before .loop .inv .2 in
     let lt = bar-there v (p .result) (p .ensures .1) (omega arith) (p .ensures .0 .1) in
-    let w = c .before .before .put-slot .ensures in
-    (omega arith, omega (arith, w .kept), putting-next v (p .result) _ (c .before .before .put-slot .result) _ (p .ensures .1) (omega arith) lt refl w)
+    let w = c .before .before .put-slot .ensures in (
+      omega arith,
+      omega (arith, w .kept),
+      putting-next v (p .result) _ (c .before .before .put-slot .result) _ (p
+          .ensures .1) (omega arith) lt refl w,
+    )
 
 same-length : tie.Need-same-length Inv-loop μ-loop
 same-length c = search needs
