@@ -266,7 +266,7 @@ cells-labels (c ∷ cs) h =
     let k : isCell c ≡ true = and-left (isCell c) (all isCell cs) h in
     rw (and-left (isLabel (c .text)) _ k, cells-labels cs (and-right (isCell c) (all isCell cs) h)) refl
 
-row-labels : (w : ℕ) (r : Row) → isRow w r ≡ true → all (λ c. isLabel (c .text)) (slotsIn r) ≡ true
+pub row-labels : (w : ℕ) (r : Row) → isRow w r ≡ true → all (λ c. isLabel (c .text)) (slotsIn r) ≡ true
 unfolding all
 row-labels w (bitRow cs) h = cells-labels cs (and-left (all isCell cs) _ h)
 row-labels w (longRow c) h =

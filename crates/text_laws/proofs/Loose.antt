@@ -244,7 +244,7 @@ lowest-with fieldLine l f fs h =
 lowest-with lost l f fs h = refl
 
 -- where nothing was refused at the end, nothing was before
-lowest-clear : (s : Stage) (l : List ℕ) (f : Found) → lowestAt s l f ≡ none → f .judged .lowest ≡ none
+pub lowest-clear : (s : Stage) (l : List ℕ) (f : Found) → lowestAt s l f ≡ none → f .judged .lowest ≡ none
 unfolding lowestAt
 lowest-clear opening l f e = absurd (Option·none-ne-some (refused 3 (suc (f .lines))) (sym e))
 lowest-clear blank l f e = absurd (Option·none-ne-some (refused 3 (suc (f .lines))) (sym e))

@@ -16,8 +16,9 @@ use Rattle.rules.specs.Fields.{Width, fixed, measured, rest, Form, cellNames}
 use Rattle.rules.specs.Frames.{Slot}
 use Rattle.rules.specs.Spelling.{isPlaceFor}
 use Rattle.text_laws.specs.FrameReader.{leftTrim, rightTrim}
-use Rattle.texts.specs.LinePlaces.{spanIn, WidthIs, ShortIs, LineOf}
-use Rattle.texts.specs.Mismatches.{shownOf, isNameIn, isPlaceIn, ShowsIs}
+use Rattle.texts.specs.LinePlaces.{spanIn, WidthIs, ShortIs, PartsAre, LineOf}
+use Rattle.texts.specs.Slots.{slotOf, isNameIn, isPlaceIn}
+use Rattle.texts.specs.Mismatches.{ShowsIs}
 use Rattle.writing.specs.declared.spans.Span.{Span}
 use Rattle.texts.specs.declared.parts.TreeAt.{TreeAt}
 use Rattle.texts.specs.declared.parts.Parts.{Parts}
@@ -66,13 +67,13 @@ short-is name s l q h none e =
     rw (z, label-some name h) refl
 short-is name s l q h (some w) e = rw e (or-last (same name l) (same name w))
 
-name-is : (text name : List ℕ) (x : Form) (p : Parts) → LineOf text x p → isLabel name ≡ true
-    → isNameIn name (spanIn text (p .line)) p ≡ any (same name) (cellNames x)
-name-is text name x p o h =
-    ap (λ (l : List ℕ). same name l || same name (spanIn (spanIn text (p .line)) (p .short))) (o .parts .label)
-    ∙ short-is name (spanIn text (p .line)) (x .label) (p .short) h (x .short) (o .parts .short)
+pub name-is : (s name : List ℕ) (x : Form) (p : Parts) → PartsAre s x p → isLabel name ≡ true
+    → isNameIn name s p ≡ any (same name) (cellNames x)
+name-is s name x p o h =
+    ap (λ (l : List ℕ). same name l || same name (spanIn s (p .short))) (o .label)
+    ∙ short-is name s (x .label) (p .short) h (x .short) (o .short)
 
-width-is : (s : List ℕ) (c : Slot) (u : Width (List ℕ)) (kind b : ℕ) (t : TreeAt) → WidthIs s u kind b t
+pub width-is : (s : List ℕ) (c : Slot) (u : Width (List ℕ)) (kind b : ℕ) (t : TreeAt) → WidthIs s u kind b t
     → cond (eqb kind 2) (not (c .long) && eqb (c .bits) b) (c .long) ≡ isPlaceFor c u
 width-is s c (fixed n) kind b t h = rw (h .0, h .1) refl
 width-is s c (measured u m) kind b t h = rw (h .0) refl
@@ -97,15 +98,15 @@ module _ (chars text : List ℕ) (long : Bool) (p : Parts) (a n : ℕ) (l : drop
   pub shows-not : (y : Bool) → y ≡ named → y ≡ false → ShowsIs chars long text p false
   shows-not y e z x o h =
       let q : any (same (rightTrim (leftTrim chars))) (cellNames x) ≡ false
-      = sym (name-is text (rightTrim (leftTrim chars)) x p o h) ∙ sym same-named ∙ sym e ∙ z in
-      ap (λ (b : Bool). b && isPlaceFor (shownOf long chars) (x .width)) (sym q)
+      = sym (name-is (spanIn text (p .line)) (rightTrim (leftTrim chars)) x p (o .parts) h) ∙ sym same-named ∙ sym e ∙ z in
+      ap (λ (b : Bool). b && isPlaceFor (slotOf long chars) (x .width)) (sym q)
 
   pub shows-place : (y r : Bool) → y ≡ named → y ≡ true → r ≡ isPlaceIn long ((length chars + 1) / 2) p
       → ShowsIs chars long text p r
   shows-place y r e z f x o h =
       let q : any (same (rightTrim (leftTrim chars))) (cellNames x) ≡ true
-      = sym (name-is text (rightTrim (leftTrim chars)) x p o h) ∙ sym same-named ∙ sym e ∙ z in
+      = sym (name-is (spanIn text (p .line)) (rightTrim (leftTrim chars)) x p (o .parts) h) ∙ sym same-named ∙ sym e ∙ z in
       f
-      ∙ width-is (spanIn text (p .line)) (shownOf long chars) (x .width) (p .kind) (p .bits) (p .width) (o .parts
+      ∙ width-is (spanIn text (p .line)) (slotOf long chars) (x .width) (p .kind) (p .bits) (p .width) (o .parts
       .width)
-      ∙ ap (λ (b : Bool). b && isPlaceFor (shownOf long chars) (x .width)) (sym q)
+      ∙ ap (λ (b : Bool). b && isPlaceFor (slotOf long chars) (x .width)) (sym q)

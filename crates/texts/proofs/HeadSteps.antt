@@ -8,7 +8,7 @@ use native.Mathlib.Omega.{arith}
 use lib.Dec.{ltb, leb, eqb}
 use lib.ListN.{length, take, drop, length-append, length-drop}
 use lib.Seq.{take-all}
-use borrow.Author.Tests.{leb-true, ltb-true, ltb-false}
+use borrow.Author.Tests.{leb-true, ltb-true, ltb-false, ne-eqb}
 use Rattle.base.specs.Bytes.{bytes}
 use Rattle.base.specs.Lists.{same, any, joined}
 use Rattle.base.specs.Writes.{Writes}
@@ -32,7 +32,9 @@ use Rattle.texts.specs.declared.notes.Note.{Note}
 use Rattle.texts.specs.declared.states.Stage.{Stage}
 use Rattle.texts.specs.declared.states.Stage.the-variants as at
 use Rattle.texts.specs.declared.states.Reading.{Reading}
-use Rattle.texts.proofs.FrameLeaves.{name-short}
+use Rattle.writing.specs.Puts.{placed, put}
+use Rattle.writing.proofs.PutLaws.{put-writes}
+use Rattle.texts.proofs.FrameLeaves.{name-short, take-rest}
 use Rattle.texts.proofs.StateSteps.{next-line, room-changed}
 
 -- ── the opening line ──
@@ -96,6 +98,33 @@ name-of s h = go (ltb (length s) 25) refl
     go false e =
         found (ltb-false (length s) 25 e) (same (drop n s) (bytes " is formatted as follows:") && isLabel (take n s))
         refl h
+
+pub behind-none : (l : List ℕ) (a : ℕ) → a ≡ 0 → nameBehind l a ≡ none
+unfolding nameBehind
+behind-none l a e = rw e refl
+
+pub behind-read : (l : List ℕ) (a : ℕ) → (a ≡ 0 → ⊥) → nameBehind l a ≡ readName (drop a l)
+unfolding nameBehind
+behind-read l a e = rw (ne-eqb a 0 e) refl
+
+pub named-line : (l : List ℕ) (a : ℕ) → isSome (readName (take (length l - a) (drop a l))) ≡ true → NameOf (drop a l)
+named-line l a e = name-of (drop a l) (rw (take-rest a l) at e)
+
+pub unnamed-line : (l : List ℕ) (a : ℕ) → isSome (readName (take (length l - a) (drop a l))) ≡ false
+    → readName (drop a l) ≡ none
+unnamed-line l a e = none-of (readName (drop a l)) (sym (rw (take-rest a l) at e))
+
+module _ (l : List ℕ) (a : ℕ) (le : a ≤ length l) (n : NameOf (drop a l)) where
+  pub name-fits : a + 25 ≤ length l
+  name-fits = let e = length-drop a l in omega (arith, e, n .long, le)
+
+  same-cut : length l - 25 - a ≡ length (drop a l) - 25
+  same-cut = let e = length-drop a l in omega (arith, e, name-fits)
+
+  pub name-put : {before after : List ℕ} {next : ℕ} → labelMost ≤ length before
+      → placed next after ≡ put before 0 (take (length l - 25 - a) (drop a l))
+      → Writes before 0 (take (length (drop a l) - 25) (drop a l)) after next
+  name-put room e = put-writes (omega (arith, n .short, room)) (rw same-cut at e)
 
 -- where no field was kept, none stands in
 module _ (f : fold.Found) (r : Reading) {cells table : List ℕ} {labels shorts names : List (List ℕ)}
@@ -194,6 +223,7 @@ room-width r w h le = record {
   count = h .count;
   fields = h .fields;
   end = h .end;
+  told = h .told;
 }
 
 pub room-name : (r : Reading) (k : ℕ) → Room r → k ≤ labelMost
@@ -208,12 +238,14 @@ room-name r k h le = record {
   count = h .count;
   fields = h .fields;
   end = omega (arith, le);
+  told = h .told;
 }
 
-pub room-row : (r : Reading) (n next : ℕ) (s : Stage) (a : Note) → Room r → r .cells + n ≤ fieldsMost
+pub room-row : (r : Reading) (n next : ℕ) → Room r → r .cells + n ≤ fieldsMost
     → next ≤ slotMost * (r .cells + n) → r .slots ≤ next
-    → Room (changed (withHead r (r .width) (r .name) (r .end) (r .cells + n) next) (r .lines + 1) s a)
-room-row r n next s a h few le more = record {
+    → Room (changed (withHead r (r .width) (r .name) (r .end) (r .cells + n) next) (r .lines + 1)
+    at.RowBorder (r .note))
+room-row r n next h few le more = record {
   width = h .width;
   name = h .name;
   front = h .front;
@@ -223,4 +255,5 @@ room-row r n next s a h few le more = record {
   count = h .count;
   fields = h .fields;
   end = h .end;
+  told = h .told;
 }

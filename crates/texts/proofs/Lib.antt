@@ -8,6 +8,8 @@
 -- FrameLeaves              bytes, lines, rulers and the opening line, as the code reads them
 -- RowLeaves                cells and long rows, as the code reads them
 -- TreeTypes                the types of a line's expressions, by the stored forms that the code makes
+-- NoteLaws                 the lower of two notes
+-- HeldClashes              a field's names held against those of earlier fields
 -- LineSearches             searches over the field lines that the code holds
 -- FirstBreaks              the first line that breaks a rule, by a search over indexes
 -- LineRules                what the code tests of the lines says which rule their forms break
@@ -25,6 +27,9 @@
 -- FieldParts               the parts of a whole field line
 -- FieldLines                 the parts of all field lines of a text
 -- SplitSteps               the pieces of a text from a place on
+-- RowTests                 the row of a line, as the code tests it
+-- SlotLaws                 a cell as it is kept, and whether it is one for the field of a line
+-- SlotRows                 the cells of a row that is read, and cells put one behind the other
 -- RowTally                 the number of cells of a row, as the code counts them
 -- FrameViews               what the code sees of a state, line by line
 -- FrameSteps               the walk over the lines of a text: what is left decides
@@ -39,6 +44,14 @@
 -- HeldNames                names held by value: rule 9 of a line, and the record that is written of it
 -- Holding                  what the code writes of a field line stands in for the field that the fold keeps
 -- StateSteps               what the code keeps behind a right line and behind a wrong one
+-- HeldArrays               names held in arrays, and one more
+-- RowSteps                 what the code keeps behind a row
+-- FormRules                the rules 7 to 10 of a line, by what the code tests of it
+-- SlotPlaces               where the kept cells stand
+-- LineForms                one field line: its form, its names as they are held, room for it
+-- EndSteps                 the end of a text: the lowest refusal, and the table
+-- LineWalk                 the lines of a text, one by one: what is left decides
+-- FieldSteps               what the code keeps behind a field line
 -- HeadSteps                what the code keeps behind the lines that hold NAME, W and cells
 pub mod OperatorRows
 pub mod FirstSymbol
@@ -54,10 +67,12 @@ pub mod FieldClauses
 pub mod FrameLeaves
 pub mod RowLeaves
 pub mod TreeTypes
+pub mod NoteLaws
 pub mod LineSearches
 pub mod FirstBreaks
 pub mod LineRules
 pub mod LineClashes
+pub mod HeldClashes
 pub mod LineTypes
 pub mod TableIndexes
 pub mod StageFrames
@@ -73,11 +88,14 @@ pub mod FieldParts
 pub mod FieldLines
 pub mod SplitSteps
 pub mod RowTally
+pub mod RowTests
 pub mod FrameViews
 pub mod FrameSteps
 pub mod LineSkips
 pub mod CellNames
 pub mod RowShown
+pub mod SlotLaws
+pub mod SlotRows
 pub mod MismatchSteps
 pub mod FrameParts
 pub mod RecordSizes
@@ -87,3 +105,11 @@ pub mod HeldNames
 pub mod Holding
 pub mod StateSteps
 pub mod HeadSteps
+pub mod HeldArrays
+pub mod RowSteps
+pub mod FieldSteps
+pub mod EndSteps
+pub mod LineWalk
+pub mod LineForms
+pub mod SlotPlaces
+pub mod FormRules

@@ -62,7 +62,7 @@ module _ (text : List ℕ) (x : Form) (p : Parts) (h : LineOf text x p) where
 pub formed-short : (x : Form) → isFormed x ≡ true → ifAny isShort (x .short) ≡ true
 formed-short x h = and-left (ifAny isShort (x .short)) _ (and-right (isLabel (x .label)) _ h)
 
-held-alike : (a b : Option (List ℕ)) → ifAny isShort a ≡ true → ifAny isShort b ≡ true
+pub held-alike : (a b : Option (List ℕ)) → ifAny isShort a ≡ true → ifAny isShort b ≡ true
     → sameName (padTo shortMost (storedName a)) (padTo shortMost (storedName b)) ≡ sameShort a b
 held-alike none b p q = none-first (padTo shortMost (storedName b))
 held-alike (some a) none p q = none-second a p

@@ -27,17 +27,17 @@ not-not : (b : Bool) → not (not b) ≡ b
 not-not true = refl
 not-not false = refl
 
-fixed-kind : (s : List ℕ) (v : Width (List ℕ)) (k b : ℕ) (p : TreeAt) → WidthIs s v k b p → eqb k 2 ≡ isFixedWidth v
+pub fixed-kind : (s : List ℕ) (v : Width (List ℕ)) (k b : ℕ) (p : TreeAt) → WidthIs s v k b p → eqb k 2 ≡ isFixedWidth v
 fixed-kind s (fixed n) k b p h = rw (h .0) refl
 fixed-kind s (measured u t) k b p h = rw (h .0) refl
 fixed-kind s rest k b p h = rw (h .0) refl
 
-rest-kind : (s : List ℕ) (v : Width (List ℕ)) (k b : ℕ) (p : TreeAt) → WidthIs s v k b p → eqb k 4 ≡ isRestWidth v
+pub rest-kind : (s : List ℕ) (v : Width (List ℕ)) (k b : ℕ) (p : TreeAt) → WidthIs s v k b p → eqb k 4 ≡ isRestWidth v
 rest-kind s (fixed n) k b p h = rw (h .0) refl
 rest-kind s (measured u t) k b p h = rw (h .0) refl
 rest-kind s rest k b p h = rw (h .0) refl
 
-none-size : (s : List ℕ) (o : Option (Tree (List ℕ))) (p : TreeAt) → MaybeIs s o p → eqb (p .size) 0 ≡ isNone o
+pub none-size : (s : List ℕ) (o : Option (Tree (List ℕ))) (p : TreeAt) → MaybeIs s o p → eqb (p .size) 0 ≡ isNone o
 none-size s none p h = eq-eqb (p .size) 0 h
 none-size s (some t) p h = ne-eqb (p .size) 0 (λ e. absurd (omega (arith, e, h .size, stored-some (λ a. 0) t)))
 

@@ -21,10 +21,11 @@ use Rattle.rules.specs.Spelling.{shows, mismatch}
 use Rattle.text_laws.specs.FrameReader.{pieces, rest, leftTrim, rightTrim, cellOf}
 use Rattle.texts.specs.FramePlaces.{upTo}
 use Rattle.texts.specs.LinePlaces.{LinesFor, lineAt}
-use Rattle.texts.specs.Mismatches.{shownOf, ShowsIs, endIndex, indexOr, RowsAt, MismatchIs}
+use Rattle.texts.specs.Slots.{slotOf, slotsOf}
+use Rattle.texts.specs.Mismatches.{ShowsIs, endIndex, indexOr, RowsAt, MismatchIs}
 use Rattle.texts.specs.declared.parts.Parts.{Parts}
 use Rattle.text_laws.proofs.RowReader.{rowLine, rowLines-one, row-line}
-use Rattle.texts.proofs.RowShown.{cellsIn, row-shown}
+use Rattle.texts.proofs.RowShown.{row-shown}
 use Rattle.texts.proofs.FrameLeaves.{take-rest}
 use Rattle.text_laws.proofs.FrameStates.{pairs}
 use Rattle.texts.proofs.SplitSteps.{piece-at, rest-at, piece-none}
@@ -128,7 +129,7 @@ pub record CellsLeft (text line : List ℕ) (at a i w : ℕ) (m : Option ℕ) (m
   pub rowsAt : RowsAt text at w (row ∷ rows) ms
   pub noRest : rest (getD line 0 0) (drop a line) ≡ []
   pub areCells : all isCell (map cellOf (pieces (getD line 0 0) (drop a line))) ≡ true
-  pub decides : m ≡ mismatch i (cellsIn line a ++ joined slotsIn rows) (drop i forms)
+  pub decides : m ≡ mismatch i (slotsOf line a ++ joined slotsIn rows) (drop i forms)
 
 module _ (text : List ℕ) (at i w : ℕ) (m : Option ℕ) (ms : List (List ℕ)) (forms : List Form) where
   none-left : (n : ℕ) → length forms ≡ n → i ≤ n → endIndex i n ≡ indexOr n (mismatch i [] (drop i forms))
@@ -194,9 +195,9 @@ module _ (text line : List ℕ) (at a i w : ℕ) (m : Option ℕ) (ms : List (Li
       cut : pieces (getD line 0 0) (drop a line) ≡ chars ∷ pieces (getD line 0 0) (drop (b + 1) line)
       cut = piece-at (getD line 0 0) line a b h cell-in
 
-      decided : m ≡ mismatch i (shownOf long chars ∷ (cellsIn line (b + 1) ++ joined slotsIn (x .rows))) (drop i forms)
+      decided : m ≡ mismatch i (slotOf long chars ∷ (slotsOf line (b + 1) ++ joined slotsIn (x .rows))) (drop i forms)
       decided = x .decides ∙ ap
-          (λ (ps : List (List ℕ)). mismatch i (map (shownOf long) ps ++ joined slotsIn (x .rows)) (drop i forms)) cut
+          (λ (ps : List (List ℕ)). mismatch i (map (slotOf long) ps ++ joined slotsIn (x .rows)) (drop i forms)) cut
 
       cells-are : all isCell (map cellOf (chars ∷ pieces (getD line 0 0) (drop (b + 1) line))) ≡ true
       cells-are = ap (λ (ps : List (List ℕ)). all isCell (map cellOf ps)) (sym cut) ∙ x .areCells
@@ -217,12 +218,12 @@ module _ (text line : List ℕ) (at a i w : ℕ) (m : Option ℕ) (ms : List (Li
 
       module _ (n : ℕ) (k : length forms ≡ n) (below : i < n) (parts : List Parts) (f : LinesFor text forms parts) where
         one : (y : Bool) → ShowsIs chars long text (lineAt parts i) y
-            → m ≡ cond y (mismatch (suc i) (cellsIn line (b + 1) ++ joined slotsIn (x .rows)) (drop (suc i) forms))
+            → m ≡ cond y (mismatch (suc i) (slotsOf line (b + 1) ++ joined slotsIn (x .rows)) (drop (suc i) forms))
             (some i)
         unfolding mismatch
         one y s =
             let o = form-at forms i (omega (arith, k, below)) in
-            let z : y ≡ shows (shownOf long chars) (o .0) = s (o .0) (f i (o .0) (o .1)) labelled in
+            let z : y ≡ shows (slotOf long chars) (o .0) = s (o .0) (f i (o .0) (o .1)) labelled in
             decided ∙ rw (o .2, z) refl
 
         cells-differ : ShowsIs chars long text (lineAt parts i) false → i ≡ indexOr n m
@@ -265,7 +266,7 @@ module _ (text line : List ℕ) (at a i w : ℕ) (m : Option ℕ) (ms : List (Li
       };
       decides =
           x .decides
-          ∙ ap (λ (l : List ℕ). mismatch i (map (shownOf long) (pieces (getD line 0 0) l) ++ joined slotsIn (x .rows))
+          ∙ ap (λ (l : List ℕ). mismatch i (map (slotOf long) (pieces (getD line 0 0) l) ++ joined slotsIn (x .rows))
           (drop i forms)) (drop-of-length-le line {i = a} ge);
     }
 

@@ -7,7 +7,7 @@ use Prim.Native.Nat.{ℕ, suc, _+_, _≤_}
 use native.Mathlib.Omega.{arith}
 use lib.Dec.{ltb}
 use lib.ListN.{length, take, length-append}
-use Rattle.base.specs.Lists.{same, any, joined}
+use Rattle.base.specs.Lists.{same, any, joined, isEmpty}
 use Rattle.base.specs.Writes.{Writes}
 use Rattle.rules.specs.Limits.{fieldsMost}
 use Rattle.rules.specs.Answers.{refused}
@@ -19,17 +19,28 @@ use Rattle.text_laws.specs.Fold as fold
 use Rattle.text_laws.specs.Steady.{StandIn}
 use Rattle.texts.specs.Noted.{noteOf}
 use Rattle.texts.specs.Slots.{storedSlot}
-use Rattle.texts.specs.States.{note, changed, madeWrong, expected, Room, Taken}
+use Rattle.texts.specs.States.{note, changed, madeWrong, expected, isTold, Room, Taken}
 use Rattle.texts.specs.States.{stageOf, Counts, Slots, Records, Holds}
 use Rattle.texts.specs.declared.notes.Note.{Note}
 use Rattle.texts.specs.declared.states.Stage.{Stage}
 use Rattle.texts.specs.declared.states.Stage.the-variants as at
 use Rattle.texts.specs.declared.states.Reading.{Reading}
 
+-- ── lines by their lengths ──
+
+pub empty-nil : (l : List ℕ) → length l ≡ 0 → isEmpty l ≡ true
+empty-nil [] e = refl
+empty-nil (x ∷ l) e = absurd (omega (arith, e))
+
+pub filled-nil : (l : List ℕ) → (length l ≡ 0 → ⊥) → isEmpty l ≡ false
+filled-nil [] e = absurd (e refl)
+filled-nil (x ∷ l) e = refl
+
 -- ── safe ──
 
-pub room-changed : (r : Reading) (n : ℕ) (s : Stage) (a : Note) → Room r → Room (changed r n s a)
-room-changed r n s a h = record {
+pub room-changed : (r : Reading) (n : ℕ) (s : Stage) (a : Note) → isTold (noteOf a) ≡ true → Room r
+    → Room (changed r n s a)
+room-changed r n s a t h = record {
   width = h .width;
   name = h .name;
   front = h .front;
@@ -39,16 +50,19 @@ room-changed r n s a h = record {
   count = h .count;
   fields = h .fields;
   end = h .end;
+  told = t;
 }
 
 pub taken-wrong : (r : Reading) → Room r → Taken r (madeWrong r)
-taken-wrong r h = (room-changed r (r .lines) at.Lost (note 3 (r .lines + 1)) h, omega arith)
+unfolding noteOf
+taken-wrong r h = (room-changed r (r .lines) at.Lost (note 3 (r .lines + 1)) refl h, omega arith)
 
-pub taken-onward : (r : Reading) (s : Stage) (a : Note) → Room r → Taken r (changed r (r .lines + 1) s a)
-taken-onward r s a h = (room-changed r (r .lines + 1) s a h, omega arith)
+pub taken-onward : (r : Reading) (s : Stage) (a : Note) → isTold (noteOf a) ≡ true → Room r
+    → Taken r (changed r (r .lines + 1) s a)
+taken-onward r s a t h = (room-changed r (r .lines + 1) s a t h, omega arith)
 
 pub taken-expect : (right : Bool) (r : Reading) (s : Stage) → Room r → Taken r (expected right r s)
-taken-expect true r s h = taken-onward r s (r .note) h
+taken-expect true r s h = taken-onward r s (r .note) (h .told) h
 taken-expect false r s h = taken-wrong r h
 
 -- ── what is held ──

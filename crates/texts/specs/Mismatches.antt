@@ -14,19 +14,8 @@ use Rattle.rules.specs.Frames.{border, Row, rowLines, isRow, ended, Slot, slots
 use Rattle.rules.specs.Spelling as spelling
 use Rattle.text_laws.specs.FrameReader.{leftTrim, rightTrim}
 use Rattle.texts.specs.LinePlaces.{spanIn, Fits, LineOf, LinesFor, LinesFit}
+use Rattle.texts.specs.Slots.{slotOf}
 use Rattle.texts.specs.declared.parts.Parts.{Parts}
-
--- what the characters between two bars show
-abbrev pub shownOf : Bool → List ℕ → Slot
-shownOf long s = record { long = long; bits = (length s + 1) / 2; text = rightTrim (leftTrim s) }
-
--- the name is the label or the short name of the line s
-abbrev pub isNameIn : List ℕ → List ℕ → Parts → Bool
-isNameIn name s p = same name (take (p .label) s) || same name (spanIn s (p .short))
-
--- a fixed field has a bit cell of its width, any other a long row
-abbrev pub isPlaceIn : Bool → ℕ → Parts → Bool
-isPlaceIn long bits p = cond (eqb (p .kind) 2) (not long && eqb bits (p .bits)) long
 
 -- the line lies within m bytes, and its parts within the line
 abbrev pub LineFits : ℕ → Parts → Type 0
@@ -35,7 +24,7 @@ LineFits m p = (p .line .at + p .line .len ≤ m) × Fits (p .line .len) p
 -- whether a cell of these characters shows the field of the line with the parts p
 abbrev pub ShowsIs : List ℕ → Bool → List ℕ → Parts → Bool → Type 0
 ShowsIs chars long text p r = (x : Form) → LineOf text x p → isLabel (rightTrim (leftTrim chars)) ≡ true
-    → r ≡ spelling.shows (shownOf long chars) x
+    → r ≡ spelling.shows (slotOf long chars) x
 
 -- ── all cells ──
 

@@ -1,4 +1,4 @@
--- The lowest refusal so far, as the code holds it: mirrors the code, no public promise rests on it.
+-- A refusal as the code notes it: mirrors the code, no public promise rests on it.
 use mathlib.Core.Bool.{cond}
 use mathlib.Core.Option.{Option, none, some}
 use lib.Dec.{eqb}

@@ -3,11 +3,14 @@ use crate::notes::Note;
 use crate::openings::article;
 use crate::openings::is_named;
 use crate::rulers::ruler_width;
+use crate::slots::Rowed;
+use crate::slots::put_row;
 use crate::states::Reading;
 use crate::states::Stage;
 use crate::states::expect;
 use crate::states::onward;
 use crate::states::wrong;
+use rules::FIELDS_MOST;
 use writing::puts::put;
 ghost use mathlib.Core.List.{List};
 ghost use mathlib.Core.Path.{_≡_};
@@ -15,8 +18,8 @@ ghost use Prim.Native.Nat.{ℕ, _≤_};
 ghost use lib.ListN.{length};
 ghost use Rattle.rules.specs.Limits.{textMost, labelMost};
 ghost use Rattle.text_laws.specs.FrameReader.{readTens, readRow};
-ghost use Rattle.text_laws.specs.Fold.{openingName, withName, withWidth};
-ghost use Rattle.texts.specs.States.{Room, Taken, HeadStep};
+ghost use Rattle.text_laws.specs.Fold.{rowOrBlank, openingName, withName, withWidth, withRow, linedAt};
+ghost use Rattle.texts.specs.States.{slotsMost, Room, Taken, HeadStep};
 
 // The opening line: NAME is put at the start of the table.
 pub(crate) fn take_opening(mut r: Reading, line: &[u8], table: &mut [u8]) -> Reading
@@ -54,4 +57,40 @@ pub(crate) fn take_ruler(mut r: Reading, line: &[u8]) -> Reading
     r.width = w;
     let note = r.note;
     onward(r, Stage::UnitsRuler, note)
+}
+
+// A row: its cells are kept behind those before it, or 4 is noted.
+pub(crate) fn take_row(mut r: Reading, line: &[u8], cells: &mut [u8]) -> Reading
+    requires { ⌜ Room r × (r .lines ≤ textMost) × (slotsMost ≤ length (now cells)) ⌝ }
+    ensures room { λ q. ⌜ Taken r q ⌝ }
+    ensures step { λ q. ⌜ ((table : List ℕ) → HeadStep (λ f. withRow f (readRow (f .width) (now (line .entry)))) r q
+        (now (cells .entry)) (now (cells .exit)) table table) ⌝ }
+{
+    let from = r.slots;
+    let w = r.width;
+    let row = put_row(cells, from, line, w);
+    let Rowed::Put(next, n) = row else {
+        return wrong(r);
+    };
+    let most = FIELDS_MOST - r.cells;
+    if most < n {
+        return onward(r, Stage::RowBorder, Note { number: 4, place: 0 });
+    }
+    r.cells += n;
+    r.slots = next;
+    let note = r.note;
+    onward(r, Stage::RowBorder, note)
+}
+
+// A row, or the blank line behind the last border.
+pub(crate) fn take_row_or_blank(r: Reading, line: &[u8], cells: &mut [u8]) -> Reading
+    requires { ⌜ Room r × (r .lines ≤ textMost) × (slotsMost ≤ length (now cells)) ⌝ }
+    ensures room { λ q. ⌜ Taken r q ⌝ }
+    ensures step { λ q. ⌜ ((table : List ℕ) → HeadStep (λ f. linedAt rowOrBlank f (now (line .entry))) r q
+        (now (cells .entry)) (now (cells .exit)) table table) ⌝ }
+{
+    if line.len() == 0 {
+        return expect(r, true, Stage::WhereLine);
+    }
+    take_row(r, line, cells)
 }

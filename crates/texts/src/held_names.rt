@@ -43,7 +43,7 @@ fn is_passed(p: Parts, fixed: bool) -> bool
 }
 
 // A line's short name; none for one that is not fixed, where only fixed ones count.
-fn short_of(text: &[u8], p: Parts, fixed: bool) -> [u8; SHORT_MOST]
+pub(crate) fn short_of(text: &[u8], p: Parts, fixed: bool) -> [u8; SHORT_MOST]
     requires { ⌜ (p .line .at + p .line .len ≤ length (now text)) × Fits (p .line .len) p ⌝ }
     ensures { λ r. ⌜ r ≡ heldShort (now (text .entry)) fixed p ⌝ }
 {

@@ -17,7 +17,7 @@ pub(crate) enum Rule {
 }
 
 // Behind the rest field stands one that is not fixed or has a condition.
-fn misplaced(p: Parts, rested: bool) -> bool
+pub(crate) fn misplaced(p: Parts, rested: bool) -> bool
     ensures { λ r. ⌜ r ≡ (rested && not (eqb (p .kind) 2 && eqb (p .condition .size) 0)) ⌝ }
 {
     if rested {
@@ -31,7 +31,7 @@ fn misplaced(p: Parts, rested: bool) -> bool
 }
 
 // The line is the rest field's, or the rest field was listed before it.
-fn rests(p: Parts, rested: bool) -> bool
+pub(crate) fn rests(p: Parts, rested: bool) -> bool
     ensures { λ r. ⌜ r ≡ (rested || eqb (p .kind) 4) ⌝ }
 {
     if rested {

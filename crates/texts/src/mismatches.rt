@@ -2,42 +2,17 @@
 use crate::parts::Parts;
 use crate::rows::spaces_end;
 use crate::rows::trimmed;
+use crate::shown_slots::is_name_in;
+use crate::shown_slots::is_place_in;
 use crate::text_bytes::line_end;
 use crate::text_bytes::part_end;
 use crate::walks::skip_lines;
-use names::words::same_words;
 use rules::FIELDS_MOST;
 ghost use mathlib.Core.Path.{_≡_};
 ghost use Prim.Native.Nat.{_≤_};
 ghost use lib.ListN.{length};
 ghost use Rattle.rules.specs.Limits.{textMost, fieldsMost};
-ghost use Rattle.texts.specs.LinePlaces.{Fits};
-ghost use Rattle.texts.specs.Mismatches.{isNameIn, isPlaceIn, LineFits, ShowsIs, endIndex, InText, MismatchIs};
-
-fn is_name_in(name: &[u8], line: &[u8], p: Parts) -> bool
-    requires { ⌜ Fits (length (now line)) p ⌝ }
-    ensures { λ r. ⌜ r ≡ isNameIn (now (name .entry)) (now (line .entry)) p ⌝ }
-{
-    let label = p.label;
-    if same_words(name, &line[0..label]) {
-        return true;
-    }
-    let at = p.short.at;
-    let end = at + p.short.len;
-    same_words(name, &line[at..end])
-}
-
-fn is_place_in(long: bool, bits: usize, p: Parts) -> bool
-    ensures { λ r. ⌜ r ≡ isPlaceIn long bits p ⌝ }
-{
-    if p.kind != 2 {
-        return long;
-    }
-    if long {
-        return false;
-    }
-    bits == p.bits
-}
+ghost use Rattle.texts.specs.Mismatches.{LineFits, ShowsIs, endIndex, InText, MismatchIs};
 
 // A cell of these characters shows the field of a line of the text.
 fn shows(chars: &[u8], long: bool, text: &[u8], p: Parts) -> bool

@@ -75,7 +75,7 @@ fn put_lines(
 }
 
 // The first record.
-fn put_head(out: &mut [u8], w: usize, n: usize, name: &[u8]) -> usize
+pub(crate) fn put_head(out: &mut [u8], w: usize, n: usize, name: &[u8]) -> usize
     requires { ⌜ (10 + length (now name) ≤ length (now out)) × (length (now name) ≤ textMost) ⌝ }
     ensures { λ r. ⌜ Writes (now (out .entry)) 0 (recordOf 1 (le2 w ++ (le2 n ++ counted (now (name .entry)))))
         (now (out .exit)) r ⌝ }

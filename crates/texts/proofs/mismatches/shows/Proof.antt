@@ -5,8 +5,8 @@ use Rattle.texts.proofs.mismatches.shows.Statement.{statement}
 use Rattle.texts.proofs.mismatches.shows.Tie as tie
 use Rattle.texts.proofs.mismatches.shows.Reads as reads
 use Rattle.texts.proofs.mismatches.shows.Lts as lts
-use Rattle.texts.proofs.mismatches.is_name_in.Reads as is-name-in-reads
-use Rattle.texts.proofs.mismatches.is_place_in.Reads as is-place-in-reads
+use Rattle.texts.proofs.shown_slots.is_name_in.Reads as is-name-in-reads
+use Rattle.texts.proofs.shown_slots.is_place_in.Reads as is-place-in-reads
 use Rattle.texts.proofs.rows.spaces_end.Reads as spaces-end-reads
 use Rattle.texts.proofs.rows.trimmed.Reads as trimmed-reads
 

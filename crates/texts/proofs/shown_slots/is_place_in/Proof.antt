@@ -1,9 +1,9 @@
 use Rattle.texts.proofs.CellNames.{place-long, place-fixed}
 use mathlib.Core.Path.{refl}
-use Rattle.texts.proofs.mismatches.is_place_in.Statement.{statement}
-use Rattle.texts.proofs.mismatches.is_place_in.Tie as tie
-use Rattle.texts.proofs.mismatches.is_place_in.Reads as reads
-use Rattle.texts.proofs.mismatches.is_place_in.Lts as lts
+use Rattle.texts.proofs.shown_slots.is_place_in.Statement.{statement}
+use Rattle.texts.proofs.shown_slots.is_place_in.Tie as tie
+use Rattle.texts.proofs.shown_slots.is_place_in.Reads as reads
+use Rattle.texts.proofs.shown_slots.is_place_in.Lts as lts
 
 returns : tie.Need-returns
 returns c = let a = c .before .before .args in place-long (a .long) (a .bits) (a .p) (c .if1 .taken)

@@ -1,10 +1,10 @@
 use Rattle.texts.proofs.CellNames.{name-label, name-short}
 use mathlib.Core.Path.{sym, _∙_}
 use borrow.Author.Needs.{needs}
-use Rattle.texts.proofs.mismatches.is_name_in.Statement.{statement}
-use Rattle.texts.proofs.mismatches.is_name_in.Tie as tie
-use Rattle.texts.proofs.mismatches.is_name_in.Reads as reads
-use Rattle.texts.proofs.mismatches.is_name_in.Lts as lts
+use Rattle.texts.proofs.shown_slots.is_name_in.Statement.{statement}
+use Rattle.texts.proofs.shown_slots.is_name_in.Tie as tie
+use Rattle.texts.proofs.shown_slots.is_name_in.Reads as reads
+use Rattle.texts.proofs.shown_slots.is_name_in.Lts as lts
 use Rattle.names.proofs.words.same_words.Reads as same-words-reads
 
 sub-same-words : tie.Need-sub-same-words

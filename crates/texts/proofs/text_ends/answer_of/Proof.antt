@@ -1,0 +1,4 @@
+use Rattle.texts.proofs.text_ends.answer_of.Statement.{statement}
+
+pub answer-of-spec : {M : Type 1} → statement M
+answer-of-spec 𝓤 H 𝓜 𝓖 𝓡 = ?
