@@ -1,6 +1,6 @@
 -- The end of a text: the lowest refusal, and the table.
 use mathlib.Core.Path.{_≡_, refl, ap, ap₂, sym, _∙_, subst}
-use mathlib.Core.Bool.{Bool, true, false, cond}
+use mathlib.Core.Bool.{Bool, true, false, cond, _||_, not}
 use mathlib.Core.List.{List, [], _∷_, _++_, append-assoc, append-nil}
 use mathlib.Core.Option.{Option, none, some}
 use Prim.Native.Nat.{ℕ, suc, _+_, _-_, _≤_, _<_}
@@ -9,8 +9,9 @@ use lib.Dec.{ltb, eqb}
 use lib.ListN.{length, take, drop, length-append, length-drop, take-append-drop}
 use lib.Seq.{take-append-seam, drop-append-seam, length-take-le}
 use native.Mathlib.Nat.{sub-zero}
-use borrow.Author.Tests.{lt-ltb, le-ltb, eq-eqb, ne-eqb}
-use Rattle.base.specs.Lists.{isEmpty, joined}
+use borrow.Author.Tests.{lt-ltb, le-ltb, eq-eqb, ne-eqb, eqb-true}
+use Rattle.base.specs.Lists.{isEmpty, joined, between}
+use Rattle.base.proofs.Lists.{and-left, and-right, between-true}
 use Rattle.base.specs.Writes.{Writes}
 use Rattle.base.proofs.Writing.{writes-join}
 use Rattle.rules.specs.Answers.{Answer, accepted, refused}
@@ -43,6 +44,7 @@ module _ (f : fold.Found) (r : Reading) (c : Counts f r) where
       ap (λ (p : ℕ). some (refused 3 p)) n
 
   remain-is : noteOf (remainNote r) ≡ fold.uncelled f
+  unfolding noteOf
   remain-is =
       let n : r .lines + 1 ≡ suc (f .lines) = (let q = c .lines in omega (arith, q)) in
       go (ltb (r .fields) (r .cells))
@@ -51,7 +53,6 @@ module _ (f : fold.Found) (r : Reading) (c : Counts f r) where
       (c .cells)
     where
       go : (b : Bool) → noteOf (cond b (note 7 (r .lines + 1)) (note 0 0)) ≡ cond b (some (refused 7 (r .lines + 1))) none
-      unfolding noteOf
       go true = refl
       go false = refl
 
@@ -116,6 +117,34 @@ unfolding noteOf
 note-none a e = rw (eq-eqb (a .number) 0 e) refl
 
 -- ── a refusal ──
+
+told-is : (a : Note) → isTold (noteOf a) ≡ true → eqb (a .number) 0 ≡ false
+    → isTold (some (refused (a .number) (a .place))) ≡ true
+unfolding noteOf
+told-is a t e = rw e at t
+
+-- 4 has no place
+pub told-four : (a : Note) → isTold (noteOf a) ≡ true → eqb (a .number) 0 ≡ false → a .number ≡ 4 → a .place ≡ 0
+told-four a t e n =
+    let k = and-right (between 3 (a .number) 10) _ (told-is a t e) in
+    eqb-true (a .place) 0 (go (a .number) n k)
+  where
+    go : (m : ℕ) → m ≡ 4 → (not (eqb m 4) || eqb (a .place) 0) ≡ true → eqb (a .place) 0 ≡ true
+    go m z k = rw z at k
+
+-- and the number is one of 3 to 10
+low-half : (n : ℕ) → 3 ≤ n → (n ≡ 3 → ⊥) → (n ≡ 4 → ⊥) → (n ≡ 5 → ⊥) → (n ≡ 6 → ⊥) → 7 ≤ n
+low-half n le a b c d = omega arith
+
+pub none-other : (n : ℕ) → (3 ≤ n) × (n ≤ 10) → (n ≡ 3 → ⊥) → (n ≡ 4 → ⊥) → (n ≡ 5 → ⊥) → (n ≡ 6 → ⊥)
+    → (n ≡ 7 → ⊥) → (n ≡ 8 → ⊥) → (n ≡ 9 → ⊥) → (n ≡ 10 → ⊥) → ⊥
+none-other n h a b c d e f g i = high n (low-half n (h .0) a b c d) (h .1) e f g i
+  where
+    high : (m : ℕ) → 7 ≤ m → m ≤ 10 → (m ≡ 7 → ⊥) → (m ≡ 8 → ⊥) → (m ≡ 9 → ⊥) → (m ≡ 10 → ⊥) → ⊥
+    high m lo hi e f g i = omega arith
+
+pub told-one : (a : Note) → isTold (noteOf a) ≡ true → eqb (a .number) 0 ≡ false → (3 ≤ a .number) × (a .number ≤ 10)
+told-one a t e = between-true 3 (a .number) 10 (and-left (between 3 (a .number) 10) _ (told-is a t e))
 
 pub end-refused : (k : fold.Kept) (out : List ℕ) (a : Answer) → fold.lowestOf k ≡ some a
     → leaves a out ≡ fold.finish k out

@@ -117,11 +117,11 @@ module _ (f : fold.Found) (r : Reading) {cells table after : List ℕ} {labels s
       ∙ ap (λ (l : List (Field ℕ)). length (joined storedSlot (take (length l) (f .cells)))) none-yet
       ∙ ap (λ (l : List (Field ℕ)). length (joined storedSlot (take (length l) cs))) (sym none-yet)
 
-  pub holds-few : length (f .cells) + length (slotsIn row) ≤ fieldsMost
+  pub holds-few : (count : ℕ) → count ≡ length (slotsIn row) → length (f .cells) + length (slotsIn row) ≤ fieldsMost
       → Holds (fold.withRow f (some row))
-      (changed (withHead r (r .width) (r .name) (r .end) (r .cells + length (slotsIn row)) next) (r .lines + 1)
+      (changed (withHead r (r .width) (r .name) (r .end) (r .cells + count) next) (r .lines + 1)
       at.RowBorder (r .note)) after table labels shorts names
-  holds-few few =
+  holds-few count is few =
       let n : length (f .cells ++ slotsIn row) ≡ length (f .cells) + length (slotsIn row) =
       length-append (f .cells) (slotsIn row) in
       let b : ltb fieldsMost (length (f .cells ++ slotsIn row)) ≡ false =
@@ -133,7 +133,7 @@ module _ (f : fold.Found) (r : Reading) {cells table after : List ℕ} {labels s
           stage = refl;
           width = h .counts .width;
           name = h .counts .name;
-          cells = (let e = h .counts .cells in omega (arith, n, e));
+          cells = (let e = h .counts .cells in omega (arith, n, e, is));
           count = h .counts .count;
           fields = h .counts .fields;
           rested = h .counts .rested;

@@ -1,11 +1,12 @@
 -- What the code keeps behind a right line of which it keeps nothing, and behind a wrong line.
-use mathlib.Core.Path.{_≡_, refl, ap, sym, _∙_}
+use mathlib.Core.Path.{_≡_, refl, ap, sym, _∙_, subst}
 use mathlib.Core.Bool.{Bool, true, false, cond}
 use mathlib.Core.List.{List, [], _∷_, _++_, append-nil}
 use mathlib.Core.Option.{Option, none, some, Option·none-ne-some}
 use Prim.Native.Nat.{ℕ, suc, _+_, _≤_}
 use native.Mathlib.Omega.{arith}
-use lib.Dec.{ltb}
+use lib.Dec.{ltb, eqb}
+use borrow.Author.Tests.{ne-eqb}
 use lib.ListN.{length, take, length-append}
 use Rattle.base.specs.Lists.{same, any, joined, isEmpty}
 use Rattle.base.specs.Writes.{Writes}
@@ -35,6 +36,11 @@ empty-nil (x ∷ l) e = absurd (omega (arith, e))
 pub filled-nil : (l : List ℕ) → (length l ≡ 0 → ⊥) → isEmpty l ≡ false
 filled-nil [] e = absurd (e refl)
 filled-nil (x ∷ l) e = refl
+
+pub same-nil : (l : List ℕ) → eqb (length l) 0 ≡ same l []
+unfolding same
+same-nil [] = refl
+same-nil (x ∷ l) = ne-eqb (length (x ∷ l)) 0 (λ e. absurd (omega (arith, e)))
 
 -- ── safe ──
 
@@ -134,3 +140,10 @@ module _ (f : fold.Found) (r : Reading) {cells table : List ℕ} {labels shorts 
           (cond b (changed r (r .lines + 1) s (r .note)) (madeWrong r)) cells table labels shorts names
       go true = holds-onward s
       go false = holds-wrong
+
+-- the line of the stage
+pub line-at : (f : fold.Found) (l : List ℕ) (s : fold.Stage) {q : Reading} {cells table : List ℕ}
+    {labels shorts names : List (List ℕ)} → f .stage ≡ s → Holds (fold.linedAt s f l) q cells table labels shorts names
+    → Holds (fold.lined f l) q cells table labels shorts names
+line-at f l s {q} {cells} {table} {labels} {shorts} {names} e h =
+    subst (λ (z : fold.Stage). Holds (fold.linedAt z f l) q cells table labels shorts names) (sym e) h

@@ -37,5 +37,4 @@ mod text_bytes;
 mod text_ends;
 mod units;
 mod walks;
-mod whole_texts;
 mod widths;

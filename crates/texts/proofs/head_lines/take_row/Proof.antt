@@ -92,8 +92,8 @@ returns-3 c =
     rw (c .onward2 .ensures) (
       (room-row r _ _ room (omega (arith, c .before .before .before .if1 .left, room .cells)) (omega (arith, p .writes .end, n, p .count, room
           .slots)) (omega (arith, p .writes .end)), omega arith),
-      (λ table f labels shorts names k b h. rw (e f (h .counts .width), p .count) (holds-few f r h (k .head b) (p .row)
-      (p .writes) (omega (arith, c .before .before .before .if1 .left, room .cells, p .count, h .counts .cells)))),
+      (λ table f labels shorts names k b h. rw (e f (h .counts .width)) (holds-few f r h (k .head b) (p .row)
+      (p .writes) _ (p .count) (omega (arith, c .before .before .before .if1 .left, room .cells, p .count, h .counts .cells)))),
     )
 
 pub take-row-spec : {M : Type 1} → statement M
