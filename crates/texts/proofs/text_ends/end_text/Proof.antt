@@ -1,8 +1,8 @@
 use mathlib.Core.Path.{sym, ap, _∙_}
 use native.Mathlib.Omega.{arith}
+use denote.Ref.{now}
 use borrow.Author.Tests.{ne-eqb}
-use Rattle.rules.specs.Answers.{Answer, refused, ofText}
-use Rattle.rules.specs.Promises.{leaves}
+use Rattle.rules.specs.Answers.{refused, ofText}
 use Rattle.texts.specs.States.{isTold}
 use Rattle.texts.proofs.EndSteps.{last-told, last-is, note-refused, note-none, end-refused, end-short, end-table}
 use borrow.Author.Needs.{needs}
@@ -29,7 +29,8 @@ returns c =
     λ k cells labels shorts names e h.
     let low = sym (last-is (k .found) r (h .counts) (k .line) (c .before .before .before .before .before .before .args .whole) e) ∙ sym (c .before .before .before .last-note .ensures)
     ∙ note-refused l (c .before .if1 .taken) in
-    ap (λ (a : Answer). leaves a _) (c .answer-of .ensures) ∙ end-refused k _ (refused (l .number) (l .place)) low
+    rw (c .answer-of .ensures) (end-refused k (now (c .before .before .before .before .before .before .args .out))
+    (refused (l .number) (l .place)) low)
 
 add-size : tie.Need-add-size
 add-size c = let q = c .before .before .before .before .before .before .pre .0 .end in let z = c .before .before .before .before .before .before .pre .0 .fields in let w = c .before .before .before .before .before .before .pre .0 .count in omega (arith, q, z, w)
