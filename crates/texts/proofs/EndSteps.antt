@@ -1,7 +1,7 @@
 -- The end of a text: the lowest refusal, and the table.
-use mathlib.Core.Path.{_≡_, refl, ap, ap₂, sym, _∙_, subst}
+use mathlib.Core.Path.{_≡_, refl, ap, ap₂, sym, _∙_}
 use mathlib.Core.Bool.{Bool, true, false, cond, _||_, not}
-use mathlib.Core.List.{List, [], _∷_, _++_, append-assoc, append-nil}
+use mathlib.Core.List.{List, [], _++_, append-assoc, append-nil}
 use mathlib.Core.Option.{Option, none, some}
 use Prim.Native.Nat.{ℕ, suc, _+_, _-_, _≤_, _<_}
 use native.Mathlib.Omega.{arith}
@@ -16,9 +16,9 @@ use Rattle.base.specs.Writes.{Writes}
 use Rattle.base.proofs.Writing.{writes-join}
 use Rattle.rules.specs.Answers.{Answer, accepted, refused}
 use Rattle.rules.specs.Trees.{le2}
-use Rattle.rules.specs.Fields.{Field, Description}
+use Rattle.rules.specs.Fields.{Field}
 use Rattle.rules.specs.Stored.{counted, recordOf, storedField, storedIn, headBody, stored}
-use Rattle.rules.specs.Promises.{Outcome, leaves, overlaid, delivered}
+use Rattle.rules.specs.Promises.{leaves, overlaid, delivered}
 use Rattle.text_laws.specs.Lowest.{lower}
 use Rattle.text_laws.specs.Fold as fold
 use Rattle.text_laws.proofs.Loose.{lowest-clear}

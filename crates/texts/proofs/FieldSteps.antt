@@ -1,38 +1,35 @@
 -- What the code keeps behind a field line.
 use mathlib.Core.Path.{_≡_, refl, ap, ap₂, sym, _∙_, subst}
-use mathlib.Core.Bool.{Bool, true, false, cond, _&&_, _||_, not}
+use mathlib.Core.Bool.{Bool, true, false, cond, _||_}
 use mathlib.Core.List.{List, [], _∷_, _++_, append-assoc}
 use mathlib.Core.Option.{Option, none, some, Option·none-ne-some}
-use Prim.Native.Nat.{ℕ, suc, _+_, _*_, _≤_, _<_}
+use Prim.Native.Nat.{ℕ, suc, _+_}
 use native.Mathlib.Omega.{arith}
 use lib.Dec.{ltb, leb, eqb}
 use borrow.Author.Tests.{eqb-true}
-use lib.ListN.{length, take, drop, length-append, length-map, getElem?}
-use Rattle.base.specs.Lists.{all, any, joined, ifAny}
+use lib.ListN.{length, take, length-append, length-map, getElem?}
+use Rattle.base.specs.Lists.{any, joined, ifAny}
 use Rattle.base.specs.Writes.{Writes}
 use Rattle.base.proofs.Joined.{joined-append, joined-one}
-use Rattle.base.proofs.Lists.{and-left, and-right}
-use Rattle.rules.specs.Limits.{fieldsMost, labelMost}
+use Rattle.rules.specs.Limits.{fieldsMost}
 use Rattle.rules.specs.Answers.{Answer, refused}
 use Rattle.rules.specs.Names.{isShort}
 use Rattle.rules.specs.Fields.{Width, fixed, measured, rest, Field, Form, isRest, isRestWidth}
-use Rattle.rules.specs.Frames.{Slot}
 use Rattle.rules.specs.Stored.{storedField}
-use Rattle.rules.specs.Within.{keepsSize}
 use Rattle.text_laws.specs.LineReader.{readForm}
 use Rattle.text_laws.specs.Lowest.{lower, broken}
-use Rattle.text_laws.specs.Judging.{faceWidth, face, faces, resolvedIn, rules, Judged, isOpen, isMany, isFull, many, grown}
+use Rattle.text_laws.specs.Judging.{faceWidth, face, faces, resolvedIn, rules, Judged, isOpen, isMany, isFull, many}
 use Rattle.text_laws.specs.Judging.{withForm, judge}
 use Rattle.text_laws.specs.Fold as fold
 use Rattle.text_laws.specs.Steady.{StandIn, Steady}
-use Rattle.text_laws.specs.Resolving.{indexOf, renameField}
+use Rattle.text_laws.specs.Resolving.{indexOf}
 use Rattle.text_laws.proofs.Loose.{faces-append, lower-left}
 use Rattle.text_laws.proofs.Faces.{renamed-face}
 use Rattle.texts.specs.Noted.{noteOf}
 use Rattle.texts.specs.Slots.{storedSlot}
 use Rattle.texts.specs.Records.{indexed}
-use Rattle.texts.specs.States.{note, changed, withLine, lineRefused, lineKept, isFullAs, laterNote, NamedWith, heldName}
-use Rattle.texts.specs.States.{Counts, Slots, Records, Named, Holds}
+use Rattle.texts.specs.States.{note, changed, withLine, lineRefused, lineKept, isFullAs, NamedWith}
+use Rattle.texts.specs.States.{Counts, Named, Holds}
 use Rattle.texts.specs.declared.notes.Note.{Note}
 use Rattle.texts.specs.declared.states.Stage.the-variants as at
 use Rattle.texts.specs.declared.states.Reading.{Reading}

@@ -2,21 +2,17 @@
 use mathlib.Core.Path.{_≡_, refl, ap, sym, _∙_, subst}
 use mathlib.Core.Bool.{Bool, true, false, cond, _&&_, _||_, not}
 use mathlib.Core.List.{List, [], _∷_, _++_}
-use mathlib.Core.Option.{Option, none, some, Option·some-injective}
-use Prim.Native.Nat.{ℕ, zero, suc, _+_, _≤_, _<_}
+use mathlib.Core.Option.{none, some, Option·some-injective}
+use Prim.Native.Nat.{ℕ, zero, suc, _+_}
 use native.Mathlib.Omega.{arith}
 use lib.Dec.{eqb}
 use lib.ListN.{length, getD, getElem?, length-map}
 use Rattle.base.specs.Lists.{all, any, ifAny, isNone}
 use Rattle.base.proofs.Lists.{and-left, and-right}
-use Rattle.rules.specs.Limits.{labelMost, shortMost}
-use Rattle.rules.specs.Answers.{Answer, refused}
+use Rattle.rules.specs.Answers.{refused}
 use Rattle.rules.specs.Names.{isLabel, isShort}
-use Rattle.rules.specs.Trees.{isSmall}
-use Rattle.rules.specs.Fields.{Field, Form, isFixed, isRest, trees}
-use Rattle.rules.specs.Stored.{storedName}
+use Rattle.rules.specs.Fields.{Field, Form, isFixed, isRest}
 use Rattle.rules.specs.Within.{isFormed, clash, keepsNames, keepsTypes, keepsRest, nameReadable}
-use Rattle.names.specs.Repeats.{padTo}
 use Rattle.text_laws.specs.LineReader.{readForm}
 use Rattle.text_laws.specs.Lowest.{broken}
 use Rattle.text_laws.specs.Judging.{face, faces, showsCell}
@@ -26,11 +22,10 @@ use Rattle.text_laws.proofs.FormExact.{form-sound}
 use Rattle.texts.specs.HeldNames.{anyClash}
 use Rattle.texts.specs.LinePlaces.{PartsAre}
 use Rattle.texts.specs.LineTests.{typesKept}
-use Rattle.texts.specs.Noted.{noteOf}
-use Rattle.texts.specs.States.{note, laterNote, NamedWith, Counts}
+use Rattle.texts.specs.States.{laterNote, NamedWith, Counts}
 use Rattle.texts.specs.declared.parts.Parts.{Parts}
 use Rattle.texts.specs.declared.states.Reading.{Reading}
-use Rattle.texts.proofs.HeldArrays.{snoc-each, element-front, element-last, named-front}
+use Rattle.texts.proofs.HeldArrays.{snoc-each, element-last, named-front}
 use Rattle.texts.proofs.HeldClashes.{clash-any}
 use Rattle.texts.proofs.HeldNames.{types-here}
 use Rattle.texts.proofs.LineRules.{fixed-kind, none-size}

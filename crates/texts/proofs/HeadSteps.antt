@@ -1,41 +1,33 @@
 -- What the code keeps behind the lines of the head that hold NAME, W and cells.
 use mathlib.Core.Path.{_≡_, refl, ap, sym, _∙_}
 use mathlib.Core.Bool.{Bool, true, false, cond, _&&_}
-use mathlib.Core.List.{List, [], _∷_, _++_, append-nil}
-use mathlib.Core.Option.{Option, none, some, Option·none-ne-some}
-use Prim.Native.Nat.{ℕ, suc, _+_, _-_, _*_, _≤_, _<_}
+use mathlib.Core.List.{List, [], append-nil}
+use mathlib.Core.Option.{Option, none, some}
+use Prim.Native.Nat.{ℕ, _+_, _-_, _*_, _≤_, _<_}
 use native.Mathlib.Omega.{arith}
-use lib.Dec.{ltb, leb, eqb}
-use lib.ListN.{length, take, drop, length-append, length-drop}
+use lib.Dec.{ltb, leb}
+use lib.ListN.{length, take, drop, length-drop}
 use lib.Seq.{take-all}
 use borrow.Author.Tests.{leb-true, ltb-true, ltb-false, ne-eqb}
 use Rattle.base.specs.Bytes.{bytes}
-use Rattle.base.specs.Lists.{same, any, joined}
+use Rattle.base.specs.Lists.{same, joined}
 use Rattle.base.specs.Writes.{Writes}
 use Rattle.base.proofs.Lists.{and-left, and-right, not-both}
 use Rattle.base.proofs.Scans.{same-length}
 use Rattle.rules.specs.Limits.{fieldsMost, labelMost}
-use Rattle.rules.specs.Answers.{refused}
 use Rattle.rules.specs.Names.{isLabel}
-use Rattle.rules.specs.Fields.{Field, Form, isRest}
-use Rattle.rules.specs.Frames.{Row, Slot, slotsIn, tens}
-use Rattle.rules.specs.Stored.{storedField}
+use Rattle.rules.specs.Frames.{tens}
 use Rattle.text_laws.specs.FrameReader.{closing, readName, readTens}
-use Rattle.text_laws.specs.Judging.{face, faces, Judged, many}
+use Rattle.text_laws.specs.Judging.{faces}
 use Rattle.text_laws.specs.Fold as fold
-use Rattle.text_laws.specs.Steady.{StandIn}
 use Rattle.texts.specs.FramePlaces.{isSome, widthOr, nameBehind}
-use Rattle.texts.specs.Noted.{noteOf}
-use Rattle.texts.specs.Slots.{storedSlot}
-use Rattle.texts.specs.States.{changed, withHead, slotMost, Room, stageOf, Counts, Slots, Records, Holds}
-use Rattle.texts.specs.declared.notes.Note.{Note}
-use Rattle.texts.specs.declared.states.Stage.{Stage}
+use Rattle.texts.specs.States.{changed, withHead, slotMost, Room, Holds}
 use Rattle.texts.specs.declared.states.Stage.the-variants as at
 use Rattle.texts.specs.declared.states.Reading.{Reading}
 use Rattle.writing.specs.Puts.{placed, put}
 use Rattle.writing.proofs.PutLaws.{put-writes}
 use Rattle.texts.proofs.FrameLeaves.{name-short, take-rest}
-use Rattle.texts.proofs.StateSteps.{next-line, room-changed}
+use Rattle.texts.proofs.StateSteps.{next-line}
 
 -- ── the opening line ──
 

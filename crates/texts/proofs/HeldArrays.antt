@@ -1,14 +1,14 @@
 -- Names held in arrays: one more at the end, and the fields that stand in for forms.
-use mathlib.Core.Path.{_≡_, refl, ap, sym, _∙_, subst}
+use mathlib.Core.Path.{_≡_, refl, sym, _∙_, subst}
 use mathlib.Core.List.{List, [], _∷_, _++_}
-use mathlib.Core.Bool.{Bool, true, false, cond}
-use mathlib.Core.Option.{Option, none, some, Option·some-injective}
-use Prim.Native.Nat.{ℕ, zero, suc, _≤_, _<_}
+use mathlib.Core.Bool.{cond}
+use mathlib.Core.Option.{some, Option·some-injective}
+use Prim.Native.Nat.{ℕ, zero, suc, _<_}
 use native.Mathlib.Omega.{arith}
-use lib.ListN.{length, getD, set, getElem?, length-set}
+use lib.ListN.{length, getD, set, getElem?}
 use lib.Seq.{getD-set-same, getD-set-other}
-use Rattle.rules.specs.Limits.{fieldsMost, labelMost, shortMost}
-use Rattle.rules.specs.Fields.{Width, fixed, measured, rest, Field, Form, isFixed, isFixedWidth}
+use Rattle.rules.specs.Limits.{labelMost, shortMost}
+use Rattle.rules.specs.Fields.{Width, fixed, measured, rest, Form, isFixedWidth}
 use Rattle.rules.specs.Stored.{storedName}
 use Rattle.names.specs.Repeats.{padTo}
 use Rattle.text_laws.specs.Judging.{faceWidth, face}

@@ -1,13 +1,12 @@
 -- A field's names held against those of earlier fields: the search, and what it says of the fields.
 use mathlib.Core.Path.{_≡_, refl, ap, sym, _∙_}
-use mathlib.Core.Bool.{Bool, true, false, _||_}
+use mathlib.Core.Bool.{Bool, true, false}
 use mathlib.Core.List.{List, []}
-use mathlib.Core.Option.{some}
+use mathlib.Core.Option.{Option, none, some}
 use Prim.Native.Nat.{ℕ, _+_, _-_, _≤_, _<_}
 use native.Mathlib.Omega.{arith}
 use native.Mathlib.Nat.{sub-zero}
-use lib.Dec.{ltb}
-use lib.ListN.{length, take, getD, getElem?}
+use lib.ListN.{length, getD, getElem?}
 use lib.Seq.{take-length}
 use borrow.Author.Tests.{lt-ltb, le-ltb}
 use Rattle.base.specs.Lists.{any, same, ifAny}
@@ -15,13 +14,12 @@ use Rattle.rules.specs.Limits.{labelMost, shortMost}
 use Rattle.rules.specs.Names.{isLabel, isShort}
 use Rattle.rules.specs.Fields.{Form}
 use Rattle.rules.specs.Stored.{storedName}
-use Rattle.rules.specs.Within.{clash}
+use Rattle.rules.specs.Within.{clash, sameShort}
 use Rattle.names.specs.Repeats.{firstFrom, padTo, sameName}
-use Rattle.names.proofs.PadLaws.{label-same}
+use Rattle.names.proofs.PadLaws.{label-same, held-same, none-first, none-second}
 use Rattle.texts.specs.HeldNames.{clashHeld, anyClash}
 use Rattle.texts.proofs.FirstBreaks.{any-search}
 use Rattle.texts.proofs.LineSearches.{search-found, search-next, search-none}
-use Rattle.texts.proofs.LineClashes.{held-alike}
 
 -- ── the search ──
 
@@ -61,6 +59,12 @@ clash-next labels shorts label short n i lt so h =
     (omega arith, search-next (clashHeld labels shorts label short) n i lt (so .1) h)
 
 -- ── the fields whose names are held ──
+
+held-alike : (a b : Option (List ℕ)) → ifAny isShort a ≡ true → ifAny isShort b ≡ true
+    → sameName (padTo shortMost (storedName a)) (padTo shortMost (storedName b)) ≡ sameShort a b
+held-alike none b p q = none-first (padTo shortMost (storedName b))
+held-alike (some a) none p q = none-second a p
+held-alike (some a) (some b) p q = held-same a b p q
 
 -- label and short name have their form
 abbrev pub Named : Form → Type 0

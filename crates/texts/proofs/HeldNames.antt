@@ -16,7 +16,7 @@ use Rattle.rules.specs.declared.ValueType.the-variants.{Number, YesNo}
 use Rattle.rules.specs.Limits.{shortMost}
 use Rattle.rules.specs.Names.{isShort}
 use Rattle.rules.specs.Trees.{Tree, hasType}
-use Rattle.rules.specs.Fields.{Width, fixed, measured, rest, Field, Form, isFixed, readNames, widthTrees}
+use Rattle.rules.specs.Fields.{Width, fixed, measured, rest, Form, isFixed, readNames, widthTrees}
 use Rattle.rules.specs.Stored.{storedName}
 use Rattle.rules.specs.Within.{keepsNames, keepsTypes, widthHasType, nameReadable}
 use Rattle.names.specs.Repeats.{firstFrom, padTo, sameName}
@@ -28,10 +28,9 @@ use Rattle.texts.specs.Records.{indexed}
 use Rattle.text_laws.specs.Resolving.{indexOf, renameField}
 use Rattle.text_laws.proofs.NamedRules.{name-unique}
 use Rattle.text_laws.proofs.NamedTypes.{any-element}
-use Rattle.texts.proofs.FirstBreaks.{any-search}
+use Rattle.texts.proofs.FirstBreaks.{any-search, search-hit}
 use Rattle.texts.proofs.LineRules.{element-at}
 use Rattle.texts.proofs.LineTypes.{allNames, type-same, ShortNames}
-use Rattle.texts.proofs.TableIndexes.{search-hit}
 use Rattle.text_laws.proofs.Resolved.{same-width, same-maybe}
 
 -- ── what may be read ──

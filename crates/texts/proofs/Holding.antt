@@ -1,23 +1,23 @@
 -- What the code writes of one field line stands in for the field that the fold keeps: the step of the code's invariant.
 -- The code writes `indexed names n x`, with names held by value; the fold keeps `resolvedIn fields x`.
 use mathlib.Core.Path.{_≡_, refl, ap, ap₂, sym, _∙_}
-use mathlib.Core.Bool.{Bool, true, false, cond}
+use mathlib.Core.Bool.{true}
 use mathlib.Core.List.{List, [], _∷_, _++_}
-use mathlib.Core.Option.{Option, none, some, Option·none-ne-some}
+use mathlib.Core.Option.{Option, none, some}
 use Prim.Native.Nat.{ℕ}
 use lib.ListN.{length, length-map, getD, getElem?}
 use Rattle.base.specs.Lists.{ifAny, firstBreak}
 use Rattle.rules.specs.Answers.{Answer, refused}
 use Rattle.rules.specs.Names.{isShort}
 use Rattle.rules.specs.Fields.{Width, fixed, measured, rest, Field, Form}
-use Rattle.rules.specs.Within.{keepsSize, keepsNames, keepsTypes, keepsRest, nameReadable}
+use Rattle.rules.specs.Within.{keepsNames, keepsTypes, nameReadable}
 use Rattle.rules.specs.Frames.{Slot}
 use Rattle.texts.specs.Records.{indexed}
 use Rattle.texts.specs.States.{heldName}
 use Rattle.text_laws.specs.Resolving.{indexOf, renameWidth}
 use Rattle.texts.proofs.LineTypes.{ShortNames}
 use Rattle.text_laws.specs.Lowest.{lower, broken}
-use Rattle.text_laws.specs.Judging.{faceWidth, face, faces, resolvedIn, showsCell, rules, Judged, isOpen}
+use Rattle.text_laws.specs.Judging.{faceWidth, face, faces, resolvedIn, rules, Judged, isOpen}
 use Rattle.text_laws.specs.Judging.{withForm}
 use Rattle.text_laws.proofs.Steadiness.{rules-clear, lower-right, unique-more}
 use Rattle.text_laws.specs.Steady.{StandIn, Clear}

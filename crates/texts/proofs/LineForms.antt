@@ -1,22 +1,21 @@
 -- Facts of one field line: its form by its parts, its names as they are held, room for it.
 use mathlib.Core.Path.{_≡_, refl, ap, sym, _∙_, subst}
-use mathlib.Core.Bool.{Bool, true, false, cond, _&&_, _||_, not}
-use mathlib.Core.List.{List, [], _∷_, _++_}
+use mathlib.Core.Bool.{Bool, true, false, cond, _||_, not}
+use mathlib.Core.List.{List, []}
 use mathlib.Core.Option.{Option, none, some}
-use Prim.Native.Nat.{ℕ, suc, _+_, _*_, _≤_, _<_}
+use Prim.Native.Nat.{ℕ, suc, _+_, _≤_, _<_}
 use native.Mathlib.Omega.{arith}
 use lib.Dec.{ltb, leb, eqb}
 use lib.ListN.{length, take, drop, set, length-set, length-map}
 use borrow.Author.Tests.{leb-true, leb-false, ne-eqb}
-use Rattle.base.specs.Lists.{all, any, ifAny, between, headIs}
+use Rattle.base.specs.Lists.{all, any, ifAny, headIs}
 use Rattle.base.proofs.Lists.{and-left, and-right, true-between, or-false-right}
-use Rattle.rules.specs.Limits.{fieldsMost, labelMost, shortMost, storedMost}
+use Rattle.rules.specs.Limits.{fieldsMost, labelMost, shortMost}
 use Rattle.rules.specs.Answers.{Answer, refused}
-use Rattle.rules.specs.Names.{isLabel, isShort, isLetter, isWordByte}
+use Rattle.rules.specs.Names.{isShort, isLetter, isWordByte}
 use Rattle.rules.specs.Trees.{isSmall}
 use Rattle.rules.specs.Fields.{Width, fixed, measured, rest, Form, isFixed, isRest, trees}
 use Rattle.rules.specs.Stored.{storedName}
-use Rattle.rules.specs.Within.{keepsSize}
 use Rattle.names.specs.Repeats.{padTo}
 use Rattle.text_laws.specs.LineReader.{readForm}
 use Rattle.text_laws.specs.Lowest.{lower, broken}
@@ -27,7 +26,7 @@ use Rattle.writing.specs.declared.spans.Span.{Span}
 use Rattle.texts.specs.LinePlaces.{spanOf, spanIn, Fits, WidthIs, ShortIs, PartsAre, PartsFor}
 use Rattle.texts.specs.LineTests.{heldShort}
 use Rattle.texts.specs.Noted.{noteOf}
-use Rattle.texts.specs.Records.{fieldSize, widthSize}
+use Rattle.texts.specs.Records.{fieldSize}
 use Rattle.texts.specs.States.{note, heldName, Named, NamedWith, laterNote, isTold, isFullAs, lineRefused, lineKept}
 use Rattle.texts.specs.States.{recordMost, Room, Counts}
 use Rattle.texts.specs.declared.notes.Note.{Note}

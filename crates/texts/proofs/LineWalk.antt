@@ -1,19 +1,20 @@
 -- The lines of a text, one by one: what is left decides.
 use mathlib.Core.Path.{_≡_, refl, ap, ap₂, sym, _∙_, subst}
 use mathlib.Core.Bool.{Bool, true, false}
-use mathlib.Core.List.{List, [], _∷_, _++_, foldl}
-use mathlib.Core.Option.{none}
+use mathlib.Core.List.{List, [], foldl}
 use Prim.Native.Nat.{ℕ, _+_, _-_, _≤_, _<_}
 use native.Mathlib.Omega.{arith}
 use lib.Dec.{eqb}
-use lib.ListN.{length, take, drop, length-drop, getElem?}
+use lib.ListN.{length, take, drop, length-drop}
 use borrow.Author.Tests.{eq-eqb, eqb-true}
 use Rattle.base.proofs.Lists.{not-both}
 use Rattle.base.specs.Lists.{all, isEmpty, joined, any}
 use Rattle.rules.specs.Names.{lineFeed, isAllowed}
-use Rattle.rules.specs.Limits.{fieldsMost}
-use Rattle.rules.specs.Refusals.{Plain}
-use Rattle.rules.specs.Promises.{Outcome, ReadsText}
+use Rattle.rules.specs.Limits.{textMost}
+use Rattle.rules.specs.declared.TextAnswer.{TextAnswer}
+use Rattle.rules.specs.Answers.{ofText}
+use Rattle.rules.specs.Refusals.{Plain, long, byte}
+use Rattle.rules.specs.Promises.{Outcome, ReadsText, refuses, leaves}
 use Rattle.text_laws.specs.FrameReader.{rest, linesOf}
 use Rattle.text_laws.specs.Fold as fold
 use Rattle.text_laws.specs.Steady.{Steady}
@@ -22,8 +23,7 @@ use Rattle.text_laws.proofs.Fed.{kept-lines}
 use Rattle.text_laws.proofs.Steadiness.{steady-start, steady-line}
 use Rattle.texts.specs.FramePlaces.{upTo}
 use Rattle.texts.specs.Noted.{noteOf}
-use Rattle.texts.specs.Slots.{storedSlot}
-use Rattle.texts.specs.States.{begunWith, Room, Begun, Counts, Slots, Records, Named, Holds, LineStep}
+use Rattle.texts.specs.States.{begunWith, Room, Begun, Holds, LineStep}
 use Rattle.texts.specs.declared.states.Reading.{Reading}
 use Rattle.texts.proofs.SplitSteps.{piece-at, rest-at, piece-none}
 use Rattle.texts.proofs.StateSteps.{empty-nil, filled-nil}
@@ -125,3 +125,15 @@ empty-end t at le = go (eqb at (length t)) refl
     go false e =
         filled-nil (drop at t) (λ z. let n = length-drop at t in
         not-both (eqb at (length t)) (eq-eqb at (length t) (omega (arith, n, z, le))) e)
+
+-- ── 1 and 2 ──
+
+module _ (text out : List ℕ) where
+  pub answers-1 : textMost < length text → ReadsText text out (leaves (ofText TextAnswer.TooLong) out)
+  unfolding ofText
+  answers-1 h = refuses (long h)
+
+  pub answers-2 : length text ≤ textMost → (b : Bool) → b ≡ false → b ≡ all isAllowed text → ReadsText text out
+      (leaves (ofText TextAnswer.BadByte) out)
+  unfolding ofText
+  answers-2 le b e h = refuses (byte le (sym h ∙ e))

@@ -28,7 +28,7 @@ use Rattle.texts.proofs.FrameLeaves.{take-rest, pieces-first, pieces-no
 use Rattle.text_laws.proofs.SplitLaws.{endedBy, split-joined}
 use Rattle.texts.specs.FramePlaces.{upTo, isSome}
 use Rattle.base.specs.Lists.{isEmpty, joined}
-use mathlib.Core.Option.{Option, none, some}
+use mathlib.Core.Option.{none, some}
 
 -- ── spaces in front ──
 

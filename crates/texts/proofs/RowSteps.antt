@@ -1,12 +1,12 @@
 -- What the code keeps behind a row.
 use mathlib.Core.Path.{_≡_, refl, ap, sym, _∙_, subst}
-use mathlib.Core.Bool.{Bool, true, false, cond, _&&_}
+use mathlib.Core.Bool.{Bool, true, false}
 use mathlib.Core.List.{List, [], _∷_, _++_}
 use mathlib.Core.Option.{Option, none, some, Option·none-ne-some}
-use Prim.Native.Nat.{ℕ, suc, _+_, _*_, _≤_, _<_}
+use Prim.Native.Nat.{ℕ, _+_, _*_, _≤_, _<_}
 use native.Mathlib.Omega.{arith}
 use lib.Dec.{ltb, leb}
-use lib.ListN.{length, take, drop, length-append, length-take}
+use lib.ListN.{length, take, length-append}
 use lib.Seq.{take-append-seam, take-take, length-take-le}
 use borrow.Author.Tests.{leb-true, lt-ltb, le-ltb}
 use Rattle.base.specs.Lists.{all, joined}
@@ -19,7 +19,6 @@ use Rattle.rules.specs.Names.{isLabel}
 use Rattle.rules.specs.Fields.{Field}
 use Rattle.rules.specs.Frames.{Row, Slot, slotsIn}
 use Rattle.text_laws.specs.FrameReader.{readRow}
-use Rattle.text_laws.specs.Judging.{Judged, many}
 use Rattle.text_laws.specs.Fold as fold
 use Rattle.text_laws.proofs.Bounds.{row-labels}
 use Rattle.text_laws.proofs.RowReader.{Reads, row-sound}
@@ -27,7 +26,7 @@ use Rattle.texts.specs.Noted.{noteOf}
 use Rattle.texts.specs.Slots.{storedSlot, RowedAs}
 use Rattle.texts.specs.declared.slots.Rowed.{Rowed}
 use Rattle.texts.specs.declared.slots.Rowed.the-variants as rowed
-use Rattle.texts.specs.States.{note, changed, withHead, slotMost, Counts, Slots, Records, Holds}
+use Rattle.texts.specs.States.{note, changed, withHead, slotMost, Holds}
 use Rattle.texts.specs.declared.states.Stage.the-variants as at
 use Rattle.texts.specs.declared.states.Reading.{Reading}
 use Rattle.texts.proofs.StateSteps.{next-line}

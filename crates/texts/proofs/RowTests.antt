@@ -10,7 +10,7 @@ use lib.Seq.{drop-cons}
 use borrow.Author.Tests.{eq-eqb, ne-eqb}
 use Rattle.base.specs.Lists.{all, isEmpty, sum}
 use Rattle.rules.specs.Frames.{isCell, bitRow}
-use Rattle.text_laws.specs.FrameReader.{pieces, rest, cellOf, longOf, readRow}
+use Rattle.text_laws.specs.FrameReader.{pieces, rest, cellOf, readRow}
 use Rattle.texts.specs.FramePlaces.{upTo, isSome, isBits}
 use Rattle.texts.proofs.FrameLeaves.{take-rest}
 use Rattle.texts.proofs.RowLeaves.{isLong, row-kept}

@@ -1,6 +1,6 @@
 -- Where the kept cells stand.
 use mathlib.Core.Path.{_≡_, refl, ap, sym, _∙_, subst}
-use mathlib.Core.Bool.{Bool, true, false}
+use mathlib.Core.Bool.{true, false}
 use mathlib.Core.List.{List, [], _∷_, _++_, append-assoc}
 use mathlib.Core.Option.{Option, none, some, Option·some-injective}
 use Prim.Native.Nat.{ℕ, zero, suc, _+_, _≤_, _<_}
@@ -10,7 +10,7 @@ use lib.Seq.{drop-append-seam, take-all}
 use Rattle.base.specs.Lists.{all, joined}
 use Rattle.base.proofs.Lists.{and-left, and-right}
 use Rattle.rules.specs.Names.{isLabel}
-use Rattle.rules.specs.Fields.{Field, Form}
+use Rattle.rules.specs.Fields.{Form}
 use Rattle.rules.specs.Frames.{Slot}
 use Rattle.rules.specs.Spelling.{shows}
 use Rattle.text_laws.specs.Judging.{face, faces, shownBy, showsCell}

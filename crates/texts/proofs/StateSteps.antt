@@ -1,27 +1,19 @@
 -- What the code keeps behind a right line of which it keeps nothing, and behind a wrong line.
-use mathlib.Core.Path.{_≡_, refl, ap, sym, _∙_, subst}
+use mathlib.Core.Path.{_≡_, refl, ap, sym, subst}
 use mathlib.Core.Bool.{Bool, true, false, cond}
-use mathlib.Core.List.{List, [], _∷_, _++_, append-nil}
-use mathlib.Core.Option.{Option, none, some, Option·none-ne-some}
-use Prim.Native.Nat.{ℕ, suc, _+_, _≤_}
+use mathlib.Core.List.{List, [], _∷_}
+use mathlib.Core.Option.{some, Option·none-ne-some}
+use Prim.Native.Nat.{ℕ, suc, _+_}
 use native.Mathlib.Omega.{arith}
-use lib.Dec.{ltb, eqb}
+use lib.Dec.{eqb}
 use borrow.Author.Tests.{ne-eqb}
-use lib.ListN.{length, take, length-append}
-use Rattle.base.specs.Lists.{same, any, joined, isEmpty}
-use Rattle.base.specs.Writes.{Writes}
-use Rattle.rules.specs.Limits.{fieldsMost}
+use lib.ListN.{length}
+use Rattle.base.specs.Lists.{same, isEmpty}
 use Rattle.rules.specs.Answers.{refused}
-use Rattle.rules.specs.Fields.{Field, Form, isRest}
-use Rattle.rules.specs.Frames.{Row, Slot, slotsIn}
-use Rattle.rules.specs.Stored.{storedField}
-use Rattle.text_laws.specs.Judging.{face, faces, Judged, many}
 use Rattle.text_laws.specs.Fold as fold
-use Rattle.text_laws.specs.Steady.{StandIn}
 use Rattle.texts.specs.Noted.{noteOf}
-use Rattle.texts.specs.Slots.{storedSlot}
 use Rattle.texts.specs.States.{note, changed, madeWrong, expected, isTold, Room, Taken}
-use Rattle.texts.specs.States.{stageOf, Counts, Slots, Records, Holds}
+use Rattle.texts.specs.States.{stageOf, Holds}
 use Rattle.texts.specs.declared.notes.Note.{Note}
 use Rattle.texts.specs.declared.states.Stage.{Stage}
 use Rattle.texts.specs.declared.states.Stage.the-variants as at

@@ -1,10 +1,8 @@
 // Texts: where expressions, the parts of field lines and of a frame stand in them. specs/ holds readers that mirror
 // what the code does, proofs/ the theorems on spelling.
-mod clashes;
 mod ends;
 mod expressions;
 mod field_clauses;
-mod field_lines;
 mod form_rules;
 mod head_lines;
 mod held_names;
@@ -14,7 +12,6 @@ mod leaves;
 mod line_rules;
 mod line_steps;
 mod line_types;
-mod mismatches;
 mod name_clashes;
 mod notes;
 mod numbers;
@@ -23,7 +20,6 @@ mod parts;
 mod phrases;
 pub mod reading;
 mod records;
-mod row_cells;
 mod rows;
 mod rulers;
 mod shown_slots;
@@ -32,9 +28,7 @@ mod slots;
 mod states;
 mod stored_nodes;
 mod stored_trees;
-mod tables;
 mod text_bytes;
 mod text_ends;
 mod units;
-mod walks;
 mod widths;

@@ -3,17 +3,21 @@ use crate::notes::Note;
 use crate::notes::lower;
 use crate::states::Reading;
 use crate::states::Stage;
-use crate::tables::put_head;
 use rules::TextAnswer;
 use writing::puts::put;
+use writing::puts::put_counted;
 use writing::puts::put_two;
 ghost use mathlib.Core.Bool.{true, false, cond};
+ghost use mathlib.Core.List.{_++_};
 ghost use mathlib.Core.Path.{_≡_};
 ghost use Prim.Native.Nat.{_+_, _≤_};
 ghost use lib.Dec.{eqb};
 ghost use lib.ListN.{length};
 ghost use Rattle.rules.specs.Answers.{ofText, refused};
+ghost use Rattle.base.specs.Writes.{Writes};
 ghost use Rattle.rules.specs.Limits.{textMost};
+ghost use Rattle.rules.specs.Trees.{le2};
+ghost use Rattle.rules.specs.Stored.{counted, recordOf};
 ghost use Rattle.text_laws.specs.Lowest.{lower};
 ghost use Rattle.texts.specs.Noted.{noteOf};
 ghost use Rattle.texts.specs.States.{recordsMost, Room, isTold, earlyNote, remainNote, lastNote, TableStep};
@@ -96,6 +100,19 @@ fn last_note(r: Reading, whole: bool) -> Note
         Stage::FieldLine => { fields_note(r, whole) }
         Stage::Lost => { r.note }
     }
+}
+
+// The first record.
+fn put_head(out: &mut [u8], w: usize, n: usize, name: &[u8]) -> usize
+    requires { ⌜ (10 + length (now name) ≤ length (now out)) × (length (now name) ≤ textMost) ⌝ }
+    ensures { λ r. ⌜ Writes (now (out .entry)) 0 (recordOf 1 (le2 w ++ (le2 n ++ counted (now (name .entry)))))
+        (now (out .exit)) r ⌝ }
+{
+    let size = put_two(out, 0, 10 + name.len());
+    let kind = put_two(out, size, 1);
+    let width = put_two(out, kind, w);
+    let count = put_two(out, width, n);
+    put_counted(out, count, name)
 }
 
 // The table into an output that has room for it.

@@ -9,7 +9,7 @@ use Rattle.texts.proofs.text_ends.put_table.Statement.{statement}
 use Rattle.texts.proofs.text_ends.put_table.Tie as tie
 use Rattle.texts.proofs.text_ends.put_table.Reads as reads
 use Rattle.texts.proofs.text_ends.put_table.Lts as lts
-use Rattle.texts.proofs.tables.put_head.Reads as put-head-reads
+use Rattle.texts.proofs.text_ends.put_head.Reads as put-head-reads
 use Rattle.writing.proofs.puts.put.Reads as put-reads
 use Rattle.writing.proofs.puts.put_two.Reads as put-two-reads
 

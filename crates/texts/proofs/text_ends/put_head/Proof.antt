@@ -6,10 +6,10 @@ use Rattle.base.proofs.Writing.{writes-join}
 use Rattle.texts.proofs.RecordLaws.{two-writes, counted-writes, two-end}
 use Rattle.texts.proofs.TableLaws.{head-writes}
 use borrow.Author.Needs.{needs}
-use Rattle.texts.proofs.tables.put_head.Statement.{statement}
-use Rattle.texts.proofs.tables.put_head.Tie as tie
-use Rattle.texts.proofs.tables.put_head.Reads as reads
-use Rattle.texts.proofs.tables.put_head.Lts as lts
+use Rattle.texts.proofs.text_ends.put_head.Statement.{statement}
+use Rattle.texts.proofs.text_ends.put_head.Tie as tie
+use Rattle.texts.proofs.text_ends.put_head.Reads as reads
+use Rattle.texts.proofs.text_ends.put_head.Lts as lts
 use Rattle.writing.proofs.puts.put_counted.Reads as put-counted-reads
 use Rattle.writing.proofs.puts.put_two.Reads as put-two-reads
 
