@@ -159,8 +159,7 @@ cut : (t a b : List ℕ) (e : ℕ) → take e t ≡ a ++ b → e ≡ length (a +
 cut t a b e p n =
     let whole : t ≡ a ++ (b ++ drop e t) =
     sym (take-append-drop e t) ∙ ap (λ (l : List ℕ). l ++ drop e t) p ∙ append-assoc a b (drop e t) in
-    let m : e - length a ≡ length b = (let q = length-append a b in omega (arith, n, q)) in
-    (
+    let m : e - length a ≡ length b = (let q = length-append a b in omega (arith, n, q)) in (
       ap (take (length a)) whole ∙ take-append-seam a (b ++ drop e t),
       ap (λ (i : ℕ). take i (drop (length a) t)) m
           ∙ ap (λ (l : List ℕ). take (length b) (drop (length a) l)) whole
@@ -201,8 +200,7 @@ module _ (k : fold.Kept) (r : Reading) {cells table : List ℕ} {labels shorts n
   parts =
       let c = cut table (k .found .name) (joined storedField (h .records .fields)) (r .end) (h .records .stored)
       (h .records .end) in
-      let n = h .counts .name in
-      (
+      let n = h .counts .name in (
         ap (λ (i : ℕ). take i table) n ∙ c .0,
         ap (λ (i : ℕ). take (r .end - i) (drop i table)) n ∙ c .1 ∙ ap (joined storedField) same-fields,
       )

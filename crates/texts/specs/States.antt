@@ -209,11 +209,11 @@ pub record Named (forms : List Form) (labels shorts names : List (List ℕ)) : T
   pub room : (fieldsMost ≤ length labels) × (fieldsMost ≤ length shorts) × (fieldsMost ≤ length names)
 
 pub record Holds (f : fold.Found) (r : Reading) (cells table : List ℕ) (labels shorts names : List (List ℕ)) : Type 0
-    where
-  pub counts : Counts f r
-  pub slots : Slots f r cells
-  pub records : Records f r table
-  pub named : Named (faces (f .judged .fields)) labels shorts names
+  where
+    pub counts : Counts f r
+    pub slots : Slots f r cells
+    pub records : Records f r table
+    pub named : Named (faces (f .judged .fields)) labels shorts names
 
 -- one line of the head, with the buffers of cells and of records before and behind it
 abbrev pub HeadStep : (fold.Found → fold.Found) → Reading → Reading → List ℕ → List ℕ → List ℕ → List ℕ → Type 0

@@ -58,16 +58,31 @@ pub(crate) fn later_rule(
     let n = r.fields;
     let place = r.lines + 1;
     if !shows_cell(r, line, p, cells) {
-        return Note { number: 7, place: place };
+        return Note {
+            number: 7,
+            place: place,
+        };
     }
     if clashes(labels, shorts, n, labels[n], shorts[n]) {
-        return Note { number: 8, place: place };
+        return Note {
+            number: 8,
+            place: place,
+        };
     }
     if !types_kept(line, p, names, n) {
-        return Note { number: 9, place: place };
+        return Note {
+            number: 9,
+            place: place,
+        };
     }
     if misplaced(p, r.rested) {
-        return Note { number: 10, place: place };
+        return Note {
+            number: 10,
+            place: place,
+        };
     }
-    Note { number: 0, place: 0 }
+    Note {
+        number: 0,
+        place: 0,
+    }
 }

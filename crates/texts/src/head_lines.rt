@@ -74,7 +74,14 @@ pub(crate) fn take_row(mut r: Reading, line: &[u8], cells: &mut [u8]) -> Reading
     };
     let most = FIELDS_MOST - r.cells;
     if most < n {
-        return onward(r, Stage::RowBorder, Note { number: 4, place: 0 });
+        return onward(
+            r,
+            Stage::RowBorder,
+            Note {
+                number: 4,
+                place: 0,
+            },
+        );
     }
     r.cells += n;
     r.slots = next;

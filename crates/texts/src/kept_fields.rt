@@ -169,7 +169,14 @@ pub(crate) fn take_field(
         (now (names .exit)) ⌝ }
 {
     if is_full(r) {
-        return onward(r, Stage::FieldLine, Note { number: 4, place: 0 });
+        return onward(
+            r,
+            Stage::FieldLine,
+            Note {
+                number: 4,
+                place: 0,
+            },
+        );
     }
     let p = parts_of(line, 0);
     if p.kind == 0 {

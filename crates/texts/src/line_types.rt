@@ -38,7 +38,12 @@ fn has_type(
 }
 
 // The expressions of the line of index i have their types.
-pub(crate) fn types_kept(line: &[u8], p: Parts, names: &[[u8; SHORT_MOST]; FIELDS_MOST], i: usize) -> bool
+pub(crate) fn types_kept(
+    line: &[u8],
+    p: Parts,
+    names: &[[u8; SHORT_MOST]; FIELDS_MOST],
+    i: usize,
+) -> bool
     requires { ⌜ (length (now line) ≤ textMost) × Fits (length (now line)) p × (i < fieldsMost) ⌝ }
     ensures { λ r. ⌜ ((x : Form) → PartsAre (now (line .entry)) x p → r ≡ typesKept (now (names .entry)) i x) ⌝ }
 {

@@ -57,7 +57,15 @@ fn read_plain(text: &[u8], out: &mut [u8]) -> TextAnswer
     let mut labels = [[0u8; LABEL_MOST]; FIELDS_MOST];
     let mut shorts = [[0u8; SHORT_MOST]; FIELDS_MOST];
     let mut names = [[0u8; SHORT_MOST]; FIELDS_MOST];
-    read_lines(text, out, &mut cells, &mut table, &mut labels, &mut shorts, &mut names)
+    read_lines(
+        text,
+        out,
+        &mut cells,
+        &mut table,
+        &mut labels,
+        &mut shorts,
+        &mut names,
+    )
 }
 
 // A text read into an output: its table at the output's start, or the refusal.

@@ -56,7 +56,10 @@ pub(crate) fn begin() -> Reading
         fields: 0,
         end: 0,
         rested: false,
-        note: Note { number: 0, place: 0 },
+        note: Note {
+            number: 0,
+            place: 0,
+        },
     }
 }
 

@@ -65,7 +65,10 @@ fn remaining(r: Reading) -> Note
             place: r.lines + 1,
         };
     }
-    Note { number: 0, place: 0 }
+    Note {
+        number: 0,
+        place: 0,
+    }
 }
 
 // The lowest refusal of a text that ends behind field lines.

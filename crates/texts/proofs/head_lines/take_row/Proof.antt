@@ -43,8 +43,8 @@ returns c =
     rw (c .wrong .ensures) (
       taken-wrong r (c .before .before .before .before .before .before .before .before .before .pre .0),
       (λ table f labels shorts names k b h.
-      let e : readRow (f .width) l ≡ none = subst (λ (w : ℕ). readRow w l ≡ none) (h .counts .width) (q .0) in
-      rw (e, q .1) (holds-wrong f r h)),
+          let e : readRow (f .width) l ≡ none = subst (λ (w : ℕ). readRow w l ≡ none) (h .counts .width) (q .0) in
+          rw (e, q .1) (holds-wrong f r h)),
     )
 
 sub-most : tie.Need-sub-most
@@ -68,7 +68,7 @@ returns-2 c =
     rw (c .onward .ensures) (
       taken-onward r at.RowBorder (note 4 0) refl room,
       (λ table f labels shorts names k b h. rw (e f (h .counts .width)) (holds-over f r h (k .head b) (p .row) (p .writes)
-      (omega (arith, c .before .if1 .taken, p .count, h .counts .cells)) (omega (arith, room .slots, room .cells, c .before .before .before .before .before .before .before .before .before .before .before .before .pre .2)))),
+          (omega (arith, c .before .if1 .taken, p .count, h .counts .cells)) (omega (arith, room .slots, room .cells, c .before .before .before .before .before .before .before .before .before .before .before .before .pre .2)))),
     )
 
 add-r : tie.Need-add-r
@@ -90,10 +90,19 @@ returns-3 c =
     λ f w. subst (λ (v : ℕ). readRow v l ≡ some (p .row)) w (p .isRead) in
     let n = row-length (r .width) l (p .row) (p .isRead) in
     rw (c .onward2 .ensures) (
-      (room-row r _ _ room (omega (arith, c .before .before .before .if1 .left, room .cells)) (omega (arith, p .writes .end, n, p .count, room
-          .slots)) (omega (arith, p .writes .end)), omega arith),
+      (
+        room-row r _ _ room (omega (arith, c .before .before .before .if1 .left, room .cells)) (omega (
+          arith,
+          p .writes .end,
+          n,
+          p .count,
+          room
+              .slots,
+        )) (omega (arith, p .writes .end)),
+        omega arith,
+      ),
       (λ table f labels shorts names k b h. rw (e f (h .counts .width)) (holds-few f r h (k .head b) (p .row)
-      (p .writes) _ (p .count) (omega (arith, c .before .before .before .if1 .left, room .cells, p .count, h .counts .cells)))),
+          (p .writes) _ (p .count) (omega (arith, c .before .before .before .if1 .left, room .cells, p .count, h .counts .cells)))),
     )
 
 pub take-row-spec : {M : Type 1} → statement M

@@ -33,11 +33,10 @@ same-length c = search needs
 returns-2 : tie.Need-returns-2
 unfolding linedAt
 returns-2 c =
-    let q = c .before .before .take-row .ensures in
-    (
+    let q = c .before .before .take-row .ensures in (
       q .0,
       (λ table f labels shorts names k b h. rw (filled-nil (now (c .before .before .before .before .before .before .before .args .line)) (c .before .before .before .before .if1 .left)) (q .1 table f labels shorts
-      names k b h)),
+          names k b h)),
     )
 
 pub take-row-or-blank-spec : {M : Type 1} → statement M

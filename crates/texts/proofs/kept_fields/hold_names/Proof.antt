@@ -53,8 +53,7 @@ element-set-from-names-2 c = search needs
 
 returns : tie.Need-returns
 returns c =
-    let a = c .before .before .before .before .before .args in
-    (
+    let a = c .before .before .before .before .before .args in (
       ap (λ (v : List ℕ). set (now (a .labels)) (a .n) v) (c .before .before .held-label .ensures
           ∙ ap (λ (k : ℕ). padTo labelMost (take k (now (a .line)))) (sub-zero (a .p .label))),
       (

@@ -82,22 +82,25 @@ returns c =
     let m = field-most l x (a .p) (line-formed l x isForm) (small .0) (small .1) in
     let z = field-end _ _ l x (a .p) (small .0) w in
     rw (c .onward .ensures) (
-      (room-kept r (c .before .before .before .before .next-cell .result) (c .before .before .before .before .before .before .before .put-field .result) (c .before .before .before .rests .result) (c .before .before .before .before .before .before .before .before .before .before .before .before .lower .result) room (c .before .before .before .before .before .before .before .before .before .before .before .before .before .before .before .before .before .before .before .before .before .before .before .before .pre .1)
-          (c .before .before .before .before .next-cell .ensures .0) (omega (arith, z)) (omega (arith, z, m)) told, omega arith),
+      (
+        room-kept r (c .before .before .before .before .next-cell .result) (c .before .before .before .before .before .before .before .put-field .result) (c .before .before .before .rests .result) (c .before .before .before .before .before .before .before .before .before .before .before .before .lower .result) room (c .before .before .before .before .before .before .before .before .before .before .before .before .before .before .before .before .before .before .before .before .before .before .before .before .pre .1)
+            (c .before .before .before .before .next-cell .ensures .0) (omega (arith, z)) (omega (arith, z, m)) told,
+        omega arith,
+      ),
       (
         w .kept,
         (λ f k full h.
-        let nw = named-with l x (a .p) (small .0) (c .before .before .before .before .before .before .before .before .before .before .before .before .before .before .before .before .before .before .before .before .before .before .before .before .pre .2 .3) f r (h .counts) few (h .named) (c .before .before .before .before .before .before .before .before .before .before .before .before .before .before .before .before .before .hold-names .ensures .0)
-        (c .before .before .before .before .before .before .before .before .before .before .before .before .before .before .before .before .before .hold-names .ensures .1 .0) (c .before .before .before .before .before .before .before .before .before .before .before .before .before .before .before .before .before .hold-names .ensures .1 .1) in
-        let low = c .before .before .before .before .before .before .before .before .before .before .before .before .lower .ensures ∙ form-note f r x (h .counts) (small .1)
-        (c .before .before .before .before .before .before .before .before .before .before .before .before .before .later-rule .ensures .1 f x k (h .counts) (h .slots) nw isForm (small .0)) in
-        holds-open f r h x (record {
-          cell = c .before .before .before .before .next-cell .ensures .1 f (h .counts) (h .slots);
-          writes = w;
-          rested = c .before .before .before .rests .ensures ∙ rests-here f r x (h .counts) l (a .p) (small .0);
-          named = nw;
-        }) k (form-short f k l x isForm) (all-formed f k l x isForm) l (c .before .before .before .before .before .before .before .before .before .before .before .before .lower .result) full isForm
-        low (sym (c .before .before .before .before .before .before .before .before .before .before .before .is-open .ensures) ∙ c .before .before .before .before .before .before .before .before .before .before .if1 .taken)),
+            let nw = named-with l x (a .p) (small .0) (c .before .before .before .before .before .before .before .before .before .before .before .before .before .before .before .before .before .before .before .before .before .before .before .before .pre .2 .3) f r (h .counts) few (h .named) (c .before .before .before .before .before .before .before .before .before .before .before .before .before .before .before .before .before .hold-names .ensures .0)
+            (c .before .before .before .before .before .before .before .before .before .before .before .before .before .before .before .before .before .hold-names .ensures .1 .0) (c .before .before .before .before .before .before .before .before .before .before .before .before .before .before .before .before .before .hold-names .ensures .1 .1) in
+            let low = c .before .before .before .before .before .before .before .before .before .before .before .before .lower .ensures ∙ form-note f r x (h .counts) (small .1)
+            (c .before .before .before .before .before .before .before .before .before .before .before .before .before .later-rule .ensures .1 f x k (h .counts) (h .slots) nw isForm (small .0)) in
+            holds-open f r h x (record {
+              cell = c .before .before .before .before .next-cell .ensures .1 f (h .counts) (h .slots);
+              writes = w;
+              rested = c .before .before .before .rests .ensures ∙ rests-here f r x (h .counts) l (a .p) (small .0);
+              named = nw;
+            }) k (form-short f k l x isForm) (all-formed f k l x isForm) l (c .before .before .before .before .before .before .before .before .before .before .before .before .lower .result) full isForm
+            low (sym (c .before .before .before .before .before .before .before .before .before .before .before .is-open .ensures) ∙ c .before .before .before .before .before .before .before .before .before .before .if1 .taken)),
       ),
     )
 
@@ -125,12 +128,12 @@ returns-2 c =
       (
         refl,
         (λ f k full h.
-        let nw = named-with l x (a .p) (small .0) (c .before .before .before .before .before .before .before .before .before .before .before .before .before .before .before .before .pre .2 .3) f r (h .counts) few (h .named) (c .before .before .before .before .before .before .before .before .before .hold-names .ensures .0)
-        (c .before .before .before .before .before .before .before .before .before .hold-names .ensures .1 .0) (c .before .before .before .before .before .before .before .before .before .hold-names .ensures .1 .1) in
-        let low = c .before .before .before .before .lower .ensures ∙ form-note f r x (h .counts) (small .1)
-        (c .before .before .before .before .before .later-rule .ensures .1 f x k (h .counts) (h .slots) nw isForm (small .0)) in
-        holds-closed f r (holds-named f r x h nw) l x (c .before .before .before .before .lower .result) full isForm low
-        (sym (c .before .before .before .is-open .ensures) ∙ c .before .before .if1 .left)),
+            let nw = named-with l x (a .p) (small .0) (c .before .before .before .before .before .before .before .before .before .before .before .before .before .before .before .before .pre .2 .3) f r (h .counts) few (h .named) (c .before .before .before .before .before .before .before .before .before .hold-names .ensures .0)
+            (c .before .before .before .before .before .before .before .before .before .hold-names .ensures .1 .0) (c .before .before .before .before .before .before .before .before .before .hold-names .ensures .1 .1) in
+            let low = c .before .before .before .before .lower .ensures ∙ form-note f r x (h .counts) (small .1)
+            (c .before .before .before .before .before .later-rule .ensures .1 f x k (h .counts) (h .slots) nw isForm (small .0)) in
+            holds-closed f r (holds-named f r x h nw) l x (c .before .before .before .before .lower .result) full isForm low
+            (sym (c .before .before .before .is-open .ensures) ∙ c .before .before .if1 .left)),
       ),
     )
 

@@ -129,12 +129,15 @@ returns c =
     let l = now (c .before .before .before .before .before .before .before .before .before .args .line) in
     let told : (f : Found) → stageOf (r .stage) ≡ f .stage → f .stage ≡ fold.opening =
     λ f e. sym e ∙ ap stageOf (c .before .before .before .before .enum-told .given .1) in
-    let q = c .before .before .take-opening .ensures in
-    (
+    let q = c .before .before .take-opening .ensures in (
       q .0,
-      (refl, search needs, (λ f k h.
-      let e = told f (h .counts .stage) in
-      line-at f l fold.opening e (q .1 _ f _ _ _ k (ap isHead e) h))),
+      (
+        refl,
+        search needs,
+        (λ f k h.
+            let e = told f (h .counts .stage) in
+            line-at f l fold.opening e (q .1 _ f _ _ _ k (ap isHead e) h)),
+      ),
     )
 
 returns-2 : tie.Need-returns-2
@@ -146,8 +149,12 @@ returns-2 c =
     λ f e. sym e ∙ ap stageOf (c .before .enum-told2 .given .1) in
     rw (c .expect .ensures) (
       taken-expect (eqb (length l) 0) r at.TensRuler (c .before .before .before .before .before .before .pre .0),
-      (refl, refl, (λ f k h. line-at f l fold.blank (told f (h .counts .stage))
-          (holds-expect f r h ([]) l at.TensRuler _ (same-nil l)))),
+      (
+        refl,
+        refl,
+        (λ f k h. line-at f l fold.blank (told f (h .counts .stage))
+            (holds-expect f r h ([]) l at.TensRuler _ (same-nil l))),
+      ),
     )
 
 returns-3 : tie.Need-returns-3
@@ -157,12 +164,15 @@ returns-3 c =
     let l = now (c .before .before .before .before .before .before .args .line) in
     let told : (f : Found) → stageOf (r .stage) ≡ f .stage → f .stage ≡ fold.tensRuler =
     λ f e. sym e ∙ ap stageOf (c .before .enum-told3 .given .1) in
-    let q = c .take-ruler .ensures in
-    (
+    let q = c .take-ruler .ensures in (
       q .0,
-      (refl, refl, (λ f k h.
-      let e = told f (h .counts .stage) in
-      line-at f l fold.tensRuler e (q .1 _ _ f _ _ _ k (ap isHead e) h))),
+      (
+        refl,
+        refl,
+        (λ f k h.
+            let e = told f (h .counts .stage) in
+            line-at f l fold.tensRuler e (q .1 _ _ f _ _ _ k (ap isHead e) h)),
+      ),
     )
 
 returns-4 : tie.Need-returns-4
@@ -174,8 +184,12 @@ returns-4 c =
     λ f e. sym e ∙ ap stageOf (c .before .before .enum-told4 .given .1) in
     rw (c .expect2 .ensures) (
       taken-expect (c .before .is-units .result) r at.TopBorder (c .before .before .before .before .before .before .before .pre .0),
-      (refl, refl, (λ f k h. line-at f l fold.unitsRuler (told f (h .counts .stage))
-          (holds-expect f r h (units (f .width)) l at.TopBorder _ (c .before .is-units .ensures ∙ ap (λ (w : ℕ). same l (units w)) (h .counts .width))))),
+      (
+        refl,
+        refl,
+        (λ f k h. line-at f l fold.unitsRuler (told f (h .counts .stage))
+            (holds-expect f r h (units (f .width)) l at.TopBorder _ (c .before .is-units .ensures ∙ ap (λ (w : ℕ). same l (units w)) (h .counts .width)))),
+      ),
     )
 
 returns-5 : tie.Need-returns-5
@@ -187,8 +201,12 @@ returns-5 c =
     λ f e. sym e ∙ ap stageOf (c .before .before .enum-told5 .given .1) in
     rw (c .expect3 .ensures) (
       taken-expect (c .before .is-border .result) r at.FirstRow (c .before .before .before .before .before .before .before .pre .0),
-      (refl, refl, (λ f k h. line-at f l fold.topBorder (told f (h .counts .stage))
-          (holds-expect f r h (border (f .width)) l at.FirstRow _ (c .before .is-border .ensures ∙ ap (λ (w : ℕ). same l (border w)) (h .counts .width))))),
+      (
+        refl,
+        refl,
+        (λ f k h. line-at f l fold.topBorder (told f (h .counts .stage))
+            (holds-expect f r h (border (f .width)) l at.FirstRow _ (c .before .is-border .ensures ∙ ap (λ (w : ℕ). same l (border w)) (h .counts .width)))),
+      ),
     )
 
 same-length-2 : tie.Need-same-length-2
@@ -201,12 +219,15 @@ returns-6 c =
     let l = now (c .before .before .before .before .before .before .before .before .before .args .line) in
     let told : (f : Found) → stageOf (r .stage) ≡ f .stage → f .stage ≡ fold.firstRow =
     λ f e. sym e ∙ ap stageOf (c .before .before .before .before .enum-told6 .given .1) in
-    let q = c .before .before .take-row .ensures in
-    (
+    let q = c .before .before .take-row .ensures in (
       q .0,
-      (search needs, refl, (λ f k h.
-      let e = told f (h .counts .stage) in
-      line-at f l fold.firstRow e (q .1 _ f _ _ _ k (ap isHead e) h))),
+      (
+        search needs,
+        refl,
+        (λ f k h.
+            let e = told f (h .counts .stage) in
+            line-at f l fold.firstRow e (q .1 _ f _ _ _ k (ap isHead e) h)),
+      ),
     )
 
 returns-7 : tie.Need-returns-7
@@ -218,8 +239,12 @@ returns-7 c =
     λ f e. sym e ∙ ap stageOf (c .before .before .enum-told7 .given .1) in
     rw (c .expect4 .ensures) (
       taken-expect (c .before .is-border2 .result) r at.RowOrBlank (c .before .before .before .before .before .before .before .pre .0),
-      (refl, refl, (λ f k h. line-at f l fold.rowBorder (told f (h .counts .stage))
-          (holds-expect f r h (border (f .width)) l at.RowOrBlank _ (c .before .is-border2 .ensures ∙ ap (λ (w : ℕ). same l (border w)) (h .counts .width))))),
+      (
+        refl,
+        refl,
+        (λ f k h. line-at f l fold.rowBorder (told f (h .counts .stage))
+            (holds-expect f r h (border (f .width)) l at.RowOrBlank _ (c .before .is-border2 .ensures ∙ ap (λ (w : ℕ). same l (border w)) (h .counts .width)))),
+      ),
     )
 
 same-length-3 : tie.Need-same-length-3
@@ -232,12 +257,15 @@ returns-8 c =
     let l = now (c .before .before .before .before .before .before .before .before .before .args .line) in
     let told : (f : Found) → stageOf (r .stage) ≡ f .stage → f .stage ≡ fold.rowOrBlank =
     λ f e. sym e ∙ ap stageOf (c .before .before .before .before .enum-told8 .given .1) in
-    let q = c .before .before .take-row-or-blank .ensures in
-    (
+    let q = c .before .before .take-row-or-blank .ensures in (
       q .0,
-      (search needs, refl, (λ f k h.
-      let e = told f (h .counts .stage) in
-      line-at f l fold.rowOrBlank e (q .1 _ f _ _ _ k (ap isHead e) h))),
+      (
+        search needs,
+        refl,
+        (λ f k h.
+            let e = told f (h .counts .stage) in
+            line-at f l fold.rowOrBlank e (q .1 _ f _ _ _ k (ap isHead e) h)),
+      ),
     )
 
 returns-9 : tie.Need-returns-9
@@ -249,8 +277,12 @@ returns-9 c =
     λ f e. sym e ∙ ap stageOf (c .before .before .before .enum-told9 .given .1) in
     rw (c .expect5 .ensures) (
       taken-expect (c .before .same-words .result) r at.LastBlank (c .before .before .before .before .before .before .before .before .pre .0),
-      (refl, refl, (λ f k h. line-at f l fold.whereLine (told f (h .counts .stage))
-          (holds-expect f r h (bytes "where:") l at.LastBlank _ (c .before .same-words .ensures)))),
+      (
+        refl,
+        refl,
+        (λ f k h. line-at f l fold.whereLine (told f (h .counts .stage))
+            (holds-expect f r h (bytes "where:") l at.LastBlank _ (c .before .same-words .ensures))),
+      ),
     )
 
 returns-10 : tie.Need-returns-10
@@ -262,8 +294,12 @@ returns-10 c =
     λ f e. sym e ∙ ap stageOf (c .before .enum-told10 .given .1) in
     rw (c .expect6 .ensures) (
       taken-expect (eqb (length l) 0) r at.FirstField (c .before .before .before .before .before .before .pre .0),
-      (refl, refl, (λ f k h. line-at f l fold.lastBlank (told f (h .counts .stage))
-          (holds-expect f r h ([]) l at.FirstField _ (same-nil l)))),
+      (
+        refl,
+        refl,
+        (λ f k h. line-at f l fold.lastBlank (told f (h .counts .stage))
+            (holds-expect f r h ([]) l at.FirstField _ (same-nil l))),
+      ),
     )
 
 same-length-4 : tie.Need-same-length-4
@@ -279,12 +315,15 @@ returns-11 c =
     let l = now (c .before .before .before .before .before .before .before .before .before .before .before .before .before .args .line) in
     let told : (f : Found) → stageOf (r .stage) ≡ f .stage → f .stage ≡ fold.firstField =
     λ f e. sym e ∙ ap stageOf (c .before .before .before .before .before .before .before .before .enum-told11 .given .1) in
-    let q = c .before .before .take-field .ensures in
-    (
+    let q = c .before .before .take-field .ensures in (
       q .0,
-      (refl, q .1 .0, (λ f k h.
-      let e = told f (h .counts .stage) in
-      line-at f l fold.firstField e (q .1 .1 f k h))),
+      (
+        refl,
+        q .1 .0,
+        (λ f k h.
+            let e = told f (h .counts .stage) in
+            line-at f l fold.firstField e (q .1 .1 f k h)),
+      ),
     )
 
 same-length-6 : tie.Need-same-length-6
@@ -300,12 +339,15 @@ returns-12 c =
     let l = now (c .before .before .before .before .before .before .before .before .before .before .before .before .before .args .line) in
     let told : (f : Found) → stageOf (r .stage) ≡ f .stage → f .stage ≡ fold.fieldLine =
     λ f e. sym e ∙ ap stageOf (c .before .before .before .before .before .before .before .before .enum-told12 .given .1) in
-    let q = c .before .before .take-field2 .ensures in
-    (
+    let q = c .before .before .take-field2 .ensures in (
       q .0,
-      (refl, q .1 .0, (λ f k h.
-      let e = told f (h .counts .stage) in
-      line-at f l fold.fieldLine e (q .1 .1 f k h))),
+      (
+        refl,
+        q .1 .0,
+        (λ f k h.
+            let e = told f (h .counts .stage) in
+            line-at f l fold.fieldLine e (q .1 .1 f k h)),
+      ),
     )
 
 returns-13 : tie.Need-returns-13

@@ -48,9 +48,11 @@ same-words-requires-2 c κs = search needs
 
 returns-3 : tie.Need-returns-3
 returns-3 c =
-    let l = c .before .before .before .before .before .before .before .before .before .before .args .line .now in
-    (omega (arith, c .before .before .before .before .before .before .before .before .if1 .left), opening-a l (sym (c .before .before .before .before .before .same-words .ensures) ∙ c .before .before .before .before .if2 .left)
-    (sym (c .before .same-words2 .ensures) ∙ c .if3 .taken))
+    let l = c .before .before .before .before .before .before .before .before .before .before .args .line .now in (
+      omega (arith, c .before .before .before .before .before .before .before .before .if1 .left),
+      opening-a l (sym (c .before .before .before .before .before .same-words .ensures) ∙ c .before .before .before .before .if2 .left)
+          (sym (c .before .same-words2 .ensures) ∙ c .if3 .taken),
+    )
 
 returns-4 : tie.Need-returns-4
 returns-4 c =

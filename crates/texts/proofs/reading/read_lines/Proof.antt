@@ -87,9 +87,13 @@ take-line-requires c κs =
     let t = now (c .before .before .before .before .before .before .before .before .before .before .before .before .before .before .args .text) in
     let v = c .before .before .before .before .before .before .before .before .loop in
     let e = c .before .before .before .before .before .before .before .line-end in
-    let n = piece-length lineFeed t (v .at) (e .result) (e .ensures .1) (omega (arith, e .ensures .0 .1, c .before .before .before .before .before .before .if1 .left)) in
-    (v .inv .5, omega (arith, v .inv .1, v .inv .0, c .before .before .before .before .before .before .before .before .before .before .before .before .before .before .pre .0 .size), omega (arith, n, e .ensures .0 .1, c .before .before .before .before .before .before .before .before .before .before .before .before .before .before .pre .0 .size),
-    omega (arith, v .inv .3, c .before .before .before .before .before .before .before .before .before .before .before .before .before .before .pre .1), omega (arith, v .inv .4, c .before .before .before .before .before .before .before .before .before .before .before .before .before .before .pre .2))
+    let n = piece-length lineFeed t (v .at) (e .result) (e .ensures .1) (omega (arith, e .ensures .0 .1, c .before .before .before .before .before .before .if1 .left)) in (
+      v .inv .5,
+      omega (arith, v .inv .1, v .inv .0, c .before .before .before .before .before .before .before .before .before .before .before .before .before .before .pre .0 .size),
+      omega (arith, n, e .ensures .0 .1, c .before .before .before .before .before .before .before .before .before .before .before .before .before .before .pre .0 .size),
+      omega (arith, v .inv .3, c .before .before .before .before .before .before .before .before .before .before .before .before .before .before .pre .1),
+      omega (arith, v .inv .4, c .before .before .before .before .before .before .before .before .before .before .before .before .before .before .pre .2),
+    )
 
 add-at : tie.Need-add-at Inv-loop μ-loop
 add-at c = let q = c .before .before .before .before .before .before .before .before .before .before .before .before .line-end .ensures .0 .1 in let z = c .before .before .before .before .before .before .before .before .before .before .before .before .before .before .before .before .before .before .before .pre .0 .size in omega (arith, q, z)
@@ -103,8 +107,7 @@ loop-again c =
     let v = c .before .before .before .before .before .before .before .before .before .before .before .before .before .loop in
     let e = c .before .before .before .before .before .before .before .before .before .before .before .before .line-end in
     let q = c .before .before .before .before .take-line .ensures in
-    let lt = e .ensures .0 .1 in
-    (
+    let lt = e .ensures .0 .1 in (
       omega (arith, lt, c .before .before .before .before .before .before .before .before .before .before .before .if1 .left),
       omega (arith, q .0 .1, v .inv .1, e .ensures .0 .0),
       v .inv .2,
