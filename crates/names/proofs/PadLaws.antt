@@ -1,19 +1,20 @@
 -- Names held with zeros behind their ends are the same where the names are.
 use mathlib.Core.Path.{_≡_, refl, sym, _∙_, ap}
-use mathlib.Core.Bool.{true, false, _&&_, _||_, not}
+use mathlib.Core.Bool.{Bool, true, false, _&&_, _||_, not}
 use mathlib.Core.List.{List, [], _∷_, _++_}
 use Prim.Native.Nat.{ℕ, zero, suc, _+_, _≤_, _<_}
 use native.Mathlib.Numerals.{add-one}
 use native.Mathlib.Omega.{arith}
-use lib.Dec.{leb}
+use lib.Dec.{leb, eqb}
 use lib.ListN.{length, take, getD, set}
 use lib.Seq.{take-all, take-suc-set}
-use borrow.Author.Tests.{eq-eqb, ne-eqb, leb-true}
+use borrow.Author.Tests.{eq-eqb, ne-eqb, eqb-true, leb-true}
 use Rattle.base.specs.Lists.{all, same, headIs, between}
 use Rattle.base.proofs.Lists.{not-both, same-self, between-true}
 use Rattle.base.proofs.Breaks.{and-true, or-true, all-cons}
-use Rattle.rules.specs.Limits.{shortMost}
-use Rattle.rules.specs.Names.{isLetter, isDigit, isWordByte, isReserved, isShort}
+use Rattle.rules.specs.Limits.{labelMost, shortMost}
+use Rattle.rules.specs.Names.{isLetter, isDigit, isSpace, isWordByte, isLabelByte, hasWordEnds, noTwoSpaces}
+use Rattle.rules.specs.Names.{isLabel, isReserved, isShort}
 use Rattle.names.specs.Repeats.{padTo, sameName}
 
 pub past-end : (w : List ℕ) (i : ℕ) → length w ≤ i → getD w i 0 ≡ 0
@@ -34,10 +35,10 @@ pub pad-set : (name w : List ℕ) (i x : ℕ) → i < length name → take i nam
     → take (i + 1) (set name i x) ≡ padTo (i + 1) w
 pad-set name w i x lt e f = rw (add-one i, take-suc-set name i x lt, pad-suc i w, e, f)
 
-pub pad-whole : (name w : List ℕ) (i : ℕ) → i ≡ shortMost → length name ≡ shortMost → take i name ≡ padTo i w → name
-    ≡ padTo shortMost w
-pad-whole name w i e l h =
-    let t : take shortMost name ≡ name = take-all shortMost name (omega arith) in
+pub pad-whole : (most : ℕ) (name w : List ℕ) (i : ℕ) → i ≡ most → length name ≡ most → take i name ≡ padTo i w
+    → name ≡ padTo most w
+pad-whole most name w i e l h =
+    let t : take most name ≡ name = take-all most name (omega arith) in
     sym t ∙ rw e at h
 
 -- ── bytes of a short name are not 0 ──
@@ -64,22 +65,23 @@ short-held w h =
 
 -- ── the same where the names are ──
 
-pub pad-same : (n : ℕ) (a b : List ℕ) → all isWordByte a ≡ true → all isWordByte b ≡ true → length a ≤ n
-    → length b ≤ n
-    → same (padTo n a) (padTo n b) ≡ same a b
-unfolding padTo same
-pad-same zero [] [] p q l m = refl
-pad-same zero [] (y ∷ b) p q l m = absurd (omega arith)
-pad-same zero (x ∷ a) b p q l m = absurd (omega arith)
-pad-same (suc n) [] [] p q l m = same-self (padTo n [])
-pad-same (suc n) [] (y ∷ b) p q l m =
-    let h = word-byte y (all-cons isWordByte y b q .0) in
-    rw (ne-eqb 0 y (λ e. omega arith))
-pad-same (suc n) (x ∷ a) [] p q l m =
-    let h = word-byte x (all-cons isWordByte x a p .0) in
-    rw (ne-eqb x 0 (λ e. omega arith))
-pad-same (suc n) (x ∷ a) (y ∷ b) p q l m =
-    rw (pad-same n a b (all-cons isWordByte x a p .1) (all-cons isWordByte y b q .1) (omega arith) (omega arith))
+-- names of bytes that are not 0
+module _ (p : ℕ → Bool) (some : (b : ℕ) → p b ≡ true → 0 < b) where
+  pub pad-same : (n : ℕ) (a b : List ℕ) → all p a ≡ true → all p b ≡ true → length a ≤ n → length b ≤ n
+      → same (padTo n a) (padTo n b) ≡ same a b
+  unfolding padTo same
+  pad-same zero [] [] e f l m = refl
+  pad-same zero [] (y ∷ b) e f l m = absurd (omega arith)
+  pad-same zero (x ∷ a) b e f l m = absurd (omega arith)
+  pad-same (suc n) [] [] e f l m = same-self (padTo n [])
+  pad-same (suc n) [] (y ∷ b) e f l m =
+      let h = some y (all-cons p y b f .0) in
+      rw (ne-eqb 0 y (λ e. omega arith))
+  pad-same (suc n) (x ∷ a) [] e f l m =
+      let h = some x (all-cons p x a e .0) in
+      rw (ne-eqb x 0 (λ e. omega arith))
+  pad-same (suc n) (x ∷ a) (y ∷ b) e f l m =
+      rw (pad-same n a b (all-cons p x a e .1) (all-cons p y b f .1) (omega arith) (omega arith))
 
 -- two short names that are held; and none is like nothing
 pub held-same : (a b : List ℕ) → isShort a ≡ true → isShort b ≡ true → sameName (padTo shortMost a)
@@ -90,7 +92,29 @@ held-same (x ∷ a) b p q =
     let h = short-held (x ∷ a) p .0 in
     let k = short-held b q .0 in
     let z = word-byte x (all-cons isWordByte x a (h .bytes) .0) in
-    rw (ne-eqb x 0 (λ e. omega arith)) (pad-same shortMost (x ∷ a) b (h .bytes) (k .bytes) (h .size) (k .size))
+    rw (ne-eqb x 0 (λ e. omega arith)) (pad-same isWordByte word-byte shortMost (x ∷ a) b (h .bytes) (k .bytes)
+    (h .size) (k .size))
+
+-- two labels that are held
+label-byte : (b : ℕ) → isLabelByte b ≡ true → 0 < b
+unfolding isLabelByte isSpace
+label-byte b h =
+    or-true (isWordByte b) (eqb b 32 || eqb b 45) (word-byte b)
+    (λ e. or-true (eqb b 32) (eqb b 45)
+    (λ f. omega (arith, eqb-true b 32 f)) (λ f. omega (arith, eqb-true b 45 f)) e) h
+
+label-held : (w : List ℕ) → isLabel w ≡ true → (all isLabelByte w ≡ true) × (length w ≤ labelMost)
+unfolding isLabel
+label-held w h =
+    let e = and-true (leb (length w) labelMost) (all isLabelByte w && (hasWordEnds w && noTwoSpaces w)) h in
+    (and-true (all isLabelByte w) (hasWordEnds w && noTwoSpaces w) (e .1) .0, leb-true _ _ (e .0))
+
+pub label-same : (a b : List ℕ) → isLabel a ≡ true → isLabel b ≡ true
+    → same (padTo labelMost a) (padTo labelMost b) ≡ same a b
+label-same a b h k =
+    let p = label-held a h in
+    let q = label-held b k in
+    pad-same isLabelByte label-byte labelMost a b (p .0) (q .0) (p .1) (q .1)
 
 -- a held name whose first byte is 0 is like none
 pub none-like : (a b : List ℕ) → getD a 0 0 ≡ 0 → false ≡ sameName a b

@@ -31,6 +31,7 @@ use Rattle.text_laws.specs.Fold.{Stage, opening, blank, tensRuler, units
 use Rattle.text_laws.specs.Fold.{rowOrBlank, whereLine, lastBlank, firstField, fieldLine, lost, Found}
 use Rattle.text_laws.specs.Fold.{Kept, fresh, onward, losing, wrong, expect, openingName, withName, withWidth}
 use Rattle.text_laws.specs.Fold.{withRow, withField, linedAt, lined, put, over, fed, kept}
+use Rattle.text_laws.specs.Steady.{isKept, FewFields, Small}
 
 -- ── names resolved in whatever way: the same form and size ──
 
@@ -99,19 +100,10 @@ module _ {N : Type 0} (g : List ℕ → N) where
   same-formed : (x : Form) → isFormed (renameField g x) ≡ isFormed x
   same-formed x = rw (same-width (x .width), field-trees isInRange isInRange same-range x) refl
 
--- formed and of the right size
-abbrev pub isKept : {N : Type 0} → Field N → Bool
-isKept f = isFormed f && all isSmall (trees f)
-
 kept-renamed : (g : List ℕ → ℕ) (x : Form) → isKept (renameField g x) ≡ isKept x
 kept-renamed g x = rw (same-formed g x, field-trees g isSmall isSmall (same-small g) x) refl
 
 -- ── field lines ──
-
-pub record FewFields (j : Judged) : Type 0 where
-  pub count : j .count ≤ fieldsMost
-  pub fields : length (j .fields) ≤ j .count
-  pub formed : all isKept (j .fields) ≡ true
 
 -- behind a line over size nothing is kept
 open-small : (cells : List Slot) (p : ℕ) (o : Option Answer) (before : List Form) (x : Form)
@@ -180,13 +172,6 @@ few-judge cells p j l h = go (isFull j) refl
         (leb-false fieldsMost (j .count) (or-false-right (isMany (j .lowest)) (leb fieldsMost (j .count)) e)) h
 
 -- ── lines ──
-
-pub record Small (f : Found) : Type 0 where
-  pub name : length (f .name) ≤ labelMost
-  pub width : f .width ≤ 32
-  pub cells : length (f .cells) ≤ fieldsMost
-  pub texts : all (λ c. isLabel (c .text)) (f .cells) ≡ true
-  pub judged : FewFields (f .judged)
 
 small-same : (f g : Found) → f .name ≡ g .name → f .width ≡ g .width → f .cells ≡ g .cells → FewFields (g .judged)
     → Small f → Small g
@@ -286,7 +271,7 @@ cells-labels (c ∷ cs) h =
     let k : isCell c ≡ true = and-left (isCell c) (all isCell cs) h in
     rw (and-left (isLabel (c .text)) _ k, cells-labels cs (and-right (isCell c) (all isCell cs) h)) refl
 
-row-labels : (w : ℕ) (r : Row) → isRow w r ≡ true → all (λ c. isLabel (c .text)) (slotsIn r) ≡ true
+pub row-labels : (w : ℕ) (r : Row) → isRow w r ≡ true → all (λ c. isLabel (c .text)) (slotsIn r) ≡ true
 unfolding all
 row-labels w (bitRow cs) h = cells-labels cs (and-left (all isCell cs) _ h)
 row-labels w (longRow c) h =

@@ -35,17 +35,13 @@ use Rattle.text_laws.specs.Fold.{rowOrBlank, whereLine, lastBlank, first
 use Rattle.text_laws.specs.Fold.{onward, losing, wrong, expect, openingName, withName, withWidth}
 use Rattle.text_laws.specs.Fold.{withRow, withField, linedAt, lined, put, over, fed, early, uncelled}
 use Rattle.text_laws.specs.Fold.{lowestAt, lowestOf, outcome, finish}
+use Rattle.text_laws.specs.Steady.{StandIn}
 use Rattle.text_laws.proofs.Faces.{renamed-face}
 
 -- ── other fields ──
 
 abbrev otherFields : Judged → List (Field ℕ) → Judged
 otherFields j fs = record { count = j .count; fields = fs; lowest = j .lowest }
-
--- fields that may stand in for those of j: alike in what later lines see, and the same where nothing was refused
-pub record StandIn (j : Judged) (fs : List (Field ℕ)) : Type 0 where
-  pub seen : faces fs ≡ faces (j .fields)
-  pub exact : j .lowest ≡ none → fs ≡ j .fields
 
 abbrev foundWith : Found → List (Field ℕ) → Found
 foundWith f fs = record {
@@ -261,7 +257,7 @@ lowest-with fieldLine l f fs h =
 lowest-with lost l f fs h = refl
 
 -- where nothing was refused at the end, nothing was before
-lowest-clear : (s : Stage) (l : List ℕ) (f : Found) → lowestAt s l f ≡ none → f .judged .lowest ≡ none
+pub lowest-clear : (s : Stage) (l : List ℕ) (f : Found) → lowestAt s l f ≡ none → f .judged .lowest ≡ none
 unfolding lowestAt
 lowest-clear opening l f e = absurd (Option·none-ne-some (refused 3 (suc (f .lines))) (sym e))
 lowest-clear blank l f e = absurd (Option·none-ne-some (refused 3 (suc (f .lines))) (sym e))

@@ -5,6 +5,7 @@
 -- Lowest       the lowest number so far, at its first line
 -- Judging      what is kept of field lines, and what a line does to it
 -- Fold         one fold over the bytes of a text
+-- Steady       what is true of what is kept, behind any lines
 -- WrongTexts   answers of wrong programs to texts, of which the promise is false
 -- The readers are helpers of code and proofs; no public promise rests on them.
 pub mod Reader
@@ -14,4 +15,5 @@ pub mod Resolving
 pub mod Lowest
 pub mod Judging
 pub mod Fold
+pub mod Steady
 pub mod WrongTexts

@@ -3,11 +3,11 @@ use mathlib.Core.Path.{_≡_, refl, ap, sym, _∙_}
 use mathlib.Core.Bool.{Bool, true, false, cond, _&&_, _||_, not}
 use mathlib.Core.List.{List, [], _∷_}
 use mathlib.Core.Option.{Option, none, some}
-use Prim.Native.Nat.{ℕ, _+_, _-_, _/_}
+use Prim.Native.Nat.{ℕ, _+_, _-_}
 use native.Mathlib.Omega.{arith}
 use native.Mathlib.Nat.{sub-zero}
 use lib.Dec.{eqb}
-use lib.ListN.{length, take, drop}
+use lib.ListN.{take, drop}
 use borrow.Author.Tests.{eq-eqb, ne-eqb}
 use Rattle.base.specs.Lists.{all, any, same, lastIs, listOf}
 use Rattle.base.proofs.Lists.{not-both}
@@ -15,13 +15,11 @@ use Rattle.rules.specs.Names.{isLabel, noTwoSpaces}
 use Rattle.rules.specs.Fields.{Width, fixed, measured, rest, Form, cellNames}
 use Rattle.rules.specs.Frames.{Slot}
 use Rattle.rules.specs.Spelling.{isPlaceFor}
-use Rattle.text_laws.specs.FrameReader.{leftTrim, rightTrim}
-use Rattle.texts.specs.LinePlaces.{spanIn, WidthIs, ShortIs, LineOf}
-use Rattle.texts.specs.Mismatches.{shownOf, isNameIn, isPlaceIn, ShowsIs}
+use Rattle.texts.specs.LinePlaces.{spanIn, WidthIs, ShortIs, PartsAre}
+use Rattle.texts.specs.Slots.{isNameIn, isPlaceIn}
 use Rattle.writing.specs.declared.spans.Span.{Span}
 use Rattle.texts.specs.declared.parts.TreeAt.{TreeAt}
 use Rattle.texts.specs.declared.parts.Parts.{Parts}
-use Rattle.texts.proofs.FrameLeaves.{take-rest}
 
 -- ── the tests ──
 
@@ -66,46 +64,16 @@ short-is name s l q h none e =
     rw (z, label-some name h) refl
 short-is name s l q h (some w) e = rw e (or-last (same name l) (same name w))
 
-name-is : (text name : List ℕ) (x : Form) (p : Parts) → LineOf text x p → isLabel name ≡ true
-    → isNameIn name (spanIn text (p .line)) p ≡ any (same name) (cellNames x)
-name-is text name x p o h =
-    ap (λ (l : List ℕ). same name l || same name (spanIn (spanIn text (p .line)) (p .short))) (o .parts .label)
-    ∙ short-is name (spanIn text (p .line)) (x .label) (p .short) h (x .short) (o .parts .short)
+pub name-is : (s name : List ℕ) (x : Form) (p : Parts) → PartsAre s x p → isLabel name ≡ true
+    → isNameIn name s p ≡ any (same name) (cellNames x)
+name-is s name x p o h =
+    ap (λ (l : List ℕ). same name l || same name (spanIn s (p .short))) (o .label)
+    ∙ short-is name s (x .label) (p .short) h (x .short) (o .short)
 
-width-is : (s : List ℕ) (c : Slot) (u : Width (List ℕ)) (kind b : ℕ) (t : TreeAt) → WidthIs s u kind b t
+pub width-is : (s : List ℕ) (c : Slot) (u : Width (List ℕ)) (kind b : ℕ) (t : TreeAt) → WidthIs s u kind b t
     → cond (eqb kind 2) (not (c .long) && eqb (c .bits) b) (c .long) ≡ isPlaceFor c u
 width-is s c (fixed n) kind b t h = rw (h .0, h .1) refl
 width-is s c (measured u m) kind b t h = rw (h .0) refl
 width-is s c rest kind b t h = rw (h .0) refl
 
 -- ── a cell of these characters, with its name behind the spaces in front ──
-
-module _ (chars text : List ℕ) (long : Bool) (p : Parts) (a n : ℕ) (l : drop a chars ≡ leftTrim chars)
-    (t : take n (take (length chars - a) (drop a chars)) ≡ rightTrim (take (length chars - a) (drop a chars))) where
-  abbrev pub named : Bool
-  named = isNameIn (take (a + n - a) (drop a chars))
-      (take (p .line .at + p .line .len - p .line .at) (drop (p .line .at) text)) p
-
-  same-named : named ≡ isNameIn (rightTrim (leftTrim chars)) (spanIn text (p .line)) p
-  same-named =
-      let w : take (length chars - a) (drop a chars) ≡ drop a chars = take-rest a chars in
-      let k : take (a + n - a) (drop a chars) ≡ rightTrim (leftTrim chars)
-      = part a n chars ∙ ap (take n) (sym w) ∙ t ∙ ap rightTrim (w ∙ l) in
-      ap (λ (m : List ℕ). isNameIn m (take (p .line .at + p .line .len - p .line .at) (drop (p .line .at) text)) p) k
-      ∙ ap (λ (m : List ℕ). isNameIn (rightTrim (leftTrim chars)) m p) (part (p .line .at) (p .line .len) text)
-
-  pub shows-not : (y : Bool) → y ≡ named → y ≡ false → ShowsIs chars long text p false
-  shows-not y e z x o h =
-      let q : any (same (rightTrim (leftTrim chars))) (cellNames x) ≡ false
-      = sym (name-is text (rightTrim (leftTrim chars)) x p o h) ∙ sym same-named ∙ sym e ∙ z in
-      ap (λ (b : Bool). b && isPlaceFor (shownOf long chars) (x .width)) (sym q)
-
-  pub shows-place : (y r : Bool) → y ≡ named → y ≡ true → r ≡ isPlaceIn long ((length chars + 1) / 2) p
-      → ShowsIs chars long text p r
-  shows-place y r e z f x o h =
-      let q : any (same (rightTrim (leftTrim chars))) (cellNames x) ≡ true
-      = sym (name-is text (rightTrim (leftTrim chars)) x p o h) ∙ sym same-named ∙ sym e ∙ z in
-      f
-      ∙ width-is (spanIn text (p .line)) (shownOf long chars) (x .width) (p .kind) (p .bits) (p .width) (o .parts
-      .width)
-      ∙ ap (λ (b : Bool). b && isPlaceFor (shownOf long chars) (x .width)) (sym q)

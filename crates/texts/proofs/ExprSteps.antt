@@ -1,19 +1,19 @@
 -- The steps of the code over a place, against those of the reader over what is left of the text.
-use mathlib.Core.Path.{_≡_, refl, ap, sym, _∙_}
+use mathlib.Core.Path.{_≡_, refl, ap, _∙_}
 use mathlib.Core.Bool.{Bool, true, false, _&&_}
 use mathlib.Core.Logic.{_⊎_, inl, inr}
-use mathlib.Core.List.{List, [], _∷_, _++_}
+use mathlib.Core.List.{List, _∷_}
 use Prim.Native.Nat.{ℕ, zero, suc, _+_, _*_, _-_, _≤_, _<_, max}
 use native.Mathlib.Omega.{arith}
 use native.Mathlib.Numerals.{add-one}
-use lib.Dec.{leb, eqb}
+use lib.Dec.{leb}
 use lib.ListN.{length, drop, getD, length-drop, length-append}
 use lib.Seq.{drop-cons, drop-length}
 use borrow.Author.Tests.{le-leb, lt-leb, ne-eqb}
 use Rattle.rules.specs.declared.Op.{Op}
 use Rattle.rules.specs.Operators.{level, leftLevel, rightLevel, atomLevel}
 use Rattle.rules.specs.Trees.{Tree, two, negation, depth, storedTree, storedLength}
-use Rattle.text_laws.specs.Reader.{Out, fail, got, Found, missing, found, operatorAt, close, inside, atom, step}
+use Rattle.text_laws.specs.Reader.{Out, fail, got, found, operatorAt, close, inside, atom, step}
 use Rattle.text_laws.specs.Reader.{andThen}
 use Rattle.text_laws.specs.Reader.{expr, more}
 use Rattle.texts.specs.ExprPlaces.{SameRead, WithinRead, SameSign, Adds, LeafAt, ExprAt, AtomAt}

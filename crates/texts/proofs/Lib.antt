@@ -8,34 +8,38 @@
 -- FrameLeaves              bytes, lines, rulers and the opening line, as the code reads them
 -- RowLeaves                cells and long rows, as the code reads them
 -- TreeTypes                the types of a line's expressions, by the stored forms that the code makes
+-- NoteLaws                 the lower of two notes
+-- HeldClashes              a field's names held against those of earlier fields
 -- LineSearches             searches over the field lines that the code holds
 -- FirstBreaks              the first line that breaks a rule, by a search over indexes
 -- LineRules                what the code tests of the lines says which rule their forms break
--- LineClashes              the names that the code holds of the lines are those of their forms
 -- LineTypes                the types that the code tests are those that rule 9 asks of the forms
--- TableIndexes             the table that the code writes is that of the description that the lines give
--- StageFrames, StageForms  the first stages of reading a text: 1 to 5
--- StageRules               the stages that follow: 6 to 10
--- NamePlaces               where the name stands in the text of a frame
--- StageTable               the last stage: the table is written
 -- NumberWords              the value of a number word, digit by digit
 -- NumberTrees              where the number of a tree that is a single number stands
 -- FieldWidths              widths at a place of a text
 -- FieldEnds                what stands behind the width, at a place of a text
 -- FieldParts               the parts of a whole field line
--- FieldLines                 the parts of all field lines of a text
 -- SplitSteps               the pieces of a text from a place on
--- RowTally                 the number of cells of a row, as the code counts them
--- FrameViews               what the code sees of a state, line by line
--- FrameSteps               the walk over the lines of a text: what is left decides
--- LineSkips                the place behind the first lines of a text
+-- RowTests                 the row of a line, as the code tests it
+-- SlotLaws                 a cell as it is kept, and whether it is one for the field of a line
+-- SlotRows                 the cells of a row that is read, and cells put one behind the other
 -- CellNames                a cell held against a field line
 -- RowShown                 the cells that a row shows, by the pieces of its line
--- MismatchSteps            cells held against field lines: what is left decides
--- FrameParts               where the rows and the field lines of a frame's text begin
 -- RecordSizes              the lengths of what is stored of a line, by its parts
 -- RecordLaws               what is written of a line is its record
 -- TableLaws                what is written of all lines is the table, and its length
+-- HeldNames                names held by value: rule 9 of a line, and the record that is written of it
+-- Holding                  what the code writes of a field line stands in for the field that the fold keeps
+-- StateSteps               what the code keeps behind a right line and behind a wrong one
+-- HeldArrays               names held in arrays, and one more
+-- RowSteps                 what the code keeps behind a row
+-- FormRules                the rules 7 to 10 of a line, by what the code tests of it
+-- SlotPlaces               where the kept cells stand
+-- LineForms                one field line: its form, its names as they are held, room for it
+-- EndSteps                 the end of a text: the lowest refusal, and the table
+-- LineWalk                 the lines of a text, one by one: what is left decides
+-- FieldSteps               what the code keeps behind a field line
+-- HeadSteps                what the code keeps behind the lines that hold NAME, W and cells
 pub mod OperatorRows
 pub mod FirstSymbol
 pub mod ExprSigns
@@ -50,32 +54,35 @@ pub mod FieldClauses
 pub mod FrameLeaves
 pub mod RowLeaves
 pub mod TreeTypes
+pub mod NoteLaws
 pub mod LineSearches
 pub mod FirstBreaks
 pub mod LineRules
-pub mod LineClashes
+pub mod HeldClashes
 pub mod LineTypes
-pub mod TableIndexes
-pub mod StageFrames
-pub mod StageForms
-pub mod StageRules
-pub mod NamePlaces
-pub mod StageTable
 pub mod NumberWords
 pub mod NumberTrees
 pub mod FieldWidths
 pub mod FieldEnds
 pub mod FieldParts
-pub mod FieldLines
 pub mod SplitSteps
-pub mod RowTally
-pub mod FrameViews
-pub mod FrameSteps
-pub mod LineSkips
+pub mod RowTests
 pub mod CellNames
 pub mod RowShown
-pub mod MismatchSteps
-pub mod FrameParts
+pub mod SlotLaws
+pub mod SlotRows
 pub mod RecordSizes
 pub mod RecordLaws
 pub mod TableLaws
+pub mod HeldNames
+pub mod Holding
+pub mod StateSteps
+pub mod HeadSteps
+pub mod HeldArrays
+pub mod RowSteps
+pub mod FieldSteps
+pub mod EndSteps
+pub mod LineWalk
+pub mod LineForms
+pub mod SlotPlaces
+pub mod FormRules

@@ -1,14 +1,14 @@
 -- What is written of a line is its record.
 use mathlib.Core.Path.{_≡_, refl, _∙_}
-use mathlib.Core.List.{List, [], _∷_, _++_, append-assoc, append-nil}
+use mathlib.Core.List.{List, _++_, append-assoc, append-nil}
 use mathlib.Core.Option.{Option, none, some, Option·map}
-use Prim.Native.Nat.{ℕ, _+_, _-_, _/_, _%_, _≤_, _<_}
+use Prim.Native.Nat.{ℕ, _+_, _-_, _≤_}
 use native.Mathlib.Nat.{sub-zero}
 use native.Mathlib.Omega.{arith}
-use lib.ListN.{length, take, drop, set, length-append, length-take, length-set}
+use lib.ListN.{length, take, drop, length-append, length-take}
 use lib.Seq.{length-take-le}
 use Rattle.writing.specs.Writes.{Writes}
-use Rattle.writing.proofs.Writing.{writes-none, writes-byte, writes-join}
+use Rattle.writing.proofs.Writing.{writes-none, writes-join}
 use Rattle.writing.specs.Puts.{placed, put}
 use Rattle.writing.proofs.PutLaws.{put-writes}
 use Rattle.rules.specs.Limits.{storedMost}

@@ -162,7 +162,7 @@ pub size-sum : (p : Parts)
 unfolding fieldSize
 size-sum p = refl
 
-width-bound : (p : Parts) → p .width .size ≤ storedMost → widthSize p ≤ 4 + storedMost
+pub width-bound : (p : Parts) → p .width .size ≤ storedMost → widthSize p ≤ 4 + storedMost
 unfolding widthSize
 width-bound p le = go (eqb (p .kind) 2) (eqb (p .kind) 3)
   where

@@ -28,7 +28,7 @@ use Rattle.texts.proofs.FrameLeaves.{take-rest, pieces-first, pieces-no
 use Rattle.text_laws.proofs.SplitLaws.{endedBy, split-joined}
 use Rattle.texts.specs.FramePlaces.{upTo, isSome}
 use Rattle.base.specs.Lists.{isEmpty, joined}
-use mathlib.Core.Option.{Option, none, some}
+use mathlib.Core.Option.{none, some}
 
 -- ── spaces in front ──
 
@@ -86,7 +86,7 @@ and-right-true : (x : Bool) → (x && true) ≡ x
 and-right-true true = refl
 and-right-true false = refl
 
-cell-size : (s : List ℕ) → cellOf s .before + length (cellOf s .text) + cellOf s .behind ≡ length s
+pub cell-size : (s : List ℕ) → cellOf s .before + length (cellOf s .text) + cellOf s .behind ≡ length s
 cell-size s = omega (arith, length-cell (cellOf s), ap length (cellText-of s))
 
 cell-bits : (s : List ℕ) → cellOf s .bits ≡ (length s + 1) / 2
@@ -146,7 +146,7 @@ rest-first e (b ∷ s) lt = go (eqb b e) (rest-first e s) (pieces-first e s) lt
 abbrev pub isLong : ℕ → List ℕ → Bool
 isLong w l = isSome (longOf w (rest 58 l) (pieces 58 l))
 
-row-kept : (w : ℕ) (r : List ℕ) (row : Row) → isSome (keepRow w r row) ≡ (isEmpty r && isRow w row)
+pub row-kept : (w : ℕ) (r : List ℕ) (row : Row) → isSome (keepRow w r row) ≡ (isEmpty r && isRow w row)
 unfolding keepRow
 row-kept w r row = go (isEmpty r && isRow w row)
   where

@@ -9,17 +9,13 @@ use Rattle.base.specs.Lists.{all, sum}
 use Rattle.base.proofs.Lists.{and-left}
 use Rattle.rules.specs.Frames.{Cell, cellText, isCell, Row, bitRow, longRow, isRow, Slot, slotsIn}
 use Rattle.text_laws.specs.FrameReader.{pieces, rest, cellOf}
-use Rattle.texts.specs.Mismatches.{shownOf}
+use Rattle.texts.specs.Slots.{slotOf, slotsOf}
 use Rattle.text_laws.proofs.SplitLaws.{pieces-joined, rest-joined, pieces-cons, rest-cons}
 use Rattle.text_laws.proofs.RowCells.{cell-free, bar, colon}
 use Rattle.text_laws.proofs.RowReader.{barred, rowLine, joined-cells, cells-free, cells-back}
 
--- the cells of a line from its place a on: between bars, or between colons
-abbrev pub cellsIn : List ℕ → ℕ → List Slot
-cellsIn l a = map (shownOf (eqb (getD l 0 0) 58)) (pieces (getD l 0 0) (drop a l))
-
 pub record RowShown (r : Row) (l : List ℕ) : Type 0 where
-  pub cells : slotsIn r ≡ cellsIn l 1
+  pub cells : slotsIn r ≡ slotsOf l 1
   pub noRest : rest (getD l 0 0) (drop 1 l) ≡ []
   pub areCells : all isCell (map cellOf (pieces (getD l 0 0) (drop 1 l))) ≡ true
 
@@ -31,7 +27,7 @@ shown : Bool → Cell → Slot
 shown long c = record { long = long; bits = c .bits; text = c .text }
 
 shown-of : (long : Bool) (cs : List Cell) → all isCell cs ≡ true
-    → map (shown long) cs ≡ map (shownOf long) (map cellText cs)
+    → map (shown long) cs ≡ map (slotOf long) (map cellText cs)
 unfolding cellOf shown
 shown-of long cs h =
     ap (map (shown long)) (sym (cells-back cs h)) ∙ map-map (shown long) cellOf (map cellText cs)
@@ -47,7 +43,7 @@ bits-shown w cs f =
     let q : rest 124 (barred cs) ≡ []
     = ap (rest 124) (joined-cells cs) ∙ rest-joined 124 (map cellText cs) [] g in
     record {
-      cells = shown-of false cs f ∙ ap (map (shownOf false)) (sym p);
+      cells = shown-of false cs f ∙ ap (map (slotOf false)) (sym p);
       noRest = q;
       areCells = ap (λ (m : List (List ℕ)). all isCell (map cellOf m)) p ∙ ap (all isCell) (cells-back cs f) ∙ f;
     }
@@ -60,7 +56,7 @@ long-shown w c f =
     let q : rest 58 (cellText c ++ (58 ∷ [])) ≡ [] = rest-cons 58 (cellText c) [] g in
     let a : all isCell (c ∷ []) ≡ true = rw f refl in
     record {
-      cells = shown-of true (c ∷ []) a ∙ ap (map (shownOf true)) (sym p);
+      cells = shown-of true (c ∷ []) a ∙ ap (map (slotOf true)) (sym p);
       noRest = q;
       areCells =
           ap (λ (m : List (List ℕ)). all isCell (map cellOf m)) p ∙ ap (all isCell) (cells-back (c ∷ []) a) ∙ a;

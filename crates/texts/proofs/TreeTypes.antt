@@ -12,11 +12,11 @@ use Rattle.base.specs.Lists.{ifAny}
 use Rattle.rules.specs.declared.ValueType.{ValueType}
 use Rattle.rules.specs.declared.ValueType.the-variants.{Number, YesNo}
 use Rattle.rules.specs.Operators.{takes, gives}
-use Rattle.rules.specs.Trees.{Tree, num, read, two, negation, sameType, hasType, storedTree, storedLength}
+use Rattle.rules.specs.Trees.{Tree, num, read, two, negation, sameType, hasType, storedTree}
 use Rattle.rules.specs.Fields.{Width, fixed, measured, rest, Form}
 use Rattle.rules.specs.Within.{widthHasType}
 use Rattle.text_laws.specs.LineReader.{hit, readTree}
-use Rattle.texts.specs.LinePlaces.{TreeIs, MaybeIs, WidthIs, PartsAre, lineAt, LineOf, spanIn}
+use Rattle.texts.specs.LinePlaces.{MaybeIs, WidthIs, PartsAre, lineAt, LineOf, spanIn}
 use Rattle.texts.specs.LineTests.{typesKept}
 use Rattle.texts.specs.StoredTrees.{mayRead, typeCode, typeOf, StoredFor}
 use Rattle.texts.proofs.LineSearches.{part-text}

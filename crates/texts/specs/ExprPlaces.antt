@@ -1,6 +1,6 @@
 -- What the reader of expressions answers, at places of a text: mirrors the code, no public promise rests on it.
 use mathlib.Core.Path.{_≡_}
-use mathlib.Core.List.{List, [], _∷_}
+use mathlib.Core.List.{List}
 use Prim.Native.Nat.{ℕ, suc, _+_, _*_, _≤_, _<_}
 use lib.ListN.{length, drop}
 use Rattle.rules.specs.Trees.{Tree, depth, storedLength}

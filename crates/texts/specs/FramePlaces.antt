@@ -1,10 +1,12 @@
 -- What the code that reads a frame answers, at places of a text: mirrors the code, no public promise rests on it.
 use mathlib.Core.Bool.{Bool, true, false, cond}
-use mathlib.Core.List.{List, [], _∷_}
+use mathlib.Core.List.{List, [], _∷_, map}
 use mathlib.Core.Option.{Option, none, some}
 use Prim.Native.Nat.{ℕ, suc}
 use lib.Dec.{eqb}
-use Rattle.rules.specs.Frames.{tensAt, unitsAt, borderAt}
+use lib.ListN.{drop}
+use Rattle.rules.specs.Frames.{tensAt, unitsAt, borderAt, bitRow}
+use Rattle.text_laws.specs.FrameReader.{pieces, rest, cellOf, keepRow, readName}
 use Rattle.texts.specs.declared.rulers.Ruler.{Ruler}
 use Rattle.texts.specs.declared.rulers.Ruler.the-variants.{Tens, Units, Border}
 
@@ -27,3 +29,11 @@ widthOr (some w) = w
 abbrev pub isSome : {A : Type 0} → Option A → Bool
 isSome none = false
 isSome (some a) = true
+
+-- the NAME behind an article of so many bytes, 0 for none
+unfoldable pub nameBehind : List ℕ → ℕ → Option (List ℕ)
+nameBehind l a = cond (eqb a 0) none (readName (drop a l))
+
+-- cells of w bits stand behind the first bar of a row
+abbrev pub isBits : ℕ → List ℕ → Bool
+isBits w l = isSome (keepRow w (rest 124 l) (bitRow (map cellOf (pieces 124 l))))

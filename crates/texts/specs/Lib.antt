@@ -1,24 +1,26 @@
 -- ExprPlaces  what the reader of expressions answers, at places of a text
 -- FieldPlaces  what the reader of field lines answers, at places of a text
 -- FramePlaces  what the reader of frames answers, at places of a text
--- FrameWalk  what the walk over the lines of a frame keeps and answers
 -- LinePlaces  where the parts of field lines stand, as the code holds them
 -- PartPlaces  widths and what stands behind them, at places of a text
--- Mismatches  cells held against field lines
+-- HeldNames  the names of fields as the code holds them
+-- Noted  a refusal as the code notes it
+-- Slots  the cells of rows as the code keeps them
 -- StoredTrees  expressions in their stored form, with their types, as the code makes them
 -- LineTests  what the code tests of the field lines that it holds
 -- Records  the records that the code writes of the lines that it holds
--- Stages  what is known of a text at each stage of reading it
 -- StoredPlaces  how stored expressions are made, and what is promised of them at places of a text
+-- States  what the code keeps of a text between two lines
 pub mod ExprPlaces
 pub mod FieldPlaces
 pub mod FramePlaces
-pub mod FrameWalk
 pub mod LinePlaces
 pub mod PartPlaces
-pub mod Mismatches
+pub mod HeldNames
+pub mod Noted
+pub mod Slots
 pub mod StoredTrees
 pub mod LineTests
 pub mod Records
-pub mod Stages
 pub mod StoredPlaces
+pub mod States

@@ -5,13 +5,12 @@ use names::repeats::same_name;
 use rules::FIELDS_MOST;
 use rules::SHORT_MOST;
 ghost use mathlib.Core.Bool.{_&&_, not};
-ghost use mathlib.Core.List.{[]};
 ghost use mathlib.Core.Path.{_≡_};
-ghost use Prim.Native.Nat.{ℕ, _+_, _≤_, _<_};
+ghost use Prim.Native.Nat.{_+_, _≤_};
 ghost use lib.Dec.{eqb};
-ghost use lib.ListN.{length, getD};
+ghost use lib.ListN.{length};
 ghost use Rattle.rules.specs.Limits.{fieldsMost};
-ghost use Rattle.texts.specs.LinePlaces.{lineAt, Fits, LinesFit};
+ghost use Rattle.texts.specs.LinePlaces.{Fits};
 ghost use Rattle.texts.specs.LineTests.{heldShort};
 ghost use Rattle.texts.specs.StoredTrees.{lookUp};
 
@@ -43,7 +42,7 @@ fn is_passed(p: Parts, fixed: bool) -> bool
 }
 
 // A line's short name; none for one that is not fixed, where only fixed ones count.
-fn short_of(text: &[u8], p: Parts, fixed: bool) -> [u8; SHORT_MOST]
+pub(crate) fn short_of(text: &[u8], p: Parts, fixed: bool) -> [u8; SHORT_MOST]
     requires { ⌜ (p .line .at + p .line .len ≤ length (now text)) × Fits (p .line .len) p ⌝ }
     ensures { λ r. ⌜ r ≡ heldShort (now (text .entry)) fixed p ⌝ }
 {
@@ -55,23 +54,4 @@ fn short_of(text: &[u8], p: Parts, fixed: bool) -> [u8; SHORT_MOST]
     let from = line.at + short.at;
     let to = from + short.len;
     held_name(&text[from..to])
-}
-
-// The short names of n lines.
-pub(crate) fn short_names(
-    text: &[u8],
-    lines: [Parts; FIELDS_MOST],
-    n: usize,
-    fixed: bool,
-) -> [[u8; SHORT_MOST]; FIELDS_MOST]
-    requires { ⌜ (n ≤ fieldsMost) × LinesFit (length (now text)) lines n ⌝ }
-    ensures { λ r. ⌜ ((i : ℕ) → i < n → getD r i [] ≡ heldShort (now (text .entry)) fixed (lineAt lines i)) ⌝ }
-{
-    let mut names = [[0u8; SHORT_MOST]; FIELDS_MOST];
-    let mut i = 0;
-    while i < n {
-        names[i] = short_of(text, lines[i], fixed);
-        i += 1;
-    }
-    names
 }

@@ -1,4 +1,4 @@
-// The first field line whose expressions have wrong types or read what they may not.
+// The types of a field line's expressions.
 use crate::parts::Parts;
 use crate::parts::TreeAt;
 use crate::stored_trees::stored_tree;
@@ -14,8 +14,8 @@ ghost use Rattle.base.specs.Lists.{ifAny};
 ghost use Rattle.rules.specs.Limits.{textMost, fieldsMost};
 ghost use Rattle.rules.specs.Trees.{Tree};
 ghost use Rattle.rules.specs.Fields.{Form};
-ghost use Rattle.texts.specs.LinePlaces.{MaybeIs, Fits, PartsAre, LineOf, LinesFit};
-ghost use Rattle.texts.specs.LineTests.{typesKept, FirstWrong};
+ghost use Rattle.texts.specs.LinePlaces.{MaybeIs, Fits, PartsAre};
+ghost use Rattle.texts.specs.LineTests.{typesKept};
 ghost use Rattle.texts.specs.StoredTrees.{mayRead, typeOf};
 
 // The expression, if there is one, is of the type.
@@ -38,7 +38,12 @@ fn has_type(
 }
 
 // The expressions of the line of index i have their types.
-fn types_kept(line: &[u8], p: Parts, names: &[[u8; SHORT_MOST]; FIELDS_MOST], i: usize) -> bool
+pub(crate) fn types_kept(
+    line: &[u8],
+    p: Parts,
+    names: &[[u8; SHORT_MOST]; FIELDS_MOST],
+    i: usize,
+) -> bool
     requires { ⌜ (length (now line) ≤ textMost) × Fits (length (now line)) p × (i < fieldsMost) ⌝ }
     ensures { λ r. ⌜ ((x : Form) → PartsAre (now (line .entry)) x p → r ≡ typesKept (now (names .entry)) i x) ⌝ }
 {
@@ -49,37 +54,4 @@ fn types_kept(line: &[u8], p: Parts, names: &[[u8; SHORT_MOST]; FIELDS_MOST], i:
         return false;
     }
     false
-}
-
-// The same for a line of a text.
-fn line_kept(text: &[u8], p: Parts, names: &[[u8; SHORT_MOST]; FIELDS_MOST], i: usize) -> bool
-    requires { ⌜ (length (now text) ≤ textMost) × (p .line .at + p .line .len ≤ length (now text))
-        × Fits (p .line .len) p × (i < fieldsMost) ⌝ }
-    ensures { λ r. ⌜ ((x : Form) → LineOf (now (text .entry)) x p → r ≡ typesKept (now (names .entry)) i x) ⌝ }
-{
-    let line = p.line;
-    let from = line.at;
-    let to = from + line.len;
-    types_kept(&text[from..to], p, names, i)
-}
-
-// The first of n lines whose expressions have not their types, else n.
-pub(crate) fn first_wrong(
-    text: &[u8],
-    lines: [Parts; FIELDS_MOST],
-    names: &[[u8; SHORT_MOST]; FIELDS_MOST],
-    n: usize,
-) -> usize
-    requires { ⌜ (n ≤ fieldsMost) × (length (now text) ≤ textMost) × LinesFit (length (now text)) lines n ⌝ }
-    ensures { λ r. ⌜ FirstWrong (now (text .entry)) lines (now (names .entry)) n r ⌝ }
-{
-    let mut i = 0;
-    while i < n {
-        if line_kept(text, lines[i], names, i) {
-            i += 1;
-        } else {
-            return i;
-        }
-    }
-    n
 }

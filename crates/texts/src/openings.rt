@@ -1,20 +1,15 @@
-// The opening line of a text, and where the name stands in it.
-use crate::text_bytes::line_end;
+// The opening line of a text.
 use names::labels::is_label;
 use names::words::same_words;
-use writing::spans::Span;
-ghost use mathlib.Core.Bool.{cond};
 ghost use mathlib.Core.Path.{_≡_};
-ghost use Prim.Native.Nat.{_+_, _≤_, _<_};
-ghost use lib.Dec.{eqb};
-ghost use lib.ListN.{length, getD};
-ghost use Rattle.rules.specs.Frames.{Frame, FrameOf};
-ghost use Rattle.text_laws.specs.FrameReader.{readName, opened};
-ghost use Rattle.texts.specs.FramePlaces.{isSome};
-ghost use Rattle.texts.specs.LinePlaces.{spanIn};
+ghost use Prim.Native.Nat.{_≤_};
+ghost use lib.ListN.{length};
+ghost use Rattle.text_laws.specs.FrameReader.{readName};
+ghost use Rattle.text_laws.specs.Fold.{openingName};
+ghost use Rattle.texts.specs.FramePlaces.{isSome, nameBehind};
 
 // A name and the closing words of an opening line.
-fn is_named(s: &[u8]) -> bool
+pub(crate) fn is_named(s: &[u8]) -> bool
     ensures { λ r. ⌜ r ≡ isSome (readName (now (s .entry))) ⌝ }
 {
     if s.len() < 25 {
@@ -27,38 +22,19 @@ fn is_named(s: &[u8]) -> bool
     is_label(&s[0..n])
 }
 
-pub(crate) fn is_opening(line: &[u8]) -> bool
-    ensures { λ r. ⌜ r ≡ isSome (opened (now (line .entry))) ⌝ }
+// The length of `A ` or `An ` in front of a line, 0 where neither stands there.
+pub(crate) fn article(line: &[u8]) -> usize
+    ensures place { λ r. ⌜ r ≤ length (now (line .entry)) ⌝ }
+    ensures name { λ r. ⌜ openingName (now (line .entry)) ≡ nameBehind (now (line .entry)) r ⌝ }
 {
     if line.len() < 3 {
-        return false;
+        return 0;
     }
     if same_words(&line[0..3], b"An ") {
-        return is_named(&line[3..]);
+        return 3;
     }
     if same_words(&line[0..2], b"A ") {
-        return is_named(&line[2..]);
+        return 2;
     }
-    false
-}
-
-// The length of `A ` or `An `.
-fn article_length(text: &[u8]) -> usize
-    requires { ⌜ 1 < length (now text) ⌝ }
-    ensures { λ r. ⌜ r ≡ cond (eqb (getD (now (text .entry)) 1 0) 110) 3 2 ⌝ }
-{
-    if text[1] == b'n' { 3 } else { 2 }
-}
-
-pub(crate) fn name_span(text: &[u8]) -> Span
-    requires { ⌜ ((f : Frame) × FrameOf (now text) f) ⌝ }
-    ensures place { λ r. ⌜ r .at + r .len ≤ length (now (text .entry)) ⌝ }
-    ensures name { λ r. ⌜ ((f : Frame) → FrameOf (now (text .entry)) f → spanIn (now (text .entry)) r ≡ f .name) ⌝ }
-{
-    let from = article_length(text);
-    let end = line_end(text, 0);
-    Span {
-        at: from,
-        len: end - 25 - from,
-    }
+    0
 }

@@ -1,4 +1,4 @@
-// The cells of a row, and a long row.
+// The lines of rows.
 use crate::text_bytes::part_end;
 use names::classes::class_table;
 use names::classes::is_space_in;
@@ -7,8 +7,8 @@ ghost use mathlib.Core.Path.{_≡_};
 ghost use Prim.Native.Nat.{_≤_};
 ghost use lib.ListN.{length, take, drop};
 ghost use Rattle.rules.specs.Frames.{isCell};
-ghost use Rattle.text_laws.specs.FrameReader.{pieces, rest, leftTrim, rightTrim, cellOf, longOf};
-ghost use Rattle.texts.specs.FramePlaces.{isSome};
+ghost use Rattle.text_laws.specs.FrameReader.{pieces, rest, leftTrim, rightTrim, cellOf, longOf, readRow};
+ghost use Rattle.texts.specs.FramePlaces.{isSome, isBits};
 
 // The place behind the spaces in front.
 pub(crate) fn spaces_end(s: &[u8]) -> usize
@@ -65,4 +65,41 @@ pub(crate) fn is_long(l: &[u8], w: usize) -> bool
         return false;
     }
     is_cell(&l[0..e])
+}
+
+// What stands behind the first bar of a row: cells of `w` bits together, each with a bar behind it.
+fn is_bits(l: &[u8], w: usize) -> bool
+    ensures { λ r. ⌜ r ≡ isBits w (now (l .entry)) ⌝ }
+{
+    let mut at = 0;
+    let mut bits = 0;
+    while at < l.len() {
+        let e = part_end(l, at, b'|');
+        if e >= l.len() {
+            return false;
+        }
+        if !is_cell(&l[at..e]) {
+            return false;
+        }
+        bits += (e - at + 1) / 2;
+        at = e + 1;
+    }
+    bits == w
+}
+
+// The line is a row of `w` bits.
+pub(crate) fn is_row(line: &[u8], w: usize) -> bool
+    requires { ⌜ w ≤ 32 ⌝ }
+    ensures { λ r. ⌜ r ≡ isSome (readRow w (now (line .entry))) ⌝ }
+{
+    if line.len() == 0 {
+        return false;
+    }
+    if line[0] == b'|' {
+        return is_bits(&line[1..], w);
+    }
+    if line[0] == b':' {
+        return is_long(&line[1..], w);
+    }
+    false
 }

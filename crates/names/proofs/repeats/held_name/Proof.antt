@@ -44,7 +44,7 @@ loop-again c = (
 )
 
 returns : tie.Need-returns Inv-loop μ-loop
-returns c = pad-whole _ _ (c .before .loop .i) (omega arith) (omega arith) (c .before .loop .inv .2)
+returns c = pad-whole shortMost _ _ (c .before .loop .i) (omega arith) (omega arith) (c .before .loop .inv .2)
 
 pub held-name-spec : {M : Type 1} → statement M
 held-name-spec =

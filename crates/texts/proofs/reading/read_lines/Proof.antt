@@ -1,66 +1,141 @@
-use mathlib.Core.Path.{_≡_, refl, sym, _∙_}
-use Prim.Native.Nat.{_-_, _≤_, _+_, _<_}
+use mathlib.Core.Path.{_≡_, refl, ap, sym, _∙_}
+use Prim.Native.Nat.{ℕ, _-_, _≤_}
 use native.Mathlib.Omega.{arith}
-use native.Mathlib.Nat.{sub-zero}
 use denote.Ref.{now}
-use Rattle.texts.proofs.StageForms.{lines-few, lines-top, answers-5, forms-seen}
+use lib.Dec.{eqb}
+use lib.ListN.{length}
+use Rattle.rules.specs.Names.{lineFeed}
+use Rattle.texts.specs.States.{Room}
+use Rattle.texts.proofs.SplitSteps.{piece-length}
+use Rattle.texts.proofs.LineWalk.{Walking, room-begun, walking-start, walking-next, walking-reads, empty-end}
 use borrow.Author.Needs.{needs}
 use Rattle.texts.proofs.reading.read_lines.Statement.{statement}
 use Rattle.texts.proofs.reading.read_lines.Tie as tie
 use Rattle.texts.proofs.reading.read_lines.Reads as reads
 use Rattle.texts.proofs.reading.read_lines.Lts as lts
-use Rattle.texts.proofs.line_rules.first_line.Reads as first-line-reads
-use Rattle.texts.proofs.reading.read_sizes.Reads as read-sizes-reads
+use Rattle.texts.proofs.line_steps.take_line.Reads as take-line-reads
+use Rattle.texts.proofs.states.begin.Reads as begin-reads
+use Rattle.texts.proofs.text_bytes.line_end.Reads as line-end-reads
+use Rattle.texts.proofs.text_ends.end_text.Reads as end-text-reads
 
-first-line-requires : tie.Need-first-line-requires
-first-line-requires c κs =
-    let a = c .before .before .args in
-    let k = c .before .before .pre in
-    lines-few (now (a .text)) (now (a .out)) (a .w) (a .head) (a .n) (a .lines) (k .0) (k .1)
+abbrev Inv-loop : tie.InvT-loop
+Inv-loop text out₀ cells₀ table₀ labels₀ shorts₀ names₀ r₀ at₀ out cells table labels shorts names r at =
+    (at ≤ length text) ×
+    (r .lines ≤ at) ×
+    (out ≡ out₀) ×
+    (length cells ≡ length cells₀) ×
+    (length table ≡ length table₀) ×
+    Room r ×
+    Walking text at r cells table labels shorts names
 
-add-t10 : tie.Need-add-t10
-add-t10 c =
-    let a = c .before .before .before .before .args in
-    let k = c .before .before .before .before .pre in
-    let m = lines-top (now (a .text)) (now (a .out)) (a .w) (a .head) (a .n) (a .lines) (k .0) (k .1) in
-    search (needs, m)
+abbrev μ-loop : tie.MeasureT-loop
+μ-loop text out₀ cells₀ table₀ labels₀ shorts₀ names₀ r₀ at₀ out cells table labels shorts names r at = length text - at
 
-add-t11 : tie.Need-add-t11
-add-t11 c =
-    let a = c .before .before .before .before .args in
-    let k = c .before .before .before .before .pre in
-    let m = lines-top (now (a .text)) (now (a .out)) (a .w) (a .head) (a .n) (a .lines) (k .0) (k .1) in
-    let f = lines-few (now (a .text)) (now (a .out)) (a .w) (a .head) (a .n) (a .lines) (k .0) (k .1) in
-    search (needs, m, f)
+begin-requires : tie.Need-begin-requires Inv-loop μ-loop
+begin-requires c κs = search needs
 
-returns : tie.Need-returns
-returns c =
-    let a = c .before .before .before .before .args in
-    let k = c .before .before .before .before .pre in
-    answers-5 (now (a .text)) (now (a .out)) (a .w) (a .head) (a .n) (a .lines) (k .0) (k .1) _ (c .before
-    .first-line .ensures) (omega arith)
-
-read-sizes-requires : tie.Need-read-sizes-requires
-read-sizes-requires c κs =
+loop-holds : tie.Need-loop-holds Inv-loop μ-loop
+loop-holds c =
     let a = c .before .before .before .before .before .args in
-    let k = c .before .before .before .before .before .pre in
-    forms-seen (now (a .text)) (now (a .out)) (a .w) (a .head) (a .n) (a .lines) (k .0) (k .1) _ (c .before .before
-    .first-line .ensures) (omega arith)
+    rw (c .begin .ensures) (
+      omega arith,
+      omega arith,
+      refl,
+      refl,
+      refl,
+      room-begun,
+      walking-start (now (a .text)) _ _ _ _ _ (c .before .before .before .before .before .pre .3),
+    )
 
-same-length : tie.Need-same-length
+line-end-requires : tie.Need-line-end-requires Inv-loop μ-loop
+line-end-requires c κs = search needs
+
+end-text-requires : tie.Need-end-text-requires Inv-loop μ-loop
+end-text-requires c κs = let v = c .before .before .before .before .loop in (v .inv .5, omega (arith, v .inv .1, v .inv .0, c .before .before .before .before .before .before .before .before .before .before .pre .0 .size), omega (arith, v .inv .4, c .before .before .before .before .before .before .before .before .before .before .pre .2))
+
+same-length : tie.Need-same-length Inv-loop μ-loop
 same-length c = search needs
 
-returns-2 : tie.Need-returns-2
-returns-2 c = search needs
+same-length-2 : tie.Need-same-length-2 Inv-loop μ-loop
+same-length-2 c = search needs
+
+same-length-3 : tie.Need-same-length-3 Inv-loop μ-loop
+same-length-3 c = search needs
+
+returns : tie.Need-returns Inv-loop μ-loop
+returns c =
+    let t = now (c .before .before .before .before .before .before .before .before .before .before .before .before .before .args .text) in
+    let v = c .before .before .before .before .before .before .before .loop in
+    let e = c .before .before .before .before .before .before .line-end in
+    let w = v .inv .6 in
+    let z = walking-reads t (v .at) (e .result) (v .r) w (e .ensures .1) (v .inv .0) (e .ensures .0 .1)
+    (omega (arith, c .before .before .before .before .before .if1 .taken)) (c .before .before .before .before .before .before .before .before .before .before .before .before .before .pre .0) in
+    rw (← v .inv .2) (z _ _ (c .before .before .end-text .ensures _ _ _ _ _ (empty-end t (v .at) (v .inv .0)
+    ∙ ap (λ (n : ℕ). eqb (v .at) n) (sym (c .before .before .before .before .before .if1 .taken))) (w .holds)))
+
+sub-take-line : tie.Need-sub-take-line Inv-loop μ-loop
+sub-take-line c = search needs
+
+part-take-line-start : tie.Need-part-take-line-start Inv-loop μ-loop
+part-take-line-start c = search needs
+
+part-take-line-end : tie.Need-part-take-line-end Inv-loop μ-loop
+part-take-line-end c = search needs
+
+take-line-requires : tie.Need-take-line-requires Inv-loop μ-loop
+take-line-requires c κs =
+    let t = now (c .before .before .before .before .before .before .before .before .before .before .before .before .before .before .args .text) in
+    let v = c .before .before .before .before .before .before .before .before .loop in
+    let e = c .before .before .before .before .before .before .before .line-end in
+    let n = piece-length lineFeed t (v .at) (e .result) (e .ensures .1) (omega (arith, e .ensures .0 .1, c .before .before .before .before .before .before .if1 .left)) in (
+      v .inv .5,
+      omega (arith, v .inv .1, v .inv .0, c .before .before .before .before .before .before .before .before .before .before .before .before .before .before .pre .0 .size),
+      omega (arith, n, e .ensures .0 .1, c .before .before .before .before .before .before .before .before .before .before .before .before .before .before .pre .0 .size),
+      omega (arith, v .inv .3, c .before .before .before .before .before .before .before .before .before .before .before .before .before .before .pre .1),
+      omega (arith, v .inv .4, c .before .before .before .before .before .before .before .before .before .before .before .before .before .before .pre .2),
+    )
+
+add-at : tie.Need-add-at Inv-loop μ-loop
+add-at c = let q = c .before .before .before .before .before .before .before .before .before .before .before .before .line-end .ensures .0 .1 in let z = c .before .before .before .before .before .before .before .before .before .before .before .before .before .before .before .before .before .before .before .pre .0 .size in omega (arith, q, z)
+
+loop-less : tie.Need-loop-less Inv-loop μ-loop
+loop-less c = let q = c .before .before .before .before .before .before .before .before .before .before .before .before .line-end .ensures .0 in omega (arith, q .0, q .1, c .before .before .before .before .before .before .before .before .before .before .before .if1 .left)
+
+loop-again : tie.Need-loop-again Inv-loop μ-loop
+loop-again c =
+    let t = now (c .before .before .before .before .before .before .before .before .before .before .before .before .before .before .before .before .before .before .before .args .text) in
+    let v = c .before .before .before .before .before .before .before .before .before .before .before .before .before .loop in
+    let e = c .before .before .before .before .before .before .before .before .before .before .before .before .line-end in
+    let q = c .before .before .before .before .take-line .ensures in
+    let lt = e .ensures .0 .1 in (
+      omega (arith, lt, c .before .before .before .before .before .before .before .before .before .before .before .if1 .left),
+      omega (arith, q .0 .1, v .inv .1, e .ensures .0 .0),
+      v .inv .2,
+      omega (arith, q .1 .0, v .inv .3),
+      omega (arith, q .1 .1, v .inv .4),
+      q .0 .0,
+      walking-next t (v .at) (e .result) (v .r) (v .inv .6) (e .ensures .1) (omega (arith, lt, c .before .before .before .before .before .before .before .before .before .before .before .if1 .left))
+          (c .before .before .before .before .take-line .result) (q .1),
+    )
 
 pub read-lines-spec : {M : Type 1} → statement M
 read-lines-spec =
     tie.close
     (tie.spec
-    first-line-requires
-    add-t10
-    add-t11
-    returns
-    read-sizes-requires
+    Inv-loop
+    μ-loop
+    begin-requires
+    loop-holds
+    line-end-requires
+    end-text-requires
     same-length
-    returns-2)
+    same-length-2
+    same-length-3
+    returns
+    sub-take-line
+    part-take-line-start
+    part-take-line-end
+    take-line-requires
+    add-at
+    loop-less
+    loop-again)

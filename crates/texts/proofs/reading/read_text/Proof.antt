@@ -3,7 +3,7 @@ use Prim.Native.Nat.{_-_, _≤_, _+_, _<_}
 use native.Mathlib.Omega.{arith}
 use native.Mathlib.Nat.{sub-zero}
 use denote.Ref.{now}
-use Rattle.texts.proofs.StageFrames.{answers-1, answers-2}
+use Rattle.texts.proofs.LineWalk.{answers-1, answers-2}
 use borrow.Author.Needs.{needs}
 use Rattle.texts.proofs.reading.read_text.Statement.{statement}
 use Rattle.texts.proofs.reading.read_text.Tie as tie

@@ -1,0 +1,171 @@
+-- What is kept stays steady: its bounds, no name repeated where nothing was refused, no field before the field lines.
+use mathlib.Core.Path.{_≡_, refl, ap, sym, _∙_}
+use mathlib.Core.Bool.{Bool, true, false, cond}
+use mathlib.Core.List.{List, [], _∷_, _++_}
+use mathlib.Core.Option.{Option, none, some, Option·none-ne-some}
+use Prim.Native.Nat.{ℕ, suc}
+use native.Mathlib.Omega.{arith}
+use lib.Dec.{ltb}
+use lib.ListN.{length}
+use Rattle.base.specs.Bytes.{bytes}
+use Rattle.base.specs.Lists.{all, same, isEmpty, firstBreak}
+use Rattle.base.proofs.Lists.{not-both}
+use Rattle.rules.specs.Answers.{Answer, refused}
+use Rattle.rules.specs.Limits.{fieldsMost}
+use Rattle.rules.specs.Fields.{Form}
+use Rattle.rules.specs.Within.{keepsSize, keepsNames, keepsTypes, keepsRest, nameReadable}
+use Rattle.rules.specs.Frames.{Row, Slot, units, border, slotsIn}
+use Rattle.text_laws.specs.FrameReader.{readTens, readRow}
+use Rattle.text_laws.specs.LineReader.{readForm}
+use Rattle.text_laws.specs.Resolving.{indexOf}
+use Rattle.text_laws.specs.Lowest.{lower, broken}
+use Rattle.text_laws.specs.Judging.{face, faces, resolvedIn, showsCell, rules, Judged, isFull, many, withForm}
+use Rattle.text_laws.specs.Judging.{judge}
+use Rattle.text_laws.specs.Fold.{Stage, opening, blank, tensRuler, unitsRuler, topBorder, firstRow, rowBorder}
+use Rattle.text_laws.specs.Fold.{rowOrBlank, whereLine, lastBlank, firstField, fieldLine, lost, Found, start}
+use Rattle.text_laws.specs.Fold.{onward, losing, wrong, expect, openingName, withName, withWidth, withRow}
+use Rattle.text_laws.specs.Fold.{linedAt, lined}
+use Rattle.text_laws.specs.Steady.{Clear, isHead, Steady}
+use Rattle.text_laws.proofs.Bounds.{small-line}
+use Rattle.text_laws.proofs.Faces.{renamed-face}
+use Rattle.text_laws.proofs.Loose.{lower-left, faces-append}
+use Rattle.text_laws.proofs.Lowests.{break-more}
+
+-- ── where nothing was refused, no name is repeated ──
+
+-- a line that breaks no rule keeps 8 and 9
+pub rules-clear : (cells : List Slot) (p : ℕ) (before : List Form) (x : Form)
+    → broken 6 p (rules cells) before x ≡ none
+    → (keepsNames before x ≡ true) × (keepsTypes nameReadable before x ≡ true)
+unfolding broken
+rules-clear cells p before x h =
+    go (keepsSize before x) (showsCell cells before x) (keepsNames before x) refl (keepsTypes nameReadable before x) refl
+    (keepsRest before x) h
+  where
+    go : (a b c : Bool) → keepsNames before x ≡ c → (d : Bool) → keepsTypes nameReadable before x ≡ d → (e : Bool)
+        → cond a (cond b (cond c (cond d (cond e none (some (refused 10 p))) (some (refused 9 p))) (some (refused 8 p)))
+        (some (refused 7 p))) (some (refused 6 p)) ≡ none
+        → (keepsNames before x ≡ true) × (keepsTypes nameReadable before x ≡ true)
+    go true true true q true r e k = (q, r)
+    go true true true q false r e k = absurd (Option·none-ne-some (refused 9 p) (sym k))
+    go true true false q d r e k = absurd (Option·none-ne-some (refused 8 p) (sym k))
+    go true false c q d r e k = absurd (Option·none-ne-some (refused 7 p) (sym k))
+    go false b c q d r e k = absurd (Option·none-ne-some (refused 6 p) (sym k))
+
+pub lower-right : (a b : Option Answer) → lower a b ≡ none → b ≡ none
+lower-right none b e = e
+lower-right (some a) b e = absurd (Option·none-ne-some a (sym (lower-left (some a) b e)))
+
+-- one more name that repeats none
+pub unique-more : (before : List Form) (x : Form) → firstBreak keepsNames [] before ≡ none → keepsNames before x ≡ true
+    → firstBreak keepsNames [] (before ++ (x ∷ [])) ≡ none
+unique-more before x h k = rw (break-more keepsNames before x, h, k) refl
+
+clear-form : (cells : List Slot) (p : ℕ) (j : Judged) (o : Option Form) → Clear j → Clear (withForm cells p j o)
+unfolding withForm
+clear-form cells p j none h = λ e. h (lower-left (j .lowest) (some (refused 5 p)) e)
+clear-form cells p j (some x) h = λ e.
+    let b = broken 6 p (rules cells) (faces (j .fields)) x in
+    let k = rules-clear cells p (faces (j .fields)) x (lower-right (j .lowest) b e) in
+    let u = unique-more (faces (j .fields)) x (h (lower-left (j .lowest) b e)) (k .0) in
+    rw e (ap (firstBreak keepsNames []) (faces-append (j .fields) (resolvedIn (j .fields) x)
+    ∙ ap (λ (y : Form). faces (j .fields) ++ (y ∷ [])) (renamed-face (indexOf (faces (j .fields) ++ (x ∷ []))) x))
+    ∙ face-unique (faces (j .fields)) x u)
+  where
+    face-unique : (before : List Form) (y : Form) → firstBreak keepsNames [] (before ++ (y ∷ [])) ≡ none
+        → firstBreak keepsNames [] (before ++ (face y ∷ [])) ≡ none
+    face-unique before y u = break-more keepsNames before (face y) ∙ sym (break-more keepsNames before y) ∙ u
+
+clear-judge : (cells : List Slot) (p : ℕ) (j : Judged) (l : List ℕ) → Clear j → Clear (judge cells p j l)
+unfolding judge
+clear-judge cells p j l h = go (isFull j)
+  where
+    go : (b : Bool) → Clear (cond b (many j) (withForm cells p j (readForm l)))
+    go true = λ e. absurd (Option·none-ne-some (refused 4 0) (sym e))
+    go false = clear-form cells p j (readForm l) h
+
+-- ── a line ──
+
+-- clear, and no field before the field lines
+abbrev Stays : Found → Type 0
+Stays f = Clear (f .judged) × (isHead (f .stage) ≡ true → f .judged .fields ≡ [])
+
+module _ (f : Found) (clear : Clear (f .judged)) where
+  stays-wrong : Stays (wrong f)
+  stays-wrong = (
+    λ e. absurd (Option·none-ne-some (refused 3 (suc (f .lines))) (sym e)),
+    λ e. absurd (not-both false e refl),
+  )
+
+  module _ (no-fields : f .judged .fields ≡ []) where
+    stays-expect : (w : List ℕ) (s : Stage) (l : List ℕ) → Stays (expect w s f l)
+    stays-expect w s l = go (same l w)
+      where
+        go : (b : Bool) → Stays (cond b (onward s f) (wrong f))
+        go true = (clear, λ e. no-fields)
+        go false = stays-wrong
+
+    stays-name : (o : Option (List ℕ)) → Stays (withName f o)
+    stays-name none = stays-wrong
+    stays-name (some n) = (clear, λ e. no-fields)
+
+    stays-width : (o : Option ℕ) → Stays (withWidth f o)
+    stays-width none = stays-wrong
+    stays-width (some w) = (clear, λ e. no-fields)
+
+    stays-row : (o : Option Row) → Stays (withRow f o)
+    stays-row none = stays-wrong
+    stays-row (some r) = go (ltb fieldsMost (length (f .cells ++ slotsIn r)))
+      where
+        go : (b : Bool)
+            → Clear (cond b (many (f .judged)) (f .judged))
+            × (isHead rowBorder ≡ true → cond b (many (f .judged)) (f .judged) .fields ≡ [])
+        go true = (λ e. absurd (Option·none-ne-some (refused 4 0) (sym e)), λ e. no-fields)
+        go false = (clear, λ e. no-fields)
+
+    stays-blank : (l : List ℕ) → Stays (cond (isEmpty l) (onward whereLine f) (withRow f (readRow (f .width) l)))
+    stays-blank l = go (isEmpty l)
+      where
+        go : (b : Bool) → Stays (cond b (onward whereLine f) (withRow f (readRow (f .width) l)))
+        go true = (clear, λ e. no-fields)
+        go false = stays-row (readRow (f .width) l)
+
+  stays-field : (l : List ℕ) → Stays (linedAt fieldLine f l)
+  unfolding linedAt
+  stays-field l = (clear-judge (f .cells) (suc (f .lines)) (f .judged) l clear, λ e. absurd (not-both false e refl))
+
+stays-line : (s : Stage) (f : Found) (l : List ℕ) → Clear (f .judged) → (isHead s ≡ true → f .judged .fields ≡ [])
+    → (isHead (f .stage) ≡ true → f .judged .fields ≡ []) → Stays (linedAt s f l)
+unfolding linedAt
+stays-line opening f l c h k = stays-name f c (h refl) (openingName l)
+stays-line blank f l c h k = stays-expect f c (h refl) [] tensRuler l
+stays-line tensRuler f l c h k = stays-width f c (h refl) (readTens l)
+stays-line unitsRuler f l c h k = stays-expect f c (h refl) (units (f .width)) topBorder l
+stays-line topBorder f l c h k = stays-expect f c (h refl) (border (f .width)) firstRow l
+stays-line firstRow f l c h k = stays-row f c (h refl) (readRow (f .width) l)
+stays-line rowBorder f l c h k = stays-expect f c (h refl) (border (f .width)) rowOrBlank l
+stays-line rowOrBlank f l c h k = stays-blank f c (h refl) l
+stays-line whereLine f l c h k = stays-expect f c (h refl) (bytes "where:") lastBlank l
+stays-line lastBlank f l c h k = stays-expect f c (h refl) [] firstField l
+stays-line firstField f l c h k = stays-field f c l
+stays-line fieldLine f l c h k = stays-field f c l
+stays-line lost f l c h k = (c, k)
+
+pub steady-line : (f : Found) (l : List ℕ) → Steady f → Steady (lined f l)
+steady-line f l h =
+    let s = stays-line (f .stage) f l (h .clear) (h .head) (h .head) in
+    record { small = small-line (f .stage) f l (h .small); clear = s .0; head = s .1 }
+
+pub steady-start : Steady start
+unfolding all firstBreak
+steady-start = record {
+  small = record {
+    name = omega arith;
+    width = omega arith;
+    cells = omega arith;
+    texts = refl;
+    judged = record { count = omega arith; fields = omega arith; formed = refl };
+  };
+  clear = λ e. refl;
+  head = λ e. refl;
+}

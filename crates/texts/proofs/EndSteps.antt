@@ -1,0 +1,265 @@
+-- The end of a text: the lowest refusal, and the table.
+use mathlib.Core.Path.{_≡_, refl, ap, ap₂, sym, _∙_}
+use mathlib.Core.Bool.{Bool, true, false, cond, _||_, not}
+use mathlib.Core.List.{List, [], _++_, append-assoc, append-nil}
+use mathlib.Core.Option.{Option, none, some}
+use Prim.Native.Nat.{ℕ, suc, _+_, _-_, _≤_, _<_}
+use native.Mathlib.Omega.{arith}
+use lib.Dec.{ltb, eqb}
+use lib.ListN.{length, take, drop, length-append, length-drop, take-append-drop}
+use lib.Seq.{take-append-seam, drop-append-seam, length-take-le}
+use native.Mathlib.Nat.{sub-zero}
+use borrow.Author.Tests.{lt-ltb, le-ltb, eq-eqb, ne-eqb, eqb-true}
+use Rattle.base.specs.Lists.{isEmpty, joined, between}
+use Rattle.base.proofs.Lists.{and-left, and-right, between-true}
+use Rattle.writing.specs.Writes.{Writes}
+use Rattle.writing.proofs.Writing.{writes-join}
+use Rattle.rules.specs.Answers.{Answer, accepted, refused}
+use Rattle.rules.specs.Trees.{le2}
+use Rattle.rules.specs.Fields.{Field}
+use Rattle.rules.specs.Stored.{counted, recordOf, storedField, storedIn, headBody, stored}
+use Rattle.rules.specs.Promises.{leaves, overlaid, delivered}
+use Rattle.text_laws.specs.Lowest.{lower}
+use Rattle.text_laws.specs.Fold as fold
+use Rattle.text_laws.proofs.Loose.{lowest-clear}
+use Rattle.texts.specs.Noted.{noteOf}
+use Rattle.texts.specs.States.{note, isTold, Room, Counts, Holds, stageOf, earlyNote, remainNote, lastNote, TableStep}
+use Rattle.texts.specs.declared.notes.Note.{Note}
+use Rattle.texts.specs.declared.states.Stage.{Stage}
+use Rattle.texts.specs.declared.states.Stage.the-variants as at
+use Rattle.texts.specs.declared.states.Reading.{Reading}
+use Rattle.writing.specs.Puts.{placed, put}
+use Rattle.writing.proofs.PutLaws.{put-writes}
+use Rattle.texts.proofs.LineForms.{told-lower}
+use Rattle.texts.proofs.RecordLaws.{two-writes, two-end}
+use Rattle.texts.proofs.TableLaws.{head-end}
+use Rattle.texts.proofs.RecordSizes.{two-length, counted-length}
+
+-- ── the lowest refusal ──
+
+module _ (f : fold.Found) (r : Reading) (c : Counts f r) where
+  early-is : noteOf (earlyNote r) ≡ fold.early f
+  unfolding noteOf
+  early-is = let n : r .lines + 1 ≡ suc (f .lines) = (let q = c .lines in omega (arith, q)) in
+      ap (λ (p : ℕ). some (refused 3 p)) n
+
+  remain-is : noteOf (remainNote r) ≡ fold.uncelled f
+  unfolding noteOf
+  remain-is =
+      let n : r .lines + 1 ≡ suc (f .lines) = (let q = c .lines in omega (arith, q)) in
+      go (ltb (r .fields) (r .cells))
+      ∙ ap (λ (p : ℕ). cond (ltb (r .fields) (r .cells)) (some (refused 7 p)) none) n
+      ∙ ap₂ {C = Option Answer} (λ (a b : ℕ). cond (ltb a b) (some (refused 7 (suc (f .lines)))) none) (c .fields)
+      (c .cells)
+    where
+      go : (b : Bool) → noteOf (cond b (note 7 (r .lines + 1)) (note 0 0)) ≡ cond b (some (refused 7 (r .lines + 1))) none
+      go true = refl
+      go false = refl
+
+  fields-is : (l : List ℕ) (whole : Bool) → isEmpty l ≡ whole
+      → cond whole (lower (noteOf (r .note)) (noteOf (remainNote r))) (noteOf (earlyNote r))
+      ≡ cond (isEmpty l) (lower (f .judged .lowest) (fold.uncelled f)) (fold.early f)
+  fields-is l whole e = rw (e, c .lowest, remain-is, early-is) refl
+
+  last-at : (s : Stage) (l : List ℕ) (whole : Bool) → isEmpty l ≡ whole
+      → lastNote s r whole ≡ fold.lowestAt (stageOf s) l f
+  unfolding lastNote fold.lowestAt
+  last-at at.Opening l w e = early-is
+  last-at at.Blank l w e = early-is
+  last-at at.TensRuler l w e = early-is
+  last-at at.UnitsRuler l w e = early-is
+  last-at at.TopBorder l w e = early-is
+  last-at at.FirstRow l w e = early-is
+  last-at at.RowBorder l w e = early-is
+  last-at at.RowOrBlank l w e = early-is
+  last-at at.WhereLine l w e = early-is
+  last-at at.LastBlank l w e = early-is
+  last-at at.FirstField l w e = early-is
+  last-at at.FieldLine l w e = fields-is l w e
+  last-at at.Lost l w e = c .lowest
+
+  pub last-is : (l : List ℕ) (whole : Bool) → isEmpty l ≡ whole
+      → lastNote (r .stage) r whole ≡ fold.lowestAt (f .stage) l f
+  last-is l whole e = last-at (r .stage) l whole e ∙ ap (λ (s : fold.Stage). fold.lowestAt s l f) (c .stage)
+
+-- it can be told
+pub last-told : (s : Stage) (r : Reading) (whole : Bool) → Room r → isTold (lastNote s r whole) ≡ true
+unfolding lastNote noteOf
+last-told at.Opening r w h = refl
+last-told at.Blank r w h = refl
+last-told at.TensRuler r w h = refl
+last-told at.UnitsRuler r w h = refl
+last-told at.TopBorder r w h = refl
+last-told at.FirstRow r w h = refl
+last-told at.RowBorder r w h = refl
+last-told at.RowOrBlank r w h = refl
+last-told at.WhereLine r w h = refl
+last-told at.LastBlank r w h = refl
+last-told at.FirstField r w h = refl
+last-told at.FieldLine r w h = go w
+  where
+    left : (b : Bool) → isTold (noteOf (cond b (note 7 (r .lines + 1)) (note 0 0))) ≡ true
+    left true = refl
+    left false = refl
+
+    go : (b : Bool)
+        → isTold (cond b (lower (noteOf (r .note)) (noteOf (remainNote r))) (noteOf (earlyNote r))) ≡ true
+    go true = told-lower (noteOf (r .note)) (noteOf (remainNote r)) (h .told) (left (ltb (r .fields) (r .cells)))
+    go false = refl
+last-told at.Lost r w h = h .told
+
+pub note-refused : (a : Note) → (a .number ≡ 0 → ⊥) → noteOf a ≡ some (refused (a .number) (a .place))
+unfolding noteOf
+note-refused a e = rw (ne-eqb (a .number) 0 e) refl
+
+pub note-none : (a : Note) → a .number ≡ 0 → noteOf a ≡ none
+unfolding noteOf
+note-none a e = rw (eq-eqb (a .number) 0 e) refl
+
+-- ── a refusal ──
+
+told-is : (a : Note) → isTold (noteOf a) ≡ true → eqb (a .number) 0 ≡ false
+    → isTold (some (refused (a .number) (a .place))) ≡ true
+unfolding noteOf
+told-is a t e = rw e at t
+
+-- 4 has no place
+pub told-four : (a : Note) → isTold (noteOf a) ≡ true → eqb (a .number) 0 ≡ false → a .number ≡ 4 → a .place ≡ 0
+told-four a t e n =
+    let k = and-right (between 3 (a .number) 10) _ (told-is a t e) in
+    eqb-true (a .place) 0 (go (a .number) n k)
+  where
+    go : (m : ℕ) → m ≡ 4 → (not (eqb m 4) || eqb (a .place) 0) ≡ true → eqb (a .place) 0 ≡ true
+    go m z k = rw z at k
+
+-- and the number is one of 3 to 10
+low-half : (n : ℕ) → 3 ≤ n → (n ≡ 3 → ⊥) → (n ≡ 4 → ⊥) → (n ≡ 5 → ⊥) → (n ≡ 6 → ⊥) → 7 ≤ n
+low-half n le a b c d = omega arith
+
+pub none-other : (n : ℕ) → (3 ≤ n) × (n ≤ 10) → (n ≡ 3 → ⊥) → (n ≡ 4 → ⊥) → (n ≡ 5 → ⊥) → (n ≡ 6 → ⊥)
+    → (n ≡ 7 → ⊥) → (n ≡ 8 → ⊥) → (n ≡ 9 → ⊥) → (n ≡ 10 → ⊥) → ⊥
+none-other n h a b c d e f g i = high n (low-half n (h .0) a b c d) (h .1) e f g i
+  where
+    high : (m : ℕ) → 7 ≤ m → m ≤ 10 → (m ≡ 7 → ⊥) → (m ≡ 8 → ⊥) → (m ≡ 9 → ⊥) → (m ≡ 10 → ⊥) → ⊥
+    high m lo hi e f g i = omega arith
+
+pub told-one : (a : Note) → isTold (noteOf a) ≡ true → eqb (a .number) 0 ≡ false → (3 ≤ a .number) × (a .number ≤ 10)
+told-one a t e = between-true 3 (a .number) 10 (and-left (between 3 (a .number) 10) _ (told-is a t e))
+
+pub end-refused : (k : fold.Kept) (out : List ℕ) (a : Answer) → fold.lowestOf k ≡ some a
+    → leaves a out ≡ fold.finish k out
+unfolding fold.finish
+end-refused k out a e = rw e refl
+
+-- ── the table ──
+
+-- what stands in front of a list, in two parts
+cut : (t a b : List ℕ) (e : ℕ) → take e t ≡ a ++ b → e ≡ length (a ++ b)
+    → (take (length a) t ≡ a) × (take (e - length a) (drop (length a) t) ≡ b)
+cut t a b e p n =
+    let whole : t ≡ a ++ (b ++ drop e t) =
+    sym (take-append-drop e t) ∙ ap (λ (l : List ℕ). l ++ drop e t) p ∙ append-assoc a b (drop e t) in
+    let m : e - length a ≡ length b = (let q = length-append a b in omega (arith, n, q)) in (
+      ap (take (length a)) whole ∙ take-append-seam a (b ++ drop e t),
+      ap (λ (i : ℕ). take i (drop (length a) t)) m
+          ∙ ap (λ (l : List ℕ). take (length b) (drop (length a) l)) whole
+          ∙ ap (take (length b)) (drop-append-seam a (b ++ drop e t)) ∙ take-append-seam b (drop e t),
+    )
+
+size-all : (w n : ℕ) (name body : List ℕ)
+    → length (recordOf 1 (le2 w ++ (le2 n ++ counted name)) ++ (body ++ recordOf 5 []))
+    ≡ 14 + (length name + length body)
+size-all w n name body =
+    let a = le2 w ++ (le2 n ++ counted name) in
+    omega (
+      arith,
+      length-append (recordOf 1 a) (body ++ recordOf 5 []),
+      length-append (le2 (4 + length a)) (le2 1 ++ a),
+      length-append (le2 1) a,
+      length-append (le2 w) (le2 n ++ counted name),
+      length-append (le2 n) (counted name),
+      counted-length name,
+      length-append body (recordOf 5 []),
+      length-append (le2 4) (le2 5 ++ []),
+      length-append (le2 5) [],
+      two-length (4 + length a),
+      two-length 1,
+      two-length w,
+      two-length n,
+      two-length 4,
+      two-length 5,
+    )
+
+module _ (k : fold.Kept) (r : Reading) {cells table : List ℕ} {labels shorts names : List (List ℕ)}
+    (h : Holds (k .found) r cells table labels shorts names) (clear : fold.lowestOf k ≡ none) where
+  same-fields : h .records .fields ≡ k .found .judged .fields
+  same-fields = h .records .stands .exact (lowest-clear (k .found .stage) (k .line) (k .found) clear)
+
+  parts : (take (r .name) table ≡ k .found .name)
+      × (take (r .end - r .name) (drop (r .name) table) ≡ joined storedField (k .found .judged .fields))
+  parts =
+      let c = cut table (k .found .name) (joined storedField (h .records .fields)) (r .end) (h .records .stored)
+      (h .records .end) in
+      let n = h .counts .name in (
+        ap (λ (i : ℕ). take i table) n ∙ c .0,
+        ap (λ (i : ℕ). take (r .end - i) (drop i table)) n ∙ c .1 ∙ ap (joined storedField) same-fields,
+      )
+
+  table-is : recordOf 1 (le2 (r .width) ++ (le2 (r .fields) ++ counted (take (r .name) table)))
+      ++ (take (r .end - r .name) (drop (r .name) table) ++ recordOf 5 [])
+      ≡ stored (fold.foundDescription (k .found))
+  unfolding storedIn headBody
+  table-is = rw (h .counts .width, h .counts .fields, parts .0, parts .1) refl
+
+  pub table-size : length (stored (fold.foundDescription (k .found))) ≡ 14 + r .end
+  table-size =
+      let f = k .found in
+      let e = ap length (sym table-is) in
+      let s = size-all (r .width) (r .fields) (take (r .name) table) (take (r .end - r .name) (drop (r .name) table)) in
+      let a = ap length (parts .0) in
+      let b = ap length (parts .1) in
+      let c = h .records .end in
+      let d = length-append (f .name) (joined storedField (h .records .fields)) in
+      let g = ap (λ (l : List (Field ℕ)). length (joined storedField l)) same-fields in
+      omega (arith, e, s, a, b, c, d, g)
+
+  pub end-short : (out : List ℕ) → length out < 14 + r .end → leaves (refused 11 0) out ≡ fold.finish k out
+  unfolding fold.finish delivered
+  end-short out lt =
+      let n = table-size in
+      rw (clear, lt-ltb (length out) (length (stored (fold.foundDescription (k .found)))) (omega (arith, n, lt))) refl
+
+  pub end-table : (out after : List ℕ) (n : ℕ) → 14 + r .end ≤ length out → TableStep r table out after n
+      → leaves (accepted (14 + r .end)) after ≡ fold.finish k out
+  unfolding fold.finish delivered
+  end-table out after n le w =
+      let d = fold.foundDescription (k .found) in
+      let z = table-size in
+      let t : take n after ≡ stored d = w .text ∙ table-is in
+      let m : n ≡ length (stored d) = (let q = ap length table-is in omega (arith, w .end, q)) in
+      let e : after ≡ overlaid (stored d) out =
+      sym (take-append-drop n after) ∙ ap₂ {C = List ℕ} (λ (a b : List ℕ). a ++ b) t
+      (w .beyond ∙ ap (λ (i : ℕ). drop i out) m) in
+      rw (clear, le-ltb (length out) (length (stored d)) (omega (arith, z, le)), e, z) refl
+
+-- ── the code's writes ──
+
+pub put-all : (r : Reading) (table : List ℕ) {out a b c d : List ℕ} {head body size n : ℕ} → Room r
+    → r .end ≤ length table → 14 + r .end ≤ length out
+    → Writes out 0 (recordOf 1 (le2 (r .width) ++ (le2 (r .fields) ++ counted (take (r .name - 0) table)))) a head
+    → placed body b ≡ put a head (take (r .end - r .name) (drop (r .name) table))
+    → placed size c ≡ put b body (le2 4) → placed n d ≡ put c size (le2 5) → TableStep r table out d n
+put-all r table {out} {a} {b} {c} {d} {head} {body} {size} {n} k big room w₁ e₂ e₃ e₄ =
+    let v₁ : Writes out 0 (recordOf 1 (le2 (r .width) ++ (le2 (r .fields) ++ counted (take (r .name) table)))) a head =
+    rw (sub-zero (r .name)) at w₁ in
+    let name = take (r .name) table in
+    let mid = take (r .end - r .name) (drop (r .name) table) in
+    let l₁ = length-take-le (r .name) table (omega (arith, big, k .front)) in
+    let l₂ = length-take-le (r .end - r .name) (drop (r .name) table)
+    (omega (arith, big, k .front, length-drop (r .name) table)) in
+    let h₁ = head-end (r .width) (r .fields) name v₁ in
+    let w₂ = put-writes (omega (arith, l₁, l₂, h₁, v₁ .kept, room, k .front)) e₂ in
+    let w₃ = two-writes 4 (omega (arith, l₁, l₂, h₁, v₁ .kept, w₂ .end, w₂ .kept, room, k .front)) e₃ in
+    let z = two-end 4 w₃ in
+    let w₄ = two-writes 5 (omega (arith, l₁, l₂, h₁, v₁ .kept, w₂ .end, w₂ .kept, w₃ .kept, z, room, k .front)) e₄ in
+    rw (append-nil (le2 5)) (writes-join v₁ (writes-join w₂ (writes-join w₃ w₄)))

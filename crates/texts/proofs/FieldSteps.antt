@@ -1,0 +1,270 @@
+-- What the code keeps behind a field line.
+use mathlib.Core.Path.{_≡_, refl, ap, ap₂, sym, _∙_, subst}
+use mathlib.Core.Bool.{Bool, true, false, cond, _||_}
+use mathlib.Core.List.{List, [], _∷_, _++_, append-assoc}
+use mathlib.Core.Option.{Option, none, some, Option·none-ne-some}
+use Prim.Native.Nat.{ℕ, suc, _+_}
+use native.Mathlib.Omega.{arith}
+use lib.Dec.{ltb, leb, eqb}
+use borrow.Author.Tests.{eqb-true}
+use lib.ListN.{length, take, length-append, length-map, getElem?}
+use Rattle.base.specs.Lists.{any, joined, ifAny}
+use Rattle.writing.specs.Writes.{Writes}
+use Rattle.base.proofs.Joined.{joined-append, joined-one}
+use Rattle.rules.specs.Limits.{fieldsMost}
+use Rattle.rules.specs.Answers.{Answer, refused}
+use Rattle.rules.specs.Names.{isShort}
+use Rattle.rules.specs.Fields.{Width, fixed, measured, rest, Field, Form, isRest, isRestWidth}
+use Rattle.rules.specs.Stored.{storedField}
+use Rattle.text_laws.specs.LineReader.{readForm}
+use Rattle.text_laws.specs.Lowest.{lower, broken}
+use Rattle.text_laws.specs.Judging.{faceWidth, face, faces, resolvedIn, rules, Judged, isOpen, isMany, isFull, many}
+use Rattle.text_laws.specs.Judging.{withForm, judge}
+use Rattle.text_laws.specs.Fold as fold
+use Rattle.text_laws.specs.Steady.{StandIn, Steady}
+use Rattle.text_laws.specs.Resolving.{indexOf}
+use Rattle.text_laws.proofs.Loose.{faces-append, lower-left}
+use Rattle.text_laws.proofs.Faces.{renamed-face}
+use Rattle.texts.specs.Noted.{noteOf}
+use Rattle.texts.specs.Slots.{storedSlot}
+use Rattle.texts.specs.Records.{indexed}
+use Rattle.texts.specs.States.{note, changed, withLine, lineRefused, lineKept, isFullAs, NamedWith}
+use Rattle.texts.specs.States.{Counts, Named, Holds}
+use Rattle.texts.specs.declared.notes.Note.{Note}
+use Rattle.texts.specs.declared.states.Stage.the-variants as at
+use Rattle.texts.specs.declared.states.Reading.{Reading}
+use Rattle.texts.proofs.StateSteps.{next-line}
+use Rattle.texts.proofs.HeldArrays.{named-front, named-face}
+use Rattle.texts.proofs.Holding.{writes}
+use Rattle.texts.proofs.LineTypes.{ShortNames}
+
+-- ── full ──
+
+pub note-many : (a : Note) → eqb (a .number) 4 ≡ isMany (noteOf a)
+unfolding noteOf
+note-many a = go (eqb (a .number) 0) refl
+  where
+    go : (b : Bool) → eqb (a .number) 0 ≡ b
+        → eqb (a .number) 4 ≡ isMany (cond b none (some (refused (a .number) (a .place))))
+    go true e = let z : a .number ≡ 0 = eqb-true (a .number) 0 e in rw z refl
+    go false e = refl
+
+pub note-open : (a : Note) → cond (eqb (a .number) 0) true (ltb 6 (a .number)) ≡ isOpen (noteOf a)
+unfolding noteOf
+note-open a = go (eqb (a .number) 0)
+  where
+    go : (b : Bool) → cond b true (ltb 6 (a .number)) ≡ isOpen (cond b none (some (refused (a .number) (a .place))))
+    go true = refl
+    go false = refl
+
+pub full-same : (f : fold.Found) (r : Reading) → Counts f r → isFullAs r ≡ isFull (f .judged)
+full-same f r h =
+    ap₂ _||_ (note-many (r .note) ∙ ap isMany (h .lowest)) (ap (leb fieldsMost) (h .count))
+
+-- ── no field is kept ──
+
+abbrev fieldFound : fold.Found → Judged → fold.Found
+fieldFound f j = record {
+  lines = suc (f .lines);
+  stage = fold.fieldLine;
+  name = f .name;
+  width = f .width;
+  cells = f .cells;
+  judged = j;
+}
+
+module _ (f : fold.Found) (r : Reading) {cells table : List ℕ} {labels shorts names : List (List ℕ)}
+    (h : Holds f r cells table labels shorts names) where
+  holds-judged : (j : Judged) (n : ℕ) (a : Note) → n ≡ j .count → j .fields ≡ f .judged .fields
+      → (j .lowest ≡ none → f .judged .lowest ≡ none) → noteOf a ≡ j .lowest
+      → Holds (fieldFound f j) (changed (withLine r (r .cell) n (r .fields) (r .end) (r .rested)) (r .lines + 1)
+      at.FieldLine a) cells table labels shorts names
+  holds-judged j n a c e low k = record {
+    counts = record {
+      lines = next-line f r h;
+      stage = refl;
+      width = h .counts .width;
+      name = h .counts .name;
+      cells = h .counts .cells;
+      count = c;
+      fields = h .counts .fields ∙ ap length (sym e);
+      rested = h .counts .rested ∙ ap (λ (l : List (Field ℕ)). any isRest (faces l)) (sym e);
+      lowest = k;
+    };
+    slots = record {
+      stored = h .slots .stored;
+      end = h .slots .end;
+      next = h .slots .next
+          ∙ ap (λ (l : List (Field ℕ)). length (joined storedSlot (take (length l) (f .cells)))) (sym e);
+    };
+    records = record {
+      fields = h .records .fields;
+      stands = record {
+        seen = h .records .stands .seen ∙ ap faces (sym e);
+        exact = λ z. h .records .stands .exact (low z) ∙ sym e;
+      };
+      stored = h .records .stored;
+      end = h .records .end;
+    };
+    named = subst (λ (l : List (Field ℕ)). Named (faces l) labels shorts names) (sym e) (h .named);
+  }
+
+  -- 4
+  pub holds-full : (l : List ℕ) → isFull (f .judged) ≡ true
+      → Holds (fold.withField f l) (changed r (r .lines + 1) at.FieldLine (note 4 0)) cells table labels shorts names
+  unfolding judge noteOf
+  holds-full l e =
+      rw e (holds-judged (many (f .judged)) (r .count) (note 4 0) (h .counts .count) refl
+      (λ z. absurd (Option·none-ne-some (refused 4 0) (sym z))) refl)
+
+  one-more : r .count + 1 ≡ suc (f .judged .count)
+  one-more = let e = h .counts .count in omega (arith, e)
+
+  -- 5
+  pub holds-formless : (l : List ℕ) (a : Note) → isFull (f .judged) ≡ false → readForm l ≡ none
+      → noteOf a ≡ lower (noteOf (r .note)) (some (refused 5 (r .lines + 1)))
+      → Holds (fold.withField f l) (lineRefused r a) cells table labels shorts names
+  unfolding judge withForm
+  holds-formless l a e o k =
+      rw (e, o) (holds-judged (withForm (f .cells) (suc (f .lines)) (f .judged) none) (r .count + 1) a one-more refl
+      (λ z. lower-left (f .judged .lowest) (some (refused 5 (suc (f .lines)))) z)
+      (k ∙ ap₂ {C = Option Answer} (λ (b : Option Answer) (p : ℕ). lower b (some (refused 5 p))) (h .counts .lowest)
+      (next-line f r h)))
+
+  abbrev noteOfForm : Form → Option Answer
+  noteOfForm x =
+      lower (f .judged .lowest) (broken 6 (suc (f .lines)) (rules (f .cells)) (faces (f .judged .fields)) x)
+
+  -- 6, and what is closed behind an earlier refusal
+  pub holds-closed : (l : List ℕ) (x : Form) (a : Note) → isFull (f .judged) ≡ false → readForm l ≡ some x
+      → noteOf a ≡ noteOfForm x → isOpen (noteOf a) ≡ false
+      → Holds (fold.withField f l) (lineRefused r a) cells table labels shorts names
+  unfolding judge withForm
+  holds-closed l x a e o k shut =
+      let c : isOpen (noteOfForm x) ≡ false = rw (← k) shut in
+      rw (e, o) (holds-judged (withForm (f .cells) (suc (f .lines)) (f .judged) (some x)) (r .count + 1) a one-more
+      (rw c refl)
+      (λ z. lower-left (f .judged .lowest) (broken 6 (suc (f .lines)) (rules (f .cells)) (faces (f .judged .fields)) x) z)
+      k)
+
+-- other names may be held behind those of the fields
+pub holds-named : (f : fold.Found) (r : Reading) (x : Form) {cells table : List ℕ}
+    {labels shorts names labels′ shorts′ names′ : List (List ℕ)} → Holds f r cells table labels shorts names
+    → NamedWith f x labels′ shorts′ names′ → Holds f r cells table labels′ shorts′ names′
+holds-named f r x h n = record {
+  counts = h .counts;
+  slots = h .slots;
+  records = h .records;
+  named = named-front (faces (f .judged .fields)) x n;
+}
+
+-- ── a field is kept ──
+
+any-more : (l : List Form) (x : Form) → any isRest (l ++ (x ∷ [])) ≡ any isRest l || isRest x
+unfolding any
+any-more [] x = or-false (isRest x)
+  where
+    or-false : (b : Bool) → b || false ≡ b
+    or-false true = refl
+    or-false false = refl
+any-more (y ∷ l) x = ap (λ (b : Bool). isRest y || b) (any-more l x) ∙ or-assoc (isRest y) (any isRest l) (isRest x)
+  where
+    or-assoc : (a b c : Bool) → a || (b || c) ≡ (a || b) || c
+    or-assoc true b c = refl
+    or-assoc false b c = refl
+
+rest-face : (x : Form) → isRest (face x) ≡ isRest x
+rest-face x = go (x .width)
+  where
+    go : (v : Width (List ℕ)) → isRestWidth (faceWidth v) ≡ isRestWidth v
+    go (fixed n) = refl
+    go (measured u t) = refl
+    go rest = refl
+
+same-count : (j : Judged) (fs : List (Field ℕ)) → StandIn j fs → length fs ≡ length (j .fields)
+same-count j fs h = sym (length-map fs face) ∙ ap length (h .seen) ∙ length-map (j .fields) face
+
+-- what a kept field adds: its cell is passed, its record is written, its names are held
+pub record Kept (f : fold.Found) (r : Reading) (x : Form) (to end : ℕ) (isRested : Bool) (table after : List ℕ)
+    (labels shorts names : List (List ℕ)) : Type 0 where
+  pub cell : to ≡ length (joined storedSlot (take (suc (length (f .judged .fields))) (f .cells)))
+  pub writes : Writes table (r .end) (storedField (indexed names (r .fields) x)) after end
+  pub rested : isRested ≡ (any isRest (faces (f .judged .fields)) || isRest x)
+  pub named : NamedWith f x labels shorts names
+
+module _ (f : fold.Found) (r : Reading) {cells table after : List ℕ} {labels shorts names labels′ shorts′ names′ :
+    List (List ℕ)} (h : Holds f r cells table labels shorts names) (x : Form) {end cell : ℕ} {rested : Bool}
+    (k : Kept f r x cell end rested table after labels′ shorts′ names′) where
+  holds-grown : (j : Judged) (y : Field ℕ) (a : Note) → j .count ≡ suc (f .judged .count)
+      → j .fields ≡ f .judged .fields ++ (y ∷ []) → face y ≡ face x
+      → StandIn j (h .records .fields ++ (indexed names′ (length (h .records .fields)) x ∷ [])) → noteOf a ≡ j .lowest
+      → Holds (fieldFound f j) (lineKept r cell end rested a) cells after labels′ shorts′ names′
+  holds-grown j y a c e same stands low =
+      let before = f .judged .fields in
+      let fs = h .records .fields in
+      let n : length (before ++ (y ∷ [])) ≡ length before + 1 = length-append before (y ∷ []) in
+      let m : length fs ≡ r .fields =
+      same-count (f .judged) fs (h .records .stands) ∙ sym (h .counts .fields) in
+      let seen : faces (j .fields) ≡ faces before ++ (face x ∷ []) =
+      ap faces e ∙ faces-append before y ∙ ap (λ (z : Form). faces before ++ (z ∷ [])) same in
+      let next = indexed names′ (length fs) x in
+      let w : take end after ≡ take (r .end) table ++ storedField next =
+      k .writes .text ∙ ap (λ (i : ℕ). take (r .end) table ++ storedField (indexed names′ i x)) (sym m) in
+      let all-stored : f .name ++ joined storedField (fs ++ (next ∷ []))
+      ≡ (f .name ++ joined storedField fs) ++ storedField next =
+      ap (λ (z : List ℕ). f .name ++ z) (joined-append storedField fs (next ∷ [])
+      ∙ ap (λ (z : List ℕ). joined storedField fs ++ z) (joined-one storedField next))
+      ∙ sym (append-assoc (f .name) (joined storedField fs) (storedField next)) in
+      record {
+        counts = record {
+          lines = next-line f r h;
+          stage = refl;
+          width = h .counts .width;
+          name = h .counts .name;
+          cells = h .counts .cells;
+          count = (let q = h .counts .count in omega (arith, q, c));
+          fields = (let q = h .counts .fields in let z = ap length e in omega (arith, q, n, z));
+          rested = k .rested ∙ sym (ap (any isRest) seen ∙ any-more (faces before) (face x)
+              ∙ ap (λ (b : Bool). any isRest (faces before) || b) (rest-face x));
+          lowest = low;
+        };
+        slots = record {
+          stored = h .slots .stored;
+          end = h .slots .end;
+          next = (let z : suc (length before) ≡ length (j .fields) = (let q = ap length e in omega (arith, q, n)) in
+              k .cell ∙ ap (λ (i : ℕ). length (joined storedSlot (take i (f .cells)))) z);
+        };
+        records = record {
+          fields = fs ++ (next ∷ []);
+          stands = stands;
+          stored = w ∙ ap (λ (z : List ℕ). z ++ storedField next) (h .records .stored) ∙ sym all-stored;
+          end = (let q = ap length all-stored in
+              let p = length-append (f .name ++ joined storedField fs) (storedField next) in
+              let z = ap (λ (i : ℕ). length (storedField (indexed names′ i x))) m in
+              omega (arith, k .writes .end, h .records .end, q, p, z));
+        };
+        named = subst (λ (z : List Form). Named z labels′ shorts′ names′) (sym seen)
+            (named-face (faces before) x (k .named));
+      }
+
+  -- the code's field stands in for the fold's
+  module _ (steady : Steady f) (short : ShortNames x)
+      (formed : (i : ℕ) (y : Form) → getElem? (faces (f .judged .fields) ++ (x ∷ [])) i ≡ some y
+      → ifAny isShort (y .short) ≡ true) where
+    pub holds-open : (l : List ℕ) (a : Note) → isFull (f .judged) ≡ false → readForm l ≡ some x
+        → noteOf a ≡ lower (f .judged .lowest)
+        (broken 6 (suc (f .lines)) (rules (f .cells)) (faces (f .judged .fields)) x)
+        → isOpen (noteOf a) ≡ true
+        → Holds (fold.withField f l) (lineKept r cell end rested a) cells after labels′ shorts′ names′
+    unfolding judge withForm
+    holds-open l a e o low is =
+        let before = f .judged .fields in
+        let fs = h .records .fields in
+        let here = lower (f .judged .lowest) (broken 6 (suc (f .lines)) (rules (f .cells)) (faces before) x) in
+        let q : isOpen here ≡ true = rw (← low) is in
+        let seen = h .records .stands .seen in
+        let stands = writes (f .cells) (suc (f .lines)) (f .judged) fs (h .records .stands) (steady .clear) x names′ short
+        (λ i y z. formed i y (subst (λ (b : List Form). getElem? (b ++ (x ∷ [])) i ≡ some y) seen z))
+        (λ i y z. k .named .name i y (subst (λ (b : List Form). getElem? (b ++ (x ∷ [])) i ≡ some y) seen z)) q in
+        rw (e, o) (holds-grown (withForm (f .cells) (suc (f .lines)) (f .judged) (some x)) (resolvedIn before x) a refl
+        (rw q refl) (renamed-face (indexOf (faces before ++ (x ∷ []))) x) stands low)

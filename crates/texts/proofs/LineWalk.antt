@@ -1,0 +1,139 @@
+-- The lines of a text, one by one: what is left decides.
+use mathlib.Core.Path.{_≡_, refl, ap, ap₂, sym, _∙_, subst}
+use mathlib.Core.Bool.{Bool, true, false}
+use mathlib.Core.List.{List, [], foldl}
+use Prim.Native.Nat.{ℕ, _+_, _-_, _≤_, _<_}
+use native.Mathlib.Omega.{arith}
+use lib.Dec.{eqb}
+use lib.ListN.{length, take, drop, length-drop}
+use borrow.Author.Tests.{eq-eqb, eqb-true}
+use Rattle.base.proofs.Lists.{not-both}
+use Rattle.base.specs.Lists.{all, isEmpty, joined, any}
+use Rattle.rules.specs.Names.{lineFeed, isAllowed}
+use Rattle.rules.specs.Limits.{textMost}
+use Rattle.rules.specs.declared.TextAnswer.{TextAnswer}
+use Rattle.rules.specs.Answers.{ofText}
+use Rattle.rules.specs.Refusals.{Plain, long, byte}
+use Rattle.rules.specs.Promises.{Outcome, ReadsText, refuses, leaves}
+use Rattle.text_laws.specs.FrameReader.{rest, linesOf}
+use Rattle.text_laws.specs.Fold as fold
+use Rattle.text_laws.specs.Steady.{Steady}
+use Rattle.text_laws.proofs.Answering.{kept-answers}
+use Rattle.text_laws.proofs.Fed.{kept-lines}
+use Rattle.text_laws.proofs.Steadiness.{steady-start, steady-line}
+use Rattle.texts.specs.FramePlaces.{upTo}
+use Rattle.texts.specs.Noted.{noteOf}
+use Rattle.texts.specs.States.{begunWith, Room, Begun, Holds, LineStep}
+use Rattle.texts.specs.declared.states.Reading.{Reading}
+use Rattle.texts.proofs.SplitSteps.{piece-at, rest-at, piece-none}
+use Rattle.texts.proofs.StateSteps.{empty-nil, filled-nil}
+
+-- behind the lines up to a place
+pub record Walking (t : List ℕ) (at : ℕ) (r : Reading) (cells table : List ℕ) (labels shorts names : List (List ℕ)) :
+    Type 0 where
+  pub found : fold.Found
+  pub steady : Steady found
+  pub holds : Holds found r cells table labels shorts names
+  pub runs : foldl fold.lined fold.start (linesOf t) ≡ foldl fold.lined found (linesOf (drop at t))
+  pub behind : rest lineFeed t ≡ rest lineFeed (drop at t)
+
+pub room-begun : Room begunWith
+unfolding noteOf
+room-begun = record {
+  width = omega arith;
+  name = omega arith;
+  front = omega arith;
+  cells = omega arith;
+  slots = omega arith;
+  cell = omega arith;
+  count = omega arith;
+  fields = omega arith;
+  end = omega arith;
+  told = refl;
+}
+
+pub walking-start : (t cells table : List ℕ) (labels shorts names : List (List ℕ)) → Begun labels shorts names
+    → Walking t 0 begunWith cells table labels shorts names
+unfolding joined any noteOf
+walking-start t cells table labels shorts names room = record {
+  found = fold.start;
+  steady = steady-start;
+  holds = record {
+    counts = record {
+      lines = refl;
+      stage = refl;
+      width = refl;
+      name = refl;
+      cells = refl;
+      count = refl;
+      fields = refl;
+      rested = refl;
+      lowest = refl;
+    };
+    slots = record { stored = refl; end = refl; next = refl };
+    records = record { fields = []; stands = record { seen = refl; exact = λ e. refl }; stored = refl; end = refl };
+    named = record {
+      label = λ i y e. absurd (let z : _≡_ {A = ℕ} 0 1 = cc in omega arith);
+      short = λ i y e. absurd (let z : _≡_ {A = ℕ} 0 1 = cc in omega arith);
+      name = λ i y e. absurd (let z : _≡_ {A = ℕ} 0 1 = cc in omega arith);
+      room = room;
+    };
+  };
+  runs = refl;
+  behind = refl;
+}
+
+module _ (t : List ℕ) (at i : ℕ) (r : Reading) {cells table : List ℕ} {labels shorts names : List (List ℕ)}
+    (w : Walking t at r cells table labels shorts names) (first : i ≡ at + upTo lineFeed (drop at t)) where
+  pub walking-next : i < length t → (q : Reading) {cells′ table′ : List ℕ} {labels′ shorts′ names′ : List (List ℕ)}
+      → LineStep (take (i - at) (drop at t)) r q cells cells′ table table′ labels labels′ shorts shorts′ names names′
+      → Walking t (i + 1) q cells′ table′ labels′ shorts′ names′
+  walking-next lt q step =
+      let l = take (i - at) (drop at t) in
+      record {
+        found = fold.lined (w .found) l;
+        steady = steady-line (w .found) l (w .steady);
+        holds = step .2 (w .found) (w .steady) (w .holds);
+        runs = w .runs ∙ ap (foldl fold.lined (w .found)) (piece-at lineFeed t at i first lt);
+        behind = w .behind ∙ rest-at lineFeed t at i first lt;
+      }
+
+  -- no whole line is left
+  pub walking-end : at ≤ length t → i ≤ length t → length t ≤ i → Plain t
+      → fold.kept t ≡ record { size = length t; line = drop at t; found = w .found }
+  walking-end le le′ ge plain =
+      let p = piece-none lineFeed t at i first le le′ ge in
+      let f : foldl fold.lined fold.start (linesOf t) ≡ w .found =
+      w .runs ∙ ap (foldl fold.lined (w .found)) (p .0) in
+      kept-lines t (plain .bytes) (plain .size)
+      ∙ ap₂ {C = fold.Kept} (λ (l : List ℕ) (g : fold.Found). record { size = length t; line = l; found = g })
+      (w .behind ∙ p .1) f
+
+  pub walking-reads : at ≤ length t → i ≤ length t → length t ≤ i → Plain t → (out : List ℕ) (o : Outcome)
+      → o ≡ fold.finish (record { size = length t; line = drop at t; found = w .found }) out → ReadsText t out o
+  walking-reads le le′ ge plain out o e =
+      subst (ReadsText t out)
+      (ap (λ (k : fold.Kept). fold.finish k out) (walking-end le le′ ge plain) ∙ sym e) (kept-answers t out)
+
+pub empty-end : (t : List ℕ) (at : ℕ) → at ≤ length t → isEmpty (drop at t) ≡ eqb at (length t)
+empty-end t at le = go (eqb at (length t)) refl
+  where
+    go : (b : Bool) → eqb at (length t) ≡ b → isEmpty (drop at t) ≡ b
+    go true e =
+        let q = eqb-true at (length t) e in
+        empty-nil (drop at t) (let n = length-drop at t in omega (arith, n, q))
+    go false e =
+        filled-nil (drop at t) (λ z. let n = length-drop at t in
+        not-both (eqb at (length t)) (eq-eqb at (length t) (omega (arith, n, z, le))) e)
+
+-- ── 1 and 2 ──
+
+module _ (text out : List ℕ) where
+  pub answers-1 : textMost < length text → ReadsText text out (leaves (ofText TextAnswer.TooLong) out)
+  unfolding ofText
+  answers-1 h = refuses (long h)
+
+  pub answers-2 : length text ≤ textMost → (b : Bool) → b ≡ false → b ≡ all isAllowed text → ReadsText text out
+      (leaves (ofText TextAnswer.BadByte) out)
+  unfolding ofText
+  answers-2 le b e h = refuses (byte le (sym h ∙ e))

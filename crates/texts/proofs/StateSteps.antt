@@ -1,0 +1,141 @@
+-- What the code keeps behind a right line of which it keeps nothing, and behind a wrong line.
+use mathlib.Core.Path.{_≡_, refl, ap, sym, subst}
+use mathlib.Core.Bool.{Bool, true, false, cond}
+use mathlib.Core.List.{List, [], _∷_}
+use mathlib.Core.Option.{some, Option·none-ne-some}
+use Prim.Native.Nat.{ℕ, suc, _+_}
+use native.Mathlib.Omega.{arith}
+use lib.Dec.{eqb}
+use borrow.Author.Tests.{ne-eqb}
+use lib.ListN.{length}
+use Rattle.base.specs.Lists.{same, isEmpty}
+use Rattle.rules.specs.Answers.{refused}
+use Rattle.text_laws.specs.Fold as fold
+use Rattle.texts.specs.Noted.{noteOf}
+use Rattle.texts.specs.States.{note, changed, madeWrong, expected, isTold, Room, Taken}
+use Rattle.texts.specs.States.{stageOf, Holds}
+use Rattle.texts.specs.declared.notes.Note.{Note}
+use Rattle.texts.specs.declared.states.Stage.{Stage}
+use Rattle.texts.specs.declared.states.Stage.the-variants as at
+use Rattle.texts.specs.declared.states.Reading.{Reading}
+
+-- ── lines by their lengths ──
+
+pub empty-nil : (l : List ℕ) → length l ≡ 0 → isEmpty l ≡ true
+empty-nil [] e = refl
+empty-nil (x ∷ l) e = absurd (omega (arith, e))
+
+pub filled-nil : (l : List ℕ) → (length l ≡ 0 → ⊥) → isEmpty l ≡ false
+filled-nil [] e = absurd (e refl)
+filled-nil (x ∷ l) e = refl
+
+pub same-nil : (l : List ℕ) → eqb (length l) 0 ≡ same l []
+unfolding same
+same-nil [] = refl
+same-nil (x ∷ l) = ne-eqb (length (x ∷ l)) 0 (λ e. absurd (omega (arith, e)))
+
+-- ── safe ──
+
+pub room-changed : (r : Reading) (n : ℕ) (s : Stage) (a : Note) → isTold (noteOf a) ≡ true → Room r
+    → Room (changed r n s a)
+room-changed r n s a t h = record {
+  width = h .width;
+  name = h .name;
+  front = h .front;
+  cells = h .cells;
+  slots = h .slots;
+  cell = h .cell;
+  count = h .count;
+  fields = h .fields;
+  end = h .end;
+  told = t;
+}
+
+pub taken-wrong : (r : Reading) → Room r → Taken r (madeWrong r)
+unfolding noteOf
+taken-wrong r h = (room-changed r (r .lines) at.Lost (note 3 (r .lines + 1)) refl h, omega arith)
+
+pub taken-onward : (r : Reading) (s : Stage) (a : Note) → isTold (noteOf a) ≡ true → Room r
+    → Taken r (changed r (r .lines + 1) s a)
+taken-onward r s a t h = (room-changed r (r .lines + 1) s a t h, omega arith)
+
+pub taken-expect : (right : Bool) (r : Reading) (s : Stage) → Room r → Taken r (expected right r s)
+taken-expect true r s h = taken-onward r s (r .note) (h .told) h
+taken-expect false r s h = taken-wrong r h
+
+-- ── what is held ──
+
+module _ (f : fold.Found) (r : Reading) {cells table : List ℕ} {labels shorts names : List (List ℕ)}
+    (h : Holds f r cells table labels shorts names) where
+  pub next-line : r .lines + 1 ≡ suc (f .lines)
+  next-line = let e = h .counts .lines in omega (arith, e)
+
+  -- a right line, with nothing to keep of it
+  pub holds-onward : (s : Stage)
+      → Holds (fold.onward (stageOf s) f) (changed r (r .lines + 1) s (r .note)) cells table labels shorts names
+  holds-onward s = record {
+    counts = record {
+      lines = next-line;
+      stage = refl;
+      width = h .counts .width;
+      name = h .counts .name;
+      cells = h .counts .cells;
+      count = h .counts .count;
+      fields = h .counts .fields;
+      rested = h .counts .rested;
+      lowest = h .counts .lowest;
+    };
+    slots = record { stored = h .slots .stored; end = h .slots .end; next = h .slots .next };
+    records = record {
+      fields = h .records .fields;
+      stands = h .records .stands;
+      stored = h .records .stored;
+      end = h .records .end;
+    };
+    named = h .named;
+  }
+
+  -- 3
+  pub holds-wrong : Holds (fold.wrong f) (madeWrong r) cells table labels shorts names
+  unfolding noteOf
+  holds-wrong = record {
+    counts = record {
+      lines = h .counts .lines;
+      stage = refl;
+      width = h .counts .width;
+      name = h .counts .name;
+      cells = h .counts .cells;
+      count = h .counts .count;
+      fields = h .counts .fields;
+      rested = h .counts .rested;
+      lowest = ap (λ (p : ℕ). some (refused 3 p)) next-line;
+    };
+    slots = record { stored = h .slots .stored; end = h .slots .end; next = h .slots .next };
+    records = record {
+      fields = h .records .fields;
+      stands = record {
+        seen = h .records .stands .seen;
+        exact = λ e. absurd (Option·none-ne-some (refused 3 (suc (f .lines))) (sym e));
+      };
+      stored = h .records .stored;
+      end = h .records .end;
+    };
+    named = h .named;
+  }
+
+  -- the line that must be this one
+  pub holds-expect : (w l : List ℕ) (s : Stage) (right : Bool) → right ≡ same l w
+      → Holds (fold.expect w (stageOf s) f l) (expected right r s) cells table labels shorts names
+  holds-expect w l s right e = rw (← e) (go right)
+    where
+      go : (b : Bool) → Holds (cond b (fold.onward (stageOf s) f) (fold.wrong f))
+          (cond b (changed r (r .lines + 1) s (r .note)) (madeWrong r)) cells table labels shorts names
+      go true = holds-onward s
+      go false = holds-wrong
+
+-- the line of the stage
+pub line-at : (f : fold.Found) (l : List ℕ) (s : fold.Stage) {q : Reading} {cells table : List ℕ}
+    {labels shorts names : List (List ℕ)} → f .stage ≡ s → Holds (fold.linedAt s f l) q cells table labels shorts names
+    → Holds (fold.lined f l) q cells table labels shorts names
+line-at f l s {q} {cells} {table} {labels} {shorts} {names} e h =
+    subst (λ (z : fold.Stage). Holds (fold.linedAt z f l) q cells table labels shorts names) (sym e) h

@@ -1,0 +1,44 @@
+use mathlib.Core.Bool.{true}
+use denote.Ref.{now}
+use Rattle.text_laws.specs.Fold.{linedAt}
+use Rattle.texts.specs.declared.states.Stage.the-variants as at
+use Rattle.texts.proofs.StateSteps.{taken-expect, holds-onward, empty-nil, filled-nil}
+use borrow.Author.Needs.{needs}
+use Rattle.texts.proofs.head_lines.take_row_or_blank.Statement.{statement}
+use Rattle.texts.proofs.head_lines.take_row_or_blank.Tie as tie
+use Rattle.texts.proofs.head_lines.take_row_or_blank.Reads as reads
+use Rattle.texts.proofs.head_lines.take_row_or_blank.Lts as lts
+use Rattle.texts.proofs.head_lines.take_row.Reads as take-row-reads
+use Rattle.texts.proofs.states.expect.Reads as expect-reads
+
+expect-requires : tie.Need-expect-requires
+expect-requires c κs = c .before .before .before .pre .1
+
+returns : tie.Need-returns
+unfolding linedAt
+returns c =
+    let r = c .before .before .before .before .args .r in
+    let l = now (c .before .before .before .before .args .line) in
+    rw (c .expect .ensures) (
+      taken-expect true r at.WhereLine (c .before .before .before .before .pre .0),
+      (λ table f labels shorts names k b h. rw (empty-nil l (c .before .if1 .taken)) (holds-onward f r h at.WhereLine)),
+    )
+
+take-row-requires : tie.Need-take-row-requires
+take-row-requires c κs = c .before .before .before .before .pre
+
+same-length : tie.Need-same-length
+same-length c = search needs
+
+returns-2 : tie.Need-returns-2
+unfolding linedAt
+returns-2 c =
+    let q = c .before .before .take-row .ensures in (
+      q .0,
+      (λ table f labels shorts names k b h. rw (filled-nil (now (c .before .before .before .before .before .before .before .args .line)) (c .before .before .before .before .if1 .left)) (q .1 table f labels shorts
+          names k b h)),
+    )
+
+pub take-row-or-blank-spec : {M : Type 1} → statement M
+take-row-or-blank-spec =
+    tie.close (tie.spec expect-requires returns take-row-requires same-length returns-2)

@@ -1,0 +1,333 @@
+-- What the code keeps of a text between two lines: mirrors the code, no public promise rests on it.
+use mathlib.Core.Path.{_≡_}
+use mathlib.Core.Bool.{Bool, true, false, cond, _&&_, _||_, not}
+use mathlib.Core.List.{List, [], _∷_, _++_}
+use mathlib.Core.Option.{Option, none, some}
+use Prim.Native.Nat.{ℕ, suc, _+_, _-_, _*_, _≤_}
+use lib.Dec.{eqb, ltb, leb}
+use lib.ListN.{length, take, drop, getD, getElem?}
+use Rattle.base.specs.Lists.{any, joined, between, isEmpty}
+use Rattle.writing.specs.Writes.{Writes}
+use Rattle.rules.specs.declared.TextAnswer.{TextAnswer}
+use Rattle.rules.specs.Answers.{Answer, ofText}
+use Rattle.rules.specs.Limits.{textMost, fieldsMost, labelMost, shortMost}
+use Rattle.rules.specs.Fields.{Field, Form, isFixed, isRest}
+use Rattle.rules.specs.Trees.{le2}
+use Rattle.rules.specs.Stored.{counted, recordOf, storedName, storedField}
+use Rattle.rules.specs.Promises.{leaves}
+use Rattle.names.specs.Repeats.{padTo}
+use Rattle.rules.specs.Frames.{Slot}
+use Rattle.rules.specs.Within.{keepsNames, keepsTypes, keepsRest, nameReadable}
+use Rattle.text_laws.specs.Lowest.{lower, broken}
+use Rattle.text_laws.specs.Judging.{faces, showsCell, isFull}
+use Rattle.text_laws.specs.Fold as fold
+use Rattle.text_laws.specs.Steady.{StandIn, isHead, Steady}
+use Rattle.text_laws.specs.LineReader.{readForm}
+use Rattle.texts.specs.LinePlaces.{spanOf}
+use Rattle.texts.specs.Records as RecordsOf
+use Rattle.texts.specs.Noted.{noteOf}
+use Rattle.texts.specs.Slots.{storedSlot}
+use Rattle.texts.specs.declared.notes.Note.{Note}
+use Rattle.texts.specs.declared.parts.Parts.{Parts}
+use Rattle.texts.specs.declared.states.Stage.{Stage}
+use Rattle.texts.specs.declared.states.Stage.the-variants as at
+use Rattle.texts.specs.declared.states.Reading.{Reading}
+
+-- ── the numbers ──
+
+abbrev pub note : ℕ → ℕ → Note
+note number place = record { number = number; place = place }
+
+abbrev pub begunWith : Reading
+begunWith = record {
+  lines = 0;
+  stage = at.Opening;
+  width = 0;
+  name = 0;
+  cells = 0;
+  slots = 0;
+  cell = 0;
+  count = 0;
+  fields = 0;
+  end = 0;
+  rested = false;
+  note = note 0 0;
+}
+
+-- with other lines, another line that must come, another refusal
+abbrev pub changed : Reading → ℕ → Stage → Note → Reading
+changed r lines s n = record {
+  lines = lines;
+  stage = s;
+  width = r .width;
+  name = r .name;
+  cells = r .cells;
+  slots = r .slots;
+  cell = r .cell;
+  count = r .count;
+  fields = r .fields;
+  end = r .end;
+  rested = r .rested;
+  note = n;
+}
+
+-- with other numbers of the head
+abbrev pub withHead : Reading → ℕ → ℕ → ℕ → ℕ → ℕ → Reading
+withHead r width name end cells slots = record {
+  lines = r .lines;
+  stage = r .stage;
+  width = width;
+  name = name;
+  cells = cells;
+  slots = slots;
+  cell = r .cell;
+  count = r .count;
+  fields = r .fields;
+  end = end;
+  rested = r .rested;
+  note = r .note;
+}
+
+-- with other numbers of field lines
+abbrev pub withLine : Reading → ℕ → ℕ → ℕ → ℕ → Bool → Reading
+withLine r cell count fields end rested = record {
+  lines = r .lines;
+  stage = r .stage;
+  width = r .width;
+  name = r .name;
+  cells = r .cells;
+  slots = r .slots;
+  cell = cell;
+  count = count;
+  fields = fields;
+  end = end;
+  rested = rested;
+  note = r .note;
+}
+
+-- behind a wrong line
+abbrev pub madeWrong : Reading → Reading
+madeWrong r = changed r (r .lines) at.Lost (note 3 (r .lines + 1))
+
+-- behind a line that is right or wrong
+abbrev pub expected : Bool → Reading → Stage → Reading
+expected right r s = cond right (changed r (r .lines + 1) s (r .note)) (madeWrong r)
+
+-- ── safe ──
+
+-- the most bytes of a stored cell, of the cells of a row, and of a field's record
+abbrev pub slotMost : ℕ
+slotMost = 43
+
+abbrev pub rowMost : ℕ
+rowMost = 195
+
+abbrev pub recordMost : ℕ
+recordMost = 424
+
+-- room for all cells and one row more, and for NAME and all records
+abbrev pub slotsMost : ℕ
+slotsMost = slotMost * fieldsMost + rowMost
+
+abbrev pub recordsMost : ℕ
+recordsMost = labelMost + recordMost * fieldsMost
+
+-- a refusal by 3 to 10; 4 has no place
+abbrev pub isTold : Option Answer → Bool
+isTold none = true
+isTold (some a) = between 3 (a .number) 10 && (not (eqb (a .number) 4) || eqb (a .place) 0)
+
+-- the numbers are such that one more line can be taken
+pub record Room (r : Reading) : Type 0 where
+  pub width : r .width ≤ 32
+  pub name : r .name ≤ labelMost
+  pub front : r .name ≤ r .end
+  pub cells : r .cells ≤ fieldsMost
+  pub slots : r .slots ≤ slotMost * r .cells
+  pub cell : r .cell ≤ r .slots
+  pub count : r .count ≤ fieldsMost
+  pub fields : r .fields ≤ r .count
+  pub end : r .end ≤ labelMost + recordMost * r .fields
+  pub told : isTold (noteOf (r .note)) ≡ true
+
+-- the same behind a line that was taken
+abbrev pub Taken : Reading → Reading → Type 0
+Taken r q = Room q × (q .lines ≤ r .lines + 1)
+
+-- ── what stands for what the fold keeps ──
+
+abbrev pub stageOf : Stage → fold.Stage
+stageOf at.Opening = fold.opening
+stageOf at.Blank = fold.blank
+stageOf at.TensRuler = fold.tensRuler
+stageOf at.UnitsRuler = fold.unitsRuler
+stageOf at.TopBorder = fold.topBorder
+stageOf at.FirstRow = fold.firstRow
+stageOf at.RowBorder = fold.rowBorder
+stageOf at.RowOrBlank = fold.rowOrBlank
+stageOf at.WhereLine = fold.whereLine
+stageOf at.LastBlank = fold.lastBlank
+stageOf at.FirstField = fold.firstField
+stageOf at.FieldLine = fold.fieldLine
+stageOf at.Lost = fold.lost
+
+-- the numbers of r are those of f
+pub record Counts (f : fold.Found) (r : Reading) : Type 0 where
+  pub lines : r .lines ≡ f .lines
+  pub stage : stageOf (r .stage) ≡ f .stage
+  pub width : r .width ≡ f .width
+  pub name : r .name ≡ length (f .name)
+  pub cells : r .cells ≡ length (f .cells)
+  pub count : r .count ≡ f .judged .count
+  pub fields : r .fields ≡ length (f .judged .fields)
+  pub rested : r .rested ≡ any isRest (faces (f .judged .fields))
+  pub lowest : noteOf (r .note) ≡ f .judged .lowest
+
+-- cells, and where that of the next field stands
+pub record Slots (f : fold.Found) (r : Reading) (cells : List ℕ) : Type 0 where
+  pub stored : take (r .slots) cells ≡ joined storedSlot (f .cells)
+  pub end : r .slots ≡ length (joined storedSlot (f .cells))
+  pub next : r .cell ≡ length (joined storedSlot (take (length (f .judged .fields)) (f .cells)))
+
+-- NAME, and records of fields that may stand in for those of the fold
+pub record Records (f : fold.Found) (r : Reading) (table : List ℕ) : Type 0 where
+  pub fields : List (Field ℕ)
+  pub stands : StandIn (f .judged) fields
+  pub stored : take (r .end) table ≡ f .name ++ joined storedField fields
+  pub end : r .end ≡ length (f .name ++ joined storedField fields)
+
+-- a form's short name as it is held for reading: none for a field that is not fixed
+abbrev pub heldName : {N : Type 0} → Field N → List ℕ
+heldName x = padTo shortMost (cond (isFixed x) (storedName (x .short)) [])
+
+-- the names of fields, by value
+pub record Named (forms : List Form) (labels shorts names : List (List ℕ)) : Type 0 where
+  pub label : (i : ℕ) (y : Form) → getElem? forms i ≡ some y → getD labels i [] ≡ padTo labelMost (y .label)
+  pub short : (i : ℕ) (y : Form) → getElem? forms i ≡ some y
+      → getD shorts i [] ≡ padTo shortMost (storedName (y .short))
+  pub name : (i : ℕ) (y : Form) → getElem? forms i ≡ some y → getD names i [] ≡ heldName y
+  pub room : (fieldsMost ≤ length labels) × (fieldsMost ≤ length shorts) × (fieldsMost ≤ length names)
+
+pub record Holds (f : fold.Found) (r : Reading) (cells table : List ℕ) (labels shorts names : List (List ℕ)) : Type 0
+  where
+    pub counts : Counts f r
+    pub slots : Slots f r cells
+    pub records : Records f r table
+    pub named : Named (faces (f .judged .fields)) labels shorts names
+
+-- one line of the head, with the buffers of cells and of records before and behind it
+abbrev pub HeadStep : (fold.Found → fold.Found) → Reading → Reading → List ℕ → List ℕ → List ℕ → List ℕ → Type 0
+HeadStep step r q cells cells′ table table′ =
+    (f : fold.Found) (labels shorts names : List (List ℕ)) → Steady f → isHead (f .stage) ≡ true
+    → Holds f r cells table labels shorts names → Holds (step f) q cells′ table′ labels shorts names
+
+-- ── a field line ──
+
+-- nothing but a 3 could matter now, or a field line too many has come
+abbrev pub isFullAs : Reading → Bool
+isFullAs r = eqb (r .note .number) 4 || leb fieldsMost (r .count)
+
+-- behind a field line, of which no field is kept
+abbrev pub lineRefused : Reading → Note → Reading
+lineRefused r a = changed (withLine r (r .cell) (r .count + 1) (r .fields) (r .end) (r .rested)) (r .lines + 1)
+    at.FieldLine a
+
+-- a field is kept, whose record ends at a place and whose cell ends at one
+abbrev pub lineKept : Reading → ℕ → ℕ → Bool → Note → Reading
+lineKept r cell end rested a = changed (withLine r cell (r .count + 1) (r .fields + 1) end rested) (r .lines + 1)
+    at.FieldLine a
+
+-- the rules 7 to 10
+abbrev pub laterRules : List Slot → List (List Form → Form → Bool)
+laterRules cells = showsCell cells ∷ keepsNames ∷ keepsTypes nameReadable ∷ keepsRest ∷ []
+
+-- the first of them that a line of the form x breaks
+abbrev pub laterNote : fold.Found → Form → Option Answer
+laterNote f x = broken 7 (suc (f .lines)) (laterRules (f .cells)) (faces (f .judged .fields)) x
+
+-- the names of x too are held behind those of the fields
+abbrev pub NamedWith : fold.Found → Form → List (List ℕ) → List (List ℕ) → List (List ℕ) → Type 0
+NamedWith f x labels shorts names = Named (faces (f .judged .fields) ++ (x ∷ [])) labels shorts names
+
+-- the place of the cell behind that of the next field
+abbrev pub NextCell : Reading → List ℕ → ℕ → Type 0
+NextCell r cells n =
+    (n ≤ r .slots)
+    × ((f : fold.Found) → Counts f r → Slots f r cells
+    → n ≡ length (joined storedSlot (take (suc (length (f .judged .fields))) (f .cells))))
+
+-- there is room for a field line
+abbrev pub LineRoom : Reading → List ℕ → List ℕ → List ℕ → Type 0
+LineRoom r line cells table =
+    Room r × (r .lines ≤ textMost) × (length line ≤ textMost) × (slotsMost ≤ length cells)
+    × (recordsMost ≤ length table)
+
+-- the line has a form, whose parts are p and whose expressions are small
+abbrev pub FormIs : List ℕ → Parts → Type 0
+FormIs line p = (x : Form) × (readForm line ≡ some x) × RecordsOf.Small line x p × (p .line ≡ spanOf 0 (length line))
+
+-- behind a field line
+abbrev pub FieldStep : List ℕ → Reading → Reading → List ℕ → List ℕ → List ℕ → List (List ℕ) → List (List ℕ)
+    → List (List ℕ) → List (List ℕ) → List (List ℕ) → List (List ℕ) → Type 0
+FieldStep line r q cells table table′ labels labels′ shorts shorts′ names names′ =
+    (length table′ ≡ length table)
+    × ((f : fold.Found) → Steady f → Holds f r cells table labels shorts names
+    → Holds (fold.withField f line) q cells table′ labels′ shorts′ names′)
+
+-- the same where not too many lines have come
+abbrev pub FormStep : List ℕ → Reading → Reading → List ℕ → List ℕ → List ℕ → List (List ℕ) → List (List ℕ)
+    → List (List ℕ) → List (List ℕ) → List (List ℕ) → List (List ℕ) → Type 0
+FormStep line r q cells table table′ labels labels′ shorts shorts′ names names′ =
+    (length table′ ≡ length table)
+    × ((f : fold.Found) → Steady f → isFull (f .judged) ≡ false → Holds f r cells table labels shorts names
+    → Holds (fold.withField f line) q cells table′ labels′ shorts′ names′)
+
+-- ── the end ──
+
+abbrev pub earlyNote : Reading → Note
+earlyNote r = note 3 (r .lines + 1)
+
+-- 7 where cells remain
+abbrev pub remainNote : Reading → Note
+remainNote r = cond (ltb (r .fields) (r .cells)) (note 7 (r .lines + 1)) (note 0 0)
+
+-- the lowest refusal at the end, by the line that must come next
+unfoldable pub lastNote : Stage → Reading → Bool → Option Answer
+lastNote at.Opening r whole = noteOf (earlyNote r)
+lastNote at.Blank r whole = noteOf (earlyNote r)
+lastNote at.TensRuler r whole = noteOf (earlyNote r)
+lastNote at.UnitsRuler r whole = noteOf (earlyNote r)
+lastNote at.TopBorder r whole = noteOf (earlyNote r)
+lastNote at.FirstRow r whole = noteOf (earlyNote r)
+lastNote at.RowBorder r whole = noteOf (earlyNote r)
+lastNote at.RowOrBlank r whole = noteOf (earlyNote r)
+lastNote at.WhereLine r whole = noteOf (earlyNote r)
+lastNote at.LastBlank r whole = noteOf (earlyNote r)
+lastNote at.FirstField r whole = noteOf (earlyNote r)
+lastNote at.FieldLine r whole = cond whole (lower (noteOf (r .note)) (noteOf (remainNote r))) (noteOf (earlyNote r))
+lastNote at.Lost r whole = noteOf (r .note)
+
+-- the table that is put into an output
+abbrev pub TableStep : Reading → List ℕ → List ℕ → List ℕ → ℕ → Type 0
+TableStep r table out out′ n =
+    Writes out 0 (recordOf 1 (le2 (r .width) ++ (le2 (r .fields) ++ counted (take (r .name) table)))
+    ++ (take (r .end - r .name) (drop (r .name) table) ++ recordOf 5 [])) out′ n
+
+-- the answer at the end
+abbrev pub EndStep : Reading → Bool → List ℕ → List ℕ → List ℕ → TextAnswer → Type 0
+EndStep r whole table out out′ a =
+    (k : fold.Kept) (cells : List ℕ) (labels shorts names : List (List ℕ)) → isEmpty (k .line) ≡ whole
+    → Holds (k .found) r cells table labels shorts names → leaves (ofText a) out′ ≡ fold.finish k out
+
+-- behind a line
+abbrev pub LineStep : List ℕ → Reading → Reading → List ℕ → List ℕ → List ℕ → List ℕ → List (List ℕ) → List (List ℕ)
+    → List (List ℕ) → List (List ℕ) → List (List ℕ) → List (List ℕ) → Type 0
+LineStep line r q cells cells′ table table′ labels labels′ shorts shorts′ names names′ =
+    (length cells′ ≡ length cells) × (length table′ ≡ length table)
+    × ((f : fold.Found) → Steady f → Holds f r cells table labels shorts names
+    → Holds (fold.lined f line) q cells′ table′ labels′ shorts′ names′)
+
+-- arrays for the names of all fields
+abbrev pub Begun : List (List ℕ) → List (List ℕ) → List (List ℕ) → Type 0
+Begun labels shorts names =
+    (fieldsMost ≤ length labels) × (fieldsMost ≤ length shorts) × (fieldsMost ≤ length names)

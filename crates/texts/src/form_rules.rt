@@ -1,0 +1,88 @@
+// The rules 7 to 10 of a field line that has a form.
+use crate::line_rules::misplaced;
+use crate::line_types::types_kept;
+use crate::name_clashes::clashes;
+use crate::notes::Note;
+use crate::parts::Parts;
+use crate::shown_slots::slot_shows;
+use crate::states::Reading;
+use rules::FIELDS_MOST;
+use rules::LABEL_MOST;
+use rules::SHORT_MOST;
+ghost use mathlib.Core.Bool.{true};
+ghost use mathlib.Core.List.{List};
+ghost use mathlib.Core.Option.{some};
+ghost use mathlib.Core.Path.{_≡_};
+ghost use Prim.Native.Nat.{ℕ, _≤_, _<_};
+ghost use lib.ListN.{length};
+ghost use Rattle.rules.specs.Limits.{textMost, fieldsMost};
+ghost use Rattle.rules.specs.Fields.{Form};
+ghost use Rattle.text_laws.specs.LineReader.{readForm};
+ghost use Rattle.text_laws.specs.Judging.{faces, showsCell};
+ghost use Rattle.text_laws.specs.Fold.{Found};
+ghost use Rattle.text_laws.specs.Steady.{Steady};
+ghost use Rattle.texts.specs.LinePlaces.{Fits, PartsAre};
+ghost use Rattle.texts.specs.Noted.{noteOf};
+ghost use Rattle.texts.specs.States.{slotsMost, Room, Counts, Slots, isTold, laterNote, NamedWith};
+
+// There is a cell for the field, and it is one for the line.
+fn shows_cell(r: Reading, line: &[u8], p: Parts, cells: &[u8]) -> bool
+    requires { ⌜ Room r × Fits (length (now line)) p × (slotsMost ≤ length (now cells)) ⌝ }
+    ensures { λ b. ⌜ ((f : Found) (x : Form) → Steady f → Counts f r → Slots f r (now (cells .entry))
+        → PartsAre (now (line .entry)) x p → b ≡ showsCell (f .cells) (faces (f .judged .fields)) x) ⌝ }
+{
+    if r.cells <= r.fields {
+        return false;
+    }
+    let at = r.cell;
+    slot_shows(cells, at, line, p)
+}
+
+// The first of the rules 7 to 10 that the line breaks. Its names are held behind those of the fields.
+pub(crate) fn later_rule(
+    r: Reading,
+    line: &[u8],
+    p: Parts,
+    cells: &[u8],
+    labels: &[[u8; LABEL_MOST]; FIELDS_MOST],
+    shorts: &[[u8; SHORT_MOST]; FIELDS_MOST],
+    names: &[[u8; SHORT_MOST]; FIELDS_MOST],
+) -> Note
+    requires { ⌜ Room r × (r .lines ≤ textMost) × (r .fields < fieldsMost) × (length (now line) ≤ textMost)
+        × Fits (length (now line)) p × (slotsMost ≤ length (now cells)) ⌝ }
+    ensures told { λ a. ⌜ isTold (noteOf a) ≡ true ⌝ }
+    ensures rule { λ a. ⌜ ((f : Found) (x : Form) → Steady f → Counts f r → Slots f r (now (cells .entry))
+        → NamedWith f x (now (labels .entry)) (now (shorts .entry)) (now (names .entry))
+        → readForm (now (line .entry)) ≡ some x → PartsAre (now (line .entry)) x p → noteOf a ≡ laterNote f x) ⌝ }
+{
+    let n = r.fields;
+    let place = r.lines + 1;
+    if !shows_cell(r, line, p, cells) {
+        return Note {
+            number: 7,
+            place: place,
+        };
+    }
+    if clashes(labels, shorts, n, labels[n], shorts[n]) {
+        return Note {
+            number: 8,
+            place: place,
+        };
+    }
+    if !types_kept(line, p, names, n) {
+        return Note {
+            number: 9,
+            place: place,
+        };
+    }
+    if misplaced(p, r.rested) {
+        return Note {
+            number: 10,
+            place: place,
+        };
+    }
+    Note {
+        number: 0,
+        place: 0,
+    }
+}

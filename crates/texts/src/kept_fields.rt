@@ -1,0 +1,189 @@
+// Field lines: their names are held, their rules tested, their records written.
+use crate::form_rules::later_rule;
+use crate::held_names::short_of;
+use crate::line_rules::rests;
+use crate::name_clashes::held_label;
+use crate::notes::Note;
+use crate::notes::lower;
+use crate::parts::Parts;
+use crate::parts::parts_of;
+use crate::records::put_field;
+use crate::shown_slots::slot_end;
+use crate::states::Reading;
+use crate::states::Stage;
+use crate::states::onward;
+use rules::FIELDS_MOST;
+use rules::LABEL_MOST;
+use rules::SHORT_MOST;
+ghost use mathlib.Core.Bool.{true, false};
+ghost use mathlib.Core.Option.{some};
+ghost use mathlib.Core.Path.{_≡_};
+ghost use Prim.Native.Nat.{_+_, _≤_, _<_};
+ghost use lib.ListN.{length, take, set};
+ghost use Rattle.rules.specs.Answers.{refused};
+ghost use Rattle.rules.specs.Limits.{textMost, fieldsMost, labelMost};
+ghost use Rattle.names.specs.Repeats.{padTo};
+ghost use Rattle.text_laws.specs.Lowest.{lower};
+ghost use Rattle.text_laws.specs.Judging.{isOpen};
+ghost use Rattle.texts.specs.LinePlaces.{Fits, spanOf};
+ghost use Rattle.texts.specs.LineTests.{heldShort};
+ghost use Rattle.texts.specs.Noted.{noteOf};
+ghost use Rattle.texts.specs.States.{
+  slotsMost,
+  Room,
+  Taken,
+  isFullAs,
+  lineRefused,
+  NextCell,
+  LineRoom,
+  FormIs,
+  FieldStep,
+  FormStep,
+};
+
+// Nothing but a 3 could matter now, or a field line too many has come.
+fn is_full(r: Reading) -> bool
+    ensures { λ b. ⌜ b ≡ isFullAs r ⌝ }
+{
+    let a = r.note;
+    if a.number == 4 {
+        return true;
+    }
+    FIELDS_MOST <= r.count
+}
+
+// Behind this refusal the fields of lines are kept.
+fn is_open(a: Note) -> bool
+    ensures { λ b. ⌜ b ≡ isOpen (noteOf a) ⌝ }
+{
+    if a.number == 0 {
+        return true;
+    }
+    6 < a.number
+}
+
+// A line that is refused by 5 or 6: no field is kept of it.
+fn refuse_line(mut r: Reading, number: usize) -> Reading
+    requires { ⌜ Room r × (r .lines ≤ textMost) × (r .count < fieldsMost) × (5 ≤ number) × (number ≤ 6) ⌝ }
+    ensures room { λ q. ⌜ Taken r q ⌝ }
+    ensures same { λ q. ⌜ q ≡ lineRefused r (q .note) ⌝ }
+    ensures note { λ q. ⌜ noteOf (q .note) ≡ lower (noteOf (r .note)) (some (refused number (r .lines + 1))) ⌝ }
+{
+    let b = Note {
+        number: number,
+        place: r.lines + 1,
+    };
+    let a = lower(r.note, b);
+    r.count += 1;
+    onward(r, Stage::FieldLine, a)
+}
+
+// The names of a line, held as those of index n.
+fn hold_names(
+    line: &[u8],
+    p: Parts,
+    n: usize,
+    labels: &mut [[u8; LABEL_MOST]; FIELDS_MOST],
+    shorts: &mut [[u8; SHORT_MOST]; FIELDS_MOST],
+    names: &mut [[u8; SHORT_MOST]; FIELDS_MOST],
+)
+    requires { ⌜ Fits (length (now line)) p × (n < fieldsMost) × (p .line ≡ spanOf 0 (length (now line))) ⌝ }
+    ensures label { λ r. ⌜ now (labels .exit) ≡ set (now (labels .entry)) n (padTo labelMost
+        (take (p .label) (now (line .entry)))) ⌝ }
+    ensures short { λ r. ⌜ now (shorts .exit) ≡ set (now (shorts .entry)) n (heldShort (now (line .entry)) false p) ⌝ }
+    ensures name { λ r. ⌜ now (names .exit) ≡ set (now (names .entry)) n (heldShort (now (line .entry)) true p) ⌝ }
+{
+    let label = p.label;
+    labels[n] = held_label(&line[0..label]);
+    shorts[n] = short_of(line, p, false);
+    names[n] = short_of(line, p, true);
+}
+
+// Where the cell of the field behind the next one stands.
+fn next_cell(r: Reading, cells: &[u8]) -> usize
+    requires { ⌜ Room r × (slotsMost ≤ length (now cells)) ⌝ }
+    ensures { λ n. ⌜ NextCell r (now (cells .entry)) n ⌝ }
+{
+    let at = r.cell;
+    if r.cells <= r.fields {
+        return at;
+    }
+    let end = slot_end(cells, at);
+    if r.slots < end {
+        return at;
+    }
+    end
+}
+
+// A line that has a form and keeps 6.
+fn take_form(
+    mut r: Reading,
+    line: &[u8],
+    p: Parts,
+    cells: &[u8],
+    table: &mut [u8],
+    labels: &mut [[u8; LABEL_MOST]; FIELDS_MOST],
+    shorts: &mut [[u8; SHORT_MOST]; FIELDS_MOST],
+    names: &mut [[u8; SHORT_MOST]; FIELDS_MOST],
+) -> Reading
+    requires { ⌜ LineRoom r (now line) (now cells) (now table) × (r .count < fieldsMost) × FormIs (now line) p ⌝ }
+    ensures room { λ q. ⌜ Taken r q ⌝ }
+    ensures step { λ q. ⌜ FormStep (now (line .entry)) r q (now (cells .entry)) (now (table .entry)) (now (table .exit))
+        (now (labels .entry)) (now (labels .exit)) (now (shorts .entry)) (now (shorts .exit)) (now (names .entry))
+        (now (names .exit)) ⌝ }
+{
+    let n = r.fields;
+    hold_names(line, p, n, labels, shorts, names);
+    let b = later_rule(r, line, p, cells, labels, shorts, names);
+    let a = lower(r.note, b);
+    if is_open(a) {
+        let at = r.end;
+        let end = put_field(table, at, line, p, names, n);
+        let cell = next_cell(r, cells);
+        let rested = rests(p, r.rested);
+        r.end = end;
+        r.cell = cell;
+        r.rested = rested;
+        r.fields += 1;
+        r.count += 1;
+        return onward(r, Stage::FieldLine, a);
+    }
+    r.count += 1;
+    onward(r, Stage::FieldLine, a)
+}
+
+// A field line.
+pub(crate) fn take_field(
+    r: Reading,
+    line: &[u8],
+    cells: &[u8],
+    table: &mut [u8],
+    labels: &mut [[u8; LABEL_MOST]; FIELDS_MOST],
+    shorts: &mut [[u8; SHORT_MOST]; FIELDS_MOST],
+    names: &mut [[u8; SHORT_MOST]; FIELDS_MOST],
+) -> Reading
+    requires { ⌜ LineRoom r (now line) (now cells) (now table) ⌝ }
+    ensures room { λ q. ⌜ Taken r q ⌝ }
+    ensures step { λ q. ⌜ FieldStep (now (line .entry)) r q (now (cells .entry)) (now (table .entry)) (now (table .exit))
+        (now (labels .entry)) (now (labels .exit)) (now (shorts .entry)) (now (shorts .exit)) (now (names .entry))
+        (now (names .exit)) ⌝ }
+{
+    if is_full(r) {
+        return onward(
+            r,
+            Stage::FieldLine,
+            Note {
+                number: 4,
+                place: 0,
+            },
+        );
+    }
+    let p = parts_of(line, 0);
+    if p.kind == 0 {
+        return refuse_line(r, 5);
+    }
+    if p.small {
+        return take_form(r, line, p, cells, table, labels, shorts, names);
+    }
+    refuse_line(r, 6)
+}

@@ -1,0 +1,51 @@
+// One line of a text.
+use crate::head_lines::take_opening;
+use crate::head_lines::take_row;
+use crate::head_lines::take_row_or_blank;
+use crate::head_lines::take_ruler;
+use crate::kept_fields::take_field;
+use crate::rulers::is_border;
+use crate::rulers::is_units;
+use crate::states::Reading;
+use crate::states::Stage;
+use crate::states::expect;
+use names::words::same_words;
+use rules::FIELDS_MOST;
+use rules::LABEL_MOST;
+use rules::SHORT_MOST;
+ghost use Rattle.texts.specs.States.{LineRoom, Taken, LineStep};
+
+// What is kept behind one more line.
+pub(crate) fn take_line(
+    r: Reading,
+    line: &[u8],
+    cells: &mut [u8],
+    table: &mut [u8],
+    labels: &mut [[u8; LABEL_MOST]; FIELDS_MOST],
+    shorts: &mut [[u8; SHORT_MOST]; FIELDS_MOST],
+    names: &mut [[u8; SHORT_MOST]; FIELDS_MOST],
+) -> Reading
+    requires { ⌜ LineRoom r (now line) (now cells) (now table) ⌝ }
+    ensures room { λ q. ⌜ Taken r q ⌝ }
+    ensures step { λ q. ⌜ LineStep (now (line .entry)) r q (now (cells .entry)) (now (cells .exit))
+        (now (table .entry)) (now (table .exit)) (now (labels .entry)) (now (labels .exit)) (now (shorts .entry))
+        (now (shorts .exit)) (now (names .entry)) (now (names .exit)) ⌝ }
+{
+    let w = r.width;
+    let stage = r.stage;
+    match stage {
+        Stage::Opening => { take_opening(r, line, table) }
+        Stage::Blank => { expect(r, line.len() == 0, Stage::TensRuler) }
+        Stage::TensRuler => { take_ruler(r, line) }
+        Stage::UnitsRuler => { expect(r, is_units(line, w), Stage::TopBorder) }
+        Stage::TopBorder => { expect(r, is_border(line, w), Stage::FirstRow) }
+        Stage::FirstRow => { take_row(r, line, cells) }
+        Stage::RowBorder => { expect(r, is_border(line, w), Stage::RowOrBlank) }
+        Stage::RowOrBlank => { take_row_or_blank(r, line, cells) }
+        Stage::WhereLine => { expect(r, same_words(line, b"where:"), Stage::LastBlank) }
+        Stage::LastBlank => { expect(r, line.len() == 0, Stage::FirstField) }
+        Stage::FirstField => { take_field(r, line, cells, table, labels, shorts, names) }
+        Stage::FieldLine => { take_field(r, line, cells, table, labels, shorts, names) }
+        Stage::Lost => { r }
+    }
+}

@@ -1,0 +1,149 @@
+// The end of a text: the lowest refusal of all, or the table.
+use crate::notes::Note;
+use crate::notes::lower;
+use crate::states::Reading;
+use crate::states::Stage;
+use rules::TextAnswer;
+use writing::puts::put;
+use writing::puts::put_counted;
+use writing::puts::put_two;
+ghost use mathlib.Core.Bool.{true, false, cond};
+ghost use mathlib.Core.List.{_++_};
+ghost use mathlib.Core.Path.{_≡_};
+ghost use Prim.Native.Nat.{_+_, _≤_};
+ghost use lib.Dec.{eqb};
+ghost use lib.ListN.{length};
+ghost use Rattle.rules.specs.Answers.{ofText, refused};
+ghost use Rattle.writing.specs.Writes.{Writes};
+ghost use Rattle.rules.specs.Limits.{textMost};
+ghost use Rattle.rules.specs.Trees.{le2};
+ghost use Rattle.rules.specs.Stored.{counted, recordOf};
+ghost use Rattle.text_laws.specs.Lowest.{lower};
+ghost use Rattle.texts.specs.Noted.{noteOf};
+ghost use Rattle.texts.specs.States.{recordsMost, Room, isTold, earlyNote, remainNote, lastNote, TableStep};
+ghost use Rattle.texts.specs.States.{EndStep};
+
+// A refusal as an answer.
+fn answer_of(a: Note) -> TextAnswer
+    requires { ⌜ (isTold (noteOf a) ≡ true) × (eqb (a .number) 0 ≡ false) ⌝ }
+    ensures { λ r. ⌜ ofText r ≡ refused (a .number) (a .place) ⌝ }
+{
+    let p = a.place;
+    let n = a.number;
+    match n {
+        3 => TextAnswer::BadLine(p),
+        4 => TextAnswer::TooMany,
+        5 => TextAnswer::BadForm(p),
+        6 => TextAnswer::OverLimit(p),
+        7 => TextAnswer::Mismatch(p),
+        8 => TextAnswer::Repeated(p),
+        9 => TextAnswer::BadName(p),
+        10 => TextAnswer::BadRest(p),
+        _ => TextAnswer::NoRoom,
+    }
+}
+
+// 3 behind the last line.
+fn early(r: Reading) -> Note
+    requires { ⌜ r .lines ≤ textMost ⌝ }
+    ensures { λ a. ⌜ a ≡ earlyNote r ⌝ }
+{
+    Note {
+        number: 3,
+        place: r.lines + 1,
+    }
+}
+
+// 7 where cells remain.
+fn remaining(r: Reading) -> Note
+    requires { ⌜ r .lines ≤ textMost ⌝ }
+    ensures { λ a. ⌜ a ≡ remainNote r ⌝ }
+{
+    if r.fields < r.cells {
+        return Note {
+            number: 7,
+            place: r.lines + 1,
+        };
+    }
+    Note {
+        number: 0,
+        place: 0,
+    }
+}
+
+// The lowest refusal of a text that ends behind field lines.
+fn fields_note(r: Reading, whole: bool) -> Note
+    requires { ⌜ r .lines ≤ textMost ⌝ }
+    ensures { λ a. ⌜ noteOf a ≡ cond whole (lower (noteOf (r .note)) (noteOf (remainNote r))) (noteOf (earlyNote r)) ⌝ }
+{
+    if whole {
+        return lower(r.note, remaining(r));
+    }
+    early(r)
+}
+
+// The lowest refusal of a text; `whole` says that its last line is.
+fn last_note(r: Reading, whole: bool) -> Note
+    requires { ⌜ r .lines ≤ textMost ⌝ }
+    ensures { λ a. ⌜ noteOf a ≡ lastNote (r .stage) r whole ⌝ }
+{
+    let stage = r.stage;
+    match stage {
+        Stage::Opening => { early(r) }
+        Stage::Blank => { early(r) }
+        Stage::TensRuler => { early(r) }
+        Stage::UnitsRuler => { early(r) }
+        Stage::TopBorder => { early(r) }
+        Stage::FirstRow => { early(r) }
+        Stage::RowBorder => { early(r) }
+        Stage::RowOrBlank => { early(r) }
+        Stage::WhereLine => { early(r) }
+        Stage::LastBlank => { early(r) }
+        Stage::FirstField => { early(r) }
+        Stage::FieldLine => { fields_note(r, whole) }
+        Stage::Lost => { r.note }
+    }
+}
+
+// The first record.
+fn put_head(out: &mut [u8], w: usize, n: usize, name: &[u8]) -> usize
+    requires { ⌜ (10 + length (now name) ≤ length (now out)) × (length (now name) ≤ textMost) ⌝ }
+    ensures { λ r. ⌜ Writes (now (out .entry)) 0 (recordOf 1 (le2 w ++ (le2 n ++ counted (now (name .entry)))))
+        (now (out .exit)) r ⌝ }
+{
+    let size = put_two(out, 0, 10 + name.len());
+    let kind = put_two(out, size, 1);
+    let width = put_two(out, kind, w);
+    let count = put_two(out, width, n);
+    put_counted(out, count, name)
+}
+
+// The table into an output that has room for it.
+fn put_table(r: Reading, table: &[u8], out: &mut [u8]) -> usize
+    requires { ⌜ Room r × (recordsMost ≤ length (now table)) × (14 + r .end ≤ length (now out)) ⌝ }
+    ensures { λ n. ⌜ TableStep r (now (table .entry)) (now (out .entry)) (now (out .exit)) n ⌝ }
+{
+    let name = r.name;
+    let end = r.end;
+    let head = put_head(out, r.width, r.fields, &table[0..name]);
+    let body = put(out, head, &table[name..end]);
+    let size = put_two(out, body, 4);
+    put_two(out, size, 5)
+}
+
+// The answer to a text, and its table in the output where it has one.
+pub(crate) fn end_text(r: Reading, whole: bool, table: &[u8], out: &mut [u8]) -> TextAnswer
+    requires { ⌜ Room r × (r .lines ≤ textMost) × (recordsMost ≤ length (now table)) ⌝ }
+    ensures { λ a. ⌜ EndStep r whole (now (table .entry)) (now (out .entry)) (now (out .exit)) a ⌝ }
+{
+    let last = last_note(r, whole);
+    if last.number != 0 {
+        return answer_of(last);
+    }
+    let size = 14 + r.end;
+    if out.len() < size {
+        return TextAnswer::NoRoom;
+    }
+    put_table(r, table, out);
+    TextAnswer::Accepted(size)
+}
