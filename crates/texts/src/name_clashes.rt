@@ -1,5 +1,6 @@
 // A field's names held against those of earlier fields.
 use names::repeats::same_name;
+use names::words::byte_of;
 use names::words::same_words;
 use rules::FIELDS_MOST;
 use rules::LABEL_MOST;
@@ -7,8 +8,22 @@ use rules::SHORT_MOST;
 ghost use mathlib.Core.Path.{_≡_};
 ghost use Prim.Native.Nat.{_≤_};
 ghost use Rattle.base.specs.Lists.{same};
-ghost use Rattle.rules.specs.Limits.{fieldsMost};
+ghost use Rattle.rules.specs.Limits.{fieldsMost, labelMost};
+ghost use Rattle.names.specs.Repeats.{padTo};
 ghost use Rattle.texts.specs.HeldNames.{anyClash};
+
+// A label of at most LABEL_MOST bytes, with zeros behind its end; of a longer one its first bytes.
+pub(crate) fn held_label(w: &[u8]) -> [u8; LABEL_MOST]
+    ensures { λ r. ⌜ r ≡ padTo labelMost (now (w .entry)) ⌝ }
+{
+    let mut label = [0u8; LABEL_MOST];
+    let mut i = 0;
+    while i < LABEL_MOST {
+        label[i] = byte_of(w, i);
+        i += 1;
+    }
+    label
+}
 
 fn same_label(a: [u8; LABEL_MOST], b: [u8; LABEL_MOST]) -> bool
     ensures { λ r. ⌜ r ≡ same a b ⌝ }

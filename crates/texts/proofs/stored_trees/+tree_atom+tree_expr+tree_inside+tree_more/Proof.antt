@@ -322,6 +322,7 @@ more-tree-more-requires t c κs =
       arith,
       m .next,
       m .len,
+      m .deep,
       (o .pre),
     )
 
@@ -351,7 +352,7 @@ more-returns-3 : (t : ℕ) → more-lts.Need-returns-3 (more-calls t) (more-at t
 more-returns-3 t c =
     let a = c .before .before .before .before .args in
     let q : a .left .next ≡ a .at = omega arith in (
-      here-within _ _ _ _ (a .left) (omega arith) (omega arith) (omega arith),
+      here-within _ _ _ _ (a .left) (omega arith) (omega arith) (omega arith) (omega arith),
       more-none (a .names .now) (a .n) (a .s .now) (a .at) (a .k) (a .h) (a .b) (a .left) _
           (c .before .before .operator-at .ensures .1) (c .enum-told .given .1) q,
     )
@@ -362,7 +363,7 @@ more-returns-4 t c =
     let a = p .before .before .before .before .args in
     let v = p .g .given .0 in
     let q : a .left .next ≡ a .at = omega arith in (
-      here-within _ _ _ _ (a .left) (omega arith) (omega arith) (omega arith),
+      here-within _ _ _ _ (a .left) (omega arith) (omega arith) (omega arith) (omega arith),
       more-stop (a .names .now) (a .n) (a .s .now) (a .at) (a .k) (a .h) (a .b) (a .left) _
           (p .before .before .operator-at .ensures .1) (v .0) (v .1 .0) (p .g .given .1)
           (c .before .before .before .operator .result) (c .before .before .before .operator .ensures) (inr (omega
@@ -374,7 +375,7 @@ more-returns-5 t c =
     let a = c .before .before .before .before .before .before .before .args in
     let v = c .before .before .before .g .given .0 in
     let q : a .left .next ≡ a .at = omega arith in (
-      here-within _ _ _ _ (a .left) (omega arith) (omega arith) (omega arith),
+      here-within _ _ _ _ (a .left) (omega arith) (omega arith) (omega arith) (omega arith),
       more-stop (a .names .now) (a .n) (a .s .now) (a .at) (a .k) (a .h) (a .b) (a .left) _
           (c .before .before .before .before .before .operator-at .ensures .1) (v .0) (v .1 .0)
           (c .before .before .before .g .given .1) (c .before .operator .result) (c .before .operator .ensures) (inl
