@@ -23,8 +23,11 @@
 -- NumberWords              the value of a number word, digit by digit
 -- NumberTrees              where the number of a tree that is a single number stands
 -- FieldWidths              widths at a place of a text
+-- ClauseTrees              constraint and condition in their stored form, at a place of a text
+-- WidthTrees               widths with their expressions in stored form, at a place of a text
 -- FieldEnds                what stands behind the width, at a place of a text
 -- FieldParts               the parts of a whole field line
+-- PartSteps                the parts of a field line with their expressions in stored form
 -- FieldLines                 the parts of all field lines of a text
 -- SplitSteps               the pieces of a text from a place on
 -- RowTests                 the row of a line, as the code tests it
@@ -72,7 +75,10 @@ pub mod NumberWords
 pub mod NumberTrees
 pub mod FieldWidths
 pub mod FieldEnds
+pub mod ClauseTrees
+pub mod WidthTrees
 pub mod FieldParts
+pub mod PartSteps
 pub mod FieldLines
 pub mod SplitSteps
 pub mod RowTally

@@ -24,7 +24,7 @@ use Rattle.texts.proofs.ExprLeaves.{word-part, longer}
 
 -- ── a stored expression that holds a tree ──
 
-some-length : (t : Tree (List ℕ)) → 0 < storedLength t
+pub some-length : (t : Tree (List ℕ)) → 0 < storedLength t
 unfolding storedTree
 some-length (num n) = omega arith
 some-length (read w) = omega arith
@@ -41,11 +41,23 @@ module _ (names : List (List ℕ)) (n : ℕ) where
       → Made at (cond (ltb (lookUp names n w) n) 1 0) 1 2 (fieldCode ∷ lookUp names n w ∷ []) r
       → StoredIs names n (read w) r
   unfolding storedTree typeOf depth
-  is-name w at r m = record { len = m .len; gives = m .gives; deep = m .deep; bytes = λ h. rw (m .len) (m .bytes (omega arith)) }
+  is-name w at r m = record {
+    len = m .len;
+    gives = m .gives;
+    deep = m .deep;
+    bytes = λ h. rw (m .len) (m .bytes
+        (omega arith));
+  }
 
   pub is-number : (v at : ℕ) (r : StoredTree) → Made at 1 1 5 (numberCode ∷ le4 v) r → StoredIs names n (num v) r
   unfolding storedTree typeOf le4 depth
-  is-number v at r m = record { len = m .len; gives = m .gives; deep = m .deep; bytes = λ h. rw (m .len) (m .bytes (omega arith)) }
+  is-number v at r m = record {
+    len = m .len;
+    gives = m .gives;
+    deep = m .deep;
+    bytes = λ h. rw (m .len) (m .bytes
+        (omega arith));
+  }
 
   pub is-not : (p : StoredTree) (at : ℕ) (r : StoredTree) (t : Tree (List ℕ)) → NotMade p at r → StoredIs names n t p
       → StoredIs names n (negation t) r
@@ -78,7 +90,15 @@ module _ (names : List (List ℕ)) (n : ℕ) where
   -- the same expression, that ends elsewhere
   pub is-moved : (p r : StoredTree) (t : Tree (List ℕ)) → r .gives ≡ p .gives → r .depth ≡ p .depth
       → r .len ≡ p .len → r .bytes ≡ p .bytes → StoredIs names n t p → StoredIs names n t r
-  is-moved p r t k d l b x = record { len = l ∙ x .len; gives = k ∙ x .gives; deep = d ∙ x .deep; bytes = λ h. rw (l, b) (x .bytes h) }
+  is-moved p r t k d l b x = record {
+    len = l ∙ x .len;
+    gives = k ∙ x .gives;
+    deep = d ∙ x .deep;
+    bytes = λ h. rw (
+      l,
+      b,
+    ) (x .bytes h);
+  }
 
   -- ── the code's answer tells the reader's ──
 
@@ -170,7 +190,8 @@ module _ (names : List (List ℕ)) (n : ℕ) (s : List ℕ) (at end : ℕ) (lo :
   unfolding leaf isNumberWord isNumeral
   leaf-number v r k y q m =
       let u : at + 1 ≤ end = longer s at end lo hi e isNumberWord refl y in
-      let x : StoredIs names n (num (wordValue (word (drop at s)))) r = is-number names n (wordValue (word (drop at s))) end r
+      let x : StoredIs names n (num (wordValue (word (drop at s)))) r = is-number names n (wordValue (word (drop at
+      s))) end r
       (rw part-is at (rw (q y) at m)) in
       let d : drop (r .next) s ≡ behind (drop at s) = rw (m .next) e in (
         here-within s (at + 1) at 0 r (rw (m .next) u) (rw (m .next) hi) (rw (m .next, m .len) (omega arith))

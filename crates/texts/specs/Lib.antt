@@ -9,6 +9,7 @@
 -- Slots  the cells of rows as the code keeps them
 -- Mismatches  cells held against field lines
 -- StoredTrees  expressions in their stored form, with their types, as the code makes them
+-- HeldParts  the parts of a field line, each expression in its stored form
 -- LineTests  what the code tests of the field lines that it holds
 -- Records  the records that the code writes of the lines that it holds
 -- Stages  what is known of a text at each stage of reading it
@@ -24,6 +25,7 @@ pub mod Noted
 pub mod Slots
 pub mod Mismatches
 pub mod StoredTrees
+pub mod HeldParts
 pub mod LineTests
 pub mod Records
 pub mod Stages

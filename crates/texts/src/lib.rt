@@ -1,6 +1,7 @@
 // Texts: where expressions, the parts of field lines and of a frame stand in them. specs/ holds readers that mirror
 // what the code does, proofs/ the theorems on spelling.
 mod clashes;
+mod clause_trees;
 mod ends;
 mod expressions;
 mod field_clauses;
@@ -8,6 +9,7 @@ mod field_lines;
 mod held_names;
 mod labels;
 mod leaves;
+mod line_parts;
 mod line_rules;
 mod line_types;
 mod mismatches;
@@ -31,4 +33,5 @@ mod tables;
 mod text_bytes;
 mod units;
 mod walks;
+mod width_trees;
 mod widths;
