@@ -39,7 +39,7 @@ small-no d z lt = rw (lt-leb d depthMost lt) refl
 pub small-three : {r a b c x y z : Bool} → r ≡ (a && (b && c)) → a ≡ x → b ≡ y → c ≡ z → r ≡ (x && (y && z))
 small-three e p q h = e ∙ rw (p, q, h) refl
 
-all-join : {A : Type 0} (p : A → Bool) (s t : List A) → all p (s ++ t) ≡ (all p s && all p t)
+pub all-join : {A : Type 0} (p : A → Bool) (s t : List A) → all p (s ++ t) ≡ (all p s && all p t)
 unfolding all
 all-join p [] t = refl
 all-join p (x ∷ s) t = rw (all-join p s t) (go (p x))

@@ -64,7 +64,7 @@ fixed-kind names n (fixed m) kind bits t h = rw (h .0) refl
 fixed-kind names n (measured u v) kind bits t h = rw (h .0) refl
 fixed-kind names n rest kind bits t h = rw (h .0) refl
 
-short-text : (s : List ℕ) (o : Option (List ℕ)) (p : Span) → ShortIs s o p → spanIn s p ≡ storedName o
+pub short-text : (s : List ℕ) (o : Option (List ℕ)) (p : Span) → ShortIs s o p → spanIn s p ≡ storedName o
 short-text s none p h = rw h refl
 short-text s (some w) p h = h
 

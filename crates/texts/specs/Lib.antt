@@ -10,6 +10,7 @@
 -- Mismatches  cells held against field lines
 -- StoredTrees  expressions in their stored form, with their types, as the code makes them
 -- HeldParts  the parts of a field line, each expression in its stored form
+-- HeldRecords  the record of a field line by the parts that the code holds
 -- LineTests  what the code tests of the field lines that it holds
 -- Records  the records that the code writes of the lines that it holds
 -- Stages  what is known of a text at each stage of reading it
@@ -27,6 +28,7 @@ pub mod Mismatches
 pub mod StoredTrees
 pub mod HeldParts
 pub mod LineTests
+pub mod HeldRecords
 pub mod Records
 pub mod Stages
 pub mod StoredPlaces

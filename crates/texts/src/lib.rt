@@ -17,6 +17,8 @@ mod name_clashes;
 mod notes;
 mod numbers;
 mod openings;
+mod part_records;
+mod part_tests;
 mod parts;
 mod phrases;
 pub mod reading;
