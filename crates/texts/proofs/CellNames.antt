@@ -26,7 +26,7 @@ use Rattle.texts.proofs.FrameLeaves.{take-rest}
 
 -- ── the tests ──
 
-part : (at len : ℕ) (s : List ℕ) → take (at + len - at) (drop at s) ≡ take len (drop at s)
+pub part : (at len : ℕ) (s : List ℕ) → take (at + len - at) (drop at s) ≡ take len (drop at s)
 part at len s = let e : at + len - at ≡ len = omega arith in rw e refl
 
 module _ (name s : List ℕ) (p : Parts) where
@@ -59,7 +59,7 @@ or-last true y = refl
 or-last false true = refl
 or-last false false = refl
 
-short-is : (name s l : List ℕ) (q : Span) → isLabel name ≡ true → (o : Option (List ℕ)) → ShortIs s o q
+pub short-is : (name s l : List ℕ) (q : Span) → isLabel name ≡ true → (o : Option (List ℕ)) → ShortIs s o q
     → (same name l || same name (spanIn s q)) ≡ any (same name) (l ∷ listOf o)
 unfolding any
 short-is name s l q h none e =
@@ -98,14 +98,16 @@ module _ (chars text : List ℕ) (long : Bool) (p : Parts) (a n : ℕ) (l : drop
   pub shows-not : (y : Bool) → y ≡ named → y ≡ false → ShowsIs chars long text p false
   shows-not y e z x o h =
       let q : any (same (rightTrim (leftTrim chars))) (cellNames x) ≡ false
-      = sym (name-is (spanIn text (p .line)) (rightTrim (leftTrim chars)) x p (o .parts) h) ∙ sym same-named ∙ sym e ∙ z in
+      = sym (name-is (spanIn text (p .line)) (rightTrim (leftTrim chars)) x p (o .parts) h) ∙ sym same-named ∙ sym e
+      ∙ z in
       ap (λ (b : Bool). b && isPlaceFor (slotOf long chars) (x .width)) (sym q)
 
   pub shows-place : (y r : Bool) → y ≡ named → y ≡ true → r ≡ isPlaceIn long ((length chars + 1) / 2) p
       → ShowsIs chars long text p r
   shows-place y r e z f x o h =
       let q : any (same (rightTrim (leftTrim chars))) (cellNames x) ≡ true
-      = sym (name-is (spanIn text (p .line)) (rightTrim (leftTrim chars)) x p (o .parts) h) ∙ sym same-named ∙ sym e ∙ z in
+      = sym (name-is (spanIn text (p .line)) (rightTrim (leftTrim chars)) x p (o .parts) h) ∙ sym same-named ∙ sym e
+      ∙ z in
       f
       ∙ width-is (spanIn text (p .line)) (slotOf long chars) (x .width) (p .kind) (p .bits) (p .width) (o .parts
       .width)

@@ -28,6 +28,7 @@
 -- FieldEnds                what stands behind the width, at a place of a text
 -- FieldParts               the parts of a whole field line
 -- PartSteps                the parts of a field line with their expressions in stored form
+-- PartSlots                a kept cell held against the parts of a field line
 -- PartRules                what is tested of the expressions of a field line is what the rules ask
 -- PartBytes                the bytes that are written of the parts of a field line are its record
 -- FieldLines                 the parts of all field lines of a text
@@ -96,6 +97,7 @@ pub mod MismatchSteps
 pub mod FrameParts
 pub mod RecordSizes
 pub mod RecordLaws
+pub mod PartSlots
 pub mod PartRules
 pub mod PartBytes
 pub mod TableLaws

@@ -1,16 +1,21 @@
 -- The record of a field line by the parts that the code holds, and what it tests of them: mirrors the code, no public
 -- promise rests on it.
 use mathlib.Core.Path.{_≡_}
-use mathlib.Core.Bool.{Bool, cond, _&&_, _||_}
+use mathlib.Core.Bool.{Bool, true, cond, _&&_, _||_, not}
 use mathlib.Core.List.{List, [], _++_}
 use Prim.Native.Nat.{ℕ, _+_, _≤_}
 use lib.Dec.{eqb, leb}
-use lib.ListN.{take}
+use lib.ListN.{take, drop}
+use Rattle.base.specs.Lists.{same}
 use Rattle.rules.specs.Limits.{depthMost, storedMost}
+use Rattle.rules.specs.Names.{isLabel}
 use Rattle.rules.specs.Trees.{le2}
 use Rattle.rules.specs.Fields.{Form}
+use Rattle.rules.specs.Frames.{Slot}
+use Rattle.rules.specs.Spelling.{shows}
 use Rattle.rules.specs.Stored.{counted}
 use Rattle.texts.specs.LinePlaces.{spanIn}
+use Rattle.texts.specs.Slots.{storedSlot}
 use Rattle.texts.specs.HeldParts.{PartsHeld}
 use Rattle.texts.specs.declared.stored_trees.StoredTree.{StoredTree}
 use Rattle.texts.specs.declared.line_parts.Parts.{Parts}
@@ -63,3 +68,18 @@ pub record Writable (m : ℕ) (p : Parts) : Type 0 where
   pub width : p .width .len ≤ storedMost
   pub constraint : p .constraint .len ≤ storedMost
   pub condition : p .condition .len ≤ storedMost
+
+-- ── a kept cell ──
+
+-- the name is the label or the short name of the line s
+abbrev pub isNamedBy : List ℕ → List ℕ → Parts → Bool
+isNamedBy name s p = same name (take (p .label) s) || same name (spanIn s (p .short))
+
+-- a fixed field has a bit cell of its width, any other a long row
+abbrev pub isPlacedBy : Bool → ℕ → Parts → Bool
+isPlacedBy long bits p = cond (eqb (p .kind) 2) (not long && eqb bits (p .bits)) long
+
+-- whether the cell that is kept at a place is one for the field of the line
+abbrev pub PartShows : List ℕ → ℕ → List ℕ → Parts → Bool → Type 0
+PartShows cells at line p r = (c : Slot) (behind : List ℕ) (names : List (List ℕ)) (n : ℕ) (x : Form)
+    → drop at cells ≡ storedSlot c ++ behind → isLabel (c .text) ≡ true → PartsHeld names n line x p → r ≡ shows c x

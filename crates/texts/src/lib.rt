@@ -18,6 +18,7 @@ mod notes;
 mod numbers;
 mod openings;
 mod part_records;
+mod part_slots;
 mod part_tests;
 mod parts;
 mod phrases;
