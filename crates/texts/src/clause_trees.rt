@@ -48,7 +48,8 @@ fn no_clause(at: usize) -> Clause
 fn tree_at(s: &[u8], at: usize, names: &[[u8; SHORT_MOST]; FIELDS_MOST], n: usize) -> Clause
     requires { ⌜ (at ≤ length (now s)) × (length (now s) ≤ textMost) × (n ≤ fieldsMost) ⌝ }
     ensures place { λ r. ⌜ ClauseWithin (now (s .entry)) at r ⌝ }
-    ensures same { λ r. ⌜ ClauseFor (now (names .entry)) n (now (s .entry)) (treeClause (drop at (now (s .entry)))) r ⌝ }
+    ensures same { λ r. ⌜ ClauseFor (now (names .entry)) n (now (s .entry))
+        (treeClause (drop at (now (s .entry)))) r ⌝ }
 {
     let tree = stored_tree(s, at, names, n);
     Clause {

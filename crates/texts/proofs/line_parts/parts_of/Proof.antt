@@ -56,14 +56,12 @@ no-parts-requires-2 c κs = search needs
 
 returns-2 : tie.Need-returns-2
 returns-2 c =
-    let s = c .before .before .before .before .before .before .before .before .before .args .s .now in
+    let a = c .before .before .before .before .before .before .before .before .before .args in
     let f = c .before .before .before .before .before .before .before .label-at in
-    let q = c .before .before .before .before .before .l .given in
-    let w = label-within _ _ (q .1) (f .ensures .0) in
-    let x = label-as s (f .ensures .1) (q .1) in (
+    let x = label-as (a .s .now) (f .ensures .1) (c .before .before .before .before .before .l .given .1) in
+    let g = c .before .before .before .short-at in (
       kept-all _ _,
-      parts-no-short _ (c .before .before .before .before .before .before .before .before .before .args
-          .n) s x _ (c .no-parts2 .ensures) (c .before .before .before .short-at .ensures .1) (c .before .enum-told2 .given
+      parts-no-short _ (a .n) (a .s .now) x _ (c .no-parts2 .ensures) (g .ensures .1) (c .before .enum-told2 .given
           .1),
     )
 

@@ -62,29 +62,18 @@ same-length c = search needs
 
 returns : tie.Need-returns
 returns c =
-    let sum = size-sum (c .before .before .before .before .before .before .before .before .before .before .before
-    .before .before .before .before .args .p) in
+    let a = c .before .before .before .before .before .before .before .before .before .before .before .before .before
+    .before .before .args in
+    let room = c .before .before .before .before .before .before .before .before .before .before .before .before
+    .before .before .before .pre .2 in
+    let sum = size-sum (a .p) in
     let size = c .before .before .before .before .before .before .before .before .before .before .before .field-size
-    .result in
-    let w = two-writes size (omega (
-      arith,
-      sum,
-      c .before .before .before .before .before .before .before .before
-          .before .before .before .before .before .before .before .pre .2,
-    )) (c .before .before .before .before .before
-    .before .before .before .before .before .put-two .ensures) in
-    let v = two-writes (c .before .before .before .before .before .before .before .before .before .before .before
-    .before .before .before .before .args .p .kind) (omega (
-      arith,
-      sum,
-      two-end size w,
-      w .kept,
-      c .before .before
-          .before .before .before .before .before .before .before .before .before .before .before .before .before .pre .2,
-    ))
+    in
+    let w = two-writes (size .result) (omega (arith, sum, room)) (c .before .before .before .before .before .before
+    .before .before .before .before .put-two .ensures) in
+    let v = two-writes (a .p .kind) (omega (arith, sum, two-end (size .result) w, w .kept, room))
     (c .before .before .before .before .before .before .put-two2 .ensures) in
-    writes-join (rw (c .before .before .before .before .before .before .before .before .before .before .before
-    .field-size .ensures) at w) (writes-join v (c .before .before .put-body .ensures))
+    writes-join (rw (size .ensures) at w) (writes-join v (c .before .before .put-body .ensures))
 
 pub put-field-spec : {M : Type 1} → statement M
 put-field-spec =

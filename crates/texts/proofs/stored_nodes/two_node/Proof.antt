@@ -39,7 +39,8 @@ returns c = record {
   gives = c .before .before .before .before .before .before .two-type .ensures;
   deep = ap (λ (d : ℕ). 1 + d) (c .before .before .before .before .before .larger .ensures);
   len = refl;
-  bytes = λ h. c .joined .ensures ∙ rw (row-code (c .before .operator .result) (c .before .before .before .before .before .before .before .args .o) (c .before .operator .ensures)) refl;
+  bytes = λ h. c .joined .ensures ∙ rw (row-code (c .before .operator .result)
+      (c .before .before .before .before .before .before .before .args .o) (c .before .operator .ensures)) refl;
 }
 
 returns-2 : tie.Need-returns-2

@@ -34,13 +34,10 @@ measure-at-requires c κs = search needs
 
 returns-2 : tie.Need-returns-2
 returns-2 c =
-    let m = c .measure-at in (
-      m .ensures .0,
-      width-measure (c .before .before .before .before .before .args .names .now) (c .before .before
-          .before .before .before .args .n) (c .before .before .before .before .before .args .s .now) (c .before .before
-          .before .before .before .args .at) (omega arith) _ (sym (c .before .before .starts-at .ensures) ∙ c .before .if1
-          .left) (m .ensures .1),
-    )
+    let a = c .before .before .before .before .before .args in
+    let m = c .measure-at in
+    let n = sym (c .before .before .starts-at .ensures) ∙ c .before .if1 .left in
+    (m .ensures .0, width-measure (a .names .now) (a .n) (a .s .now) (a .at) (omega arith) _ n (m .ensures .1))
 
 pub width-at-spec : {M : Type 1} → statement M
 width-at-spec =
