@@ -303,10 +303,7 @@ more-two-node-requires t c κs =
     let u = sign-within (a .s .now) (a .at) _ (v .0) (v .1 .0) (p .g .given .1)
     (p .before .before .operator-at .ensures .0) in
     let w = got-within _ _ _ _ _ (c .if3 .left) (c .before .before .tree-expr .ensures .0) in
-    omega (
-      arith,
-      (o .pre),
-    )
+    omega (arith, o .pre)
 
 more-tree-more-requires : (t : ℕ) → more-lts.Need-tree-more-requires (more-calls t) (more-at t) more.Post
 more-tree-more-requires t c κs =
@@ -395,5 +392,6 @@ pub +tree-atom+tree-expr+tree-inside+tree-more-spec : {M : Type 1} → statement
     (inside-returns-3 t) (inside-add-tree-expr t) (inside-sub-tree-expr t) (inside-tree-expr-requires t)
     (inside-returns-4 t) (inside-tree-closed-requires t) (inside-returns-5 t))
     λ t. more-lts.spec (more-calls t) (more-at t) more.Post (more-operator-at-requires t) (more-enum-told t)
-    (more-enum-known-g t) (more-operator-requires t) (more-tree-expr-requires t) (more-returns t) (more-two-node-requires
-    t) (more-tree-more-requires t) (more-returns-2 t) (more-returns-3 t) (more-returns-4 t) (more-returns-5 t)
+    (more-enum-known-g t) (more-operator-requires t) (more-tree-expr-requires t) (more-returns t)
+    (more-two-node-requires t) (more-tree-more-requires t) (more-returns-2 t) (more-returns-3 t) (more-returns-4 t)
+    (more-returns-5 t)
