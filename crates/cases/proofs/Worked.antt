@@ -131,7 +131,8 @@ unfolding digits all any same lastIs sum joined tabulate firstBreak operator ope
     isPrintable isAllowed isWordByte isLabelByte noTwoSpaces isLabel reserved isReserved isShort depth le2 le4
     storedTree isInRange hasType apply decides evaluate rowsFit storedIn storedFieldIn fieldBody headBody tens
     units border cellText rowLines isFrame headLines cells mismatch ruleBroken bitsAt valueIn readField
-    readFields reading fieldsBefore entriesBefore entryLines linesText faultNumber ofTable ofPacket ofText ofListing delivered
+    readFields reading fieldsBefore entriesBefore entryLines linesText faultNumber ofTable ofPacket ofText ofListing
+    delivered
     readingAnswer packetOutcome partlyOutcome firstNamed readingLines manyFields notTimes andTimes after firstOf insert
     longestFirst order skip skipBehind operatorAt word behind scan wordValue isNumeral isNumberWord andThen leaf
     close inside atom step expr more Lines.readField literal begins labelEnds labelText labelBehind readLabel

@@ -39,7 +39,8 @@ pub rules-clear : (cells : List Slot) (p : ℕ) (before : List Form) (x : Form)
     → (keepsNames before x ≡ true) × (keepsTypes nameReadable before x ≡ true)
 unfolding broken
 rules-clear cells p before x h =
-    go (keepsSize before x) (showsCell cells before x) (keepsNames before x) refl (keepsTypes nameReadable before x) refl
+    go (keepsSize before x) (showsCell cells before x) (keepsNames before x) refl
+    (keepsTypes nameReadable before x) refl
     (keepsRest before x) h
   where
     go : (a b c : Bool) → keepsNames before x ≡ c → (d : Bool) → keepsTypes nameReadable before x ≡ d → (e : Bool)

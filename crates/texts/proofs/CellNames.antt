@@ -23,7 +23,7 @@ use Rattle.texts.specs.declared.parts.Parts.{Parts}
 
 -- ── the tests ──
 
-part : (at len : ℕ) (s : List ℕ) → take (at + len - at) (drop at s) ≡ take len (drop at s)
+pub part : (at len : ℕ) (s : List ℕ) → take (at + len - at) (drop at s) ≡ take len (drop at s)
 part at len s = let e : at + len - at ≡ len = omega arith in rw e refl
 
 module _ (name s : List ℕ) (p : Parts) where
@@ -56,7 +56,7 @@ or-last true y = refl
 or-last false true = refl
 or-last false false = refl
 
-short-is : (name s l : List ℕ) (q : Span) → isLabel name ≡ true → (o : Option (List ℕ)) → ShortIs s o q
+pub short-is : (name s l : List ℕ) (q : Span) → isLabel name ≡ true → (o : Option (List ℕ)) → ShortIs s o q
     → (same name l || same name (spanIn s q)) ≡ any (same name) (l ∷ listOf o)
 unfolding any
 short-is name s l q h none e =

@@ -23,7 +23,18 @@ use Rattle.text_laws.specs.Lowest.{lower}
 use Rattle.text_laws.specs.Fold as fold
 use Rattle.text_laws.proofs.Loose.{lowest-clear}
 use Rattle.texts.specs.Noted.{noteOf}
-use Rattle.texts.specs.States.{note, isTold, Room, Counts, Holds, stageOf, earlyNote, remainNote, lastNote, TableStep}
+use Rattle.texts.specs.States.{
+  note,
+  isTold,
+  Room,
+  Counts,
+  Holds,
+  stageOf,
+  earlyNote,
+  remainNote,
+  lastNote,
+  TableStep,
+}
 use Rattle.texts.specs.declared.notes.Note.{Note}
 use Rattle.texts.specs.declared.states.Stage.{Stage}
 use Rattle.texts.specs.declared.states.Stage.the-variants as at
@@ -52,7 +63,8 @@ module _ (f : fold.Found) (r : Reading) (c : Counts f r) where
       ∙ ap₂ {C = Option Answer} (λ (a b : ℕ). cond (ltb a b) (some (refused 7 (suc (f .lines)))) none) (c .fields)
       (c .cells)
     where
-      go : (b : Bool) → noteOf (cond b (note 7 (r .lines + 1)) (note 0 0)) ≡ cond b (some (refused 7 (r .lines + 1))) none
+      go : (b : Bool) → noteOf (cond b (note 7 (r .lines + 1)) (note 0 0))
+          ≡ cond b (some (refused 7 (r .lines + 1))) none
       go true = refl
       go false = refl
 

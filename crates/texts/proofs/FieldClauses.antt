@@ -63,25 +63,25 @@ module _ (s : List ℕ) (at : ℕ) (r : Read) (x : ExprAt s at 0 openMost r) whe
 
 -- ── behind a phrase ──
 
-condition-there : (z q : List ℕ) → begins (bytes "; present only when ") z ≡ true
+pub condition-there : (z q : List ℕ) → begins (bytes "; present only when ") z ≡ true
     → literal (bytes "; present only when ") z ≡ hit tt q → readCondition z ≡ treeClause q
 unfolding readCondition readMaybe readPhrase isCondition treeClause
 condition-there z q y l = rw (y, l) refl
 
-condition-none : (z : List ℕ) → begins (bytes "; present only when ") z ≡ false → readCondition z ≡ hit none z
+pub condition-none : (z : List ℕ) → begins (bytes "; present only when ") z ≡ false → readCondition z ≡ hit none z
 unfolding readCondition readMaybe isCondition
 condition-none z n = rw n refl
 
-constraint-there : (z q : List ℕ) → begins (bytes "; present only when ") z ≡ false
+pub constraint-there : (z q : List ℕ) → begins (bytes "; present only when ") z ≡ false
     → begins (bytes "; ") z ≡ true → literal (bytes "; ") z ≡ hit tt q → readConstraint z ≡ treeClause q
 unfolding readConstraint readMaybe readPhrase isConstraint isCondition treeClause
 constraint-there z q n y l = rw (y, n, l) refl
 
-constraint-none : (z : List ℕ) → begins (bytes "; ") z ≡ false → readConstraint z ≡ hit none z
+pub constraint-none : (z : List ℕ) → begins (bytes "; ") z ≡ false → readConstraint z ≡ hit none z
 unfolding readConstraint readMaybe isConstraint
 constraint-none z n = rw n refl
 
-constraint-later : (z : List ℕ) → begins (bytes "; present only when ") z ≡ true → readConstraint z ≡ hit none z
+pub constraint-later : (z : List ℕ) → begins (bytes "; present only when ") z ≡ true → readConstraint z ≡ hit none z
 unfolding readConstraint readMaybe isConstraint isCondition
 constraint-later z y = rw (y, and-false (begins (bytes "; ") z)) refl
 

@@ -60,27 +60,27 @@ clause-within s at e w = rw e at w
 
 -- ── behind the width ──
 
-ends-first : (form : Ending) (z : List ℕ) → readConstraint z ≡ miss → formOf (readEnds form z) ≡ none
+pub ends-first : (form : Ending) (z : List ℕ) → readConstraint z ≡ miss → formOf (readEnds form z) ≡ none
 unfolding readEnds
 ends-first form z e = rw e refl
 
-ends-second : (form : Ending) (z z₁ : List ℕ) (c : Option (Tree (List ℕ))) → readConstraint z ≡ hit c z₁
+pub ends-second : (form : Ending) (z z₁ : List ℕ) (c : Option (Tree (List ℕ))) → readConstraint z ≡ hit c z₁
     → readCondition z₁ ≡ miss → formOf (readEnds form z) ≡ none
 unfolding readEnds
 ends-second form z z₁ c e f = rw (e, f) refl
 
-ends-open : (form : Ending) (z z₁ z₂ : List ℕ) (c d : Option (Tree (List ℕ))) → readConstraint z ≡ hit c z₁
+pub ends-open : (form : Ending) (z z₁ z₂ : List ℕ) (c d : Option (Tree (List ℕ))) → readConstraint z ≡ hit c z₁
     → readCondition z₁ ≡ hit d z₂ → literal (bytes ".") z₂ ≡ miss → formOf (readEnds form z) ≡ none
 unfolding readEnds
 ends-open form z z₁ z₂ c d e f g = rw (e, f, g) refl
 
-ends-bad : (form : Ending) (z z₁ z₂ z₃ : List ℕ) (c d : Option (Tree (List ℕ))) → readConstraint z ≡ hit c z₁
+pub ends-bad : (form : Ending) (z z₁ z₂ z₃ : List ℕ) (c d : Option (Tree (List ℕ))) → readConstraint z ≡ hit c z₁
     → readCondition z₁ ≡ hit d z₂ → literal (bytes ".") z₂ ≡ hit tt z₃ → isRemark z₃ ≡ false
     → formOf (readEnds form z) ≡ none
 unfolding readEnds
 ends-bad form z z₁ z₂ z₃ c d e f g h = rw (e, f, g, h) refl
 
-ends-good : (form : Ending) (z z₁ z₂ z₃ : List ℕ) (c d : Option (Tree (List ℕ))) → readConstraint z ≡ hit c z₁
+pub ends-good : (form : Ending) (z z₁ z₂ z₃ : List ℕ) (c d : Option (Tree (List ℕ))) → readConstraint z ≡ hit c z₁
     → readCondition z₁ ≡ hit d z₂ → literal (bytes ".") z₂ ≡ hit tt z₃ → isRemark z₃ ≡ true
     → formOf (readEnds form z) ≡ some (form c d)
 unfolding readEnds

@@ -40,7 +40,7 @@ small-no d z lt = rw (lt-leb d depthMost lt) refl
 pub small-three : {r a b c x y z : Bool} → r ≡ (a && (b && c)) → a ≡ x → b ≡ y → c ≡ z → r ≡ (x && (y && z))
 small-three e p q h = e ∙ rw (p, q, h) refl
 
-all-join : {A : Type 0} (p : A → Bool) (s t : List A) → all p (s ++ t) ≡ (all p s && all p t)
+pub all-join : {A : Type 0} (p : A → Bool) (s t : List A) → all p (s ++ t) ≡ (all p s && all p t)
 unfolding all
 all-join p [] t = refl
 all-join p (x ∷ s) t = rw (all-join p s t) (go (p x))
@@ -72,14 +72,15 @@ maybe-small s (some t) a d z h e = all-one t d z e (h .size)
 
 -- ── behind the names ──
 
-behind-miss : (w : List ℕ) (h : Option (List ℕ)) (z : List ℕ) → readWidth z ≡ miss → formOf (readBehind w h z) ≡ none
+pub behind-miss : (w : List ℕ) (h : Option (List ℕ)) (z : List ℕ) → readWidth z ≡ miss → formOf (readBehind w h z) ≡
+    none
 unfolding readBehind
 behind-miss w h z e = rw e refl
 
-abbrev ending : List ℕ → Option (List ℕ) → Width (List ℕ) → Ending
+abbrev pub ending : List ℕ → Option (List ℕ) → Width (List ℕ) → Ending
 ending w h v = λ c d. record { label = w; short = h; width = v; constraint = c; condition = d }
 
-behind-is : (w : List ℕ) (h : Option (List ℕ)) (z z₁ : List ℕ) (v : Width (List ℕ)) → readWidth z ≡ hit v z₁
+pub behind-is : (w : List ℕ) (h : Option (List ℕ)) (z z₁ : List ℕ) (v : Width (List ℕ)) → readWidth z ≡ hit v z₁
     → formOf (readBehind w h z) ≡ formOf (readEnds (ending w h v) z₁)
 unfolding readBehind
 behind-is w h z z₁ v e = rw e refl
@@ -162,20 +163,20 @@ module _ (s : List ℕ) (start label : ℕ) (name : Span) (at : ℕ) {k b a d z 
 
 -- ── the line ──
 
-line-no-label : (s : List ℕ) → readLabel s ≡ miss → readForm s ≡ none
+pub line-no-label : (s : List ℕ) → readLabel s ≡ miss → readForm s ≡ none
 unfolding readForm readField
 line-no-label s e = rw e refl
 
-line-no-short : (s z : List ℕ) (w : List ℕ) → readLabel s ≡ hit w z → readShort z ≡ miss → readForm s ≡ none
+pub line-no-short : (s z : List ℕ) (w : List ℕ) → readLabel s ≡ hit w z → readShort z ≡ miss → readForm s ≡ none
 unfolding readForm readField
 line-no-short s z w e f = rw (e, f) refl
 
-line-no-colon : (s z z₁ w : List ℕ) (h : Option (List ℕ)) → readLabel s ≡ hit w z → readShort z ≡ hit h z₁
+pub line-no-colon : (s z z₁ w : List ℕ) (h : Option (List ℕ)) → readLabel s ≡ hit w z → readShort z ≡ hit h z₁
     → literal (bytes ": ") z₁ ≡ miss → readForm s ≡ none
 unfolding readForm readField
 line-no-colon s z z₁ w h e f g = rw (e, f, g) refl
 
-line-behind : (s z z₁ z₂ w : List ℕ) (h : Option (List ℕ)) → readLabel s ≡ hit w z → readShort z ≡ hit h z₁
+pub line-behind : (s z z₁ z₂ w : List ℕ) (h : Option (List ℕ)) → readLabel s ≡ hit w z → readShort z ≡ hit h z₁
     → literal (bytes ": ") z₁ ≡ hit tt z₂ → readForm s ≡ formOf (readBehind w h z₂)
 unfolding readForm readField readBehind readEnds
 line-behind s z z₁ z₂ w h e f g = rw (e, f, g) refl
@@ -186,7 +187,7 @@ pub record LabelAs (s : List ℕ) (n : ℕ) : Type 0 where
   pub isRead : readLabel s ≡ hit text (drop n s)
   pub isText : take n s ≡ text
 
-label-miss : (s : List ℕ) (r : Label) (g : Got (List ℕ)) → SameLabel s 0 g r → r ≡ label.Nothing → g ≡ miss
+pub label-miss : (s : List ℕ) (r : Label) (g : Got (List ℕ)) → SameLabel s 0 g r → r ≡ label.Nothing → g ≡ miss
 unfolding SameLabel
 label-miss s r miss h e = refl
 label-miss s r (hit w q) h e = let e′ = h .1 in cc
@@ -217,7 +218,7 @@ unfolding NameIs
 name-short s a b none e = omega arith
 name-short s a b (some w) e = e .1
 
-short-miss : (s : List ℕ) (r : Short) (g : Got (Option (List ℕ))) → SameShort s g r → r ≡ short.Nothing → g ≡ miss
+pub short-miss : (s : List ℕ) (r : Short) (g : Got (Option (List ℕ))) → SameShort s g r → r ≡ short.Nothing → g ≡ miss
 unfolding SameShort
 short-miss s r miss h e = refl
 short-miss s r (hit w q) h e = let e′ = h .3 in cc

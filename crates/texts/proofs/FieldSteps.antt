@@ -144,7 +144,8 @@ module _ (f : fold.Found) (r : Reading) {cells table : List ℕ} {labels shorts 
       let c : isOpen (noteOfForm x) ≡ false = rw (← k) shut in
       rw (e, o) (holds-judged (withForm (f .cells) (suc (f .lines)) (f .judged) (some x)) (r .count + 1) a one-more
       (rw c refl)
-      (λ z. lower-left (f .judged .lowest) (broken 6 (suc (f .lines)) (rules (f .cells)) (faces (f .judged .fields)) x) z)
+      (λ z. lower-left (f .judged .lowest) (broken 6 (suc (f .lines)) (rules (f .cells)) (faces
+      (f .judged .fields)) x) z)
       k)
 
 -- other names may be held behind those of the fields
@@ -263,7 +264,8 @@ module _ (f : fold.Found) (r : Reading) {cells table after : List ℕ} {labels s
         let here = lower (f .judged .lowest) (broken 6 (suc (f .lines)) (rules (f .cells)) (faces before) x) in
         let q : isOpen here ≡ true = rw (← low) is in
         let seen = h .records .stands .seen in
-        let stands = writes (f .cells) (suc (f .lines)) (f .judged) fs (h .records .stands) (steady .clear) x names′ short
+        let stands = writes (f .cells) (suc (f .lines)) (f .judged) fs (h .records .stands)
+        (steady .clear) x names′ short
         (λ i y z. formed i y (subst (λ (b : List Form). getElem? (b ++ (x ∷ [])) i ≡ some y) seen z))
         (λ i y z. k .named .name i y (subst (λ (b : List Form). getElem? (b ++ (x ∷ [])) i ≡ some y) seen z)) q in
         rw (e, o) (holds-grown (withForm (f .cells) (suc (f .lines)) (f .judged) (some x)) (resolvedIn before x) a refl

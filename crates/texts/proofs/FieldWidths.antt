@@ -162,11 +162,11 @@ depth-some (read a) = omega arith
 depth-some (two o a b) = omega arith
 depth-some (negation a) = omega arith
 
-record Single (t : Tree (List ℕ)) : Type 0 where
-  value : ℕ
-  isNum : t ≡ num value
+pub record Single (t : Tree (List ℕ)) : Type 0 where
+  pub value : ℕ
+  pub isNum : t ≡ num value
 
-single : (t : Tree (List ℕ)) → depth t ≡ 1 → storedLength t ≡ 5 → Single t
+pub single : (t : Tree (List ℕ)) → depth t ≡ 1 → storedLength t ≡ 5 → Single t
 unfolding depth storedTree
 single (num n) p q = record { value = n; isNum = refl }
 single (read a) p q = absurd (omega arith)
@@ -174,7 +174,7 @@ single (two o a b) p q =
     let h = depth-some a in let m : max (depth a) (depth b) ≡ 0 = omega arith in absurd (omega arith)
 single (negation a) p q = let h = depth-some a in absurd (omega arith)
 
-one-single : (m d z : ℕ) → depth {N = List ℕ} (num m) ≡ d → storedLength {N = List ℕ} (num m) ≡ z
+pub one-single : (m d z : ℕ) → depth {N = List ℕ} (num m) ≡ d → storedLength {N = List ℕ} (num m) ≡ z
     → (eqb d 1 && eqb z 5) ≡ true
 unfolding depth storedTree le4
 one-single m d z p q = rw (← p, ← q) refl
@@ -234,11 +234,11 @@ tree-some : (z : List ℕ) (t : Tree (List ℕ)) (q : List ℕ) → expr (suc (l
 unfolding readTree
 tree-some z t q e = rw e refl
 
-measure-none : (z : List ℕ) → readTree z ≡ miss → readMeasure z ≡ miss
+pub measure-none : (z : List ℕ) → readTree z ≡ miss → readMeasure z ≡ miss
 unfolding readMeasure
 measure-none z e = rw e refl
 
-measure-is : (z : List ℕ) (t : Tree (List ℕ)) (q : List ℕ) → readTree z ≡ hit t q
+pub measure-is : (z : List ℕ) (t : Tree (List ℕ)) (q : List ℕ) → readTree z ≡ hit t q
     → readMeasure z ≡ bind (spacedUnit q) (λ u p. keep (isWidth (widthOf u t)) (widthOf u t) p)
 unfolding readMeasure spacedUnit
 measure-is z t q e = rw e (go (literal (bytes " ") q))
@@ -286,12 +286,12 @@ module _ (s : List ℕ) (at : ℕ) (r : Read) (x : ExprAt s at 0 openMost r) whe
 
 -- ── widths ──
 
-variable-there : (z q : List ℕ) → begins (bytes "variable") z ≡ true → literal (bytes "variable") z ≡ hit tt q
+pub variable-there : (z q : List ℕ) → begins (bytes "variable") z ≡ true → literal (bytes "variable") z ≡ hit tt q
     → readWidth z ≡ hit rest q
 unfolding readWidth
 variable-there z q y l = rw (y, l) refl
 
-variable-none : (z : List ℕ) → begins (bytes "variable") z ≡ false → readWidth z ≡ readMeasure z
+pub variable-none : (z : List ℕ) → begins (bytes "variable") z ≡ false → readWidth z ≡ readMeasure z
 unfolding readWidth
 variable-none z n = rw n refl
 

@@ -81,7 +81,8 @@ module _ (f : fold.Found) (steady : Steady f) (line : List ℕ) (x : Form) (isFo
     names-here =
         let front = named-front before x named in
         let e : getElem? (before ++ (x ∷ [])) (length before) ≡ some x = element-last before x in
-        subst (λ (n : ℕ). anyClash labels shorts n (getD labels n []) (getD shorts n []) ≡ any (clash x) before) count-is
+        subst (λ (n : ℕ). anyClash labels shorts n (getD labels n []) (getD shorts n [])
+        ≡ any (clash x) before) count-is
         (rw (named .label (length before) x e, named .short (length before) x e)
         (clash-any before x labels shorts form-formed fields-formed (front .label) (front .short)))
 

@@ -27,7 +27,8 @@ module _ (labels shorts : List (List ℕ)) (label short : List ℕ) (n i : ℕ) 
   -- no field before i has one of the names
   abbrev pub Left : Type 0
   Left = (i ≤ n)
-      × (firstFrom (clashHeld labels shorts label short) 0 n ≡ firstFrom (clashHeld labels shorts label short) i (n - i))
+      × (firstFrom (clashHeld labels shorts label short) 0 n
+      ≡ firstFrom (clashHeld labels shorts label short) i (n - i))
 
   pub clash-none : n ≤ i → Left → false ≡ anyClash labels shorts n label short
   unfolding anyClash

@@ -17,8 +17,14 @@
 -- NumberWords              the value of a number word, digit by digit
 -- NumberTrees              where the number of a tree that is a single number stands
 -- FieldWidths              widths at a place of a text
+-- ClauseTrees              constraint and condition in their stored form, at a place of a text
+-- WidthTrees               widths with their expressions in stored form, at a place of a text
 -- FieldEnds                what stands behind the width, at a place of a text
 -- FieldParts               the parts of a whole field line
+-- PartSteps                the parts of a field line with their expressions in stored form
+-- PartSlots                a kept cell held against the parts of a field line
+-- PartRules                what is tested of the expressions of a field line is what the rules ask
+-- PartBytes                the bytes that are written of the parts of a field line are its record
 -- SplitSteps               the pieces of a text from a place on
 -- RowTests                 the row of a line, as the code tests it
 -- SlotLaws                 a cell as it is kept, and whether it is one for the field of a line
@@ -64,7 +70,10 @@ pub mod NumberWords
 pub mod NumberTrees
 pub mod FieldWidths
 pub mod FieldEnds
+pub mod ClauseTrees
+pub mod WidthTrees
 pub mod FieldParts
+pub mod PartSteps
 pub mod SplitSteps
 pub mod RowTests
 pub mod CellNames
@@ -73,6 +82,9 @@ pub mod SlotLaws
 pub mod SlotRows
 pub mod RecordSizes
 pub mod RecordLaws
+pub mod PartSlots
+pub mod PartRules
+pub mod PartBytes
 pub mod TableLaws
 pub mod HeldNames
 pub mod Holding

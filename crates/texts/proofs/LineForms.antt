@@ -27,7 +27,17 @@ use Rattle.texts.specs.LinePlaces.{spanOf, spanIn, Fits, WidthIs, ShortI
 use Rattle.texts.specs.LineTests.{heldShort}
 use Rattle.texts.specs.Noted.{noteOf}
 use Rattle.texts.specs.Records.{fieldSize}
-use Rattle.texts.specs.States.{note, heldName, Named, NamedWith, laterNote, isTold, isFullAs, lineRefused, lineKept}
+use Rattle.texts.specs.States.{
+  note,
+  heldName,
+  Named,
+  NamedWith,
+  laterNote,
+  isTold,
+  isFullAs,
+  lineRefused,
+  lineKept,
+}
 use Rattle.texts.specs.States.{recordMost, Room, Counts}
 use Rattle.texts.specs.declared.notes.Note.{Note}
 use Rattle.texts.specs.declared.parts.TreeAt.{TreeAt}

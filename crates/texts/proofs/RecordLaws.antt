@@ -68,17 +68,17 @@ module _ {a b : List ℕ} {at next : ℕ} where
   tree-none s p g e w (some t) h = absurd (omega (arith, e, h .size, stored-some (λ a. 0) t))
 
   pub tree-some : (s : List ℕ) (p : TreeAt) (names : List (List ℕ)) (n : ℕ) → (p .size ≡ 0 → ⊥)
-      → p .size ≤ storedMost → (r : StoredTree) → StoredFor names n (readTree (drop (p .at) s)) r
+      → p .size ≤ storedMost → (r : StoredTree) → StoredFor names n s (readTree (drop (p .at) s)) r
       → Writes a at (counted (take (p .size - 0) (r .bytes))) b next
       → (o : Option (Tree (List ℕ))) → MaybeIs s o p
       → Writes a at (counted (storedMaybe (Option·map (renameTree (lookUp names n)) o))) b next
   unfolding StoredFor
   tree-some s p names n e le r q w none h = absurd (e h)
   tree-some s p names n e le r q w (some t) h =
-      let u : StoredFor names n (hit t (h .behind)) r = rw (h .isRead) at q in
-      let m : p .size - 0 ≡ r .len = omega (arith, h .size, u .len) in
+      let u : StoredFor names n s (hit t (h .behind)) r = rw (h .isRead) at q in
+      let m : p .size - 0 ≡ r .len = omega (arith, h .size, u .0 .len) in
       let k : take (p .size - 0) (r .bytes) ≡ storedTree (lookUp names n) t =
-      rw m (u .bytes (omega (arith, h .size, le))) in
+      rw m (u .0 .bytes (omega (arith, h .size, le))) in
       rw (stored-renamed (lookUp names n) t, ← k) w
 
   -- ── widths ──
@@ -95,15 +95,15 @@ module _ {a b : List ℕ} {at next : ℕ} where
 
 -- the stored bytes are as many as the expression's size
 pub stored-room : (s : List ℕ) (p : TreeAt) (names : List (List ℕ)) (n : ℕ) → (p .size ≡ 0 → ⊥) → p .size ≤ storedMost
-    → (r : StoredTree) → StoredFor names n (readTree (drop (p .at) s)) r
+    → (r : StoredTree) → StoredFor names n s (readTree (drop (p .at) s)) r
     → (o : Option (Tree (List ℕ))) → MaybeIs s o p → p .size ≤ length (r .bytes)
 unfolding StoredFor
 stored-room s p names n e le r q none h = absurd (e h)
 stored-room s p names n e le r q (some t) h =
-    let u : StoredFor names n (hit t (h .behind)) r = rw (h .isRead) at q in
-    let k : take (r .len) (r .bytes) ≡ storedTree (lookUp names n) t = u .bytes (omega (arith, h .size, le)) in
+    let u : StoredFor names n s (hit t (h .behind)) r = rw (h .isRead) at q in
+    let k : take (r .len) (r .bytes) ≡ storedTree (lookUp names n) t = u .0 .bytes (omega (arith, h .size, le)) in
     let l : length (take (r .len) (r .bytes)) ≡ storedLength t = rw k (stored-length (lookUp names n) t) in
-    omega (arith, l, length-take (r .len) (r .bytes), u .len, h .size)
+    omega (arith, l, length-take (r .len) (r .bytes), u .0 .len, h .size)
 
 pub rest-writes : (s : List ℕ) (g : List ℕ → ℕ) (v : Width (List ℕ)) (k n : ℕ) (p : TreeAt) (out : List ℕ) (at : ℕ)
     → WidthIs s v k n p → k ≡ 4 → Writes out at (storedWidth (renameWidth g v)) out at

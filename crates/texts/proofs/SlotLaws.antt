@@ -34,7 +34,7 @@ module _ (cells : List ℕ) (at : ℕ) (c : Slot) (behind : List ℕ) (e : drop 
   byte : (k : ℕ) → getD cells (at + k) 0 ≡ getD (storedSlot c ++ behind) k 0
   byte k = sym (getD-drop at cells k 0) ∙ ap (λ (l : List ℕ). getD l k 0) e
 
-  slot-long : eqb (getD cells at 0) 1 ≡ c .long
+  pub slot-long : eqb (getD cells at 0) 1 ≡ c .long
   unfolding storedSlot
   slot-long = let z : at + 0 ≡ at = omega arith in rw z at (ap (λ (n : ℕ). eqb n 1) (byte 0)) ∙ go (c .long)
     where
@@ -42,7 +42,7 @@ module _ (cells : List ℕ) (at : ℕ) (c : Slot) (behind : List ℕ) (e : drop 
       go true = refl
       go false = refl
 
-  slot-bits : getD cells (at + 1) 0 ≡ c .bits
+  pub slot-bits : getD cells (at + 1) 0 ≡ c .bits
   unfolding storedSlot
   slot-bits = byte 1
 
@@ -50,13 +50,20 @@ module _ (cells : List ℕ) (at : ℕ) (c : Slot) (behind : List ℕ) (e : drop 
   unfolding storedSlot
   slot-size = byte 2
 
-  slot-text : take (length (c .text)) (drop (at + 3) cells) ≡ c .text
+  pub slot-text : take (length (c .text)) (drop (at + 3) cells) ≡ c .text
   unfolding storedSlot
   slot-text =
       ap (take (length (c .text))) (sym (drop-drop 3 at cells) ∙ ap (drop 3) e) ∙ take-append-seam (c .text) behind
 
   slot-fits : at ≤ length cells → at + (3 + length (c .text)) ≤ length cells
-  slot-fits le = omega (arith, le, ap length e, length-drop at cells, length-append (storedSlot c) behind, slot-length c)
+  slot-fits le = omega (
+    arith,
+    le,
+    ap length e,
+    length-drop at cells,
+    length-append (storedSlot c) behind,
+    slot-length c,
+  )
 
 -- ── its end ──
 
@@ -105,7 +112,8 @@ module _ (cells line : List ℕ) (at end : ℕ) (p : Parts)
 
 module _ (chars : List ℕ) (long : Bool) (from len : ℕ) (l : drop from chars ≡ leftTrim chars)
     (h : len ≤ length (take (length chars - from) (drop from chars)))
-    (t : take len (take (length chars - from) (drop from chars)) ≡ rightTrim (take (length chars - from) (drop from chars)))
+    (t : take len (take (length chars - from) (drop from chars)) ≡ rightTrim (take (length chars - from) (drop from
+    chars)))
   where
     text-is : take (from + len - from) (drop from chars) ≡ rightTrim (leftTrim chars)
     text-is =
@@ -139,5 +147,6 @@ module _ (chars : List ℕ) (long : Bool) (from len : ℕ) (l : drop from chars 
         let front : Writes before at slotHead mid next = put-writes {w = slotHead} (omega arith) p in
         let v : placed end after ≡ put mid next (rightTrim (leftTrim chars)) = rw text-is at q in
         let back : Writes mid next (rightTrim (leftTrim chars)) after end =
-        put-writes {w = rightTrim (leftTrim chars)} (omega (arith, front .end, front .kept, text-length, n, room)) v in
+        put-writes {w = rightTrim (leftTrim chars)} (omega (arith, front .end, front .kept, text-length, n, room)) v
+        in
         rw (← slot-parts) (writes-join front back)

@@ -103,7 +103,8 @@ module _ (f : fold.Found) (r : Reading) (cells : List ℕ) (counts : Counts f r)
       let c = element-at (f .cells) i (omega (arith, a, b, lt)) in
       let front = joined storedSlot (take i (f .cells)) in
       let rest = joined storedSlot (drop (suc i) (f .cells)) in
-      let s : joined storedSlot (f .cells) ≡ front ++ (storedSlot (c .0) ++ rest) = split-at (f .cells) i (c .0) (c .1) in
+      let s : joined storedSlot (f .cells) ≡ front ++ (storedSlot (c .0) ++ rest) =
+      split-at (f .cells) i (c .0) (c .1) in
       let whole : cells ≡ front ++ (storedSlot (c .0) ++ (rest ++ drop (r .slots) cells)) =
       sym (take-append-drop (r .slots) cells)
       ∙ ap (λ (l : List ℕ). l ++ drop (r .slots) cells) (slots .stored ∙ s)

@@ -107,8 +107,8 @@ putting-start before line at h = record {
 module _ {before cells : List ℕ} {at next from n : ℕ} {line : List ℕ} (p : Putting before at line cells next from n)
   where
     -- a bar stands behind the cell
-    pub bar-there : (to : ℕ) → to ≡ from + upTo (getD line 0 0) (drop from line) → from < length line → to ≤ length line
-        → to < length line
+    pub bar-there : (to : ℕ) → to ≡ from + upTo (getD line 0 0) (drop from line) → from < length line
+        → to ≤ length line → to < length line
     bar-there to e lt le = go (eqb to (length line)) refl
       where
         go : (b : Bool) → eqb to (length line) ≡ b → to < length line
@@ -134,7 +134,8 @@ module _ {before cells : List ℕ} {at next from n : ℕ} {line : List ℕ} (p :
               (piece-at (getD line 0 0) line from to e le)
               ∙ sym (append-assoc (p .done) (c ∷ []) (slotsOf line (to + 1)));
           count = length-append (p .done) (c ∷ []) ∙ omega (arith, p .count);
-          writes = rw (joined-append storedSlot (p .done) (c ∷ []), joined-one storedSlot c) (writes-join (p .writes) v);
+          writes =
+              rw (joined-append storedSlot (p .done) (c ∷ []), joined-one storedSlot c) (writes-join (p .writes) v);
           noRest = sym (rest-at (getD line 0 0) line from to e le) ∙ p .noRest;
           near = omega (arith, p .near, m, v .end, piece-length (getD line 0 0) line from to e le, e);
           few = omega (arith, p .few, e);

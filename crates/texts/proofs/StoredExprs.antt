@@ -153,11 +153,11 @@ module _ (names : List (List ℕ)) (n : ℕ) (s : List ℕ) where
   -- ── the whole ──
 
   pub whole-stored : (at : ℕ) (r : StoredTree) → ExprStored names n s at 0 openMost r
-      → StoredFor names n (readTree (drop at s)) r
+      → StoredFor names n s (readTree (drop at s)) r
   unfolding readTree SameStored StoredFor
   whole-stored at r E = go (expr (suc (length (drop at s))) 0 openMost (drop at s))
       (E (suc (length (drop at s))) (omega arith))
     where
-      go : (o : Out) → SameStored names n s o r → StoredFor names n (ofOut o) r
+      go : (o : Out) → SameStored names n s o r → StoredFor names n s (ofOut o) r
       go fail w = w
-      go (got t q) w = w .0
+      go (got t q) w = w

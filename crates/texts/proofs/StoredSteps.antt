@@ -12,7 +12,7 @@ use borrow.Author.Tests.{ne-eqb}
 use Rattle.rules.specs.declared.Op.{Op}
 use Rattle.rules.specs.Operators.{code, numberCode, fieldCode}
 use Rattle.rules.specs.Names.{isShort}
-use Rattle.rules.specs.Trees.{Tree, num, read, two, negation, storedTree, storedLength, le4}
+use Rattle.rules.specs.Trees.{Tree, num, read, two, negation, depth, storedTree, storedLength, le4}
 use Rattle.text_laws.specs.Reader.{Out, fail, got, word, behind, wordValue, isNumeral, isNumberWord, leaf}
 use Rattle.text_laws.specs.Reader.{close}
 use Rattle.texts.specs.StoredTrees.{lookUp, typeOf, StoredIs, SameStored}
@@ -24,7 +24,7 @@ use Rattle.texts.proofs.ExprLeaves.{word-part, longer}
 
 -- ── a stored expression that holds a tree ──
 
-some-length : (t : Tree (List ℕ)) → 0 < storedLength t
+pub some-length : (t : Tree (List ℕ)) → 0 < storedLength t
 unfolding storedTree
 some-length (num n) = omega arith
 some-length (read w) = omega arith
@@ -38,29 +38,42 @@ stored-two f o t u a b p q = rw (p, q) refl
 
 module _ (names : List (List ℕ)) (n : ℕ) where
   pub is-name : (w : List ℕ) (at : ℕ) (r : StoredTree)
-      → Made at (cond (ltb (lookUp names n w) n) 1 0) 2 (fieldCode ∷ lookUp names n w ∷ []) r
+      → Made at (cond (ltb (lookUp names n w) n) 1 0) 1 2 (fieldCode ∷ lookUp names n w ∷ []) r
       → StoredIs names n (read w) r
-  unfolding storedTree typeOf
-  is-name w at r m = record { len = m .len; gives = m .gives; bytes = λ h. rw (m .len) (m .bytes (omega arith)) }
+  unfolding storedTree typeOf depth
+  is-name w at r m = record {
+    len = m .len;
+    gives = m .gives;
+    deep = m .deep;
+    bytes = λ h. rw (m .len) (m .bytes
+        (omega arith));
+  }
 
-  pub is-number : (v at : ℕ) (r : StoredTree) → Made at 1 5 (numberCode ∷ le4 v) r → StoredIs names n (num v) r
-  unfolding storedTree typeOf le4
-  is-number v at r m = record { len = m .len; gives = m .gives; bytes = λ h. rw (m .len) (m .bytes (omega arith)) }
+  pub is-number : (v at : ℕ) (r : StoredTree) → Made at 1 1 5 (numberCode ∷ le4 v) r → StoredIs names n (num v) r
+  unfolding storedTree typeOf le4 depth
+  is-number v at r m = record {
+    len = m .len;
+    gives = m .gives;
+    deep = m .deep;
+    bytes = λ h. rw (m .len) (m .bytes
+        (omega arith));
+  }
 
   pub is-not : (p : StoredTree) (at : ℕ) (r : StoredTree) (t : Tree (List ℕ)) → NotMade p at r → StoredIs names n t p
       → StoredIs names n (negation t) r
-  unfolding storedTree typeOf
+  unfolding storedTree typeOf depth
   is-not p at r t m x =
       let e : p .len ≡ storedLength t = x .len in
       record {
         len = m .len ∙ rw e (omega arith);
         gives = m .gives ∙ rw (x .gives) refl;
+        deep = m .deep ∙ rw (x .deep) (omega arith);
         bytes = λ h. rw (m .len) (m .bytes (omega arith) ∙ rw (x .bytes (omega arith)) refl);
       }
 
   pub is-two : (o : Op) (a b r : StoredTree) (t u : Tree (List ℕ)) → TwoMade o a b r → StoredIs names n t a
       → StoredIs names n u b → StoredIs names n (two o t u) r
-  unfolding typeOf
+  unfolding typeOf depth
   is-two o a b r t u m x y =
       let l : storedLength (two o t u) ≡ 1 + (a .len + b .len) =
       two-length o t u (a .len) (b .len) (sym (x .len)) (sym (y .len)) in
@@ -69,14 +82,23 @@ module _ (names : List (List ℕ)) (n : ℕ) where
       record {
         len = m .len ∙ sym l;
         gives = m .gives ∙ rw (x .gives, y .gives) refl;
+        deep = m .deep ∙ rw (x .deep, y .deep) (omega arith);
         bytes = λ h. rw (m .len) (m .bytes (omega (arith, h, l)) ∙ stored-two (lookUp names n) o t u _ _
             (x .bytes (omega (arith, h, l))) (y .bytes (omega (arith, h, l))));
       }
 
   -- the same expression, that ends elsewhere
-  pub is-moved : (p r : StoredTree) (t : Tree (List ℕ)) → r .gives ≡ p .gives → r .len ≡ p .len → r .bytes ≡ p .bytes
-      → StoredIs names n t p → StoredIs names n t r
-  is-moved p r t k l b x = record { len = l ∙ x .len; gives = k ∙ x .gives; bytes = λ h. rw (l, b) (x .bytes h) }
+  pub is-moved : (p r : StoredTree) (t : Tree (List ℕ)) → r .gives ≡ p .gives → r .depth ≡ p .depth
+      → r .len ≡ p .len → r .bytes ≡ p .bytes → StoredIs names n t p → StoredIs names n t r
+  is-moved p r t k d l b x = record {
+    len = l ∙ x .len;
+    gives = k ∙ x .gives;
+    deep = d ∙ x .deep;
+    bytes = λ h. rw (
+      l,
+      b,
+    ) (x .bytes h);
+  }
 
   -- ── the code's answer tells the reader's ──
 
@@ -115,11 +137,12 @@ none-within s lo at z r e = record {
   low = λ h. absurd (omega (arith, e));
   high = λ h. absurd (omega (arith, e));
   grown = λ h. absurd (omega (arith, e));
+  flat = λ h. absurd (omega (arith, e));
 }
 
 pub here-within : (s : List ℕ) (lo at z : ℕ) (r : StoredTree) → lo ≤ r .next → r .next ≤ length s
-    → r .len + 5 * at ≤ z + 5 * r .next → WithinStored s lo at z r
-here-within s lo at z r a b c = record { low = λ h. a; high = λ h. b; grown = λ h. c }
+    → r .len + 5 * at ≤ z + 5 * r .next → r .depth ≤ r .len → WithinStored s lo at z r
+here-within s lo at z r a b c d = record { low = λ h. a; high = λ h. b; grown = λ h. c; flat = λ h. d }
 
 -- from a later place on
 pub up-within : (s : List ℕ) (lo at z lo′ at′ z′ : ℕ) (r : StoredTree) → lo′ ≤ lo → z + 5 * at′ ≤ z′ + 5 * at
@@ -128,12 +151,13 @@ up-within s lo at z lo′ at′ z′ r a b w = record {
   low = λ h. (let p = w .low h in omega arith);
   high = w .high;
   grown = λ h. (let p = w .grown h in omega arith);
+  flat = w .flat;
 }
 
 -- where there is an expression
 pub got-within : (s : List ℕ) (lo at z : ℕ) (r : StoredTree) → (r .len ≡ 0 → ⊥) → WithinStored s lo at z r
-    → (lo ≤ r .next) × (r .next ≤ length s) × (r .len + 5 * at ≤ z + 5 * r .next)
-got-within s lo at z r e w = let h : 0 < r .len = omega (arith, e) in (w .low h, w .high h, w .grown h)
+    → (lo ≤ r .next) × (r .next ≤ length s) × (r .len + 5 * at ≤ z + 5 * r .next) × (r .depth ≤ r .len)
+got-within s lo at z r e w = let h : 0 < r .len = omega (arith, e) in (w .low h, w .high h, w .grown h, w .flat h)
 
 -- ── a leaf ──
 
@@ -146,7 +170,7 @@ module _ (names : List (List ℕ)) (n : ℕ) (s : List ℕ) (at end : ℕ) (lo :
   LeafMade r = WithinStored s (at + 1) at 0 r × LeafStored names n s at r
 
   pub leaf-name : (i : ℕ) (r : StoredTree) → isShort (take (end - at) (drop at s)) ≡ true
-      → i ≡ lookUp names n (take (end - at) (drop at s)) → Made end (cond (ltb i n) 1 0) 2 (fieldCode ∷ i ∷ []) r
+      → i ≡ lookUp names n (take (end - at) (drop at s)) → Made end (cond (ltb i n) 1 0) 1 2 (fieldCode ∷ i ∷ []) r
       → LeafMade r
   unfolding leaf isShort
   leaf-name i r y q m =
@@ -154,14 +178,15 @@ module _ (names : List (List ℕ)) (n : ℕ) (s : List ℕ) (at end : ℕ) (lo :
       let x : StoredIs names n (read (word (drop at s))) r = is-name names n (word (drop at s)) end r
       (rw part-is at (rw q at m)) in
       let d : drop (r .next) s ≡ behind (drop at s) = rw (m .next) e in (
-        here-within s (at + 1) at 0 r (rw (m .next) u) (rw (m .next) hi) (rw (m .next, m .len) (omega arith)),
+        here-within s (at + 1) at 0 r (rw (m .next) u) (rw (m .next) hi) (rw (m .next, m .len) (omega arith))
+            (rw (m .deep, m .len) (omega arith)),
         rw (rw part-is at y, leaf) (same-here names n s (read (word (drop at s))) (behind (drop at s)) r x d),
       )
 
   pub leaf-number : (v : ℕ) (r : StoredTree) → isShort (take (end - at) (drop at s)) ≡ false
       → isNumberWord (take (end - at) (drop at s)) ≡ true
       → (isNumberWord (take (end - at) (drop at s)) ≡ true → v ≡ wordValue (take (end - at) (drop at s)))
-      → Made end 1 5 (numberCode ∷ le4 v) r → LeafMade r
+      → Made end 1 1 5 (numberCode ∷ le4 v) r → LeafMade r
   unfolding leaf isNumberWord isNumeral
   leaf-number v r k y q m =
       let u : at + 1 ≤ end = longer s at end lo hi e isNumberWord refl y in
@@ -169,7 +194,8 @@ module _ (names : List (List ℕ)) (n : ℕ) (s : List ℕ) (at end : ℕ) (lo :
       is-number names n (wordValue (word (drop at s))) end r
       (rw part-is at (rw (q y) at m)) in
       let d : drop (r .next) s ≡ behind (drop at s) = rw (m .next) e in (
-        here-within s (at + 1) at 0 r (rw (m .next) u) (rw (m .next) hi) (rw (m .next, m .len) (omega arith)),
+        here-within s (at + 1) at 0 r (rw (m .next) u) (rw (m .next) hi) (rw (m .next, m .len) (omega arith))
+            (rw (m .deep, m .len) (omega arith)),
         rw (rw part-is at k, leaf, rw part-is at y)
             (same-here names n s (num (wordValue (word (drop at s)))) (behind (drop at s)) r x d),
       )
@@ -209,17 +235,19 @@ module _ (s : List ℕ) (p r : StoredTree) (neg : Bool) where
       rw (drop-cons s (p .next) 0 lt, q)
       (same-here names n s (wrapOf neg t) (drop (suc (p .next)) s) r x (rw (e, add-one (p .next)) refl))
 
-  pub close-not : p .next < length s → getD s (p .next) 0 ≡ 41 → neg ≡ true → NotMade p (p .next + 1) r → ClosedMade
-  close-not lt q y m = (
+  pub close-not : p .next < length s → getD s (p .next) 0 ≡ 41 → neg ≡ true → p .depth ≤ p .len
+      → NotMade p (p .next + 1) r → ClosedMade
+  close-not lt q y d m = (
     here-within s (p .next + 1) (p .next) (p .len) r (rw (m .next) (omega arith)) (rw (m .next) (omega arith))
-        (rw (m .next, m .len) (omega arith)),
+        (rw (m .next, m .len) (omega arith)) (rw (m .deep, m .len) (omega arith)),
     λ names n t x. close-yes names n t lt q (m .next) (rw y (is-not names n p (p .next + 1) r t m x)),
   )
 
   pub close-same : p .next < length s → getD s (p .next) 0 ≡ 41 → neg ≡ false → r .next ≡ p .next + 1
-      → r .gives ≡ p .gives → r .len ≡ p .len → r .bytes ≡ p .bytes → ClosedMade
-  close-same lt q y e k l b = (
+      → r .gives ≡ p .gives → r .depth ≡ p .depth → r .len ≡ p .len → r .bytes ≡ p .bytes → p .depth ≤ p .len
+      → ClosedMade
+  close-same lt q y e k d l b f = (
     here-within s (p .next + 1) (p .next) (p .len) r (rw e (omega arith)) (rw e (omega arith))
-        (rw (e, l) (omega arith)),
-    λ names n t x. close-yes names n t lt q e (rw y (is-moved names n p r t k l b x)),
+        (rw (e, l) (omega arith)) (rw (d, l) f),
+    λ names n t x. close-yes names n t lt q e (rw y (is-moved names n p r t k d l b x)),
   )

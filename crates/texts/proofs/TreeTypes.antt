@@ -79,13 +79,13 @@ module _ (line : List ℕ) (p : TreeAt) (names : List (List ℕ)) (n wanted : �
   type-none e none h = refl
   type-none e (some t) h = absurd (omega (arith, e, h .size, stored-some (λ a. 0) t))
 
-  pub type-some : (p .size ≡ 0 → ⊥) → (r : StoredTree) → StoredFor names n (readTree (drop (p .at) line)) r
+  pub type-some : (p .size ≡ 0 → ⊥) → (r : StoredTree) → StoredFor names n line (readTree (drop (p .at) line)) r
       → (o : Option (Tree (List ℕ))) → MaybeIs line o p → eqb (r .gives) wanted ≡ isOfType names n wanted o
   unfolding StoredFor
   type-some e r q none h = absurd (e h)
   type-some e r q (some t) h =
-      let u : StoredFor names n (hit t (h .behind)) r = rw (h .isRead) at q in
-      rw (u .gives) refl
+      let u : StoredFor names n line (hit t (h .behind)) r = rw (h .isRead) at q in
+      rw (u .0 .gives) refl
 
 -- ── a line ──
 

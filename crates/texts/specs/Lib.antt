@@ -7,6 +7,8 @@
 -- Noted  a refusal as the code notes it
 -- Slots  the cells of rows as the code keeps them
 -- StoredTrees  expressions in their stored form, with their types, as the code makes them
+-- HeldParts  the parts of a field line, each expression in its stored form
+-- HeldRecords  the record of a field line by the parts that the code holds
 -- LineTests  what the code tests of the field lines that it holds
 -- Records  the records that the code writes of the lines that it holds
 -- StoredPlaces  how stored expressions are made, and what is promised of them at places of a text
@@ -20,7 +22,9 @@ pub mod HeldNames
 pub mod Noted
 pub mod Slots
 pub mod StoredTrees
+pub mod HeldParts
 pub mod LineTests
+pub mod HeldRecords
 pub mod Records
 pub mod StoredPlaces
 pub mod States

@@ -3,7 +3,7 @@
 use mathlib.Core.Path.{_≡_}
 use mathlib.Core.Bool.{Bool, cond, _&&_}
 use mathlib.Core.List.{List, _∷_, _++_}
-use Prim.Native.Nat.{ℕ, suc, _+_, _*_, _≤_, _<_}
+use Prim.Native.Nat.{ℕ, suc, _+_, _*_, _≤_, _<_, max}
 use lib.Dec.{eqb}
 use lib.ListN.{length, take, drop}
 use Rattle.rules.specs.declared.Op.{Op}
@@ -17,10 +17,11 @@ use Rattle.texts.specs.declared.stored_trees.StoredTree.{StoredTree}
 
 -- ── expressions made of expressions ──
 
--- r ends before the place `at` and has the type k and the stored length l and form
-pub record Made (at k l : ℕ) (front : List ℕ) (r : StoredTree) : Type 0 where
+-- r ends before the place `at` and has the type k, the depth d and the stored length l and form
+pub record Made (at k d l : ℕ) (front : List ℕ) (r : StoredTree) : Type 0 where
   pub next : r .next ≡ at
   pub gives : r .gives ≡ k
+  pub deep : r .depth ≡ d
   pub len : r .len ≡ l
   pub bytes : l ≤ storedMost → take l (r .bytes) ≡ front
 
@@ -36,20 +37,22 @@ abbrev pub held : StoredTree → List ℕ
 held p = take (p .len) (p .bytes)
 
 abbrev pub NotMade : StoredTree → ℕ → StoredTree → Type 0
-NotMade p at r = Made at (notType (p .gives)) (1 + p .len) (notCode ∷ held p) r
+NotMade p at r = Made at (notType (p .gives)) (1 + p .depth) (1 + p .len) (notCode ∷ held p) r
 
 abbrev pub TwoMade : Op → StoredTree → StoredTree → StoredTree → Type 0
 TwoMade o a b r =
-    Made (b .next) (twoType o (a .gives) (b .gives)) (1 + (a .len + b .len)) (code o ∷ (held a ++ held b)) r
+    Made (b .next) (twoType o (a .gives) (b .gives)) (1 + max (a .depth) (b .depth)) (1 + (a .len + b .len))
+    (code o ∷ (held a ++ held b)) r
 
 -- ── what the code promises at the place `at` of the text s, whatever fuel the reader has, if it is enough ──
 
 -- the place behind an expression is `lo` or behind it, within the text; from `at` on, where a tree of stored length z
--- was read, each byte of text made the tree at most 5 longer
+-- was read, each byte of text made the tree at most 5 longer; a tree is not deeper than long
 pub record WithinStored (s : List ℕ) (lo at z : ℕ) (r : StoredTree) : Type 0 where
   pub low : 0 < r .len → lo ≤ r .next
   pub high : 0 < r .len → r .next ≤ length s
   pub grown : 0 < r .len → r .len + 5 * at ≤ z + 5 * r .next
+  pub flat : 0 < r .len → r .depth ≤ r .len
 
 -- what stands in parentheses, or its negation
 abbrev pub wrapOf : Bool → Tree (List ℕ) → Tree (List ℕ)

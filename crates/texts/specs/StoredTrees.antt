@@ -10,7 +10,7 @@ use Rattle.rules.specs.declared.ValueType.{ValueType}
 use Rattle.rules.specs.declared.ValueType.the-variants.{Number, YesNo}
 use Rattle.rules.specs.Limits.{storedMost, shortMost}
 use Rattle.rules.specs.Operators.{takes, gives}
-use Rattle.rules.specs.Trees.{Tree, num, read, two, negation, storedTree, storedLength}
+use Rattle.rules.specs.Trees.{Tree, num, read, two, negation, depth, storedTree, storedLength}
 use Rattle.text_laws.specs.Reader.{Out, fail, got}
 use Rattle.names.specs.Repeats.{firstFrom, padTo, sameName}
 use Rattle.text_laws.specs.LineReader.{Got, miss, hit}
@@ -49,6 +49,7 @@ typeOf may (negation a) = cond (eqb (typeOf may a) 2) 2 0
 pub record StoredIs (names : List (List ℕ)) (n : ℕ) (t : Tree (List ℕ)) (r : StoredTree) : Type 0 where
   pub len : r .len ≡ storedLength t
   pub gives : r .gives ≡ typeOf (mayRead names n) t
+  pub deep : r .depth ≡ depth t
   pub bytes : storedLength t ≤ storedMost → take (r .len) (r .bytes) ≡ storedTree (lookUp names n) t
 
 -- the code's answer r is that of the reader in the text s; the length 0 stands for none
@@ -57,6 +58,6 @@ SameStored names n s fail r = r .len ≡ 0
 SameStored names n s (got t q) r = StoredIs names n t r × (drop (r .next) s ≡ q)
 
 -- the same for a whole expression
-unfoldable pub StoredFor : List (List ℕ) → ℕ → Got (Tree (List ℕ)) → StoredTree → Type 0
-StoredFor names n miss r = r .len ≡ 0
-StoredFor names n (hit t q) r = StoredIs names n t r
+unfoldable pub StoredFor : List (List ℕ) → ℕ → List ℕ → Got (Tree (List ℕ)) → StoredTree → Type 0
+StoredFor names n s miss r = r .len ≡ 0
+StoredFor names n s (hit t q) r = StoredIs names n t r × (drop (r .next) s ≡ q)

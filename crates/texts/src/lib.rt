@@ -1,5 +1,6 @@
 // Texts: where expressions, the parts of field lines and of a frame stand in them. specs/ holds readers that mirror
 // what the code does, proofs/ the theorems on spelling.
+mod clause_trees;
 mod ends;
 mod expressions;
 mod field_clauses;
@@ -9,6 +10,7 @@ mod held_names;
 mod kept_fields;
 mod labels;
 mod leaves;
+mod line_parts;
 mod line_rules;
 mod line_steps;
 mod line_types;
@@ -16,6 +18,9 @@ mod name_clashes;
 mod notes;
 mod numbers;
 mod openings;
+mod part_records;
+mod part_slots;
+mod part_tests;
 mod parts;
 mod phrases;
 pub mod reading;
@@ -31,4 +36,5 @@ mod stored_trees;
 mod text_bytes;
 mod text_ends;
 mod units;
+mod width_trees;
 mod widths;

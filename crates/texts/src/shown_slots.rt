@@ -37,7 +37,7 @@ pub(crate) fn is_place_in(long: bool, bits: usize, p: Parts) -> bool
 }
 
 // A byte as a wider number.
-fn wide(b: u8) -> usize
+pub(crate) fn wide(b: u8) -> usize
     ensures { λ r. ⌜ (r ≡ b) × (r < 256) ⌝ }
 {
     b as usize

@@ -7,7 +7,7 @@ use rules::ValueType;
 ghost use mathlib.Core.Path.{_≡_};
 ghost use mathlib.Core.Bool.{cond};
 ghost use mathlib.Core.List.{[], _∷_, _++_};
-ghost use Prim.Native.Nat.{_+_, _*_, _≤_};
+ghost use Prim.Native.Nat.{_+_, _*_, _≤_, max};
 ghost use Rattle.rules.specs.Limits.{textMost, fieldsMost, storedMost};
 ghost use lib.Dec.{ltb};
 ghost use lib.ListN.{take};
@@ -23,6 +23,7 @@ pub(crate) fn no_tree() -> StoredTree
     StoredTree {
         next: 0,
         gives: 0,
+        depth: 0,
         len: 0,
         bytes: [0u8; STORED_MOST],
     }
@@ -79,6 +80,12 @@ fn two_type(o: Op, a: usize, b: usize) -> usize
     0
 }
 
+fn larger(a: usize, b: usize) -> usize
+    ensures { λ r. ⌜ r ≡ max a b ⌝ }
+{
+    if a < b { b } else { a }
+}
+
 fn not_type(a: usize) -> usize
     ensures { λ r. ⌜ r ≡ notType a ⌝ }
 {
@@ -93,7 +100,7 @@ fn name_type(index: usize, n: usize) -> usize
 
 // The number before the place `next`.
 pub(crate) fn number_node(value: usize, next: usize) -> StoredTree
-    ensures { λ r. ⌜ Made next 1 5 (numberCode ∷ le4 value) r ⌝ }
+    ensures { λ r. ⌜ Made next 1 1 5 (numberCode ∷ le4 value) r ⌝ }
 {
     let p = no_tree();
     let mut bytes = p.bytes;
@@ -105,6 +112,7 @@ pub(crate) fn number_node(value: usize, next: usize) -> StoredTree
     StoredTree {
         next: next,
         gives: 1,
+        depth: 1,
         len: 5,
         bytes: bytes,
     }
@@ -113,7 +121,7 @@ pub(crate) fn number_node(value: usize, next: usize) -> StoredTree
 // The field of an index among n, before the place `next`.
 pub(crate) fn field_node(index: usize, n: usize, next: usize) -> StoredTree
     requires { ⌜ index ≤ fieldsMost ⌝ }
-    ensures { λ r. ⌜ Made next (cond (ltb index n) 1 0) 2 (fieldCode ∷ index ∷ []) r ⌝ }
+    ensures { λ r. ⌜ Made next (cond (ltb index n) 1 0) 1 2 (fieldCode ∷ index ∷ []) r ⌝ }
 {
     let p = no_tree();
     let mut bytes = p.bytes;
@@ -123,6 +131,7 @@ pub(crate) fn field_node(index: usize, n: usize, next: usize) -> StoredTree
     StoredTree {
         next: next,
         gives: gives,
+        depth: 1,
         len: 2,
         bytes: bytes,
     }
@@ -130,10 +139,11 @@ pub(crate) fn field_node(index: usize, n: usize, next: usize) -> StoredTree
 
 // The negation of an expression.
 pub(crate) fn not_node(p: StoredTree, next: usize) -> StoredTree
-    requires { ⌜ p .len ≤ 5 * textMost ⌝ }
+    requires { ⌜ (p .len ≤ 5 * textMost) × (p .depth ≤ p .len) ⌝ }
     ensures { λ r. ⌜ NotMade p next r ⌝ }
 {
     let gives = not_type(p.gives);
+    let depth = 1 + p.depth;
     let n = p.len;
     let len = 1 + n;
     let inner = p.bytes;
@@ -142,6 +152,7 @@ pub(crate) fn not_node(p: StoredTree, next: usize) -> StoredTree
         return StoredTree {
             next: next,
             gives: gives,
+            depth: depth,
             len: len,
             bytes: bytes,
         };
@@ -149,6 +160,7 @@ pub(crate) fn not_node(p: StoredTree, next: usize) -> StoredTree
     StoredTree {
         next: next,
         gives: gives,
+        depth: depth,
         len: len,
         bytes: inner,
     }
@@ -156,10 +168,11 @@ pub(crate) fn not_node(p: StoredTree, next: usize) -> StoredTree
 
 // An operator with its operands.
 pub(crate) fn two_node(o: Op, a: StoredTree, b: StoredTree) -> StoredTree
-    requires { ⌜ (a .len ≤ 5 * textMost) × (b .len ≤ 5 * textMost) ⌝ }
+    requires { ⌜ (a .len ≤ 5 * textMost) × (b .len ≤ 5 * textMost) × (a .depth ≤ a .len) × (b .depth ≤ b .len) ⌝ }
     ensures { λ r. ⌜ TwoMade o a b r ⌝ }
 {
     let gives = two_type(o, a.gives, b.gives);
+    let depth = 1 + larger(a.depth, b.depth);
     let next = b.next;
     let x = a.len;
     let y = b.len;
@@ -172,6 +185,7 @@ pub(crate) fn two_node(o: Op, a: StoredTree, b: StoredTree) -> StoredTree
         return StoredTree {
             next: next,
             gives: gives,
+            depth: depth,
             len: len,
             bytes: bytes,
         };
@@ -179,6 +193,7 @@ pub(crate) fn two_node(o: Op, a: StoredTree, b: StoredTree) -> StoredTree
     StoredTree {
         next: next,
         gives: gives,
+        depth: depth,
         len: len,
         bytes: left,
     }

@@ -33,11 +33,12 @@ ghost use Rattle.texts.specs.StoredPlaces.{
   MoreStored,
 };
 
-// The place behind an expression, its type (1 number, 2 yes or no, 0 wrong) and its stored form; no length where
-// there is no expression.
+// The place behind an expression, its type (1 number, 2 yes or no, 0 wrong), its depth and its stored form; no length
+// where there is no expression.
 pub(crate) struct StoredTree {
     pub next: usize,
     pub gives: usize,
+    pub depth: usize,
     pub len: usize,
     pub bytes: [u8; STORED_MOST],
 }
@@ -62,7 +63,8 @@ fn tree_leaf(s: &[u8], at: usize, names: &[[u8; SHORT_MOST]; FIELDS_MOST], n: us
 
 // The closing parenthesis behind an expression; the whole is the expression, or its negation.
 fn tree_closed(s: &[u8], p: StoredTree, neg: bool) -> StoredTree
-    requires { ⌜ (p .next ≤ length (now s)) × (length (now s) ≤ textMost) × (p .len ≤ 5 * p .next) ⌝ }
+    requires { ⌜ (p .next ≤ length (now s)) × (length (now s) ≤ textMost) × (p .len ≤ 5 * p .next)
+        × (p .depth ≤ p .len) ⌝ }
     ensures place { λ r. ⌜ WithinStored (now (s .entry)) (p .next + 1) (p .next) (p .len) r ⌝ }
     ensures same { λ r. ⌜ ClosedStored (now (s .entry)) neg p r ⌝ }
 {
@@ -78,6 +80,7 @@ fn tree_closed(s: &[u8], p: StoredTree, neg: bool) -> StoredTree
         return StoredTree {
             next: at + 1,
             gives: p.gives,
+            depth: p.depth,
             len: p.len,
             bytes: bytes,
         };
@@ -172,7 +175,7 @@ fn tree_more(
     n: usize,
 ) -> StoredTree
     requires { ⌜ (at ≤ length (now s)) × (length (now s) ≤ textMost) × (n ≤ fieldsMost) × (left .next ≡ at)
-        × (left .len ≤ 5 * at) ⌝ }
+        × (left .len ≤ 5 * at) × (left .depth ≤ left .len) ⌝ }
     ensures place { λ r. ⌜ WithinStored (now (s .entry)) at at (left .len) r ⌝ }
     ensures same { λ r. ⌜ MoreStored (now (names .entry)) n (now (s .entry)) at k h b left r ⌝ }
 {
@@ -206,7 +209,8 @@ pub(crate) fn stored_tree(
     n: usize,
 ) -> StoredTree
     requires { ⌜ (at ≤ length (now s)) × (length (now s) ≤ textMost) × (n ≤ fieldsMost) ⌝ }
-    ensures { λ r. ⌜ StoredFor (now (names .entry)) n (readTree (drop at (now (s .entry)))) r ⌝ }
+    ensures place { λ r. ⌜ WithinStored (now (s .entry)) (at + 1) at 0 r ⌝ }
+    ensures same { λ r. ⌜ StoredFor (now (names .entry)) n (now (s .entry)) (readTree (drop at (now (s .entry)))) r ⌝ }
 {
     tree_expr(s, at, 0, OPEN_MOST, names, n)
 }

@@ -44,7 +44,7 @@ fn past_open(s: &[u8], at: usize) -> usize
 }
 
 // The value of the expression at `at`, if that is a single number.
-fn number_in(s: &[u8], at: usize) -> usize
+pub(crate) fn number_in(s: &[u8], at: usize) -> usize
     requires { ⌜ at ≤ length (now s) ⌝ }
     ensures most { λ r. ⌜ r ≤ numberMost ⌝ }
     ensures same { λ r. ⌜ ((m : ℕ) (q : List ℕ) → readTree (drop at (now (s .entry))) ≡ hit (num m) q → r ≡ m) ⌝ }
@@ -55,7 +55,7 @@ fn number_in(s: &[u8], at: usize) -> usize
 }
 
 // A space and a unit.
-fn unit_behind(s: &[u8], at: usize) -> Bits
+pub(crate) fn unit_behind(s: &[u8], at: usize) -> Bits
     requires { ⌜ at ≤ length (now s) ⌝ }
     ensures place { λ r. ⌜ WithinBits (now (s .entry)) at r ⌝ }
     ensures same { λ r. ⌜ SameBits (now (s .entry)) (spacedUnit (drop at (now (s .entry)))) r ⌝ }
@@ -66,7 +66,7 @@ fn unit_behind(s: &[u8], at: usize) -> Bits
     Bits::Nothing
 }
 
-fn times(u: u8, m: usize) -> usize
+pub(crate) fn times(u: u8, m: usize) -> usize
     requires { ⌜ (isUnit u ≡ true) × (m ≤ numberMost) ⌝ }
     ensures { λ r. ⌜ r ≡ u * m ⌝ }
 {
@@ -86,7 +86,7 @@ fn fixed_width(bits: usize, at: usize, next: usize) -> Width
 }
 
 // A tree of depth `d` and stored length `z` is a single number.
-fn is_single(d: usize, z: usize) -> bool
+pub(crate) fn is_single(d: usize, z: usize) -> bool
     ensures { λ r. ⌜ r ≡ (eqb d 1 && eqb z 5) ⌝ }
 {
     if d == 1 { z == 5 } else { false }

@@ -22,7 +22,8 @@ add-place : tie.Need-add-place
 add-place c = let q = c .before .before .before .pre .1 in search (needs, q)
 
 shows-cell-requires : tie.Need-shows-cell-requires
-shows-cell-requires c κs = (c .before .before .before .pre .0, c .before .before .before .pre .4, c .before .before .before .pre .5)
+shows-cell-requires c κs =
+    (c .before .before .before .pre .0, c .before .before .before .pre .4, c .before .before .before .pre .5)
 
 returns : tie.Need-returns
 unfolding noteOf
@@ -30,7 +31,8 @@ returns c =
     let a = c .before .before .before .before .before .args in (
       refl,
       (λ f x k n s nw e p.
-          let shown : showsCell (f .cells) (faces (f .judged .fields)) x ≡ false = sym (c .before .shows-cell .ensures f x k n s p) ∙ not-true (c .before .shows-cell .result) (c .if1 .taken) in
+          let shown : showsCell (f .cells) (faces (f .judged .fields)) x
+          ≡ false = sym (c .before .shows-cell .ensures f x k n s p) ∙ not-true (c .before .shows-cell .result) (c .if1 .taken) in
           sym (later-is f (a .r) x n false _ _ _ shown refl refl refl)),
     )
 
@@ -55,14 +57,17 @@ returns-2 c =
     let a = c .before .before .before .before .before .before .before .before .before .args in (
       refl,
       (λ f x k n s nw e p.
-          let shown : showsCell (f .cells) (faces (f .judged .fields)) x ≡ true = sym (c .before .before .before .before .before .shows-cell .ensures f x k n s p) ∙ not-false (c .before .before .before .before .before .shows-cell .result) (c .before .before .before .before .if1 .left) in
+          let shown : showsCell (f .cells) (faces (f .judged .fields)) x
+          ≡ true = sym (c .before .before .before .before .before .shows-cell .ensures f x k n s p) ∙ not-false (c .before .before .before .before .before .shows-cell .result) (c .before .before .before .before .if1 .left) in
           let unique : keepsNames (faces (f .judged .fields)) x ≡ false =
-          ap not (sym (names-here f k (now (a .line)) x e (a .r) n nw) ∙ sym (c .before .clashes .ensures) ∙ c .if2 .taken) in
+          ap not (sym (names-here f k (now (a .line)) x e (a .r) n nw) ∙ sym (c .before .clashes .ensures)
+          ∙ c .if2 .taken) in
           sym (later-is f (a .r) x n true false _ _ shown unique refl refl)),
     )
 
 types-kept-requires : tie.Need-types-kept-requires
-types-kept-requires c κs = (c .before .before .before .before .before .before .before .before .before .pre .3, c .before .before .before .before .before .before .before .before .before .pre .4, c .before .before .before .before .before .before .before .before .before .pre .2)
+types-kept-requires c κs =
+    (c .before .before .before .before .before .before .before .before .before .pre .3, c .before .before .before .before .before .before .before .before .before .pre .4, c .before .before .before .before .before .before .before .before .before .pre .2)
 
 returns-3 : tie.Need-returns-3
 unfolding noteOf
@@ -70,11 +75,14 @@ returns-3 c =
     let a = c .before .before .before .before .before .before .before .before .before .before .before .args in (
       refl,
       (λ f x k n s nw e p.
-          let shown : showsCell (f .cells) (faces (f .judged .fields)) x ≡ true = sym (c .before .before .before .before .before .before .before .shows-cell .ensures f x k n s p) ∙ not-false (c .before .before .before .before .before .before .before .shows-cell .result) (c .before .before .before .before .before .before .if1 .left) in
+          let shown : showsCell (f .cells) (faces (f .judged .fields)) x
+          ≡ true = sym (c .before .before .before .before .before .before .before .shows-cell .ensures f x k n s p) ∙ not-false (c .before .before .before .before .before .before .before .shows-cell .result) (c .before .before .before .before .before .before .if1 .left) in
           let unique : keepsNames (faces (f .judged .fields)) x ≡ true =
-          ap not (sym (names-here f k (now (a .line)) x e (a .r) n nw) ∙ sym (c .before .before .before .clashes .ensures) ∙ c .before .before .if2 .left) in
+          ap not (sym (names-here f k (now (a .line)) x e (a .r) n nw)
+          ∙ sym (c .before .before .before .clashes .ensures) ∙ c .before .before .if2 .left) in
           let typed : keepsTypes nameReadable (faces (f .judged .fields)) x ≡ false =
-          sym (types-are f k (now (a .line)) x e (a .r) n nw) ∙ sym (c .before .types-kept .ensures x p) ∙ not-true (c .before .types-kept .result) (c .if3 .taken) in
+          sym (types-are f k (now (a .line)) x e (a .r) n nw) ∙ sym (c .before .types-kept .ensures x p)
+          ∙ not-true (c .before .types-kept .result) (c .if3 .taken) in
           sym (later-is f (a .r) x n true true false _ shown unique typed refl)),
     )
 
@@ -84,14 +92,18 @@ misplaced-requires c κs = search needs
 returns-4 : tie.Need-returns-4
 unfolding noteOf
 returns-4 c =
-    let a = c .before .before .before .before .before .before .before .before .before .before .before .before .before .args in (
+    let a = c .before .before .before .before .before .before .before .before .before .before .before .before .before
+    .args in (
       refl,
       (λ f x k n s nw e p.
-          let shown : showsCell (f .cells) (faces (f .judged .fields)) x ≡ true = sym (c .before .before .before .before .before .before .before .before .before .shows-cell .ensures f x k n s p) ∙ not-false (c .before .before .before .before .before .before .before .before .before .shows-cell .result) (c .before .before .before .before .before .before .before .before .if1 .left) in
+          let shown : showsCell (f .cells) (faces (f .judged .fields)) x
+          ≡ true = sym (c .before .before .before .before .before .before .before .before .before .shows-cell .ensures f x k n s p) ∙ not-false (c .before .before .before .before .before .before .before .before .before .shows-cell .result) (c .before .before .before .before .before .before .before .before .if1 .left) in
           let unique : keepsNames (faces (f .judged .fields)) x ≡ true =
-          ap not (sym (names-here f k (now (a .line)) x e (a .r) n nw) ∙ sym (c .before .before .before .before .before .clashes .ensures) ∙ c .before .before .before .before .if2 .left) in
+          ap not (sym (names-here f k (now (a .line)) x e (a .r) n nw)
+          ∙ sym (c .before .before .before .before .before .clashes .ensures) ∙ c .before .before .before .before .if2 .left) in
           let typed : keepsTypes nameReadable (faces (f .judged .fields)) x ≡ true =
-          sym (types-are f k (now (a .line)) x e (a .r) n nw) ∙ sym (c .before .before .before .types-kept .ensures x p) ∙ not-false (c .before .before .before .types-kept .result) (c .before .before .if3 .left) in
+          sym (types-are f k (now (a .line)) x e (a .r) n nw)
+          ∙ sym (c .before .before .before .types-kept .ensures x p) ∙ not-false (c .before .before .before .types-kept .result) (c .before .before .if3 .left) in
           let rested : keepsRest (faces (f .judged .fields)) x ≡ false =
           not-flip (keepsRest (faces (f .judged .fields)) x) (sym (rest-is f k (now (a .line)) x e (a .p) p)
           ∙ ap (λ (b : Bool). b && not (eqb (a .p .kind) 2 && eqb (a .p .condition .size) 0)) (sym (n .rested))
@@ -102,14 +114,18 @@ returns-4 c =
 returns-5 : tie.Need-returns-5
 unfolding noteOf
 returns-5 c =
-    let a = c .before .before .before .before .before .before .before .before .before .before .before .before .before .args in (
+    let a = c .before .before .before .before .before .before .before .before .before .before .before .before .before
+    .args in (
       refl,
       (λ f x k n s nw e p.
-          let shown : showsCell (f .cells) (faces (f .judged .fields)) x ≡ true = sym (c .before .before .before .before .before .before .before .before .before .shows-cell .ensures f x k n s p) ∙ not-false (c .before .before .before .before .before .before .before .before .before .shows-cell .result) (c .before .before .before .before .before .before .before .before .if1 .left) in
+          let shown : showsCell (f .cells) (faces (f .judged .fields)) x
+          ≡ true = sym (c .before .before .before .before .before .before .before .before .before .shows-cell .ensures f x k n s p) ∙ not-false (c .before .before .before .before .before .before .before .before .before .shows-cell .result) (c .before .before .before .before .before .before .before .before .if1 .left) in
           let unique : keepsNames (faces (f .judged .fields)) x ≡ true =
-          ap not (sym (names-here f k (now (a .line)) x e (a .r) n nw) ∙ sym (c .before .before .before .before .before .clashes .ensures) ∙ c .before .before .before .before .if2 .left) in
+          ap not (sym (names-here f k (now (a .line)) x e (a .r) n nw)
+          ∙ sym (c .before .before .before .before .before .clashes .ensures) ∙ c .before .before .before .before .if2 .left) in
           let typed : keepsTypes nameReadable (faces (f .judged .fields)) x ≡ true =
-          sym (types-are f k (now (a .line)) x e (a .r) n nw) ∙ sym (c .before .before .before .types-kept .ensures x p) ∙ not-false (c .before .before .before .types-kept .result) (c .before .before .if3 .left) in
+          sym (types-are f k (now (a .line)) x e (a .r) n nw)
+          ∙ sym (c .before .before .before .types-kept .ensures x p) ∙ not-false (c .before .before .before .types-kept .result) (c .before .before .if3 .left) in
           let rested : keepsRest (faces (f .judged .fields)) x ≡ true =
           not-flip (keepsRest (faces (f .judged .fields)) x) (sym (rest-is f k (now (a .line)) x e (a .p) p)
           ∙ ap (λ (b : Bool). b && not (eqb (a .p .kind) 2 && eqb (a .p .condition .size) 0)) (sym (n .rested))

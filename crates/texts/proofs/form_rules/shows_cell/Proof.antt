@@ -16,8 +16,11 @@ returns c =
 
 slot-shows-requires : tie.Need-slot-shows-requires
 slot-shows-requires c κs =
-    let k = c .before .before .before .before .pre .0 in
-    (omega (arith, k .cell, k .slots, k .cells, c .before .before .before .before .pre .2), c .before .before .before .before .pre .1)
+    let k = c .before .before .before .before .pre .0 in (
+      omega (arith, k .cell, k .slots, k .cells, c .before .before .before .before .pre .2),
+      c .before .before .before
+          .before .pre .1,
+    )
 
 returns-2 : tie.Need-returns-2
 returns-2 c =

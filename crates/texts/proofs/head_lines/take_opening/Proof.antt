@@ -24,7 +24,8 @@ returns : tie.Need-returns
 returns c =
     let a = c .before .before .before .before .before .args in
     let l = a .line .now in
-    let e = c .before .before .article .ensures .1 ∙ behind-none l (c .before .before .article .result) (c .before .if1 .taken) in
+    let e = c .before .before .article .ensures .1 ∙ behind-none l (c .before .before .article .result)
+    (c .before .if1 .taken) in
     rw (c .wrong .ensures) (
       taken-wrong (a .r) (c .before .before .before .before .before .pre .0),
       (λ cells f labels shorts names k b h. rw e (holds-wrong f (a .r) h)),
@@ -45,22 +46,28 @@ is-named-requires c κs = search needs
 sub-to : tie.Need-sub-to
 sub-to c =
     let l = c .before .before .before .before .before .before .before .args .line .now in
-    let n = named-line l (c .before .before .before .before .article .result) (sym (c .before .is-named .ensures) ∙ c .if2 .taken) in
-    let m = name-fits l (c .before .before .before .before .article .result) (c .before .before .before .before .article .ensures .0) n in
+    let n = named-line l (c .before .before .before .before .article .result) (sym (c .before .is-named .ensures)
+    ∙ c .if2 .taken) in
+    let m = name-fits l (c .before .before .before .before .article .result)
+    (c .before .before .before .before .article .ensures .0) n in
     omega (arith, m)
 
 sub-put : tie.Need-sub-put
 sub-put c =
     let l = c .before .before .before .before .before .before .before .before .args .line .now in
-    let n = named-line l (c .before .before .before .before .before .article .result) (sym (c .before .before .is-named .ensures) ∙ c .before .if2 .taken) in
-    let m = name-fits l (c .before .before .before .before .before .article .result) (c .before .before .before .before .before .article .ensures .0) n in
+    let n = named-line l (c .before .before .before .before .before .article .result) (sym
+    (c .before .before .is-named .ensures) ∙ c .before .if2 .taken) in
+    let m = name-fits l (c .before .before .before .before .before .article .result)
+    (c .before .before .before .before .before .article .ensures .0) n in
     omega (arith, m)
 
 part-put-start : tie.Need-part-put-start
 part-put-start c =
     let l = c .before .before .before .before .before .before .before .before .args .line .now in
-    let n = named-line l (c .before .before .before .before .before .article .result) (sym (c .before .before .is-named .ensures) ∙ c .before .if2 .taken) in
-    let m = name-fits l (c .before .before .before .before .before .article .result) (c .before .before .before .before .before .article .ensures .0) n in
+    let n = named-line l (c .before .before .before .before .before .article .result) (sym
+    (c .before .before .is-named .ensures) ∙ c .before .if2 .taken) in
+    let m = name-fits l (c .before .before .before .before .before .article .result)
+    (c .before .before .before .before .before .article .ensures .0) n in
     search (needs, m)
 
 part-put-end : tie.Need-part-put-end
@@ -70,21 +77,31 @@ put-requires : tie.Need-put-requires
 put-requires c κs = search needs
 
 onward-requires : tie.Need-onward-requires
-onward-requires c κs = c .before .before .before .before .before .before .before .before .before .before .before .before .before .pre .1
+onward-requires c κs = c .before .before .before .before .before .before .before .before .before .before .before
+    .before .before .pre .1
 
 same-length : tie.Need-same-length
 same-length c = search needs
 
 returns-2 : tie.Need-returns-2
 returns-2 c =
-    let a = c .before .before .before .before .before .before .before .before .before .before .before .before .before .before .args in
+    let a = c .before .before .before .before .before .before .before .before .before .before .before .before .before
+    .before .args in
     let l = a .line .now in
-    let n = named-line l (c .before .before .before .before .before .before .before .before .before .before .before .article .result) (sym (c .before .before .before .before .before .before .before .before .is-named .ensures) ∙ c .before .before .before .before .before .before .before .if2 .taken) in
-    let w = name-put l (c .before .before .before .before .before .before .before .before .before .before .before .article .result) (c .before .before .before .before .before .before .before .before .before .before .before .article .ensures .0) n (c .before .before .before .before .before .before .before .before .before .before .before .before .before .before .pre .2) (c .before .before .before .before .put .ensures) in
-    let e = c .before .before .before .before .before .before .before .before .before .before .before .article .ensures .1 ∙ behind-read l (c .before .before .before .before .before .before .before .before .before .before .before .article .result) (c .before .before .before .before .before .before .before .before .before .before .if1 .left) ∙ n .isRead in
+    let n = named-line l
+    (c .before .before .before .before .before .before .before .before .before .before .before .article .result) (sym (c .before .before .before .before .before .before .before .before .is-named .ensures) ∙ c .before .before .before .before .before .before .before .if2 .taken) in
+    let w = name-put l (c .before .before .before .before .before .before .before .before .before .before .before
+    .article .result) (c .before .before .before .before .before .before .before .before .before .before .before .article .ensures .0) n (c .before .before .before .before .before .before .before .before .before .before .before .before .before .before .pre .2) (c .before .before .before .before .put .ensures) in
+    let e = c .before .before .before .before .before .before .before .before .before .before .before .article
+    .ensures .1 ∙ behind-read l (c .before .before .before .before .before .before .before .before .before .before .before .article .result) (c .before .before .before .before .before .before .before .before .before .before .if1 .left) ∙ n .isRead in
     rw (c .onward .ensures) (
-      (room-name (a .r) (c .before .before .before .before .put .result) (c .before .before .before .before .before .before .before .before .before .before .before .before .before .before .pre .0) (omega (arith, w .end, n .short)), omega arith),
-      (λ cells f labels shorts names k b h. rw e (holds-name f (a .r) h (k .head b) _ (c .before .before .before .before .put .result) w)),
+      (
+        room-name (a .r) (c .before .before .before .before .put .result)
+            (c .before .before .before .before .before .before .before .before .before .before .before .before .before .before .pre .0) (omega (arith, w .end, n .short)),
+        omega arith,
+      ),
+      (λ cells f labels shorts names k b h. rw e (holds-name f (a .r) h (k .head b) _
+          (c .before .before .before .before .put .result) w)),
     )
 
 wrong-requires-2 : tie.Need-wrong-requires-2
@@ -94,8 +111,10 @@ returns-3 : tie.Need-returns-3
 returns-3 c =
     let a = c .before .before .before .before .before .before .before .before .args in
     let l = a .line .now in
-    let o = unnamed-line l (c .before .before .before .before .before .article .result) (sym (c .before .before .is-named .ensures) ∙ c .before .if2 .left) in
-    let e = c .before .before .before .before .before .article .ensures .1 ∙ behind-read l (c .before .before .before .before .before .article .result) (c .before .before .before .before .if1 .left) ∙ o in
+    let o = unnamed-line l (c .before .before .before .before .before .article .result) (sym
+    (c .before .before .is-named .ensures) ∙ c .before .if2 .left) in
+    let e = c .before .before .before .before .before .article .ensures .1
+    ∙ behind-read l (c .before .before .before .before .before .article .result) (c .before .before .before .before .if1 .left) ∙ o in
     rw (c .wrong2 .ensures) (
       taken-wrong (a .r) (c .before .before .before .before .before .before .before .before .pre .0),
       (λ cells f labels shorts names k b h. rw e (holds-wrong f (a .r) h)),

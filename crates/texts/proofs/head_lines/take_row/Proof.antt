@@ -21,7 +21,11 @@ use Rattle.texts.proofs.states.onward.Reads as onward-reads
 use Rattle.texts.proofs.states.wrong.Reads as wrong-reads
 
 put-row-requires : tie.Need-put-row-requires
-put-row-requires c κs = let k = c .before .before .before .pre .0 in (k .width, omega (arith, k .slots, k .cells, c .before .before .before .pre .2))
+put-row-requires c κs = let k = c .before .before .before .pre .0 in (
+  k .width,
+  omega
+      (arith, k .slots, k .cells, c .before .before .before .pre .2),
+)
 
 enum-known-row : tie.Need-enum-known-row
 enum-known-row c = search needs
@@ -39,7 +43,8 @@ returns : tie.Need-returns
 returns c =
     let r = c .before .before .before .before .before .before .before .before .before .args .r in
     let l = now (c .before .before .before .before .before .before .before .before .before .args .line) in
-    let q = row-none _ _ _ _ (readRow (r .width) l) (c .before .before .before .before .before .put-row .ensures) (c .before .enum-told .given .1) in
+    let q = row-none _ _ _ _ (readRow (r .width) l) (c .before .before .before .before .before .put-row .ensures)
+    (c .before .enum-told .given .1) in
     rw (c .wrong .ensures) (
       taken-wrong r (c .before .before .before .before .before .before .before .before .before .pre .0),
       (λ table f labels shorts names k b h.
@@ -48,7 +53,8 @@ returns c =
     )
 
 sub-most : tie.Need-sub-most
-sub-most c = let q = c .before .before .before .before .before .before .before .before .before .before .pre .0 .cells in search (needs, q)
+sub-most c = let q = c .before .before .before .before .before .before .before .before .before .before .pre .0 .cells
+    in search (needs, q)
 
 onward-requires : tie.Need-onward-requires
 onward-requires c κs = c .before .before .before .before .before .before .before .before .before .before .before .pre .1
@@ -59,33 +65,45 @@ same-length-2 c = search needs
 returns-2 : tie.Need-returns-2
 unfolding noteOf
 returns-2 c =
-    let r = c .before .before .before .before .before .before .before .before .before .before .before .before .args .r in
-    let l = now (c .before .before .before .before .before .before .before .before .before .before .before .before .args .line) in
-    let room = c .before .before .before .before .before .before .before .before .before .before .before .before .pre .0 in
-    let p = row-some _ _ _ _ (readRow (r .width) l) _ _ (c .before .before .before .before .before .before .before .before .put-row .ensures) (c .before .before .before .before .row .given .1) in
+    let r = c .before .before .before .before .before .before .before .before .before .before .before .before .args
+    .r in
+    let l = now (c .before .before .before .before .before .before .before .before .before .before .before .before
+    .args .line) in
+    let room = c .before .before .before .before .before .before .before .before .before .before .before .before .pre
+    .0 in
+    let p = row-some _ _ _ _ (readRow (r .width) l) _ _
+    (c .before .before .before .before .before .before .before .before .put-row .ensures) (c .before .before .before .before .row .given .1) in
     let e : (f : Found) → r .width ≡ f .width → readRow (f .width) l ≡ some (p .row) =
     λ f w. subst (λ (v : ℕ). readRow v l ≡ some (p .row)) w (p .isRead) in
     rw (c .onward .ensures) (
       taken-onward r at.RowBorder (note 4 0) refl room,
-      (λ table f labels shorts names k b h. rw (e f (h .counts .width)) (holds-over f r h (k .head b) (p .row) (p .writes)
-          (omega (arith, c .before .if1 .taken, p .count, h .counts .cells)) (omega (arith, room .slots, room .cells, c .before .before .before .before .before .before .before .before .before .before .before .before .pre .2)))),
+      (λ table f labels shorts names k b h. rw (e f (h .counts .width)) (holds-over f r h (k .head b) (p .row)
+          (p .writes)
+          (omega (arith, c .before .if1 .taken, p .count, h .counts .cells)) (omega
+          (arith, room .slots, room .cells, c .before .before .before .before .before .before .before .before .before .before .before .before .pre .2)))),
     )
 
 add-r : tie.Need-add-r
-add-r c = let q = c .before .before .before .before .before .before .before .before .before .before .before .before .pre .0 .cells in let k = c .before .if1 .left in omega (arith, q, k)
+add-r c = let q = c .before .before .before .before .before .before .before .before .before .before .before .before
+    .pre .0 .cells in let k = c .before .if1 .left in omega (arith, q, k)
 
 onward-requires-2 : tie.Need-onward-requires-2
-onward-requires-2 c κs = c .before .before .before .before .before .before .before .before .before .before .before .before .before .pre .1
+onward-requires-2 c κs = c .before .before .before .before .before .before .before .before .before .before .before
+    .before .before .pre .1
 
 same-length-3 : tie.Need-same-length-3
 same-length-3 c = search needs
 
 returns-3 : tie.Need-returns-3
 returns-3 c =
-    let r = c .before .before .before .before .before .before .before .before .before .before .before .before .before .before .args .r in
-    let l = now (c .before .before .before .before .before .before .before .before .before .before .before .before .before .before .args .line) in
-    let room = c .before .before .before .before .before .before .before .before .before .before .before .before .before .before .pre .0 in
-    let p = row-some _ _ _ _ (readRow (r .width) l) _ _ (c .before .before .before .before .before .before .before .before .before .before .put-row .ensures) (c .before .before .before .before .before .before .row .given .1) in
+    let r = c .before .before .before .before .before .before .before .before .before .before .before .before .before
+    .before .args .r in
+    let l = now (c .before .before .before .before .before .before .before .before .before .before .before .before
+    .before .before .args .line) in
+    let room = c .before .before .before .before .before .before .before .before .before .before .before .before
+    .before .before .pre .0 in
+    let p = row-some _ _ _ _ (readRow (r .width) l) _ _
+    (c .before .before .before .before .before .before .before .before .before .before .put-row .ensures) (c .before .before .before .before .before .before .row .given .1) in
     let e : (f : Found) → r .width ≡ f .width → readRow (f .width) l ≡ some (p .row) =
     λ f w. subst (λ (v : ℕ). readRow v l ≡ some (p .row)) w (p .isRead) in
     let n = row-length (r .width) l (p .row) (p .isRead) in
@@ -102,7 +120,8 @@ returns-3 c =
         omega arith,
       ),
       (λ table f labels shorts names k b h. rw (e f (h .counts .width)) (holds-few f r h (k .head b) (p .row)
-          (p .writes) _ (p .count) (omega (arith, c .before .before .before .if1 .left, room .cells, p .count, h .counts .cells)))),
+          (p .writes) _ (p .count) (omega
+          (arith, c .before .before .before .if1 .left, room .cells, p .count, h .counts .cells)))),
     )
 
 pub take-row-spec : {M : Type 1} → statement M

@@ -23,7 +23,7 @@ returns-2 : tie.Need-returns-2
 returns-2 c =
     let a = c .before .before .before .before .before .args in
     type-some (now (a .line)) (a .t) (now (a .names)) (a .n) (a .wanted) (c .before .before .if1 .left) _ (c .before
-    .stored-tree .ensures)
+    .stored-tree .ensures .1)
 
 pub has-type-spec : {M : Type 1} → statement M
 has-type-spec = tie.close (tie.spec returns stored-tree-requires returns-2)

@@ -41,7 +41,7 @@ part-put-counted-end c =
     stored-room (now (a .line)) (a .t) (now (a .names)) (a .n) (c .before .before .before .before .if1 .left)
     (c .before .before .before .before .before .before .before .pre .3)
     (c .before .before .before .stored-tree .result)
-    (c .before .before .before .stored-tree .ensures)
+    (c .before .before .before .stored-tree .ensures .1)
     (c .before .before .before .before .before .before .before .pre .5 .0)
     (c .before .before .before .before .before .before .before .pre .5 .1)
 
@@ -67,7 +67,7 @@ returns-2 c =
     (c .before .before .before .before .before .before .before .before .if1 .left)
     (c .before .before .before .before .before .before .before .before .before .before .before .pre .3)
     (c .before .before .before .before .before .before .before .stored-tree .result)
-    (c .before .before .before .before .before .before .before .stored-tree .ensures) (counted-writes word room
+    (c .before .before .before .before .before .before .before .stored-tree .ensures .1) (counted-writes word room
     (c .before .before .put-counted .ensures))
 
 pub put-tree-spec : {M : Type 1} → statement M

@@ -30,6 +30,7 @@ returns : tie.Need-returns
 returns c = record {
   next = refl;
   gives = c .name-type .ensures;
+  deep = refl;
   len = refl;
   bytes = λ h. set-two (c .before .before .no-tree .result .bytes) _ _
       (let q : length (c .before .before .no-tree .result .bytes) ≡ storedMost = search needs in omega arith);

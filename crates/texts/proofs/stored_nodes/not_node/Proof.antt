@@ -13,6 +13,9 @@ use Rattle.texts.proofs.stored_nodes.not_type.Reads as not-type-reads
 not-type-requires : tie.Need-not-type-requires
 not-type-requires c κs = search needs
 
+add-depth : tie.Need-add-depth
+add-depth c = search needs
+
 add-len : tie.Need-add-len
 add-len c = search needs
 
@@ -22,7 +25,8 @@ joined-requires c κs = search needs
 returns : tie.Need-returns
 returns c = record {
   next = refl;
-  gives = c .before .before .before .not-type .ensures;
+  gives = c .before .before .before .before .not-type .ensures;
+  deep = refl;
   len = refl;
   bytes = λ h. simp (add-zero, append-nil) at (c .joined .ensures);
 }
@@ -30,10 +34,12 @@ returns c = record {
 returns-2 : tie.Need-returns-2
 returns-2 c = record {
   next = refl;
-  gives = c .before .before .not-type .ensures;
+  gives = c .before .before .before .not-type .ensures;
+  deep = refl;
   len = refl;
   bytes = λ h. absurd (omega (arith, h));
 }
 
 pub not-node-spec : {M : Type 1} → statement M
-not-node-spec = tie.close (tie.spec not-type-requires add-len joined-requires returns returns-2)
+not-node-spec =
+    tie.close (tie.spec not-type-requires add-depth add-len joined-requires returns returns-2)

@@ -46,6 +46,7 @@ unfolding le4
 returns c = record {
   next = refl;
   gives = refl;
+  deep = refl;
   len = refl;
   bytes = λ h. set-five (c .before .no-tree .result .bytes) _ _ _ _ _
       (let q : length (c .before .no-tree .result .bytes) ≡ storedMost = search needs in omega arith);

@@ -303,10 +303,7 @@ more-two-node-requires t c κs =
     let u = sign-within (a .s .now) (a .at) _ (v .0) (v .1 .0) (p .g .given .1)
     (p .before .before .operator-at .ensures .0) in
     let w = got-within _ _ _ _ _ (c .if3 .left) (c .before .before .tree-expr .ensures .0) in
-    omega (
-      arith,
-      (o .pre),
-    )
+    omega (arith, o .pre)
 
 more-tree-more-requires : (t : ℕ) → more-lts.Need-tree-more-requires (more-calls t) (more-at t) more.Post
 more-tree-more-requires t c κs =
@@ -322,6 +319,7 @@ more-tree-more-requires t c κs =
       arith,
       m .next,
       m .len,
+      m .deep,
       (o .pre),
     )
 
@@ -351,7 +349,7 @@ more-returns-3 : (t : ℕ) → more-lts.Need-returns-3 (more-calls t) (more-at t
 more-returns-3 t c =
     let a = c .before .before .before .before .args in
     let q : a .left .next ≡ a .at = omega arith in (
-      here-within _ _ _ _ (a .left) (omega arith) (omega arith) (omega arith),
+      here-within _ _ _ _ (a .left) (omega arith) (omega arith) (omega arith) (omega arith),
       more-none (a .names .now) (a .n) (a .s .now) (a .at) (a .k) (a .h) (a .b) (a .left) _
           (c .before .before .operator-at .ensures .1) (c .enum-told .given .1) q,
     )
@@ -362,7 +360,7 @@ more-returns-4 t c =
     let a = p .before .before .before .before .args in
     let v = p .g .given .0 in
     let q : a .left .next ≡ a .at = omega arith in (
-      here-within _ _ _ _ (a .left) (omega arith) (omega arith) (omega arith),
+      here-within _ _ _ _ (a .left) (omega arith) (omega arith) (omega arith) (omega arith),
       more-stop (a .names .now) (a .n) (a .s .now) (a .at) (a .k) (a .h) (a .b) (a .left) _
           (p .before .before .operator-at .ensures .1) (v .0) (v .1 .0) (p .g .given .1)
           (c .before .before .before .operator .result) (c .before .before .before .operator .ensures) (inr (omega
@@ -374,7 +372,7 @@ more-returns-5 t c =
     let a = c .before .before .before .before .before .before .before .args in
     let v = c .before .before .before .g .given .0 in
     let q : a .left .next ≡ a .at = omega arith in (
-      here-within _ _ _ _ (a .left) (omega arith) (omega arith) (omega arith),
+      here-within _ _ _ _ (a .left) (omega arith) (omega arith) (omega arith) (omega arith),
       more-stop (a .names .now) (a .n) (a .s .now) (a .at) (a .k) (a .h) (a .b) (a .left) _
           (c .before .before .before .before .before .operator-at .ensures .1) (v .0) (v .1 .0)
           (c .before .before .before .g .given .1) (c .before .operator .result) (c .before .operator .ensures) (inl
@@ -395,5 +393,5 @@ pub +tree-atom+tree-expr+tree-inside+tree-more-spec : {M : Type 1} → statement
     (inside-returns-4 t) (inside-tree-closed-requires t) (inside-returns-5 t))
     λ t. more-lts.spec (more-calls t) (more-at t) more.Post (more-operator-at-requires t) (more-enum-told t)
     (more-enum-known-g t) (more-operator-requires t) (more-tree-expr-requires t) (more-returns t)
-    (more-two-node-requires t) (more-tree-more-requires t)
-    (more-returns-2 t) (more-returns-3 t) (more-returns-4 t) (more-returns-5 t)
+    (more-two-node-requires t) (more-tree-more-requires t) (more-returns-2 t) (more-returns-3 t) (more-returns-4 t)
+    (more-returns-5 t)

@@ -12,7 +12,7 @@ tree-expr-requires c κs = search needs
 returns : tie.Need-returns
 returns c =
     let a = c .before .before .args in
-    whole-stored (a .names .now) (a .n) (a .s .now) (a .at) _ (c .tree-expr .ensures .1)
+    (c .tree-expr .ensures .0, whole-stored (a .names .now) (a .n) (a .s .now) (a .at) _ (c .tree-expr .ensures .1))
 
 pub stored-tree-spec : {M : Type 1} → statement M
 stored-tree-spec = tie.close (tie.spec tree-expr-requires returns)

@@ -30,7 +30,7 @@ returns-2 : tie.Need-returns-2
 returns-2 c =
     let a = c .before .before .before .before .before .before .args in
     close-not (a .s .now) (a .p) _ (a .neg) (omega arith) (c .before .before .if2 .taken) (c .before .if3 .taken)
-    (c .not-node .ensures)
+    (omega arith) (c .not-node .ensures)
 
 add-t12 : tie.Need-add-t12
 add-t12 c = search needs
@@ -39,8 +39,7 @@ returns-3 : tie.Need-returns-3
 returns-3 c =
     let a = c .before .before .before .before .before .before .args in
     close-same (a .s .now) (a .p) _ (a .neg) (omega arith) (c .before .before .if2 .taken) (c .before .if3 .left)
-    refl refl
-    refl refl
+    refl refl refl refl refl (omega arith)
 
 no-tree-requires-2 : tie.Need-no-tree-requires-2
 no-tree-requires-2 c κs = search needs

@@ -1,0 +1,242 @@
+-- The bytes that the code writes of a field line are its record.
+use mathlib.Core.Path.{_≡_, refl, ap, ap₂, sym, _∙_}
+use mathlib.Core.List.{List, [], _++_, append-assoc}
+use mathlib.Core.Option.{Option, none, some, Option·map}
+use Prim.Native.Nat.{ℕ, _+_, _-_, _≤_}
+use native.Mathlib.Omega.{arith}
+use native.Mathlib.Nat.{sub-zero}
+use lib.ListN.{length, take, length-append}
+use lib.Seq.{length-take-le}
+use borrow.Author.Tests.{ne-eqb}
+use Rattle.writing.specs.Writes.{Writes}
+use Rattle.writing.proofs.Writing.{writes-none, writes-join}
+use Rattle.rules.specs.Limits.{textMost, storedMost}
+use Rattle.rules.specs.Trees.{Tree, le2, storedTree}
+use Rattle.rules.specs.Fields.{Width, fixed, measured, rest, Form}
+use Rattle.rules.specs.Stored.{storedFieldIn, counted, kindNumber, storedWidth, storedName, storedMaybe, fieldBody}
+use Rattle.rules.specs.Stored.{storedField}
+use Rattle.text_laws.specs.Resolving.{renameTree, renameWidth}
+use Rattle.writing.specs.Puts.{placed, put}
+use Rattle.texts.specs.Records.{indexed}
+use Rattle.texts.specs.StoredTrees.{lookUp, StoredIs}
+use Rattle.texts.specs.HeldParts.{MaybeHeld, WidthHeld, PartsHeld}
+use Rattle.texts.specs.HeldRecords.{treeBytes, widthBytes, widthSize, nameBytes}
+use Rattle.texts.specs.HeldRecords.{bodyBytes, fieldSize, fieldBytes, Writable}
+use Rattle.texts.specs.declared.stored_trees.StoredTree.{StoredTree}
+use Rattle.texts.specs.declared.line_parts.Parts.{Parts}
+use Rattle.texts.proofs.TreeTypes.{partOf, part-span, part-length}
+use Rattle.texts.proofs.PartSteps.{short-text}
+use Rattle.texts.proofs.RecordSizes.{stored-renamed, stored-length, two-length, counted-length}
+use Rattle.texts.proofs.RecordLaws.{two-writes, counted-writes, two-end, counted-end}
+
+-- ── the bytes are those of the record ──
+
+held-bytes : (names : List (List ℕ)) (n : ℕ) (v : Tree (List ℕ)) (t : StoredTree) → StoredIs names n v t
+    → t .len ≤ storedMost → take (t .len) (t .bytes) ≡ storedTree (λ i. i) (renameTree (lookUp names n) v)
+held-bytes names n v t h le =
+    h .bytes (omega (arith, h .len, le)) ∙ sym (stored-renamed (lookUp names n) v)
+
+maybe-bytes : (names : List (List ℕ)) (n : ℕ) (o : Option (Tree (List ℕ))) (t : StoredTree) → MaybeHeld names n o t
+    → t .len ≤ storedMost → treeBytes t ≡ counted (storedMaybe (Option·map (renameTree (lookUp names n)) o))
+maybe-bytes names n none t h le = rw h refl
+maybe-bytes names n (some v) t h le = ap counted (held-bytes names n v t h le)
+
+width-bytes : (names : List (List ℕ)) (n : ℕ) (v : Width (List ℕ)) (p : Parts)
+    → WidthHeld names n v (p .kind) (p .bits) (p .width) → p .width .len ≤ storedMost
+    → widthBytes p ≡ storedWidth (renameWidth (lookUp names n) v)
+unfolding widthBytes
+width-bytes names n (fixed m) p h le = rw (h .0, h .1) refl
+width-bytes names n (measured u v) p h le =
+    rw (h .0, h .1) (ap (λ (l : List ℕ). le2 u ++ counted l) (held-bytes names n v (p .width) (h .2) le))
+width-bytes names n rest p h le = rw (h .0) refl
+
+width-kind : (names : List (List ℕ)) (n : ℕ) (v : Width (List ℕ)) (kind bits : ℕ) (t : StoredTree)
+    → WidthHeld names n v kind bits t → kind ≡ kindNumber (renameWidth (lookUp names n) v)
+width-kind names n (fixed m) kind bits t h = h .0
+width-kind names n (measured u v) kind bits t h = h .0
+width-kind names n rest kind bits t h = h .0
+
+-- ── what is written, part by part ──
+
+pub size-sum : (p : Parts)
+    → fieldSize p ≡ 12 + p .label + p .short .len + widthSize p + p .constraint .len + p .condition .len
+unfolding fieldSize
+size-sum p = refl
+
+pub writable-text : (p : Parts) {m : ℕ} → Writable m p → m ≤ textMost → Writable textMost p
+writable-text p w le = record {
+  label = omega (arith, w .label, le);
+  short = omega (arith, w .short, le);
+  width = w .width;
+  constraint = w .constraint;
+  condition = w .condition;
+}
+
+pub size-fixed : (p : Parts) → p .kind ≡ 2 → widthSize p ≡ 2
+unfolding widthSize
+size-fixed p e = rw e refl
+
+pub size-measured : (p : Parts) → p .kind ≡ 3 → widthSize p ≡ 4 + p .width .len
+unfolding widthSize
+size-measured p e = rw e refl
+
+pub size-rest : (p : Parts) → (p .kind ≡ 2 → ⊥) → (p .kind ≡ 3 → ⊥) → widthSize p ≡ 0
+unfolding widthSize
+size-rest p e f = rw (ne-eqb (p .kind) 2 e, ne-eqb (p .kind) 3 f) refl
+
+pub tree-put : (t : StoredTree) {before after : List ℕ} {at next : ℕ} → t .len ≤ length (t .bytes)
+    → at + (2 + t .len) ≤ length before → placed next after ≡ put before at (counted (take (t .len - 0) (t .bytes)))
+    → (next ≡ at + (2 + t .len)) × Writes before at (treeBytes t) after next
+tree-put t {before} {after} {at} {next} le room e =
+    let l = length-take-le (t .len) (t .bytes) le in
+    let q : placed next after ≡ put before at (treeBytes t) = rw (sub-zero (t .len)) at e in
+    let w = counted-writes (take (t .len) (t .bytes)) (omega (arith, l, room)) q in
+    (omega (arith, w .end, counted-length (take (t .len) (t .bytes)), l), w)
+
+module _ (p : Parts) where
+  bytes-fixed : p .kind ≡ 2 → le2 (p .bits) ≡ widthBytes p
+  unfolding widthBytes
+  bytes-fixed e = rw e refl
+
+  bytes-measured : p .kind ≡ 3 → le2 (p .bits) ++ treeBytes (p .width) ≡ widthBytes p
+  unfolding widthBytes
+  bytes-measured e = rw e refl
+
+  bytes-rest : (p .kind ≡ 2 → ⊥) → (p .kind ≡ 3 → ⊥) → [] ≡ widthBytes p
+  unfolding widthBytes
+  bytes-rest e f = rw (ne-eqb (p .kind) 2 e, ne-eqb (p .kind) 3 f) refl
+
+module _ (p : Parts) {before : List ℕ} {at : ℕ} where
+  pub width-fixed : {after : List ℕ} {next : ℕ} → p .kind ≡ 2 → at + widthSize p ≤ length before
+      → placed next after ≡ put before at (le2 (p .bits))
+      → (next ≡ at + widthSize p) × Writes before at (widthBytes p) after next
+  width-fixed k room e =
+      let w = two-writes (p .bits) (omega (arith, size-fixed p k, room)) e in
+      (omega (arith, size-fixed p k, two-end (p .bits) w), rw (← bytes-fixed p k) w)
+
+  pub width-two : {mid : List ℕ} {next : ℕ} → p .kind ≡ 3 → at + widthSize p ≤ length before
+      → placed next mid ≡ put before at (le2 (p .bits))
+      → Writes before at (le2 (p .bits)) mid next × (next + (2 + p .width .len) ≤ length mid)
+  width-two k room e =
+      let w = two-writes (p .bits) (omega (arith, size-measured p k, room)) e in
+      (w, omega (arith, size-measured p k, two-end (p .bits) w, w .kept, room))
+
+  pub width-measured : {mid after : List ℕ} {next end : ℕ} → p .kind ≡ 3 → Writes before at (le2 (p .bits)) mid next
+      → end ≡ next + (2 + p .width .len) → Writes mid next (treeBytes (p .width)) after end
+      → (end ≡ at + widthSize p) × Writes before at (widthBytes p) after end
+  width-measured k w e u =
+      (omega (arith, size-measured p k, two-end (p .bits) w, e), rw (← bytes-measured p k) (writes-join w u))
+
+  pub width-rest : (p .kind ≡ 2 → ⊥) → (p .kind ≡ 3 → ⊥)
+      → (at ≡ at + widthSize p) × Writes before at (widthBytes p) before at
+  width-rest e f = (omega (arith, size-rest p e f), rw (← bytes-rest p e f) (writes-none before at))
+
+pub names-put : (line : List ℕ) (p : Parts) {before mid after : List ℕ} {at next end : ℕ}
+    → Writable (length line) p → at + (4 + p .label + p .short .len) ≤ length before
+    → placed next mid ≡ put before at (counted (take (p .label - 0) line))
+    → placed end after ≡ put mid next (counted (partOf line (p .short)))
+    → (end ≡ at + (4 + p .label + p .short .len)) × Writes before at (nameBytes line p) after end
+names-put line p {before} {mid} {after} {at} {next} {end} h room e f =
+    let a = length-take-le (p .label) line (h .label) in
+    let b = part-length line (p .short) (h .short) in
+    let q : placed next mid ≡ put before at (counted (take (p .label) line)) = rw (sub-zero (p .label)) at e in
+    let w = counted-writes (take (p .label) line) (omega (arith, a, room)) q in
+    let m = counted-end (take (p .label) line) w in
+    let v = counted-writes (partOf line (p .short)) (omega (arith, a, b, room, m, w .kept)) f in
+    let k = counted-end (partOf line (p .short)) v in (
+      omega (arith, m, k, a, b),
+      writes-join w (rw (part-span line (p .short)) at v),
+    )
+
+-- ── the record of the form ──
+
+tree-length : (names : List (List ℕ)) (n : ℕ) (v : Tree (List ℕ)) (t : StoredTree) → StoredIs names n v t
+    → length (storedTree (λ i. i) (renameTree (lookUp names n) v)) ≡ t .len
+tree-length names n v t h =
+    ap length (stored-renamed (lookUp names n) v) ∙ stored-length (lookUp names n) v ∙ sym (h .len)
+
+maybe-length : (names : List (List ℕ)) (n : ℕ) (o : Option (Tree (List ℕ))) (t : StoredTree) → MaybeHeld names n o t
+    → length (counted (storedMaybe (Option·map (renameTree (lookUp names n)) o))) ≡ 2 + t .len
+maybe-length names n none t h = omega (arith, h, counted-length [])
+maybe-length names n (some v) t h =
+    omega (
+      arith,
+      counted-length (storedTree (λ i. i) (renameTree (lookUp names n) v)),
+      tree-length names n v t h,
+    )
+
+width-length : (names : List (List ℕ)) (n : ℕ) (v : Width (List ℕ)) (p : Parts)
+    → WidthHeld names n v (p .kind) (p .bits) (p .width)
+    → length (storedWidth (renameWidth (lookUp names n) v)) ≡ widthSize p
+width-length names n (fixed m) p h = two-length m ∙ sym (size-fixed p (h .0))
+width-length names n (measured u v) p h =
+    let t = storedTree (λ i. i) (renameTree (lookUp names n) v) in
+    omega (
+      arith,
+      size-measured p (h .0),
+      length-append (le2 u) (counted t),
+      two-length u,
+      counted-length t,
+      tree-length names n v (p .width) (h .2),
+    )
+width-length names n rest p h =
+    sym (size-rest p (λ e. absurd (omega (arith, e, h .0))) (λ e. absurd (omega (arith, e, h .0))))
+
+pub record-bytes : (names : List (List ℕ)) (n : ℕ) (line : List ℕ) (x : Form) (p : Parts) → PartsHeld names n line x p
+    → Writable (length line) p → fieldBytes line p ≡ storedField (indexed names n x)
+unfolding storedFieldIn fieldBody
+record-bytes names n line x p h w =
+    let body : bodyBytes line p ≡ fieldBody (indexed names n x) = body-is in
+    let size : fieldSize p ≡ 4 + length (fieldBody (indexed names n x)) = size-is in
+    let kind = width-kind names n (x .width) (p .kind) (p .bits) (p .width) (h .width) in
+    ap₂ (λ (m : ℕ) (l : List ℕ). le2 m ++ l) size (ap₂ (λ (k : ℕ) (l : List ℕ). le2 k ++ l) kind body)
+  where
+    parts-are : bodyBytes line p ≡ (counted (x .label) ++ counted (storedName (x .short)))
+        ++ (storedWidth (renameWidth (lookUp names n) (x .width))
+        ++ (counted (storedMaybe (indexed names n x .constraint))
+        ++ counted (storedMaybe (indexed names n x .condition))))
+    parts-are =
+        rw (
+          h .label,
+          short-text line (x .short) (p .short) (h .short),
+          width-bytes names n (x .width) p (h .width) (w .width),
+          maybe-bytes names (n + 1) (x .constraint) (p .constraint) (h .constraint) (w .constraint),
+          maybe-bytes names n (x .condition) (p .condition) (h .condition) (w .condition),
+        )
+        refl
+
+    body-is : bodyBytes line p ≡ fieldBody (indexed names n x)
+    body-is =
+        parts-are ∙ append-assoc (counted (x .label)) (counted (storedName (x .short)))
+        (storedWidth (renameWidth (lookUp names n) (x .width))
+        ++ (counted (storedMaybe (indexed names n x .constraint))
+        ++ counted (storedMaybe (indexed names n x .condition))))
+
+    short-length : length (storedName (x .short)) ≡ p .short .len
+    short-length =
+        ap length (sym (short-text line (x .short) (p .short) (h .short)) ∙ sym (part-span line (p .short)))
+        ∙ part-length line (p .short) (w .short)
+
+    size-is : fieldSize p ≡ 4 + length (fieldBody (indexed names n x))
+    size-is =
+        let a = counted (x .label) in
+        let b = counted (storedName (x .short)) in
+        let v = storedWidth (renameWidth (lookUp names n) (x .width)) in
+        let c = counted (storedMaybe (indexed names n x .constraint)) in
+        let d = counted (storedMaybe (indexed names n x .condition)) in
+        omega (
+          arith,
+          size-sum p,
+          length-append a (b ++ (v ++ (c ++ d))),
+          length-append b (v ++ (c ++ d)),
+          length-append v (c ++ d),
+          length-append c d,
+          counted-length (x .label),
+          ap length (sym (h .label)),
+          length-take-le (p .label) line (w .label),
+          counted-length (storedName (x .short)),
+          short-length,
+          width-length names n (x .width) p (h .width),
+          maybe-length names (n + 1) (x .constraint) (p .constraint) (h .constraint),
+          maybe-length names n (x .condition) (p .condition) (h .condition),
+        )

@@ -1,0 +1,160 @@
+use mathlib.Core.Path.{sym, _∙_}
+use Prim.Native.Nat.{_≤_}
+use native.Mathlib.Omega.{arith}
+use lib.ListN.{length}
+use borrow.Author.Tests.{not-true, not-false}
+use Rattle.base.specs.Bytes.{bytes}
+use Rattle.texts.proofs.FieldClauses.{clause-room}
+use Rattle.texts.proofs.ClauseTrees.{ends-none, ends-later, ends-unstopped, ends-remark, ends-whole}
+use borrow.Author.Needs.{needs}
+use Rattle.texts.proofs.clause_trees.ends_at.Statement.{statement}
+use Rattle.texts.proofs.clause_trees.ends_at.Tie as tie
+use Rattle.texts.proofs.clause_trees.ends_at.Reads as reads
+use Rattle.texts.proofs.clause_trees.ends_at.Lts as lts
+use Rattle.texts.proofs.clause_trees.condition_at.Reads as condition-at-reads
+use Rattle.texts.proofs.clause_trees.constraint_at.Reads as constraint-at-reads
+use Rattle.texts.proofs.clause_trees.wrong_ends.Reads as wrong-ends-reads
+use Rattle.texts.proofs.phrases.remark_ok.Reads as remark-ok-reads
+use Rattle.texts.proofs.phrases.starts_at.Reads as starts-at-reads
+
+add-constraint-at : tie.Need-add-constraint-at
+add-constraint-at c = search needs
+
+constraint-at-requires : tie.Need-constraint-at-requires
+constraint-at-requires c κs = search needs
+
+wrong-ends-requires : tie.Need-wrong-ends-requires
+wrong-ends-requires c κs = search needs
+
+returns : tie.Need-returns
+returns c =
+    let x = c .before .before .before .before .constraint-at in
+    ends-none (c .before .before .before .before .before .before .args .names .now) (c .before .before .before
+    .before .before .before .args .n) (c .before .before .before .before .before .before .args .s .now) (c .before
+    .before .before .before .before .before .args .at) (x .result) (x .ensures .1) _ (c .wrong-ends .ensures)
+    (not-true (x .result .right) (c .before .if1 .taken))
+
+condition-at-requires : tie.Need-condition-at-requires
+condition-at-requires c κs =
+    let x = c .before .before .before .constraint-at in
+    let w = x .ensures .0 (not-false (x .result .right) (c .if1 .left)) in
+    (w .1, omega arith, omega arith)
+
+wrong-ends-requires-2 : tie.Need-wrong-ends-requires-2
+wrong-ends-requires-2 c κs = search needs
+
+returns-2 : tie.Need-returns-2
+returns-2 c =
+    let x = c .before .before .before .before .before .before .before .before .constraint-at in
+    let y = c .before .before .before .before .condition-at in
+    let first = not-false (x .result .right) (c .before .before .before .before .before .if1 .left) in
+    ends-later (c .before .before .before .before .before .before .before .before .before .before .args .names .now)
+    (c .before .before .before .before .before .before .before .before .before .before .args .n) (c .before .before
+    .before .before .before .before .before .before .before .before .args .s .now) (c .before .before .before .before
+    .before .before .before .before .before .before .args .at) (x .result) (x .ensures .1) first (y .result) (y
+    .ensures .1) _ (c .wrong-ends2 .ensures)
+    (not-true (y .result .right) (c .before .if2 .taken))
+
+slice-aggregate-starts-at : tie.Need-slice-aggregate-starts-at
+slice-aggregate-starts-at c = search needs
+
+starts-at-requires : tie.Need-starts-at-requires
+starts-at-requires c κs =
+    let y = c .before .before .before .before .condition-at in
+    y .ensures .0 (not-false (y .result .right) (c .before .if2 .left)) .1
+
+add-remark-ok : tie.Need-add-remark-ok
+add-remark-ok c =
+    let y = c .before .before .before .before .before .before .condition-at in
+    let w = y .ensures .0 (not-false (y .result .right) (c .before .before .before .if2 .left)) in
+    let le : y .result .tree .next ≤ length (c .before .before .before .before .before .before .before .before
+    .before .before .before .before .args .s .now) = w .1 in
+    search needs
+
+remark-ok-requires : tie.Need-remark-ok-requires
+remark-ok-requires c κs =
+    let y = c .before .before .before .before .before .before .condition-at in
+    let w = y .ensures .0 (not-false (y .result .right) (c .before .before .before .if2 .left)) in
+    clause-room (c .before .before .before .before .before .before .before .before .before .before .before .before
+    .args .s .now) (y .result .tree .next) (w .1) (bytes ".") (sym (c .before .starts-at .ensures) ∙ c .if3 .taken)
+
+returns-3 : tie.Need-returns-3
+returns-3 c =
+    let x = c .before .before .before .before .before .before .before .before .before .before .before .before
+    .constraint-at in
+    let y = c .before .before .before .before .before .before .before .before .condition-at in
+    let first = not-false (x .result .right) (c .before .before .before .before .before .before .before .before
+    .before .if1 .left) in
+    let second = not-false (y .result .right) (c .before .before .before .before .before .if2 .left) in
+    let w = y .ensures .0 second in
+    ends-whole (c .before .before .before .before .before .before .before .before .before .before .before .before
+    .before .before .args .names .now) (c .before .before .before .before .before .before .before .before .before
+    .before .before .before .before .before .args .n) (c .before .before .before .before .before .before .before
+    .before .before .before .before .before .before .before .args .s .now) (c .before .before .before .before .before
+    .before .before .before .before .before .before .before .before .before .args .at) (x .result) (x .ensures .1)
+    first (y .result)
+    (y .ensures .1) second (w .1) (sym (c .before .before .before .starts-at .ensures) ∙ c .before .before .if3
+    .taken) (sym (c .before .remark-ok .ensures) ∙ c .if4 .taken)
+
+wrong-ends-requires-3 : tie.Need-wrong-ends-requires-3
+wrong-ends-requires-3 c κs = search needs
+
+returns-4 : tie.Need-returns-4
+returns-4 c =
+    let x = c .before .before .before .before .before .before .before .before .before .before .before .before .before
+    .constraint-at in
+    let y = c .before .before .before .before .before .before .before .before .before .condition-at in
+    let first = not-false (x .result .right) (c .before .before .before .before .before .before .before .before
+    .before .before .if1 .left) in
+    let second = not-false (y .result .right) (c .before .before .before .before .before .before .if2 .left) in
+    let w = y .ensures .0 second in
+    ends-remark (c .before .before .before .before .before .before .before .before .before .before .before .before
+    .before .before .before .args .names .now) (c .before .before .before .before .before .before .before .before
+    .before .before .before .before .before .before .before .args .n) (c .before .before .before .before .before
+    .before .before .before .before .before .before .before .before .before .before .args .s .now) (c .before .before
+    .before .before .before .before .before .before .before .before .before .before .before .before .before .args
+    .at) (x .result) (x .ensures .1) first (y .result)
+    (y .ensures .1) second (w .1) _ (c .wrong-ends3 .ensures) (sym (c .before .before .before .before .starts-at
+    .ensures) ∙ c .before .before .before .if3 .taken)
+    (sym (c .before .before .remark-ok .ensures) ∙ c .before .if4 .left)
+
+wrong-ends-requires-4 : tie.Need-wrong-ends-requires-4
+wrong-ends-requires-4 c κs = search needs
+
+returns-5 : tie.Need-returns-5
+returns-5 c =
+    let x = c .before .before .before .before .before .before .before .before .before .before .before .constraint-at
+    in
+    let y = c .before .before .before .before .before .before .before .condition-at in
+    let first = not-false (x .result .right) (c .before .before .before .before .before .before .before .before .if1
+    .left) in
+    let second = not-false (y .result .right) (c .before .before .before .before .if2 .left) in
+    let w = y .ensures .0 second in
+    ends-unstopped (c .before .before .before .before .before .before .before .before .before .before .before .before
+    .before .args .names .now) (c .before .before .before .before .before .before .before .before .before .before
+    .before .before .before .args .n) (c .before .before .before .before .before .before .before .before .before
+    .before .before .before .before .args .s .now) (c .before .before .before .before .before .before .before .before
+    .before .before .before .before .before .args .at) (x .result) (x .ensures .1) first (y .result)
+    (y .ensures .1) second (w .1) _ (c .wrong-ends4 .ensures) (sym (c .before .before .starts-at .ensures) ∙ c
+    .before .if3 .left)
+
+pub ends-at-spec : {M : Type 1} → statement M
+ends-at-spec =
+    tie.close
+    (tie.spec
+    add-constraint-at
+    constraint-at-requires
+    wrong-ends-requires
+    returns
+    condition-at-requires
+    wrong-ends-requires-2
+    returns-2
+    slice-aggregate-starts-at
+    starts-at-requires
+    add-remark-ok
+    remark-ok-requires
+    returns-3
+    wrong-ends-requires-3
+    returns-4
+    wrong-ends-requires-4
+    returns-5)

@@ -1,0 +1,19 @@
+use Rattle.texts.proofs.ClauseTrees.{clause-tree}
+use borrow.Author.Needs.{needs}
+use Rattle.texts.proofs.clause_trees.tree_at.Statement.{statement}
+use Rattle.texts.proofs.clause_trees.tree_at.Tie as tie
+use Rattle.texts.proofs.clause_trees.tree_at.Reads as reads
+use Rattle.texts.proofs.clause_trees.tree_at.Lts as lts
+use Rattle.texts.proofs.stored_trees.stored_tree.Reads as stored-tree-reads
+
+stored-tree-requires : tie.Need-stored-tree-requires
+stored-tree-requires c κs = search needs
+
+returns : tie.Need-returns
+returns c =
+    let t = c .before .stored-tree in
+    clause-tree (c .before .before .before .args .names .now) (c .before .before .before .args .n) (c .before .before
+    .before .args .s .now) (c .before .before .before .args .at) (t .result) (t .ensures .0) (t .ensures .1)
+
+pub tree-at-spec : {M : Type 1} → statement M
+tree-at-spec = tie.close (tie.spec stored-tree-requires returns)

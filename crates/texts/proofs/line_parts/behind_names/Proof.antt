@@ -1,0 +1,90 @@
+use mathlib.Core.Path.{refl}
+use native.Mathlib.Omega.{arith}
+use lib.ListN.{set}
+use Rattle.texts.proofs.PartSteps.{kept-all, kept-set, behind-none, behind-width, behind-whole}
+use borrow.Author.Needs.{needs}
+use Rattle.texts.proofs.line_parts.behind_names.Statement.{statement}
+use Rattle.texts.proofs.line_parts.behind_names.Tie as tie
+use Rattle.texts.proofs.line_parts.behind_names.Reads as reads
+use Rattle.texts.proofs.line_parts.behind_names.Lts as lts
+use Rattle.texts.proofs.clause_trees.ends_at.Reads as ends-at-reads
+use Rattle.texts.proofs.line_parts.no_parts.Reads as no-parts-reads
+use Rattle.texts.proofs.line_parts.own_name.Reads as own-name-reads
+use Rattle.texts.proofs.width_trees.width_at.Reads as width-at-reads
+
+width-at-requires : tie.Need-width-at-requires
+width-at-requires c κs = search needs
+
+no-parts-requires : tie.Need-no-parts-requires
+no-parts-requires c κs = search needs
+
+returns : tie.Need-returns
+returns c =
+    let a = c .before .before .before .before .before .before .args in
+    let w = c .before .before .before .width-at in (
+      kept-all (a .names .now) (a .n),
+      behind-none (a .names .now) (a .n) (a .s .now) (a .label) (a .short) (a .at) _ (a .names .now) (w .result)
+          (c .no-parts .ensures) (w .ensures .1) (c .before .if1 .taken),
+    )
+
+own-name-requires : tie.Need-own-name-requires
+own-name-requires c κs =
+    c .before .before .before .before .before .pre .3 .1
+
+mul-t15 : tie.Need-mul-t15
+mul-t15 c = search needs
+
+element-set-from-names : tie.Need-element-set-from-names
+element-set-from-names c = search needs
+
+ends-at-requires : tie.Need-ends-at-requires
+ends-at-requires c κs =
+    let w = c .before .before .before .before .before .width-at .ensures .0 (c .before .before .before .if1 .left) in
+    (w .1, omega arith, omega arith)
+
+returns-2 : tie.Need-returns-2
+returns-2 c =
+    let a = c .before .before .before .before .before .before .before .before .before .before .before .before .args in
+    let w = c .before .before .before .before .before .before .before .before .before .width-at in
+    let e = c .before .before .before .ends-at in
+    let o = c .before .before .before .before .before .before .own-name in
+    let x = w .ensures .1 .there (c .before .before .before .before .before .before .before .if1 .left) in
+    let f = c .before .before .before .before .before .before .before .before .before .before .before .before .pre .3
+    in
+    let names = a .names .now in (
+      kept-set names (a .n) (o .result),
+      behind-whole (set names (a .n) (o .result)) (a .n) (a .s .now) (a .label) (a .short) (a .at) names (w .result) x
+          (e .result) (e .ensures) (c .if2 .taken) (f .0) (f .1) (o .result) refl (o .ensures),
+    )
+
+no-parts-requires-2 : tie.Need-no-parts-requires-2
+no-parts-requires-2 c κs = search needs
+
+returns-3 : tie.Need-returns-3
+returns-3 c =
+    let a = c .before .before .before .before .before .before .before .before .before .before .before .before .before
+    .args in
+    let w = c .before .before .before .before .before .before .before .before .before .before .width-at in
+    let e = c .before .before .before .before .ends-at in
+    let o = c .before .before .before .before .before .before .before .own-name in
+    let x = w .ensures .1 .there (c .before .before .before .before .before .before .before .before .if1 .left) in
+    let names = a .names .now in (
+      kept-set names (a .n) (o .result),
+      behind-width (set names (a .n) (o .result)) (a .n) (a .s .now) (a .label) (a .short) (a .at) names (w .result) x
+          (e .result) (e .ensures) _ (c .no-parts2 .ensures) (c .before .if2 .left),
+    )
+
+pub behind-names-spec : {M : Type 1} → statement M
+behind-names-spec =
+    tie.close
+    (tie.spec
+    width-at-requires
+    no-parts-requires
+    returns
+    own-name-requires
+    mul-t15
+    element-set-from-names
+    ends-at-requires
+    returns-2
+    no-parts-requires-2
+    returns-3)

@@ -1,0 +1,133 @@
+-- The parts of a field line as the code holds them, each expression in its stored form: mirrors the code, no public
+-- promise rests on it.
+use mathlib.Core.Path.{_≡_}
+use mathlib.Core.Bool.{true, false, cond}
+use mathlib.Core.List.{List, []}
+use mathlib.Core.Option.{Option, none, some}
+use Prim.Native.Nat.{ℕ, _+_, _≤_, _<_}
+use lib.Dec.{eqb}
+use lib.ListN.{length, take, drop, getD}
+use Rattle.base.specs.Lists.{between}
+use Rattle.rules.specs.Limits.{fixedMost, shortMost}
+use Rattle.rules.specs.Trees.{Tree}
+use Rattle.rules.specs.Fields.{Width, fixed, measured, rest, Form, isFixed}
+use Rattle.rules.specs.Stored.{storedName}
+use Rattle.rules.specs.Within.{isWidth}
+use Rattle.names.specs.Repeats.{padTo}
+use Rattle.text_laws.specs.LineReader.{Got, miss, hit, keep, readTree, widthOf, formOf}
+use Rattle.texts.specs.LinePlaces.{spanIn, ShortIs}
+use Rattle.texts.specs.PartPlaces.{Ending, readEnds, readBehind}
+use Rattle.texts.specs.StoredTrees.{StoredIs}
+use Rattle.writing.specs.declared.spans.Span.{Span}
+use Rattle.texts.specs.declared.stored_trees.StoredTree.{StoredTree}
+use Rattle.texts.specs.declared.clause_trees.Clause.{Clause}
+use Rattle.texts.specs.declared.clause_trees.Ends.{Ends}
+use Rattle.texts.specs.declared.width_trees.Measure.{Measure}
+use Rattle.texts.specs.declared.line_parts.Parts.{Parts}
+
+-- ── constraint and condition ──
+
+-- the length 0 stands for none
+abbrev pub MaybeHeld : List (List ℕ) → ℕ → Option (Tree (List ℕ)) → StoredTree → Type 0
+MaybeHeld names n none t = t .len ≡ 0
+MaybeHeld names n (some v) t = StoredIs names n v t
+
+-- the expression that the reader answered, if there is one
+pub record ClauseAs (names : List (List ℕ)) (n : ℕ) (s : List ℕ) (g : Got (Option (Tree (List ℕ)))) (r : StoredTree)
+    : Type 0 where
+  pub tree : Option (Tree (List ℕ))
+  pub isRead : g ≡ hit tree (drop (r .next) s)
+  pub held : MaybeHeld names n tree r
+
+-- the code's answer is that of the reader in the text s
+pub record ClauseFor (names : List (List ℕ)) (n : ℕ) (s : List ℕ) (g : Got (Option (Tree (List ℕ)))) (r : Clause)
+    : Type 0 where
+  pub wrong : r .right ≡ false → g ≡ miss
+  pub there : r .right ≡ true → ClauseAs names n s g (r .tree)
+
+-- the place behind it stands at `at` or behind it, within the text
+abbrev pub ClauseWithin : List ℕ → ℕ → Clause → Type 0
+ClauseWithin s at r = r .right ≡ true → (at ≤ r .tree .next) × (r .tree .next ≤ length s)
+
+pub record EndsAs (names : List (List ℕ)) (n : ℕ) (s : List ℕ) (at : ℕ) (r : Ends) : Type 0 where
+  pub constraint : Option (Tree (List ℕ))
+  pub condition : Option (Tree (List ℕ))
+  pub isRead : (form : Ending) → formOf (readEnds form (drop at s)) ≡ some (form constraint condition)
+  pub first : MaybeHeld names (n + 1) constraint (r .constraint)
+  pub second : MaybeHeld names n condition (r .condition)
+
+-- both, up to the end of the line
+pub record EndsFor (names : List (List ℕ)) (n : ℕ) (s : List ℕ) (at : ℕ) (r : Ends) : Type 0 where
+  pub wrong : r .right ≡ false → (form : Ending) → formOf (readEnds form (drop at s)) ≡ none
+  pub there : r .right ≡ true → EndsAs names n s at r
+
+-- ── widths ──
+
+-- kinds as in a table; the bits of a fixed width, or of the unit
+abbrev pub WidthHeld : List (List ℕ) → ℕ → Width (List ℕ) → ℕ → ℕ → StoredTree → Type 0
+WidthHeld names n (fixed m) kind bits t = (kind ≡ 2) × (bits ≡ m) × (t .len ≡ 0)
+WidthHeld names n (measured u v) kind bits t = (kind ≡ 3) × (bits ≡ u) × StoredIs names n v t
+WidthHeld names n rest kind bits t = (kind ≡ 4) × (bits ≡ 0) × (t .len ≡ 0)
+
+pub record MeasureAs (names : List (List ℕ)) (n : ℕ) (s : List ℕ) (g : Got (Width (List ℕ))) (r : Measure) : Type 0
+  where
+    pub width : Width (List ℕ)
+    pub isRead : g ≡ hit width (drop (r .next) s)
+    pub held : WidthHeld names n width (r .kind) (r .bits) (r .tree)
+
+-- the kind 0 stands for none
+pub record MeasureFor (names : List (List ℕ)) (n : ℕ) (s : List ℕ) (g : Got (Width (List ℕ))) (r : Measure) : Type 0
+  where
+    pub wrong : r .kind ≡ 0 → g ≡ miss
+    pub there : (r .kind ≡ 0 → ⊥) → MeasureAs names n s g r
+
+abbrev pub MeasureWithin : List ℕ → ℕ → Measure → Type 0
+MeasureWithin s at r = (r .kind ≡ 0 → ⊥) → (at ≤ r .next) × (r .next ≤ length s)
+
+-- a fixed width of so many bits before the place next, where that is one
+abbrev pub FixedFor : ℕ → ℕ → Measure → Type 0
+FixedFor bits next r = (names : List (List ℕ)) (n : ℕ) (s : List ℕ)
+    → MeasureFor names n s (keep (between 1 bits fixedMost) (fixed bits) (drop next s)) r
+    × ((r .kind ≡ 0 → ⊥) → r .next ≡ next)
+
+-- the width of a tree with its unit u, before the place next
+abbrev pub SizedFor : List ℕ → ℕ → StoredTree → ℕ → ℕ → Measure → Type 0
+SizedFor s at t u next r = (names : List (List ℕ)) (n : ℕ) (v : Tree (List ℕ)) (q : List ℕ) → StoredIs names n v t
+    → readTree (drop at s) ≡ hit v q
+    → MeasureFor names n s (keep (isWidth (widthOf u v)) (widthOf u v) (drop next s)) r
+
+-- ── the line ──
+
+-- the name by which a field may be read, held: none for a field that is not fixed
+abbrev pub ownName : Form → List ℕ
+ownName x = padTo shortMost (cond (isFixed x) (storedName (x .short)) [])
+
+-- the same by the short name of the line s and the kind
+abbrev pub ownIn : List ℕ → Span → ℕ → List ℕ
+ownIn s short kind = padTo shortMost (cond (eqb kind 2) (spanIn s short) [])
+
+-- the first n names are as they were
+pub record Kept (before : List (List ℕ)) (n : ℕ) (after : List (List ℕ)) : Type 0 where
+  pub long : length after ≡ length before
+  pub names : (i : ℕ) → i < n → getD after i [] ≡ getD before i []
+
+-- the parts of the line s, of the form x; names are the held ones, with its own at the index n
+pub record PartsHeld (names : List (List ℕ)) (n : ℕ) (s : List ℕ) (x : Form) (p : Parts) : Type 0 where
+  pub labelFits : p .label ≤ length s
+  pub shortFits : p .short .at + p .short .len ≤ length s
+  pub label : take (p .label) s ≡ x .label
+  pub short : ShortIs s (x .short) (p .short)
+  pub width : WidthHeld names n (x .width) (p .kind) (p .bits) (p .width)
+  pub constraint : MaybeHeld names (n + 1) (x .constraint) (p .constraint)
+  pub condition : MaybeHeld names n (x .condition) (p .condition)
+  pub own : n < length names → getD names n [] ≡ ownName x
+
+-- the kind 0 stands for a line without a form
+abbrev pub PartsFor : List (List ℕ) → ℕ → List ℕ → Option Form → Parts → Type 0
+PartsFor names n s none p = p .kind ≡ 0
+PartsFor names n s (some x) p = PartsHeld names n s x p
+
+-- behind a label of k bytes and a short name
+unfoldable pub BehindFor : List (List ℕ) → ℕ → List ℕ → ℕ → Span → ℕ → Parts → Type 0
+BehindFor names n s k short at r = (w : List ℕ) (h : Option (List ℕ)) → take k s ≡ w → ShortIs s h short
+    → PartsFor names n s (formOf (readBehind w h (drop at s))) r

@@ -1,0 +1,85 @@
+-- The record of a field line by the parts that the code holds, and what it tests of them: mirrors the code, no public
+-- promise rests on it.
+use mathlib.Core.Path.{_≡_}
+use mathlib.Core.Bool.{Bool, true, cond, _&&_, _||_, not}
+use mathlib.Core.List.{List, [], _++_}
+use Prim.Native.Nat.{ℕ, _+_, _≤_}
+use lib.Dec.{eqb, leb}
+use lib.ListN.{take, drop}
+use Rattle.base.specs.Lists.{same}
+use Rattle.rules.specs.Limits.{depthMost, storedMost}
+use Rattle.rules.specs.Names.{isLabel}
+use Rattle.rules.specs.Trees.{le2}
+use Rattle.rules.specs.Fields.{Form}
+use Rattle.rules.specs.Frames.{Slot}
+use Rattle.rules.specs.Spelling.{shows}
+use Rattle.rules.specs.Stored.{counted}
+use Rattle.texts.specs.LinePlaces.{spanIn}
+use Rattle.texts.specs.Slots.{storedSlot}
+use Rattle.texts.specs.HeldParts.{PartsHeld}
+use Rattle.texts.specs.declared.stored_trees.StoredTree.{StoredTree}
+use Rattle.texts.specs.declared.line_parts.Parts.{Parts}
+
+-- ── tests ──
+
+-- depth and stored length of an expression, of the length 0 where there is none
+abbrev pub isSmallAs : ℕ → ℕ → Bool
+isSmallAs d z = eqb z 0 || (leb d depthMost && leb z storedMost)
+
+-- its type
+abbrev pub isTypeAs : ℕ → ℕ → ℕ → Bool
+isTypeAs z gives wanted = eqb z 0 || eqb gives wanted
+
+-- a test of each form that the parts are of
+abbrev pub TestsForm : Parts → (List (List ℕ) → ℕ → Form → Bool) → Bool → Type 0
+TestsForm p test r = (names : List (List ℕ)) (n : ℕ) (s : List ℕ) (x : Form) → PartsHeld names n s x p
+    → r ≡ test names n x
+
+-- ── the record ──
+
+-- an expression, counted
+abbrev pub treeBytes : StoredTree → List ℕ
+treeBytes t = counted (take (t .len) (t .bytes))
+
+unfoldable pub widthBytes : Parts → List ℕ
+widthBytes p =
+    cond (eqb (p .kind) 2) (le2 (p .bits)) (cond (eqb (p .kind) 3) (le2 (p .bits) ++ treeBytes (p .width)) [])
+
+unfoldable pub widthSize : Parts → ℕ
+widthSize p = cond (eqb (p .kind) 2) 2 (cond (eqb (p .kind) 3) (4 + p .width .len) 0)
+
+abbrev pub nameBytes : List ℕ → Parts → List ℕ
+nameBytes line p = counted (take (p .label) line) ++ counted (spanIn line (p .short))
+
+abbrev pub bodyBytes : List ℕ → Parts → List ℕ
+bodyBytes line p = nameBytes line p ++ (widthBytes p ++ (treeBytes (p .constraint) ++ treeBytes (p .condition)))
+
+-- the length of a field's record
+unfoldable pub fieldSize : Parts → ℕ
+fieldSize p = 12 + p .label + p .short .len + widthSize p + p .constraint .len + p .condition .len
+
+abbrev pub fieldBytes : List ℕ → Parts → List ℕ
+fieldBytes line p = le2 (fieldSize p) ++ (le2 (p .kind) ++ bodyBytes line p)
+
+-- label and short name lie within m bytes, and the stored forms are not too long
+pub record Writable (m : ℕ) (p : Parts) : Type 0 where
+  pub label : p .label ≤ m
+  pub short : p .short .at + p .short .len ≤ m
+  pub width : p .width .len ≤ storedMost
+  pub constraint : p .constraint .len ≤ storedMost
+  pub condition : p .condition .len ≤ storedMost
+
+-- ── a kept cell ──
+
+-- the name is the label or the short name of the line s
+abbrev pub isNamedBy : List ℕ → List ℕ → Parts → Bool
+isNamedBy name s p = same name (take (p .label) s) || same name (spanIn s (p .short))
+
+-- a fixed field has a bit cell of its width, any other a long row
+abbrev pub isPlacedBy : Bool → ℕ → Parts → Bool
+isPlacedBy long bits p = cond (eqb (p .kind) 2) (not long && eqb bits (p .bits)) long
+
+-- whether the cell that is kept at a place is one for the field of the line
+abbrev pub PartShows : List ℕ → ℕ → List ℕ → Parts → Bool → Type 0
+PartShows cells at line p r = (c : Slot) (behind : List ℕ) (names : List (List ℕ)) (n : ℕ) (x : Form)
+    → drop at cells ≡ storedSlot c ++ behind → isLabel (c .text) ≡ true → PartsHeld names n line x p → r ≡ shows c x
