@@ -225,7 +225,7 @@ partly-settled table packet run a b after other n m p q =
     let o = apart ofPacket packet-number a b after other (ap (λ (x : Partly). x .outcome) e) in
     (o .0, o .1, ap (λ (x : Partly). x .count) e)
 
--- a text, whose outcome is the only one (texts, TextResults)
+-- a text, whose outcome is the only one (text_laws, TextResults)
 pub text-settled : TextUnique → (text out : List ℕ) (a b : TextAnswer) (after other : List ℕ)
     → ReadsText text out (leaves (ofText a) after) → ReadsText text out (leaves (ofText b) other)
     → (a ≡ b) × (after ≡ other)

@@ -262,7 +262,7 @@ wrongAnswers =
     ∷ tellsPlace (Refused BitsMissing 7) 0
     ∷ tellsPlace (Accepted 64) 7
     ∷ tellsPlace LeftOver 7
-    -- a value: one for a refusal; none, or bytes for bits, for an accepted packet
+    -- an amount: one for a refusal; none, or bytes for bits, for an accepted packet
     ∷ tellsAmount (Refused BitsMissing 7) 56
     ∷ tellsAmount LeftOver 72
     ∷ tellsAmount (Accepted 64) 0

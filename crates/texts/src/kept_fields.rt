@@ -164,7 +164,8 @@ pub(crate) fn take_field(
 ) -> Reading
     requires { ⌜ LineRoom r (now line) (now cells) (now table) ⌝ }
     ensures room { λ q. ⌜ Taken r q ⌝ }
-    ensures step { λ q. ⌜ FieldStep (now (line .entry)) r q (now (cells .entry)) (now (table .entry)) (now (table .exit))
+    ensures step { λ q. ⌜ FieldStep (now (line .entry)) r q (now (cells .entry)) (now (table .entry)) (now
+        (table .exit))
         (now (labels .entry)) (now (labels .exit)) (now (shorts .entry)) (now (shorts .exit)) (now (names .entry))
         (now (names .exit)) ⌝ }
 {

@@ -32,7 +32,7 @@ fn digits_of(number: usize) -> Digits
     Digits { text, start }
 }
 
-// A number in decimal, without leading zeros.
+// A number of at most ten digits in decimal, without leading zeros; of a larger one its last ten digits.
 pub fn put_decimal(out: &mut [u8], at: usize, number: usize) -> usize
     ensures { λ r. ⌜ placed r (now (out .exit)) ≡ put (now (out .entry)) at (decimal number) ⌝ }
 {

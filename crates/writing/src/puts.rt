@@ -25,7 +25,7 @@ pub fn put(out: &mut [u8], at: usize, word: &[u8]) -> usize
     at + i
 }
 
-// A number in two bytes, the least first.
+// A number below 65,536 in two bytes, the least first; of a larger one its remainder.
 pub fn put_two(out: &mut [u8], at: usize, number: usize) -> usize
     ensures { λ r. ⌜ placed r (now (out .exit)) ≡ put (now (out .entry)) at (le2 number) ⌝ }
 {
@@ -33,7 +33,7 @@ pub fn put_two(out: &mut [u8], at: usize, number: usize) -> usize
     put(out, at, &word)
 }
 
-// A length in two bytes, and as many bytes.
+// The length of a word, as `put_two` has it, and the word.
 pub fn put_counted(out: &mut [u8], at: usize, word: &[u8]) -> usize
     ensures { λ r. ⌜ placed r (now (out .exit)) ≡ put (now (out .entry)) at (counted (now (word .entry))) ⌝ }
 {

@@ -32,7 +32,8 @@ returns c =
       refl,
       (λ f x k n s nw e p.
           let shown : showsCell (f .cells) (faces (f .judged .fields)) x
-          ≡ false = sym (c .before .shows-cell .ensures f x k n s p) ∙ not-true (c .before .shows-cell .result) (c .if1 .taken) in
+          ≡ false = sym (c .before .shows-cell .ensures f x k n s p)
+          ∙ not-true (c .before .shows-cell .result) (c .if1 .taken) in
           sym (later-is f (a .r) x n false _ _ _ shown refl refl refl)),
     )
 
@@ -58,7 +59,9 @@ returns-2 c =
       refl,
       (λ f x k n s nw e p.
           let shown : showsCell (f .cells) (faces (f .judged .fields)) x
-          ≡ true = sym (c .before .before .before .before .before .shows-cell .ensures f x k n s p) ∙ not-false (c .before .before .before .before .before .shows-cell .result) (c .before .before .before .before .if1 .left) in
+          ≡ true = sym (c .before .before .before .before .before .shows-cell .ensures f x k n s p)
+          ∙ not-false (c .before .before .before .before .before .shows-cell .result)
+          (c .before .before .before .before .if1 .left) in
           let unique : keepsNames (faces (f .judged .fields)) x ≡ false =
           ap not (sym (names-here f k (now (a .line)) x e (a .r) n nw) ∙ sym (c .before .clashes .ensures)
           ∙ c .if2 .taken) in
@@ -67,7 +70,9 @@ returns-2 c =
 
 types-kept-requires : tie.Need-types-kept-requires
 types-kept-requires c κs =
-    (c .before .before .before .before .before .before .before .before .before .pre .3, c .before .before .before .before .before .before .before .before .before .pre .4, c .before .before .before .before .before .before .before .before .before .pre .2)
+    (c .before .before .before .before .before .before .before .before .before .pre .3, c .before .before .before
+    .before .before .before .before .before .before .pre .4, c .before .before .before .before .before .before
+    .before .before .before .pre .2)
 
 returns-3 : tie.Need-returns-3
 unfolding noteOf
@@ -76,7 +81,9 @@ returns-3 c =
       refl,
       (λ f x k n s nw e p.
           let shown : showsCell (f .cells) (faces (f .judged .fields)) x
-          ≡ true = sym (c .before .before .before .before .before .before .before .shows-cell .ensures f x k n s p) ∙ not-false (c .before .before .before .before .before .before .before .shows-cell .result) (c .before .before .before .before .before .before .if1 .left) in
+          ≡ true = sym (c .before .before .before .before .before .before .before .shows-cell .ensures f x k n s p)
+          ∙ not-false (c .before .before .before .before .before .before .before .shows-cell .result)
+          (c .before .before .before .before .before .before .if1 .left) in
           let unique : keepsNames (faces (f .judged .fields)) x ≡ true =
           ap not (sym (names-here f k (now (a .line)) x e (a .r) n nw)
           ∙ sym (c .before .before .before .clashes .ensures) ∙ c .before .before .if2 .left) in
@@ -97,13 +104,18 @@ returns-4 c =
       refl,
       (λ f x k n s nw e p.
           let shown : showsCell (f .cells) (faces (f .judged .fields)) x
-          ≡ true = sym (c .before .before .before .before .before .before .before .before .before .shows-cell .ensures f x k n s p) ∙ not-false (c .before .before .before .before .before .before .before .before .before .shows-cell .result) (c .before .before .before .before .before .before .before .before .if1 .left) in
+          ≡ true = sym (c .before .before .before .before .before .before .before .before .before .shows-cell
+          .ensures f x k n s p) ∙ not-false
+          (c .before .before .before .before .before .before .before .before .before .shows-cell .result)
+          (c .before .before .before .before .before .before .before .before .if1 .left) in
           let unique : keepsNames (faces (f .judged .fields)) x ≡ true =
           ap not (sym (names-here f k (now (a .line)) x e (a .r) n nw)
-          ∙ sym (c .before .before .before .before .before .clashes .ensures) ∙ c .before .before .before .before .if2 .left) in
+          ∙ sym (c .before .before .before .before .before .clashes .ensures)
+          ∙ c .before .before .before .before .if2 .left) in
           let typed : keepsTypes nameReadable (faces (f .judged .fields)) x ≡ true =
           sym (types-are f k (now (a .line)) x e (a .r) n nw)
-          ∙ sym (c .before .before .before .types-kept .ensures x p) ∙ not-false (c .before .before .before .types-kept .result) (c .before .before .if3 .left) in
+          ∙ sym (c .before .before .before .types-kept .ensures x p)
+          ∙ not-false (c .before .before .before .types-kept .result) (c .before .before .if3 .left) in
           let rested : keepsRest (faces (f .judged .fields)) x ≡ false =
           not-flip (keepsRest (faces (f .judged .fields)) x) (sym (rest-is f k (now (a .line)) x e (a .p) p)
           ∙ ap (λ (b : Bool). b && not (eqb (a .p .kind) 2 && eqb (a .p .condition .size) 0)) (sym (n .rested))
@@ -119,13 +131,18 @@ returns-5 c =
       refl,
       (λ f x k n s nw e p.
           let shown : showsCell (f .cells) (faces (f .judged .fields)) x
-          ≡ true = sym (c .before .before .before .before .before .before .before .before .before .shows-cell .ensures f x k n s p) ∙ not-false (c .before .before .before .before .before .before .before .before .before .shows-cell .result) (c .before .before .before .before .before .before .before .before .if1 .left) in
+          ≡ true = sym (c .before .before .before .before .before .before .before .before .before .shows-cell
+          .ensures f x k n s p) ∙ not-false
+          (c .before .before .before .before .before .before .before .before .before .shows-cell .result)
+          (c .before .before .before .before .before .before .before .before .if1 .left) in
           let unique : keepsNames (faces (f .judged .fields)) x ≡ true =
           ap not (sym (names-here f k (now (a .line)) x e (a .r) n nw)
-          ∙ sym (c .before .before .before .before .before .clashes .ensures) ∙ c .before .before .before .before .if2 .left) in
+          ∙ sym (c .before .before .before .before .before .clashes .ensures)
+          ∙ c .before .before .before .before .if2 .left) in
           let typed : keepsTypes nameReadable (faces (f .judged .fields)) x ≡ true =
           sym (types-are f k (now (a .line)) x e (a .r) n nw)
-          ∙ sym (c .before .before .before .types-kept .ensures x p) ∙ not-false (c .before .before .before .types-kept .result) (c .before .before .if3 .left) in
+          ∙ sym (c .before .before .before .types-kept .ensures x p)
+          ∙ not-false (c .before .before .before .types-kept .result) (c .before .before .if3 .left) in
           let rested : keepsRest (faces (f .judged .fields)) x ≡ true =
           not-flip (keepsRest (faces (f .judged .fields)) x) (sym (rest-is f k (now (a .line)) x e (a .p) p)
           ∙ ap (λ (b : Bool). b && not (eqb (a .p .kind) 2 && eqb (a .p .condition .size) 0)) (sym (n .rested))

@@ -89,15 +89,23 @@ returns-2 c =
     .before .args in
     let l = a .line .now in
     let n = named-line l
-    (c .before .before .before .before .before .before .before .before .before .before .before .article .result) (sym (c .before .before .before .before .before .before .before .before .is-named .ensures) ∙ c .before .before .before .before .before .before .before .if2 .taken) in
+    (c .before .before .before .before .before .before .before .before .before .before .before .article .result)
+    (sym (c .before .before .before .before .before .before .before .before .is-named .ensures)
+    ∙ c .before .before .before .before .before .before .before .if2 .taken) in
     let w = name-put l (c .before .before .before .before .before .before .before .before .before .before .before
-    .article .result) (c .before .before .before .before .before .before .before .before .before .before .before .article .ensures .0) n (c .before .before .before .before .before .before .before .before .before .before .before .before .before .before .pre .2) (c .before .before .before .before .put .ensures) in
+    .article .result) (c .before .before .before .before .before .before .before .before .before .before .before
+    .article .ensures .0) n
+    (c .before .before .before .before .before .before .before .before .before .before .before .before .before
+    .before .pre .2) (c .before .before .before .before .put .ensures) in
     let e = c .before .before .before .before .before .before .before .before .before .before .before .article
-    .ensures .1 ∙ behind-read l (c .before .before .before .before .before .before .before .before .before .before .before .article .result) (c .before .before .before .before .before .before .before .before .before .before .if1 .left) ∙ n .isRead in
+    .ensures .1 ∙ behind-read l
+    (c .before .before .before .before .before .before .before .before .before .before .before .article .result)
+    (c .before .before .before .before .before .before .before .before .before .before .if1 .left) ∙ n .isRead in
     rw (c .onward .ensures) (
       (
         room-name (a .r) (c .before .before .before .before .put .result)
-            (c .before .before .before .before .before .before .before .before .before .before .before .before .before .before .pre .0) (omega (arith, w .end, n .short)),
+            (c .before .before .before .before .before .before .before .before .before .before .before .before
+            .before .before .pre .0) (omega (arith, w .end, n .short)),
         omega arith,
       ),
       (λ cells f labels shorts names k b h. rw e (holds-name f (a .r) h (k .head b) _
@@ -114,7 +122,8 @@ returns-3 c =
     let o = unnamed-line l (c .before .before .before .before .before .article .result) (sym
     (c .before .before .is-named .ensures) ∙ c .before .if2 .left) in
     let e = c .before .before .before .before .before .article .ensures .1
-    ∙ behind-read l (c .before .before .before .before .before .article .result) (c .before .before .before .before .if1 .left) ∙ o in
+    ∙ behind-read l (c .before .before .before .before .before .article .result)
+    (c .before .before .before .before .if1 .left) ∙ o in
     rw (c .wrong2 .ensures) (
       taken-wrong (a .r) (c .before .before .before .before .before .before .before .before .pre .0),
       (λ cells f labels shorts names k b h. rw e (holds-wrong f (a .r) h)),

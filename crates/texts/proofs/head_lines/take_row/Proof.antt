@@ -72,7 +72,8 @@ returns-2 c =
     let room = c .before .before .before .before .before .before .before .before .before .before .before .before .pre
     .0 in
     let p = row-some _ _ _ _ (readRow (r .width) l) _ _
-    (c .before .before .before .before .before .before .before .before .put-row .ensures) (c .before .before .before .before .row .given .1) in
+    (c .before .before .before .before .before .before .before .before .put-row .ensures)
+    (c .before .before .before .before .row .given .1) in
     let e : (f : Found) → r .width ≡ f .width → readRow (f .width) l ≡ some (p .row) =
     λ f w. subst (λ (v : ℕ). readRow v l ≡ some (p .row)) w (p .isRead) in
     rw (c .onward .ensures) (
@@ -80,7 +81,8 @@ returns-2 c =
       (λ table f labels shorts names k b h. rw (e f (h .counts .width)) (holds-over f r h (k .head b) (p .row)
           (p .writes)
           (omega (arith, c .before .if1 .taken, p .count, h .counts .cells)) (omega
-          (arith, room .slots, room .cells, c .before .before .before .before .before .before .before .before .before .before .before .before .pre .2)))),
+          (arith, room .slots, room .cells, c .before .before .before .before .before .before .before .before .before
+          .before .before .before .pre .2)))),
     )
 
 add-r : tie.Need-add-r
@@ -103,7 +105,8 @@ returns-3 c =
     let room = c .before .before .before .before .before .before .before .before .before .before .before .before
     .before .before .pre .0 in
     let p = row-some _ _ _ _ (readRow (r .width) l) _ _
-    (c .before .before .before .before .before .before .before .before .before .before .put-row .ensures) (c .before .before .before .before .before .before .row .given .1) in
+    (c .before .before .before .before .before .before .before .before .before .before .put-row .ensures)
+    (c .before .before .before .before .before .before .row .given .1) in
     let e : (f : Found) → r .width ≡ f .width → readRow (f .width) l ≡ some (p .row) =
     λ f w. subst (λ (v : ℕ). readRow v l ≡ some (p .row)) w (p .isRead) in
     let n = row-length (r .width) l (p .row) (p .isRead) in

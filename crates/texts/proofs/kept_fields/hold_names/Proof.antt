@@ -34,7 +34,8 @@ element-set-from-labels : tie.Need-element-set-from-labels
 element-set-from-labels c = search needs
 
 short-of-requires : tie.Need-short-of-requires
-short-of-requires c κs = let a = c .before .before .before .args in span-fits (length (now (a .line))) (a .p) (c .before .before .before .pre .2) (c .before .before .before .pre .0)
+short-of-requires c κs = let a = c .before .before .before .args in span-fits (length (now (a .line))) (a .p)
+    (c .before .before .before .pre .2) (c .before .before .before .pre .0)
 
 mul-names : tie.Need-mul-names
 mul-names c = search needs
@@ -43,7 +44,8 @@ element-set-from-names : tie.Need-element-set-from-names
 element-set-from-names c = search needs
 
 short-of-requires-2 : tie.Need-short-of-requires-2
-short-of-requires-2 c κs = let a = c .before .before .before .before .args in span-fits (length (now (a .line))) (a .p) (c .before .before .before .before .pre .2) (c .before .before .before .before .pre .0)
+short-of-requires-2 c κs = let a = c .before .before .before .before .args in span-fits (length (now (a .line)))
+    (a .p) (c .before .before .before .before .pre .2) (c .before .before .before .before .pre .0)
 
 mul-t13-2 : tie.Need-mul-t13-2
 mul-t13-2 c = search needs

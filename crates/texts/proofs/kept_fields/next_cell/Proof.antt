@@ -15,7 +15,8 @@ returns c =
     (c .before .before .before .pre .0 .cell, (λ f n s. none-next f (a .r) (now (a .cells)) n s (c .if1 .taken)))
 
 slot-end-requires : tie.Need-slot-end-requires
-slot-end-requires c κs = let k = c .before .before .before .pre .0 in omega (arith, k .cell, k .slots, k .cells, c .before .before .before .pre .1)
+slot-end-requires c κs = let k = c .before .before .before .pre .0 in omega
+    (arith, k .cell, k .slots, k .cells, c .before .before .before .pre .1)
 
 returns-2 : tie.Need-returns-2
 returns-2 c =

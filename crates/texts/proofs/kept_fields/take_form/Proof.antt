@@ -26,10 +26,16 @@ use Rattle.texts.proofs.records.put_field.Reads as put-field-reads
 use Rattle.texts.proofs.states.onward.Reads as onward-reads
 
 hold-names-requires : tie.Need-hold-names-requires
-hold-names-requires c κs = (c .before .before .before .before .before .before .pre .2 .2 .0 .fits, omega (arith, c .before .before .before .before .before .before .pre .0 .0 .fields, c .before .before .before .before .before .before .pre .1), c .before .before .before .before .before .before .pre .2 .3)
+hold-names-requires c κs = (c .before .before .before .before .before .before .pre .2 .2 .0 .fits, omega
+    (arith, c .before .before .before .before .before .before .pre .0 .0 .fields, c .before .before .before .before
+    .before .before .pre .1), c .before .before .before .before .before .before .pre .2 .3)
 
 later-rule-requires : tie.Need-later-rule-requires
-later-rule-requires c κs = (c .before .before .before .before .before .before .before .before .before .before .pre .0 .0, c .before .before .before .before .before .before .before .before .before .before .pre .0 .1, omega (arith, c .before .before .before .before .before .before .before .before .before .before .pre .0 .0 .fields, c .before .before .before .before .before .before .before .before .before .before .pre .1), c .before .before .before .before .before .before .before .before .before .before .pre .0 .2, c .before .before .before .before .before .before .before .before .before .before .pre .2 .2 .0 .fits, c .before .before .before .before .before .before .before .before .before .before .pre .0 .3)
+later-rule-requires c κs =
+    (c .before .before .before .before .before .before .before .before .before .before .pre .0 .0, c .before .before
+    .before .before .before .before .before .before .before .before .pre .0 .1, omega
+    (arith, c .before .before .before .before .before .before .before .before .before .before .pre .0 .0 .fields, c
+    .before .before .before .before .before .before .before .before .before .before .pre .1), c .before .before .before .before .before .before .before .before .before .before .pre .0 .2, c .before .before .before .before .before .before .before .before .before .before .pre .2 .2 .0 .fits, c .before .before .before .before .before .before .before .before .before .before .pre .0 .3)
 
 lower-requires : tie.Need-lower-requires
 lower-requires c κs = search needs
@@ -39,100 +45,172 @@ is-open-requires c κs = search needs
 
 put-field-requires : tie.Need-put-field-requires
 put-field-requires c κs =
-    let a = c .before .before .before .before .before .before .before .before .before .before .before .before .before .before .before .before .args in
-    let x = c .before .before .before .before .before .before .before .before .before .before .before .before .before .before .before .before .pre .2 .0 in
-    let small = c .before .before .before .before .before .before .before .before .before .before .before .before .before .before .before .before .pre .2 .2 in
-    let m = field-most (now (a .line)) x (a .p) (line-formed (now (a .line)) x (c .before .before .before .before .before .before .before .before .before .before .before .before .before .before .before .before .pre .2 .1)) (small .0) (small .1) in
-    let k = c .before .before .before .before .before .before .before .before .before .before .before .before .before .before .before .before .pre .0 .0 in
-    let few : a .r .fields < fieldsMost = omega (arith, k .fields, c .before .before .before .before .before .before .before .before .before .before .before .before .before .before .before .before .pre .1) in
-    (c .before .before .before .before .before .before .before .before .before .before .before .before .before .before .before .before .pre .0 .2, few, (x, small), omega (arith, m, k .end, few, c .before .before .before .before .before .before .before .before .before .before .before .before .before .before .before .before .pre .0 .4))
+    let a = c .before .before .before .before .before .before .before .before .before .before .before .before .before
+        .before .before .before .args in
+    let x = c .before .before .before .before .before .before .before .before .before .before .before .before .before
+        .before .before .before .pre .2 .0 in
+    let small = c .before .before .before .before .before .before .before .before .before .before .before .before
+        .before .before .before .before .pre .2 .2 in
+    let m = field-most (now (a .line)) x (a .p) (line-formed (now (a .line)) x
+        (c .before .before .before .before .before .before .before .before .before .before .before .before .before
+        .before .before .before .pre .2 .1)) (small .0) (small .1) in
+    let k = c .before .before .before .before .before .before .before .before .before .before .before .before .before
+        .before .before .before .pre .0 .0 in
+    let few : a .r .fields < fieldsMost = omega
+        (arith, k .fields, c .before .before .before .before .before .before .before .before .before .before .before
+        .before .before .before .before .before .pre .1) in
+    (c .before .before .before .before .before .before .before .before .before .before .before .before .before
+    .before .before .before .pre .0 .2, few, (x, small), omega
+    (arith, m, k .end, few, c .before .before .before .before .before .before .before .before .before .before .before
+    .before .before .before .before .before .pre .0 .4))
 
 next-cell-requires : tie.Need-next-cell-requires
-next-cell-requires c κs = (c .before .before .before .before .before .before .before .before .before .before .before .before .before .before .before .before .before .before .before .pre .0 .0, c .before .before .before .before .before .before .before .before .before .before .before .before .before .before .before .before .before .before .before .pre .0 .3)
+next-cell-requires c κs =
+    (c .before .before .before .before .before .before .before .before .before .before .before .before .before
+    .before .before .before .before .before .before .pre .0 .0, c .before .before .before .before .before .before
+    .before .before .before .before .before .before .before .before .before .before .before .before .before .pre .0 .3)
 
 rests-requires : tie.Need-rests-requires
 rests-requires c κs = search needs
 
 add-r : tie.Need-add-r
-add-r c = let q = c .before .before .before .before .before .before .before .before .before .before .before .before .before .before .before .before .before .before .before .before .before .before .pre .1 in let k = c .before .before .before .before .before .before .before .before .before .before .before .before .before .before .before .before .before .before .before .before .before .before .pre .0 .0 .fields in search (needs, q, k)
+add-r c = let q = c .before .before .before .before .before .before .before .before .before .before .before .before
+    .before .before .before .before .before .before .before .before .before .before .pre .1 in let k =
+    c .before .before .before .before .before .before .before .before .before .before .before .before .before .before
+    .before .before .before .before .before .before .before .before .pre .0 .0 .fields in search (needs, q, k)
 
 add-r-2 : tie.Need-add-r-2
-add-r-2 c = let q = c .before .before .before .before .before .before .before .before .before .before .before .before .before .before .before .before .before .before .before .before .before .before .before .pre .1 in let k = c .before .before .before .before .before .before .before .before .before .before .before .before .before .before .before .before .before .before .before .before .before .before .before .pre .0 .0 .fields in search (needs, q, k)
+add-r-2 c = let q = c .before .before .before .before .before .before .before .before .before .before .before .before
+    .before .before .before .before .before .before .before .before .before .before .before .pre .1 in let k =
+    c .before .before .before .before .before .before .before .before .before .before .before .before .before .before
+    .before .before .before .before .before .before .before .before .before .pre .0 .0 .fields in search (needs, q, k)
 
 onward-requires : tie.Need-onward-requires
-onward-requires c κs = c .before .before .before .before .before .before .before .before .before .before .before .before .before .before .before .before .before .before .before .before .before .before .before .pre .0 .1
+onward-requires c κs = c .before .before .before .before .before .before .before .before .before .before .before
+    .before .before .before .before .before .before .before .before .before .before .before .before .pre .0 .1
 
 same-length : tie.Need-same-length
 same-length c = search needs
 
 returns : tie.Need-returns
 returns c =
-    let a = c .before .before .before .before .before .before .before .before .before .before .before .before .before .before .before .before .before .before .before .before .before .before .before .before .args in
+    let a = c .before .before .before .before .before .before .before .before .before .before .before .before .before
+        .before .before .before .before .before .before .before .before .before .before .before .args in
     let r = a .r in
     let l = now (a .line) in
-    let room = c .before .before .before .before .before .before .before .before .before .before .before .before .before .before .before .before .before .before .before .before .before .before .before .before .pre .0 .0 in
-    let x = c .before .before .before .before .before .before .before .before .before .before .before .before .before .before .before .before .before .before .before .before .before .before .before .before .pre .2 .0 in
-    let isForm = c .before .before .before .before .before .before .before .before .before .before .before .before .before .before .before .before .before .before .before .before .before .before .before .before .pre .2 .1 in
-    let small = c .before .before .before .before .before .before .before .before .before .before .before .before .before .before .before .before .before .before .before .before .before .before .before .before .pre .2 .2 in
-    let few : r .fields < fieldsMost = omega (arith, room .fields, c .before .before .before .before .before .before .before .before .before .before .before .before .before .before .before .before .before .before .before .before .before .before .before .before .pre .1) in
-    let told : isTold (noteOf (c .before .before .before .before .before .before .before .before .before .before .before .before .lower .result)) ≡ true =
-    ap isTold (c .before .before .before .before .before .before .before .before .before .before .before .before .lower .ensures) ∙ told-lower (noteOf (r .note)) (noteOf (c .before .before .before .before .before .before .before .before .before .before .before .before .before .later-rule .result)) (room .told)
-    (c .before .before .before .before .before .before .before .before .before .before .before .before .before .later-rule .ensures .0) in
+    let room = c .before .before .before .before .before .before .before .before .before .before .before .before
+        .before .before .before .before .before .before .before .before .before .before .before .before .pre .0 .0 in
+    let x = c .before .before .before .before .before .before .before .before .before .before .before .before .before
+        .before .before .before .before .before .before .before .before .before .before .before .pre .2 .0 in
+    let isForm = c .before .before .before .before .before .before .before .before .before .before .before .before
+        .before .before .before .before .before .before .before .before .before .before .before .before .pre .2 .1 in
+    let small = c .before .before .before .before .before .before .before .before .before .before .before .before
+        .before .before .before .before .before .before .before .before .before .before .before .before .pre .2 .2 in
+    let few : r .fields < fieldsMost = omega
+        (arith, room .fields, c .before .before .before .before .before .before .before .before .before .before
+        .before .before .before .before .before .before .before .before .before .before .before .before .before
+        .before .pre .1) in
+    let told : isTold (noteOf
+        (c .before .before .before .before .before .before .before .before .before .before .before .before .lower
+        .result)) ≡ true =
+    ap isTold (c .before .before .before .before .before .before .before .before .before .before .before .before
+    .lower .ensures) ∙ told-lower (noteOf (r .note)) (noteOf
+    (c .before .before .before .before .before .before .before .before .before .before .before .before .before
+    .later-rule .result)) (room .told)
+    (c .before .before .before .before .before .before .before .before .before .before .before .before .before
+    .later-rule .ensures .0) in
     let w = c .before .before .before .before .before .before .before .put-field .ensures x small in
     let m = field-most l x (a .p) (line-formed l x isForm) (small .0) (small .1) in
     let z = field-end _ _ l x (a .p) (small .0) w in
     rw (c .onward .ensures) (
       (
-        room-kept r (c .before .before .before .before .next-cell .result) (c .before .before .before .before .before .before .before .put-field .result) (c .before .before .before .rests .result) (c .before .before .before .before .before .before .before .before .before .before .before .before .lower .result) room (c .before .before .before .before .before .before .before .before .before .before .before .before .before .before .before .before .before .before .before .before .before .before .before .before .pre .1)
+        room-kept r (c .before .before .before .before .next-cell .result)
+        (c .before .before .before .before .before .before .before .put-field .result)
+        (c .before .before .before .rests .result)
+        (c .before .before .before .before .before .before .before .before .before .before .before .before .lower
+        .result) room (c .before .before .before .before .before .before .before .before .before .before .before .before .before .before .before .before .before .before .before .before .before .before .before .before .pre .1)
             (c .before .before .before .before .next-cell .ensures .0) (omega (arith, z)) (omega (arith, z, m)) told,
         omega arith,
       ),
       (
         w .kept,
         (λ f k full h.
-            let nw = named-with l x (a .p) (small .0) (c .before .before .before .before .before .before .before .before .before .before .before .before .before .before .before .before .before .before .before .before .before .before .before .before .pre .2 .3) f r (h .counts) few (h .named) (c .before .before .before .before .before .before .before .before .before .before .before .before .before .before .before .before .before .hold-names .ensures .0)
-            (c .before .before .before .before .before .before .before .before .before .before .before .before .before .before .before .before .before .hold-names .ensures .1 .0) (c .before .before .before .before .before .before .before .before .before .before .before .before .before .before .before .before .before .hold-names .ensures .1 .1) in
-            let low = c .before .before .before .before .before .before .before .before .before .before .before .before .lower .ensures ∙ form-note f r x (h .counts) (small .1)
-            (c .before .before .before .before .before .before .before .before .before .before .before .before .before .later-rule .ensures .1 f x k (h .counts) (h .slots) nw isForm (small .0)) in
+            let nw = named-with l x (a .p) (small .0)
+                (c .before .before .before .before .before .before .before .before .before .before .before .before
+                .before .before .before .before .before .before .before .before .before .before .before .before .pre
+                .2 .3) f r (h .counts) few (h .named)
+                (c .before .before .before .before .before .before .before .before .before .before .before .before .before .before .before .before .before .hold-names .ensures .0)
+            (c .before .before .before .before .before .before .before .before .before .before .before .before
+            .before .before .before .before .before .hold-names .ensures .1 .0)
+            (c .before .before .before .before .before .before .before .before .before .before .before .before
+            .before .before .before .before .before .hold-names .ensures .1 .1) in
+            let low = c .before .before .before .before .before .before .before .before .before .before .before
+                .before .lower .ensures ∙ form-note f r x (h .counts) (small .1)
+            (c .before .before .before .before .before .before .before .before .before .before .before .before
+            .before .later-rule .ensures .1 f x k (h .counts) (h .slots) nw isForm (small .0)) in
             holds-open f r h x (record {
               cell = c .before .before .before .before .next-cell .ensures .1 f (h .counts) (h .slots);
               writes = w;
               rested = c .before .before .before .rests .ensures ∙ rests-here f r x (h .counts) l (a .p) (small .0);
               named = nw;
-            }) k (form-short f k l x isForm) (all-formed f k l x isForm) l (c .before .before .before .before .before .before .before .before .before .before .before .before .lower .result) full isForm
-            low (sym (c .before .before .before .before .before .before .before .before .before .before .before .is-open .ensures) ∙ c .before .before .before .before .before .before .before .before .before .before .if1 .taken)),
+            }) k (form-short f k l x isForm) (all-formed f k l x isForm) l
+            (c .before .before .before .before .before .before .before .before .before .before .before .before .lower
+            .result) full isForm
+            low (sym (c .before .before .before .before .before .before .before .before .before .before .before
+            .is-open .ensures) ∙ c .before .before .before .before .before .before .before .before .before .before
+            .if1 .taken)),
       ),
     )
 
 add-r-3 : tie.Need-add-r-3
-add-r-3 c = let q = c .before .before .before .before .before .before .before .before .before .before .before .before .before .before .before .pre .1 in let k = c .before .before .before .before .before .before .before .before .before .before .before .before .before .before .before .pre .0 .0 .fields in search (needs, q, k)
+add-r-3 c = let q = c .before .before .before .before .before .before .before .before .before .before .before .before
+    .before .before .before .pre .1 in let k = c .before .before .before .before .before .before .before .before
+    .before .before .before .before .before .before .before .pre .0 .0 .fields in search (needs, q, k)
 
 onward-requires-2 : tie.Need-onward-requires-2
-onward-requires-2 c κs = c .before .before .before .before .before .before .before .before .before .before .before .before .before .before .before .pre .0 .1
+onward-requires-2 c κs = c .before .before .before .before .before .before .before .before .before .before .before
+    .before .before .before .before .pre .0 .1
 
 returns-2 : tie.Need-returns-2
 returns-2 c =
-    let a = c .before .before .before .before .before .before .before .before .before .before .before .before .before .before .before .before .args in
+    let a = c .before .before .before .before .before .before .before .before .before .before .before .before .before
+        .before .before .before .args in
     let r = a .r in
     let l = now (a .line) in
-    let room = c .before .before .before .before .before .before .before .before .before .before .before .before .before .before .before .before .pre .0 .0 in
-    let x = c .before .before .before .before .before .before .before .before .before .before .before .before .before .before .before .before .pre .2 .0 in
-    let isForm = c .before .before .before .before .before .before .before .before .before .before .before .before .before .before .before .before .pre .2 .1 in
-    let small = c .before .before .before .before .before .before .before .before .before .before .before .before .before .before .before .before .pre .2 .2 in
-    let few : r .fields < fieldsMost = omega (arith, room .fields, c .before .before .before .before .before .before .before .before .before .before .before .before .before .before .before .before .pre .1) in
+    let room = c .before .before .before .before .before .before .before .before .before .before .before .before
+        .before .before .before .before .pre .0 .0 in
+    let x = c .before .before .before .before .before .before .before .before .before .before .before .before .before
+        .before .before .before .pre .2 .0 in
+    let isForm = c .before .before .before .before .before .before .before .before .before .before .before .before
+        .before .before .before .before .pre .2 .1 in
+    let small = c .before .before .before .before .before .before .before .before .before .before .before .before
+        .before .before .before .before .pre .2 .2 in
+    let few : r .fields < fieldsMost = omega
+        (arith, room .fields, c .before .before .before .before .before .before .before .before .before .before
+        .before .before .before .before .before .before .pre .1) in
     let told : isTold (noteOf (c .before .before .before .before .lower .result)) ≡ true =
-    ap isTold (c .before .before .before .before .lower .ensures) ∙ told-lower (noteOf (r .note)) (noteOf (c .before .before .before .before .before .later-rule .result)) (room .told)
+    ap isTold (c .before .before .before .before .lower .ensures)
+    ∙ told-lower (noteOf (r .note)) (noteOf (c .before .before .before .before .before .later-rule .result))
+    (room .told)
     (c .before .before .before .before .before .later-rule .ensures .0) in
     rw (c .onward2 .ensures) (
-      (room-refused r (c .before .before .before .before .lower .result) room (c .before .before .before .before .before .before .before .before .before .before .before .before .before .before .before .before .pre .1) told, omega arith),
+      (room-refused r (c .before .before .before .before .lower .result) room
+      (c .before .before .before .before .before .before .before .before .before .before .before .before .before
+      .before .before .before .pre .1) told, omega arith),
       (
         refl,
         (λ f k full h.
-            let nw = named-with l x (a .p) (small .0) (c .before .before .before .before .before .before .before .before .before .before .before .before .before .before .before .before .pre .2 .3) f r (h .counts) few (h .named) (c .before .before .before .before .before .before .before .before .before .hold-names .ensures .0)
-            (c .before .before .before .before .before .before .before .before .before .hold-names .ensures .1 .0) (c .before .before .before .before .before .before .before .before .before .hold-names .ensures .1 .1) in
+            let nw = named-with l x (a .p) (small .0)
+                (c .before .before .before .before .before .before .before .before .before .before .before .before
+                .before .before .before .before .pre .2 .3) f r (h .counts) few (h .named)
+                (c .before .before .before .before .before .before .before .before .before .hold-names .ensures .0)
+            (c .before .before .before .before .before .before .before .before .before .hold-names .ensures .1 .0)
+            (c .before .before .before .before .before .before .before .before .before .hold-names .ensures .1 .1) in
             let low = c .before .before .before .before .lower .ensures ∙ form-note f r x (h .counts) (small .1)
-            (c .before .before .before .before .before .later-rule .ensures .1 f x k (h .counts) (h .slots) nw isForm (small .0)) in
-            holds-closed f r (holds-named f r x h nw) l x (c .before .before .before .before .lower .result) full isForm low
+            (c .before .before .before .before .before .later-rule .ensures .1 f x k (h .counts)
+            (h .slots) nw isForm (small .0)) in
+            holds-closed f r (holds-named f r x h nw) l x
+            (c .before .before .before .before .lower .result) full isForm low
             (sym (c .before .before .before .is-open .ensures) ∙ c .before .before .if1 .left)),
       ),
     )

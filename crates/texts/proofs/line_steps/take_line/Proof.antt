@@ -33,7 +33,9 @@ enum-told : tie.Need-enum-told
 enum-told c = search needs
 
 take-opening-requires : tie.Need-take-opening-requires
-take-opening-requires c κs = (c .before .before .before .before .before .before .pre .0, c .before .before .before .before .before .before .pre .1, omega (arith, c .before .before .before .before .before .before .pre .4))
+take-opening-requires c κs =
+    (c .before .before .before .before .before .before .pre .0, c .before .before .before .before .before .before
+    .pre .1, omega (arith, c .before .before .before .before .before .before .pre .4))
 
 enum-told-2 : tie.Need-enum-told-2
 enum-told-2 c = search needs
@@ -45,7 +47,8 @@ enum-told-3 : tie.Need-enum-told-3
 enum-told-3 c = search needs
 
 take-ruler-requires : tie.Need-take-ruler-requires
-take-ruler-requires c κs = (c .before .before .before .before .before .pre .0, c .before .before .before .before .before .pre .1)
+take-ruler-requires c κs =
+    (c .before .before .before .before .before .pre .0, c .before .before .before .before .before .pre .1)
 
 enum-told-4 : tie.Need-enum-told-4
 enum-told-4 c = search needs
@@ -69,7 +72,9 @@ enum-told-6 : tie.Need-enum-told-6
 enum-told-6 c = search needs
 
 take-row-requires : tie.Need-take-row-requires
-take-row-requires c κs = (c .before .before .before .before .before .before .pre .0, c .before .before .before .before .before .before .pre .1, c .before .before .before .before .before .before .pre .3)
+take-row-requires c κs =
+    (c .before .before .before .before .before .before .pre .0, c .before .before .before .before .before .before
+    .pre .1, c .before .before .before .before .before .before .pre .3)
 
 enum-told-7 : tie.Need-enum-told-7
 enum-told-7 c = search needs
@@ -84,7 +89,9 @@ enum-told-8 : tie.Need-enum-told-8
 enum-told-8 c = search needs
 
 take-row-or-blank-requires : tie.Need-take-row-or-blank-requires
-take-row-or-blank-requires c κs = (c .before .before .before .before .before .before .pre .0, c .before .before .before .before .before .before .pre .1, c .before .before .before .before .before .before .pre .3)
+take-row-or-blank-requires c κs =
+    (c .before .before .before .before .before .before .pre .0, c .before .before .before .before .before .before
+    .pre .1, c .before .before .before .before .before .before .pre .3)
 
 enum-told-9 : tie.Need-enum-told-9
 enum-told-9 c = search needs
@@ -183,12 +190,14 @@ returns-4 c =
     let told : (f : Found) → stageOf (r .stage) ≡ f .stage → f .stage ≡ fold.unitsRuler =
     λ f e. sym e ∙ ap stageOf (c .before .before .enum-told4 .given .1) in
     rw (c .expect2 .ensures) (
-      taken-expect (c .before .is-units .result) r at.TopBorder (c .before .before .before .before .before .before .before .pre .0),
+      taken-expect (c .before .is-units .result) r at.TopBorder
+      (c .before .before .before .before .before .before .before .pre .0),
       (
         refl,
         refl,
         (λ f k h. line-at f l fold.unitsRuler (told f (h .counts .stage))
-            (holds-expect f r h (units (f .width)) l at.TopBorder _ (c .before .is-units .ensures ∙ ap (λ (w : ℕ). same l (units w)) (h .counts .width)))),
+            (holds-expect f r h (units (f .width)) l at.TopBorder _ (c .before .is-units .ensures
+            ∙ ap (λ (w : ℕ). same l (units w)) (h .counts .width)))),
       ),
     )
 
@@ -200,12 +209,14 @@ returns-5 c =
     let told : (f : Found) → stageOf (r .stage) ≡ f .stage → f .stage ≡ fold.topBorder =
     λ f e. sym e ∙ ap stageOf (c .before .before .enum-told5 .given .1) in
     rw (c .expect3 .ensures) (
-      taken-expect (c .before .is-border .result) r at.FirstRow (c .before .before .before .before .before .before .before .pre .0),
+      taken-expect (c .before .is-border .result) r at.FirstRow
+      (c .before .before .before .before .before .before .before .pre .0),
       (
         refl,
         refl,
         (λ f k h. line-at f l fold.topBorder (told f (h .counts .stage))
-            (holds-expect f r h (border (f .width)) l at.FirstRow _ (c .before .is-border .ensures ∙ ap (λ (w : ℕ). same l (border w)) (h .counts .width)))),
+            (holds-expect f r h (border (f .width)) l at.FirstRow _ (c .before .is-border .ensures
+            ∙ ap (λ (w : ℕ). same l (border w)) (h .counts .width)))),
       ),
     )
 
@@ -238,12 +249,14 @@ returns-7 c =
     let told : (f : Found) → stageOf (r .stage) ≡ f .stage → f .stage ≡ fold.rowBorder =
     λ f e. sym e ∙ ap stageOf (c .before .before .enum-told7 .given .1) in
     rw (c .expect4 .ensures) (
-      taken-expect (c .before .is-border2 .result) r at.RowOrBlank (c .before .before .before .before .before .before .before .pre .0),
+      taken-expect (c .before .is-border2 .result) r at.RowOrBlank
+      (c .before .before .before .before .before .before .before .pre .0),
       (
         refl,
         refl,
         (λ f k h. line-at f l fold.rowBorder (told f (h .counts .stage))
-            (holds-expect f r h (border (f .width)) l at.RowOrBlank _ (c .before .is-border2 .ensures ∙ ap (λ (w : ℕ). same l (border w)) (h .counts .width)))),
+            (holds-expect f r h (border (f .width)) l at.RowOrBlank _ (c .before .is-border2 .ensures
+            ∙ ap (λ (w : ℕ). same l (border w)) (h .counts .width)))),
       ),
     )
 
@@ -276,7 +289,8 @@ returns-9 c =
     let told : (f : Found) → stageOf (r .stage) ≡ f .stage → f .stage ≡ fold.whereLine =
     λ f e. sym e ∙ ap stageOf (c .before .before .before .enum-told9 .given .1) in
     rw (c .expect5 .ensures) (
-      taken-expect (c .before .same-words .result) r at.LastBlank (c .before .before .before .before .before .before .before .before .pre .0),
+      taken-expect (c .before .same-words .result) r at.LastBlank
+      (c .before .before .before .before .before .before .before .before .pre .0),
       (
         refl,
         refl,
@@ -311,10 +325,13 @@ same-length-5 c = search needs
 returns-11 : tie.Need-returns-11
 unfolding fold.linedAt
 returns-11 c =
-    let r = c .before .before .before .before .before .before .before .before .before .before .before .before .before .args .r in
-    let l = now (c .before .before .before .before .before .before .before .before .before .before .before .before .before .args .line) in
+    let r = c .before .before .before .before .before .before .before .before .before .before .before .before .before
+        .args .r in
+    let l = now (c .before .before .before .before .before .before .before .before .before .before .before .before
+        .before .args .line) in
     let told : (f : Found) → stageOf (r .stage) ≡ f .stage → f .stage ≡ fold.firstField =
-    λ f e. sym e ∙ ap stageOf (c .before .before .before .before .before .before .before .before .enum-told11 .given .1) in
+    λ f e. sym e ∙ ap stageOf
+    (c .before .before .before .before .before .before .before .before .enum-told11 .given .1) in
     let q = c .before .before .take-field .ensures in (
       q .0,
       (
@@ -335,10 +352,13 @@ same-length-7 c = search needs
 returns-12 : tie.Need-returns-12
 unfolding fold.linedAt
 returns-12 c =
-    let r = c .before .before .before .before .before .before .before .before .before .before .before .before .before .args .r in
-    let l = now (c .before .before .before .before .before .before .before .before .before .before .before .before .before .args .line) in
+    let r = c .before .before .before .before .before .before .before .before .before .before .before .before .before
+        .args .r in
+    let l = now (c .before .before .before .before .before .before .before .before .before .before .before .before
+        .before .args .line) in
     let told : (f : Found) → stageOf (r .stage) ≡ f .stage → f .stage ≡ fold.fieldLine =
-    λ f e. sym e ∙ ap stageOf (c .before .before .before .before .before .before .before .before .enum-told12 .given .1) in
+    λ f e. sym e ∙ ap stageOf
+    (c .before .before .before .before .before .before .before .before .enum-told12 .given .1) in
     let q = c .before .before .take-field2 .ensures in (
       q .0,
       (
@@ -357,7 +377,8 @@ returns-13 c =
     let l = now (c .before .before .before .before .before .args .line) in
     let told : (f : Found) → stageOf (r .stage) ≡ f .stage → f .stage ≡ fold.lost =
     λ f e. sym e ∙ ap stageOf (c .enum-told13 .given .1) in
-    ((c .before .before .before .before .before .pre .0, omega arith), (refl, refl, (λ f k h. line-at f l fold.lost (told f (h .counts .stage)) h)))
+    ((c .before .before .before .before .before .pre .0, omega arith), (refl, refl, (λ f k h. line-at f l fold.lost
+    (told f (h .counts .stage)) h)))
 
 pub take-line-spec : {M : Type 1} → statement M
 take-line-spec =

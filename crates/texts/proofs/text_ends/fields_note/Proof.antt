@@ -20,7 +20,8 @@ lower-requires c κs = search needs
 returns : tie.Need-returns
 returns c =
     let r = c .before .before .before .args .r in
-    rw (c .before .before .if1 .taken) (c .lower .ensures ∙ ap (λ (a : Note). lower (noteOf (r .note)) (noteOf a)) (c .before .remaining .ensures))
+    rw (c .before .before .if1 .taken) (c .lower .ensures ∙ ap (λ (a : Note). lower (noteOf (r .note)) (noteOf a))
+    (c .before .remaining .ensures))
 
 early-requires : tie.Need-early-requires
 early-requires c κs = search needs

@@ -10,7 +10,8 @@ add-t3 : tie.Need-add-t3
 add-t3 c = search needs
 
 returns : tie.Need-returns
-returns c = let r = c .before .before .before .args .r in rw (lt-ltb (r .fields) (r .cells) (c .before .if1 .taken)) refl
+returns c = let r = c .before .before .before .args .r in rw (lt-ltb (r .fields) (r .cells)
+    (c .before .if1 .taken)) refl
 
 returns-2 : tie.Need-returns-2
 returns-2 c = let r = c .before .before .args .r in rw (le-ltb (r .fields) (r .cells) (c .if1 .left)) refl
