@@ -69,10 +69,13 @@ returns-2 c =
     )
 
 types-kept-requires : tie.Need-types-kept-requires
-types-kept-requires c κs =
-    (c .before .before .before .before .before .before .before .before .before .pre .3, c .before .before .before
-    .before .before .before .before .before .before .pre .4, c .before .before .before .before .before .before
-    .before .before .before .pre .2)
+types-kept-requires c κs = (
+  c .before .before .before .before .before .before .before .before .before .pre .3,
+  c .before .before .before
+      .before .before .before .before .before .before .pre .4,
+  c .before .before .before .before .before .before
+      .before .before .before .pre .2,
+)
 
 returns-3 : tie.Need-returns-3
 unfolding noteOf

@@ -80,9 +80,13 @@ returns-2 c =
       taken-onward r at.RowBorder (note 4 0) refl room,
       (λ table f labels shorts names k b h. rw (e f (h .counts .width)) (holds-over f r h (k .head b) (p .row)
           (p .writes)
-          (omega (arith, c .before .if1 .taken, p .count, h .counts .cells)) (omega
-          (arith, room .slots, room .cells, c .before .before .before .before .before .before .before .before .before
-          .before .before .before .pre .2)))),
+          (omega (arith, c .before .if1 .taken, p .count, h .counts .cells)) (omega (
+            arith,
+            room .slots,
+            room .cells,
+            c .before .before .before .before .before .before .before .before .before
+                .before .before .before .pre .2,
+          )))),
     )
 
 add-r : tie.Need-add-r

@@ -36,8 +36,8 @@ returns-2 c =
     let q = c .before .before .take-row .ensures in (
       q .0,
       (λ table f labels shorts names k b h. rw (filled-nil (now
-      (c .before .before .before .before .before .before .before .args .line))
-      (c .before .before .before .before .if1 .left)) (q .1 table f labels shorts
+          (c .before .before .before .before .before .before .before .args .line))
+          (c .before .before .before .before .if1 .left)) (q .1 table f labels shorts
           names k b h)),
     )
 

@@ -40,13 +40,16 @@ returns-2 c =
     let l = a .line .now in
     let w = c .before .before .before .ruler-width .result in
     let ne : widthOr (readTens l) ≡ 0 → ⊥ = λ e. c .before .before .if1 .left
-        (c .before .before .before .ruler-width .ensures ∙ e) in
+    (c .before .before .before .ruler-width .ensures ∙ e) in
     let t = tens-some l ne in
     let e : readTens l ≡ some w = t .0 ∙ ap (λ (n : ℕ). some n) (sym
-        (c .before .before .before .ruler-width .ensures)) in
+    (c .before .before .before .ruler-width .ensures)) in
     rw (c .onward .ensures) (
-      (room-width (a .r) w (c .before .before .before .before .before .pre .0) (omega
-      (arith, t .1, c .before .before .before .ruler-width .ensures)), omega arith),
+      (
+        room-width (a .r) w (c .before .before .before .before .before .pre .0) (omega
+            (arith, t .1, c .before .before .before .ruler-width .ensures)),
+        omega arith,
+      ),
       (λ cells table f labels shorts names k b h. rw e (holds-width f (a .r) h w)),
     )
 

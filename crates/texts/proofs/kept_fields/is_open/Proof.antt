@@ -10,8 +10,11 @@ returns : tie.Need-returns
 returns c = let a = c .before .before .args .a in rw (← note-open a, eq-eqb (a .number) 0 (c .if1 .taken)) refl
 
 returns-2 : tie.Need-returns-2
-returns-2 c = let a = c .before .before .before .args .a in rw (← note-open a, ne-eqb (a .number) 0
-    (c .before .if1 .left)) refl
+returns-2 c = let a = c .before .before .before .args .a in rw (
+  ← note-open a,
+  ne-eqb (a .number) 0
+      (c .before .if1 .left),
+) refl
 
 pub is-open-spec : {M : Type 1} → statement M
 is-open-spec = tie.close (tie.spec returns returns-2)

@@ -32,16 +32,19 @@ returns : tie.Need-returns
 returns c =
     let a = c .before .before .before .before .args in
     let n = note-some (a .number) (a .r .lines + 1) (λ e. absurd (omega
-        (arith, e, c .before .before .before .before .pre .3))) in
+    (arith, e, c .before .before .before .before .pre .3))) in
     let e = c .before .before .lower .ensures ∙ ap (λ (o : Option Answer). lower (noteOf (a .r .note)) o) n in
     let t = told-some (a .number) (a .r .lines + 1) (c .before .before .before .before .pre .3) (omega
-        (arith, c .before .before .before .before .pre .4)) in
+    (arith, c .before .before .before .before .pre .4)) in
     let q : isTold (noteOf (c .before .before .lower .result)) ≡ true =
     ap isTold e ∙ told-lower (noteOf (a .r .note)) (some (refused (a .number) (a .r .lines + 1)))
     (c .before .before .before .before .pre .0 .told) t in
     rw (c .onward .ensures) (
-      (room-refused (a .r) (c .before .before .lower .result) (c .before .before .before .before .pre .0)
-      (c .before .before .before .before .pre .2) q, omega arith),
+      (
+        room-refused (a .r) (c .before .before .lower .result) (c .before .before .before .before .pre .0)
+            (c .before .before .before .before .pre .2) q,
+        omega arith,
+      ),
       (refl, e),
     )
 

@@ -40,7 +40,7 @@ returns c =
       (
         refl,
         (λ f k h. holds-full f r h (now (c .before .before .before .before .before .before .args .line)) (sym
-        (full-same f r (h .counts)) ∙ sym (c .before .before .is-full .ensures)
+            (full-same f r (h .counts)) ∙ sym (c .before .before .is-full .ensures)
             ∙ c .before .if1 .taken)),
       ),
     )
@@ -49,18 +49,23 @@ parts-of-requires : tie.Need-parts-of-requires
 parts-of-requires c κs = c .before .before .before .before .before .pre .2
 
 refuse-line-requires : tie.Need-refuse-line-requires
-refuse-line-requires c κs =
-    (c .before .before .before .before .before .before .before .before .pre .0, c .before .before .before .before
-    .before .before .before .before .pre .1, full-room
-    (c .before .before .before .before .before .before .before .before .args .r) (sym
-    (c .before .before .before .before .is-full .ensures) ∙ c .before .before .before .if1 .left), omega arith, omega arith)
+refuse-line-requires c κs = (
+  c .before .before .before .before .before .before .before .before .pre .0,
+  c .before .before .before .before
+      .before .before .before .before .pre .1,
+  full-room
+      (c .before .before .before .before .before .before .before .before .args .r) (sym
+      (c .before .before .before .before .is-full .ensures) ∙ c .before .before .before .if1 .left),
+  omega arith,
+  omega arith,
+)
 
 returns-2 : tie.Need-returns-2
 returns-2 c =
     let r = c .before .before .before .before .before .before .before .before .before .args .r in
     let l = now (c .before .before .before .before .before .before .before .before .before .args .line) in
     let e = form-none l (readForm l) (c .before .before .before .parts-of .result)
-        (c .before .before .before .parts-of .ensures .1) (c .before .if2 .taken) in
+    (c .before .before .before .parts-of .ensures .1) (c .before .if2 .taken) in
     let q = c .refuse-line .ensures in (
       q .0,
       (
@@ -74,15 +79,17 @@ returns-2 c =
 take-form-requires : tie.Need-take-form-requires
 take-form-requires c κs =
     let l = now (c .before .before .before .before .before .before .before .before .before .before .before .before
-        .before .args .line) in
+    .before .args .line) in
     let x = form-some l (readForm l) (c .before .before .before .before .before .before .before .parts-of .result)
-        (c .before .before .before .before .before .before .before .parts-of .ensures .1)
-        (c .before .before .before .before .before .if2 .left) in
-    (c .before .before .before .before .before .before .before .before .before .before .before .before .before .pre,
-    full-room (c .before .before .before .before .before .before .before .before .before .before .before .before
-    .before .args .r) (sym
-    (c .before .before .before .before .before .before .before .before .before .is-full .ensures)
-    ∙ c .before .before .before .before .before .before .before .before .if1 .left), (x .0, x .1, (x .2, sym (x .2 .small) ∙ c .before .before .before .before .if3 .taken), c .before .before .before .before .before .before .before .parts-of .ensures .0))
+    (c .before .before .before .before .before .before .before .parts-of .ensures .1)
+    (c .before .before .before .before .before .if2 .left) in (
+      c .before .before .before .before .before .before .before .before .before .before .before .before .before .pre,
+      full-room (c .before .before .before .before .before .before .before .before .before .before .before .before
+          .before .args .r) (sym
+          (c .before .before .before .before .before .before .before .before .before .is-full .ensures)
+          ∙ c .before .before .before .before .before .before .before .before .if1 .left),
+      (x .0, x .1, (x .2, sym (x .2 .small) ∙ c .before .before .before .before .if3 .taken), c .before .before .before .before .before .before .before .parts-of .ensures .0),
+    )
 
 same-length : tie.Need-same-length
 same-length c = search needs
@@ -90,28 +97,36 @@ same-length c = search needs
 returns-3 : tie.Need-returns-3
 returns-3 c =
     let r = c .before .before .before .before .before .before .before .before .before .before .before .before .before
-        .before .before .before .args .r in
+    .before .before .before .args .r in
     let q = c .before .before .take-form .ensures in (
       q .0,
-      (q .1 .0, (λ f k h. q .1 .1 f k (sym (full-same f r (h .counts))
-      ∙ sym (c .before .before .before .before .before .before .before .before .before .before .before .before
-      .is-full .ensures) ∙ c .before .before .before .before .before .before .before .before .before .before .before
-      .if1 .left) h)),
+      (
+        q .1 .0,
+        (λ f k h. q .1 .1 f k (sym (full-same f r (h .counts))
+            ∙ sym (c .before .before .before .before .before .before .before .before .before .before .before .before
+            .is-full .ensures) ∙ c .before .before .before .before .before .before .before .before .before .before .before
+            .if1 .left) h),
+      ),
     )
 
 refuse-line-requires-2 : tie.Need-refuse-line-requires-2
-refuse-line-requires-2 c κs =
-    (c .before .before .before .before .before .before .before .before .before .pre .0, c .before .before .before
-    .before .before .before .before .before .before .pre .1, full-room
-    (c .before .before .before .before .before .before .before .before .before .args .r) (sym
-    (c .before .before .before .before .before .is-full .ensures) ∙ c .before .before .before .before .if1 .left), omega arith, omega arith)
+refuse-line-requires-2 c κs = (
+  c .before .before .before .before .before .before .before .before .before .pre .0,
+  c .before .before .before
+      .before .before .before .before .before .before .pre .1,
+  full-room
+      (c .before .before .before .before .before .before .before .before .before .args .r) (sym
+      (c .before .before .before .before .before .is-full .ensures) ∙ c .before .before .before .before .if1 .left),
+  omega arith,
+  omega arith,
+)
 
 returns-4 : tie.Need-returns-4
 returns-4 c =
     let r = c .before .before .before .before .before .before .before .before .before .before .args .r in
     let l = now (c .before .before .before .before .before .before .before .before .before .before .args .line) in
     let x = form-some l (readForm l) (c .before .before .before .before .parts-of .result)
-        (c .before .before .before .before .parts-of .ensures .1) (c .before .before .if2 .left) in
+    (c .before .before .before .before .parts-of .ensures .1) (c .before .before .if2 .left) in
     let q = c .refuse-line2 .ensures in
     let large : all isSmall (trees (x .0)) ≡ false = sym (x .2 .small) ∙ c .before .if3 .left in (
       q .0,

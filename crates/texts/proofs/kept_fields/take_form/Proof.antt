@@ -26,16 +26,32 @@ use Rattle.texts.proofs.records.put_field.Reads as put-field-reads
 use Rattle.texts.proofs.states.onward.Reads as onward-reads
 
 hold-names-requires : tie.Need-hold-names-requires
-hold-names-requires c κs = (c .before .before .before .before .before .before .pre .2 .2 .0 .fits, omega
-    (arith, c .before .before .before .before .before .before .pre .0 .0 .fields, c .before .before .before .before
-    .before .before .pre .1), c .before .before .before .before .before .before .pre .2 .3)
+hold-names-requires c κs = (
+  c .before .before .before .before .before .before .pre .2 .2 .0 .fits,
+  omega (
+    arith,
+    c .before .before .before .before .before .before .pre .0 .0 .fields,
+    c .before .before .before .before
+        .before .before .pre .1,
+  ),
+  c .before .before .before .before .before .before .pre .2 .3,
+)
 
 later-rule-requires : tie.Need-later-rule-requires
-later-rule-requires c κs =
-    (c .before .before .before .before .before .before .before .before .before .before .pre .0 .0, c .before .before
-    .before .before .before .before .before .before .before .before .pre .0 .1, omega
-    (arith, c .before .before .before .before .before .before .before .before .before .before .pre .0 .0 .fields, c
-    .before .before .before .before .before .before .before .before .before .before .pre .1), c .before .before .before .before .before .before .before .before .before .before .pre .0 .2, c .before .before .before .before .before .before .before .before .before .before .pre .2 .2 .0 .fits, c .before .before .before .before .before .before .before .before .before .before .pre .0 .3)
+later-rule-requires c κs = (
+  c .before .before .before .before .before .before .before .before .before .before .pre .0 .0,
+  c .before .before
+      .before .before .before .before .before .before .before .before .pre .0 .1,
+  omega (
+    arith,
+    c .before .before .before .before .before .before .before .before .before .before .pre .0 .0 .fields,
+    c
+        .before .before .before .before .before .before .before .before .before .before .pre .1,
+  ),
+  c .before .before .before .before .before .before .before .before .before .before .pre .0 .2,
+  c .before .before .before .before .before .before .before .before .before .before .pre .2 .2 .0 .fits,
+  c .before .before .before .before .before .before .before .before .before .before .pre .0 .3,
+)
 
 lower-requires : tie.Need-lower-requires
 lower-requires c κs = search needs
@@ -46,29 +62,43 @@ is-open-requires c κs = search needs
 put-field-requires : tie.Need-put-field-requires
 put-field-requires c κs =
     let a = c .before .before .before .before .before .before .before .before .before .before .before .before .before
-        .before .before .before .args in
+    .before .before .before .args in
     let x = c .before .before .before .before .before .before .before .before .before .before .before .before .before
-        .before .before .before .pre .2 .0 in
+    .before .before .before .pre .2 .0 in
     let small = c .before .before .before .before .before .before .before .before .before .before .before .before
-        .before .before .before .before .pre .2 .2 in
+    .before .before .before .before .pre .2 .2 in
     let m = field-most (now (a .line)) x (a .p) (line-formed (now (a .line)) x
-        (c .before .before .before .before .before .before .before .before .before .before .before .before .before
-        .before .before .before .pre .2 .1)) (small .0) (small .1) in
-    let k = c .before .before .before .before .before .before .before .before .before .before .before .before .before
-        .before .before .before .pre .0 .0 in
-    let few : a .r .fields < fieldsMost = omega
-        (arith, k .fields, c .before .before .before .before .before .before .before .before .before .before .before
-        .before .before .before .before .before .pre .1) in
     (c .before .before .before .before .before .before .before .before .before .before .before .before .before
-    .before .before .before .pre .0 .2, few, (x, small), omega
-    (arith, m, k .end, few, c .before .before .before .before .before .before .before .before .before .before .before
-    .before .before .before .before .before .pre .0 .4))
+    .before .before .before .pre .2 .1)) (small .0) (small .1) in
+    let k = c .before .before .before .before .before .before .before .before .before .before .before .before .before
+    .before .before .before .pre .0 .0 in
+    let few : a .r .fields < fieldsMost = omega (
+      arith,
+      k .fields,
+      c .before .before .before .before .before .before .before .before .before .before .before
+          .before .before .before .before .before .pre .1,
+    ) in (
+      c .before .before .before .before .before .before .before .before .before .before .before .before .before
+          .before .before .before .pre .0 .2,
+      few,
+      (x, small),
+      omega (
+        arith,
+        m,
+        k .end,
+        few,
+        c .before .before .before .before .before .before .before .before .before .before .before
+            .before .before .before .before .before .pre .0 .4,
+      ),
+    )
 
 next-cell-requires : tie.Need-next-cell-requires
-next-cell-requires c κs =
-    (c .before .before .before .before .before .before .before .before .before .before .before .before .before
-    .before .before .before .before .before .before .pre .0 .0, c .before .before .before .before .before .before
-    .before .before .before .before .before .before .before .before .before .before .before .before .before .pre .0 .3)
+next-cell-requires c κs = (
+  c .before .before .before .before .before .before .before .before .before .before .before .before .before
+      .before .before .before .before .before .before .pre .0 .0,
+  c .before .before .before .before .before .before
+      .before .before .before .before .before .before .before .before .before .before .before .before .before .pre .0 .3,
+)
 
 rests-requires : tie.Need-rests-requires
 rests-requires c κs = search needs
@@ -95,24 +125,27 @@ same-length c = search needs
 returns : tie.Need-returns
 returns c =
     let a = c .before .before .before .before .before .before .before .before .before .before .before .before .before
-        .before .before .before .before .before .before .before .before .before .before .before .args in
+    .before .before .before .before .before .before .before .before .before .before .before .args in
     let r = a .r in
     let l = now (a .line) in
     let room = c .before .before .before .before .before .before .before .before .before .before .before .before
-        .before .before .before .before .before .before .before .before .before .before .before .before .pre .0 .0 in
+    .before .before .before .before .before .before .before .before .before .before .before .before .pre .0 .0 in
     let x = c .before .before .before .before .before .before .before .before .before .before .before .before .before
-        .before .before .before .before .before .before .before .before .before .before .before .pre .2 .0 in
+    .before .before .before .before .before .before .before .before .before .before .before .pre .2 .0 in
     let isForm = c .before .before .before .before .before .before .before .before .before .before .before .before
-        .before .before .before .before .before .before .before .before .before .before .before .before .pre .2 .1 in
+    .before .before .before .before .before .before .before .before .before .before .before .before .pre .2 .1 in
     let small = c .before .before .before .before .before .before .before .before .before .before .before .before
-        .before .before .before .before .before .before .before .before .before .before .before .before .pre .2 .2 in
-    let few : r .fields < fieldsMost = omega
-        (arith, room .fields, c .before .before .before .before .before .before .before .before .before .before
-        .before .before .before .before .before .before .before .before .before .before .before .before .before
-        .before .pre .1) in
+    .before .before .before .before .before .before .before .before .before .before .before .before .pre .2 .2 in
+    let few : r .fields < fieldsMost = omega (
+      arith,
+      room .fields,
+      c .before .before .before .before .before .before .before .before .before .before
+          .before .before .before .before .before .before .before .before .before .before .before .before .before
+          .before .pre .1,
+    ) in
     let told : isTold (noteOf
-        (c .before .before .before .before .before .before .before .before .before .before .before .before .lower
-        .result)) ≡ true =
+    (c .before .before .before .before .before .before .before .before .before .before .before .before .lower
+    .result)) ≡ true =
     ap isTold (c .before .before .before .before .before .before .before .before .before .before .before .before
     .lower .ensures) ∙ told-lower (noteOf (r .note)) (noteOf
     (c .before .before .before .before .before .before .before .before .before .before .before .before .before
@@ -125,10 +158,10 @@ returns c =
     rw (c .onward .ensures) (
       (
         room-kept r (c .before .before .before .before .next-cell .result)
-        (c .before .before .before .before .before .before .before .put-field .result)
-        (c .before .before .before .rests .result)
-        (c .before .before .before .before .before .before .before .before .before .before .before .before .lower
-        .result) room (c .before .before .before .before .before .before .before .before .before .before .before .before .before .before .before .before .before .before .before .before .before .before .before .before .pre .1)
+            (c .before .before .before .before .before .before .before .put-field .result)
+            (c .before .before .before .rests .result)
+            (c .before .before .before .before .before .before .before .before .before .before .before .before .lower
+            .result) room (c .before .before .before .before .before .before .before .before .before .before .before .before .before .before .before .before .before .before .before .before .before .before .before .before .pre .1)
             (c .before .before .before .before .next-cell .ensures .0) (omega (arith, z)) (omega (arith, z, m)) told,
         omega arith,
       ),
@@ -136,16 +169,16 @@ returns c =
         w .kept,
         (λ f k full h.
             let nw = named-with l x (a .p) (small .0)
-                (c .before .before .before .before .before .before .before .before .before .before .before .before
-                .before .before .before .before .before .before .before .before .before .before .before .before .pre
-                .2 .3) f r (h .counts) few (h .named)
-                (c .before .before .before .before .before .before .before .before .before .before .before .before .before .before .before .before .before .hold-names .ensures .0)
+            (c .before .before .before .before .before .before .before .before .before .before .before .before
+            .before .before .before .before .before .before .before .before .before .before .before .before .pre
+            .2 .3) f r (h .counts) few (h .named)
+            (c .before .before .before .before .before .before .before .before .before .before .before .before .before .before .before .before .before .hold-names .ensures .0)
             (c .before .before .before .before .before .before .before .before .before .before .before .before
             .before .before .before .before .before .hold-names .ensures .1 .0)
             (c .before .before .before .before .before .before .before .before .before .before .before .before
             .before .before .before .before .before .hold-names .ensures .1 .1) in
             let low = c .before .before .before .before .before .before .before .before .before .before .before
-                .before .lower .ensures ∙ form-note f r x (h .counts) (small .1)
+            .before .lower .ensures ∙ form-note f r x (h .counts) (small .1)
             (c .before .before .before .before .before .before .before .before .before .before .before .before
             .before .later-rule .ensures .1 f x k (h .counts) (h .slots) nw isForm (small .0)) in
             holds-open f r h x (record {
@@ -174,36 +207,42 @@ onward-requires-2 c κs = c .before .before .before .before .before .before .bef
 returns-2 : tie.Need-returns-2
 returns-2 c =
     let a = c .before .before .before .before .before .before .before .before .before .before .before .before .before
-        .before .before .before .args in
+    .before .before .before .args in
     let r = a .r in
     let l = now (a .line) in
     let room = c .before .before .before .before .before .before .before .before .before .before .before .before
-        .before .before .before .before .pre .0 .0 in
+    .before .before .before .before .pre .0 .0 in
     let x = c .before .before .before .before .before .before .before .before .before .before .before .before .before
-        .before .before .before .pre .2 .0 in
+    .before .before .before .pre .2 .0 in
     let isForm = c .before .before .before .before .before .before .before .before .before .before .before .before
-        .before .before .before .before .pre .2 .1 in
+    .before .before .before .before .pre .2 .1 in
     let small = c .before .before .before .before .before .before .before .before .before .before .before .before
-        .before .before .before .before .pre .2 .2 in
-    let few : r .fields < fieldsMost = omega
-        (arith, room .fields, c .before .before .before .before .before .before .before .before .before .before
-        .before .before .before .before .before .before .pre .1) in
+    .before .before .before .before .pre .2 .2 in
+    let few : r .fields < fieldsMost = omega (
+      arith,
+      room .fields,
+      c .before .before .before .before .before .before .before .before .before .before
+          .before .before .before .before .before .before .pre .1,
+    ) in
     let told : isTold (noteOf (c .before .before .before .before .lower .result)) ≡ true =
     ap isTold (c .before .before .before .before .lower .ensures)
     ∙ told-lower (noteOf (r .note)) (noteOf (c .before .before .before .before .before .later-rule .result))
     (room .told)
     (c .before .before .before .before .before .later-rule .ensures .0) in
     rw (c .onward2 .ensures) (
-      (room-refused r (c .before .before .before .before .lower .result) room
-      (c .before .before .before .before .before .before .before .before .before .before .before .before .before
-      .before .before .before .pre .1) told, omega arith),
+      (
+        room-refused r (c .before .before .before .before .lower .result) room
+            (c .before .before .before .before .before .before .before .before .before .before .before .before .before
+            .before .before .before .pre .1) told,
+        omega arith,
+      ),
       (
         refl,
         (λ f k full h.
             let nw = named-with l x (a .p) (small .0)
-                (c .before .before .before .before .before .before .before .before .before .before .before .before
-                .before .before .before .before .pre .2 .3) f r (h .counts) few (h .named)
-                (c .before .before .before .before .before .before .before .before .before .hold-names .ensures .0)
+            (c .before .before .before .before .before .before .before .before .before .before .before .before
+            .before .before .before .before .pre .2 .3) f r (h .counts) few (h .named)
+            (c .before .before .before .before .before .before .before .before .before .hold-names .ensures .0)
             (c .before .before .before .before .before .before .before .before .before .hold-names .ensures .1 .0)
             (c .before .before .before .before .before .before .before .before .before .hold-names .ensures .1 .1) in
             let low = c .before .before .before .before .lower .ensures ∙ form-note f r x (h .counts) (small .1)

@@ -33,9 +33,12 @@ enum-told : tie.Need-enum-told
 enum-told c = search needs
 
 take-opening-requires : tie.Need-take-opening-requires
-take-opening-requires c κs =
-    (c .before .before .before .before .before .before .pre .0, c .before .before .before .before .before .before
-    .pre .1, omega (arith, c .before .before .before .before .before .before .pre .4))
+take-opening-requires c κs = (
+  c .before .before .before .before .before .before .pre .0,
+  c .before .before .before .before .before .before
+      .pre .1,
+  omega (arith, c .before .before .before .before .before .before .pre .4),
+)
 
 enum-told-2 : tie.Need-enum-told-2
 enum-told-2 c = search needs
@@ -72,9 +75,12 @@ enum-told-6 : tie.Need-enum-told-6
 enum-told-6 c = search needs
 
 take-row-requires : tie.Need-take-row-requires
-take-row-requires c κs =
-    (c .before .before .before .before .before .before .pre .0, c .before .before .before .before .before .before
-    .pre .1, c .before .before .before .before .before .before .pre .3)
+take-row-requires c κs = (
+  c .before .before .before .before .before .before .pre .0,
+  c .before .before .before .before .before .before
+      .pre .1,
+  c .before .before .before .before .before .before .pre .3,
+)
 
 enum-told-7 : tie.Need-enum-told-7
 enum-told-7 c = search needs
@@ -89,9 +95,12 @@ enum-told-8 : tie.Need-enum-told-8
 enum-told-8 c = search needs
 
 take-row-or-blank-requires : tie.Need-take-row-or-blank-requires
-take-row-or-blank-requires c κs =
-    (c .before .before .before .before .before .before .pre .0, c .before .before .before .before .before .before
-    .pre .1, c .before .before .before .before .before .before .pre .3)
+take-row-or-blank-requires c κs = (
+  c .before .before .before .before .before .before .pre .0,
+  c .before .before .before .before .before .before
+      .pre .1,
+  c .before .before .before .before .before .before .pre .3,
+)
 
 enum-told-9 : tie.Need-enum-told-9
 enum-told-9 c = search needs
@@ -191,7 +200,7 @@ returns-4 c =
     λ f e. sym e ∙ ap stageOf (c .before .before .enum-told4 .given .1) in
     rw (c .expect2 .ensures) (
       taken-expect (c .before .is-units .result) r at.TopBorder
-      (c .before .before .before .before .before .before .before .pre .0),
+          (c .before .before .before .before .before .before .before .pre .0),
       (
         refl,
         refl,
@@ -210,7 +219,7 @@ returns-5 c =
     λ f e. sym e ∙ ap stageOf (c .before .before .enum-told5 .given .1) in
     rw (c .expect3 .ensures) (
       taken-expect (c .before .is-border .result) r at.FirstRow
-      (c .before .before .before .before .before .before .before .pre .0),
+          (c .before .before .before .before .before .before .before .pre .0),
       (
         refl,
         refl,
@@ -250,7 +259,7 @@ returns-7 c =
     λ f e. sym e ∙ ap stageOf (c .before .before .enum-told7 .given .1) in
     rw (c .expect4 .ensures) (
       taken-expect (c .before .is-border2 .result) r at.RowOrBlank
-      (c .before .before .before .before .before .before .before .pre .0),
+          (c .before .before .before .before .before .before .before .pre .0),
       (
         refl,
         refl,
@@ -290,7 +299,7 @@ returns-9 c =
     λ f e. sym e ∙ ap stageOf (c .before .before .before .enum-told9 .given .1) in
     rw (c .expect5 .ensures) (
       taken-expect (c .before .same-words .result) r at.LastBlank
-      (c .before .before .before .before .before .before .before .before .pre .0),
+          (c .before .before .before .before .before .before .before .before .pre .0),
       (
         refl,
         refl,
@@ -326,9 +335,9 @@ returns-11 : tie.Need-returns-11
 unfolding fold.linedAt
 returns-11 c =
     let r = c .before .before .before .before .before .before .before .before .before .before .before .before .before
-        .args .r in
+    .args .r in
     let l = now (c .before .before .before .before .before .before .before .before .before .before .before .before
-        .before .args .line) in
+    .before .args .line) in
     let told : (f : Found) → stageOf (r .stage) ≡ f .stage → f .stage ≡ fold.firstField =
     λ f e. sym e ∙ ap stageOf
     (c .before .before .before .before .before .before .before .before .enum-told11 .given .1) in
@@ -353,9 +362,9 @@ returns-12 : tie.Need-returns-12
 unfolding fold.linedAt
 returns-12 c =
     let r = c .before .before .before .before .before .before .before .before .before .before .before .before .before
-        .args .r in
+    .args .r in
     let l = now (c .before .before .before .before .before .before .before .before .before .before .before .before
-        .before .args .line) in
+    .before .args .line) in
     let told : (f : Found) → stageOf (r .stage) ≡ f .stage → f .stage ≡ fold.fieldLine =
     λ f e. sym e ∙ ap stageOf
     (c .before .before .before .before .before .before .before .before .enum-told12 .given .1) in
@@ -376,9 +385,15 @@ returns-13 c =
     let r = c .before .before .before .before .before .args .r in
     let l = now (c .before .before .before .before .before .args .line) in
     let told : (f : Found) → stageOf (r .stage) ≡ f .stage → f .stage ≡ fold.lost =
-    λ f e. sym e ∙ ap stageOf (c .enum-told13 .given .1) in
-    ((c .before .before .before .before .before .pre .0, omega arith), (refl, refl, (λ f k h. line-at f l fold.lost
-    (told f (h .counts .stage)) h)))
+    λ f e. sym e ∙ ap stageOf (c .enum-told13 .given .1) in (
+      (c .before .before .before .before .before .pre .0, omega arith),
+      (
+        refl,
+        refl,
+        (λ f k h. line-at f l fold.lost
+            (told f (h .counts .stage)) h),
+      ),
+    )
 
 pub take-line-spec : {M : Type 1} → statement M
 take-line-spec =

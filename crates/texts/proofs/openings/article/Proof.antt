@@ -28,9 +28,11 @@ same-words-requires c κs = search needs
 
 returns-2 : tie.Need-returns-2
 returns-2 c =
-    let l = c .before .before .before .before .before .before .args .line .now in
-    (omega (arith, c .before .before .before .before .if1 .left), opening-an l (sym
-    (c .before .same-words .ensures) ∙ c .if2 .taken))
+    let l = c .before .before .before .before .before .before .args .line .now in (
+      omega (arith, c .before .before .before .before .if1 .left),
+      opening-an l (sym
+          (c .before .same-words .ensures) ∙ c .if2 .taken),
+    )
 
 sub-same-words-2 : tie.Need-sub-same-words-2
 sub-same-words-2 c = search needs
@@ -52,15 +54,17 @@ returns-3 c =
     let l = c .before .before .before .before .before .before .before .before .before .before .args .line .now in (
       omega (arith, c .before .before .before .before .before .before .before .before .if1 .left),
       opening-a l (sym (c .before .before .before .before .before .same-words .ensures)
-      ∙ c .before .before .before .before .if2 .left)
+          ∙ c .before .before .before .before .if2 .left)
           (sym (c .before .same-words2 .ensures) ∙ c .if3 .taken),
     )
 
 returns-4 : tie.Need-returns-4
 returns-4 c =
-    let l = c .before .before .before .before .before .before .before .before .before .before .args .line .now in
-    (omega arith, opening-none l (sym (c .before .before .before .before .before .same-words .ensures)
-    ∙ c .before .before .before .before .if2 .left) (sym (c .before .same-words2 .ensures) ∙ c .if3 .left))
+    let l = c .before .before .before .before .before .before .before .before .before .before .args .line .now in (
+      omega arith,
+      opening-none l (sym (c .before .before .before .before .before .same-words .ensures)
+          ∙ c .before .before .before .before .if2 .left) (sym (c .before .same-words2 .ensures) ∙ c .if3 .left),
+    )
 
 pub article-spec : {M : Type 1} → statement M
 article-spec =

@@ -51,10 +51,18 @@ line-end-requires : tie.Need-line-end-requires Inv-loop μ-loop
 line-end-requires c κs = search needs
 
 end-text-requires : tie.Need-end-text-requires Inv-loop μ-loop
-end-text-requires c κs = let v = c .before .before .before .before .loop in (v .inv .5, omega
-    (arith, v .inv .1, v .inv .0, c .before .before .before .before .before .before .before .before .before .before
-    .pre .0 .size), omega
-    (arith, v .inv .4, c .before .before .before .before .before .before .before .before .before .before .pre .2))
+end-text-requires c κs = let v = c .before .before .before .before .loop in (
+  v .inv .5,
+  omega (
+    arith,
+    v .inv .1,
+    v .inv .0,
+    c .before .before .before .before .before .before .before .before .before .before
+        .pre .0 .size,
+  ),
+  omega
+      (arith, v .inv .4, c .before .before .before .before .before .before .before .before .before .before .pre .2),
+)
 
 same-length : tie.Need-same-length Inv-loop μ-loop
 same-length c = search needs
@@ -68,7 +76,7 @@ same-length-3 c = search needs
 returns : tie.Need-returns Inv-loop μ-loop
 returns c =
     let t = now (c .before .before .before .before .before .before .before .before .before .before .before .before
-        .before .args .text) in
+    .before .args .text) in
     let v = c .before .before .before .before .before .before .before .loop in
     let e = c .before .before .before .before .before .before .line-end in
     let w = v .inv .6 in
@@ -91,20 +99,38 @@ part-take-line-end c = search needs
 take-line-requires : tie.Need-take-line-requires Inv-loop μ-loop
 take-line-requires c κs =
     let t = now (c .before .before .before .before .before .before .before .before .before .before .before .before
-        .before .before .args .text) in
+    .before .before .args .text) in
     let v = c .before .before .before .before .before .before .before .before .loop in
     let e = c .before .before .before .before .before .before .before .line-end in
     let n = piece-length lineFeed t (v .at) (e .result) (e .ensures .1) (omega
-        (arith, e .ensures .0 .1, c .before .before .before .before .before .before .if1 .left)) in (
+    (arith, e .ensures .0 .1, c .before .before .before .before .before .before .if1 .left)) in (
       v .inv .5,
-      omega (arith, v .inv .1, v .inv .0, c .before .before .before .before .before .before .before .before .before
-      .before .before .before .before .before .pre .0 .size),
-      omega (arith, n, e .ensures .0 .1, c .before .before .before .before .before .before .before .before .before
-      .before .before .before .before .before .pre .0 .size),
-      omega (arith, v .inv .3, c .before .before .before .before .before .before .before .before .before .before
-      .before .before .before .before .pre .1),
-      omega (arith, v .inv .4, c .before .before .before .before .before .before .before .before .before .before
-      .before .before .before .before .pre .2),
+      omega (
+        arith,
+        v .inv .1,
+        v .inv .0,
+        c .before .before .before .before .before .before .before .before .before
+            .before .before .before .before .before .pre .0 .size,
+      ),
+      omega (
+        arith,
+        n,
+        e .ensures .0 .1,
+        c .before .before .before .before .before .before .before .before .before
+            .before .before .before .before .before .pre .0 .size,
+      ),
+      omega (
+        arith,
+        v .inv .3,
+        c .before .before .before .before .before .before .before .before .before .before
+            .before .before .before .before .pre .1,
+      ),
+      omega (
+        arith,
+        v .inv .4,
+        c .before .before .before .before .before .before .before .before .before .before
+            .before .before .before .before .pre .2,
+      ),
     )
 
 add-at : tie.Need-add-at Inv-loop μ-loop
@@ -114,29 +140,37 @@ add-at c = let q = c .before .before .before .before .before .before .before .be
 
 loop-less : tie.Need-loop-less Inv-loop μ-loop
 loop-less c = let q = c .before .before .before .before .before .before .before .before .before .before .before
-    .before .line-end .ensures .0 in omega
-    (arith, q .0, q .1, c .before .before .before .before .before .before .before .before .before .before .before
-    .if1 .left)
+    .before .line-end .ensures .0 in omega (
+      arith,
+      q .0,
+      q .1,
+      c .before .before .before .before .before .before .before .before .before .before .before
+          .if1 .left,
+    )
 
 loop-again : tie.Need-loop-again Inv-loop μ-loop
 loop-again c =
     let t = now (c .before .before .before .before .before .before .before .before .before .before .before .before
-        .before .before .before .before .before .before .before .args .text) in
+    .before .before .before .before .before .before .before .args .text) in
     let v = c .before .before .before .before .before .before .before .before .before .before .before .before .before
-        .loop in
+    .loop in
     let e = c .before .before .before .before .before .before .before .before .before .before .before .before
-        .line-end in
+    .line-end in
     let q = c .before .before .before .before .take-line .ensures in
     let lt = e .ensures .0 .1 in (
-      omega (arith, lt, c .before .before .before .before .before .before .before .before .before .before .before
-      .if1 .left),
+      omega (
+        arith,
+        lt,
+        c .before .before .before .before .before .before .before .before .before .before .before
+            .if1 .left,
+      ),
       omega (arith, q .0 .1, v .inv .1, e .ensures .0 .0),
       v .inv .2,
       omega (arith, q .1 .0, v .inv .3),
       omega (arith, q .1 .1, v .inv .4),
       q .0 .0,
       walking-next t (v .at) (e .result) (v .r) (v .inv .6) (e .ensures .1) (omega
-      (arith, lt, c .before .before .before .before .before .before .before .before .before .before .before .if1 .left))
+          (arith, lt, c .before .before .before .before .before .before .before .before .before .before .before .if1 .left))
           (c .before .before .before .before .take-line .result) (q .1),
     )
 

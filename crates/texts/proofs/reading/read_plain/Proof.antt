@@ -12,9 +12,12 @@ slice-aggregate-read-lines-2 : tie.Need-slice-aggregate-read-lines-2
 slice-aggregate-read-lines-2 c = search needs
 
 read-lines-requires : tie.Need-read-lines-requires
-read-lines-requires c κs =
-    (c .before .before .before .before .before .before .before .before .pre, search needs, search needs,
-    (search needs, search needs, search needs))
+read-lines-requires c κs = (
+  c .before .before .before .before .before .before .before .before .pre,
+  search needs,
+  search needs,
+  (search needs, search needs, search needs),
+)
 
 same-length : tie.Need-same-length
 same-length c = search needs

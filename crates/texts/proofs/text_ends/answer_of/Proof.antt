@@ -12,8 +12,11 @@ returns c = rw (c .match .keys1) refl
 
 returns-2 : tie.Need-returns-2
 unfolding ofText
-returns-2 c = let a = c .before .args .a in rw (c .match .keys2, told-four a (c .before .pre .0) (c .before .pre .1)
-    (c .match .keys2)) refl
+returns-2 c = let a = c .before .args .a in rw (
+  c .match .keys2,
+  told-four a (c .before .pre .0) (c .before .pre .1)
+      (c .match .keys2),
+) refl
 
 returns-3 : tie.Need-returns-3
 unfolding ofText

@@ -19,10 +19,12 @@ last-note-requires c κs = c .before .before .pre .1
 
 answer-of-requires : tie.Need-answer-of-requires
 answer-of-requires c κs =
-    let r = c .before .before .before .before .before .args .r in
-    (ap isTold (c .before .before .last-note .ensures) ∙ last-told (r .stage) r
-    (c .before .before .before .before .before .args .whole)
-    (c .before .before .before .before .before .pre .0), ne-eqb _ 0 (c .if1 .taken))
+    let r = c .before .before .before .before .before .args .r in (
+      ap isTold (c .before .before .last-note .ensures) ∙ last-told (r .stage) r
+          (c .before .before .before .before .before .args .whole)
+          (c .before .before .before .before .before .pre .0),
+      ne-eqb _ 0 (c .if1 .taken),
+    )
 
 returns : tie.Need-returns
 returns c =
@@ -30,8 +32,8 @@ returns c =
     let l = c .before .before .before .last-note .result in
     λ k cells labels shorts names e h.
     let low = sym (last-is (k .found) r (h .counts) (k .line)
-        (c .before .before .before .before .before .before .args .whole) e)
-        ∙ sym (c .before .before .before .last-note .ensures)
+    (c .before .before .before .before .before .before .args .whole) e)
+    ∙ sym (c .before .before .before .last-note .ensures)
     ∙ note-refused l (c .before .if1 .taken) in
     rw (c .answer-of .ensures) (end-refused k (now (c .before .before .before .before .before .before .args .out))
     (refused (l .number) (l .place)) low)
@@ -47,15 +49,18 @@ returns-2 c =
     let r = c .before .before .before .before .before .before .before .args .r in
     λ k cells labels shorts names e h.
     let low = sym (last-is (k .found) r (h .counts) (k .line)
-        (c .before .before .before .before .before .before .before .args .whole) e)
-        ∙ sym (c .before .before .before .before .last-note .ensures)
+    (c .before .before .before .before .before .before .before .args .whole) e)
+    ∙ sym (c .before .before .before .before .last-note .ensures)
     ∙ note-none (c .before .before .before .before .last-note .result) (c .before .before .if1 .left) in
     end-short k r h low _ (c .if2 .taken)
 
 put-table-requires : tie.Need-put-table-requires
-put-table-requires c κs =
-    (c .before .before .before .before .before .before .before .before .pre .0, c .before .before .before .before
-    .before .before .before .before .pre .2, omega (arith, c .before .if2 .left))
+put-table-requires c κs = (
+  c .before .before .before .before .before .before .before .before .pre .0,
+  c .before .before .before .before
+      .before .before .before .before .pre .2,
+  omega (arith, c .before .if2 .left),
+)
 
 same-length : tie.Need-same-length
 same-length c = search needs
@@ -66,8 +71,8 @@ returns-3 c =
     let r = c .before .before .before .before .before .before .before .before .before .before .before .args .r in
     λ k cells labels shorts names e h.
     let low = sym (last-is (k .found) r (h .counts) (k .line)
-        (c .before .before .before .before .before .before .before .before .before .before .before .args .whole) e)
-        ∙ sym (c .before .before .before .before .before .before .before .before .last-note .ensures)
+    (c .before .before .before .before .before .before .before .before .before .before .before .args .whole) e)
+    ∙ sym (c .before .before .before .before .before .before .before .before .last-note .ensures)
     ∙ note-none (c .before .before .before .before .before .before .before .before .last-note .result)
     (c .before .before .before .before .before .before .if1 .left) in
     end-table k r h low _ _ _ (omega (arith, c .before .before .before .before .if2 .left))

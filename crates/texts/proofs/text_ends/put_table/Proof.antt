@@ -28,7 +28,7 @@ put-head-requires c κs =
     let a = c .before .before .before .before .args in
     let k = c .before .before .before .before .pre .0 in
     let n = length-take-le (a .r .name - 0) (now (a .table)) (omega
-        (arith, k .name, c .before .before .before .before .pre .1)) in
+    (arith, k .name, c .before .before .before .before .pre .1)) in
     (omega (arith, n, k .front, c .before .before .before .before .pre .2), omega (arith, n, k .name))
 
 sub-put : tie.Need-sub-put
@@ -59,14 +59,19 @@ same-length c = search needs
 returns : tie.Need-returns
 returns c =
     let a = c .before .before .before .before .before .before .before .before .before .before .before .before .before
-        .before .before .before .before .before .before .before .args in
+    .before .before .before .before .before .before .before .args in
     let r = a .r in
     let t = now (a .table) in
     let k = c .before .before .before .before .before .before .before .before .before .before .before .before .before
-        .before .before .before .before .before .before .before .pre .0 in
-    let big : r .end ≤ length t = omega
-        (arith, k .end, k .fields, k .count, c .before .before .before .before .before .before .before .before
-        .before .before .before .before .before .before .before .before .before .before .before .before .pre .1) in
+    .before .before .before .before .before .before .before .pre .0 in
+    let big : r .end ≤ length t = omega (
+      arith,
+      k .end,
+      k .fields,
+      k .count,
+      c .before .before .before .before .before .before .before .before
+          .before .before .before .before .before .before .before .before .before .before .before .before .pre .1,
+    ) in
     put-all r t k big (c .before .before .before .before .before .before .before .before .before .before .before
     .before .before .before .before .before .before .before .before .before .pre .2)
     (c .before .before .before .before .before .before .before .before .before .before .before .before .before
