@@ -88,7 +88,12 @@ take-form-requires c κs =
           .before .args .r) (sym
           (c .before .before .before .before .before .before .before .before .before .is-full .ensures)
           ∙ c .before .before .before .before .before .before .before .before .if1 .left),
-      (x .0, x .1, (x .2, sym (x .2 .small) ∙ c .before .before .before .before .if3 .taken), c .before .before .before .before .before .before .before .parts-of .ensures .0),
+      (
+        x .0,
+        x .1,
+        (x .2, sym (x .2 .small) ∙ c .before .before .before .before .if3 .taken),
+        c .before .before .before .before .before .before .before .parts-of .ensures .0,
+      ),
     )
 
 same-length : tie.Need-same-length
@@ -104,7 +109,8 @@ returns-3 c =
         q .1 .0,
         (λ f k h. q .1 .1 f k (sym (full-same f r (h .counts))
             ∙ sym (c .before .before .before .before .before .before .before .before .before .before .before .before
-            .is-full .ensures) ∙ c .before .before .before .before .before .before .before .before .before .before .before
+            .is-full .ensures) ∙ c .before .before .before .before .before .before .before .before .before
+            .before .before
             .if1 .left) h),
       ),
     )

@@ -97,7 +97,8 @@ next-cell-requires c κs = (
   c .before .before .before .before .before .before .before .before .before .before .before .before .before
       .before .before .before .before .before .before .pre .0 .0,
   c .before .before .before .before .before .before
-      .before .before .before .before .before .before .before .before .before .before .before .before .before .pre .0 .3,
+      .before .before .before .before .before .before .before .before .before .before .before .before
+      .before .pre .0 .3,
 )
 
 rests-requires : tie.Need-rests-requires
@@ -161,7 +162,9 @@ returns c =
             (c .before .before .before .before .before .before .before .put-field .result)
             (c .before .before .before .rests .result)
             (c .before .before .before .before .before .before .before .before .before .before .before .before .lower
-            .result) room (c .before .before .before .before .before .before .before .before .before .before .before .before .before .before .before .before .before .before .before .before .before .before .before .before .pre .1)
+            .result) room (c .before .before .before .before .before .before .before .before .before .before
+            .before .before .before .before .before .before .before .before .before .before .before
+            .before .before .before .pre .1)
             (c .before .before .before .before .next-cell .ensures .0) (omega (arith, z)) (omega (arith, z, m)) told,
         omega arith,
       ),
@@ -172,7 +175,8 @@ returns c =
             (c .before .before .before .before .before .before .before .before .before .before .before .before
             .before .before .before .before .before .before .before .before .before .before .before .before .pre
             .2 .3) f r (h .counts) few (h .named)
-            (c .before .before .before .before .before .before .before .before .before .before .before .before .before .before .before .before .before .hold-names .ensures .0)
+            (c .before .before .before .before .before .before .before .before .before .before .before
+            .before .before .before .before .before .before .hold-names .ensures .0)
             (c .before .before .before .before .before .before .before .before .before .before .before .before
             .before .before .before .before .before .hold-names .ensures .1 .0)
             (c .before .before .before .before .before .before .before .before .before .before .before .before

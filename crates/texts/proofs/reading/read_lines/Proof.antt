@@ -169,8 +169,12 @@ loop-again c =
       omega (arith, q .1 .0, v .inv .3),
       omega (arith, q .1 .1, v .inv .4),
       q .0 .0,
-      walking-next t (v .at) (e .result) (v .r) (v .inv .6) (e .ensures .1) (omega
-          (arith, lt, c .before .before .before .before .before .before .before .before .before .before .before .if1 .left))
+      walking-next t (v .at) (e .result) (v .r) (v .inv .6) (e .ensures .1) (omega (
+        arith,
+        lt,
+        c .before .before .before .before .before .before .before .before .before .before
+            .before .if1 .left,
+      ))
           (c .before .before .before .before .take-line .result) (q .1),
     )
 

@@ -76,7 +76,8 @@ returns c =
     .before .before .before .before .before .before .before .before .before .pre .2)
     (c .before .before .before .before .before .before .before .before .before .before .before .before .before
     .before .before .put-head .ensures)
-    (c .before .before .before .before .before .before .before .before .before .before .put .ensures) (c .before .before .before .before .before .before .put-two .ensures) (c .before .before .put-two2 .ensures)
+    (c .before .before .before .before .before .before .before .before .before .before .put .ensures)
+    (c .before .before .before .before .before .before .put-two .ensures) (c .before .before .put-two2 .ensures)
 
 pub put-table-spec : {M : Type 1} → statement M
 put-table-spec =
