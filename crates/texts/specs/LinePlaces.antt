@@ -3,12 +3,12 @@ use mathlib.Core.Path.{_≡_}
 use mathlib.Core.Bool.{false}
 use mathlib.Core.List.{List, []}
 use mathlib.Core.Option.{Option, none, some}
-use Prim.Native.Nat.{ℕ, _+_, _≤_, _<_}
-use lib.ListN.{length, take, drop, getD, getElem?}
+use Prim.Native.Nat.{ℕ, _+_, _≤_}
+use lib.ListN.{length, take, drop, getD}
 use Rattle.base.specs.Lists.{all}
 use Rattle.rules.specs.Trees.{Tree, storedLength, isSmall}
 use Rattle.rules.specs.Fields.{Width, fixed, measured, rest, Form, trees}
-use Rattle.text_laws.specs.LineReader.{hit, readTree, readForm}
+use Rattle.text_laws.specs.LineReader.{hit, readTree}
 use Rattle.writing.specs.declared.spans.Span.{Span}
 use Rattle.texts.specs.declared.parts.TreeAt.{TreeAt}
 use Rattle.texts.specs.declared.parts.Parts.{Parts}
@@ -83,30 +83,12 @@ abbrev pub PartsFor : List ℕ → Option Form → Parts → Type 0
 PartsFor s none p = p .kind ≡ 0
 PartsFor s (some x) p = PartsAre s x p
 
--- ── the parts of all field lines of a text ──
-
--- the line l of the text and its parts
-pub record LineIs (text l : List ℕ) (p : Parts) : Type 0 where
-  pub within : p .line .at + p .line .len ≤ length text
-  pub isLine : spanIn text (p .line) ≡ l
-  pub parts : PartsFor l (readForm l) p
+-- ── the parts of a line within a text ──
 
 abbrev pub lineAt : List Parts → ℕ → Parts
 lineAt lines i = getD lines i (noParts (spanOf 0 0))
-
-abbrev pub LinesAre : List ℕ → List (List ℕ) → List Parts → Type 0
-LinesAre text texts lines = (i : ℕ) → i < length texts → LineIs text (getD texts i []) (lineAt lines i)
 
 -- the parts of a line of the text, of the form x
 pub record LineOf (text : List ℕ) (x : Form) (p : Parts) : Type 0 where
   pub within : p .line .at + p .line .len ≤ length text
   pub parts : PartsAre (spanIn text (p .line)) x p
-
--- the same for each line
-abbrev pub LinesFor : List ℕ → List Form → List Parts → Type 0
-LinesFor text forms lines = (i : ℕ) (x : Form) → getElem? forms i ≡ some x → LineOf text x (lineAt lines i)
-
--- n lines lie in a text of m bytes, with their parts
-abbrev pub LinesFit : ℕ → List Parts → ℕ → Type 0
-LinesFit m lines n = (i : ℕ) → i < n
-    → (lineAt lines i .line .at + lineAt lines i .line .len ≤ m) × Fits (lineAt lines i .line .len) (lineAt lines i)

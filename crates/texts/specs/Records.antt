@@ -1,19 +1,17 @@
 -- The records that the code writes of the lines that it holds: mirrors the code, no public promise rests on it.
 use mathlib.Core.Path.{_≡_}
 use mathlib.Core.Bool.{true, cond}
-use mathlib.Core.List.{List, [], _∷_, _++_}
-use mathlib.Core.Option.{some, Option·map}
+use mathlib.Core.List.{List, []}
+use mathlib.Core.Option.{Option·map}
 use Prim.Native.Nat.{ℕ, zero, suc, _+_, _≤_}
 use lib.Dec.{eqb}
-use lib.ListN.{length, getElem?}
 use Rattle.base.specs.Lists.{all}
 use Rattle.writing.specs.Writes.{Writes}
 use Rattle.rules.specs.Limits.{textMost, storedMost}
-use Rattle.rules.specs.Trees.{le2, isSmall}
+use Rattle.rules.specs.Trees.{isSmall}
 use Rattle.rules.specs.Fields.{Field, Form, trees}
-use Rattle.rules.specs.Stored.{counted, recordOf, storedField}
 use Rattle.text_laws.specs.Resolving.{renameTree, renameWidth}
-use Rattle.texts.specs.LinePlaces.{lineAt, PartsAre, LineOf, LinesFor}
+use Rattle.texts.specs.LinePlaces.{lineAt, PartsAre, LineOf}
 use Rattle.texts.specs.StoredTrees.{lookUp}
 use Rattle.texts.specs.declared.parts.Parts.{Parts}
 
@@ -51,16 +49,6 @@ indexed names i x = record {
   condition = Option·map (renameTree (lookUp names i)) (x .condition);
 }
 
--- the records of lines, the first of which has the index i
-unfoldable pub storedFrom : List (List ℕ) → ℕ → List Form → List ℕ
-storedFrom names i [] = []
-storedFrom names i (x ∷ l) = storedField (indexed names i x) ++ storedFrom names (suc i) l
-
--- the table with a name and W
-unfoldable pub tableOf : List (List ℕ) → List ℕ → ℕ → List Form → List ℕ
-tableOf names name w forms =
-    recordOf 1 (le2 w ++ (le2 (length forms) ++ counted name)) ++ (storedFrom names 0 forms ++ recordOf 5 [])
-
 -- ── lines that can be written ──
 
 -- the parts of a line whose expressions are small
@@ -75,13 +63,6 @@ IsSmall line p = (x : Form) × Small line x p
 abbrev pub WritesEach : List ℕ → Parts → List ℕ → ℕ → (Form → List ℕ) → List ℕ → ℕ → Type 0
 WritesEach line p before at w after next = (x : Form) → Small line x p → Writes before at (w x) after next
 
--- ── all lines ──
-
 -- the same for a line of a text
 abbrev pub LineSmall : List ℕ → Parts → Type 0
 LineSmall text p = (x : Form) × LineOf text x p × (all isSmall (trees x) ≡ true)
-
--- each form is that of a line, and its expressions are small
-pub record AllSmall (text : List ℕ) (lines : List Parts) (forms : List Form) : Type 0 where
-  pub parts : LinesFor text forms lines
-  pub small : (i : ℕ) (x : Form) → getElem? forms i ≡ some x → all isSmall (trees x) ≡ true
