@@ -3,13 +3,13 @@ use mathlib.Core.Path.{_≡_, refl, ap, sym, _∙_}
 use mathlib.Core.Bool.{Bool, true, false, false≢true, not}
 use mathlib.Core.List.{List}
 use mathlib.Core.Option.{Option, none, some}
-use Prim.Native.Nat.{ℕ, _+_, _≤_, _<_}
+use Prim.Native.Nat.{ℕ, _+_, _≤_}
 use native.Mathlib.Omega.{arith}
 use lib.Dec.{eqb}
 use lib.ListN.{length, drop}
-use borrow.Author.Tests.{eq-eqb, ne-eqb, eqb-true, eqb-false}
+use borrow.Author.Tests.{eq-eqb, eqb-true}
 use Rattle.base.specs.Bytes.{bytes}
-use Rattle.rules.specs.Trees.{Tree, storedLength}
+use Rattle.rules.specs.Trees.{Tree}
 use Rattle.text_laws.specs.LineReader.{Got, miss, hit, begins, readTree, readConstraint, readCondition, isRemark}
 use Rattle.texts.specs.FieldPlaces.{treeClause}
 use Rattle.texts.specs.HeldParts.{ClauseAs, ClauseFor, ClauseWithin, EndsFor}

@@ -10,22 +10,12 @@ use lib.Dec.{leb, eqb}
 use lib.ListN.{length, take, drop, getD, length-drop, length-append}
 use lib.Seq.{drop-cons, drop-length, take-at}
 use borrow.Author.Tests.{le-leb, lt-leb, ne-eqb}
-use Rattle.base.specs.Lists.{all, any, isEmpty}
+use Rattle.base.specs.Lists.{all, isEmpty}
 use Rattle.base.proofs.Lists.{and-left, and-right, between-true}
-use Rattle.base.proofs.Tables.{agree}
 use Rattle.rules.specs.Limits.{numberMost}
-use Rattle.rules.specs.Operators.{operator, operators}
-use Rattle.rules.specs.Names.{isLetter, isDigit, isOperator, isSpace, classOf, isWordByte, isShort}
-use Rattle.rules.specs.Trees.{depth, storedTree, le4}
+use Rattle.rules.specs.Names.{isDigit, isWordByte}
 use Rattle.text_laws.specs.Reader.{word, behind, scan, wordValue, isNumeral, isNumberWord, leaf}
 use Rattle.text_laws.proofs.ReaderWords.{word-behind}
-use Rattle.texts.specs.ExprPlaces.{SameRead, WithinRead, LeafAt}
-use Rattle.texts.specs.declared.leaves.Read.{Read}
-use Rattle.texts.specs.declared.leaves.Read.the-variants.{Nothing, At}
-
-pub class-digit : (b : ℕ) → b < 256 → eqb (classOf b) 2 ≡ isDigit b
-unfolding any operator operators isLetter isDigit isOperator isSpace classOf
-class-digit = agree (λ b. eqb (classOf b) 2) isDigit 256 refl
 
 pub digit-range : (c : ℕ) → isDigit c ≡ true → (48 ≤ c) × (c ≤ 57)
 unfolding isDigit
@@ -128,9 +118,6 @@ number-yes (c ∷ w) lt ne a le =
 -- ── a leaf ──
 
 module _ (s : List ℕ) (at end : ℕ) (lo : at ≤ end) (hi : end ≤ length s) (e : drop end s ≡ behind (drop at s)) where
-  part-is : take (end - at) (drop at s) ≡ word (drop at s)
-  part-is = word-part s at end lo hi e
-
   -- a test that refuses the empty word
   pub longer : (p : List ℕ → Bool) → p [] ≡ false → p (take (end - at) (drop at s)) ≡ true → at + 1 ≤ end
   longer p n y = go (decLt at end)
@@ -142,24 +129,3 @@ module _ (s : List ℕ) (at end : ℕ) (lo : at ≤ end) (hi : end ≤ length s)
           let y′ : p (take 0 (drop at s)) ≡ true = rw z at y in
           let q : _≡_ {A = ℕ} 0 1 = cc in
           absurd (omega arith)
-
-  abbrev pub Leaf : Read → Type 0
-  Leaf r = WithinRead s (at + 1) at 0 0 r × LeafAt s at r
-
-  pub leaf-short : isShort (take (end - at) (drop at s)) ≡ true → Leaf (At end 1 2)
-  unfolding WithinRead SameRead leaf isShort depth storedTree
-  leaf-short y =
-      let u : at + 1 ≤ end = longer isShort refl y in
-      ((u, hi, omega arith, omega arith), rw (rw part-is at y, leaf) (end, refl, e))
-
-  pub leaf-number : isShort (take (end - at) (drop at s)) ≡ false
-      → isNumberWord (take (end - at) (drop at s)) ≡ true → Leaf (At end 1 5)
-  unfolding WithinRead SameRead leaf isNumberWord isNumeral depth storedTree le4
-  leaf-number n y =
-      let u : at + 1 ≤ end = longer isNumberWord refl y in
-      ((u, hi, omega arith, omega arith), rw (rw part-is at n, leaf, rw part-is at y) (end, refl, e))
-
-  pub leaf-neither : isShort (take (end - at) (drop at s)) ≡ false
-      → isNumberWord (take (end - at) (drop at s)) ≡ false → Leaf Nothing
-  unfolding WithinRead SameRead leaf isNumberWord
-  leaf-neither n y = (tt, rw (rw part-is at n, leaf, rw part-is at y) refl)

@@ -26,8 +26,9 @@ use Rattle.text_laws.specs.Resolving.{indexOf}
 use Rattle.text_laws.proofs.Loose.{faces-append, lower-left}
 use Rattle.text_laws.proofs.Faces.{renamed-face}
 use Rattle.texts.specs.Noted.{noteOf}
+use Rattle.texts.specs.HeldParts as held
 use Rattle.texts.specs.Slots.{storedSlot}
-use Rattle.texts.specs.Records.{indexed}
+use Rattle.texts.specs.Resolved.{indexed}
 use Rattle.texts.specs.States.{note, changed, withLine, lineRefused, lineKept, isFullAs, NamedWith}
 use Rattle.texts.specs.States.{Counts, Named, Holds}
 use Rattle.texts.specs.declared.notes.Note.{Note}
@@ -36,6 +37,7 @@ use Rattle.texts.specs.declared.states.Reading.{Reading}
 use Rattle.texts.proofs.StateSteps.{next-line}
 use Rattle.texts.proofs.HeldArrays.{named-front, named-face}
 use Rattle.texts.proofs.Holding.{writes}
+use Rattle.texts.proofs.LineForms.{named-kept}
 use Rattle.texts.proofs.LineTypes.{ShortNames}
 
 -- ── full ──
@@ -157,6 +159,18 @@ holds-named f r x h n = record {
   slots = h .slots;
   records = h .records;
   named = named-front (faces (f .judged .fields)) x n;
+}
+
+-- and behind those of the fields other names may stand
+pub holds-kept : (f : fold.Found) (r : Reading) {cells table : List ℕ} {labels shorts names names′ : List (List ℕ)}
+    → Holds f r cells table labels shorts names → held.Kept names (r .fields) names′
+    → Holds f r cells table labels shorts names′
+holds-kept f r h k = record {
+  counts = h .counts;
+  slots = h .slots;
+  records = h .records;
+  named = named-kept (faces (f .judged .fields)) (r .fields)
+      (length-map (f .judged .fields) face ∙ sym (h .counts .fields)) k (h .named);
 }
 
 -- ── a field is kept ──

@@ -20,15 +20,15 @@ use Rattle.text_laws.specs.Fold as fold
 use Rattle.text_laws.specs.Steady.{isKept, Steady}
 use Rattle.text_laws.proofs.FormExact.{form-sound}
 use Rattle.texts.specs.HeldNames.{anyClash}
-use Rattle.texts.specs.LinePlaces.{PartsAre}
-use Rattle.texts.specs.LineTests.{typesKept}
+use Rattle.texts.specs.HeldParts.{PartsHeld}
+use Rattle.texts.specs.Resolved.{typesKept}
 use Rattle.texts.specs.States.{laterNote, NamedWith, Counts}
-use Rattle.texts.specs.declared.parts.Parts.{Parts}
+use Rattle.texts.specs.declared.line_parts.Parts.{Parts}
 use Rattle.texts.specs.declared.states.Reading.{Reading}
 use Rattle.texts.proofs.HeldArrays.{snoc-each, element-last, named-front}
 use Rattle.texts.proofs.HeldClashes.{clash-any}
 use Rattle.texts.proofs.HeldNames.{types-here}
-use Rattle.texts.proofs.LineRules.{fixed-kind, none-size}
+use Rattle.texts.proofs.LineRules.{fixed-kind, none-length}
 use Rattle.texts.proofs.LineTypes.{ShortNames, spelled-short}
 
 -- ── names that have their form ──
@@ -93,13 +93,13 @@ module _ (f : fold.Found) (steady : Steady f) (line : List ℕ) (x : Form) (isFo
         (types-here before x names all-formed (named .name) form-short)
 
   -- 10
-  pub rest-is : (p : Parts) → PartsAre line x p
-      → (any isRest (faces (f .judged .fields)) && not (eqb (p .kind) 2 && eqb (p .condition .size) 0))
+  pub rest-is : (names : List (List ℕ)) (n : ℕ) (p : Parts) → PartsHeld names n line x p
+      → (any isRest (faces (f .judged .fields)) && not (eqb (p .kind) 2 && eqb (p .condition .len) 0))
       ≡ not (keepsRest (faces (f .judged .fields)) x)
-  rest-is p is =
+  rest-is names n p is =
       rw (
-        fixed-kind line (x .width) (p .kind) (p .bits) (p .width) (is .width),
-        none-size line (x .condition) (p .condition) (is .condition),
+        fixed-kind names n (x .width) (p .kind) (p .bits) (p .width) (is .width),
+        none-length names n (x .condition) (p .condition) (is .condition),
       )
       (go (any isRest (faces (f .judged .fields))) (isFixed x && isNone (x .condition)))
     where

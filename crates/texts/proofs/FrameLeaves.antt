@@ -2,7 +2,7 @@
 use mathlib.Core.Path.{_≡_, refl, ap, sym, _∙_}
 use mathlib.Core.Bool.{Bool, true, false, cond, _&&_, _||_}
 use mathlib.Core.List.{List, [], _∷_}
-use mathlib.Core.Option.{Option, none, some}
+use mathlib.Core.Option.{none, some}
 use Prim.Native.Nat.{ℕ, zero, suc, _+_, _-_, _≤_, _<_}
 use native.Mathlib.Omega.{arith}
 use native.Mathlib.Numerals.{add-one}
@@ -16,7 +16,7 @@ use Rattle.base.proofs.Scans.{same-step, same-end, same-length}
 use Rattle.base.proofs.Tables.{getD-tabulate}
 use Rattle.rules.specs.Names.{isPrintable, isAllowed, isLabel}
 use Rattle.rules.specs.Frames.{tensAt, tens}
-use Rattle.text_laws.specs.FrameReader.{onFirst, pieces, rest, closing, readName, readTens, onName, opened}
+use Rattle.text_laws.specs.FrameReader.{onFirst, pieces, rest, closing, readName, readTens}
 use Rattle.texts.specs.FramePlaces.{upTo, widthOr, isSome}
 
 -- ── the first byte e ──
@@ -139,11 +139,6 @@ some-cond : {A : Type 0} (x : Bool) (a : A) → x ≡ isSome (cond x (some a) no
 some-cond true a = refl
 some-cond false a = refl
 
-some-name : (an : Bool) (o : Option (List ℕ)) → isSome o ≡ isSome (onName an o)
-unfolding onName
-some-name an none = refl
-some-name an (some n) = refl
-
 module _ (s : List ℕ) where
   pub name-short : length s < 25 → false ≡ isSome (readName s)
   unfolding readName closing
@@ -167,31 +162,3 @@ module _ (s : List ℕ) where
 
 pub take-rest : (n : ℕ) (l : List ℕ) → take (length l - n) (drop n l) ≡ drop n l
 take-rest n l = take-all (length l - n) (drop n l) (omega (arith, length-drop n l))
-
-module _ (l : List ℕ) where
-  pub opened-short : length l < 3 → false ≡ isSome (opened l)
-  unfolding opened
-  opened-short lt =
-      let t : take 3 l ≡ l = take-all 3 l (omega arith) in
-      let q : same (take 3 l) (bytes "An ") ≡ false =
-      rw t (same-length l (bytes "An ") (λ e. absurd (omega (arith, e)))) in
-      rw q (go (same (take 2 l) (bytes "A ")))
-    where
-      go : (y : Bool) → false ≡ isSome (cond y (onName false (readName (drop 2 l))) none)
-      go true =
-          name-short (drop 2 l) (omega (arith, lt, length-drop 2 l)) ∙ some-name false (readName (drop 2 l))
-      go false = refl
-
-  pub opened-an : same (take 3 l) (bytes "An ") ≡ true → isSome (readName (drop 3 l)) ≡ isSome (opened l)
-  unfolding opened
-  opened-an h = rw h (some-name true (readName (drop 3 l)))
-
-  pub opened-a : same (take 3 l) (bytes "An ") ≡ false → same (take 2 l) (bytes "A ") ≡ true
-      → isSome (readName (drop 2 l)) ≡ isSome (opened l)
-  unfolding opened
-  opened-a h k = rw (h, k) (some-name false (readName (drop 2 l)))
-
-  pub opened-none : same (take 3 l) (bytes "An ") ≡ false → same (take 2 l) (bytes "A ") ≡ false
-      → false ≡ isSome (opened l)
-  unfolding opened
-  opened-none h k = rw (h, k) refl

@@ -12,7 +12,8 @@ use Rattle.rules.specs.Fields.{Width, fixed, measured, rest, Form, isFixedWidth
 use Rattle.rules.specs.Stored.{storedName}
 use Rattle.names.specs.Repeats.{padTo}
 use Rattle.text_laws.specs.Judging.{faceWidth, face}
-use Rattle.texts.specs.States.{heldName, Named}
+use Rattle.texts.specs.HeldNames.{heldName}
+use Rattle.texts.specs.States.{Named}
 use Rattle.texts.proofs.LineRules.{element-in}
 
 module _ {A : Type 0} where

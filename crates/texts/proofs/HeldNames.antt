@@ -21,10 +21,10 @@ use Rattle.rules.specs.Stored.{storedName}
 use Rattle.rules.specs.Within.{keepsNames, keepsTypes, widthHasType, nameReadable}
 use Rattle.names.specs.Repeats.{firstFrom, padTo, sameName}
 use Rattle.names.proofs.PadLaws.{held-same, none-second}
-use Rattle.texts.specs.LineTests.{typesKept}
+use Rattle.texts.specs.Resolved.{typesKept}
 use Rattle.texts.specs.StoredTrees.{isHeld, lookUp, mayRead}
-use Rattle.texts.specs.States.{heldName}
-use Rattle.texts.specs.Records.{indexed}
+use Rattle.texts.specs.HeldNames.{heldName}
+use Rattle.texts.specs.Resolved.{indexed}
 use Rattle.text_laws.specs.Resolving.{indexOf, renameField}
 use Rattle.text_laws.proofs.NamedRules.{name-unique}
 use Rattle.text_laws.proofs.NamedTypes.{any-element}
@@ -55,9 +55,6 @@ module _ (before : List Form) (x : Form) (names : List (List ℕ))
     (formed : (i : ℕ) (y : Form) → getElem? (before ++ (x ∷ [])) i ≡ some y → ifAny isShort (y .short) ≡ true)
     (held : (i : ℕ) (y : Form) → getElem? (before ++ (x ∷ [])) i ≡ some y → getD names i [] ≡ heldName y)
     (short : ShortNames x) where
-  forms : List Form
-  forms = before ++ (x ∷ [])
-
   held-fixed : (i : ℕ) (y : Form) (w : List ℕ) → getElem? (before ++ (x ∷ [])) i ≡ some y → isShort w ≡ true
       → isHeld names w i ≡ (isFixed y && any (same w) (readNames y))
   held-fixed i y w e q = rw (held i y e) (fixed-name y w (formed i y e) q)

@@ -12,8 +12,8 @@ use Rattle.rules.specs.Names.{isShort}
 use Rattle.rules.specs.Fields.{Width, fixed, measured, rest, Field, Form}
 use Rattle.rules.specs.Within.{keepsNames, keepsTypes, nameReadable}
 use Rattle.rules.specs.Frames.{Slot}
-use Rattle.texts.specs.Records.{indexed}
-use Rattle.texts.specs.States.{heldName}
+use Rattle.texts.specs.Resolved.{indexed}
+use Rattle.texts.specs.HeldNames.{heldName}
 use Rattle.text_laws.specs.Resolving.{indexOf, renameWidth}
 use Rattle.texts.proofs.LineTypes.{ShortNames}
 use Rattle.text_laws.specs.Lowest.{lower, broken}

@@ -1,20 +1,21 @@
 -- Facts of one field line: its form by its parts, its names as they are held, room for it.
-use mathlib.Core.Path.{_≡_, refl, ap, sym, _∙_, subst}
-use mathlib.Core.Bool.{Bool, true, false, cond, _||_, not}
+use mathlib.Core.Path.{_≡_, refl, ap, sym, _∙_}
+use mathlib.Core.Bool.{Bool, true, false, cond, _&&_, _||_}
 use mathlib.Core.List.{List, []}
 use mathlib.Core.Option.{Option, none, some}
 use Prim.Native.Nat.{ℕ, suc, _+_, _≤_, _<_}
 use native.Mathlib.Omega.{arith}
 use lib.Dec.{ltb, leb, eqb}
-use lib.ListN.{length, take, drop, set, length-set, length-map}
-use borrow.Author.Tests.{leb-true, leb-false, ne-eqb}
+use lib.ListN.{length, take, getD, set, length-set, length-map}
+use lib.Seq.{length-take-le}
+use borrow.Author.Tests.{leb-true, leb-false, eqb-true, ne-eqb}
 use Rattle.base.specs.Lists.{all, any, ifAny, headIs}
 use Rattle.base.proofs.Lists.{and-left, and-right, true-between, or-false-right}
-use Rattle.rules.specs.Limits.{fieldsMost, labelMost, shortMost}
+use Rattle.rules.specs.Limits.{fieldsMost, labelMost, shortMost, depthMost, storedMost}
 use Rattle.rules.specs.Answers.{Answer, refused}
 use Rattle.rules.specs.Names.{isShort, isLetter, isWordByte}
 use Rattle.rules.specs.Trees.{isSmall}
-use Rattle.rules.specs.Fields.{Width, fixed, measured, rest, Form, isFixed, isRest, trees}
+use Rattle.rules.specs.Fields.{Width, fixed, measured, rest, Form, isRest, trees}
 use Rattle.rules.specs.Stored.{storedName}
 use Rattle.names.specs.Repeats.{padTo}
 use Rattle.text_laws.specs.LineReader.{readForm}
@@ -22,49 +23,41 @@ use Rattle.text_laws.specs.Lowest.{lower, broken}
 use Rattle.text_laws.specs.Judging.{face, faces, rules, isOpen}
 use Rattle.text_laws.specs.Fold as fold
 use Rattle.text_laws.proofs.FormExact.{form-sound}
-use Rattle.writing.specs.declared.spans.Span.{Span}
-use Rattle.texts.specs.LinePlaces.{spanOf, spanIn, Fits, WidthIs, ShortIs, PartsAre, PartsFor}
-use Rattle.texts.specs.LineTests.{heldShort}
+use Rattle.texts.specs.PartPlaces.{spanIn}
+use Rattle.texts.specs.HeldNames.{heldName}
+use Rattle.texts.specs.HeldParts.{WidthHeld, Kept, PartsHeld, PartsFor}
+use Rattle.texts.specs.HeldRecords.{isSmallAs, fieldSize, Writable}
 use Rattle.texts.specs.Noted.{noteOf}
-use Rattle.texts.specs.Records.{fieldSize}
-use Rattle.texts.specs.States.{
-  note,
-  heldName,
-  Named,
-  NamedWith,
-  laterNote,
-  isTold,
-  isFullAs,
-  lineRefused,
-  lineKept,
-}
+use Rattle.texts.specs.States.{note, Named, NamedWith, laterNote, isTold, isFullAs, lineRefused, lineKept}
 use Rattle.texts.specs.States.{recordMost, Room, Counts}
 use Rattle.texts.specs.declared.notes.Note.{Note}
-use Rattle.texts.specs.declared.parts.TreeAt.{TreeAt}
-use Rattle.texts.specs.declared.parts.Parts.{Parts}
+use Rattle.texts.specs.declared.stored_trees.StoredTree.{StoredTree}
+use Rattle.texts.specs.declared.line_parts.Parts.{Parts}
 use Rattle.texts.specs.declared.states.Reading.{Reading}
 use Rattle.texts.proofs.FormRules.{NamesFormed, formed-names}
-use Rattle.texts.proofs.HeldArrays.{held-more}
-use Rattle.texts.proofs.LineRules.{fixed-kind, rest-kind}
-use Rattle.texts.proofs.RecordSizes.{size-sum, width-bound, label-length, short-length, width-most}
-use Rattle.texts.proofs.RecordSizes.{constraint-most, condition-most}
+use Rattle.texts.proofs.HeldArrays.{snoc-each, held-more}
+use Rattle.texts.proofs.LineRules.{rest-kind, element-in}
+use Rattle.texts.proofs.PartRules.{sizes-are}
+use Rattle.texts.proofs.PartSteps.{short-text}
+use Rattle.texts.proofs.PartBytes.{size-sum, width-bound, short-length}
 use Rattle.texts.proofs.RowSteps.{label-most}
 
 -- ── the form of a line, by its parts ──
 
-kind-some : (s : List ℕ) (v : Width (List ℕ)) (k b : ℕ) (p : TreeAt) → WidthIs s v k b p → k ≡ 0 → ⊥
-kind-some s (fixed n) k b p h e = absurd (omega (arith, h .0, e))
-kind-some s (measured u t) k b p h e = absurd (omega (arith, h .0, e))
-kind-some s rest k b p h e = absurd (omega (arith, h .0, e))
+module _ (names : List (List ℕ)) (n : ℕ) (s : List ℕ) where
+  kind-some : (v : Width (List ℕ)) (k b : ℕ) (t : StoredTree) → WidthHeld names n v k b t → k ≡ 0 → ⊥
+  kind-some (fixed m) k b t h e = absurd (omega (arith, h .0, e))
+  kind-some (measured u v) k b t h e = absurd (omega (arith, h .0, e))
+  kind-some rest k b t h e = absurd (omega (arith, h .0, e))
 
-pub form-none : (s : List ℕ) (o : Option Form) (p : Parts) → PartsFor s o p → p .kind ≡ 0 → o ≡ none
-form-none s none p h e = refl
-form-none s (some x) p h e = absurd (kind-some s (x .width) (p .kind) (p .bits) (p .width) (h .width) e)
+  pub form-none : (o : Option Form) (p : Parts) → PartsFor names n s o p → p .kind ≡ 0 → o ≡ none
+  form-none none p h e = refl
+  form-none (some x) p h e = absurd (kind-some (x .width) (p .kind) (p .bits) (p .width) (h .width) e)
 
-pub form-some : (s : List ℕ) (o : Option Form) (p : Parts) → PartsFor s o p → (p .kind ≡ 0 → ⊥)
-    → (x : Form) × (o ≡ some x) × PartsAre s x p
-form-some s none p h e = absurd (e h)
-form-some s (some x) p h e = (x, refl, h)
+  pub form-some : (o : Option Form) (p : Parts) → PartsFor names n s o p → (p .kind ≡ 0 → ⊥)
+      → (x : Form) × (o ≡ some x) × PartsHeld names n s x p
+  form-some none p h e = absurd (e h)
+  form-some (some x) p h e = (x, refl, h)
 
 -- ── its record ──
 
@@ -75,74 +68,92 @@ short-most (some w) h =
     leb-true (length w) shortMost
     (and-left (leb (length w) shortMost) _ (and-right (all isWordByte w) _ (and-right (headIs isLetter w) _ h)))
 
-pub field-most : (s : List ℕ) (x : Form) (p : Parts) → NamesFormed x → PartsAre s x p → all isSmall (trees x) ≡ true
-    → fieldSize p ≤ recordMost
-field-most s x p n is small =
-    omega (
-      arith,
-      size-sum p,
-      width-bound p (width-most s x p is small),
-      constraint-most s x p is small,
-      condition-most s x p is small,
-      label-length s x p is,
-      short-length s x p is,
-      label-most (x .label) (n .0),
-      short-most (x .short) (n .1),
-    )
+small-most : (d z : ℕ) → isSmallAs d z ≡ true → z ≤ storedMost
+small-most d z h = go (eqb z 0) refl h
+  where
+    go : (b : Bool) → eqb z 0 ≡ b → (b || (leb d depthMost && leb z storedMost)) ≡ true → z ≤ storedMost
+    go true e h = let q = eqb-true z 0 e in omega (arith, q)
+    go false e h = leb-true z storedMost (and-right (leb d depthMost) (leb z storedMost) h)
+
+module _ (names : List (List ℕ)) (n : ℕ) (s : List ℕ) (x : Form) (p : Parts) (is : PartsHeld names n s x p)
+    (small : all isSmall (trees x) ≡ true) where
+  trees-small : (isSmallAs (p .width .depth) (p .width .len) && (isSmallAs (p .constraint .depth) (p .constraint .len)
+      && isSmallAs (p .condition .depth) (p .condition .len))) ≡ true
+  trees-small = sizes-are p _ refl names n s x is ∙ small
+
+  pub parts-writable : Writable (length s) p
+  parts-writable =
+      let a = isSmallAs (p .width .depth) (p .width .len) in
+      let b = isSmallAs (p .constraint .depth) (p .constraint .len) in
+      let c = isSmallAs (p .condition .depth) (p .condition .len) in
+      let bc = and-right a (b && c) trees-small in
+      record {
+        label = is .labelFits;
+        short = is .shortFits;
+        width = small-most (p .width .depth) (p .width .len) (and-left a (b && c) trees-small);
+        constraint = small-most (p .constraint .depth) (p .constraint .len) (and-left b c bc);
+        condition = small-most (p .condition .depth) (p .condition .len) (and-right b c bc);
+      }
+
+  pub field-most : NamesFormed x → fieldSize p ≤ recordMost
+  field-most formed =
+      let w = parts-writable in
+      omega (
+        arith,
+        size-sum p,
+        width-bound p (w .width),
+        w .constraint,
+        w .condition,
+        length-take-le (p .label) s (is .labelFits),
+        ap length (is .label),
+        held-short-length,
+        label-most (x .label) (formed .0),
+        short-most (x .short) (formed .1),
+      )
+    where
+      held-short-length : length (storedName (x .short)) ≡ p .short .len
+      held-short-length = short-length names n s x p is (is .shortFits)
 
 -- ── its names ──
 
-module _ (s : List ℕ) (x : Form) (p : Parts) (is : PartsAre s x p) (line : p .line ≡ spanOf 0 (length s)) where
-  short-text : take (p .short .len) (drop (p .line .at + p .short .at) s) ≡ storedName (x .short)
-  short-text =
-      let e : p .line .at + p .short .at ≡ p .short .at = (let q = ap (λ (a : Span). a .at) line in omega (arith, q)) in
-      ap (λ (k : ℕ). take (p .short .len) (drop k s)) e ∙ go (x .short) (is .short)
-    where
-      go : (o : Option (List ℕ)) → ShortIs s o (p .short) → spanIn s (p .short) ≡ storedName o
-      go none q = rw q refl
-      go (some w) q = q
-
-  pub short-all : heldShort s false p ≡ padTo shortMost (storedName (x .short))
-  unfolding heldShort
-  short-all = ap (padTo shortMost) short-text
-
-  pub short-fixed : heldShort s true p ≡ heldName x
-  unfolding heldShort
-  short-fixed =
-      rw (fixed-kind s (x .width) (p .kind) (p .bits) (p .width) (is .width), short-text) (go (isFixed x))
-    where
-      go : (b : Bool) → padTo shortMost (cond (not b) [] (storedName (x .short)))
-          ≡ padTo shortMost (cond b (storedName (x .short)) [])
-      go true = refl
-      go false = refl
-
-  pub named-with : (f : fold.Found) (r : Reading) → Counts f r → r .fields < fieldsMost
-      → {labels shorts names labels′ shorts′ names′ : List (List ℕ)}
-      → Named (faces (f .judged .fields)) labels shorts names
+module _ (s : List ℕ) (x : Form) (p : Parts) {names : List (List ℕ)} {n : ℕ} (is : PartsHeld names n s x p) where
+  pub named-with : (f : fold.Found) (r : Reading) → Counts f r → r .fields < fieldsMost → n ≡ r .fields
+      → {labels shorts labels′ shorts′ : List (List ℕ)} → Named (faces (f .judged .fields)) labels shorts names
       → labels′ ≡ set labels (r .fields) (padTo labelMost (take (p .label) s))
-      → shorts′ ≡ set shorts (r .fields) (heldShort s false p) → names′ ≡ set names (r .fields) (heldShort s true p)
-      → NamedWith f x labels′ shorts′ names′
-  named-with f r c lt {labels} {shorts} {names} {labels′} {shorts′} {names′} h a b d =
+      → shorts′ ≡ set shorts (r .fields) (padTo shortMost (spanIn s (p .short)))
+      → NamedWith f x labels′ shorts′ names
+  named-with f r c lt at {labels} {shorts} {labels′} {shorts′} h a b =
       let before = faces (f .judged .fields) in
-      let n : r .fields ≡ length before = c .fields ∙ sym (length-map (f .judged .fields) face) in
-      let m : (v : List (List ℕ)) (w : List ℕ) → set v (r .fields) w ≡ set v (length before) w =
-      λ v w. ap (λ (k : ℕ). set v k w) n in
+      let m : r .fields ≡ length before = c .fields ∙ sym (length-map (f .judged .fields) face) in
+      let e : (v : List (List ℕ)) (w : List ℕ) → set v (r .fields) w ≡ set v (length before) w =
+      λ v w. ap (λ (k : ℕ). set v k w) m in
       let l₁ = length-set labels (r .fields) (padTo labelMost (take (p .label) s)) in
-      let l₂ = length-set shorts (r .fields) (heldShort s false p) in
-      let l₃ = length-set names (r .fields) (heldShort s true p) in
+      let l₂ = length-set shorts (r .fields) (padTo shortMost (spanIn s (p .short))) in
+      let own : getD names (length before) [] ≡ heldName x =
+      ap (λ (k : ℕ). getD names k []) (sym (at ∙ m)) ∙ is .own (omega (arith, at, lt, h .room .2)) in
       record {
-        label = rw (a ∙ m labels _) (held-more before x (λ y. padTo labelMost (y .label)) labels
-            (omega (arith, n, lt, h .room .0)) (h .label) _ (ap (padTo labelMost) (is .label)));
-        short = rw (b ∙ m shorts _) (held-more before x (λ y. padTo shortMost (storedName (y .short))) shorts
-            (omega (arith, n, lt, h .room .1)) (h .short) _ short-all);
-        name = rw (d ∙ m names _) (held-more before x (λ y. heldName y) names
-            (omega (arith, n, lt, h .room .2)) (h .name) _ short-fixed);
+        label = rw (a ∙ e labels _) (held-more before x (λ y. padTo labelMost (y .label)) labels
+            (omega (arith, m, lt, h .room .0)) (h .label) _ (ap (padTo labelMost) (is .label)));
+        short = rw (b ∙ e shorts _) (held-more before x (λ y. padTo shortMost (storedName (y .short))) shorts
+            (omega (arith, m, lt, h .room .1)) (h .short) _
+            (ap (padTo shortMost) (short-text s (x .short) (p .short) (is .short))));
+        name = snoc-each (λ i y. getD names i [] ≡ heldName y) before x (h .name) own;
         room = (
-          (let e = ap length a in omega (arith, e, l₁, h .room .0)),
-          (let e = ap length b in omega (arith, e, l₂, h .room .1)),
-          (let e = ap length d in omega (arith, e, l₃, h .room .2)),
+          (let z = ap length a in omega (arith, z, l₁, h .room .0)),
+          (let z = ap length b in omega (arith, z, l₂, h .room .1)),
+          h .room .2,
         );
       }
+
+-- the names of a line that is not kept leave those of the fields as they were
+pub named-kept : (l : List Form) (n : ℕ) {labels shorts names names′ : List (List ℕ)} → length l ≡ n
+    → Kept names n names′ → Named l labels shorts names → Named l labels shorts names′
+named-kept l n e k h = record {
+  label = h .label;
+  short = h .short;
+  name = λ i y z. k .names i (let q = element-in l i y z in omega (arith, q, e)) ∙ h .name i y z;
+  room = (h .room .0, h .room .1, (let q = k .long in let m = h .room .2 in omega (arith, q, m)));
+}
 
 -- ── 6 ──
 
@@ -173,9 +184,10 @@ module _ (f : fold.Found) (r : Reading) (x : Form) (c : Counts f r) where
       rw (c .lowest, n, six-broken f x large) refl
 
   -- the rest field is this one, or was listed before
-  pub rests-here : (s : List ℕ) (p : Parts) → PartsAre s x p
+  pub rests-here : {names : List (List ℕ)} {n : ℕ} {s : List ℕ} (p : Parts) → PartsHeld names n s x p
       → (r .rested || eqb (p .kind) 4) ≡ (any isRest (faces (f .judged .fields)) || isRest x)
-  rests-here s p is = rw (c .rested, rest-kind s (x .width) (p .kind) (p .bits) (p .width) (is .width)) refl
+  rests-here {names} {n} p is =
+      rw (c .rested, rest-kind names n (x .width) (p .kind) (p .bits) (p .width) (is .width)) refl
 
 pub line-formed : (l : List ℕ) (x : Form) → readForm l ≡ some x → NamesFormed x
 line-formed l x e = formed-names x (form-sound l x e .formed)
@@ -242,10 +254,3 @@ room-kept r cell end rested a h lt le up most t = record {
   end = (let q = h .end in omega (arith, q, most));
   told = t;
 }
-
-pub span-fits : (n : ℕ) (p : Parts) → p .line ≡ spanOf 0 n → Fits n p
-    → (p .line .at + p .line .len ≤ n) × Fits (p .line .len) p
-span-fits n p e h =
-    let a : p .line .at ≡ 0 = ap (λ (s : Span). s .at) e in
-    let l : p .line .len ≡ n = ap (λ (s : Span). s .len) e in
-    (omega (arith, a, l), subst (λ (m : ℕ). Fits m p) (sym l) h)

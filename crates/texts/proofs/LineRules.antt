@@ -10,25 +10,27 @@ use borrow.Author.Tests.{eq-eqb, ne-eqb}
 use Rattle.base.specs.Lists.{isNone}
 use Rattle.rules.specs.Trees.{Tree}
 use Rattle.rules.specs.Fields.{Width, fixed, measured, rest, isFixedWidth, isRestWidth}
-use Rattle.texts.specs.LinePlaces.{MaybeIs, WidthIs}
-use Rattle.texts.specs.declared.parts.TreeAt.{TreeAt}
-use Rattle.texts.proofs.TreeTypes.{stored-some}
+use Rattle.texts.specs.HeldParts.{MaybeHeld, WidthHeld}
+use Rattle.texts.specs.declared.stored_trees.StoredTree.{StoredTree}
+use Rattle.texts.proofs.StoredSteps.{some-length}
 
 -- ── kinds and conditions, as the code holds them ──
 
-pub fixed-kind : (s : List ℕ) (v : Width (List ℕ)) (k b : ℕ) (p : TreeAt) → WidthIs s v k b p → eqb k 2 ≡ isFixedWidth v
-fixed-kind s (fixed n) k b p h = rw (h .0) refl
-fixed-kind s (measured u t) k b p h = rw (h .0) refl
-fixed-kind s rest k b p h = rw (h .0) refl
+module _ (names : List (List ℕ)) (n : ℕ) where
+  pub fixed-kind : (v : Width (List ℕ)) (k b : ℕ) (t : StoredTree) → WidthHeld names n v k b t
+      → eqb k 2 ≡ isFixedWidth v
+  fixed-kind (fixed m) k b t h = rw (h .0) refl
+  fixed-kind (measured u v) k b t h = rw (h .0) refl
+  fixed-kind rest k b t h = rw (h .0) refl
 
-pub rest-kind : (s : List ℕ) (v : Width (List ℕ)) (k b : ℕ) (p : TreeAt) → WidthIs s v k b p → eqb k 4 ≡ isRestWidth v
-rest-kind s (fixed n) k b p h = rw (h .0) refl
-rest-kind s (measured u t) k b p h = rw (h .0) refl
-rest-kind s rest k b p h = rw (h .0) refl
+  pub rest-kind : (v : Width (List ℕ)) (k b : ℕ) (t : StoredTree) → WidthHeld names n v k b t → eqb k 4 ≡ isRestWidth v
+  rest-kind (fixed m) k b t h = rw (h .0) refl
+  rest-kind (measured u v) k b t h = rw (h .0) refl
+  rest-kind rest k b t h = rw (h .0) refl
 
-pub none-size : (s : List ℕ) (o : Option (Tree (List ℕ))) (p : TreeAt) → MaybeIs s o p → eqb (p .size) 0 ≡ isNone o
-none-size s none p h = eq-eqb (p .size) 0 h
-none-size s (some t) p h = ne-eqb (p .size) 0 (λ e. absurd (omega (arith, e, h .size, stored-some (λ a. 0) t)))
+  pub none-length : (o : Option (Tree (List ℕ))) (t : StoredTree) → MaybeHeld names n o t → eqb (t .len) 0 ≡ isNone o
+  none-length none t h = eq-eqb (t .len) 0 h
+  none-length (some v) t h = ne-eqb (t .len) 0 (λ e. absurd (omega (arith, e, h .len, some-length v)))
 
 pub element-at : {A : Type 0} (l : List A) (i : ℕ) → i < length l → (x : A) × (getElem? l i ≡ some x)
 element-at [] i lt = absurd (omega arith)

@@ -12,7 +12,7 @@ use Rattle.base.proofs.Lists.{and-left, and-right, not-both}
 use Rattle.rules.specs.Limits.{numberMost}
 use Rattle.rules.specs.Names.{isDigit}
 use Rattle.text_laws.specs.Reader.{scan, wordValue, isNumberWord}
-use Rattle.texts.proofs.ExprLeaves.{digit-range, scan-step, scan-end, scan-ge, number-other, number-large}
+use Rattle.texts.proofs.ExprLeaves.{scan-step, scan-end, scan-ge, number-other, number-large}
 
 word-digits : (w : List ℕ) → isNumberWord w ≡ true → all isDigit w ≡ true
 word-digits w y = go (all isDigit w) refl

@@ -1,5 +1,6 @@
 -- The bytes that the code writes of a field line are its record.
 use mathlib.Core.Path.{_≡_, refl, ap, ap₂, sym, _∙_}
+use mathlib.Core.Bool.{Bool, true, false, cond}
 use mathlib.Core.List.{List, [], _++_, append-assoc}
 use mathlib.Core.Option.{Option, none, some, Option·map}
 use Prim.Native.Nat.{ℕ, _+_, _-_, _≤_}
@@ -7,6 +8,7 @@ use native.Mathlib.Omega.{arith}
 use native.Mathlib.Nat.{sub-zero}
 use lib.ListN.{length, take, length-append}
 use lib.Seq.{length-take-le}
+use lib.Dec.{eqb}
 use borrow.Author.Tests.{ne-eqb}
 use Rattle.writing.specs.Writes.{Writes}
 use Rattle.writing.proofs.Writing.{writes-none, writes-join}
@@ -17,7 +19,7 @@ use Rattle.rules.specs.Stored.{storedFieldIn, counted, kindNumber, storedWidth,
 use Rattle.rules.specs.Stored.{storedField}
 use Rattle.text_laws.specs.Resolving.{renameTree, renameWidth}
 use Rattle.writing.specs.Puts.{placed, put}
-use Rattle.texts.specs.Records.{indexed}
+use Rattle.texts.specs.Resolved.{indexed}
 use Rattle.texts.specs.StoredTrees.{lookUp, StoredIs}
 use Rattle.texts.specs.HeldParts.{MaybeHeld, WidthHeld, PartsHeld}
 use Rattle.texts.specs.HeldRecords.{treeBytes, widthBytes, widthSize, nameBytes}
@@ -83,6 +85,15 @@ size-measured p e = rw e refl
 pub size-rest : (p : Parts) → (p .kind ≡ 2 → ⊥) → (p .kind ≡ 3 → ⊥) → widthSize p ≡ 0
 unfolding widthSize
 size-rest p e f = rw (ne-eqb (p .kind) 2 e, ne-eqb (p .kind) 3 f) refl
+
+pub width-bound : (p : Parts) → p .width .len ≤ storedMost → widthSize p ≤ 4 + storedMost
+unfolding widthSize
+width-bound p le = go (eqb (p .kind) 2) (eqb (p .kind) 3)
+  where
+    go : (a b : Bool) → cond a 2 (cond b (4 + p .width .len) 0) ≤ 4 + storedMost
+    go true b = omega arith
+    go false true = omega (arith, le)
+    go false false = omega arith
 
 pub tree-put : (t : StoredTree) {before after : List ℕ} {at next : ℕ} → t .len ≤ length (t .bytes)
     → at + (2 + t .len) ≤ length before → placed next after ≡ put before at (counted (take (t .len - 0) (t .bytes)))
@@ -182,6 +193,13 @@ width-length names n (measured u v) p h =
 width-length names n rest p h =
     sym (size-rest p (λ e. absurd (omega (arith, e, h .0))) (λ e. absurd (omega (arith, e, h .0))))
 
+pub short-length : (names : List (List ℕ)) (n : ℕ) (line : List ℕ) (x : Form) (p : Parts)
+    → PartsHeld names n line x p → p .short .at + p .short .len ≤ length line
+    → length (storedName (x .short)) ≡ p .short .len
+short-length names n line x p h le =
+    ap length (sym (short-text line (x .short) (p .short) (h .short)) ∙ sym (part-span line (p .short)))
+    ∙ part-length line (p .short) le
+
 pub record-bytes : (names : List (List ℕ)) (n : ℕ) (line : List ℕ) (x : Form) (p : Parts) → PartsHeld names n line x p
     → Writable (length line) p → fieldBytes line p ≡ storedField (indexed names n x)
 unfolding storedFieldIn fieldBody
@@ -212,11 +230,6 @@ record-bytes names n line x p h w =
         ++ (counted (storedMaybe (indexed names n x .constraint))
         ++ counted (storedMaybe (indexed names n x .condition))))
 
-    short-length : length (storedName (x .short)) ≡ p .short .len
-    short-length =
-        ap length (sym (short-text line (x .short) (p .short) (h .short)) ∙ sym (part-span line (p .short)))
-        ∙ part-length line (p .short) (w .short)
-
     size-is : fieldSize p ≡ 4 + length (fieldBody (indexed names n x))
     size-is =
         let a = counted (x .label) in
@@ -235,7 +248,7 @@ record-bytes names n line x p h w =
           ap length (sym (h .label)),
           length-take-le (p .label) line (w .label),
           counted-length (storedName (x .short)),
-          short-length,
+          short-length names n line x p h (w .short),
           width-length names n (x .width) p (h .width),
           maybe-length names (n + 1) (x .constraint) (p .constraint) (h .constraint),
           maybe-length names n (x .condition) (p .condition) (h .condition),

@@ -14,7 +14,7 @@ use Rattle.rules.specs.Limits.{depthMost, storedMost}
 use Rattle.rules.specs.Trees.{Tree, depth, isSmall, hasType}
 use Rattle.rules.specs.Fields.{Width, fixed, measured, rest, trees, widthTrees}
 use Rattle.rules.specs.Within.{widthHasType}
-use Rattle.texts.specs.LineTests.{typesKept}
+use Rattle.texts.specs.Resolved.{typesKept}
 use Rattle.texts.specs.StoredTrees.{mayRead, typeCode, StoredIs}
 use Rattle.texts.specs.HeldParts.{MaybeHeld, WidthHeld}
 use Rattle.texts.specs.HeldRecords.{isSmallAs, isTypeAs, TestsForm}

@@ -13,7 +13,7 @@ use Rattle.rules.specs.Names.{isLabel}
 use Rattle.rules.specs.Fields.{Width, fixed, measured, rest, Form, cellNames}
 use Rattle.rules.specs.Frames.{Slot}
 use Rattle.rules.specs.Spelling.{isPlaceFor}
-use Rattle.texts.specs.LinePlaces.{spanIn}
+use Rattle.texts.specs.PartPlaces.{spanIn}
 use Rattle.texts.specs.Slots.{storedSlot}
 use Rattle.texts.specs.HeldParts.{WidthHeld, PartsHeld}
 use Rattle.texts.specs.HeldRecords.{isNamedBy, isPlacedBy, PartShows}

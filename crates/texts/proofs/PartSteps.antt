@@ -1,6 +1,6 @@
 -- The parts of a field line with their expressions in stored form, against the reader of the line.
 use mathlib.Core.Path.{_≡_, refl, ap, sym, _∙_}
-use mathlib.Core.Bool.{Bool, true, false, cond}
+use mathlib.Core.Bool.{true, false}
 use mathlib.Core.List.{List, []}
 use mathlib.Core.Option.{Option, none, some}
 use Prim.Native.Nat.{ℕ, _+_, _-_, _≤_, _<_}
@@ -18,7 +18,7 @@ use Rattle.names.specs.Repeats.{padTo, sameName}
 use Rattle.names.proofs.RepeatLaws.{search-same}
 use Rattle.text_laws.specs.LineReader.{begins, readLabel, readShort, readWidth, formOf, readForm}
 use Rattle.texts.specs.FieldPlaces.{SameLabel, SameShort}
-use Rattle.texts.specs.LinePlaces.{spanOf, spanIn, ShortIs}
+use Rattle.texts.specs.PartPlaces.{spanOf, spanIn, ShortIs}
 use Rattle.texts.specs.PartPlaces.{readBehind}
 use Rattle.texts.specs.HeldParts.{WidthHeld, MeasureAs, MeasureFor, EndsFor, ownIn, Kept, PartsFor}
 use Rattle.texts.specs.HeldParts.{BehindFor}

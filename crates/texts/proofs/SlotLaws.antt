@@ -1,28 +1,21 @@
 -- A cell as it is kept: its bytes, and whether it is one for the field of a line.
 use mathlib.Core.Path.{_≡_, refl, ap, sym, _∙_}
-use mathlib.Core.Bool.{Bool, true, false, _&&_}
+use mathlib.Core.Bool.{Bool, true, false}
 use mathlib.Core.List.{List, [], _∷_, _++_}
 use Prim.Native.Nat.{ℕ, _+_, _-_, _/_, _≤_, _<_}
 use native.Mathlib.Omega.{arith}
 use lib.Dec.{eqb}
 use lib.ListN.{length, take, drop, getD, length-drop, length-append}
 use lib.Seq.{getD-drop, drop-drop, take-append-seam, length-take-le}
-use Rattle.base.specs.Lists.{any, same}
 use Rattle.writing.specs.Writes.{Writes}
 use Rattle.writing.proofs.Writing.{writes-join}
-use Rattle.rules.specs.Names.{isLabel}
-use Rattle.rules.specs.Fields.{Form, cellNames}
 use Rattle.rules.specs.Frames.{Slot}
-use Rattle.rules.specs.Spelling.{isPlaceFor}
 use Rattle.rules.specs.Values.{yesNo}
 use Rattle.writing.specs.Puts.{placed, put}
 use Rattle.writing.proofs.PutLaws.{put-writes}
 use Rattle.text_laws.specs.FrameReader.{leftTrim, rightTrim}
-use Rattle.texts.specs.LinePlaces.{PartsAre}
-use Rattle.texts.specs.Slots.{slotOf, storedSlot, isNameIn, isPlaceIn, SlotShows}
-use Rattle.texts.specs.declared.parts.Parts.{Parts}
+use Rattle.texts.specs.Slots.{slotOf, storedSlot}
 use Rattle.texts.proofs.FrameLeaves.{take-rest}
-use Rattle.texts.proofs.CellNames.{name-is, width-is}
 
 -- ── its bytes ──
 
@@ -76,37 +69,6 @@ module _ (cells : List ℕ) (at len : ℕ) (room : at + 3 ≤ length cells) (is 
   pub end-some : (c : Slot) (behind : List ℕ) → drop at cells ≡ storedSlot c ++ behind
       → at + 3 + len ≡ at + length (storedSlot c)
   end-some c behind e = omega (arith, is, slot-size cells at c behind e, slot-length c)
-
--- ── the field of a line ──
-
-module _ (cells line : List ℕ) (at end : ℕ) (p : Parts)
-    (ends : (c : Slot) (behind : List ℕ) → drop at cells ≡ storedSlot c ++ behind → end ≡ at + length (storedSlot c))
-  where
-    abbrev pub named : Bool
-    named = isNameIn (take (end - (at + 3)) (drop (at + 3) cells)) line p
-
-    same-named : (c : Slot) (behind : List ℕ) (x : Form) → drop at cells ≡ storedSlot c ++ behind
-        → isLabel (c .text) ≡ true → PartsAre line x p → named ≡ any (same (c .text)) (cellNames x)
-    same-named c behind x e h o =
-        let n : end - (at + 3) ≡ length (c .text) = omega (arith, ends c behind e, slot-length c) in
-        ap (λ (m : ℕ). isNameIn (take m (drop (at + 3) cells)) line p) n
-        ∙ ap (λ (w : List ℕ). isNameIn w line p) (slot-text cells at c behind e)
-        ∙ name-is line (c .text) x p o h
-
-    pub slot-not : (y : Bool) → y ≡ named → y ≡ false → SlotShows cells at line p false
-    slot-not y e z c behind x d h o =
-        let q : any (same (c .text)) (cellNames x) ≡ false = sym (same-named c behind x d h o) ∙ sym e ∙ z in
-        ap (λ (b : Bool). b && isPlaceFor c (x .width)) (sym q)
-
-    pub slot-yes : (y r : Bool) → y ≡ named → y ≡ true
-        → r ≡ isPlaceIn (eqb (getD cells at 0) 1) (getD cells (at + 1) 0) p → SlotShows cells at line p r
-    slot-yes y r e z f c behind x d h o =
-        let q : any (same (c .text)) (cellNames x) ≡ true = sym (same-named c behind x d h o) ∙ sym e ∙ z in
-        f
-        ∙ ap (λ (b : Bool). isPlaceIn b (getD cells (at + 1) 0) p) (slot-long cells at c behind d)
-        ∙ ap (λ (n : ℕ). isPlaceIn (c .long) n p) (slot-bits cells at c behind d)
-        ∙ width-is line c (x .width) (p .kind) (p .bits) (p .width) (o .width)
-        ∙ ap (λ (b : Bool). b && isPlaceFor c (x .width)) (sym q)
 
 -- ── a cell that is put, with its name behind the spaces in front ──
 

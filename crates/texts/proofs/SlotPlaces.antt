@@ -62,9 +62,6 @@ length-at (d ∷ cs) (suc i) c e =
     omega (arith, m, a, b)
 
 module _ (f : fold.Found) (r : Reading) (cells : List ℕ) (counts : Counts f r) (slots : Slots f r cells) where
-  abbrev index : ℕ
-  index = length (f .judged .fields)
-
   -- ── no cell is left ──
 
   pub none-shown : r .cells ≤ r .fields → (x : Form) → false ≡ showsCell (f .cells) (faces (f .judged .fields)) x

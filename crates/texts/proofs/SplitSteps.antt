@@ -1,13 +1,11 @@
 -- The pieces of a text from a place on, one by one, as the code reads them.
 use mathlib.Core.Path.{_≡_, refl, _∙_}
-use mathlib.Core.Bool.{Bool, true, false, cond}
 use mathlib.Core.List.{List, [], _∷_}
 use Prim.Native.Nat.{ℕ, suc, _+_, _-_, _≤_, _<_}
 use native.Mathlib.Omega.{arith}
-use lib.Dec.{eqb}
 use lib.ListN.{length, take, drop, length-drop}
 use lib.Seq.{drop-drop, drop-length, length-take-le}
-use Rattle.text_laws.specs.FrameReader.{onFirst, pieces, rest}
+use Rattle.text_laws.specs.FrameReader.{pieces, rest}
 use Rattle.texts.specs.FramePlaces.{upTo}
 use Rattle.texts.proofs.FrameLeaves.{pieces-first, pieces-none}
 use Rattle.texts.proofs.RowLeaves.{rest-first}
@@ -43,14 +41,3 @@ pub pieces-end : (e : ℕ) (s : List ℕ) (at : ℕ) → length s ≤ at → at 
     → (pieces e (drop at s) ≡ []) × (rest e (drop at s) ≡ [])
 unfolding pieces rest
 pieces-end e s at le le′ = let q : at ≡ length s = omega arith in rw (q, drop-length s) (refl, refl)
-
-pub pieces-most : (e : ℕ) (s : List ℕ) → length (pieces e s) ≤ length s
-unfolding pieces onFirst
-pieces-most e [] = omega arith
-pieces-most e (b ∷ s) = go (eqb b e) (pieces e s) (pieces-most e s)
-  where
-    go : (x : Bool) (ls : List (List ℕ)) → length ls ≤ length s
-        → length (cond x ([] ∷ ls) (onFirst b ls)) ≤ suc (length s)
-    go true ls h = omega arith
-    go false [] h = omega arith
-    go false (l ∷ ls) h = omega arith

@@ -1,6 +1,6 @@
 -- Widths with their expressions in stored form, against the reader over what is left of the text.
 use mathlib.Core.Path.{_≡_, refl, ap, sym, _∙_}
-use mathlib.Core.Bool.{Bool, true, false, _&&_}
+use mathlib.Core.Bool.{true, false, _&&_}
 use mathlib.Core.List.{List, []}
 use Prim.Native.Nat.{ℕ, _+_, _*_, _≤_, _<_}
 use native.Mathlib.Omega.{arith}
@@ -14,7 +14,7 @@ use Rattle.rules.specs.Limits.{fixedMost}
 use Rattle.rules.specs.Trees.{Tree, num, read, two, negation, isNumber}
 use Rattle.rules.specs.Fields.{fixed, measured, rest}
 use Rattle.rules.specs.Within.{isWidth}
-use Rattle.text_laws.specs.LineReader.{miss, hit, keep, begins, readTree, widthOf, readMeasure, readWidth}
+use Rattle.text_laws.specs.LineReader.{miss, hit, keep, begins, readTree, readMeasure, readWidth}
 use Rattle.texts.specs.PartPlaces.{spacedUnit, isUnit}
 use Rattle.texts.specs.HeldParts.{FixedFor, MeasureWithin, MeasureFor, SizedFor}
 use Rattle.texts.specs.StoredTrees.{StoredIs, StoredFor}

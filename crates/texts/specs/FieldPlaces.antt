@@ -6,7 +6,7 @@ use mathlib.Core.Option.{Option, none, some}
 use Prim.Native.Nat.{ℕ, _-_, _≤_, _<_}
 use lib.Dec.{eqb}
 use lib.ListN.{length, take, drop}
-use Rattle.rules.specs.Trees.{Tree, depth, storedLength}
+use Rattle.rules.specs.Trees.{Tree}
 use Rattle.text_laws.specs.LineReader.{Got, miss, hit, bind, readTree}
 use Rattle.texts.specs.declared.units.Bits.{Bits}
 use Rattle.texts.specs.declared.units.Bits.the-variants as bits
@@ -14,8 +14,6 @@ use Rattle.texts.specs.declared.labels.Label.{Label}
 use Rattle.texts.specs.declared.labels.Label.the-variants as label
 use Rattle.texts.specs.declared.labels.Short.{Short}
 use Rattle.texts.specs.declared.labels.Short.the-variants as short
-use Rattle.texts.specs.declared.field_clauses.Clause.{Clause}
-use Rattle.texts.specs.declared.field_clauses.Clause.the-variants as clause
 
 -- ── units ──
 
@@ -64,14 +62,3 @@ WithinShort s at (short.At a b n) = (at ≤ a) × (a ≤ b) × (b ≤ n) × (n �
 -- an expression behind its phrase
 unfoldable pub treeClause : List ℕ → Got (Option (Tree (List ℕ)))
 treeClause s = bind (readTree s) (λ t q. hit (some t) q)
-
--- the same, with where the tree is read, its depth and stored length
-unfoldable pub SameClause : List ℕ → Got (Option (Tree (List ℕ))) → Clause → Type 0
-SameClause s miss r = r ≡ clause.Nothing
-SameClause s (hit none q) r = (n : ℕ) × (r ≡ clause.At n n 0 0) × (drop n s ≡ q)
-SameClause s (hit (some t) q) r = (a : ℕ) × (n : ℕ) × (r ≡ clause.At a n (depth t) (storedLength t)) ×
-    (readTree (drop a s) ≡ hit t q) × (drop n s ≡ q)
-
-unfoldable pub WithinClause : List ℕ → ℕ → Clause → Type 0
-WithinClause s at clause.Nothing = Unit {0}
-WithinClause s at (clause.At a n d z) = (at ≤ a) × (a ≤ n) × (n ≤ length s)

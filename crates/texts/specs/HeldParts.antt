@@ -10,12 +10,12 @@ use lib.ListN.{length, take, drop, getD}
 use Rattle.base.specs.Lists.{between}
 use Rattle.rules.specs.Limits.{fixedMost, shortMost}
 use Rattle.rules.specs.Trees.{Tree}
-use Rattle.rules.specs.Fields.{Width, fixed, measured, rest, Form, isFixed}
-use Rattle.rules.specs.Stored.{storedName}
+use Rattle.rules.specs.Fields.{Width, fixed, measured, rest, Form}
 use Rattle.rules.specs.Within.{isWidth}
 use Rattle.names.specs.Repeats.{padTo}
 use Rattle.text_laws.specs.LineReader.{Got, miss, hit, keep, readTree, widthOf, formOf}
-use Rattle.texts.specs.LinePlaces.{spanIn, ShortIs}
+use Rattle.texts.specs.HeldNames.{heldName}
+use Rattle.texts.specs.PartPlaces.{spanIn, ShortIs}
 use Rattle.texts.specs.PartPlaces.{Ending, readEnds, readBehind}
 use Rattle.texts.specs.StoredTrees.{StoredIs}
 use Rattle.writing.specs.declared.spans.Span.{Span}
@@ -98,11 +98,7 @@ SizedFor s at t u next r = (names : List (List ℕ)) (n : ℕ) (v : Tree (List �
 
 -- ── the line ──
 
--- the name by which a field may be read, held: none for a field that is not fixed
-abbrev pub ownName : Form → List ℕ
-ownName x = padTo shortMost (cond (isFixed x) (storedName (x .short)) [])
-
--- the same by the short name of the line s and the kind
+-- the name by which the field of the line s may be read, by its short name and kind
 abbrev pub ownIn : List ℕ → Span → ℕ → List ℕ
 ownIn s short kind = padTo shortMost (cond (eqb kind 2) (spanIn s short) [])
 
@@ -120,7 +116,7 @@ pub record PartsHeld (names : List (List ℕ)) (n : ℕ) (s : List ℕ) (x : For
   pub width : WidthHeld names n (x .width) (p .kind) (p .bits) (p .width)
   pub constraint : MaybeHeld names (n + 1) (x .constraint) (p .constraint)
   pub condition : MaybeHeld names n (x .condition) (p .condition)
-  pub own : n < length names → getD names n [] ≡ ownName x
+  pub own : n < length names → getD names n [] ≡ heldName x
 
 -- the kind 0 stands for a line without a form
 abbrev pub PartsFor : List (List ℕ) → ℕ → List ℕ → Option Form → Parts → Type 0

@@ -14,7 +14,7 @@ use Rattle.rules.specs.Fields.{Form}
 use Rattle.rules.specs.Frames.{Slot}
 use Rattle.rules.specs.Spelling.{shows}
 use Rattle.rules.specs.Stored.{counted}
-use Rattle.texts.specs.LinePlaces.{spanIn}
+use Rattle.texts.specs.PartPlaces.{spanIn}
 use Rattle.texts.specs.Slots.{storedSlot}
 use Rattle.texts.specs.HeldParts.{PartsHeld}
 use Rattle.texts.specs.declared.stored_trees.StoredTree.{StoredTree}

@@ -6,13 +6,13 @@ use mathlib.Core.Option.{Option, none, some}
 use Prim.Native.Nat.{ℕ, suc, _+_, _-_, _*_, _≤_}
 use lib.Dec.{eqb, ltb, leb}
 use lib.ListN.{length, take, drop, getD, getElem?}
-use Rattle.base.specs.Lists.{any, joined, between, isEmpty}
+use Rattle.base.specs.Lists.{all, any, joined, between, isEmpty}
 use Rattle.writing.specs.Writes.{Writes}
 use Rattle.rules.specs.declared.TextAnswer.{TextAnswer}
 use Rattle.rules.specs.Answers.{Answer, ofText}
 use Rattle.rules.specs.Limits.{textMost, fieldsMost, labelMost, shortMost}
-use Rattle.rules.specs.Fields.{Field, Form, isFixed, isRest}
-use Rattle.rules.specs.Trees.{le2}
+use Rattle.rules.specs.Fields.{Field, Form, isRest, trees}
+use Rattle.rules.specs.Trees.{le2, isSmall}
 use Rattle.rules.specs.Stored.{counted, recordOf, storedName, storedField}
 use Rattle.rules.specs.Promises.{leaves}
 use Rattle.names.specs.Repeats.{padTo}
@@ -23,12 +23,13 @@ use Rattle.text_laws.specs.Judging.{faces, showsCell, isFull}
 use Rattle.text_laws.specs.Fold as fold
 use Rattle.text_laws.specs.Steady.{StandIn, isHead, Steady}
 use Rattle.text_laws.specs.LineReader.{readForm}
-use Rattle.texts.specs.LinePlaces.{spanOf}
-use Rattle.texts.specs.Records as RecordsOf
+use Rattle.texts.specs.HeldNames.{heldName}
+use Rattle.texts.specs.HeldParts.{PartsHeld}
+use Rattle.texts.specs.HeldRecords.{fieldSize, Writable}
 use Rattle.texts.specs.Noted.{noteOf}
 use Rattle.texts.specs.Slots.{storedSlot}
 use Rattle.texts.specs.declared.notes.Note.{Note}
-use Rattle.texts.specs.declared.parts.Parts.{Parts}
+use Rattle.texts.specs.declared.line_parts.Parts.{Parts}
 use Rattle.texts.specs.declared.states.Stage.{Stage}
 use Rattle.texts.specs.declared.states.Stage.the-variants as at
 use Rattle.texts.specs.declared.states.Reading.{Reading}
@@ -196,10 +197,6 @@ pub record Records (f : fold.Found) (r : Reading) (table : List ℕ) : Type 0 wh
   pub stored : take (r .end) table ≡ f .name ++ joined storedField fields
   pub end : r .end ≡ length (f .name ++ joined storedField fields)
 
--- a form's short name as it is held for reading: none for a field that is not fixed
-abbrev pub heldName : {N : Type 0} → Field N → List ℕ
-heldName x = padTo shortMost (cond (isFixed x) (storedName (x .short)) [])
-
 -- the names of fields, by value
 pub record Named (forms : List Form) (labels shorts names : List (List ℕ)) : Type 0 where
   pub label : (i : ℕ) (y : Form) → getElem? forms i ≡ some y → getD labels i [] ≡ padTo labelMost (y .label)
@@ -262,9 +259,9 @@ LineRoom r line cells table =
     Room r × (r .lines ≤ textMost) × (length line ≤ textMost) × (slotsMost ≤ length cells)
     × (recordsMost ≤ length table)
 
--- the line has a form, whose parts are p and whose expressions are small
-abbrev pub FormIs : List ℕ → Parts → Type 0
-FormIs line p = (x : Form) × (readForm line ≡ some x) × RecordsOf.Small line x p × (p .line ≡ spanOf 0 (length line))
+-- parts that can be written behind the records
+abbrev pub PartsRoom : List ℕ → Parts → Type 0
+PartsRoom line p = Writable (length line) p × (fieldSize p ≤ recordMost)
 
 -- behind a field line
 abbrev pub FieldStep : List ℕ → Reading → Reading → List ℕ → List ℕ → List ℕ → List (List ℕ) → List (List ℕ)
@@ -274,13 +271,14 @@ FieldStep line r q cells table table′ labels labels′ shorts shorts′ names 
     × ((f : fold.Found) → Steady f → Holds f r cells table labels shorts names
     → Holds (fold.withField f line) q cells table′ labels′ shorts′ names′)
 
--- the same where not too many lines have come
-abbrev pub FormStep : List ℕ → Reading → Reading → List ℕ → List ℕ → List ℕ → List (List ℕ) → List (List ℕ)
-    → List (List ℕ) → List (List ℕ) → List (List ℕ) → List (List ℕ) → Type 0
-FormStep line r q cells table table′ labels labels′ shorts shorts′ names names′ =
+-- the same for a line of small expressions with the parts p, where not too many lines have come
+abbrev pub FormStep : List ℕ → Parts → Reading → Reading → List ℕ → List ℕ → List ℕ → List (List ℕ) → List (List ℕ)
+    → List (List ℕ) → List (List ℕ) → Type 0
+FormStep line p r q cells table table′ labels labels′ shorts shorts′ =
     (length table′ ≡ length table)
-    × ((f : fold.Found) → Steady f → isFull (f .judged) ≡ false → Holds f r cells table labels shorts names
-    → Holds (fold.withField f line) q cells table′ labels′ shorts′ names′)
+    × ((f : fold.Found) (x : Form) (names : List (List ℕ)) → Steady f → isFull (f .judged) ≡ false
+    → Holds f r cells table labels shorts names → readForm line ≡ some x → all isSmall (trees x) ≡ true
+    → PartsHeld names (r .fields) line x p → Holds (fold.withField f line) q cells table′ labels′ shorts′ names)
 
 -- ── the end ──
 

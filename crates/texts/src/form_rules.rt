@@ -1,10 +1,10 @@
 // The rules 7 to 10 of a field line that has a form.
+use crate::line_parts::Parts;
 use crate::line_rules::misplaced;
-use crate::line_types::types_kept;
 use crate::name_clashes::clashes;
 use crate::notes::Note;
-use crate::parts::Parts;
-use crate::shown_slots::slot_shows;
+use crate::part_slots::part_shows;
+use crate::part_tests::types_kept;
 use crate::states::Reading;
 use rules::FIELDS_MOST;
 use rules::LABEL_MOST;
@@ -21,21 +21,23 @@ ghost use Rattle.text_laws.specs.LineReader.{readForm};
 ghost use Rattle.text_laws.specs.Judging.{faces, showsCell};
 ghost use Rattle.text_laws.specs.Fold.{Found};
 ghost use Rattle.text_laws.specs.Steady.{Steady};
-ghost use Rattle.texts.specs.LinePlaces.{Fits, PartsAre};
+ghost use Rattle.texts.specs.HeldParts.{PartsHeld};
 ghost use Rattle.texts.specs.Noted.{noteOf};
+ghost use Rattle.texts.specs.PartPlaces.{NamesFit};
 ghost use Rattle.texts.specs.States.{slotsMost, Room, Counts, Slots, isTold, laterNote, NamedWith};
 
 // There is a cell for the field, and it is one for the line.
 fn shows_cell(r: Reading, line: &[u8], p: Parts, cells: &[u8]) -> bool
-    requires { ⌜ Room r × Fits (length (now line)) p × (slotsMost ≤ length (now cells)) ⌝ }
-    ensures { λ b. ⌜ ((f : Found) (x : Form) → Steady f → Counts f r → Slots f r (now (cells .entry))
-        → PartsAre (now (line .entry)) x p → b ≡ showsCell (f .cells) (faces (f .judged .fields)) x) ⌝ }
+    requires { ⌜ Room r × NamesFit (length (now line)) (p .label) (p .short) × (slotsMost ≤ length (now cells)) ⌝ }
+    ensures { λ b. ⌜ ((f : Found) (x : Form) (names : List (List ℕ)) → Steady f → Counts f r
+        → Slots f r (now (cells .entry)) → PartsHeld names (r .fields) (now (line .entry)) x p
+        → b ≡ showsCell (f .cells) (faces (f .judged .fields)) x) ⌝ }
 {
     if r.cells <= r.fields {
         return false;
     }
     let at = r.cell;
-    slot_shows(cells, at, line, p)
+    part_shows(cells, at, line, p)
 }
 
 // The first of the rules 7 to 10 that the line breaks. Its names are held behind those of the fields.
@@ -46,14 +48,14 @@ pub(crate) fn later_rule(
     cells: &[u8],
     labels: &[[u8; LABEL_MOST]; FIELDS_MOST],
     shorts: &[[u8; SHORT_MOST]; FIELDS_MOST],
-    names: &[[u8; SHORT_MOST]; FIELDS_MOST],
 ) -> Note
-    requires { ⌜ Room r × (r .lines ≤ textMost) × (r .fields < fieldsMost) × (length (now line) ≤ textMost)
-        × Fits (length (now line)) p × (slotsMost ≤ length (now cells)) ⌝ }
+    requires { ⌜ Room r × (r .lines ≤ textMost) × (r .fields < fieldsMost)
+        × NamesFit (length (now line)) (p .label) (p .short) × (slotsMost ≤ length (now cells)) ⌝ }
     ensures told { λ a. ⌜ isTold (noteOf a) ≡ true ⌝ }
-    ensures rule { λ a. ⌜ ((f : Found) (x : Form) → Steady f → Counts f r → Slots f r (now (cells .entry))
-        → NamedWith f x (now (labels .entry)) (now (shorts .entry)) (now (names .entry))
-        → readForm (now (line .entry)) ≡ some x → PartsAre (now (line .entry)) x p → noteOf a ≡ laterNote f x) ⌝ }
+    ensures rule { λ a. ⌜ ((f : Found) (x : Form) (names : List (List ℕ)) → Steady f → Counts f r
+        → Slots f r (now (cells .entry)) → NamedWith f x (now (labels .entry)) (now (shorts .entry)) names
+        → readForm (now (line .entry)) ≡ some x → PartsHeld names (r .fields) (now (line .entry)) x p
+        → noteOf a ≡ laterNote f x) ⌝ }
 {
     let n = r.fields;
     let place = r.lines + 1;
@@ -69,7 +71,7 @@ pub(crate) fn later_rule(
             place: place,
         };
     }
-    if !types_kept(line, p, names, n) {
+    if !types_kept(p) {
         return Note {
             number: 9,
             place: place,

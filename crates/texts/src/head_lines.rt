@@ -13,7 +13,6 @@ use crate::states::wrong;
 use rules::FIELDS_MOST;
 use writing::puts::put;
 ghost use mathlib.Core.List.{List};
-ghost use mathlib.Core.Path.{_≡_};
 ghost use Prim.Native.Nat.{ℕ, _≤_};
 ghost use lib.ListN.{length};
 ghost use Rattle.rules.specs.Limits.{textMost, labelMost};

@@ -1,33 +1,34 @@
 // Field lines: their names are held, their rules tested, their records written.
 use crate::form_rules::later_rule;
-use crate::held_names::short_of;
+use crate::line_parts::Parts;
+use crate::line_parts::parts_of;
 use crate::line_rules::rests;
 use crate::name_clashes::held_label;
 use crate::notes::Note;
 use crate::notes::lower;
-use crate::parts::Parts;
-use crate::parts::parts_of;
-use crate::records::put_field;
+use crate::part_records::put_field;
+use crate::part_tests::sizes_kept;
 use crate::shown_slots::slot_end;
 use crate::states::Reading;
 use crate::states::Stage;
 use crate::states::onward;
+use names::repeats::held_name;
 use rules::FIELDS_MOST;
 use rules::LABEL_MOST;
 use rules::SHORT_MOST;
-ghost use mathlib.Core.Bool.{true, false};
+use writing::spans::Span;
 ghost use mathlib.Core.Option.{some};
 ghost use mathlib.Core.Path.{_≡_};
 ghost use Prim.Native.Nat.{_+_, _≤_, _<_};
 ghost use lib.ListN.{length, take, set};
 ghost use Rattle.rules.specs.Answers.{refused};
-ghost use Rattle.rules.specs.Limits.{textMost, fieldsMost, labelMost};
+ghost use Rattle.rules.specs.Limits.{textMost, fieldsMost, labelMost, shortMost};
 ghost use Rattle.names.specs.Repeats.{padTo};
 ghost use Rattle.text_laws.specs.Lowest.{lower};
 ghost use Rattle.text_laws.specs.Judging.{isOpen};
-ghost use Rattle.texts.specs.LinePlaces.{Fits, spanOf};
-ghost use Rattle.texts.specs.LineTests.{heldShort};
+ghost use Rattle.texts.specs.PartPlaces.{spanIn};
 ghost use Rattle.texts.specs.Noted.{noteOf};
+ghost use Rattle.texts.specs.PartPlaces.{NamesFit};
 ghost use Rattle.texts.specs.States.{
   slotsMost,
   Room,
@@ -36,7 +37,7 @@ ghost use Rattle.texts.specs.States.{
   lineRefused,
   NextCell,
   LineRoom,
-  FormIs,
+  PartsRoom,
   FieldStep,
   FormStep,
 };
@@ -78,25 +79,25 @@ fn refuse_line(mut r: Reading, number: usize) -> Reading
     onward(r, Stage::FieldLine, a)
 }
 
-// The names of a line, held as those of index n.
+// Label and short name of a line, held as those of index n.
 fn hold_names(
     line: &[u8],
-    p: Parts,
+    label: usize,
+    short: Span,
     n: usize,
     labels: &mut [[u8; LABEL_MOST]; FIELDS_MOST],
     shorts: &mut [[u8; SHORT_MOST]; FIELDS_MOST],
-    names: &mut [[u8; SHORT_MOST]; FIELDS_MOST],
 )
-    requires { ⌜ Fits (length (now line)) p × (n < fieldsMost) × (p .line ≡ spanOf 0 (length (now line))) ⌝ }
+    requires { ⌜ NamesFit (length (now line)) label short × (n < fieldsMost) ⌝ }
     ensures label { λ r. ⌜ now (labels .exit) ≡ set (now (labels .entry)) n (padTo labelMost
-        (take (p .label) (now (line .entry)))) ⌝ }
-    ensures short { λ r. ⌜ now (shorts .exit) ≡ set (now (shorts .entry)) n (heldShort (now (line .entry)) false p) ⌝ }
-    ensures name { λ r. ⌜ now (names .exit) ≡ set (now (names .entry)) n (heldShort (now (line .entry)) true p) ⌝ }
+        (take label (now (line .entry)))) ⌝ }
+    ensures short { λ r. ⌜ now (shorts .exit) ≡ set (now (shorts .entry)) n (padTo shortMost
+        (spanIn (now (line .entry)) short)) ⌝ }
 {
-    let label = p.label;
+    let from = short.at;
+    let to = from + short.len;
     labels[n] = held_label(&line[0..label]);
-    shorts[n] = short_of(line, p, false);
-    names[n] = short_of(line, p, true);
+    shorts[n] = held_name(&line[from..to]);
 }
 
 // Where the cell of the field behind the next one stands.
@@ -124,21 +125,20 @@ fn take_form(
     table: &mut [u8],
     labels: &mut [[u8; LABEL_MOST]; FIELDS_MOST],
     shorts: &mut [[u8; SHORT_MOST]; FIELDS_MOST],
-    names: &mut [[u8; SHORT_MOST]; FIELDS_MOST],
 ) -> Reading
-    requires { ⌜ LineRoom r (now line) (now cells) (now table) × (r .count < fieldsMost) × FormIs (now line) p ⌝ }
+    requires { ⌜ LineRoom r (now line) (now cells) (now table) × (r .count < fieldsMost)
+        × PartsRoom (now line) p ⌝ }
     ensures room { λ q. ⌜ Taken r q ⌝ }
-    ensures step { λ q. ⌜ FormStep (now (line .entry)) r q (now (cells .entry)) (now (table .entry)) (now (table .exit))
-        (now (labels .entry)) (now (labels .exit)) (now (shorts .entry)) (now (shorts .exit)) (now (names .entry))
-        (now (names .exit)) ⌝ }
+    ensures step { λ q. ⌜ FormStep (now (line .entry)) p r q (now (cells .entry)) (now (table .entry))
+        (now (table .exit)) (now (labels .entry)) (now (labels .exit)) (now (shorts .entry)) (now (shorts .exit)) ⌝ }
 {
     let n = r.fields;
-    hold_names(line, p, n, labels, shorts, names);
-    let b = later_rule(r, line, p, cells, labels, shorts, names);
+    hold_names(line, p.label, p.short, n, labels, shorts);
+    let b = later_rule(r, line, p, cells, labels, shorts);
     let a = lower(r.note, b);
     if is_open(a) {
         let at = r.end;
-        let end = put_field(table, at, line, p, names, n);
+        let end = put_field(table, at, line, p);
         let cell = next_cell(r, cells);
         let rested = rests(p, r.rested);
         r.end = end;
@@ -179,12 +179,12 @@ pub(crate) fn take_field(
             },
         );
     }
-    let p = parts_of(line, 0);
+    let p = parts_of(line, names, r.fields);
     if p.kind == 0 {
         return refuse_line(r, 5);
     }
-    if p.small {
-        return take_form(r, line, p, cells, table, labels, shorts, names);
+    if sizes_kept(p) {
+        return take_form(r, line, p, cells, table, labels, shorts);
     }
     refuse_line(r, 6)
 }

@@ -2,19 +2,11 @@
 use names::classes::class_table;
 use names::classes::is_digit_in;
 use names::classes::is_word_in;
-use names::labels::is_short;
 use rules::NUMBER_MOST;
 ghost use mathlib.Core.Path.{_≡_};
-ghost use Prim.Native.Nat.{ℕ, _+_, _≤_};
+ghost use Prim.Native.Nat.{_≤_};
 ghost use lib.ListN.{length, drop};
 ghost use Rattle.text_laws.specs.Reader.{behind, isNumberWord};
-ghost use Rattle.texts.specs.ExprPlaces.{LeafAt, WithinRead};
-
-// The place behind an expression, its depth and the length of its stored form.
-pub(crate) enum Read {
-    Nothing,
-    At(usize, usize, usize),
-}
 
 // Where the word of letters and digits at `at` ends.
 pub(crate) fn word_end(s: &[u8], at: usize) -> usize
@@ -58,20 +50,4 @@ pub(crate) fn is_number(w: &[u8]) -> bool
         i += 1;
     }
     true
-}
-
-// The short name or number at `at`.
-pub(crate) fn leaf_at(s: &[u8], at: usize) -> Read
-    requires { ⌜ at ≤ length (now s) ⌝ }
-    ensures place { λ r. ⌜ WithinRead (now (s .entry)) (at + 1) at 0 0 r ⌝ }
-    ensures same { λ r. ⌜ LeafAt (now (s .entry)) at r ⌝ }
-{
-    let end = word_end(s, at);
-    if is_short(&s[at..end]) {
-        return Read::At(end, 1, 2);
-    }
-    if is_number(&s[at..end]) {
-        return Read::At(end, 1, 5);
-    }
-    Read::Nothing
 }

@@ -1,9 +1,6 @@
 // Texts: where expressions, the parts of field lines and of a frame stand in them. specs/ holds readers that mirror
 // what the code does, proofs/ the theorems on spelling.
 mod clause_trees;
-mod ends;
-mod expressions;
-mod field_clauses;
 mod form_rules;
 mod head_lines;
 mod held_names;
@@ -13,7 +10,6 @@ mod leaves;
 mod line_parts;
 mod line_rules;
 mod line_steps;
-mod line_types;
 mod name_clashes;
 mod notes;
 mod numbers;
@@ -21,10 +17,8 @@ mod openings;
 mod part_records;
 mod part_slots;
 mod part_tests;
-mod parts;
 mod phrases;
 pub mod reading;
-mod records;
 mod rows;
 mod rulers;
 mod shown_slots;

@@ -1,17 +1,17 @@
 // Fields behind the rest field.
-use crate::parts::Parts;
+use crate::line_parts::Parts;
 ghost use mathlib.Core.Bool.{_&&_, _||_, not};
 ghost use mathlib.Core.Path.{_≡_};
 ghost use lib.Dec.{eqb};
 
 // Behind the rest field stands one that is not fixed or has a condition.
 pub(crate) fn misplaced(p: Parts, rested: bool) -> bool
-    ensures { λ r. ⌜ r ≡ (rested && not (eqb (p .kind) 2 && eqb (p .condition .size) 0)) ⌝ }
+    ensures { λ r. ⌜ r ≡ (rested && not (eqb (p .kind) 2 && eqb (p .condition .len) 0)) ⌝ }
 {
     if rested {
         if p.kind == 2 {
             let condition = p.condition;
-            return condition.size != 0;
+            return condition.len != 0;
         }
         return true;
     }

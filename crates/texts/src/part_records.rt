@@ -63,7 +63,8 @@ fn put_names(out: &mut [u8], at: usize, line: &[u8], p: Parts) -> usize
 // All that stands behind the record's length and kind.
 fn put_body(out: &mut [u8], at: usize, line: &[u8], p: Parts) -> usize
     requires { ⌜ Writable (length (now line)) p × (at + fieldSize p ≤ length (now out) + 4) ⌝ }
-    ensures { λ r. ⌜ Writes (now (out .entry)) at (bodyBytes (now (line .entry)) p) (now (out .exit)) r ⌝ }
+    ensures end { λ r. ⌜ r + 4 ≡ at + fieldSize p ⌝ }
+    ensures bytes { λ r. ⌜ Writes (now (out .entry)) at (bodyBytes (now (line .entry)) p) (now (out .exit)) r ⌝ }
 {
     let constraint = p.constraint;
     let condition = p.condition;
@@ -103,7 +104,8 @@ fn field_size(p: Parts) -> usize
 pub(crate) fn put_field(out: &mut [u8], at: usize, line: &[u8], p: Parts) -> usize
     requires { ⌜ Writable (length (now line)) p × (length (now line) ≤ textMost)
         × (at + fieldSize p ≤ length (now out)) ⌝ }
-    ensures { λ r. ⌜ Writes (now (out .entry)) at (fieldBytes (now (line .entry)) p) (now (out .exit)) r ⌝ }
+    ensures end { λ r. ⌜ r ≡ at + fieldSize p ⌝ }
+    ensures bytes { λ r. ⌜ Writes (now (out .entry)) at (fieldBytes (now (line .entry)) p) (now (out .exit)) r ⌝ }
 {
     let size = put_two(out, at, field_size(p));
     let kind = put_two(out, size, p.kind);

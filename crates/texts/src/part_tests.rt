@@ -2,13 +2,11 @@
 use crate::line_parts::Parts;
 use rules::DEPTH_MOST;
 use rules::STORED_MOST;
-ghost use mathlib.Core.List.{List};
 ghost use mathlib.Core.Path.{_≡_};
-ghost use Prim.Native.Nat.{ℕ};
 ghost use Rattle.base.specs.Lists.{all};
 ghost use Rattle.rules.specs.Trees.{isSmall};
 ghost use Rattle.rules.specs.Fields.{trees};
-ghost use Rattle.texts.specs.LineTests.{typesKept};
+ghost use Rattle.texts.specs.Resolved.{typesKept};
 ghost use Rattle.texts.specs.HeldRecords.{isSmallAs, isTypeAs, TestsForm};
 
 // An expression of depth `d` and stored length `z`, or none.

@@ -1,7 +1,6 @@
 // The rulers and borders of a frame, by columns.
 ghost use mathlib.Core.Path.{_≡_};
 ghost use Prim.Native.Nat.{_≤_};
-ghost use lib.ListN.{length};
 ghost use Rattle.base.specs.Lists.{same, tabulate};
 ghost use Rattle.rules.specs.Frames.{units, border};
 ghost use Rattle.text_laws.specs.FrameReader.{readTens};

@@ -1,40 +1,10 @@
-// A kept cell held against a field line.
-use crate::parts::Parts;
-use names::words::same_words;
+// Where a kept cell ends.
 ghost use mathlib.Core.List.{List, _++_};
 ghost use mathlib.Core.Path.{_≡_};
 ghost use Prim.Native.Nat.{ℕ, _+_, _≤_, _<_};
 ghost use lib.ListN.{length, drop};
 ghost use Rattle.rules.specs.Frames.{Slot};
-ghost use Rattle.texts.specs.LinePlaces.{Fits};
-ghost use Rattle.texts.specs.Slots.{storedSlot, isNameIn, isPlaceIn, SlotShows};
-
-// The name is the label or the short name of a line.
-pub(crate) fn is_name_in(name: &[u8], line: &[u8], p: Parts) -> bool
-    requires { ⌜ Fits (length (now line)) p ⌝ }
-    ensures { λ r. ⌜ r ≡ isNameIn (now (name .entry)) (now (line .entry)) p ⌝ }
-{
-    let label = p.label;
-    if same_words(name, &line[0..label]) {
-        return true;
-    }
-    let at = p.short.at;
-    let end = at + p.short.len;
-    same_words(name, &line[at..end])
-}
-
-// A fixed field has a bit cell of its width, any other a long row.
-pub(crate) fn is_place_in(long: bool, bits: usize, p: Parts) -> bool
-    ensures { λ r. ⌜ r ≡ isPlaceIn long bits p ⌝ }
-{
-    if p.kind != 2 {
-        return long;
-    }
-    if long {
-        return false;
-    }
-    bits == p.bits
-}
+ghost use Rattle.texts.specs.Slots.{storedSlot};
 
 // A byte as a wider number.
 pub(crate) fn wide(b: u8) -> usize
@@ -56,16 +26,4 @@ pub(crate) fn slot_end(cells: &[u8], at: usize) -> usize
         return from;
     }
     from + len
-}
-
-// The cell that is kept at a place is one for the field of a line.
-pub(crate) fn slot_shows(cells: &[u8], at: usize, line: &[u8], p: Parts) -> bool
-    requires { ⌜ (at + 3 ≤ length (now cells)) × Fits (length (now line)) p ⌝ }
-    ensures { λ r. ⌜ SlotShows (now (cells .entry)) at (now (line .entry)) p r ⌝ }
-{
-    let end = slot_end(cells, at);
-    if is_name_in(&cells[at + 3..end], line, p) {
-        return is_place_in(cells[at] == 1, wide(cells[at + 1]), p);
-    }
-    false
 }

@@ -15,7 +15,7 @@ use Rattle.texts.proofs.form_rules.later_rule.Reads as reads
 use Rattle.texts.proofs.form_rules.later_rule.Lts as lts
 use Rattle.texts.proofs.form_rules.shows_cell.Reads as shows-cell-reads
 use Rattle.texts.proofs.line_rules.misplaced.Reads as misplaced-reads
-use Rattle.texts.proofs.line_types.types_kept.Reads as types-kept-reads
+use Rattle.texts.proofs.part_tests.types_kept.Reads as types-kept-reads
 use Rattle.texts.proofs.name_clashes.clashes.Reads as clashes-reads
 
 add-place : tie.Need-add-place
@@ -23,16 +23,16 @@ add-place c = let q = c .before .before .before .pre .1 in search (needs, q)
 
 shows-cell-requires : tie.Need-shows-cell-requires
 shows-cell-requires c κs =
-    (c .before .before .before .pre .0, c .before .before .before .pre .4, c .before .before .before .pre .5)
+    (c .before .before .before .pre .0, c .before .before .before .pre .3, c .before .before .before .pre .4)
 
 returns : tie.Need-returns
 unfolding noteOf
 returns c =
     let a = c .before .before .before .before .before .args in (
       refl,
-      (λ f x k n s nw e p.
+      (λ f x names k n s nw e p.
           let shown : showsCell (f .cells) (faces (f .judged .fields)) x
-          ≡ false = sym (c .before .shows-cell .ensures f x k n s p)
+          ≡ false = sym (c .before .shows-cell .ensures f x names k n s p)
           ∙ not-true (c .before .shows-cell .result) (c .if1 .taken) in
           sym (later-is f (a .r) x n false _ _ _ shown refl refl refl)),
     )
@@ -57,9 +57,9 @@ unfolding noteOf
 returns-2 c =
     let a = c .before .before .before .before .before .before .before .before .before .args in (
       refl,
-      (λ f x k n s nw e p.
+      (λ f x names k n s nw e p.
           let shown : showsCell (f .cells) (faces (f .judged .fields)) x
-          ≡ true = sym (c .before .before .before .before .before .shows-cell .ensures f x k n s p)
+          ≡ true = sym (c .before .before .before .before .before .shows-cell .ensures f x names k n s p)
           ∙ not-false (c .before .before .before .before .before .shows-cell .result)
           (c .before .before .before .before .if1 .left) in
           let unique : keepsNames (faces (f .judged .fields)) x ≡ false =
@@ -69,29 +69,23 @@ returns-2 c =
     )
 
 types-kept-requires : tie.Need-types-kept-requires
-types-kept-requires c κs = (
-  c .before .before .before .before .before .before .before .before .before .pre .3,
-  c .before .before .before
-      .before .before .before .before .before .before .pre .4,
-  c .before .before .before .before .before .before
-      .before .before .before .pre .2,
-)
+types-kept-requires c κs = search needs
 
 returns-3 : tie.Need-returns-3
 unfolding noteOf
 returns-3 c =
     let a = c .before .before .before .before .before .before .before .before .before .before .before .args in (
       refl,
-      (λ f x k n s nw e p.
+      (λ f x names k n s nw e p.
           let shown : showsCell (f .cells) (faces (f .judged .fields)) x
-          ≡ true = sym (c .before .before .before .before .before .before .before .shows-cell .ensures f x k n s p)
+          ≡ true = sym (c .before .before .before .before .before .before .before .shows-cell .ensures f x names k n s p)
           ∙ not-false (c .before .before .before .before .before .before .before .shows-cell .result)
           (c .before .before .before .before .before .before .if1 .left) in
           let unique : keepsNames (faces (f .judged .fields)) x ≡ true =
           ap not (sym (names-here f k (now (a .line)) x e (a .r) n nw)
           ∙ sym (c .before .before .before .clashes .ensures) ∙ c .before .before .if2 .left) in
           let typed : keepsTypes nameReadable (faces (f .judged .fields)) x ≡ false =
-          sym (types-are f k (now (a .line)) x e (a .r) n nw) ∙ sym (c .before .types-kept .ensures x p)
+          sym (types-are f k (now (a .line)) x e (a .r) n nw) ∙ sym (c .before .types-kept .ensures names (a .r .fields) (now (a .line)) x p)
           ∙ not-true (c .before .types-kept .result) (c .if3 .taken) in
           sym (later-is f (a .r) x n true true false _ shown unique typed refl)),
     )
@@ -105,10 +99,10 @@ returns-4 c =
     let a = c .before .before .before .before .before .before .before .before .before .before .before .before .before
     .args in (
       refl,
-      (λ f x k n s nw e p.
+      (λ f x names k n s nw e p.
           let shown : showsCell (f .cells) (faces (f .judged .fields)) x
           ≡ true = sym (c .before .before .before .before .before .before .before .before .before .shows-cell
-          .ensures f x k n s p) ∙ not-false
+          .ensures f x names k n s p) ∙ not-false
           (c .before .before .before .before .before .before .before .before .before .shows-cell .result)
           (c .before .before .before .before .before .before .before .before .if1 .left) in
           let unique : keepsNames (faces (f .judged .fields)) x ≡ true =
@@ -117,11 +111,11 @@ returns-4 c =
           ∙ c .before .before .before .before .if2 .left) in
           let typed : keepsTypes nameReadable (faces (f .judged .fields)) x ≡ true =
           sym (types-are f k (now (a .line)) x e (a .r) n nw)
-          ∙ sym (c .before .before .before .types-kept .ensures x p)
+          ∙ sym (c .before .before .before .types-kept .ensures names (a .r .fields) (now (a .line)) x p)
           ∙ not-false (c .before .before .before .types-kept .result) (c .before .before .if3 .left) in
           let rested : keepsRest (faces (f .judged .fields)) x ≡ false =
-          not-flip (keepsRest (faces (f .judged .fields)) x) (sym (rest-is f k (now (a .line)) x e (a .p) p)
-          ∙ ap (λ (b : Bool). b && not (eqb (a .p .kind) 2 && eqb (a .p .condition .size) 0)) (sym (n .rested))
+          not-flip (keepsRest (faces (f .judged .fields)) x) (sym (rest-is f k (now (a .line)) x e names (a .r .fields) (a .p) p)
+          ∙ ap (λ (b : Bool). b && not (eqb (a .p .kind) 2 && eqb (a .p .condition .len) 0)) (sym (n .rested))
           ∙ sym (c .before .misplaced .ensures) ∙ c .if4 .taken) in
           sym (later-is f (a .r) x n true true true false shown unique typed rested)),
     )
@@ -132,10 +126,10 @@ returns-5 c =
     let a = c .before .before .before .before .before .before .before .before .before .before .before .before .before
     .args in (
       refl,
-      (λ f x k n s nw e p.
+      (λ f x names k n s nw e p.
           let shown : showsCell (f .cells) (faces (f .judged .fields)) x
           ≡ true = sym (c .before .before .before .before .before .before .before .before .before .shows-cell
-          .ensures f x k n s p) ∙ not-false
+          .ensures f x names k n s p) ∙ not-false
           (c .before .before .before .before .before .before .before .before .before .shows-cell .result)
           (c .before .before .before .before .before .before .before .before .if1 .left) in
           let unique : keepsNames (faces (f .judged .fields)) x ≡ true =
@@ -144,11 +138,11 @@ returns-5 c =
           ∙ c .before .before .before .before .if2 .left) in
           let typed : keepsTypes nameReadable (faces (f .judged .fields)) x ≡ true =
           sym (types-are f k (now (a .line)) x e (a .r) n nw)
-          ∙ sym (c .before .before .before .types-kept .ensures x p)
+          ∙ sym (c .before .before .before .types-kept .ensures names (a .r .fields) (now (a .line)) x p)
           ∙ not-false (c .before .before .before .types-kept .result) (c .before .before .if3 .left) in
           let rested : keepsRest (faces (f .judged .fields)) x ≡ true =
-          not-flip (keepsRest (faces (f .judged .fields)) x) (sym (rest-is f k (now (a .line)) x e (a .p) p)
-          ∙ ap (λ (b : Bool). b && not (eqb (a .p .kind) 2 && eqb (a .p .condition .size) 0)) (sym (n .rested))
+          not-flip (keepsRest (faces (f .judged .fields)) x) (sym (rest-is f k (now (a .line)) x e names (a .r .fields) (a .p) p)
+          ∙ ap (λ (b : Bool). b && not (eqb (a .p .kind) 2 && eqb (a .p .condition .len) 0)) (sym (n .rested))
           ∙ sym (c .before .misplaced .ensures) ∙ c .if4 .left) in
           sym (later-is f (a .r) x n true true true true shown unique typed rested)),
     )

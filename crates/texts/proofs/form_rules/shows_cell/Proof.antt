@@ -7,15 +7,15 @@ use Rattle.texts.proofs.form_rules.shows_cell.Statement.{statement}
 use Rattle.texts.proofs.form_rules.shows_cell.Tie as tie
 use Rattle.texts.proofs.form_rules.shows_cell.Reads as reads
 use Rattle.texts.proofs.form_rules.shows_cell.Lts as lts
-use Rattle.texts.proofs.shown_slots.slot_shows.Reads as slot-shows-reads
+use Rattle.texts.proofs.part_slots.part_shows.Reads as part-shows-reads
 
 returns : tie.Need-returns
 returns c =
     let a = c .before .before .before .before .args in
-    λ f x k n s p. none-shown f (a .r) (now (a .cells)) n s (c .if1 .taken) x
+    λ f x names k n s p. none-shown f (a .r) (now (a .cells)) n s (c .if1 .taken) x
 
-slot-shows-requires : tie.Need-slot-shows-requires
-slot-shows-requires c κs =
+part-shows-requires : tie.Need-part-shows-requires
+part-shows-requires c κs =
     let k = c .before .before .before .before .pre .0 in (
       omega (arith, k .cell, k .slots, k .cells, c .before .before .before .before .pre .2),
       c .before .before .before
@@ -25,10 +25,11 @@ slot-shows-requires c κs =
 returns-2 : tie.Need-returns-2
 returns-2 c =
     let a = c .before .before .before .before .before .args in
-    λ f x k n s p.
+    λ f x names k n s p.
     let h = slot-here f (a .r) (now (a .cells)) n s (omega (arith, c .before .if1 .left)) in
-    c .slot-shows .ensures (h .slot) (h .behind) x (h .stands) (here-label f (a .r) (now (a .cells)) n s k h) p
+    c .part-shows .ensures (h .slot) (h .behind) names (a .r .fields) x (h .stands)
+    (here-label f (a .r) (now (a .cells)) n s k h) p
     ∙ here-shown f (a .r) (now (a .cells)) n s h x
 
 pub shows-cell-spec : {M : Type 1} → statement M
-shows-cell-spec = tie.close (tie.spec returns slot-shows-requires returns-2)
+shows-cell-spec = tie.close (tie.spec returns part-shows-requires returns-2)

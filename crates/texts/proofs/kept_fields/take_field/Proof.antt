@@ -12,8 +12,9 @@ use Rattle.texts.specs.Noted.{noteOf}
 use Rattle.texts.specs.States.{note}
 use Rattle.texts.specs.declared.states.Stage.the-variants as at
 use Rattle.texts.proofs.StateSteps.{taken-onward}
-use Rattle.texts.proofs.FieldSteps.{full-same, holds-full, holds-formless, holds-closed}
+use Rattle.texts.proofs.FieldSteps.{full-same, holds-full, holds-formless, holds-closed, holds-kept}
 use Rattle.texts.proofs.LineForms.{form-none, form-some, full-room, large-note, shut-six}
+use Rattle.texts.proofs.LineForms.{field-most, line-formed, parts-writable}
 use borrow.Author.Needs.{needs}
 use Rattle.texts.proofs.kept_fields.take_field.Statement.{statement}
 use Rattle.texts.proofs.kept_fields.take_field.Tie as tie
@@ -22,7 +23,8 @@ use Rattle.texts.proofs.kept_fields.take_field.Lts as lts
 use Rattle.texts.proofs.kept_fields.is_full.Reads as is-full-reads
 use Rattle.texts.proofs.kept_fields.refuse_line.Reads as refuse-line-reads
 use Rattle.texts.proofs.kept_fields.take_form.Reads as take-form-reads
-use Rattle.texts.proofs.parts.parts_of.Reads as parts-of-reads
+use Rattle.texts.proofs.line_parts.parts_of.Reads as parts-of-reads
+use Rattle.texts.proofs.part_tests.sizes_kept.Reads as sizes-kept-reads
 use Rattle.texts.proofs.states.onward.Reads as onward-reads
 
 is-full-requires : tie.Need-is-full-requires
@@ -39,60 +41,56 @@ returns c =
       taken-onward r at.FieldLine (note 4 0) refl (c .before .before .before .before .before .before .pre .0),
       (
         refl,
-        (λ f k h. holds-full f r h (now (c .before .before .before .before .before .before .args .line)) (sym
-            (full-same f r (h .counts)) ∙ sym (c .before .before .is-full .ensures)
-            ∙ c .before .if1 .taken)),
+        (λ f k h. holds-full f r h (now (c .before .before .before .before .before .before .args .line))
+            (sym (full-same f r (h .counts)) ∙ sym (c .before .before .is-full .ensures) ∙ c .before .if1 .taken)),
       ),
     )
 
 parts-of-requires : tie.Need-parts-of-requires
-parts-of-requires c κs = c .before .before .before .before .before .pre .2
+parts-of-requires c κs =
+    let few = full-room (c .before .before .before .before .before .before .args .r) (sym (c .before .before .is-full .ensures) ∙ c .before .if1 .left) in
+    (c .before .before .before .before .before .before .pre .2, omega (arith, few, c .before .before .before .before .before .before .pre .0 .fields))
 
 refuse-line-requires : tie.Need-refuse-line-requires
 refuse-line-requires c κs = (
-  c .before .before .before .before .before .before .before .before .pre .0,
-  c .before .before .before .before
-      .before .before .before .before .pre .1,
-  full-room
-      (c .before .before .before .before .before .before .before .before .args .r) (sym
-      (c .before .before .before .before .is-full .ensures) ∙ c .before .before .before .if1 .left),
+  c .before .before .before .before .before .before .before .before .before .pre .0,
+  c .before .before .before .before .before .before .before .before .before .pre .1,
+  full-room (c .before .before .before .before .before .before .before .before .before .args .r) (sym (c .before .before .before .before .before .is-full .ensures) ∙ c .before .before .before .before .if1 .left),
   omega arith,
   omega arith,
 )
 
 returns-2 : tie.Need-returns-2
 returns-2 c =
-    let r = c .before .before .before .before .before .before .before .before .before .args .r in
-    let l = now (c .before .before .before .before .before .before .before .before .before .args .line) in
-    let e = form-none l (readForm l) (c .before .before .before .parts-of .result)
-    (c .before .before .before .parts-of .ensures .1) (c .before .if2 .taken) in
+    let r = c .before .before .before .before .before .before .before .before .before .before .args .r in
+    let l = now (c .before .before .before .before .before .before .before .before .before .before .args .line) in
+    let p = c .before .before .before .parts-of .result in
+    let o = c .before .before .before .parts-of .ensures in
+    let e = form-none _ (r .fields) l (readForm l) p (o .1) (c .before .if2 .taken) in
     let q = c .refuse-line .ensures in (
       q .0,
       (
         refl,
-        (λ f k h. rw (q .1 .0) (holds-formless f r h l (c .refuse-line .result .note)
-            (sym (full-same f r (h .counts)) ∙ sym (c .before .before .before .before .before .is-full .ensures)
-            ∙ c .before .before .before .before .if1 .left) e (q .1 .1))),
+        (λ f k h. rw (q .1 .0) (holds-formless f r (holds-kept f r h (o .0)) l (c .refuse-line .result .note)
+            (sym (full-same f r (h .counts)) ∙ sym (c .before .before .before .before .before .before .is-full .ensures) ∙ c .before .before .before .before .before .if1 .left) e (q .1 .1))),
       ),
     )
 
+sizes-kept-requires : tie.Need-sizes-kept-requires
+sizes-kept-requires c κs = search needs
+
 take-form-requires : tie.Need-take-form-requires
 take-form-requires c κs =
-    let l = now (c .before .before .before .before .before .before .before .before .before .before .before .before
-    .before .args .line) in
-    let x = form-some l (readForm l) (c .before .before .before .before .before .before .before .parts-of .result)
-    (c .before .before .before .before .before .before .before .parts-of .ensures .1)
-    (c .before .before .before .before .before .if2 .left) in (
-      c .before .before .before .before .before .before .before .before .before .before .before .before .before .pre,
-      full-room (c .before .before .before .before .before .before .before .before .before .before .before .before
-          .before .args .r) (sym
-          (c .before .before .before .before .before .before .before .before .before .is-full .ensures)
-          ∙ c .before .before .before .before .before .before .before .before .if1 .left),
+    let r = c .before .before .before .before .before .before .before .before .before .before .before .before .before .before .args .r in
+    let l = now (c .before .before .before .before .before .before .before .before .before .before .before .before .before .before .args .line) in
+    let p = c .before .before .before .before .before .before .before .parts-of .result in
+    let x = form-some _ (r .fields) l (readForm l) p (c .before .before .before .before .before .before .before .parts-of .ensures .1) (c .before .before .before .before .before .if2 .left) in
+    let small = sym (c .before .before .before .before .sizes-kept .ensures _ (r .fields) l (x .0) (x .2)) ∙ c .before .before .before .if3 .taken in (
+      c .before .before .before .before .before .before .before .before .before .before .before .before .before .before .pre,
+      full-room r (sym (c .before .before .before .before .before .before .before .before .before .before .is-full .ensures) ∙ c .before .before .before .before .before .before .before .before .before .if1 .left),
       (
-        x .0,
-        x .1,
-        (x .2, sym (x .2 .small) ∙ c .before .before .before .before .if3 .taken),
-        c .before .before .before .before .before .before .before .parts-of .ensures .0,
+        parts-writable _ (r .fields) l (x .0) p (x .2) small,
+        field-most _ (r .fields) l (x .0) p (x .2) small (line-formed l (x .0) (x .1)),
       ),
     )
 
@@ -101,47 +99,46 @@ same-length c = search needs
 
 returns-3 : tie.Need-returns-3
 returns-3 c =
-    let r = c .before .before .before .before .before .before .before .before .before .before .before .before .before
-    .before .before .before .args .r in
+    let r = c .before .before .before .before .before .before .before .before .before .before .before .before .before .before .before .before .before .args .r in
+    let l = now (c .before .before .before .before .before .before .before .before .before .before .before .before .before .before .before .before .before .args .line) in
+    let p = c .before .before .before .before .before .before .before .before .before .before .parts-of .result in
+    let o = c .before .before .before .before .before .before .before .before .before .before .parts-of .ensures in
+    let x = form-some _ (r .fields) l (readForm l) p (o .1) (c .before .before .before .before .before .before .before .before .if2 .left) in
+    let small = sym (c .before .before .before .before .before .before .before .sizes-kept .ensures _ (r .fields) l (x .0) (x .2)) ∙ c .before .before .before .before .before .before .if3 .taken in
     let q = c .before .before .take-form .ensures in (
       q .0,
       (
         q .1 .0,
-        (λ f k h. q .1 .1 f k (sym (full-same f r (h .counts))
-            ∙ sym (c .before .before .before .before .before .before .before .before .before .before .before .before
-            .is-full .ensures) ∙ c .before .before .before .before .before .before .before .before .before
-            .before .before
-            .if1 .left) h),
+        (λ f k h. q .1 .1 f (x .0) _ k
+            (sym (full-same f r (h .counts)) ∙ sym (c .before .before .before .before .before .before .before .before .before .before .before .before .before .is-full .ensures) ∙ c .before .before .before .before .before .before .before .before .before .before .before .before .if1 .left)
+            (holds-kept f r h (o .0)) (x .1) small (x .2)),
       ),
     )
 
 refuse-line-requires-2 : tie.Need-refuse-line-requires-2
 refuse-line-requires-2 c κs = (
-  c .before .before .before .before .before .before .before .before .before .pre .0,
-  c .before .before .before
-      .before .before .before .before .before .before .pre .1,
-  full-room
-      (c .before .before .before .before .before .before .before .before .before .args .r) (sym
-      (c .before .before .before .before .before .is-full .ensures) ∙ c .before .before .before .before .if1 .left),
+  c .before .before .before .before .before .before .before .before .before .before .before .pre .0,
+  c .before .before .before .before .before .before .before .before .before .before .before .pre .1,
+  full-room (c .before .before .before .before .before .before .before .before .before .before .before .args .r) (sym (c .before .before .before .before .before .before .before .is-full .ensures) ∙ c .before .before .before .before .before .before .if1 .left),
   omega arith,
   omega arith,
 )
 
 returns-4 : tie.Need-returns-4
 returns-4 c =
-    let r = c .before .before .before .before .before .before .before .before .before .before .args .r in
-    let l = now (c .before .before .before .before .before .before .before .before .before .before .args .line) in
-    let x = form-some l (readForm l) (c .before .before .before .before .parts-of .result)
-    (c .before .before .before .before .parts-of .ensures .1) (c .before .before .if2 .left) in
+    let r = c .before .before .before .before .before .before .before .before .before .before .before .before .args .r in
+    let l = now (c .before .before .before .before .before .before .before .before .before .before .before .before .args .line) in
+    let p = c .before .before .before .before .before .parts-of .result in
+    let o = c .before .before .before .before .before .parts-of .ensures in
+    let x = form-some _ (r .fields) l (readForm l) p (o .1) (c .before .before .before .if2 .left) in
     let q = c .refuse-line2 .ensures in
-    let large : all isSmall (trees (x .0)) ≡ false = sym (x .2 .small) ∙ c .before .if3 .left in (
+    let large : all isSmall (trees (x .0)) ≡ false =
+    sym (c .before .before .sizes-kept .ensures _ (r .fields) l (x .0) (x .2)) ∙ c .before .if3 .left in (
       q .0,
       (
         refl,
-        (λ f k h. rw (q .1 .0) (holds-closed f r h l (x .0) (c .refuse-line2 .result .note)
-            (sym (full-same f r (h .counts)) ∙ sym
-            (c .before .before .before .before .before .before .is-full .ensures)
-            ∙ c .before .before .before .before .before .if1 .left) (x .1)
+        (λ f k h. rw (q .1 .0) (holds-closed f r (holds-kept f r h (o .0)) l (x .0) (c .refuse-line2 .result .note)
+            (sym (full-same f r (h .counts)) ∙ sym (c .before .before .before .before .before .before .before .before .is-full .ensures) ∙ c .before .before .before .before .before .before .before .if1 .left) (x .1)
             (q .1 .1 ∙ large-note f r (x .0) (h .counts) large)
             (ap isOpen (q .1 .1) ∙ shut-six (noteOf (r .note)) (r .lines + 1)))),
       ),
@@ -157,6 +154,7 @@ take-field-spec =
     parts-of-requires
     refuse-line-requires
     returns-2
+    sizes-kept-requires
     take-form-requires
     same-length
     returns-3

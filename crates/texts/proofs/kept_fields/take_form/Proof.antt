@@ -1,6 +1,6 @@
 use mathlib.Core.Path.{_≡_, refl, ap, sym, _∙_}
 use mathlib.Core.Bool.{true}
-use Prim.Native.Nat.{_<_}
+use Prim.Native.Nat.{ℕ, _+_, _<_}
 use native.Mathlib.Omega.{arith}
 use denote.Ref.{now}
 use Rattle.rules.specs.Limits.{fieldsMost}
@@ -8,9 +8,9 @@ use Rattle.texts.specs.Noted.{noteOf}
 use Rattle.texts.specs.States.{isTold}
 use Rattle.texts.proofs.FormRules.{form-short, all-formed}
 use Rattle.texts.proofs.FieldSteps.{holds-open, holds-closed, holds-named}
-use Rattle.texts.proofs.LineForms.{field-most, line-formed, named-with, told-lower, room-kept, room-refused}
+use Rattle.texts.proofs.LineForms.{named-with, told-lower, room-kept, room-refused}
 use Rattle.texts.proofs.LineForms.{form-note, rests-here}
-use Rattle.texts.proofs.RecordLaws.{field-end}
+use Rattle.texts.proofs.PartBytes.{record-bytes}
 use borrow.Author.Needs.{needs}
 use Rattle.texts.proofs.kept_fields.take_form.Statement.{statement}
 use Rattle.texts.proofs.kept_fields.take_form.Tie as tie
@@ -22,36 +22,20 @@ use Rattle.texts.proofs.kept_fields.is_open.Reads as is-open-reads
 use Rattle.texts.proofs.kept_fields.next_cell.Reads as next-cell-reads
 use Rattle.texts.proofs.line_rules.rests.Reads as rests-reads
 use Rattle.texts.proofs.notes.lower.Reads as lower-reads
-use Rattle.texts.proofs.records.put_field.Reads as put-field-reads
+use Rattle.texts.proofs.part_records.put_field.Reads as put-field-reads
 use Rattle.texts.proofs.states.onward.Reads as onward-reads
 
 hold-names-requires : tie.Need-hold-names-requires
-hold-names-requires c κs = (
-  c .before .before .before .before .before .before .pre .2 .2 .0 .fits,
-  omega (
-    arith,
-    c .before .before .before .before .before .before .pre .0 .0 .fields,
-    c .before .before .before .before
-        .before .before .pre .1,
-  ),
-  c .before .before .before .before .before .before .pre .2 .3,
-)
+hold-names-requires c κs =
+    let w = c .before .before .before .before .before .pre .2 .0 in
+    let few : c .before .before .before .before .before .args .r .fields < fieldsMost = omega (arith, c .before .before .before .before .before .pre .0 .0 .fields, c .before .before .before .before .before .pre .1) in
+    ((w .label, w .short), few)
 
 later-rule-requires : tie.Need-later-rule-requires
-later-rule-requires c κs = (
-  c .before .before .before .before .before .before .before .before .before .before .pre .0 .0,
-  c .before .before
-      .before .before .before .before .before .before .before .before .pre .0 .1,
-  omega (
-    arith,
-    c .before .before .before .before .before .before .before .before .before .before .pre .0 .0 .fields,
-    c
-        .before .before .before .before .before .before .before .before .before .before .pre .1,
-  ),
-  c .before .before .before .before .before .before .before .before .before .before .pre .0 .2,
-  c .before .before .before .before .before .before .before .before .before .before .pre .2 .2 .0 .fits,
-  c .before .before .before .before .before .before .before .before .before .before .pre .0 .3,
-)
+later-rule-requires c κs =
+    let w = c .before .before .before .before .before .before .before .before .pre .2 .0 in
+    let few : c .before .before .before .before .before .before .before .before .args .r .fields < fieldsMost = omega (arith, c .before .before .before .before .before .before .before .before .pre .0 .0 .fields, c .before .before .before .before .before .before .before .before .pre .1) in
+    (c .before .before .before .before .before .before .before .before .pre .0 .0, c .before .before .before .before .before .before .before .before .pre .0 .1, few, (w .label, w .short), c .before .before .before .before .before .before .before .before .pre .0 .3)
 
 lower-requires : tie.Need-lower-requires
 lower-requires c κs = search needs
@@ -61,199 +45,88 @@ is-open-requires c κs = search needs
 
 put-field-requires : tie.Need-put-field-requires
 put-field-requires c κs =
-    let a = c .before .before .before .before .before .before .before .before .before .before .before .before .before
-    .before .before .before .args in
-    let x = c .before .before .before .before .before .before .before .before .before .before .before .before .before
-    .before .before .before .pre .2 .0 in
-    let small = c .before .before .before .before .before .before .before .before .before .before .before .before
-    .before .before .before .before .pre .2 .2 in
-    let m = field-most (now (a .line)) x (a .p) (line-formed (now (a .line)) x
-    (c .before .before .before .before .before .before .before .before .before .before .before .before .before
-    .before .before .before .pre .2 .1)) (small .0) (small .1) in
-    let k = c .before .before .before .before .before .before .before .before .before .before .before .before .before
-    .before .before .before .pre .0 .0 in
-    let few : a .r .fields < fieldsMost = omega (
-      arith,
-      k .fields,
-      c .before .before .before .before .before .before .before .before .before .before .before
-          .before .before .before .before .before .pre .1,
-    ) in (
-      c .before .before .before .before .before .before .before .before .before .before .before .before .before
-          .before .before .before .pre .0 .2,
-      few,
-      (x, small),
-      omega (
-        arith,
-        m,
-        k .end,
-        few,
-        c .before .before .before .before .before .before .before .before .before .before .before
-            .before .before .before .before .before .pre .0 .4,
-      ),
-    )
+    let few : c .before .before .before .before .before .before .before .before .before .before .before .before .before .args .r .fields < fieldsMost = omega (arith, c .before .before .before .before .before .before .before .before .before .before .before .before .before .pre .0 .0 .fields, c .before .before .before .before .before .before .before .before .before .before .before .before .before .pre .1) in
+    (c .before .before .before .before .before .before .before .before .before .before .before .before .before .pre .2 .0, c .before .before .before .before .before .before .before .before .before .before .before .before .before .pre .0 .2, omega (arith, c .before .before .before .before .before .before .before .before .before .before .before .before .before .pre .2 .1, c .before .before .before .before .before .before .before .before .before .before .before .before .before .pre .0 .0 .end, few, c .before .before .before .before .before .before .before .before .before .before .before .before .before .pre .0 .4))
 
 next-cell-requires : tie.Need-next-cell-requires
-next-cell-requires c κs = (
-  c .before .before .before .before .before .before .before .before .before .before .before .before .before
-      .before .before .before .before .before .before .pre .0 .0,
-  c .before .before .before .before .before .before
-      .before .before .before .before .before .before .before .before .before .before .before .before
-      .before .pre .0 .3,
-)
+next-cell-requires c κs = (c .before .before .before .before .before .before .before .before .before .before .before .before .before .before .before .before .pre .0 .0, c .before .before .before .before .before .before .before .before .before .before .before .before .before .before .before .before .pre .0 .3)
 
 rests-requires : tie.Need-rests-requires
 rests-requires c κs = search needs
 
 add-r : tie.Need-add-r
-add-r c = let q = c .before .before .before .before .before .before .before .before .before .before .before .before
-    .before .before .before .before .before .before .before .before .before .before .pre .1 in let k =
-    c .before .before .before .before .before .before .before .before .before .before .before .before .before .before
-    .before .before .before .before .before .before .before .before .pre .0 .0 .fields in search (needs, q, k)
+add-r c = let q = c .before .before .before .before .before .before .before .before .before .before .before .before .before .before .before .before .before .before .before .pre .1 in let k = c .before .before .before .before .before .before .before .before .before .before .before .before .before .before .before .before .before .before .before .pre .0 .0 .fields in search (needs, q, k)
 
 add-r-2 : tie.Need-add-r-2
-add-r-2 c = let q = c .before .before .before .before .before .before .before .before .before .before .before .before
-    .before .before .before .before .before .before .before .before .before .before .before .pre .1 in let k =
-    c .before .before .before .before .before .before .before .before .before .before .before .before .before .before
-    .before .before .before .before .before .before .before .before .before .pre .0 .0 .fields in search (needs, q, k)
+add-r-2 c = let q = c .before .before .before .before .before .before .before .before .before .before .before .before .before .before .before .before .before .before .before .before .pre .1 in let k = c .before .before .before .before .before .before .before .before .before .before .before .before .before .before .before .before .before .before .before .before .pre .0 .0 .fields in search (needs, q, k)
 
 onward-requires : tie.Need-onward-requires
-onward-requires c κs = c .before .before .before .before .before .before .before .before .before .before .before
-    .before .before .before .before .before .before .before .before .before .before .before .before .pre .0 .1
+onward-requires c κs = c .before .before .before .before .before .before .before .before .before .before .before .before .before .before .before .before .before .before .before .before .pre .0 .1
 
 same-length : tie.Need-same-length
 same-length c = search needs
 
 returns : tie.Need-returns
 returns c =
-    let a = c .before .before .before .before .before .before .before .before .before .before .before .before .before
-    .before .before .before .before .before .before .before .before .before .before .before .args in
+    let a = c .before .before .before .before .before .before .before .before .before .before .before .before .before .before .before .before .before .before .before .before .before .args in
     let r = a .r in
     let l = now (a .line) in
-    let room = c .before .before .before .before .before .before .before .before .before .before .before .before
-    .before .before .before .before .before .before .before .before .before .before .before .before .pre .0 .0 in
-    let x = c .before .before .before .before .before .before .before .before .before .before .before .before .before
-    .before .before .before .before .before .before .before .before .before .before .before .pre .2 .0 in
-    let isForm = c .before .before .before .before .before .before .before .before .before .before .before .before
-    .before .before .before .before .before .before .before .before .before .before .before .before .pre .2 .1 in
-    let small = c .before .before .before .before .before .before .before .before .before .before .before .before
-    .before .before .before .before .before .before .before .before .before .before .before .before .pre .2 .2 in
-    let few : r .fields < fieldsMost = omega (
-      arith,
-      room .fields,
-      c .before .before .before .before .before .before .before .before .before .before
-          .before .before .before .before .before .before .before .before .before .before .before .before .before
-          .before .pre .1,
-    ) in
-    let told : isTold (noteOf
-    (c .before .before .before .before .before .before .before .before .before .before .before .before .lower
-    .result)) ≡ true =
-    ap isTold (c .before .before .before .before .before .before .before .before .before .before .before .before
-    .lower .ensures) ∙ told-lower (noteOf (r .note)) (noteOf
-    (c .before .before .before .before .before .before .before .before .before .before .before .before .before
-    .later-rule .result)) (room .told)
-    (c .before .before .before .before .before .before .before .before .before .before .before .before .before
-    .later-rule .ensures .0) in
-    let w = c .before .before .before .before .before .before .before .put-field .ensures x small in
-    let m = field-most l x (a .p) (line-formed l x isForm) (small .0) (small .1) in
-    let z = field-end _ _ l x (a .p) (small .0) w in
+    let room = c .before .before .before .before .before .before .before .before .before .before .before .before .before .before .before .before .before .before .before .before .before .pre .0 .0 in
+    let few : r .fields < fieldsMost = omega (arith, room .fields, c .before .before .before .before .before .before .before .before .before .before .before .before .before .before .before .before .before .before .before .before .before .pre .1) in
+    let told : isTold (noteOf (c .before .before .before .before .before .before .before .before .before .before .before .lower .result)) ≡ true =
+    ap isTold (c .before .before .before .before .before .before .before .before .before .before .before .lower .ensures)
+    ∙ told-lower (noteOf (r .note)) (noteOf (c .before .before .before .before .before .before .before .before .before .before .before .before .later-rule .result)) (room .told) (c .before .before .before .before .before .before .before .before .before .before .before .before .later-rule .ensures .0) in
+    let w = c .before .before .before .before .before .before .before .put-field .ensures .1 in
+    let z = c .before .before .before .before .before .before .before .put-field .ensures .0 in
     rw (c .onward .ensures) (
       (
-        room-kept r (c .before .before .before .before .next-cell .result)
-            (c .before .before .before .before .before .before .before .put-field .result)
-            (c .before .before .before .rests .result)
-            (c .before .before .before .before .before .before .before .before .before .before .before .before .lower
-            .result) room (c .before .before .before .before .before .before .before .before .before .before
-            .before .before .before .before .before .before .before .before .before .before .before
-            .before .before .before .pre .1)
-            (c .before .before .before .before .next-cell .ensures .0) (omega (arith, z)) (omega (arith, z, m)) told,
+        room-kept r (c .before .before .before .before .next-cell .result) (c .before .before .before .before .before .before .before .put-field .result) (c .before .before .before .rests .result) (c .before .before .before .before .before .before .before .before .before .before .before .lower .result) room (c .before .before .before .before .before .before .before .before .before .before .before .before .before .before .before .before .before .before .before .before .before .pre .1)
+            (c .before .before .before .before .next-cell .ensures .0) (omega (arith, z)) (omega (arith, z, c .before .before .before .before .before .before .before .before .before .before .before .before .before .before .before .before .before .before .before .before .before .pre .2 .1)) told,
         omega arith,
       ),
       (
         w .kept,
-        (λ f k full h.
-            let nw = named-with l x (a .p) (small .0)
-            (c .before .before .before .before .before .before .before .before .before .before .before .before
-            .before .before .before .before .before .before .before .before .before .before .before .before .pre
-            .2 .3) f r (h .counts) few (h .named)
-            (c .before .before .before .before .before .before .before .before .before .before .before
-            .before .before .before .before .before .before .hold-names .ensures .0)
-            (c .before .before .before .before .before .before .before .before .before .before .before .before
-            .before .before .before .before .before .hold-names .ensures .1 .0)
-            (c .before .before .before .before .before .before .before .before .before .before .before .before
-            .before .before .before .before .before .hold-names .ensures .1 .1) in
-            let low = c .before .before .before .before .before .before .before .before .before .before .before
-            .before .lower .ensures ∙ form-note f r x (h .counts) (small .1)
-            (c .before .before .before .before .before .before .before .before .before .before .before .before
-            .before .later-rule .ensures .1 f x k (h .counts) (h .slots) nw isForm (small .0)) in
+        (λ f x names k full h isForm small is.
+            let nw = named-with l x (a .p) is f r (h .counts) few refl (h .named) (c .before .before .before .before .before .before .before .before .before .before .before .before .before .before .before .hold-names .ensures .0)
+            (c .before .before .before .before .before .before .before .before .before .before .before .before .before .before .before .hold-names .ensures .1) in
+            let low = c .before .before .before .before .before .before .before .before .before .before .before .lower .ensures ∙ form-note f r x (h .counts) small
+            (c .before .before .before .before .before .before .before .before .before .before .before .before .later-rule .ensures .1 f x names k (h .counts) (h .slots) nw isForm is) in
             holds-open f r h x (record {
               cell = c .before .before .before .before .next-cell .ensures .1 f (h .counts) (h .slots);
-              writes = w;
-              rested = c .before .before .before .rests .ensures ∙ rests-here f r x (h .counts) l (a .p) (small .0);
+              writes = rw (record-bytes names (r .fields) l x (a .p) is (c .before .before .before .before .before .before .before .before .before .before .before .before .before .before .before .before .before .before .before .before .before .pre .2 .0)) at w;
+              rested = c .before .before .before .rests .ensures ∙ rests-here f r x (h .counts) (a .p) is;
               named = nw;
-            }) k (form-short f k l x isForm) (all-formed f k l x isForm) l
-            (c .before .before .before .before .before .before .before .before .before .before .before .before .lower
-            .result) full isForm
-            low (sym (c .before .before .before .before .before .before .before .before .before .before .before
-            .is-open .ensures) ∙ c .before .before .before .before .before .before .before .before .before .before
-            .if1 .taken)),
+            }) k (form-short f k l x isForm) (all-formed f k l x isForm) l (c .before .before .before .before .before .before .before .before .before .before .before .lower .result) full isForm low
+            (sym (c .before .before .before .before .before .before .before .before .before .before .is-open .ensures) ∙ c .before .before .before .before .before .before .before .before .before .if1 .taken)),
       ),
     )
 
 add-r-3 : tie.Need-add-r-3
-add-r-3 c = let q = c .before .before .before .before .before .before .before .before .before .before .before .before
-    .before .before .before .pre .1 in let k = c .before .before .before .before .before .before .before .before
-    .before .before .before .before .before .before .before .pre .0 .0 .fields in search (needs, q, k)
+add-r-3 c = let q = c .before .before .before .before .before .before .before .before .before .before .before .before .before .pre .1 in let k = c .before .before .before .before .before .before .before .before .before .before .before .before .before .pre .0 .0 .fields in search (needs, q, k)
 
 onward-requires-2 : tie.Need-onward-requires-2
-onward-requires-2 c κs = c .before .before .before .before .before .before .before .before .before .before .before
-    .before .before .before .before .pre .0 .1
+onward-requires-2 c κs = c .before .before .before .before .before .before .before .before .before .before .before .before .before .pre .0 .1
 
 returns-2 : tie.Need-returns-2
 returns-2 c =
-    let a = c .before .before .before .before .before .before .before .before .before .before .before .before .before
-    .before .before .before .args in
+    let a = c .before .before .before .before .before .before .before .before .before .before .before .before .before .before .args in
     let r = a .r in
     let l = now (a .line) in
-    let room = c .before .before .before .before .before .before .before .before .before .before .before .before
-    .before .before .before .before .pre .0 .0 in
-    let x = c .before .before .before .before .before .before .before .before .before .before .before .before .before
-    .before .before .before .pre .2 .0 in
-    let isForm = c .before .before .before .before .before .before .before .before .before .before .before .before
-    .before .before .before .before .pre .2 .1 in
-    let small = c .before .before .before .before .before .before .before .before .before .before .before .before
-    .before .before .before .before .pre .2 .2 in
-    let few : r .fields < fieldsMost = omega (
-      arith,
-      room .fields,
-      c .before .before .before .before .before .before .before .before .before .before
-          .before .before .before .before .before .before .pre .1,
-    ) in
+    let room = c .before .before .before .before .before .before .before .before .before .before .before .before .before .before .pre .0 .0 in
+    let few : r .fields < fieldsMost = omega (arith, room .fields, c .before .before .before .before .before .before .before .before .before .before .before .before .before .before .pre .1) in
     let told : isTold (noteOf (c .before .before .before .before .lower .result)) ≡ true =
     ap isTold (c .before .before .before .before .lower .ensures)
-    ∙ told-lower (noteOf (r .note)) (noteOf (c .before .before .before .before .before .later-rule .result))
-    (room .told)
-    (c .before .before .before .before .before .later-rule .ensures .0) in
+    ∙ told-lower (noteOf (r .note)) (noteOf (c .before .before .before .before .before .later-rule .result)) (room .told) (c .before .before .before .before .before .later-rule .ensures .0) in
     rw (c .onward2 .ensures) (
-      (
-        room-refused r (c .before .before .before .before .lower .result) room
-            (c .before .before .before .before .before .before .before .before .before .before .before .before .before
-            .before .before .before .pre .1) told,
-        omega arith,
-      ),
+      (room-refused r (c .before .before .before .before .lower .result) room (c .before .before .before .before .before .before .before .before .before .before .before .before .before .before .pre .1) told, omega arith),
       (
         refl,
-        (λ f k full h.
-            let nw = named-with l x (a .p) (small .0)
-            (c .before .before .before .before .before .before .before .before .before .before .before .before
-            .before .before .before .before .pre .2 .3) f r (h .counts) few (h .named)
-            (c .before .before .before .before .before .before .before .before .before .hold-names .ensures .0)
-            (c .before .before .before .before .before .before .before .before .before .hold-names .ensures .1 .0)
-            (c .before .before .before .before .before .before .before .before .before .hold-names .ensures .1 .1) in
-            let low = c .before .before .before .before .lower .ensures ∙ form-note f r x (h .counts) (small .1)
-            (c .before .before .before .before .before .later-rule .ensures .1 f x k (h .counts)
-            (h .slots) nw isForm (small .0)) in
-            holds-closed f r (holds-named f r x h nw) l x
-            (c .before .before .before .before .lower .result) full isForm low
+        (λ f x names k full h isForm small is.
+            let nw = named-with l x (a .p) is f r (h .counts) few refl (h .named) (c .before .before .before .before .before .before .before .before .hold-names .ensures .0)
+            (c .before .before .before .before .before .before .before .before .hold-names .ensures .1) in
+            let low = c .before .before .before .before .lower .ensures ∙ form-note f r x (h .counts) small
+            (c .before .before .before .before .before .later-rule .ensures .1 f x names k (h .counts) (h .slots) nw isForm is) in
+            holds-closed f r (holds-named f r x h nw) l x (c .before .before .before .before .lower .result) full isForm low
             (sym (c .before .before .before .is-open .ensures) ∙ c .before .before .if1 .left)),
       ),
     )

@@ -83,12 +83,21 @@ same-length : tie.Need-same-length
 same-length c = search needs
 
 returns : tie.Need-returns
-returns c =
-    writes-join (c .before .before .before .before .before .before .before .before .before .before .before .before
-    .before .before .put-names .ensures .1) (writes-join (c .before .before .before .before .before .before .before
-    .before .before .before .put-width .ensures .1)
-    (writes-join (c .before .before .before .before .before .before .put-tree .ensures .1) (c .before .before
-    .put-tree2 .ensures .1)))
+returns c = (
+  omega (
+    arith,
+    size-sum (c .before .before .before .before .before .before .before .before .before .before .before .before .before .before .before .before .before .before .before .before .args .p),
+    c .before .before .before .before .before .before .before .before .before .before .before .before .before .before .put-names .ensures .0,
+    c .before .before .before .before .before .before .before .before .before .before .put-width .ensures .0,
+    c .before .before .before .before .before .before .put-tree .ensures .0,
+    c .before .before .put-tree2 .ensures .0,
+  ),
+  writes-join (c .before .before .before .before .before .before .before .before .before .before .before .before
+      .before .before .put-names .ensures .1) (writes-join (c .before .before .before .before .before .before .before
+      .before .before .before .put-width .ensures .1)
+      (writes-join (c .before .before .before .before .before .before .put-tree .ensures .1) (c .before .before
+      .put-tree2 .ensures .1))),
+)
 
 pub put-body-spec : {M : Type 1} → statement M
 put-body-spec =

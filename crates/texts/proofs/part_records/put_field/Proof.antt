@@ -72,8 +72,10 @@ returns c =
     let w = two-writes (size .result) (omega (arith, sum, room)) (c .before .before .before .before .before .before
     .before .before .before .before .put-two .ensures) in
     let v = two-writes (a .p .kind) (omega (arith, sum, two-end (size .result) w, w .kept, room))
-    (c .before .before .before .before .before .before .put-two2 .ensures) in
-    writes-join (rw (size .ensures) at w) (writes-join v (c .before .before .put-body .ensures))
+    (c .before .before .before .before .before .before .put-two2 .ensures) in (
+      omega (arith, two-end (size .result) w, two-end (a .p .kind) v, c .before .before .put-body .ensures .0),
+      writes-join (rw (size .ensures) at w) (writes-join v (c .before .before .put-body .ensures .1)),
+    )
 
 pub put-field-spec : {M : Type 1} → statement M
 put-field-spec =
