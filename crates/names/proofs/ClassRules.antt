@@ -9,10 +9,10 @@ use Rattle.base.specs.Lists.{any}
 use Rattle.base.proofs.Breaks.{and-true}
 use Rattle.base.proofs.Tables.{below-holds, getD-tabulate}
 use Rattle.rules.specs.Operators.{operator, operators}
-use Rattle.rules.specs.Names.{isLetter, isDigit, isOperator, isSpace, classOf, isWordByte, isLabelByte}
+use Rattle.rules.specs.Names.{isLetter, isDigit, isOperator, isSpace, classOf, isWordByte}
 use Rattle.names.specs.Classes.{letterClass, digitClass, operatorClass, spaceClass, classTable}
 use Rattle.names.specs.Classes.{hasClass, isWordIn}
-use Rattle.names.specs.NameBytes.{isNameByte}
+use Rattle.names.specs.LentNames.{isNameIn}
 
 beq-eq : (a b : Bool) → Bool·beq a b ≡ true → a ≡ b
 beq-eq true true h = refl
@@ -67,13 +67,12 @@ module _ (classes : List ℕ) (known : classes ≡ classTable) (b : ℕ) (fits :
   unfolding isWordByte
   word-in = rw (letter-in, digit-in) refl
 
-pub name-word : (label : Bool) (b : ℕ) → isWordByte b ≡ true → isNameByte label b ≡ true
-unfolding isLabelByte
-name-word true b e = rw e
-name-word false b e = e
+pub name-word : (classes : List ℕ) (label : Bool) (b : ℕ) → isWordIn classes b ≡ true
+    → isNameIn classes label b ≡ true
+name-word classes true b e = rw e
+name-word classes false b e = e
 
 -- a byte that is no letter or digit, in a label
-pub name-label : (label : Bool) (b : ℕ) → isWordByte b ≡ false → label ≡ true → isNameByte label b ≡
-    (isSpace b || eqb b 45)
-unfolding isLabelByte
-name-label label b e h = rw (h, e)
+pub name-label : (classes : List ℕ) (label : Bool) (b : ℕ) → isWordIn classes b ≡ false → label ≡ true
+    → isNameIn classes label b ≡ (hasClass spaceClass classes b || eqb b 45)
+name-label classes label b e h = rw (h, e)

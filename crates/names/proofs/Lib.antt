@@ -1,4 +1,5 @@
 -- ClassRules, Spaces, Ends  what the tests of bytes and names need
+-- LentLaws                  labels and short names by the table of the classes
 -- RepeatLaws                searches for the first repeated thing
 -- PairLaws                  loops over pairs that look for it
 -- PadLaws                   names held as arrays
@@ -7,6 +8,7 @@
 pub mod ClassRules
 pub mod Spaces
 pub mod Ends
+pub mod LentLaws
 pub mod RepeatLaws
 pub mod PairLaws
 pub mod PadLaws

@@ -11,6 +11,7 @@ use Rattle.rules.specs.Operators.{operator, operators}
 use Rattle.rules.specs.Names.{isLetter, isDigit, isOperator, isSpace, classOf, isWordByte, isLabelByte}
 use Rattle.rules.specs.Names.{noTwoSpaces, isLabel, isShort, reserved, isReserved}
 use Rattle.names.specs.Classes.{digitClass, operatorClass, spaceClass, classTable, hasClass, isWordIn}
+use Rattle.names.specs.LentNames.{noTwo, isLabelIn, isShortIn}
 use Rattle.names.specs.Repeats.{firstFrom, padTo, sameName, namesAlike, firstRepeat, startOf, atMost}
 use Rattle.names.specs.Wrong.{
   Claim,
@@ -19,6 +20,8 @@ use Rattle.names.specs.Wrong.{
   saysOperator,
   saysSpace,
   saysWord,
+  saysLabelIn,
+  saysShortIn,
   saysLabel,
   saysShort,
   saysReserved,
@@ -49,6 +52,8 @@ claimed (saysDigit classes b r) = bit r
 claimed (saysOperator classes b r) = bit r
 claimed (saysSpace classes b r) = bit r
 claimed (saysWord classes b r) = bit r
+claimed (saysLabelIn classes w r) = bit r
+claimed (saysShortIn classes w r) = bit r
 claimed (saysLabel w r) = bit r
 claimed (saysShort w r) = bit r
 claimed (saysReserved w r) = bit r
@@ -65,6 +70,8 @@ given (saysDigit classes b r) = bit (hasClass digitClass classes b)
 given (saysOperator classes b r) = bit (hasClass operatorClass classes b)
 given (saysSpace classes b r) = bit (hasClass spaceClass classes b)
 given (saysWord classes b r) = bit (isWordIn classes b)
+given (saysLabelIn classes w r) = bit (isLabelIn classes w)
+given (saysShortIn classes w r) = bit (isShortIn classes w)
 given (saysLabel w r) = bit (isLabel w)
 given (saysShort w r) = bit (isShort w)
 given (saysReserved w r) = bit (isReserved w)
@@ -81,6 +88,8 @@ claim-only (saysDigit classes b r) p = ap bit p
 claim-only (saysOperator classes b r) p = ap bit p
 claim-only (saysSpace classes b r) p = ap bit p
 claim-only (saysWord classes b r) p = ap bit p
+claim-only (saysLabelIn classes w r) p = ap bit p
+claim-only (saysShortIn classes w r) p = ap bit p
 claim-only (saysLabel w r) p = ap bit p
 claim-only (saysShort w r) p = ap bit p
 claim-only (saysReserved w r) p = ap bit p
@@ -108,5 +117,6 @@ each-false (c ∷ cs) h =
 
 pub ruled-out : AllFalse wrong
 unfolding all any same lastIs tabulate operator operators isLetter isDigit isOperator isSpace classOf isWordByte
-    isLabelByte noTwoSpaces isLabel isShort reserved isReserved classTable hasClass firstFrom padTo sameName startOf
+    isLabelByte noTwoSpaces isLabel isShort reserved isReserved classTable hasClass noTwo isLabelIn isShortIn
+    firstFrom padTo sameName startOf
 ruled-out = each-false wrong refl

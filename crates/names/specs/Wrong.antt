@@ -10,6 +10,7 @@ use Rattle.base.specs.Lists.{same}
 use Rattle.rules.specs.Limits.{fieldsMost, shortMost}
 use Rattle.rules.specs.Names.{isLabel, isShort, isReserved}
 use Rattle.names.specs.Classes.{digitClass, operatorClass, spaceClass, classTable, hasClass, isWordIn}
+use Rattle.names.specs.LentNames.{isLabelIn, isShortIn}
 use Rattle.names.specs.Repeats.{padTo, sameName, namesAlike, firstRepeat, remainders, startOf, atMost}
 
 pub data Claim : Type 0 where
@@ -20,6 +21,9 @@ pub data Claim : Type 0 where
   saysOperator : List ℕ → ℕ → Bool → Claim
   saysSpace : List ℕ → ℕ → Bool → Claim
   saysWord : List ℕ → ℕ → Bool → Claim
+  -- by a lent table, whether a word is a label, and a short name
+  saysLabelIn : List ℕ → List ℕ → Bool → Claim
+  saysShortIn : List ℕ → List ℕ → Bool → Claim
   -- whether a word is a label, a short name, reserved, and the same as another
   saysLabel : List ℕ → Bool → Claim
   saysShort : List ℕ → Bool → Claim
@@ -40,6 +44,8 @@ Claimed (saysDigit classes b r) = r ≡ hasClass digitClass classes b
 Claimed (saysOperator classes b r) = r ≡ hasClass operatorClass classes b
 Claimed (saysSpace classes b r) = r ≡ hasClass spaceClass classes b
 Claimed (saysWord classes b r) = r ≡ isWordIn classes b
+Claimed (saysLabelIn classes w r) = r ≡ isLabelIn classes w
+Claimed (saysShortIn classes w r) = r ≡ isShortIn classes w
 Claimed (saysLabel w r) = r ≡ isLabel w
 Claimed (saysShort w r) = r ≡ isShort w
 Claimed (saysReserved w r) = r ≡ isReserved w
@@ -117,6 +123,15 @@ wrongWords =
     ∷ saysShort (bytes "1A") true
     ∷ saysShort (bytes "bits") true
     ∷ saysShort (bytes "Len") false
+    -- the right table instead of the lent one; two spaces together; a space refused
+    ∷ saysLabelIn noClasses (bytes "A") true
+    ∷ saysLabelIn classTable (bytes "A  B") true
+    ∷ saysLabelIn classTable (bytes "A B") false
+    -- the right table instead of the lent one; a hyphen; a digit in front; a reserved word
+    ∷ saysShortIn noClasses (bytes "A") true
+    ∷ saysShortIn classTable (bytes "A-B") true
+    ∷ saysShortIn classTable (bytes "1A") true
+    ∷ saysShortIn classTable (bytes "bits") true
     -- another reserved word; one left out
     ∷ saysReserved (bytes "Variable") true
     ∷ saysReserved (bytes "present") false

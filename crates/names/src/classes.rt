@@ -9,7 +9,7 @@ ghost use Rattle.names.specs.Classes.{
   hasClass,
   isWordIn,
 };
-ghost use Rattle.names.specs.NameBytes.{isNameByte};
+ghost use Rattle.names.specs.LentNames.{isNameIn};
 
 const LETTER: u8 = 1;
 
@@ -329,8 +329,7 @@ pub fn is_word_in(classes: &[u8; 256], b: u8) -> bool
 
 // What may stand in a label: a letter, digit, space or hyphen; in a short name: a letter or digit.
 pub(crate) fn is_name_in(classes: &[u8; 256], b: u8, label: bool) -> bool
-    requires { ⌜ now classes ≡ classTable ⌝ }
-    ensures { λ r. ⌜ r ≡ isNameByte label b ⌝ }
+    ensures { λ r. ⌜ r ≡ isNameIn (now (classes .entry)) label b ⌝ }
 {
     if is_word_in(classes, b) {
         return true;

@@ -1,4 +1,4 @@
-// Labels and short names.
+// Labels and short names, by the classes that a lent table has of their bytes.
 use crate::classes::class_table;
 use crate::classes::is_letter_in;
 use crate::classes::is_name_in;
@@ -9,14 +9,13 @@ use rules::LABEL_MOST;
 use rules::SHORT_MOST;
 ghost use mathlib.Core.Path.{_≡_};
 ghost use Rattle.base.specs.Lists.{all};
-ghost use Rattle.rules.specs.Names.{noTwoSpaces, hasWordEnds, isLabel, isShort};
-ghost use Rattle.names.specs.Classes.{classTable};
-ghost use Rattle.names.specs.NameBytes.{isNameByte};
+ghost use Rattle.rules.specs.Names.{isLabel, isShort};
+ghost use Rattle.names.specs.Classes.{spaceClass, hasClass};
+ghost use Rattle.names.specs.LentNames.{isNameIn, hasEndsIn, noTwo, isLabelIn, isShortIn};
 
 // Each byte may stand in a label, or else in a short name.
 fn all_bytes(classes: &[u8; 256], w: &[u8], label: bool) -> bool
-    requires { ⌜ now classes ≡ classTable ⌝ }
-    ensures { λ r. ⌜ r ≡ all (isNameByte label) (now (w .entry)) ⌝ }
+    ensures { λ r. ⌜ r ≡ all (isNameIn (now (classes .entry)) label) (now (w .entry)) ⌝ }
 {
     let mut i = 0;
     while i < w.len() {
@@ -29,8 +28,7 @@ fn all_bytes(classes: &[u8; 256], w: &[u8], label: bool) -> bool
 }
 
 fn no_two_spaces(classes: &[u8; 256], w: &[u8]) -> bool
-    requires { ⌜ now classes ≡ classTable ⌝ }
-    ensures { λ r. ⌜ r ≡ noTwoSpaces (now (w .entry)) ⌝ }
+    ensures { λ r. ⌜ r ≡ noTwo (hasClass spaceClass (now (classes .entry))) (now (w .entry)) ⌝ }
 {
     let mut i = 1;
     while i < w.len() {
@@ -46,8 +44,7 @@ fn no_two_spaces(classes: &[u8; 256], w: &[u8]) -> bool
 
 // A letter or digit at each end.
 fn has_word_ends(classes: &[u8; 256], w: &[u8]) -> bool
-    requires { ⌜ now classes ≡ classTable ⌝ }
-    ensures { λ r. ⌜ r ≡ hasWordEnds (now (w .entry)) ⌝ }
+    ensures { λ r. ⌜ r ≡ hasEndsIn (now (classes .entry)) (now (w .entry)) ⌝ }
 {
     let n = w.len();
     if n == 0 {
@@ -59,37 +56,49 @@ fn has_word_ends(classes: &[u8; 256], w: &[u8]) -> bool
     is_word_in(classes, w[n - 1])
 }
 
-pub fn is_label(w: &[u8]) -> bool
-    ensures { λ r. ⌜ r ≡ isLabel (now (w .entry)) ⌝ }
+pub fn is_label_in(classes: &[u8; 256], w: &[u8]) -> bool
+    ensures { λ r. ⌜ r ≡ isLabelIn (now (classes .entry)) (now (w .entry)) ⌝ }
 {
     if LABEL_MOST < w.len() {
         return false;
     }
-    let classes = class_table();
-    if !all_bytes(&classes, w, true) {
+    if !all_bytes(classes, w, true) {
         return false;
     }
-    if !has_word_ends(&classes, w) {
+    if !has_word_ends(classes, w) {
         return false;
     }
-    no_two_spaces(&classes, w)
+    no_two_spaces(classes, w)
 }
 
-pub fn is_short(w: &[u8]) -> bool
-    ensures { λ r. ⌜ r ≡ isShort (now (w .entry)) ⌝ }
+pub fn is_short_in(classes: &[u8; 256], w: &[u8]) -> bool
+    ensures { λ r. ⌜ r ≡ isShortIn (now (classes .entry)) (now (w .entry)) ⌝ }
 {
     if w.len() == 0 {
         return false;
     }
-    let classes = class_table();
-    if !is_letter_in(&classes, w[0]) {
+    if !is_letter_in(classes, w[0]) {
         return false;
     }
     if SHORT_MOST < w.len() {
         return false;
     }
-    if !all_bytes(&classes, w, false) {
+    if !all_bytes(classes, w, false) {
         return false;
     }
     !is_reserved(w)
+}
+
+pub fn is_label(w: &[u8]) -> bool
+    ensures { λ r. ⌜ r ≡ isLabel (now (w .entry)) ⌝ }
+{
+    let classes = class_table();
+    is_label_in(&classes, w)
+}
+
+pub fn is_short(w: &[u8]) -> bool
+    ensures { λ r. ⌜ r ≡ isShort (now (w .entry)) ⌝ }
+{
+    let classes = class_table();
+    is_short_in(&classes, w)
 }

@@ -20,7 +20,8 @@ use Rattle.text_laws.specs.Fold as fold
 use Rattle.text_laws.specs.Steady.{isKept, Steady}
 use Rattle.text_laws.proofs.FormExact.{form-sound}
 use Rattle.texts.specs.HeldNames.{anyClash}
-use Rattle.texts.specs.HeldParts.{PartsHeld}
+use Rattle.texts.specs.HeldParts.{LineBytes, PartsHeld}
+use Rattle.texts.specs.StoredTrees.{held}
 use Rattle.texts.specs.Resolved.{typesKept}
 use Rattle.texts.specs.States.{laterNote, NamedWith, Counts}
 use Rattle.texts.specs.declared.line_parts.Parts.{Parts}
@@ -93,13 +94,13 @@ module _ (f : fold.Found) (steady : Steady f) (line : List ℕ) (x : Form) (isFo
         (types-here before x names all-formed (named .name) form-short)
 
   -- 10
-  pub rest-is : (names : List (List ℕ)) (n : ℕ) (p : Parts) → PartsHeld names n line x p
+  pub rest-is : (names : List (List ℕ)) (n : ℕ) (v : LineBytes) (p : Parts) → PartsHeld names n line x v p
       → (any isRest (faces (f .judged .fields)) && not (eqb (p .kind) 2 && eqb (p .condition .len) 0))
       ≡ not (keepsRest (faces (f .judged .fields)) x)
-  rest-is names n p is =
+  rest-is names n v p is =
       rw (
-        fixed-kind names n (x .width) (p .kind) (p .bits) (p .width) (is .width),
-        none-length names n (x .condition) (p .condition) (is .condition),
+        fixed-kind names n (x .width) (p .kind) (p .bits) (held (p .width) (v .width)) (is .width),
+        none-length names n (x .condition) (held (p .condition) (v .condition)) (is .condition),
       )
       (go (any isRest (faces (f .judged .fields))) (isFixed x && isNone (x .condition)))
     where

@@ -1,20 +1,19 @@
--- The bytes, lines, rulers and opening line of a text, as the code reads them.
+-- The pieces, rulers and opening line of a text, as the code reads them.
 use mathlib.Core.Path.{_≡_, refl, ap, sym, _∙_}
-use mathlib.Core.Bool.{Bool, true, false, cond, _&&_, _||_}
+use mathlib.Core.Bool.{Bool, true, false, cond, _&&_}
 use mathlib.Core.List.{List, [], _∷_}
 use mathlib.Core.Option.{none, some}
 use Prim.Native.Nat.{ℕ, zero, suc, _+_, _-_, _≤_, _<_}
 use native.Mathlib.Omega.{arith}
 use native.Mathlib.Numerals.{add-one}
-use lib.Dec.{leb, eqb}
+use lib.Dec.{eqb}
 use lib.ListN.{length, take, drop, getD, length-drop}
 use lib.Seq.{drop-cons, drop-length, take-all}
-use borrow.Author.Tests.{le-leb, lt-leb, eq-eqb, ne-eqb}
-use Rattle.base.specs.Bytes.{bytes}
+use borrow.Author.Tests.{eq-eqb, ne-eqb}
 use Rattle.base.specs.Lists.{isEmpty, same, tabulate}
 use Rattle.base.proofs.Scans.{same-step, same-end, same-length}
 use Rattle.base.proofs.Tables.{getD-tabulate}
-use Rattle.rules.specs.Names.{isPrintable, isAllowed, isLabel}
+use Rattle.rules.specs.Names.{isLabel}
 use Rattle.rules.specs.Frames.{tensAt, tens}
 use Rattle.text_laws.specs.FrameReader.{onFirst, pieces, rest, closing, readName, readTens}
 use Rattle.texts.specs.FramePlaces.{upTo, widthOr, isSome}
@@ -62,22 +61,6 @@ pieces-none e (b ∷ s) q = go (eqb b e) (pieces-none e s) q
         × (cond x (rest e s) (cond (isEmpty (pieces e s)) (b ∷ rest e s) (rest e s)) ≡ b ∷ s)
     go true h q = absurd (omega arith)
     go false h q = let k = h (omega arith) in (rw (k .0) refl, rw (k .0, k .1) refl)
-
--- ── bytes ──
-
-or-false : (x : Bool) → (x || false) ≡ x
-or-false true = refl
-or-false false = refl
-
-pub allowed-low : (b : ℕ) → b < 32 → eqb b 10 ≡ isAllowed b
-unfolding isAllowed isPrintable
-allowed-low b lt = rw (lt-leb 32 b lt) refl
-
-pub allowed-high : (b : ℕ) → 32 ≤ b → leb b 126 ≡ isAllowed b
-unfolding isAllowed isPrintable
-allowed-high b le =
-    let n : b ≡ 10 → ⊥ = λ e. omega arith in
-    rw (le-leb 32 b le, ne-eqb b 10 n, or-false (leb b 126)) refl
 
 -- ── rulers ──
 

@@ -5,7 +5,7 @@
 -- StoredBytes, StoredSteps, StoredExprs   expressions in their stored form, as the code makes them
 -- FieldWords, FieldNames   phrases, units, labels and short names at a place of a text
 -- FieldClauses             constraint and condition at a place of a text
--- FrameLeaves              bytes, lines, rulers and the opening line, as the code reads them
+-- FrameLeaves              pieces, rulers and the opening line, as the code reads them
 -- RowLeaves                cells and long rows, as the code reads them
 -- TreeTypes                the types of a line's expressions, by the stored forms that the code makes
 -- NoteLaws                 the lower of two notes
@@ -26,6 +26,7 @@
 -- PartRules                what is tested of the expressions of a field line is what the rules ask
 -- PartBytes                the bytes that are written of the parts of a field line are its record
 -- SplitSteps               the pieces of a text from a place on
+-- LineEnds                 the first byte that is not printable, and the line feed
 -- RowTests                 the row of a line, as the code tests it
 -- SlotLaws                 a cell as it is kept, and whether it is one for the field of a line
 -- SlotRows                 the cells of a row that is read, and cells put one behind the other
@@ -75,6 +76,7 @@ pub mod WidthTrees
 pub mod FieldParts
 pub mod PartSteps
 pub mod SplitSteps
+pub mod LineEnds
 pub mod RowTests
 pub mod CellNames
 pub mod RowShown

@@ -25,13 +25,13 @@ use Rattle.text_laws.specs.Fold as fold
 use Rattle.text_laws.proofs.FormExact.{form-sound}
 use Rattle.texts.specs.PartPlaces.{spanIn}
 use Rattle.texts.specs.HeldNames.{heldName}
-use Rattle.texts.specs.HeldParts.{WidthHeld, Kept, PartsHeld, PartsFor}
+use Rattle.texts.specs.HeldParts.{WidthHeld, LineBytes, Kept, PartsHeld, PartsFor}
 use Rattle.texts.specs.HeldRecords.{isSmallAs, fieldSize, Writable}
 use Rattle.texts.specs.Noted.{noteOf}
 use Rattle.texts.specs.States.{note, Named, NamedWith, laterNote, isTold, isFullAs, lineRefused, lineKept}
 use Rattle.texts.specs.States.{recordMost, Room, Counts}
 use Rattle.texts.specs.declared.notes.Note.{Note}
-use Rattle.texts.specs.declared.stored_trees.StoredTree.{StoredTree}
+use Rattle.texts.specs.StoredTrees.{TreeBytes, held}
 use Rattle.texts.specs.declared.line_parts.Parts.{Parts}
 use Rattle.texts.specs.declared.states.Reading.{Reading}
 use Rattle.texts.proofs.FormRules.{NamesFormed, formed-names}
@@ -45,19 +45,20 @@ use Rattle.texts.proofs.RowSteps.{label-most}
 -- ── the form of a line, by its parts ──
 
 module _ (names : List (List ℕ)) (n : ℕ) (s : List ℕ) where
-  kind-some : (v : Width (List ℕ)) (k b : ℕ) (t : StoredTree) → WidthHeld names n v k b t → k ≡ 0 → ⊥
+  kind-some : (v : Width (List ℕ)) (k b : ℕ) (t : TreeBytes) → WidthHeld names n v k b t → k ≡ 0 → ⊥
   kind-some (fixed m) k b t h e = absurd (omega (arith, h .0, e))
   kind-some (measured u v) k b t h e = absurd (omega (arith, h .0, e))
   kind-some rest k b t h e = absurd (omega (arith, h .0, e))
 
-  pub form-none : (o : Option Form) (p : Parts) → PartsFor names n s o p → p .kind ≡ 0 → o ≡ none
-  form-none none p h e = refl
-  form-none (some x) p h e = absurd (kind-some (x .width) (p .kind) (p .bits) (p .width) (h .width) e)
+  pub form-none : (o : Option Form) (v : LineBytes) (p : Parts) → PartsFor names n s o v p → p .kind ≡ 0 → o ≡ none
+  form-none none v p h e = refl
+  form-none (some x) v p h e =
+      absurd (kind-some (x .width) (p .kind) (p .bits) (held (p .width) (v .width)) (h .width) e)
 
-  pub form-some : (o : Option Form) (p : Parts) → PartsFor names n s o p → (p .kind ≡ 0 → ⊥)
-      → (x : Form) × (o ≡ some x) × PartsHeld names n s x p
-  form-some none p h e = absurd (e h)
-  form-some (some x) p h e = (x, refl, h)
+  pub form-some : (o : Option Form) (v : LineBytes) (p : Parts) → PartsFor names n s o v p → (p .kind ≡ 0 → ⊥)
+      → (x : Form) × (o ≡ some x) × PartsHeld names n s x v p
+  form-some none v p h e = absurd (e h)
+  form-some (some x) v p h e = (x, refl, h)
 
 -- ── its record ──
 
@@ -75,11 +76,11 @@ small-most d z h = go (eqb z 0) refl h
     go true e h = let q = eqb-true z 0 e in omega (arith, q)
     go false e h = leb-true z storedMost (and-right (leb d depthMost) (leb z storedMost) h)
 
-module _ (names : List (List ℕ)) (n : ℕ) (s : List ℕ) (x : Form) (p : Parts) (is : PartsHeld names n s x p)
-    (small : all isSmall (trees x) ≡ true) where
+module _ (names : List (List ℕ)) (n : ℕ) (s : List ℕ) (x : Form) (v : LineBytes) (p : Parts)
+    (is : PartsHeld names n s x v p) (small : all isSmall (trees x) ≡ true) where
   trees-small : (isSmallAs (p .width .depth) (p .width .len) && (isSmallAs (p .constraint .depth) (p .constraint .len)
       && isSmallAs (p .condition .depth) (p .condition .len))) ≡ true
-  trees-small = sizes-are p _ refl names n s x is ∙ small
+  trees-small = sizes-are p _ refl names n s x v is ∙ small
 
   pub parts-writable : Writable (length s) p
   parts-writable =
@@ -112,11 +113,12 @@ module _ (names : List (List ℕ)) (n : ℕ) (s : List ℕ) (x : Form) (p : Part
       )
     where
       held-short-length : length (storedName (x .short)) ≡ p .short .len
-      held-short-length = short-length names n s x p is (is .shortFits)
+      held-short-length = short-length names n s x v p is (is .shortFits)
 
 -- ── its names ──
 
-module _ (s : List ℕ) (x : Form) (p : Parts) {names : List (List ℕ)} {n : ℕ} (is : PartsHeld names n s x p) where
+module _ (s : List ℕ) (x : Form) (p : Parts) {names : List (List ℕ)} {n : ℕ} {v : LineBytes}
+    (is : PartsHeld names n s x v p) where
   pub named-with : (f : fold.Found) (r : Reading) → Counts f r → r .fields < fieldsMost → n ≡ r .fields
       → {labels shorts labels′ shorts′ : List (List ℕ)} → Named (faces (f .judged .fields)) labels shorts names
       → labels′ ≡ set labels (r .fields) (padTo labelMost (take (p .label) s))
@@ -184,10 +186,11 @@ module _ (f : fold.Found) (r : Reading) (x : Form) (c : Counts f r) where
       rw (c .lowest, n, six-broken f x large) refl
 
   -- the rest field is this one, or was listed before
-  pub rests-here : {names : List (List ℕ)} {n : ℕ} {s : List ℕ} (p : Parts) → PartsHeld names n s x p
+  pub rests-here : {names : List (List ℕ)} {n : ℕ} {s : List ℕ} {v : LineBytes} (p : Parts)
+      → PartsHeld names n s x v p
       → (r .rested || eqb (p .kind) 4) ≡ (any isRest (faces (f .judged .fields)) || isRest x)
-  rests-here {names} {n} p is =
-      rw (c .rested, rest-kind names n (x .width) (p .kind) (p .bits) (p .width) (is .width)) refl
+  rests-here {names} {n} {s} {v} p is =
+      rw (c .rested, rest-kind names n (x .width) (p .kind) (p .bits) (held (p .width) (v .width)) (is .width)) refl
 
 pub line-formed : (l : List ℕ) (x : Form) → readForm l ≡ some x → NamesFormed x
 line-formed l x e = formed-names x (form-sound l x e .formed)

@@ -11,24 +11,24 @@ use Rattle.base.specs.Lists.{isNone}
 use Rattle.rules.specs.Trees.{Tree}
 use Rattle.rules.specs.Fields.{Width, fixed, measured, rest, isFixedWidth, isRestWidth}
 use Rattle.texts.specs.HeldParts.{MaybeHeld, WidthHeld}
-use Rattle.texts.specs.declared.stored_trees.StoredTree.{StoredTree}
+use Rattle.texts.specs.StoredTrees.{TreeBytes}
 use Rattle.texts.proofs.StoredSteps.{some-length}
 
 -- ── kinds and conditions, as the code holds them ──
 
 module _ (names : List (List ℕ)) (n : ℕ) where
-  pub fixed-kind : (v : Width (List ℕ)) (k b : ℕ) (t : StoredTree) → WidthHeld names n v k b t
+  pub fixed-kind : (v : Width (List ℕ)) (k b : ℕ) (t : TreeBytes) → WidthHeld names n v k b t
       → eqb k 2 ≡ isFixedWidth v
   fixed-kind (fixed m) k b t h = rw (h .0) refl
   fixed-kind (measured u v) k b t h = rw (h .0) refl
   fixed-kind rest k b t h = rw (h .0) refl
 
-  pub rest-kind : (v : Width (List ℕ)) (k b : ℕ) (t : StoredTree) → WidthHeld names n v k b t → eqb k 4 ≡ isRestWidth v
+  pub rest-kind : (v : Width (List ℕ)) (k b : ℕ) (t : TreeBytes) → WidthHeld names n v k b t → eqb k 4 ≡ isRestWidth v
   rest-kind (fixed m) k b t h = rw (h .0) refl
   rest-kind (measured u v) k b t h = rw (h .0) refl
   rest-kind rest k b t h = rw (h .0) refl
 
-  pub none-length : (o : Option (Tree (List ℕ))) (t : StoredTree) → MaybeHeld names n o t → eqb (t .len) 0 ≡ isNone o
+  pub none-length : (o : Option (Tree (List ℕ))) (t : TreeBytes) → MaybeHeld names n o t → eqb (t .len) 0 ≡ isNone o
   none-length none t h = eq-eqb (t .len) 0 h
   none-length (some v) t h = ne-eqb (t .len) 0 (λ e. absurd (omega (arith, e, h .len, some-length v)))
 

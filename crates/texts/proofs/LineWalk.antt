@@ -5,7 +5,7 @@ use mathlib.Core.List.{List, [], foldl}
 use Prim.Native.Nat.{ℕ, _+_, _-_, _≤_, _<_}
 use native.Mathlib.Omega.{arith}
 use lib.Dec.{eqb}
-use lib.ListN.{length, take, drop, length-drop}
+use lib.ListN.{length, take, drop, getD, length-drop}
 use borrow.Author.Tests.{eq-eqb, eqb-true}
 use Rattle.base.proofs.Lists.{not-both}
 use Rattle.base.specs.Lists.{all, isEmpty, joined, any}
@@ -13,7 +13,7 @@ use Rattle.rules.specs.Names.{lineFeed, isAllowed}
 use Rattle.rules.specs.Limits.{textMost}
 use Rattle.rules.specs.declared.TextAnswer.{TextAnswer}
 use Rattle.rules.specs.Answers.{ofText}
-use Rattle.rules.specs.Refusals.{Plain, long, byte}
+use Rattle.rules.specs.Refusals.{long, byte}
 use Rattle.rules.specs.Promises.{Outcome, ReadsText, refuses, leaves}
 use Rattle.text_laws.specs.FrameReader.{rest, linesOf}
 use Rattle.text_laws.specs.Fold as fold
@@ -21,10 +21,11 @@ use Rattle.text_laws.specs.Steady.{Steady}
 use Rattle.text_laws.proofs.Answering.{kept-answers}
 use Rattle.text_laws.proofs.Fed.{kept-lines}
 use Rattle.text_laws.proofs.Steadiness.{steady-start, steady-line}
-use Rattle.texts.specs.FramePlaces.{upTo}
+use Rattle.texts.specs.LineEnds.{printableLength}
 use Rattle.texts.specs.Noted.{noteOf}
 use Rattle.texts.specs.States.{begunWith, Room, Begun, Holds, LineStep}
 use Rattle.texts.specs.declared.states.Reading.{Reading}
+use Rattle.texts.proofs.LineEnds.{feed-end, feed-here, allowed-end, allowed-feed, allowed-other}
 use Rattle.texts.proofs.SplitSteps.{piece-at, rest-at, piece-none}
 use Rattle.texts.proofs.StateSteps.{empty-nil, filled-nil}
 
@@ -36,6 +37,7 @@ pub record Walking (t : List ℕ) (at : ℕ) (r : Reading) (cells table : List �
   pub holds : Holds found r cells table labels shorts names
   pub runs : foldl fold.lined fold.start (linesOf t) ≡ foldl fold.lined found (linesOf (drop at t))
   pub behind : rest lineFeed t ≡ rest lineFeed (drop at t)
+  pub bytes : all isAllowed t ≡ all isAllowed (drop at t)
 
 pub room-begun : Room begunWith
 unfolding noteOf
@@ -81,39 +83,49 @@ walking-start t cells table labels shorts names room = record {
   };
   runs = refl;
   behind = refl;
+  bytes = refl;
 }
 
 module _ (t : List ℕ) (at i : ℕ) (r : Reading) {cells table : List ℕ} {labels shorts names : List (List ℕ)}
-    (w : Walking t at r cells table labels shorts names) (first : i ≡ at + upTo lineFeed (drop at t)) where
-  pub walking-next : i < length t → (q : Reading) {cells′ table′ : List ℕ} {labels′ shorts′ names′ : List (List ℕ)}
+    (w : Walking t at r cells table labels shorts names) (first : i ≡ at + printableLength (drop at t)) where
+  pub walking-next : i < length t → getD t i 0 ≡ lineFeed → (q : Reading) {cells′ table′ : List ℕ}
+      {labels′ shorts′ names′ : List (List ℕ)}
       → LineStep (take (i - at) (drop at t)) r q cells cells′ table table′ labels labels′ shorts shorts′ names names′
       → Walking t (i + 1) q cells′ table′ labels′ shorts′ names′
-  walking-next lt q step =
+  walking-next lt feed q step =
       let l = take (i - at) (drop at t) in
+      let e = feed-here t at i first lt feed in
       record {
         found = fold.lined (w .found) l;
         steady = steady-line (w .found) l (w .steady);
         holds = step .2 (w .found) (w .steady) (w .holds);
-        runs = w .runs ∙ ap (foldl fold.lined (w .found)) (piece-at lineFeed t at i first lt);
-        behind = w .behind ∙ rest-at lineFeed t at i first lt;
+        runs = w .runs ∙ ap (foldl fold.lined (w .found)) (piece-at lineFeed t at i e lt);
+        behind = w .behind ∙ rest-at lineFeed t at i e lt;
+        bytes = w .bytes ∙ allowed-feed t at i first lt feed;
       }
 
   -- no whole line is left
-  pub walking-end : at ≤ length t → i ≤ length t → length t ≤ i → Plain t
+  walking-end : at ≤ length t → i ≤ length t → length t ≤ i → length t ≤ textMost
       → fold.kept t ≡ record { size = length t; line = drop at t; found = w .found }
-  walking-end le le′ ge plain =
-      let p = piece-none lineFeed t at i first le le′ ge in
+  walking-end le le′ ge small =
+      let p = piece-none lineFeed t at i (feed-end t at i first ge le′) le le′ ge in
       let f : foldl fold.lined fold.start (linesOf t) ≡ w .found =
       w .runs ∙ ap (foldl fold.lined (w .found)) (p .0) in
-      kept-lines t (plain .bytes) (plain .size)
+      kept-lines t (w .bytes ∙ allowed-end t at i first ge le′) small
       ∙ ap₂ {C = fold.Kept} (λ (l : List ℕ) (g : fold.Found). record { size = length t; line = l; found = g })
       (w .behind ∙ p .1) f
 
-  pub walking-reads : at ≤ length t → i ≤ length t → length t ≤ i → Plain t → (out : List ℕ) (o : Outcome)
+  pub walking-reads : at ≤ length t → i ≤ length t → length t ≤ i → length t ≤ textMost → (out : List ℕ) (o : Outcome)
       → o ≡ fold.finish (record { size = length t; line = drop at t; found = w .found }) out → ReadsText t out o
-  walking-reads le le′ ge plain out o e =
+  walking-reads le le′ ge small out o e =
       subst (ReadsText t out)
-      (ap (λ (k : fold.Kept). fold.finish k out) (walking-end le le′ ge plain) ∙ sym e) (kept-answers t out)
+      (ap (λ (k : fold.Kept). fold.finish k out) (walking-end le le′ ge small) ∙ sym e) (kept-answers t out)
+
+  -- a byte that is not allowed
+  pub walking-stops : i < length t → (getD t i 0 ≡ lineFeed → ⊥) → length t ≤ textMost → (out : List ℕ)
+      → ReadsText t out (leaves (ofText TextAnswer.BadByte) out)
+  unfolding ofText
+  walking-stops lt other small out = refuses (byte small (w .bytes ∙ allowed-other t at i first lt other))
 
 pub empty-end : (t : List ℕ) (at : ℕ) → at ≤ length t → isEmpty (drop at t) ≡ eqb at (length t)
 empty-end t at le = go (eqb at (length t)) refl
@@ -126,14 +138,6 @@ empty-end t at le = go (eqb at (length t)) refl
         filled-nil (drop at t) (λ z. let n = length-drop at t in
         not-both (eqb at (length t)) (eq-eqb at (length t) (omega (arith, n, z, le))) e)
 
--- ── 1 and 2 ──
-
-module _ (text out : List ℕ) where
-  pub answers-1 : textMost < length text → ReadsText text out (leaves (ofText TextAnswer.TooLong) out)
-  unfolding ofText
-  answers-1 h = refuses (long h)
-
-  pub answers-2 : length text ≤ textMost → (b : Bool) → b ≡ false → b ≡ all isAllowed text → ReadsText text out
-      (leaves (ofText TextAnswer.BadByte) out)
-  unfolding ofText
-  answers-2 le b e h = refuses (byte le (sym h ∙ e))
+pub reads-long : (t out : List ℕ) → textMost < length t → ReadsText t out (leaves (ofText TextAnswer.TooLong) out)
+unfolding ofText
+reads-long t out h = refuses (long h)

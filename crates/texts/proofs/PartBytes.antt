@@ -20,11 +20,10 @@ use Rattle.rules.specs.Stored.{storedField}
 use Rattle.text_laws.specs.Resolving.{renameTree, renameWidth}
 use Rattle.writing.specs.Puts.{placed, put}
 use Rattle.texts.specs.Resolved.{indexed}
-use Rattle.texts.specs.StoredTrees.{lookUp, StoredIs}
-use Rattle.texts.specs.HeldParts.{MaybeHeld, WidthHeld, PartsHeld}
+use Rattle.texts.specs.StoredTrees.{lookUp, TreeBytes, held, StoredIs}
+use Rattle.texts.specs.HeldParts.{MaybeHeld, WidthHeld, LineBytes, PartsHeld}
 use Rattle.texts.specs.HeldRecords.{treeBytes, widthBytes, widthSize, nameBytes}
-use Rattle.texts.specs.HeldRecords.{bodyBytes, fieldSize, fieldBytes, Writable}
-use Rattle.texts.specs.declared.stored_trees.StoredTree.{StoredTree}
+use Rattle.texts.specs.HeldRecords.{bodyBytes, fieldSize, fieldBytes, Writable, BytesRoom}
 use Rattle.texts.specs.declared.line_parts.Parts.{Parts}
 use Rattle.texts.proofs.TreeTypes.{partOf, part-span, part-length}
 use Rattle.texts.proofs.PartSteps.{short-text}
@@ -33,26 +32,28 @@ use Rattle.texts.proofs.RecordLaws.{two-writes, counted-writes, two-end
 
 -- ── the bytes are those of the record ──
 
-held-bytes : (names : List (List ℕ)) (n : ℕ) (v : Tree (List ℕ)) (t : StoredTree) → StoredIs names n v t
-    → t .len ≤ storedMost → take (t .len) (t .bytes) ≡ storedTree (λ i. i) (renameTree (lookUp names n) v)
+-- the stored form is not too long, and there is room for it
+held-bytes : (names : List (List ℕ)) (n : ℕ) (v : Tree (List ℕ)) (t : TreeBytes) → StoredIs names n v t
+    → t .len ≤ length (t .bytes) → take (t .len) (t .bytes) ≡ storedTree (λ i. i) (renameTree (lookUp names n) v)
 held-bytes names n v t h le =
     h .bytes (omega (arith, h .len, le)) ∙ sym (stored-renamed (lookUp names n) v)
 
-maybe-bytes : (names : List (List ℕ)) (n : ℕ) (o : Option (Tree (List ℕ))) (t : StoredTree) → MaybeHeld names n o t
-    → t .len ≤ storedMost → treeBytes t ≡ counted (storedMaybe (Option·map (renameTree (lookUp names n)) o))
+maybe-bytes : (names : List (List ℕ)) (n : ℕ) (o : Option (Tree (List ℕ))) (t : TreeBytes) → MaybeHeld names n o t
+    → t .len ≤ length (t .bytes)
+    → treeBytes (t .len) (t .bytes) ≡ counted (storedMaybe (Option·map (renameTree (lookUp names n)) o))
 maybe-bytes names n none t h le = rw h refl
 maybe-bytes names n (some v) t h le = ap counted (held-bytes names n v t h le)
 
-width-bytes : (names : List (List ℕ)) (n : ℕ) (v : Width (List ℕ)) (p : Parts)
-    → WidthHeld names n v (p .kind) (p .bits) (p .width) → p .width .len ≤ storedMost
-    → widthBytes p ≡ storedWidth (renameWidth (lookUp names n) v)
+width-bytes : (names : List (List ℕ)) (n : ℕ) (v : Width (List ℕ)) (p : Parts) (b : List ℕ)
+    → WidthHeld names n v (p .kind) (p .bits) (held (p .width) b) → p .width .len ≤ length b
+    → widthBytes b p ≡ storedWidth (renameWidth (lookUp names n) v)
 unfolding widthBytes
-width-bytes names n (fixed m) p h le = rw (h .0, h .1) refl
-width-bytes names n (measured u v) p h le =
-    rw (h .0, h .1) (ap (λ (l : List ℕ). le2 u ++ counted l) (held-bytes names n v (p .width) (h .2) le))
-width-bytes names n rest p h le = rw (h .0) refl
+width-bytes names n (fixed m) p b h le = rw (h .0, h .1) refl
+width-bytes names n (measured u v) p b h le =
+    rw (h .0, h .1) (ap (λ (l : List ℕ). le2 u ++ counted l) (held-bytes names n v (held (p .width) b) (h .2) le))
+width-bytes names n rest p b h le = rw (h .0) refl
 
-width-kind : (names : List (List ℕ)) (n : ℕ) (v : Width (List ℕ)) (kind bits : ℕ) (t : StoredTree)
+width-kind : (names : List (List ℕ)) (n : ℕ) (v : Width (List ℕ)) (kind bits : ℕ) (t : TreeBytes)
     → WidthHeld names n v kind bits t → kind ≡ kindNumber (renameWidth (lookUp names n) v)
 width-kind names n (fixed m) kind bits t h = h .0
 width-kind names n (measured u v) kind bits t h = h .0
@@ -95,35 +96,35 @@ width-bound p le = go (eqb (p .kind) 2) (eqb (p .kind) 3)
     go false true = omega (arith, le)
     go false false = omega arith
 
-pub tree-put : (t : StoredTree) {before after : List ℕ} {at next : ℕ} → t .len ≤ length (t .bytes)
-    → at + (2 + t .len) ≤ length before → placed next after ≡ put before at (counted (take (t .len - 0) (t .bytes)))
-    → (next ≡ at + (2 + t .len)) × Writes before at (treeBytes t) after next
-tree-put t {before} {after} {at} {next} le room e =
-    let l = length-take-le (t .len) (t .bytes) le in
-    let q : placed next after ≡ put before at (treeBytes t) = rw (sub-zero (t .len)) at e in
-    let w = counted-writes (take (t .len) (t .bytes)) (omega (arith, l, room)) q in
-    (omega (arith, w .end, counted-length (take (t .len) (t .bytes)), l), w)
+pub tree-put : (len : ℕ) (b : List ℕ) {before after : List ℕ} {at next : ℕ} → len ≤ length b
+    → at + (2 + len) ≤ length before → placed next after ≡ put before at (counted (take (len - 0) b))
+    → (next ≡ at + (2 + len)) × Writes before at (treeBytes len b) after next
+tree-put len b {before} {after} {at} {next} le room e =
+    let l = length-take-le len b le in
+    let q : placed next after ≡ put before at (treeBytes len b) = rw (sub-zero len) at e in
+    let w = counted-writes (take len b) (omega (arith, l, room)) q in
+    (omega (arith, w .end, counted-length (take len b), l), w)
 
-module _ (p : Parts) where
-  bytes-fixed : p .kind ≡ 2 → le2 (p .bits) ≡ widthBytes p
+module _ (p : Parts) (b : List ℕ) where
+  bytes-fixed : p .kind ≡ 2 → le2 (p .bits) ≡ widthBytes b p
   unfolding widthBytes
   bytes-fixed e = rw e refl
 
-  bytes-measured : p .kind ≡ 3 → le2 (p .bits) ++ treeBytes (p .width) ≡ widthBytes p
+  bytes-measured : p .kind ≡ 3 → le2 (p .bits) ++ treeBytes (p .width .len) b ≡ widthBytes b p
   unfolding widthBytes
   bytes-measured e = rw e refl
 
-  bytes-rest : (p .kind ≡ 2 → ⊥) → (p .kind ≡ 3 → ⊥) → [] ≡ widthBytes p
+  bytes-rest : (p .kind ≡ 2 → ⊥) → (p .kind ≡ 3 → ⊥) → [] ≡ widthBytes b p
   unfolding widthBytes
   bytes-rest e f = rw (ne-eqb (p .kind) 2 e, ne-eqb (p .kind) 3 f) refl
 
-module _ (p : Parts) {before : List ℕ} {at : ℕ} where
+module _ (p : Parts) (b : List ℕ) {before : List ℕ} {at : ℕ} where
   pub width-fixed : {after : List ℕ} {next : ℕ} → p .kind ≡ 2 → at + widthSize p ≤ length before
       → placed next after ≡ put before at (le2 (p .bits))
-      → (next ≡ at + widthSize p) × Writes before at (widthBytes p) after next
+      → (next ≡ at + widthSize p) × Writes before at (widthBytes b p) after next
   width-fixed k room e =
       let w = two-writes (p .bits) (omega (arith, size-fixed p k, room)) e in
-      (omega (arith, size-fixed p k, two-end (p .bits) w), rw (← bytes-fixed p k) w)
+      (omega (arith, size-fixed p k, two-end (p .bits) w), rw (← bytes-fixed p b k) w)
 
   pub width-two : {mid : List ℕ} {next : ℕ} → p .kind ≡ 3 → at + widthSize p ≤ length before
       → placed next mid ≡ put before at (le2 (p .bits))
@@ -133,14 +134,14 @@ module _ (p : Parts) {before : List ℕ} {at : ℕ} where
       (w, omega (arith, size-measured p k, two-end (p .bits) w, w .kept, room))
 
   pub width-measured : {mid after : List ℕ} {next end : ℕ} → p .kind ≡ 3 → Writes before at (le2 (p .bits)) mid next
-      → end ≡ next + (2 + p .width .len) → Writes mid next (treeBytes (p .width)) after end
-      → (end ≡ at + widthSize p) × Writes before at (widthBytes p) after end
+      → end ≡ next + (2 + p .width .len) → Writes mid next (treeBytes (p .width .len) b) after end
+      → (end ≡ at + widthSize p) × Writes before at (widthBytes b p) after end
   width-measured k w e u =
-      (omega (arith, size-measured p k, two-end (p .bits) w, e), rw (← bytes-measured p k) (writes-join w u))
+      (omega (arith, size-measured p k, two-end (p .bits) w, e), rw (← bytes-measured p b k) (writes-join w u))
 
   pub width-rest : (p .kind ≡ 2 → ⊥) → (p .kind ≡ 3 → ⊥)
-      → (at ≡ at + widthSize p) × Writes before at (widthBytes p) before at
-  width-rest e f = (omega (arith, size-rest p e f), rw (← bytes-rest p e f) (writes-none before at))
+      → (at ≡ at + widthSize p) × Writes before at (widthBytes b p) before at
+  width-rest e f = (omega (arith, size-rest p e f), rw (← bytes-rest p b e f) (writes-none before at))
 
 pub names-put : (line : List ℕ) (p : Parts) {before mid after : List ℕ} {at next end : ℕ}
     → Writable (length line) p → at + (4 + p .label + p .short .len) ≤ length before
@@ -161,12 +162,12 @@ names-put line p {before} {mid} {after} {at} {next} {end} h room e f =
 
 -- ── the record of the form ──
 
-tree-length : (names : List (List ℕ)) (n : ℕ) (v : Tree (List ℕ)) (t : StoredTree) → StoredIs names n v t
+tree-length : (names : List (List ℕ)) (n : ℕ) (v : Tree (List ℕ)) (t : TreeBytes) → StoredIs names n v t
     → length (storedTree (λ i. i) (renameTree (lookUp names n) v)) ≡ t .len
 tree-length names n v t h =
     ap length (stored-renamed (lookUp names n) v) ∙ stored-length (lookUp names n) v ∙ sym (h .len)
 
-maybe-length : (names : List (List ℕ)) (n : ℕ) (o : Option (Tree (List ℕ))) (t : StoredTree) → MaybeHeld names n o t
+maybe-length : (names : List (List ℕ)) (n : ℕ) (o : Option (Tree (List ℕ))) (t : TreeBytes) → MaybeHeld names n o t
     → length (counted (storedMaybe (Option·map (renameTree (lookUp names n)) o))) ≡ 2 + t .len
 maybe-length names n none t h = omega (arith, h, counted-length [])
 maybe-length names n (some v) t h =
@@ -176,11 +177,11 @@ maybe-length names n (some v) t h =
       tree-length names n v t h,
     )
 
-width-length : (names : List (List ℕ)) (n : ℕ) (v : Width (List ℕ)) (p : Parts)
-    → WidthHeld names n v (p .kind) (p .bits) (p .width)
+width-length : (names : List (List ℕ)) (n : ℕ) (v : Width (List ℕ)) (p : Parts) (b : List ℕ)
+    → WidthHeld names n v (p .kind) (p .bits) (held (p .width) b)
     → length (storedWidth (renameWidth (lookUp names n) v)) ≡ widthSize p
-width-length names n (fixed m) p h = two-length m ∙ sym (size-fixed p (h .0))
-width-length names n (measured u v) p h =
+width-length names n (fixed m) p b h = two-length m ∙ sym (size-fixed p (h .0))
+width-length names n (measured u v) p b h =
     let t = storedTree (λ i. i) (renameTree (lookUp names n) v) in
     omega (
       arith,
@@ -188,68 +189,71 @@ width-length names n (measured u v) p h =
       length-append (le2 u) (counted t),
       two-length u,
       counted-length t,
-      tree-length names n v (p .width) (h .2),
+      tree-length names n v (held (p .width) b) (h .2),
     )
-width-length names n rest p h =
+width-length names n rest p b h =
     sym (size-rest p (λ e. absurd (omega (arith, e, h .0))) (λ e. absurd (omega (arith, e, h .0))))
 
-pub short-length : (names : List (List ℕ)) (n : ℕ) (line : List ℕ) (x : Form) (p : Parts)
-    → PartsHeld names n line x p → p .short .at + p .short .len ≤ length line
+pub short-length : (names : List (List ℕ)) (n : ℕ) (line : List ℕ) (x : Form) (v : LineBytes) (p : Parts)
+    → PartsHeld names n line x v p → p .short .at + p .short .len ≤ length line
     → length (storedName (x .short)) ≡ p .short .len
-short-length names n line x p h le =
+short-length names n line x v p h le =
     ap length (sym (short-text line (x .short) (p .short) (h .short)) ∙ sym (part-span line (p .short)))
     ∙ part-length line (p .short) le
 
-pub record-bytes : (names : List (List ℕ)) (n : ℕ) (line : List ℕ) (x : Form) (p : Parts) → PartsHeld names n line x p
-    → Writable (length line) p → fieldBytes line p ≡ storedField (indexed names n x)
-unfolding storedFieldIn fieldBody
-record-bytes names n line x p h w =
-    let body : bodyBytes line p ≡ fieldBody (indexed names n x) = body-is in
-    let size : fieldSize p ≡ 4 + length (fieldBody (indexed names n x)) = size-is in
-    let kind = width-kind names n (x .width) (p .kind) (p .bits) (p .width) (h .width) in
-    ap₂ (λ (m : ℕ) (l : List ℕ). le2 m ++ l) size (ap₂ (λ (k : ℕ) (l : List ℕ). le2 k ++ l) kind body)
-  where
-    parts-are : bodyBytes line p ≡ (counted (x .label) ++ counted (storedName (x .short)))
-        ++ (storedWidth (renameWidth (lookUp names n) (x .width))
-        ++ (counted (storedMaybe (indexed names n x .constraint))
-        ++ counted (storedMaybe (indexed names n x .condition))))
-    parts-are =
-        rw (
-          h .label,
-          short-text line (x .short) (p .short) (h .short),
-          width-bytes names n (x .width) p (h .width) (w .width),
-          maybe-bytes names (n + 1) (x .constraint) (p .constraint) (h .constraint) (w .constraint),
-          maybe-bytes names n (x .condition) (p .condition) (h .condition) (w .condition),
-        )
-        refl
+module _ (names : List (List ℕ)) (n : ℕ) (line : List ℕ) (x : Form) (v : LineBytes) (p : Parts)
+    (h : PartsHeld names n line x v p) (w : Writable (length line) p) (room : BytesRoom v) where
+  parts-are : bodyBytes line v p ≡ (counted (x .label) ++ counted (storedName (x .short)))
+      ++ (storedWidth (renameWidth (lookUp names n) (x .width))
+      ++ (counted (storedMaybe (indexed names n x .constraint))
+      ++ counted (storedMaybe (indexed names n x .condition))))
+  parts-are =
+      rw (
+        h .label,
+        short-text line (x .short) (p .short) (h .short),
+        width-bytes names n (x .width) p (v .width) (h .width) (omega (arith, w .width, room .width)),
+        maybe-bytes names (n + 1) (x .constraint) (held (p .constraint) (v .constraint)) (h .constraint)
+            (omega (arith, w .constraint, room .constraint)),
+        maybe-bytes names n (x .condition) (held (p .condition) (v .condition)) (h .condition)
+            (omega (arith, w .condition, room .condition)),
+      )
+      refl
 
-    body-is : bodyBytes line p ≡ fieldBody (indexed names n x)
-    body-is =
-        parts-are ∙ append-assoc (counted (x .label)) (counted (storedName (x .short)))
-        (storedWidth (renameWidth (lookUp names n) (x .width))
-        ++ (counted (storedMaybe (indexed names n x .constraint))
-        ++ counted (storedMaybe (indexed names n x .condition))))
+  body-is : bodyBytes line v p ≡ fieldBody (indexed names n x)
+  unfolding fieldBody
+  body-is =
+      parts-are ∙ append-assoc (counted (x .label)) (counted (storedName (x .short)))
+      (storedWidth (renameWidth (lookUp names n) (x .width))
+      ++ (counted (storedMaybe (indexed names n x .constraint))
+      ++ counted (storedMaybe (indexed names n x .condition))))
 
-    size-is : fieldSize p ≡ 4 + length (fieldBody (indexed names n x))
-    size-is =
-        let a = counted (x .label) in
-        let b = counted (storedName (x .short)) in
-        let v = storedWidth (renameWidth (lookUp names n) (x .width)) in
-        let c = counted (storedMaybe (indexed names n x .constraint)) in
-        let d = counted (storedMaybe (indexed names n x .condition)) in
-        omega (
-          arith,
-          size-sum p,
-          length-append a (b ++ (v ++ (c ++ d))),
-          length-append b (v ++ (c ++ d)),
-          length-append v (c ++ d),
-          length-append c d,
-          counted-length (x .label),
-          ap length (sym (h .label)),
-          length-take-le (p .label) line (w .label),
-          counted-length (storedName (x .short)),
-          short-length names n line x p h (w .short),
-          width-length names n (x .width) p (h .width),
-          maybe-length names (n + 1) (x .constraint) (p .constraint) (h .constraint),
-          maybe-length names n (x .condition) (p .condition) (h .condition),
-        )
+  size-is : fieldSize p ≡ 4 + length (fieldBody (indexed names n x))
+  unfolding fieldBody
+  size-is =
+      let a = counted (x .label) in
+      let b = counted (storedName (x .short)) in
+      let u = storedWidth (renameWidth (lookUp names n) (x .width)) in
+      let c = counted (storedMaybe (indexed names n x .constraint)) in
+      let d = counted (storedMaybe (indexed names n x .condition)) in
+      omega (
+        arith,
+        size-sum p,
+        length-append a (b ++ (u ++ (c ++ d))),
+        length-append b (u ++ (c ++ d)),
+        length-append u (c ++ d),
+        length-append c d,
+        counted-length (x .label),
+        ap length (sym (h .label)),
+        length-take-le (p .label) line (w .label),
+        counted-length (storedName (x .short)),
+        short-length names n line x v p h (w .short),
+        width-length names n (x .width) p (v .width) (h .width),
+        maybe-length names (n + 1) (x .constraint) (held (p .constraint) (v .constraint)) (h .constraint),
+        maybe-length names n (x .condition) (held (p .condition) (v .condition)) (h .condition),
+      )
+
+  pub record-bytes : fieldBytes line v p ≡ storedField (indexed names n x)
+  unfolding storedFieldIn
+  record-bytes =
+      let kind = width-kind names n (x .width) (p .kind) (p .bits) (held (p .width) (v .width)) (h .width) in
+      ap₂ (λ (m : ℕ) (l : List ℕ). le2 m ++ l) size-is (ap₂ (λ (k : ℕ) (l : List ℕ). le2 k ++ l) kind body-is)

@@ -15,10 +15,9 @@ use Rattle.rules.specs.Trees.{Tree, depth, isSmall, hasType}
 use Rattle.rules.specs.Fields.{Width, fixed, measured, rest, trees, widthTrees}
 use Rattle.rules.specs.Within.{widthHasType}
 use Rattle.texts.specs.Resolved.{typesKept}
-use Rattle.texts.specs.StoredTrees.{mayRead, typeCode, StoredIs}
+use Rattle.texts.specs.StoredTrees.{mayRead, typeCode, TreeBytes, held, StoredIs}
 use Rattle.texts.specs.HeldParts.{MaybeHeld, WidthHeld}
 use Rattle.texts.specs.HeldRecords.{isSmallAs, isTypeAs, TestsForm}
-use Rattle.texts.specs.declared.stored_trees.StoredTree.{StoredTree}
 use Rattle.texts.specs.declared.line_parts.Parts.{Parts}
 use Rattle.texts.proofs.StoredSteps.{some-length}
 use Rattle.texts.proofs.TreeTypes.{type-code}
@@ -42,11 +41,11 @@ pub type-some : (z gives wanted : ℕ) → (z ≡ 0 → ⊥) → eqb gives wante
 type-some z gives wanted e = rw (ne-eqb z 0 e) refl
 
 -- a tree has some length
-held-some : (names : List (List ℕ)) (n : ℕ) (v : Tree (List ℕ)) (t : StoredTree) → StoredIs names n v t
+held-some : (names : List (List ℕ)) (n : ℕ) (v : Tree (List ℕ)) (t : TreeBytes) → StoredIs names n v t
     → eqb (t .len) 0 ≡ false
 held-some names n v t h = ne-eqb (t .len) 0 (λ e. absurd (omega (arith, e, h .len, some-length v)))
 
-tree-small : (names : List (List ℕ)) (n : ℕ) (v : Tree (List ℕ)) (t : StoredTree) → StoredIs names n v t
+tree-small : (names : List (List ℕ)) (n : ℕ) (v : Tree (List ℕ)) (t : TreeBytes) → StoredIs names n v t
     → all isSmall (v ∷ []) ≡ isSmallAs (t .depth) (t .len)
 unfolding all
 tree-small names n v t h = rw (held-some names n v t h, h .deep, h .len) (go (isSmall v))
@@ -55,13 +54,13 @@ tree-small names n v t h = rw (held-some names n v t h, h .deep, h .len) (go (is
     go true = refl
     go false = refl
 
-maybe-small : (names : List (List ℕ)) (n : ℕ) (o : Option (Tree (List ℕ))) (t : StoredTree) → MaybeHeld names n o t
+maybe-small : (names : List (List ℕ)) (n : ℕ) (o : Option (Tree (List ℕ))) (t : TreeBytes) → MaybeHeld names n o t
     → all isSmall (listOf o) ≡ isSmallAs (t .depth) (t .len)
 unfolding all
 maybe-small names n none t h = small-none (t .depth) (t .len) h
 maybe-small names n (some v) t h = tree-small names n v t h
 
-width-small : (names : List (List ℕ)) (n : ℕ) (v : Width (List ℕ)) (kind bits : ℕ) (t : StoredTree)
+width-small : (names : List (List ℕ)) (n : ℕ) (v : Width (List ℕ)) (kind bits : ℕ) (t : TreeBytes)
     → WidthHeld names n v kind bits t → all isSmall (widthTrees v) ≡ isSmallAs (t .depth) (t .len)
 unfolding all
 width-small names n (fixed m) kind bits t h = small-none (t .depth) (t .len) (h .2)
@@ -72,20 +71,20 @@ pub sizes-are : (p : Parts) (r : Bool)
     → r ≡ (isSmallAs (p .width .depth) (p .width .len)
     && (isSmallAs (p .constraint .depth) (p .constraint .len) && isSmallAs (p .condition .depth) (p .condition .len)))
     → TestsForm p (λ names n x. all isSmall (trees x)) r
-sizes-are p r e names n s x h =
+sizes-are p r e names n s x b h =
     e ∙ sym (all-join isSmall (widthTrees (x .width)) (listOf (x .constraint) ++ listOf (x .condition))
-    ∙ ap₂ _&&_ (width-small names n (x .width) (p .kind) (p .bits) (p .width) (h .width))
+    ∙ ap₂ _&&_ (width-small names n (x .width) (p .kind) (p .bits) (held (p .width) (b .width)) (h .width))
     (all-join isSmall (listOf (x .constraint)) (listOf (x .condition))
-    ∙ ap₂ _&&_ (maybe-small names (n + 1) (x .constraint) (p .constraint) (h .constraint))
-    (maybe-small names n (x .condition) (p .condition) (h .condition))))
+    ∙ ap₂ _&&_ (maybe-small names (n + 1) (x .constraint) (held (p .constraint) (b .constraint)) (h .constraint))
+    (maybe-small names n (x .condition) (held (p .condition) (b .condition)) (h .condition))))
 
-maybe-type : (names : List (List ℕ)) (n : ℕ) (o : Option (Tree (List ℕ))) (t : StoredTree) → MaybeHeld names n o t
+maybe-type : (names : List (List ℕ)) (n : ℕ) (o : Option (Tree (List ℕ))) (t : TreeBytes) → MaybeHeld names n o t
     → ifAny (hasType (mayRead names n) YesNo) o ≡ isTypeAs (t .len) (t .gives) 2
 unfolding typeCode
 maybe-type names n none t h = type-none (t .len) (t .gives) 2 h
 maybe-type names n (some v) t h = rw (held-some names n v t h, h .gives) (type-code (mayRead names n) YesNo v)
 
-width-type : (names : List (List ℕ)) (n : ℕ) (v : Width (List ℕ)) (kind bits : ℕ) (t : StoredTree)
+width-type : (names : List (List ℕ)) (n : ℕ) (v : Width (List ℕ)) (kind bits : ℕ) (t : TreeBytes)
     → WidthHeld names n v kind bits t → widthHasType (mayRead names n) v ≡ isTypeAs (t .len) (t .gives) 1
 unfolding typeCode
 width-type names n (fixed m) kind bits t h = type-none (t .len) (t .gives) 1 (h .2)
@@ -98,10 +97,10 @@ pub types-are : (p : Parts) (r : Bool)
     && (isTypeAs (p .constraint .len) (p .constraint .gives) 2 && isTypeAs (p .condition .len) (p .condition .gives)
     2))
     → TestsForm p typesKept r
-types-are p r e names n s x h =
-    e ∙ sym (ap₂ _&&_ (width-type names n (x .width) (p .kind) (p .bits) (p .width) (h .width))
-    (ap₂ _&&_ (maybe-type names (n + 1) (x .constraint) (p .constraint) (h .constraint))
-    (maybe-type names n (x .condition) (p .condition) (h .condition))))
+types-are p r e names n s x b h =
+    e ∙ sym (ap₂ _&&_ (width-type names n (x .width) (p .kind) (p .bits) (held (p .width) (b .width)) (h .width))
+    (ap₂ _&&_ (maybe-type names (n + 1) (x .constraint) (held (p .constraint) (b .constraint)) (h .constraint))
+    (maybe-type names n (x .condition) (held (p .condition) (b .condition)) (h .condition))))
 
 -- three tests, one behind the other
 first-fails : (x y z : Bool) → x ≡ false → false ≡ (x && (y && z))

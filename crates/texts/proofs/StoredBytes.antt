@@ -1,35 +1,46 @@
 -- Bytes put into the stored form of an expression.
-use mathlib.Core.Path.{_≡_, refl, ap, sym, _∙_}
+use mathlib.Core.Path.{_≡_, refl, _∙_}
 use mathlib.Core.Bool.{cond, _&&_}
-use mathlib.Core.List.{List, [], _∷_, _++_, append-assoc, append-nil}
-use Prim.Native.Nat.{ℕ, suc, _+_, _<_}
+use mathlib.Core.List.{List, [], _∷_, _++_, append-nil}
+use Prim.Native.Nat.{ℕ, _+_, _-_, _≤_, _<_}
 use native.Mathlib.Omega.{arith}
-use native.Mathlib.Nat.{add-zero}
 use native.Mathlib.Numerals.{add-one}
 use lib.Dec.{eqb}
-use lib.ListN.{length, take, getD, set}
-use lib.Seq.{take-suc, take-suc-set}
+use lib.ListN.{length, take, drop, getD, set, length-drop, drop-of-length-le}
+use borrow.Rule.Slice.PartMut.{putMid, same-len-mid}
+use lib.Seq.{take-at, drop-at, length-take-le, take-suc, take-suc-set}
 use borrow.Author.Tests.{eq-eqb, ne-eqb}
 
--- no byte was put there yet
-pub put-none : (d src : List ℕ) (at : ℕ) → take (at + 0) d ≡ take at d ++ take 0 src
-put-none d src at = rw (add-zero at) (sym (append-nil (take at d)))
+-- one byte more is that of the other list
+pub shift-more : (out src : List ℕ) (i v : ℕ) → i < length out → i < length src → take i out ≡ take i src
+    → v ≡ getD src i 0 → take (i + 1) (set out i v) ≡ take (i + 1) src
+shift-more out src i v lo hi e q = rw (add-one i, take-suc-set out i v lo, take-suc src i 0 hi, e, q) refl
 
--- one byte more was put behind the first bytes of d
-pub put-more : (out d src : List ℕ) (at i : ℕ) → at + i < length out → i < length src
-    → take (at + i) out ≡ take at d ++ take i src
-    → take (at + (i + 1)) (set out (at + i) (getD src i 0)) ≡ take at d ++ take (i + 1) src
-put-more out d src at i lo hi e =
-    let q : at + (i + 1) ≡ suc (at + i) = omega arith in
-    rw (q, take-suc-set out (at + i) (getD src i 0) lo, e, add-one i, take-suc src i 0 hi)
-    (append-assoc (take at d) (take i src) (getD src i 0 ∷ []))
+-- behind the first x of the bytes `before` others were put
+pub record Joined (x : ℕ) (before right after : List ℕ) : Type 0 where
+  pub long : length after ≡ length before
+  pub front : x ≤ length before → take x after ≡ take x before
+  pub back : x ≤ length before → drop x after ≡ right
 
--- a byte and the first bytes of two lists
-pub two-bytes : (r f a b : List ℕ) (x y c : ℕ) → take (1 + x) f ≡ c ∷ take x a
-    → take (1 + x + y) r ≡ take (1 + x) f ++ take y b → take (1 + (x + y)) r ≡ c ∷ (take x a ++ take y b)
-two-bytes r f a b x y c p e =
-    let q : 1 + (x + y) ≡ 1 + x + y = omega arith in
-    rw q (e ∙ ap (λ (m : List ℕ). m ++ take y b) p)
+part-front : (n : ℕ) (s t : List ℕ) → n ≤ length s → take n (putMid n (length s - n) s t) ≡ take n s
+part-front n s t h = take-at (take n s) (t ++ drop (length s - n) (drop n s)) n (length-take-le n s h)
+
+part-back : (n : ℕ) (s t : List ℕ) → n ≤ length s → drop n (putMid n (length s - n) s t) ≡ t
+part-back n s t h =
+    let l = length-drop n s in
+    let post : drop (length s - n) (drop n s) ≡ [] =
+    drop-of-length-le (drop n s) {i = length s - n} (omega (arith, l)) in
+    drop-at (take n s) (t ++ drop (length s - n) (drop n s)) n (length-take-le n s h) ∙ rw (post, append-nil t) refl
+
+-- the bytes from a place on were lent
+pub joined-part : (x from : ℕ) (before right : List ℕ) → from ≤ length before → (x ≤ length before → from ≡ x)
+    → length right ≡ length (take (length before - from) (drop from before))
+    → Joined x before right (putMid from (length before - from) before right)
+joined-part x from before right le is k = record {
+  long = same-len-mid from (length before - from) before right k;
+  front = λ h. (let e = is h in rw (← e) (part-front from before right le));
+  back = λ h. (let e = is h in rw (← e) (part-back from before right le));
+}
 
 -- the first bytes were written over, one by one
 pub set-two : (l : List ℕ) (a b : ℕ) → 1 < length l → take 2 (set (set l 0 a) 1 b) ≡ a ∷ b ∷ []

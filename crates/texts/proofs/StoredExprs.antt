@@ -1,5 +1,5 @@
 -- The code that makes the stored forms of expressions, step by step, against the reader over what is left of the text.
-use mathlib.Core.Path.{_≡_, refl, ap, _∙_}
+use mathlib.Core.Path.{_≡_, refl, ap, sym, _∙_, subst}
 use mathlib.Core.Bool.{Bool, true, false}
 use mathlib.Core.Logic.{_⊎_}
 use mathlib.Core.List.{List, _∷_}
@@ -18,7 +18,7 @@ use Rattle.operators.specs.declared.rows.Row.{Row}
 use Rattle.operators.specs.Rows.{rowOf}
 use Rattle.texts.specs.ExprPlaces.{SameSign}
 use Rattle.text_laws.specs.LineReader.{ofOut, readTree}
-use Rattle.texts.specs.StoredTrees.{SameStored, StoredFor}
+use Rattle.texts.specs.StoredTrees.{TreeBytes, held, StoredIs, SameStored, StoredFor}
 use Rattle.texts.specs.StoredPlaces.{TwoMade, wrapOf, LeafStored, ExprStored, AtomStored}
 use Rattle.texts.specs.StoredPlaces.{InsideStored, ClosedStored, MoreStored}
 use Rattle.texts.specs.declared.signs.Sign.{Sign}
@@ -26,30 +26,31 @@ use Rattle.texts.specs.declared.signs.Sign.the-variants as sign
 use Rattle.texts.specs.declared.stored_trees.StoredTree.{StoredTree}
 use Rattle.texts.proofs.ExprSigns.{sign-none, sign-some}
 use Rattle.texts.proofs.ExprSteps.{more-at, in-rest, in-other, row-stops}
+use Rattle.texts.proofs.StoredBytes.{Joined}
 use Rattle.texts.proofs.StoredSteps.{is-two, stored-fail, stored-got, same-none, same-here}
 
 module _ (names : List (List ℕ)) (n : ℕ) (s : List ℕ) where
   -- ── expr ──
 
-  module _ (at k b : ℕ) (a : StoredTree) (A : AtomStored names n s at b a) where
+  module _ (at k b : ℕ) (a : TreeBytes) (A : AtomStored names n s at b a) where
     pub expr-fail : a .len ≡ 0 → ExprStored names n s at k b a
     unfolding expr andThen
     expr-fail e zero lt = absurd (omega arith)
     expr-fail e (suc f) lt =
         rw (stored-fail names n s (atom (expr f 0) b (drop at s)) a e (A f lt)) (same-none names n s a e)
 
-    pub expr-go : (a .len ≡ 0 → ⊥) → at < a .next → a .next ≤ length s → (r : StoredTree)
+    pub expr-go : (a .len ≡ 0 → ⊥) → at < a .next → a .next ≤ length s → (r : TreeBytes)
         → MoreStored names n s (a .next) k atomLevel b a r → ExprStored names n s at k b r
     unfolding expr andThen
     expr-go e lo hi r M zero lt = absurd (omega arith)
     expr-go e lo hi r M (suc f) lt =
         let w = stored-got names n s (atom (expr f 0) b (drop at s)) a e (A f lt) in
         let lt′ : length (drop (a .next) s) < f = simp length-drop (omega (arith, simp length-drop at lt)) in
-        rw (w .is) (M (w .tree) f (w .held) lt′)
+        rw (w .is) (M (w .tree) f (w .stored) lt′)
 
   -- ── more ──
 
-  module _ (at k h b : ℕ) (p : StoredTree) (g : Sign) (w : SameSign s (operatorAt (drop at s)) g) where
+  module _ (at k h b : ℕ) (p : TreeBytes) (g : Sign) (w : SameSign s (operatorAt (drop at s)) g) where
     pub more-none : g ≡ sign.Nothing → p .next ≡ at → MoreStored names n s at k h b p p
     unfolding more step
     more-none e q t zero x lt = absurd (omega arith)
@@ -64,36 +65,40 @@ module _ (names : List (List ℕ)) (n : ℕ) (s : List ℕ) where
           rw (sign-some s (operatorAt (drop at s)) g o end i w, row-stops k h o row is out)
           (same-here names n s t (drop at s) p x (rw q refl))
 
-      module _ (kl : k ≤ row .level) (eh : row .left ≤ h) (lo : at < end) (hi : end ≤ length s) (y : StoredTree)
+      module _ (kl : k ≤ row .level) (eh : row .left ≤ h) (lo : at < end) (hi : end ≤ length s) (y : TreeBytes)
           (E : ExprStored names n s end (row .right) b y) where
         lower-to : (m : ℕ) → end ≤ m → (f : ℕ) → length (drop at s) < suc f → length (drop m s) < f
         lower-to m le f lt = simp length-drop (omega (arith, simp length-drop at lt))
 
-        pub more-fail : y .len ≡ 0 → MoreStored names n s at k h b p y
+        pub more-fail : y .len ≡ 0 → (z : TreeBytes) → z .len ≡ 0 → MoreStored names n s at k h b p z
         unfolding andThen
-        more-fail e t zero x lt = absurd (omega arith)
-        more-fail e t (suc f) x lt =
+        more-fail e z l t zero x lt = absurd (omega arith)
+        more-fail e z l t (suc f) x lt =
             let j = sign-some s (operatorAt (drop at s)) g o end i w in
             let q = stored-fail names n s (expr f (row .right) b (drop end s)) y e
             (E f (lower-to end (omega arith) f lt)) in
-            rw (more-at s at k h b end o row t f fail j is kl eh q) (same-none names n s y e)
+            rw (more-at s at k h b end o row t f fail j is kl eh q) (same-none names n s z l)
 
-        pub more-go : (y .len ≡ 0 → ⊥) → end < y .next → y .next ≤ length s → (z : StoredTree) → TwoMade o p y z
-            → (r : StoredTree) → MoreStored names n s (z .next) k (row .level) b z r → MoreStored names n s at k h b p r
+        pub more-go : (v x : StoredTree) (before right mid : List ℕ) → p ≡ held v before → y ≡ held x right
+            → (y .len ≡ 0 → ⊥) → end < y .next → y .next ≤ length s → Joined (v .len) before right mid
+            → (z : TreeBytes) → length (z .bytes) ≡ length before → TwoMade o v x mid z → (r : TreeBytes)
+            → MoreStored names n s (z .next) k (row .level) b z r → MoreStored names n s at k h b p r
         unfolding andThen
-        more-go e lo′ hi′ z m r M t zero x lt = absurd (omega arith)
-        more-go e lo′ hi′ z m r M t (suc f) x lt =
+        more-go v x before right mid pe ye e lo′ hi′ jo z zl m r M t zero q lt = absurd (omega arith)
+        more-go v x before right mid pe ye e lo′ hi′ jo z zl m r M t (suc f) q lt =
             let j = sign-some s (operatorAt (drop at s)) g o end i w in
             let u = stored-got names n s (expr f (row .right) b (drop end s)) y e
             (E f (lower-to end (omega arith) f lt)) in
-            let lt′ : length (drop (z .next) s) < f = rw (m .next) (lower-to (y .next) (omega arith) f lt) in
-            let go = M (two o t (u .tree)) f (is-two names n o p y z t (u .tree) m x (u .held)) lt′ in
+            let mn : z .next ≡ y .next = m .next ∙ ap (λ (c : TreeBytes). c .next) (sym ye) in
+            let lt′ : length (drop (z .next) s) < f = rw mn (lower-to (y .next) (omega arith) f lt) in
+            let go = M (two o t (u .tree)) f (is-two names n o v x before right mid z t (u .tree) m zl
+            (subst (StoredIs names n t) pe q) (subst (StoredIs names n (u .tree)) ye (u .stored)) jo) lt′ in
             rw (more-at s at k h b end o row t f (got (u .tree) (drop (y .next) s)) j is kl eh (u .is))
-            (rw (m .next) at go)
+            (rw mn at go)
 
   -- ── atom ──
 
-  module _ (at b : ℕ) (r : StoredTree) where
+  module _ (at b : ℕ) (r : TreeBytes) where
     pub atom-end : at ≡ length s → r .len ≡ 0 → AtomStored names n s at b r
     unfolding atom
     atom-end e z f lt = rw (e, drop-length) (same-none names n s r z)
@@ -121,7 +126,7 @@ module _ (names : List (List ℕ)) (n : ℕ) (s : List ℕ) where
 
   -- ── inside ──
 
-  module _ (at b : ℕ) (neg : Bool) (r : StoredTree) where
+  module _ (at b : ℕ) (neg : Bool) (r : TreeBytes) where
     pub in-end : at ≡ length s → r .len ≡ 0 → InsideStored names n s at b neg r
     unfolding inside
     in-end e z f lt = rw (e, drop-length) (same-none names n s r z)
@@ -133,7 +138,7 @@ module _ (names : List (List ℕ)) (n : ℕ) (s : List ℕ) where
     pub in-wrong : at < length s → (getD s at 0 ≡ 40 → ⊥) → r .len ≡ 0 → InsideStored names n s at b neg r
     in-wrong hi e z f lt = rw (in-other s at b hi e (wrapOf neg) f) (same-none names n s r z)
 
-  module _ (at b : ℕ) (neg : Bool) (hi : at < length s) (nz : b ≡ 0 → ⊥) (e : getD s at 0 ≡ 40) (y : StoredTree)
+  module _ (at b : ℕ) (neg : Bool) (hi : at < length s) (nz : b ≡ 0 → ⊥) (e : getD s at 0 ≡ 40) (y : TreeBytes)
       (E : ExprStored names n s (at + 1) 0 (b - 1) y) where
     lower : (f : ℕ) → length (drop at s) < suc f → length (drop (at + 1) s) < f
     lower f lt = simp length-drop (omega (arith, simp length-drop at lt))
@@ -145,14 +150,14 @@ module _ (names : List (List ℕ)) (n : ℕ) (s : List ℕ) where
       stored-fail names n s (expr f 0 (b - 1) (drop (at + 1) s)) y p (E f (lower f lt)),
     ) (same-none names n s y p)
 
-    pub in-go : (y .len ≡ 0 → ⊥) → (r : StoredTree) → ClosedStored s neg y r → InsideStored names n s at b neg r
+    pub in-go : (y .len ≡ 0 → ⊥) → (r : TreeBytes) → ClosedStored s neg y r → InsideStored names n s at b neg r
     in-go p r C f lt =
         let v = stored-got names n s (expr f 0 (b - 1) (drop (at + 1) s)) y p (E f (lower f lt)) in
-        rw (in-rest s at b hi nz e (wrapOf neg) f, v .is) (C names n (v .tree) (v .held))
+        rw (in-rest s at b hi nz e (wrapOf neg) f, v .is) (C names n (v .tree) (v .stored))
 
   -- ── the whole ──
 
-  pub whole-stored : (at : ℕ) (r : StoredTree) → ExprStored names n s at 0 openMost r
+  pub whole-stored : (at : ℕ) (r : TreeBytes) → ExprStored names n s at 0 openMost r
       → StoredFor names n s (readTree (drop at s)) r
   unfolding readTree SameStored StoredFor
   whole-stored at r E = go (expr (suc (length (drop at s))) 0 openMost (drop at s))

@@ -5,7 +5,7 @@ use mathlib.Core.Bool.{Bool, true, cond, _&&_, _||_, not}
 use mathlib.Core.List.{List, [], _++_}
 use Prim.Native.Nat.{ℕ, _+_, _≤_}
 use lib.Dec.{eqb, leb}
-use lib.ListN.{take, drop}
+use lib.ListN.{length, take, drop}
 use Rattle.base.specs.Lists.{same}
 use Rattle.rules.specs.Limits.{depthMost, storedMost}
 use Rattle.rules.specs.Names.{isLabel}
@@ -16,8 +16,7 @@ use Rattle.rules.specs.Spelling.{shows}
 use Rattle.rules.specs.Stored.{counted}
 use Rattle.texts.specs.PartPlaces.{spanIn}
 use Rattle.texts.specs.Slots.{storedSlot}
-use Rattle.texts.specs.HeldParts.{PartsHeld}
-use Rattle.texts.specs.declared.stored_trees.StoredTree.{StoredTree}
+use Rattle.texts.specs.HeldParts.{LineBytes, PartsHeld}
 use Rattle.texts.specs.declared.line_parts.Parts.{Parts}
 
 -- ── tests ──
@@ -32,18 +31,18 @@ isTypeAs z gives wanted = eqb z 0 || eqb gives wanted
 
 -- a test of each form that the parts are of
 abbrev pub TestsForm : Parts → (List (List ℕ) → ℕ → Form → Bool) → Bool → Type 0
-TestsForm p test r = (names : List (List ℕ)) (n : ℕ) (s : List ℕ) (x : Form) → PartsHeld names n s x p
-    → r ≡ test names n x
+TestsForm p test r = (names : List (List ℕ)) (n : ℕ) (s : List ℕ) (x : Form) (b : LineBytes)
+    → PartsHeld names n s x b p → r ≡ test names n x
 
 -- ── the record ──
 
 -- an expression, counted
-abbrev pub treeBytes : StoredTree → List ℕ
-treeBytes t = counted (take (t .len) (t .bytes))
+abbrev pub treeBytes : ℕ → List ℕ → List ℕ
+treeBytes len b = counted (take len b)
 
-unfoldable pub widthBytes : Parts → List ℕ
-widthBytes p =
-    cond (eqb (p .kind) 2) (le2 (p .bits)) (cond (eqb (p .kind) 3) (le2 (p .bits) ++ treeBytes (p .width)) [])
+unfoldable pub widthBytes : List ℕ → Parts → List ℕ
+widthBytes b p =
+    cond (eqb (p .kind) 2) (le2 (p .bits)) (cond (eqb (p .kind) 3) (le2 (p .bits) ++ treeBytes (p .width .len) b) [])
 
 unfoldable pub widthSize : Parts → ℕ
 widthSize p = cond (eqb (p .kind) 2) 2 (cond (eqb (p .kind) 3) (4 + p .width .len) 0)
@@ -51,15 +50,17 @@ widthSize p = cond (eqb (p .kind) 2) 2 (cond (eqb (p .kind) 3) (4 + p .width .le
 abbrev pub nameBytes : List ℕ → Parts → List ℕ
 nameBytes line p = counted (take (p .label) line) ++ counted (spanIn line (p .short))
 
-abbrev pub bodyBytes : List ℕ → Parts → List ℕ
-bodyBytes line p = nameBytes line p ++ (widthBytes p ++ (treeBytes (p .constraint) ++ treeBytes (p .condition)))
+abbrev pub bodyBytes : List ℕ → LineBytes → Parts → List ℕ
+bodyBytes line b p =
+    nameBytes line p ++ (widthBytes (b .width) p ++ (treeBytes (p .constraint .len) (b .constraint)
+    ++ treeBytes (p .condition .len) (b .condition)))
 
 -- the length of a field's record
 unfoldable pub fieldSize : Parts → ℕ
 fieldSize p = 12 + p .label + p .short .len + widthSize p + p .constraint .len + p .condition .len
 
-abbrev pub fieldBytes : List ℕ → Parts → List ℕ
-fieldBytes line p = le2 (fieldSize p) ++ (le2 (p .kind) ++ bodyBytes line p)
+abbrev pub fieldBytes : List ℕ → LineBytes → Parts → List ℕ
+fieldBytes line b p = le2 (fieldSize p) ++ (le2 (p .kind) ++ bodyBytes line b p)
 
 -- label and short name lie within m bytes, and the stored forms are not too long
 pub record Writable (m : ℕ) (p : Parts) : Type 0 where
@@ -68,6 +69,12 @@ pub record Writable (m : ℕ) (p : Parts) : Type 0 where
   pub width : p .width .len ≤ storedMost
   pub constraint : p .constraint .len ≤ storedMost
   pub condition : p .condition .len ≤ storedMost
+
+-- the three outputs have room for each stored form that is not too long
+pub record BytesRoom (b : LineBytes) : Type 0 where
+  pub width : storedMost ≤ length (b .width)
+  pub constraint : storedMost ≤ length (b .constraint)
+  pub condition : storedMost ≤ length (b .condition)
 
 -- ── a kept cell ──
 
@@ -81,5 +88,5 @@ isPlacedBy long bits p = cond (eqb (p .kind) 2) (not long && eqb bits (p .bits))
 
 -- whether the cell that is kept at a place is one for the field of the line
 abbrev pub PartShows : List ℕ → ℕ → List ℕ → Parts → Bool → Type 0
-PartShows cells at line p r = (c : Slot) (behind : List ℕ) (names : List (List ℕ)) (n : ℕ) (x : Form)
-    → drop at cells ≡ storedSlot c ++ behind → isLabel (c .text) ≡ true → PartsHeld names n line x p → r ≡ shows c x
+PartShows cells at line p r = (c : Slot) (behind : List ℕ) (names : List (List ℕ)) (n : ℕ) (x : Form) (b : LineBytes)
+    → drop at cells ≡ storedSlot c ++ behind → isLabel (c .text) ≡ true → PartsHeld names n line x b p → r ≡ shows c x

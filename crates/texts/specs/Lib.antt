@@ -1,6 +1,7 @@
 -- ExprPlaces  what the reader of expressions answers, at places of a text
 -- FieldPlaces  what the reader of field lines answers, at places of a text
 -- FramePlaces  what the reader of frames answers, at places of a text
+-- LineEnds  where a line ends
 -- PartPlaces  widths and what stands behind them, at places of a text
 -- HeldNames  the names of fields as the code holds them
 -- Noted  a refusal as the code notes it
@@ -14,6 +15,7 @@
 pub mod ExprPlaces
 pub mod FieldPlaces
 pub mod FramePlaces
+pub mod LineEnds
 pub mod PartPlaces
 pub mod HeldNames
 pub mod Noted

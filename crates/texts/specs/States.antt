@@ -24,8 +24,8 @@ use Rattle.text_laws.specs.Fold as fold
 use Rattle.text_laws.specs.Steady.{StandIn, isHead, Steady}
 use Rattle.text_laws.specs.LineReader.{readForm}
 use Rattle.texts.specs.HeldNames.{heldName}
-use Rattle.texts.specs.HeldParts.{PartsHeld}
-use Rattle.texts.specs.HeldRecords.{fieldSize, Writable}
+use Rattle.texts.specs.HeldParts.{LineBytes, PartsHeld}
+use Rattle.texts.specs.HeldRecords.{fieldSize, Writable, BytesRoom}
 use Rattle.texts.specs.Noted.{noteOf}
 use Rattle.texts.specs.Slots.{storedSlot}
 use Rattle.texts.specs.declared.notes.Note.{Note}
@@ -260,8 +260,8 @@ LineRoom r line cells table =
     × (recordsMost ≤ length table)
 
 -- parts that can be written behind the records
-abbrev pub PartsRoom : List ℕ → Parts → Type 0
-PartsRoom line p = Writable (length line) p × (fieldSize p ≤ recordMost)
+abbrev pub PartsRoom : List ℕ → LineBytes → Parts → Type 0
+PartsRoom line b p = Writable (length line) p × (fieldSize p ≤ recordMost) × BytesRoom b
 
 -- behind a field line
 abbrev pub FieldStep : List ℕ → Reading → Reading → List ℕ → List ℕ → List ℕ → List (List ℕ) → List (List ℕ)
@@ -272,13 +272,14 @@ FieldStep line r q cells table table′ labels labels′ shorts shorts′ names 
     → Holds (fold.withField f line) q cells table′ labels′ shorts′ names′)
 
 -- the same for a line of small expressions with the parts p, where not too many lines have come
-abbrev pub FormStep : List ℕ → Parts → Reading → Reading → List ℕ → List ℕ → List ℕ → List (List ℕ) → List (List ℕ)
+abbrev pub FormStep : List ℕ → LineBytes → Parts → Reading → Reading → List ℕ → List ℕ → List ℕ → List (List ℕ) →
+    List (List ℕ)
     → List (List ℕ) → List (List ℕ) → Type 0
-FormStep line p r q cells table table′ labels labels′ shorts shorts′ =
+FormStep line b p r q cells table table′ labels labels′ shorts shorts′ =
     (length table′ ≡ length table)
     × ((f : fold.Found) (x : Form) (names : List (List ℕ)) → Steady f → isFull (f .judged) ≡ false
     → Holds f r cells table labels shorts names → readForm line ≡ some x → all isSmall (trees x) ≡ true
-    → PartsHeld names (r .fields) line x p → Holds (fold.withField f line) q cells table′ labels′ shorts′ names)
+    → PartsHeld names (r .fields) line x b p → Holds (fold.withField f line) q cells table′ labels′ shorts′ names)
 
 -- ── the end ──
 

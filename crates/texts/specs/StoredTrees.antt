@@ -8,7 +8,7 @@ use lib.Dec.{eqb, ltb}
 use lib.ListN.{length, take, drop, getD}
 use Rattle.rules.specs.declared.ValueType.{ValueType}
 use Rattle.rules.specs.declared.ValueType.the-variants.{Number, YesNo}
-use Rattle.rules.specs.Limits.{storedMost, shortMost}
+use Rattle.rules.specs.Limits.{shortMost}
 use Rattle.rules.specs.Operators.{takes, gives}
 use Rattle.rules.specs.Trees.{Tree, num, read, two, negation, depth, storedTree, storedLength}
 use Rattle.text_laws.specs.Reader.{Out, fail, got}
@@ -45,19 +45,30 @@ typeOf may (negation a) = cond (eqb (typeOf may a) 2) 2 0
 
 -- ── stored expressions ──
 
--- r holds the tree t, whose names are those of the first n held ones; its bytes, if there are not too many
-pub record StoredIs (names : List (List ℕ)) (n : ℕ) (t : Tree (List ℕ)) (r : StoredTree) : Type 0 where
+-- an expression with the bytes of the output that its stored form is put into
+pub record TreeBytes : Type 0 where
+  pub next : ℕ
+  pub gives : ℕ
+  pub depth : ℕ
+  pub len : ℕ
+  pub bytes : List ℕ
+
+abbrev pub held : StoredTree → List ℕ → TreeBytes
+held r bytes = record { next = r .next; gives = r .gives; depth = r .depth; len = r .len; bytes = bytes }
+
+-- r holds the tree t, whose names are those of the first n held ones; its bytes, if there is room for them
+pub record StoredIs (names : List (List ℕ)) (n : ℕ) (t : Tree (List ℕ)) (r : TreeBytes) : Type 0 where
   pub len : r .len ≡ storedLength t
   pub gives : r .gives ≡ typeOf (mayRead names n) t
   pub deep : r .depth ≡ depth t
-  pub bytes : storedLength t ≤ storedMost → take (r .len) (r .bytes) ≡ storedTree (lookUp names n) t
+  pub bytes : storedLength t ≤ length (r .bytes) → take (r .len) (r .bytes) ≡ storedTree (lookUp names n) t
 
 -- the code's answer r is that of the reader in the text s; the length 0 stands for none
-unfoldable pub SameStored : List (List ℕ) → ℕ → List ℕ → Out → StoredTree → Type 0
+unfoldable pub SameStored : List (List ℕ) → ℕ → List ℕ → Out → TreeBytes → Type 0
 SameStored names n s fail r = r .len ≡ 0
 SameStored names n s (got t q) r = StoredIs names n t r × (drop (r .next) s ≡ q)
 
 -- the same for a whole expression
-unfoldable pub StoredFor : List (List ℕ) → ℕ → List ℕ → Got (Tree (List ℕ)) → StoredTree → Type 0
+unfoldable pub StoredFor : List (List ℕ) → ℕ → List ℕ → Got (Tree (List ℕ)) → TreeBytes → Type 0
 StoredFor names n s miss r = r .len ≡ 0
 StoredFor names n s (hit t q) r = StoredIs names n t r × (drop (r .next) s ≡ q)

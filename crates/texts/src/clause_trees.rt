@@ -6,12 +6,12 @@ use crate::stored_trees::StoredTree;
 use crate::stored_trees::stored_tree;
 use rules::FIELDS_MOST;
 use rules::SHORT_MOST;
-use rules::STORED_MOST;
 ghost use mathlib.Core.Bool.{true, false};
 ghost use mathlib.Core.Path.{_≡_};
 ghost use Prim.Native.Nat.{_+_, _≤_, _<_};
 ghost use lib.ListN.{length, drop};
 ghost use Rattle.rules.specs.Limits.{textMost, fieldsMost};
+ghost use Rattle.names.specs.Classes.{classTable};
 ghost use Rattle.text_laws.specs.LineReader.{readConstraint, readCondition};
 ghost use Rattle.texts.specs.FieldPlaces.{treeClause};
 ghost use Rattle.texts.specs.HeldParts.{ClauseWithin, ClauseFor, EndsFor};
@@ -40,47 +40,70 @@ fn no_clause(at: usize) -> Clause
             gives: 0,
             depth: 0,
             len: 0,
-            bytes: [0u8; STORED_MOST],
         },
     }
 }
 
-fn tree_at(s: &[u8], at: usize, names: &[[u8; SHORT_MOST]; FIELDS_MOST], n: usize) -> Clause
-    requires { ⌜ (at ≤ length (now s)) × (length (now s) ≤ textMost) × (n ≤ fieldsMost) ⌝ }
+fn tree_at(
+    classes: &[u8; 256],
+    s: &[u8],
+    at: usize,
+    names: &[[u8; SHORT_MOST]; FIELDS_MOST],
+    n: usize,
+    out: &mut [u8],
+) -> Clause
+    requires { ⌜ (at ≤ length (now s)) × (length (now s) ≤ textMost) × (n ≤ fieldsMost)
+        × (now classes ≡ classTable) ⌝ }
     ensures place { λ r. ⌜ ClauseWithin (now (s .entry)) at r ⌝ }
     ensures same { λ r. ⌜ ClauseFor (now (names .entry)) n (now (s .entry))
-        (treeClause (drop at (now (s .entry)))) r ⌝ }
+        (treeClause (drop at (now (s .entry)))) (now (out .exit)) r ⌝ }
 {
-    let tree = stored_tree(s, at, names, n);
+    let tree = stored_tree(classes, s, at, names, n, out);
     Clause {
         right: tree.len != 0,
         tree: tree,
     }
 }
 
-fn constraint_at(s: &[u8], at: usize, names: &[[u8; SHORT_MOST]; FIELDS_MOST], n: usize) -> Clause
-    requires { ⌜ (at ≤ length (now s)) × (length (now s) ≤ textMost) × (n ≤ fieldsMost) ⌝ }
+fn constraint_at(
+    classes: &[u8; 256],
+    s: &[u8],
+    at: usize,
+    names: &[[u8; SHORT_MOST]; FIELDS_MOST],
+    n: usize,
+    out: &mut [u8],
+) -> Clause
+    requires { ⌜ (at ≤ length (now s)) × (length (now s) ≤ textMost) × (n ≤ fieldsMost)
+        × (now classes ≡ classTable) ⌝ }
     ensures place { λ r. ⌜ ClauseWithin (now (s .entry)) at r ⌝ }
     ensures same { λ r. ⌜ ClauseFor (now (names .entry)) n (now (s .entry))
-        (readConstraint (drop at (now (s .entry)))) r ⌝ }
+        (readConstraint (drop at (now (s .entry)))) (now (out .exit)) r ⌝ }
 {
     if starts_at(s, at, b"; present only when ") {
         return no_clause(at);
     }
     if starts_at(s, at, b"; ") {
-        return tree_at(s, at + 2, names, n);
+        return tree_at(classes, s, at + 2, names, n, out);
     }
     no_clause(at)
 }
 
-fn condition_at(s: &[u8], at: usize, names: &[[u8; SHORT_MOST]; FIELDS_MOST], n: usize) -> Clause
-    requires { ⌜ (at ≤ length (now s)) × (length (now s) ≤ textMost) × (n ≤ fieldsMost) ⌝ }
+fn condition_at(
+    classes: &[u8; 256],
+    s: &[u8],
+    at: usize,
+    names: &[[u8; SHORT_MOST]; FIELDS_MOST],
+    n: usize,
+    out: &mut [u8],
+) -> Clause
+    requires { ⌜ (at ≤ length (now s)) × (length (now s) ≤ textMost) × (n ≤ fieldsMost)
+        × (now classes ≡ classTable) ⌝ }
     ensures place { λ r. ⌜ ClauseWithin (now (s .entry)) at r ⌝ }
     ensures same { λ r. ⌜ ClauseFor (now (names .entry)) n (now (s .entry))
-        (readCondition (drop at (now (s .entry)))) r ⌝ }
+        (readCondition (drop at (now (s .entry)))) (now (out .exit)) r ⌝ }
 {
     if starts_at(s, at, b"; present only when ") {
-        return tree_at(s, at + 20, names, n);
+        return tree_at(classes, s, at + 20, names, n, out);
     }
     no_clause(at)
 }
@@ -98,31 +121,35 @@ fn wrong_ends() -> Ends
 
 // Up to the end of the line; the constraint may read its own field, the held name of index n.
 pub(crate) fn ends_at(
+    classes: &[u8; 256],
     s: &[u8],
     at: usize,
     names: &[[u8; SHORT_MOST]; FIELDS_MOST],
     n: usize,
+    first: &mut [u8],
+    second: &mut [u8],
 ) -> Ends
-    requires { ⌜ (at ≤ length (now s)) × (length (now s) ≤ textMost) × (n < fieldsMost) ⌝ }
-    ensures { λ r. ⌜ EndsFor (now (names .entry)) n (now (s .entry)) at r ⌝ }
+    requires { ⌜ (at ≤ length (now s)) × (length (now s) ≤ textMost) × (n < fieldsMost)
+        × (now classes ≡ classTable) ⌝ }
+    ensures { λ r. ⌜ EndsFor (now (names .entry)) n (now (s .entry)) at (now (first .exit)) (now (second .exit)) r ⌝ }
 {
-    let c = constraint_at(s, at, names, n + 1);
-    let first = c.tree;
+    let c = constraint_at(classes, s, at, names, n + 1, first);
+    let constraint = c.tree;
     if !c.right {
         return wrong_ends();
     }
-    let d = condition_at(s, first.next, names, n);
-    let second = d.tree;
+    let d = condition_at(classes, s, constraint.next, names, n, second);
+    let condition = d.tree;
     if !d.right {
         return wrong_ends();
     }
-    let end = second.next;
+    let end = condition.next;
     if starts_at(s, end, b".") {
         if remark_ok(s, end + 1) {
             return Ends {
                 right: true,
-                constraint: first,
-                condition: second,
+                constraint: constraint,
+                condition: condition,
             };
         }
         return wrong_ends();

@@ -21,7 +21,7 @@ ghost use Rattle.text_laws.specs.LineReader.{readForm};
 ghost use Rattle.text_laws.specs.Judging.{faces, showsCell};
 ghost use Rattle.text_laws.specs.Fold.{Found};
 ghost use Rattle.text_laws.specs.Steady.{Steady};
-ghost use Rattle.texts.specs.HeldParts.{PartsHeld};
+ghost use Rattle.texts.specs.HeldParts.{LineBytes, PartsHeld};
 ghost use Rattle.texts.specs.Noted.{noteOf};
 ghost use Rattle.texts.specs.PartPlaces.{NamesFit};
 ghost use Rattle.texts.specs.States.{slotsMost, Room, Counts, Slots, isTold, laterNote, NamedWith};
@@ -29,8 +29,8 @@ ghost use Rattle.texts.specs.States.{slotsMost, Room, Counts, Slots, isT
 // There is a cell for the field, and it is one for the line.
 fn shows_cell(r: Reading, line: &[u8], p: Parts, cells: &[u8]) -> bool
     requires { ⌜ Room r × NamesFit (length (now line)) (p .label) (p .short) × (slotsMost ≤ length (now cells)) ⌝ }
-    ensures { λ b. ⌜ ((f : Found) (x : Form) (names : List (List ℕ)) → Steady f → Counts f r
-        → Slots f r (now (cells .entry)) → PartsHeld names (r .fields) (now (line .entry)) x p
+    ensures { λ b. ⌜ ((f : Found) (x : Form) (names : List (List ℕ)) (v : LineBytes) → Steady f → Counts f r
+        → Slots f r (now (cells .entry)) → PartsHeld names (r .fields) (now (line .entry)) x v p
         → b ≡ showsCell (f .cells) (faces (f .judged .fields)) x) ⌝ }
 {
     if r.cells <= r.fields {
@@ -52,9 +52,9 @@ pub(crate) fn later_rule(
     requires { ⌜ Room r × (r .lines ≤ textMost) × (r .fields < fieldsMost)
         × NamesFit (length (now line)) (p .label) (p .short) × (slotsMost ≤ length (now cells)) ⌝ }
     ensures told { λ a. ⌜ isTold (noteOf a) ≡ true ⌝ }
-    ensures rule { λ a. ⌜ ((f : Found) (x : Form) (names : List (List ℕ)) → Steady f → Counts f r
+    ensures rule { λ a. ⌜ ((f : Found) (x : Form) (names : List (List ℕ)) (v : LineBytes) → Steady f → Counts f r
         → Slots f r (now (cells .entry)) → NamedWith f x (now (labels .entry)) (now (shorts .entry)) names
-        → readForm (now (line .entry)) ≡ some x → PartsHeld names (r .fields) (now (line .entry)) x p
+        → readForm (now (line .entry)) ≡ some x → PartsHeld names (r .fields) (now (line .entry)) x v p
         → noteOf a ≡ laterNote f x) ⌝ }
 {
     let n = r.fields;

@@ -10,6 +10,7 @@ use crate::states::Stage;
 use crate::states::expect;
 use crate::states::onward;
 use crate::states::wrong;
+use names::classes::class_table;
 use rules::FIELDS_MOST;
 use writing::puts::put;
 ghost use mathlib.Core.List.{List};
@@ -67,7 +68,8 @@ pub(crate) fn take_row(mut r: Reading, line: &[u8], cells: &mut [u8]) -> Reading
 {
     let from = r.slots;
     let w = r.width;
-    let row = put_row(cells, from, line, w);
+    let classes = class_table();
+    let row = put_row(&classes, cells, from, line, w);
     let Rowed::Put(next, n) = row else {
         return wrong(r);
     };

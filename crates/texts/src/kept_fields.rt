@@ -12,10 +12,12 @@ use crate::shown_slots::slot_end;
 use crate::states::Reading;
 use crate::states::Stage;
 use crate::states::onward;
+use names::classes::class_table;
 use names::repeats::held_name;
 use rules::FIELDS_MOST;
 use rules::LABEL_MOST;
 use rules::SHORT_MOST;
+use rules::STORED_MOST;
 use writing::spans::Span;
 ghost use mathlib.Core.Option.{some};
 ghost use mathlib.Core.Path.{_≡_};
@@ -27,6 +29,7 @@ ghost use Rattle.names.specs.Repeats.{padTo};
 ghost use Rattle.text_laws.specs.Lowest.{lower};
 ghost use Rattle.text_laws.specs.Judging.{isOpen};
 ghost use Rattle.texts.specs.PartPlaces.{spanIn};
+ghost use Rattle.texts.specs.HeldParts.{bytesOf};
 ghost use Rattle.texts.specs.Noted.{noteOf};
 ghost use Rattle.texts.specs.PartPlaces.{NamesFit};
 ghost use Rattle.texts.specs.States.{
@@ -121,16 +124,20 @@ fn take_form(
     mut r: Reading,
     line: &[u8],
     p: Parts,
+    wide: &[u8],
+    first: &[u8],
+    second: &[u8],
     cells: &[u8],
     table: &mut [u8],
     labels: &mut [[u8; LABEL_MOST]; FIELDS_MOST],
     shorts: &mut [[u8; SHORT_MOST]; FIELDS_MOST],
 ) -> Reading
     requires { ⌜ LineRoom r (now line) (now cells) (now table) × (r .count < fieldsMost)
-        × PartsRoom (now line) p ⌝ }
+        × PartsRoom (now line) (bytesOf (now wide) (now first) (now second)) p ⌝ }
     ensures room { λ q. ⌜ Taken r q ⌝ }
-    ensures step { λ q. ⌜ FormStep (now (line .entry)) p r q (now (cells .entry)) (now (table .entry))
-        (now (table .exit)) (now (labels .entry)) (now (labels .exit)) (now (shorts .entry)) (now (shorts .exit)) ⌝ }
+    ensures step { λ q. ⌜ FormStep (now (line .entry))
+        (bytesOf (now (wide .entry)) (now (first .entry)) (now (second .entry))) p r q (now (cells .entry))
+        (now (table .entry)) (now (table .exit)) (now (labels .entry)) (now (labels .exit)) (now (shorts .entry)) (now (shorts .exit)) ⌝ }
 {
     let n = r.fields;
     hold_names(line, p.label, p.short, n, labels, shorts);
@@ -138,7 +145,7 @@ fn take_form(
     let a = lower(r.note, b);
     if is_open(a) {
         let at = r.end;
-        let end = put_field(table, at, line, p);
+        let end = put_field(table, at, line, p, wide, first, second);
         let cell = next_cell(r, cells);
         let rested = rests(p, r.rested);
         r.end = end;
@@ -179,12 +186,35 @@ pub(crate) fn take_field(
             },
         );
     }
-    let p = parts_of(line, names, r.fields);
+    let classes = class_table();
+    let mut wide = [0u8; STORED_MOST];
+    let mut first = [0u8; STORED_MOST];
+    let mut second = [0u8; STORED_MOST];
+    let p = parts_of(
+        &classes,
+        line,
+        names,
+        r.fields,
+        &mut wide,
+        &mut first,
+        &mut second,
+    );
     if p.kind == 0 {
         return refuse_line(r, 5);
     }
     if sizes_kept(p) {
-        return take_form(r, line, p, cells, table, labels, shorts);
+        return take_form(
+            r,
+            line,
+            p,
+            &wide,
+            &first,
+            &second,
+            cells,
+            table,
+            labels,
+            shorts,
+        );
     }
     refuse_line(r, 6)
 }

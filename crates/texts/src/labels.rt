@@ -1,11 +1,12 @@
 // The label and the short name of a field line, at a place of a text.
 use crate::leaves::word_end;
 use crate::phrases::starts_at;
-use names::labels::is_label;
-use names::labels::is_short;
+use names::labels::is_label_in;
+use names::labels::is_short_in;
 ghost use mathlib.Core.Path.{_≡_};
 ghost use Prim.Native.Nat.{_≤_};
 ghost use lib.ListN.{length, drop};
+ghost use Rattle.names.specs.Classes.{classTable};
 ghost use Rattle.text_laws.specs.LineReader.{labelEnds, labelBehind, readLabel, readClosedName, readShort};
 ghost use Rattle.texts.specs.FieldPlaces.{SameLabel, WithinLabel, SameShort, WithinShort};
 
@@ -48,26 +49,26 @@ pub(crate) fn label_end(s: &[u8], at: usize) -> usize
     i
 }
 
-pub(crate) fn label_at(s: &[u8], at: usize) -> Label
-    requires { ⌜ at ≤ length (now s) ⌝ }
+pub(crate) fn label_at(classes: &[u8; 256], s: &[u8], at: usize) -> Label
+    requires { ⌜ (at ≤ length (now s)) × (now classes ≡ classTable) ⌝ }
     ensures place { λ r. ⌜ WithinLabel (now (s .entry)) at r ⌝ }
     ensures same { λ r. ⌜ SameLabel (now (s .entry)) at (readLabel (drop at (now (s .entry)))) r ⌝ }
 {
     let end = label_end(s, at);
-    if is_label(&s[at..end]) {
+    if is_label_in(classes, &s[at..end]) {
         return Label::At(end);
     }
     Label::Nothing
 }
 
 // A short name and `)`.
-fn name_at(s: &[u8], at: usize) -> Short
-    requires { ⌜ at ≤ length (now s) ⌝ }
+fn name_at(classes: &[u8; 256], s: &[u8], at: usize) -> Short
+    requires { ⌜ (at ≤ length (now s)) × (now classes ≡ classTable) ⌝ }
     ensures place { λ r. ⌜ WithinShort (now (s .entry)) at r ⌝ }
     ensures same { λ r. ⌜ SameShort (now (s .entry)) (readClosedName (drop at (now (s .entry)))) r ⌝ }
 {
-    let end = word_end(s, at);
-    if is_short(&s[at..end]) {
+    let end = word_end(classes, s, at);
+    if is_short_in(classes, &s[at..end]) {
         if starts_at(s, end, b")") {
             return Short::At(at, end, end + 1);
         }
@@ -76,13 +77,13 @@ fn name_at(s: &[u8], at: usize) -> Short
     Short::Nothing
 }
 
-pub(crate) fn short_at(s: &[u8], at: usize) -> Short
-    requires { ⌜ at ≤ length (now s) ⌝ }
+pub(crate) fn short_at(classes: &[u8; 256], s: &[u8], at: usize) -> Short
+    requires { ⌜ (at ≤ length (now s)) × (now classes ≡ classTable) ⌝ }
     ensures place { λ r. ⌜ WithinShort (now (s .entry)) at r ⌝ }
     ensures same { λ r. ⌜ SameShort (now (s .entry)) (readShort (drop at (now (s .entry)))) r ⌝ }
 {
     if starts_at(s, at, b" (") {
-        return name_at(s, at + 2);
+        return name_at(classes, s, at + 2);
     }
     Short::At(at, at, at)
 }

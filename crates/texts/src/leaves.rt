@@ -1,23 +1,22 @@
-// Words of letters and digits at a place of a text: short names and numbers.
-use names::classes::class_table;
+// Words of letters and digits at a place of a text: short names and numbers. The table of the classes is lent.
 use names::classes::is_digit_in;
 use names::classes::is_word_in;
 use rules::NUMBER_MOST;
 ghost use mathlib.Core.Path.{_≡_};
 ghost use Prim.Native.Nat.{_≤_};
 ghost use lib.ListN.{length, drop};
+ghost use Rattle.names.specs.Classes.{classTable};
 ghost use Rattle.text_laws.specs.Reader.{behind, isNumberWord};
 
 // Where the word of letters and digits at `at` ends.
-pub(crate) fn word_end(s: &[u8], at: usize) -> usize
-    requires { ⌜ at ≤ length (now s) ⌝ }
+pub(crate) fn word_end(classes: &[u8; 256], s: &[u8], at: usize) -> usize
+    requires { ⌜ (at ≤ length (now s)) × (now classes ≡ classTable) ⌝ }
     ensures place { λ r. ⌜ (at ≤ r) × (r ≤ length (now (s .entry))) ⌝ }
     ensures rest { λ r. ⌜ drop r (now (s .entry)) ≡ behind (drop at (now (s .entry))) ⌝ }
 {
-    let classes = class_table();
     let mut i = at;
     while i < s.len() {
-        if !is_word_in(&classes, s[i]) {
+        if !is_word_in(classes, s[i]) {
             return i;
         }
         i += 1;
@@ -26,7 +25,8 @@ pub(crate) fn word_end(s: &[u8], at: usize) -> usize
 }
 
 // Digits without a leading 0, at most NUMBER_MOST.
-pub(crate) fn is_number(w: &[u8]) -> bool
+pub(crate) fn is_number(classes: &[u8; 256], w: &[u8]) -> bool
+    requires { ⌜ now classes ≡ classTable ⌝ }
     ensures { λ r. ⌜ r ≡ isNumberWord (now (w .entry)) ⌝ }
 {
     if w.len() == 0 {
@@ -35,12 +35,11 @@ pub(crate) fn is_number(w: &[u8]) -> bool
     if w[0] == b'0' {
         return w.len() == 1;
     }
-    let classes = class_table();
     let mut v: usize = 0;
     let mut i = 0;
     while i < w.len() {
         let c = w[i];
-        if !is_digit_in(&classes, c) {
+        if !is_digit_in(classes, c) {
             return false;
         }
         v = v * 10 + (c as usize - 48);

@@ -1,4 +1,4 @@
-// The parts of a field line, its expressions in their stored form.
+// The parts of a field line, and its expressions in their stored form.
 use crate::clause_trees::ends_at;
 use crate::labels::Label;
 use crate::labels::Short;
@@ -16,12 +16,13 @@ ghost use mathlib.Core.Path.{_≡_};
 ghost use Prim.Native.Nat.{_+_, _≤_, _<_};
 ghost use lib.ListN.{length};
 ghost use Rattle.rules.specs.Limits.{textMost, fieldsMost};
+ghost use Rattle.names.specs.Classes.{classTable};
 ghost use Rattle.text_laws.specs.LineReader.{readForm};
 ghost use Rattle.texts.specs.PartPlaces.{NamesFit};
-ghost use Rattle.texts.specs.HeldParts.{ownIn, Kept, PartsFor, BehindFor};
+ghost use Rattle.texts.specs.HeldParts.{bytesOf, ownIn, Kept, PartsFor, BehindFor};
 
 // The kind as in a table (0: the line has no form), the length of the label, the short name in the line, the bits of a
-// fixed width or of the unit, and the expressions, of the length 0 where there is none.
+// fixed width or of the unit, and what is known of the expressions, of the length 0 where there is none.
 pub(crate) struct Parts {
     pub kind: usize,
     pub label: usize,
@@ -63,25 +64,30 @@ fn own_name(s: &[u8], short: Span, kind: usize) -> [u8; SHORT_MOST]
 
 // Behind a label and a short name.
 fn behind_names(
+    classes: &[u8; 256],
     s: &[u8],
     label: usize,
     short: Span,
     at: usize,
     names: &mut [[u8; SHORT_MOST]; FIELDS_MOST],
     n: usize,
+    wide: &mut [u8],
+    first: &mut [u8],
+    second: &mut [u8],
 ) -> Parts
     requires { ⌜ (at ≤ length (now s)) × (length (now s) ≤ textMost) × (n < fieldsMost)
-        × NamesFit (length (now s)) label short ⌝ }
+        × NamesFit (length (now s)) label short × (now classes ≡ classTable) ⌝ }
     ensures kept { λ r. ⌜ Kept (now (names .entry)) n (now (names .exit)) ⌝ }
-    ensures same { λ r. ⌜ BehindFor (now (names .exit)) n (now (s .entry)) label short at r ⌝ }
+    ensures same { λ r. ⌜ BehindFor (now (names .exit)) n (now (s .entry)) label short at
+        (bytesOf (now (wide .exit)) (now (first .exit)) (now (second .exit))) r ⌝ }
 {
-    let w = width_at(s, at, names, n);
+    let w = width_at(classes, s, at, names, n, wide);
     if w.kind == 0 {
         return no_parts();
     }
     names[n] = own_name(s, short, w.kind);
     let width = w.tree;
-    let e = ends_at(s, w.next, names, n);
+    let e = ends_at(classes, s, w.next, names, n, first, second);
     let constraint = e.constraint;
     let condition = e.condition;
     if e.right {
@@ -99,22 +105,43 @@ fn behind_names(
 }
 
 // The parts of a line. Its names are those of the first n held ones, in its constraint also its own, which is put
-// behind them.
-pub(crate) fn parts_of(s: &[u8], names: &mut [[u8; SHORT_MOST]; FIELDS_MOST], n: usize) -> Parts
-    requires { ⌜ (length (now s) ≤ textMost) × (n < fieldsMost) ⌝ }
+// behind them. The stored forms of its expressions are put into three outputs.
+pub(crate) fn parts_of(
+    classes: &[u8; 256],
+    s: &[u8],
+    names: &mut [[u8; SHORT_MOST]; FIELDS_MOST],
+    n: usize,
+    wide: &mut [u8],
+    first: &mut [u8],
+    second: &mut [u8],
+) -> Parts
+    requires { ⌜ (length (now s) ≤ textMost) × (n < fieldsMost) × (now classes ≡ classTable) ⌝ }
     ensures kept { λ r. ⌜ Kept (now (names .entry)) n (now (names .exit)) ⌝ }
-    ensures same { λ r. ⌜ PartsFor (now (names .exit)) n (now (s .entry)) (readForm (now (s .entry))) r ⌝ }
+    ensures same { λ r. ⌜ PartsFor (now (names .exit)) n (now (s .entry)) (readForm (now (s .entry)))
+        (bytesOf (now (wide .exit)) (now (first .exit)) (now (second .exit))) r ⌝ }
 {
-    let l = label_at(s, 0);
+    let l = label_at(classes, s, 0);
     let Label::At(label) = l else {
         return no_parts();
     };
-    let h = short_at(s, label);
+    let h = short_at(classes, s, label);
     let Short::At(a, b, next) = h else {
         return no_parts();
     };
     if starts_at(s, next, b": ") {
-        return behind_names(s, label, Span { at: a, len: b - a }, next + 2, names, n);
+        let short = Span { at: a, len: b - a };
+        return behind_names(
+            classes,
+            s,
+            label,
+            short,
+            next + 2,
+            names,
+            n,
+            wide,
+            first,
+            second,
+        );
     }
     no_parts()
 }

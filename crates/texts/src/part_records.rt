@@ -1,6 +1,5 @@
 // The record of a field line, written from its parts.
 use crate::line_parts::Parts;
-use crate::stored_trees::StoredTree;
 use writing::puts::put_counted;
 use writing::puts::put_two;
 ghost use mathlib.Core.Path.{_≡_};
@@ -8,6 +7,7 @@ ghost use Prim.Native.Nat.{_+_, _≤_};
 ghost use lib.ListN.{length};
 ghost use Rattle.writing.specs.Writes.{Writes};
 ghost use Rattle.rules.specs.Limits.{textMost, storedMost};
+ghost use Rattle.texts.specs.HeldParts.{bytesOf};
 ghost use Rattle.texts.specs.HeldRecords.{
   treeBytes,
   widthBytes,
@@ -17,31 +17,30 @@ ghost use Rattle.texts.specs.HeldRecords.{
   fieldSize,
   fieldBytes,
   Writable,
+  BytesRoom,
 };
 
 // The stored form of an expression, counted; where there is none, the length 0.
-fn put_tree(out: &mut [u8], at: usize, t: StoredTree) -> usize
-    requires { ⌜ (t .len ≤ storedMost) × (at + (2 + t .len) ≤ length (now out)) ⌝ }
-    ensures end { λ r. ⌜ r ≡ at + (2 + t .len) ⌝ }
-    ensures bytes { λ r. ⌜ Writes (now (out .entry)) at (treeBytes t) (now (out .exit)) r ⌝ }
+fn put_tree(out: &mut [u8], at: usize, len: usize, tree: &[u8]) -> usize
+    requires { ⌜ (len ≤ length (now tree)) × (at + (2 + len) ≤ length (now out)) ⌝ }
+    ensures end { λ r. ⌜ r ≡ at + (2 + len) ⌝ }
+    ensures bytes { λ r. ⌜ Writes (now (out .entry)) at (treeBytes len (now (tree .entry))) (now (out .exit)) r ⌝ }
 {
-    let len = t.len;
-    let bytes = t.bytes;
-    put_counted(out, at, &bytes[0..len])
+    put_counted(out, at, &tree[0..len])
 }
 
-fn put_width(out: &mut [u8], at: usize, p: Parts) -> usize
-    requires { ⌜ (p .width .len ≤ storedMost) × (at + widthSize p ≤ length (now out)) ⌝ }
+fn put_width(out: &mut [u8], at: usize, p: Parts, wide: &[u8]) -> usize
+    requires { ⌜ (p .width .len ≤ length (now wide)) × (at + widthSize p ≤ length (now out)) ⌝ }
     ensures end { λ r. ⌜ r ≡ at + widthSize p ⌝ }
-    ensures bytes { λ r. ⌜ Writes (now (out .entry)) at (widthBytes p) (now (out .exit)) r ⌝ }
+    ensures bytes { λ r. ⌜ Writes (now (out .entry)) at (widthBytes (now (wide .entry)) p) (now (out .exit)) r ⌝ }
 {
     if p.kind == 2 {
         return put_two(out, at, p.bits);
     }
     if p.kind == 3 {
         let next = put_two(out, at, p.bits);
-        let tree = p.width;
-        return put_tree(out, next, tree);
+        let width = p.width;
+        return put_tree(out, next, width.len, wide);
     }
     at
 }
@@ -61,17 +60,27 @@ fn put_names(out: &mut [u8], at: usize, line: &[u8], p: Parts) -> usize
 }
 
 // All that stands behind the record's length and kind.
-fn put_body(out: &mut [u8], at: usize, line: &[u8], p: Parts) -> usize
-    requires { ⌜ Writable (length (now line)) p × (at + fieldSize p ≤ length (now out) + 4) ⌝ }
+fn put_body(
+    out: &mut [u8],
+    at: usize,
+    line: &[u8],
+    p: Parts,
+    wide: &[u8],
+    first: &[u8],
+    second: &[u8],
+) -> usize
+    requires { ⌜ Writable (length (now line)) p × (at + fieldSize p ≤ length (now out) + 4)
+        × BytesRoom (bytesOf (now wide) (now first) (now second)) ⌝ }
     ensures end { λ r. ⌜ r + 4 ≡ at + fieldSize p ⌝ }
-    ensures bytes { λ r. ⌜ Writes (now (out .entry)) at (bodyBytes (now (line .entry)) p) (now (out .exit)) r ⌝ }
+    ensures bytes { λ r. ⌜ Writes (now (out .entry)) at (bodyBytes (now (line .entry))
+        (bytesOf (now (wide .entry)) (now (first .entry)) (now (second .entry))) p) (now (out .exit)) r ⌝ }
 {
     let constraint = p.constraint;
     let condition = p.condition;
     let named = put_names(out, at, line, p);
-    let measured = put_width(out, named, p);
-    let next = put_tree(out, measured, constraint);
-    put_tree(out, next, condition)
+    let measured = put_width(out, named, p, wide);
+    let next = put_tree(out, measured, constraint.len, first);
+    put_tree(out, next, condition.len, second)
 }
 
 // The length of a width's bytes.
@@ -101,13 +110,23 @@ fn field_size(p: Parts) -> usize
     names + width_size(p) + constraint.len + condition.len
 }
 
-pub(crate) fn put_field(out: &mut [u8], at: usize, line: &[u8], p: Parts) -> usize
+// The whole record.
+pub(crate) fn put_field(
+    out: &mut [u8],
+    at: usize,
+    line: &[u8],
+    p: Parts,
+    wide: &[u8],
+    first: &[u8],
+    second: &[u8],
+) -> usize
     requires { ⌜ Writable (length (now line)) p × (length (now line) ≤ textMost)
-        × (at + fieldSize p ≤ length (now out)) ⌝ }
+        × (at + fieldSize p ≤ length (now out)) × BytesRoom (bytesOf (now wide) (now first) (now second)) ⌝ }
     ensures end { λ r. ⌜ r ≡ at + fieldSize p ⌝ }
-    ensures bytes { λ r. ⌜ Writes (now (out .entry)) at (fieldBytes (now (line .entry)) p) (now (out .exit)) r ⌝ }
+    ensures bytes { λ r. ⌜ Writes (now (out .entry)) at (fieldBytes (now (line .entry))
+        (bytesOf (now (wide .entry)) (now (first .entry)) (now (second .entry))) p) (now (out .exit)) r ⌝ }
 {
     let size = put_two(out, at, field_size(p));
     let kind = put_two(out, size, p.kind);
-    put_body(out, kind, line, p)
+    put_body(out, kind, line, p, wide, first, second)
 }

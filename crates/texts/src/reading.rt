@@ -1,7 +1,6 @@
 // A description text is read in one pass, line by line, and its table is written.
 use crate::line_steps::take_line;
 use crate::states::begin;
-use crate::text_bytes::is_allowed_text;
 use crate::text_bytes::line_end;
 use crate::text_ends::end_text;
 use rules::FIELDS_MOST;
@@ -12,7 +11,7 @@ use rules::TextAnswer;
 ghost use Prim.Native.Nat.{_≤_};
 ghost use lib.ListN.{length};
 ghost use Rattle.rules.specs.Answers.{ofText};
-ghost use Rattle.rules.specs.Refusals.{Plain};
+ghost use Rattle.rules.specs.Limits.{textMost};
 ghost use Rattle.rules.specs.Promises.{ReadsText, leaves};
 ghost use Rattle.texts.specs.States.{slotsMost, recordsMost, Begun};
 
@@ -31,8 +30,8 @@ fn read_lines(
     shorts: &mut [[u8; SHORT_MOST]; FIELDS_MOST],
     names: &mut [[u8; SHORT_MOST]; FIELDS_MOST],
 ) -> TextAnswer
-    requires { ⌜ Plain (now text) × (slotsMost ≤ length (now cells)) × (recordsMost ≤ length (now table))
-        × Begun (now labels) (now shorts) (now names) ⌝ }
+    requires { ⌜ (length (now text) ≤ textMost) × (slotsMost ≤ length (now cells))
+        × (recordsMost ≤ length (now table)) × Begun (now labels) (now shorts) (now names) ⌝ }
     ensures { λ r. ⌜ ReadsText (now (text .entry)) (now (out .entry)) (leaves (ofText r) (now (out .exit))) ⌝ }
 {
     let mut r = begin();
@@ -42,14 +41,17 @@ fn read_lines(
         if e == text.len() {
             return end_text(r, at == e, table, out);
         }
+        if text[e] != b'\n' {
+            return TextAnswer::BadByte;
+        }
         r = take_line(r, &text[at..e], cells, table, labels, shorts, names);
         at = e + 1;
     }
 }
 
-// A text that is not too long, and whose bytes are allowed.
-fn read_plain(text: &[u8], out: &mut [u8]) -> TextAnswer
-    requires { ⌜ Plain (now text) ⌝ }
+// A text that is not too long.
+fn read_short(text: &[u8], out: &mut [u8]) -> TextAnswer
+    requires { ⌜ length (now text) ≤ textMost ⌝ }
     ensures { λ r. ⌜ ReadsText (now (text .entry)) (now (out .entry)) (leaves (ofText r) (now (out .exit))) ⌝ }
 {
     let mut cells = [0u8; SLOTS_ROOM];
@@ -75,8 +77,5 @@ pub fn read_text(text: &[u8], out: &mut [u8]) -> TextAnswer
     if TEXT_MOST < text.len() {
         return TextAnswer::TooLong;
     }
-    if is_allowed_text(text) {
-        return read_plain(text, out);
-    }
-    TextAnswer::BadByte
+    read_short(text, out)
 }

@@ -1,5 +1,4 @@
 // The two-sided operator at a place of a text, with one space or none on each side.
-use names::classes::class_table;
 use names::classes::is_operator_in;
 use names::classes::is_space_in;
 use names::words::byte_of;
@@ -55,18 +54,17 @@ fn sign_at(classes: &[u8; 256], s: &[u8], at: usize) -> Sign
     }
 }
 
-pub(crate) fn operator_at(s: &[u8], at: usize) -> Sign
-    requires { ⌜ at ≤ length (now s) ⌝ }
+pub(crate) fn operator_at(classes: &[u8; 256], s: &[u8], at: usize) -> Sign
+    requires { ⌜ (at ≤ length (now s)) × (now classes ≡ classTable) ⌝ }
     ensures place { λ r. ⌜ WithinSign (now (s .entry)) at r ⌝ }
     ensures same { λ r. ⌜ SameSign (now (s .entry)) (operatorAt (drop at (now (s .entry)))) r ⌝ }
 {
-    let classes = class_table();
-    let from = skipped(&classes, s, at);
-    let g = sign_at(&classes, s, from);
+    let from = skipped(classes, s, at);
+    let g = sign_at(classes, s, from);
     match g {
         Sign::Nothing => Sign::Nothing,
         Sign::At(o, n) => {
-            let m = skipped(&classes, s, n);
+            let m = skipped(classes, s, n);
             Sign::At(o, m)
         }
     }

@@ -2,18 +2,17 @@
 use crate::stored_trees::StoredTree;
 use operators::rows::operator;
 use rules::Op;
-use rules::STORED_MOST;
 use rules::ValueType;
 ghost use mathlib.Core.Path.{_≡_};
 ghost use mathlib.Core.Bool.{cond};
-ghost use mathlib.Core.List.{[], _∷_, _++_};
-ghost use Prim.Native.Nat.{_+_, _*_, _≤_, max};
-ghost use Rattle.rules.specs.Limits.{textMost, fieldsMost, storedMost};
+ghost use mathlib.Core.List.{[], _∷_};
+ghost use Prim.Native.Nat.{_+_, _*_, _≤_, _<_, max};
+ghost use Rattle.rules.specs.Limits.{textMost, fieldsMost};
 ghost use lib.Dec.{ltb};
-ghost use lib.ListN.{take};
+ghost use lib.ListN.{length, take};
 ghost use Rattle.rules.specs.Operators.{numberCode, fieldCode};
 ghost use Rattle.rules.specs.Trees.{le4};
-ghost use Rattle.texts.specs.StoredTrees.{typeCode};
+ghost use Rattle.texts.specs.StoredTrees.{typeCode, held};
 ghost use Rattle.texts.specs.StoredPlaces.{Made, twoType, notType, NotMade, TwoMade};
 
 // Where there is no expression.
@@ -25,33 +24,25 @@ pub(crate) fn no_tree() -> StoredTree
         gives: 0,
         depth: 0,
         len: 0,
-        bytes: [0u8; STORED_MOST],
     }
 }
 
-// A byte, the first x bytes of a and the first y bytes of b.
-fn joined(
-    c: u8,
-    a: [u8; STORED_MOST],
-    x: usize,
-    b: [u8; STORED_MOST],
-    y: usize,
-) -> [u8; STORED_MOST]
-    requires { ⌜ 1 + (x + y) ≤ storedMost ⌝ }
-    ensures { λ r. ⌜ take (1 + (x + y)) r ≡ c ∷ (take x a ++ take y b) ⌝ }
+// Puts a byte before the first n, if there is room.
+fn put_first(out: &mut [u8], n: usize, c: u8)
+    ensures { λ r. ⌜ (n < length (now (out .entry)) → take (n + 1) (now (out .exit))
+        ≡ c ∷ take n (now (out .entry))) ⌝ }
 {
-    let mut out = [c; STORED_MOST];
+    if out.len() <= n {
+        return;
+    }
+    let mut held = c;
     let mut i = 0;
-    while i < x {
-        out[1 + i] = a[i];
+    while i <= n {
+        let b = out[i];
+        out[i] = held;
+        held = b;
         i += 1;
     }
-    let mut j = 0;
-    while j < y {
-        out[1 + x + j] = b[j];
-        j += 1;
-    }
-    out
 }
 
 // A type as a number: 1 for a number, 2 for yes or no.
@@ -98,103 +89,74 @@ fn name_type(index: usize, n: usize) -> usize
     if index < n { 1 } else { 0 }
 }
 
-// The number before the place `next`.
-pub(crate) fn number_node(value: usize, next: usize) -> StoredTree
-    ensures { λ r. ⌜ Made next 1 1 5 (numberCode ∷ le4 value) r ⌝ }
+// The number before the place `next`, if there is room.
+pub(crate) fn number_node(value: usize, next: usize, out: &mut [u8]) -> StoredTree
+    ensures { λ r. ⌜ Made next 1 1 5 (numberCode ∷ le4 value) (held r (now (out .exit))) ⌝ }
 {
-    let p = no_tree();
-    let mut bytes = p.bytes;
-    bytes[0] = 1;
-    bytes[1] = (value % 256) as u8;
-    bytes[2] = (value / 256 % 256) as u8;
-    bytes[3] = (value / 256 / 256 % 256) as u8;
-    bytes[4] = (value / 256 / 256 / 256 % 256) as u8;
+    if 5 <= out.len() {
+        out[0] = 1;
+        out[1] = (value % 256) as u8;
+        out[2] = (value / 256 % 256) as u8;
+        out[3] = (value / 256 / 256 % 256) as u8;
+        out[4] = (value / 256 / 256 / 256 % 256) as u8;
+    }
     StoredTree {
         next: next,
         gives: 1,
         depth: 1,
         len: 5,
-        bytes: bytes,
     }
 }
 
 // The field of an index among n, before the place `next`.
-pub(crate) fn field_node(index: usize, n: usize, next: usize) -> StoredTree
+pub(crate) fn field_node(index: usize, n: usize, next: usize, out: &mut [u8]) -> StoredTree
     requires { ⌜ index ≤ fieldsMost ⌝ }
-    ensures { λ r. ⌜ Made next (cond (ltb index n) 1 0) 1 2 (fieldCode ∷ index ∷ []) r ⌝ }
+    ensures { λ r. ⌜ Made next (cond (ltb index n) 1 0) 1 2 (fieldCode ∷ index ∷ []) (held r (now (out .exit))) ⌝ }
 {
-    let p = no_tree();
-    let mut bytes = p.bytes;
-    bytes[0] = 2;
-    bytes[1] = index as u8;
     let gives = name_type(index, n);
+    if 2 <= out.len() {
+        out[0] = 2;
+        out[1] = index as u8;
+    }
     StoredTree {
         next: next,
         gives: gives,
         depth: 1,
         len: 2,
-        bytes: bytes,
     }
 }
 
 // The negation of an expression.
-pub(crate) fn not_node(p: StoredTree, next: usize) -> StoredTree
+pub(crate) fn not_node(p: StoredTree, next: usize, out: &mut [u8]) -> StoredTree
     requires { ⌜ (p .len ≤ 5 * textMost) × (p .depth ≤ p .len) ⌝ }
-    ensures { λ r. ⌜ NotMade p next r ⌝ }
+    ensures { λ r. ⌜ NotMade p (now (out .entry)) next (held r (now (out .exit))) ⌝ }
 {
     let gives = not_type(p.gives);
     let depth = 1 + p.depth;
     let n = p.len;
-    let len = 1 + n;
-    let inner = p.bytes;
-    if len <= STORED_MOST {
-        let bytes = joined(0x32, inner, n, inner, 0);
-        return StoredTree {
-            next: next,
-            gives: gives,
-            depth: depth,
-            len: len,
-            bytes: bytes,
-        };
-    }
+    put_first(out, n, 0x32);
     StoredTree {
         next: next,
         gives: gives,
         depth: depth,
-        len: len,
-        bytes: inner,
+        len: 1 + n,
     }
 }
 
-// An operator with its operands.
-pub(crate) fn two_node(o: Op, a: StoredTree, b: StoredTree) -> StoredTree
+// An operator with its operands, whose stored forms stand one behind the other.
+pub(crate) fn two_node(o: Op, a: StoredTree, b: StoredTree, out: &mut [u8]) -> StoredTree
     requires { ⌜ (a .len ≤ 5 * textMost) × (b .len ≤ 5 * textMost) × (a .depth ≤ a .len) × (b .depth ≤ b .len) ⌝ }
-    ensures { λ r. ⌜ TwoMade o a b r ⌝ }
+    ensures { λ r. ⌜ TwoMade o a b (now (out .entry)) (held r (now (out .exit))) ⌝ }
 {
     let gives = two_type(o, a.gives, b.gives);
     let depth = 1 + larger(a.depth, b.depth);
-    let next = b.next;
-    let x = a.len;
-    let y = b.len;
-    let len = 1 + (x + y);
-    let left = a.bytes;
-    let right = b.bytes;
-    if len <= STORED_MOST {
-        let row = operator(o);
-        let bytes = joined(row.code, left, x, right, y);
-        return StoredTree {
-            next: next,
-            gives: gives,
-            depth: depth,
-            len: len,
-            bytes: bytes,
-        };
-    }
+    let n = a.len + b.len;
+    let row = operator(o);
+    put_first(out, n, row.code);
     StoredTree {
-        next: next,
+        next: b.next,
         gives: gives,
         depth: depth,
-        len: len,
-        bytes: left,
+        len: 1 + n,
     }
 }

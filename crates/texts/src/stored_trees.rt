@@ -10,19 +10,19 @@ use crate::stored_nodes::no_tree;
 use crate::stored_nodes::not_node;
 use crate::stored_nodes::number_node;
 use crate::stored_nodes::two_node;
-use names::labels::is_short;
+use names::labels::is_short_in;
 use operators::rows::ATOM_LEVEL;
 use operators::rows::operator;
 use rules::FIELDS_MOST;
 use rules::OPEN_MOST;
 use rules::SHORT_MOST;
-use rules::STORED_MOST;
 ghost use mathlib.Core.Path.{_≡_};
 ghost use Prim.Native.Nat.{_+_, _*_, _≤_};
 ghost use lib.ListN.{length, drop};
 ghost use Rattle.rules.specs.Limits.{textMost, fieldsMost};
 ghost use Rattle.text_laws.specs.LineReader.{readTree};
-ghost use Rattle.texts.specs.StoredTrees.{StoredFor};
+ghost use Rattle.names.specs.Classes.{classTable};
+ghost use Rattle.texts.specs.StoredTrees.{StoredFor, held};
 ghost use Rattle.texts.specs.StoredPlaces.{
   WithinStored,
   LeafStored,
@@ -33,40 +33,46 @@ ghost use Rattle.texts.specs.StoredPlaces.{
   MoreStored,
 };
 
-// The place behind an expression, its type (1 number, 2 yes or no, 0 wrong), its depth and its stored form; no length
-// where there is no expression.
+// The place behind an expression, its type (1 number, 2 yes or no, 0 wrong), its depth and the length of its stored
+// form, which stands in an output where that has room for it; no length where there is no expression.
 pub(crate) struct StoredTree {
     pub next: usize,
     pub gives: usize,
     pub depth: usize,
     pub len: usize,
-    pub bytes: [u8; STORED_MOST],
 }
 
 // The short name or number at `at`.
-fn tree_leaf(s: &[u8], at: usize, names: &[[u8; SHORT_MOST]; FIELDS_MOST], n: usize) -> StoredTree
-    requires { ⌜ (at ≤ length (now s)) × (n ≤ fieldsMost) ⌝ }
+fn tree_leaf(
+    classes: &[u8; 256],
+    s: &[u8],
+    at: usize,
+    names: &[[u8; SHORT_MOST]; FIELDS_MOST],
+    n: usize,
+    out: &mut [u8],
+) -> StoredTree
+    requires { ⌜ (at ≤ length (now s)) × (n ≤ fieldsMost) × (now classes ≡ classTable) ⌝ }
     ensures place { λ r. ⌜ WithinStored (now (s .entry)) (at + 1) at 0 r ⌝ }
-    ensures same { λ r. ⌜ LeafStored (now (names .entry)) n (now (s .entry)) at r ⌝ }
+    ensures same { λ r. ⌜ LeafStored (now (names .entry)) n (now (s .entry)) at (held r (now (out .exit))) ⌝ }
 {
-    let end = word_end(s, at);
-    if is_short(&s[at..end]) {
+    let end = word_end(classes, s, at);
+    if is_short_in(classes, &s[at..end]) {
         let i = look_up(names, n, &s[at..end]);
-        return field_node(i, n, end);
+        return field_node(i, n, end, out);
     }
-    if is_number(&s[at..end]) {
-        let v = word_value(&s[at..end]);
-        return number_node(v, end);
+    if is_number(classes, &s[at..end]) {
+        let v = word_value(classes, &s[at..end]);
+        return number_node(v, end, out);
     }
     no_tree()
 }
 
 // The closing parenthesis behind an expression; the whole is the expression, or its negation.
-fn tree_closed(s: &[u8], p: StoredTree, neg: bool) -> StoredTree
+fn tree_closed(s: &[u8], p: StoredTree, neg: bool, out: &mut [u8]) -> StoredTree
     requires { ⌜ (p .next ≤ length (now s)) × (length (now s) ≤ textMost) × (p .len ≤ 5 * p .next)
         × (p .depth ≤ p .len) ⌝ }
     ensures place { λ r. ⌜ WithinStored (now (s .entry)) (p .next + 1) (p .next) (p .len) r ⌝ }
-    ensures same { λ r. ⌜ ClosedStored (now (s .entry)) neg p r ⌝ }
+    ensures same { λ r. ⌜ ClosedStored (now (s .entry)) neg (held p (now (out .entry))) (held r (now (out .exit))) ⌝ }
 {
     let at = p.next;
     if at == s.len() {
@@ -74,15 +80,13 @@ fn tree_closed(s: &[u8], p: StoredTree, neg: bool) -> StoredTree
     }
     if s[at] == b')' {
         if neg {
-            return not_node(p, at + 1);
+            return not_node(p, at + 1, out);
         }
-        let bytes = p.bytes;
         return StoredTree {
             next: at + 1,
             gives: p.gives,
             depth: p.depth,
             len: p.len,
-            bytes: bytes,
         };
     }
     no_tree()
@@ -90,62 +94,73 @@ fn tree_closed(s: &[u8], p: StoredTree, neg: bool) -> StoredTree
 
 // At level `k` and tighter, with `b` parentheses that may be opened.
 fn tree_expr(
+    classes: &[u8; 256],
     s: &[u8],
     at: usize,
     k: u8,
     b: u8,
     names: &[[u8; SHORT_MOST]; FIELDS_MOST],
     n: usize,
+    out: &mut [u8],
 ) -> StoredTree
-    requires { ⌜ (at ≤ length (now s)) × (length (now s) ≤ textMost) × (n ≤ fieldsMost) ⌝ }
+    requires { ⌜ (at ≤ length (now s)) × (length (now s) ≤ textMost) × (n ≤ fieldsMost)
+        × (now classes ≡ classTable) ⌝ }
     ensures place { λ r. ⌜ WithinStored (now (s .entry)) (at + 1) at 0 r ⌝ }
-    ensures same { λ r. ⌜ ExprStored (now (names .entry)) n (now (s .entry)) at k b r ⌝ }
+    ensures same { λ r. ⌜ ExprStored (now (names .entry)) n (now (s .entry)) at k b
+        (held r (now (out .exit))) ⌝ }
 {
-    let a = tree_atom(s, at, b, names, n);
+    let a = tree_atom(classes, s, at, b, names, n, out);
     let next = a.next;
     if a.len == 0 {
         return a;
     }
-    tree_more(s, next, k, ATOM_LEVEL, b, a, names, n)
+    tree_more(classes, s, next, k, ATOM_LEVEL, b, a, names, n, out)
 }
 
 // `!(`, `(` or a word.
 fn tree_atom(
+    classes: &[u8; 256],
     s: &[u8],
     at: usize,
     b: u8,
     names: &[[u8; SHORT_MOST]; FIELDS_MOST],
     n: usize,
+    out: &mut [u8],
 ) -> StoredTree
-    requires { ⌜ (at ≤ length (now s)) × (length (now s) ≤ textMost) × (n ≤ fieldsMost) ⌝ }
+    requires { ⌜ (at ≤ length (now s)) × (length (now s) ≤ textMost) × (n ≤ fieldsMost)
+        × (now classes ≡ classTable) ⌝ }
     ensures place { λ r. ⌜ WithinStored (now (s .entry)) (at + 1) at 0 r ⌝ }
-    ensures same { λ r. ⌜ AtomStored (now (names .entry)) n (now (s .entry)) at b r ⌝ }
+    ensures same { λ r. ⌜ AtomStored (now (names .entry)) n (now (s .entry)) at b (held r (now (out .exit))) ⌝ }
 {
     if at == s.len() {
         return no_tree();
     }
     let c = s[at];
     if c == b'!' {
-        return tree_inside(s, at + 1, b, true, names, n);
+        return tree_inside(classes, s, at + 1, b, true, names, n, out);
     }
     if c == b'(' {
-        return tree_inside(s, at, b, false, names, n);
+        return tree_inside(classes, s, at, b, false, names, n, out);
     }
-    tree_leaf(s, at, names, n)
+    tree_leaf(classes, s, at, names, n, out)
 }
 
 // An expression in parentheses, or its negation.
 fn tree_inside(
+    classes: &[u8; 256],
     s: &[u8],
     at: usize,
     b: u8,
     neg: bool,
     names: &[[u8; SHORT_MOST]; FIELDS_MOST],
     n: usize,
+    out: &mut [u8],
 ) -> StoredTree
-    requires { ⌜ (at ≤ length (now s)) × (length (now s) ≤ textMost) × (n ≤ fieldsMost) ⌝ }
+    requires { ⌜ (at ≤ length (now s)) × (length (now s) ≤ textMost) × (n ≤ fieldsMost)
+        × (now classes ≡ classTable) ⌝ }
     ensures place { λ r. ⌜ WithinStored (now (s .entry)) (at + 1) at 0 r ⌝ }
-    ensures same { λ r. ⌜ InsideStored (now (names .entry)) n (now (s .entry)) at b neg r ⌝ }
+    ensures same { λ r. ⌜ InsideStored (now (names .entry)) n (now (s .entry)) at b neg
+        (held r (now (out .exit))) ⌝ }
 {
     if at == s.len() {
         return no_tree();
@@ -156,15 +171,23 @@ fn tree_inside(
     if s[at] != b'(' {
         return no_tree();
     }
-    let e = tree_expr(s, at + 1, 0, b - 1, names, n);
+    let e = tree_expr(classes, s, at + 1, 0, b - 1, names, n, out);
     if e.len == 0 {
         return e;
     }
-    tree_closed(s, e, neg)
+    tree_closed(s, e, neg, out)
+}
+
+// The place, or the end where it lies behind that.
+fn place_in(at: usize, end: usize) -> usize
+    ensures { λ r. ⌜ (r ≤ end) × (at ≤ end → r ≡ at) ⌝ }
+{
+    if at < end { at } else { end }
 }
 
 // What goes on behind an expression of level `h` that ends at `at`.
 fn tree_more(
+    classes: &[u8; 256],
     s: &[u8],
     at: usize,
     k: u8,
@@ -173,13 +196,15 @@ fn tree_more(
     left: StoredTree,
     names: &[[u8; SHORT_MOST]; FIELDS_MOST],
     n: usize,
+    out: &mut [u8],
 ) -> StoredTree
     requires { ⌜ (at ≤ length (now s)) × (length (now s) ≤ textMost) × (n ≤ fieldsMost) × (left .next ≡ at)
-        × (left .len ≤ 5 * at) × (left .depth ≤ left .len) ⌝ }
+        × (left .len ≤ 5 * at) × (left .depth ≤ left .len) × (now classes ≡ classTable) ⌝ }
     ensures place { λ r. ⌜ WithinStored (now (s .entry)) at at (left .len) r ⌝ }
-    ensures same { λ r. ⌜ MoreStored (now (names .entry)) n (now (s .entry)) at k h b left r ⌝ }
+    ensures same { λ r. ⌜ MoreStored (now (names .entry)) n (now (s .entry)) at k h b
+        (held left (now (out .entry))) (held r (now (out .exit))) ⌝ }
 {
-    let g = operator_at(s, at);
+    let g = operator_at(classes, s, at);
     match g {
         Sign::Nothing => left,
         Sign::At(o, end) => {
@@ -187,13 +212,14 @@ fn tree_more(
             let l = row.level;
             if k <= l {
                 if row.left <= h {
-                    let y = tree_expr(s, end, row.right, b, names, n);
+                    let from = place_in(left.len, out.len());
+                    let y = tree_expr(classes, s, end, row.right, b, names, n, &mut out[from..]);
                     if y.len == 0 {
                         return y;
                     }
-                    let t = two_node(o, left, y);
+                    let t = two_node(o, left, y, out);
                     let next = t.next;
-                    return tree_more(s, next, k, l, b, t, names, n);
+                    return tree_more(classes, s, next, k, l, b, t, names, n, out);
                 }
             }
             left
@@ -203,14 +229,18 @@ fn tree_more(
 
 // The expression at a place, whose names are those of the first n held ones.
 pub(crate) fn stored_tree(
+    classes: &[u8; 256],
     s: &[u8],
     at: usize,
     names: &[[u8; SHORT_MOST]; FIELDS_MOST],
     n: usize,
+    out: &mut [u8],
 ) -> StoredTree
-    requires { ⌜ (at ≤ length (now s)) × (length (now s) ≤ textMost) × (n ≤ fieldsMost) ⌝ }
+    requires { ⌜ (at ≤ length (now s)) × (length (now s) ≤ textMost) × (n ≤ fieldsMost)
+        × (now classes ≡ classTable) ⌝ }
     ensures place { λ r. ⌜ WithinStored (now (s .entry)) (at + 1) at 0 r ⌝ }
-    ensures same { λ r. ⌜ StoredFor (now (names .entry)) n (now (s .entry)) (readTree (drop at (now (s .entry)))) r ⌝ }
+    ensures same { λ r. ⌜ StoredFor (now (names .entry)) n (now (s .entry)) (readTree (drop at (now (s .entry))))
+        (held r (now (out .exit))) ⌝ }
 {
-    tree_expr(s, at, 0, OPEN_MOST, names, n)
+    tree_expr(classes, s, at, 0, OPEN_MOST, names, n, out)
 }

@@ -4,6 +4,7 @@ use names::words::same_words;
 ghost use mathlib.Core.Path.{_≡_};
 ghost use Prim.Native.Nat.{_≤_};
 ghost use lib.ListN.{length, drop};
+ghost use Rattle.names.specs.Classes.{classTable};
 ghost use Rattle.text_laws.specs.LineReader.{unitOf, readUnit};
 ghost use Rattle.texts.specs.FieldPlaces.{unless0, SameBits, WithinBits};
 
@@ -32,12 +33,12 @@ fn unit_of(w: &[u8]) -> u8
     0
 }
 
-pub(crate) fn unit_at(s: &[u8], at: usize) -> Bits
-    requires { ⌜ at ≤ length (now s) ⌝ }
+pub(crate) fn unit_at(classes: &[u8; 256], s: &[u8], at: usize) -> Bits
+    requires { ⌜ (at ≤ length (now s)) × (now classes ≡ classTable) ⌝ }
     ensures place { λ r. ⌜ WithinBits (now (s .entry)) at r ⌝ }
     ensures same { λ r. ⌜ SameBits (now (s .entry)) (readUnit (drop at (now (s .entry)))) r ⌝ }
 {
-    let end = word_end(s, at);
+    let end = word_end(classes, s, at);
     let u = unit_of(&s[at..end]);
     if u == 0 {
         return Bits::Nothing;

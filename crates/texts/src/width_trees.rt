@@ -16,6 +16,7 @@ ghost use mathlib.Core.Path.{_≡_};
 ghost use Prim.Native.Nat.{_+_, _≤_};
 ghost use lib.ListN.{length, drop};
 ghost use Rattle.rules.specs.Limits.{textMost, fieldsMost};
+ghost use Rattle.names.specs.Classes.{classTable};
 ghost use Rattle.text_laws.specs.LineReader.{readMeasure, readWidth};
 ghost use Rattle.texts.specs.PartPlaces.{isUnit};
 ghost use Rattle.texts.specs.HeldParts.{FixedFor, MeasureWithin, MeasureFor, SizedFor};
@@ -56,13 +57,13 @@ fn fixed_width(bits: usize, next: usize) -> Measure
 }
 
 // The width of the expression at `at` with its unit, before the place `next`.
-fn sized(s: &[u8], at: usize, t: StoredTree, u: u8, next: usize) -> Measure
-    requires { ⌜ (at ≤ next) × (next ≤ length (now s)) × (isUnit u ≡ true) ⌝ }
+fn sized(classes: &[u8; 256], s: &[u8], at: usize, t: StoredTree, u: u8, next: usize) -> Measure
+    requires { ⌜ (at ≤ next) × (next ≤ length (now s)) × (isUnit u ≡ true) × (now classes ≡ classTable) ⌝ }
     ensures place { λ r. ⌜ MeasureWithin (now (s .entry)) at r ⌝ }
     ensures same { λ r. ⌜ SizedFor (now (s .entry)) at t u next r ⌝ }
 {
     if is_single(t.depth, t.len) {
-        let m = number_in(s, at);
+        let m = number_in(classes, s, at);
         return fixed_width(times(u, m), next);
     }
     Measure {
@@ -73,36 +74,47 @@ fn sized(s: &[u8], at: usize, t: StoredTree, u: u8, next: usize) -> Measure
     }
 }
 
-fn measure_at(s: &[u8], at: usize, names: &[[u8; SHORT_MOST]; FIELDS_MOST], n: usize) -> Measure
-    requires { ⌜ (at ≤ length (now s)) × (length (now s) ≤ textMost) × (n ≤ fieldsMost) ⌝ }
-    ensures place { λ r. ⌜ MeasureWithin (now (s .entry)) at r ⌝ }
-    ensures same { λ r. ⌜ MeasureFor (now (names .entry)) n (now (s .entry))
-        (readMeasure (drop at (now (s .entry)))) r ⌝ }
-{
-    let t = stored_tree(s, at, names, n);
-    if t.len == 0 {
-        return plain(0, 0, 0);
-    }
-    let b = unit_behind(s, t.next);
-    match b {
-        Bits::Nothing => plain(0, 0, 0),
-        Bits::At(u, next) => sized(s, at, t, u, next),
-    }
-}
-
-pub(crate) fn width_at(
+fn measure_at(
+    classes: &[u8; 256],
     s: &[u8],
     at: usize,
     names: &[[u8; SHORT_MOST]; FIELDS_MOST],
     n: usize,
+    out: &mut [u8],
 ) -> Measure
-    requires { ⌜ (at ≤ length (now s)) × (length (now s) ≤ textMost) × (n ≤ fieldsMost) ⌝ }
+    requires { ⌜ (at ≤ length (now s)) × (length (now s) ≤ textMost) × (n ≤ fieldsMost)
+        × (now classes ≡ classTable) ⌝ }
     ensures place { λ r. ⌜ MeasureWithin (now (s .entry)) at r ⌝ }
     ensures same { λ r. ⌜ MeasureFor (now (names .entry)) n (now (s .entry))
-        (readWidth (drop at (now (s .entry)))) r ⌝ }
+        (readMeasure (drop at (now (s .entry)))) (now (out .exit)) r ⌝ }
+{
+    let t = stored_tree(classes, s, at, names, n, out);
+    if t.len == 0 {
+        return plain(0, 0, 0);
+    }
+    let b = unit_behind(classes, s, t.next);
+    match b {
+        Bits::Nothing => plain(0, 0, 0),
+        Bits::At(u, next) => sized(classes, s, at, t, u, next),
+    }
+}
+
+pub(crate) fn width_at(
+    classes: &[u8; 256],
+    s: &[u8],
+    at: usize,
+    names: &[[u8; SHORT_MOST]; FIELDS_MOST],
+    n: usize,
+    out: &mut [u8],
+) -> Measure
+    requires { ⌜ (at ≤ length (now s)) × (length (now s) ≤ textMost) × (n ≤ fieldsMost)
+        × (now classes ≡ classTable) ⌝ }
+    ensures place { λ r. ⌜ MeasureWithin (now (s .entry)) at r ⌝ }
+    ensures same { λ r. ⌜ MeasureFor (now (names .entry)) n (now (s .entry))
+        (readWidth (drop at (now (s .entry)))) (now (out .exit)) r ⌝ }
 {
     if starts_at(s, at, b"variable") {
         return plain(4, 0, at + 8);
     }
-    measure_at(s, at, names, n)
+    measure_at(classes, s, at, names, n, out)
 }

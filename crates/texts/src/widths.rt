@@ -12,6 +12,7 @@ ghost use lib.Dec.{eqb};
 ghost use lib.ListN.{length, drop};
 ghost use Rattle.rules.specs.Limits.{numberMost};
 ghost use Rattle.rules.specs.Trees.{num};
+ghost use Rattle.names.specs.Classes.{classTable};
 ghost use Rattle.text_laws.specs.LineReader.{hit, readTree};
 ghost use Rattle.texts.specs.FieldPlaces.{SameBits, WithinBits};
 ghost use Rattle.texts.specs.PartPlaces.{pastOpen, spacedUnit, isUnit};
@@ -33,24 +34,24 @@ fn past_open(s: &[u8], at: usize) -> usize
 }
 
 // The value of the expression at `at`, if that is a single number.
-pub(crate) fn number_in(s: &[u8], at: usize) -> usize
-    requires { ⌜ at ≤ length (now s) ⌝ }
+pub(crate) fn number_in(classes: &[u8; 256], s: &[u8], at: usize) -> usize
+    requires { ⌜ (at ≤ length (now s)) × (now classes ≡ classTable) ⌝ }
     ensures most { λ r. ⌜ r ≤ numberMost ⌝ }
     ensures same { λ r. ⌜ ((m : ℕ) (q : List ℕ) → readTree (drop at (now (s .entry))) ≡ hit (num m) q → r ≡ m) ⌝ }
 {
     let from = past_open(s, at);
-    let end = word_end(s, from);
-    word_value(&s[from..end])
+    let end = word_end(classes, s, from);
+    word_value(classes, &s[from..end])
 }
 
 // A space and a unit.
-pub(crate) fn unit_behind(s: &[u8], at: usize) -> Bits
-    requires { ⌜ at ≤ length (now s) ⌝ }
+pub(crate) fn unit_behind(classes: &[u8; 256], s: &[u8], at: usize) -> Bits
+    requires { ⌜ (at ≤ length (now s)) × (now classes ≡ classTable) ⌝ }
     ensures place { λ r. ⌜ WithinBits (now (s .entry)) at r ⌝ }
     ensures same { λ r. ⌜ SameBits (now (s .entry)) (spacedUnit (drop at (now (s .entry)))) r ⌝ }
 {
     if starts_at(s, at, b" ") {
-        return unit_at(s, at + 1);
+        return unit_at(classes, s, at + 1);
     }
     Bits::Nothing
 }

@@ -1,6 +1,6 @@
 use mathlib.Core.Path.{_≡_, refl, sym, _∙_}
 use denote.Ref.{now}
-use Rattle.names.proofs.ClassRules.{word-in, space-in, name-word, name-label}
+use Rattle.names.proofs.ClassRules.{name-word, name-label}
 use borrow.Author.Needs.{needs}
 use Rattle.names.proofs.classes.is_name_in.Statement.{statement}
 use Rattle.names.proofs.classes.is_name_in.Tie as tie
@@ -14,53 +14,32 @@ is-word-in-requires c κs = search needs
 
 returns : tie.Need-returns
 returns c =
-    let w = word-in (now (c .before .before .args .classes)) (c .before .before .pre) (c .before .before .args .b)
-    (c .before .before .fits .b .fits) in
-    sym (name-word (c .before .before .args .label) (c .before .before .args .b) (sym w ∙ sym
-    (c .before .is-word-in .ensures) ∙ c .if1 .taken))
+    let a = c .before .before .args in
+    sym (name-word (now (a .classes)) (a .label) (a .b) (sym (c .before .is-word-in .ensures) ∙ c .if1 .taken))
 
 is-space-in-requires : tie.Need-is-space-in-requires
 is-space-in-requires c κs = search needs
 
 returns-2 : tie.Need-returns-2
 returns-2 c =
-    let w = word-in (now (c .before .before .before .before .before .args .classes))
-    (c .before .before .before .before .before .pre) (c .before .before .before .before .before .args .b)
-    (c .before .before .before .before .before .fits .b .fits) in
-    let n = sym w ∙ sym (c .before .before .before .before .is-word-in .ensures) ∙ c .before .before .before .if1
-    .left in
-    let k = space-in (now (c .before .before .before .before .before .args .classes))
-    (c .before .before .before .before .before .pre) (c .before .before .before .before .before .args .b)
-    (c .before .before .before .before .before .fits .b .fits) in
+    let a = c .before .before .before .before .before .args in
+    let n = sym (c .before .before .before .before .is-word-in .ensures) ∙ c .before .before .before .if1 .left in
     rw (
-      name-label (c .before .before .before .before .before .args .label)
-          (c .before .before .before .before .before .args .b) n (c .before .before .if2 .taken),
-      sym k ∙ sym
-          (c .before .is-space-in .ensures) ∙ c .if3 .taken,
+      name-label (now (a .classes)) (a .label) (a .b) n (c .before .before .if2 .taken),
+      sym (c .before .is-space-in .ensures) ∙ c .if3 .taken,
     )
 
 returns-3 : tie.Need-returns-3
 returns-3 c =
-    let w = word-in (now (c .before .before .before .before .before .args .classes))
-    (c .before .before .before .before .before .pre) (c .before .before .before .before .before .args .b)
-    (c .before .before .before .before .before .fits .b .fits) in
-    let n = sym w ∙ sym (c .before .before .before .before .is-word-in .ensures) ∙ c .before .before .before .if1
-    .left in
-    let k = space-in (now (c .before .before .before .before .before .args .classes))
-    (c .before .before .before .before .before .pre) (c .before .before .before .before .before .args .b)
-    (c .before .before .before .before .before .fits .b .fits) in
+    let a = c .before .before .before .before .before .args in
+    let n = sym (c .before .before .before .before .is-word-in .ensures) ∙ c .before .before .before .if1 .left in
     rw (
-      name-label (c .before .before .before .before .before .args .label)
-          (c .before .before .before .before .before .args .b) n (c .before .before .if2 .taken),
-      sym k ∙ sym
-          (c .before .is-space-in .ensures) ∙ c .if3 .left,
+      name-label (now (a .classes)) (a .label) (a .b) n (c .before .before .if2 .taken),
+      sym (c .before .is-space-in .ensures) ∙ c .if3 .left,
     )
 
 returns-4 : tie.Need-returns-4
-returns-4 c =
-    let w = word-in (now (c .before .before .before .args .classes)) (c .before .before .before .pre)
-    (c .before .before .before .args .b) (c .before .before .before .fits .b .fits) in
-    rw (c .if2 .left, sym w ∙ sym (c .before .before .is-word-in .ensures) ∙ c .before .if1 .left)
+returns-4 c = rw (c .if2 .left, sym (c .before .before .is-word-in .ensures) ∙ c .before .if1 .left)
 
 pub is-name-in-spec : {M : Type 1} → statement M
 is-name-in-spec =

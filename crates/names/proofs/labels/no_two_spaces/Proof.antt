@@ -5,9 +5,9 @@ use lib.ListN.{length, drop, getD}
 use denote.Ref.{now}
 use mathlib.Core.Logic.{⊎-elim}
 use lib.ListN.{length-drop}
-use Rattle.rules.specs.Names.{noTwoSpaces}
-use Rattle.names.proofs.ClassRules.{space-in}
-use Rattle.names.proofs.Spaces.{spaces-end, spaces-pair, spaces-first, spaces-second}
+use Rattle.names.specs.Classes.{spaceClass, hasClass}
+use Rattle.names.specs.LentNames.{noTwo}
+use Rattle.names.proofs.Spaces.{two-end, two-pair, two-first, two-second}
 use borrow.Author.Needs.{needs}
 use Rattle.names.proofs.labels.no_two_spaces.Statement.{statement}
 use Rattle.names.proofs.labels.no_two_spaces.Tie as tie
@@ -16,7 +16,8 @@ use Rattle.names.proofs.labels.no_two_spaces.Lts as lts
 use Rattle.names.proofs.classes.is_space_in.Reads as is-space-in-reads
 
 abbrev Inv-loop : tie.InvT-loop
-Inv-loop classes w i₀ i = (1 ≤ i) × (noTwoSpaces w ≡ noTwoSpaces (drop (i - 1) w))
+Inv-loop classes w i₀ i = (1 ≤ i) × (noTwo (hasClass spaceClass classes) w ≡ noTwo (hasClass spaceClass classes)
+    (drop (i - 1) w))
 
 abbrev μ-loop : tie.MeasureT-loop
 μ-loop classes w i₀ i = length w - i
@@ -42,20 +43,13 @@ is-space-in-requires-2 c κs = search needs
 returns : tie.Need-returns Inv-loop μ-loop
 returns c =
     let w = now (c .before .before .before .before .before .before .before .before .before .args .w) in
+    let space = hasClass spaceClass (now (c .before .before .before .before .before .before .before .before .before
+    .args .classes)) in
     let i = c .before .before .before .before .before .before .before .loop .i in
-    let tells = space-in (now (c .before .before .before .before .before .before .before .before .before .args
-    .classes)) (c .before .before .before .before .before .before .before .before .before .pre) in
-    let before = tells (getD w (i - 1) 0) (omega
-    (arith, c .before .before .before .before .before .before .before .before .shared-slice-known .given (i - 1))) in
-    let here = tells (getD w i 0) (omega (
-      arith,
-      c .before .before .before .before .before .before .before .before
-          .shared-slice-known .given i,
-    )) in
-    sym (c .before .before .before .before .before .before .before .loop .inv .1 ∙ spaces-pair w i (omega arith)
+    sym (c .before .before .before .before .before .before .before .loop .inv .1 ∙ two-pair space w i (omega arith)
     (omega arith)
-    (sym before ∙ sym (c .before .before .before .before .is-space-in .ensures) ∙ c .before .before .before .if1
-    .taken) (sym here ∙ sym (c .before .is-space-in2 .ensures) ∙ c .if2 .taken))
+    (sym (c .before .before .before .before .is-space-in .ensures) ∙ c .before .before .before .if1 .taken) (sym
+    (c .before .is-space-in2 .ensures) ∙ c .if2 .taken))
 
 add-i : tie.Need-add-i Inv-loop μ-loop
 add-i c = search needs
@@ -66,27 +60,24 @@ loop-less c = search needs
 loop-again : tie.Need-loop-again Inv-loop μ-loop
 loop-again c =
     let w = now (c .before .before .before .before .before .before .args .w) in
+    let space = hasClass spaceClass (now (c .before .before .before .before .before .before .args .classes)) in
     let i = c .before .before .before .before .loop .i in
     let k = c .before .before .before .before .loop .inv .1 in
-    let bytes = c .before .before .before .before .before .shared-slice-known .given in
-    let tells = space-in (now (c .before .before .before .before .before .before .args .classes))
-    (c .before .before .before .before .before .before .pre) in
-    let before = sym (tells (getD w (i - 1) 0) (omega (arith, bytes (i - 1)))) ∙ sym
-    (c .before .is-space-in .ensures) in
-    let here = tells (getD w i 0) (omega (arith, bytes i)) in
+    let before = sym (c .before .is-space-in .ensures) in
     let e : i + 1 - 1 ≡ i = omega arith in (
       omega arith,
       rw e (⊎-elim
-          (λ t. k ∙ spaces-second w i (omega arith) (omega arith) (before ∙ t .0 .taken)
-          (sym here ∙ sym (t .2 .ensures) ∙ t .3 .left))
-          (λ t. k ∙ spaces-first w i (omega arith) (omega arith) (before ∙ t .left))
+          (λ t. k ∙ two-second space w i (omega arith) (omega arith) (before ∙ t .0 .taken)
+          (sym (t .2 .ensures) ∙ t .3 .left))
+          (λ t. k ∙ two-first space w i (omega arith) (omega arith) (before ∙ t .left))
           (c .if1 .came)),
     )
 
 returns-2 : tie.Need-returns-2 Inv-loop μ-loop
 returns-2 c =
     let w = now (c .before .before .before .args .w) in
-    sym (c .before .loop .inv .1 ∙ spaces-end (drop (c .before .loop .i - 1) w) (rw length-drop (omega arith)))
+    let space = hasClass spaceClass (now (c .before .before .before .args .classes)) in
+    sym (c .before .loop .inv .1 ∙ two-end space (drop (c .before .loop .i - 1) w) (rw length-drop (omega arith)))
 
 pub no-two-spaces-spec : {M : Type 1} → statement M
 no-two-spaces-spec =

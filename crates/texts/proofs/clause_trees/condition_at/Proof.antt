@@ -1,6 +1,5 @@
 use mathlib.Core.Path.{sym, _∙_}
-use Prim.Native.Nat.{_≤_, _+_}
-use native.Mathlib.Omega.{arith}
+use Prim.Native.Nat.{_+_, _≤_}
 use lib.ListN.{length}
 use Rattle.base.specs.Bytes.{bytes}
 use Rattle.texts.proofs.FieldClauses.{clause-room}
@@ -25,20 +24,28 @@ add-tree-at c = search needs
 
 tree-at-requires : tie.Need-tree-at-requires
 tree-at-requires c κs =
-    let y = sym (c .before .starts-at .ensures) ∙ c .if1 .taken in
-    let h : c .before .before .before .before .args .at + 20 ≤ length (c .before .before .before .before .args .s
-    .now) =
-    clause-room (c .before .before .before .before .args .s .now) (c .before .before .before .before .args .at)
-    (omega arith) (bytes "; present only when ") y in
-    (h, omega arith, omega arith)
+    let a = c .before .before .before .before .before .before .args in
+    let y = sym (c .before .before .starts-at .ensures) ∙ c .before .if1 .taken in
+    let h : a .at + 20 ≤ length (a .s .now) =
+    clause-room (a .s .now) (a .at) (c .before .before .before .before .before .before .pre .0) (bytes
+    "; present only when ") y in (
+      h,
+      c .before .before .before .before .before .before .pre .1,
+      c .before .before .before .before .before .before
+          .pre .2,
+      c .before .before .before .before .before .before .pre .3,
+    )
+
+same-length : tie.Need-same-length
+same-length c = search needs
 
 returns : tie.Need-returns
 returns c =
-    let t = c .tree-at in
-    condition-yes (c .before .before .before .before .before .args .names .now) (c .before .before .before .before
-    .before .args .n) (c .before .before .before .before .before .args .s .now) (c .before .before .before .before
-    .before .args .at) (omega arith) (t .result) (sym (c .before .before .starts-at .ensures) ∙ c .before .if1
-    .taken) (t .ensures .0)
+    let a = c .before .before .before .before .before .before .before .before .before .args in
+    let t = c .before .before .tree-at in
+    condition-yes (a .names .now) (a .n) (a .s .now) (a .at) (c .before .before .before .before .before .before
+    .before .before .before .pre .0) (t .result) _ (sym (c .before .before .before .before .before .starts-at
+    .ensures) ∙ c .before .before .before .before .if1 .taken) (t .ensures .0)
     (t .ensures .1)
 
 no-clause-requires : tie.Need-no-clause-requires
@@ -46,10 +53,9 @@ no-clause-requires c κs = search needs
 
 returns-2 : tie.Need-returns-2
 returns-2 c =
-    condition-no (c .before .before .before .before .before .args .names .now) (c .before .before .before .before
-    .before .args .n) (c .before .before .before .before .before .args .s .now) (c .before .before .before .before
-    .before .args .at) (omega arith) _ (sym (c .before .before .starts-at .ensures) ∙ c .before .if1 .left) (c
-    .no-clause .ensures)
+    let a = c .before .before .before .before .before .before .args in
+    condition-no (a .names .now) (a .n) (a .s .now) (a .at) (c .before .before .before .before .before .before .pre
+    .0) _ _ (sym (c .before .before .starts-at .ensures) ∙ c .before .if1 .left) (c .no-clause .ensures)
 
 pub condition-at-spec : {M : Type 1} → statement M
 condition-at-spec =
@@ -59,6 +65,7 @@ condition-at-spec =
     starts-at-requires
     add-tree-at
     tree-at-requires
+    same-length
     returns
     no-clause-requires
     returns-2)

@@ -1,6 +1,5 @@
 use mathlib.Core.Path.{sym, _∙_}
-use Prim.Native.Nat.{_≤_, _+_}
-use native.Mathlib.Omega.{arith}
+use Prim.Native.Nat.{_+_, _≤_}
 use lib.ListN.{length}
 use Rattle.base.specs.Bytes.{bytes}
 use Rattle.texts.proofs.FieldClauses.{clause-room}
@@ -25,10 +24,9 @@ no-clause-requires c κs = search needs
 
 returns : tie.Need-returns
 returns c =
-    constraint-not-yet (c .before .before .before .before .before .args .names .now) (c .before .before .before
-    .before .before .args .n) (c .before .before .before .before .before .args .s .now) (c .before .before .before
-    .before .before .args .at) (omega arith) _ (sym (c .before .before .starts-at .ensures) ∙ c .before .if1 .taken)
-    (c .no-clause .ensures)
+    let a = c .before .before .before .before .before .before .args in
+    constraint-not-yet (a .names .now) (a .n) (a .s .now) (a .at) (c .before .before .before .before .before .before
+    .pre .0) _ _ (sym (c .before .before .starts-at .ensures) ∙ c .before .if1 .taken) (c .no-clause .ensures)
 
 slice-aggregate-starts-at-2 : tie.Need-slice-aggregate-starts-at-2
 slice-aggregate-starts-at-2 c = search needs
@@ -41,33 +39,41 @@ add-tree-at c = search needs
 
 tree-at-requires : tie.Need-tree-at-requires
 tree-at-requires c κs =
-    let y = sym (c .before .starts-at2 .ensures) ∙ c .if2 .taken in
-    let h : c .before .before .before .before .before .before .before .args .at + 2 ≤ length (c .before .before
-    .before .before .before .before .before .args .s .now) =
-    clause-room (c .before .before .before .before .before .before .before .args .s .now) (c .before .before .before
-    .before .before .before .before .args .at) (omega arith) (bytes "; ") y in
-    (h, omega arith, omega arith)
+    let a = c .before .before .before .before .before .before .before .before .before .args in
+    let y = sym (c .before .before .starts-at2 .ensures) ∙ c .before .if2 .taken in
+    let h : a .at + 2 ≤ length (a .s .now) = clause-room (a .s .now) (a .at) (c .before .before .before .before
+    .before .before .before .before .before .pre .0) (bytes "; ") y in (
+      h,
+      c .before .before .before .before .before .before .before .before .before .pre .1,
+      c .before .before .before
+          .before .before .before .before .before .before .pre .2,
+      c .before .before .before .before .before .before
+          .before .before .before .pre .3,
+    )
+
+same-length : tie.Need-same-length
+same-length c = search needs
 
 returns-2 : tie.Need-returns-2
 returns-2 c =
-    let t = c .tree-at in
-    constraint-yes (c .before .before .before .before .before .before .before .before .args .names .now) (c .before
-    .before .before .before .before .before .before .before .args .n) (c .before .before .before .before .before
-    .before .before .before .args .s .now) (c .before .before .before .before .before .before .before .before .args
-    .at) (omega arith) (t .result) (sym (c .before .before .before .before .before .starts-at .ensures) ∙ c .before
-    .before .before .before .if1 .left)
-    (sym (c .before .before .starts-at2 .ensures) ∙ c .before .if2 .taken) (t .ensures .0) (t .ensures .1)
+    let a = c .before .before .before .before .before .before .before .before .before .before .before .before .args in
+    let t = c .before .before .tree-at in
+    constraint-yes (a .names .now) (a .n) (a .s .now) (a .at) (c .before .before .before .before .before .before
+    .before .before .before .before .before .before .pre .0) (t .result) _ (sym (c .before .before .before .before
+    .before .before .before .before .starts-at .ensures) ∙ c .before .before .before .before .before .before .before
+    .if1 .left)
+    (sym (c .before .before .before .before .before .starts-at2 .ensures) ∙ c .before .before .before .before .if2
+    .taken) (t .ensures .0) (t .ensures .1)
 
 no-clause-requires-2 : tie.Need-no-clause-requires-2
 no-clause-requires-2 c κs = search needs
 
 returns-3 : tie.Need-returns-3
 returns-3 c =
-    constraint-no (c .before .before .before .before .before .before .before .before .args .names .now) (c .before
-    .before .before .before .before .before .before .before .args .n) (c .before .before .before .before .before
-    .before .before .before .args .s .now) (c .before .before .before .before .before .before .before .before .args
-    .at) (omega arith) _ (sym (c .before .before .starts-at2 .ensures) ∙ c .before .if2 .left) (c .no-clause2
-    .ensures)
+    let a = c .before .before .before .before .before .before .before .before .before .args in
+    constraint-no (a .names .now) (a .n) (a .s .now) (a .at) (c .before .before .before .before .before .before
+    .before .before .before .pre .0) _ _ (sym (c .before .before .starts-at2 .ensures) ∙ c .before .if2 .left) (c
+    .no-clause2 .ensures)
 
 pub constraint-at-spec : {M : Type 1} → statement M
 constraint-at-spec =
@@ -81,6 +87,7 @@ constraint-at-spec =
     starts-at-requires-2
     add-tree-at
     tree-at-requires
+    same-length
     returns-2
     no-clause-requires-2
     returns-3)

@@ -21,37 +21,57 @@ add-constraint-at : tie.Need-add-constraint-at
 add-constraint-at c = search needs
 
 constraint-at-requires : tie.Need-constraint-at-requires
-constraint-at-requires c κs = search needs
+constraint-at-requires c κs = (
+  c .before .before .before .before .pre .0,
+  c .before .before .before .before .pre .1,
+  omega (arith, c .before .before .before .before .pre .2),
+  c .before .before .before .before .pre .3,
+)
 
 wrong-ends-requires : tie.Need-wrong-ends-requires
 wrong-ends-requires c κs = search needs
 
+same-length : tie.Need-same-length
+same-length c = search needs
+
 returns : tie.Need-returns
 returns c =
-    let x = c .before .before .before .before .constraint-at in
-    ends-none (c .before .before .before .before .before .before .args .names .now) (c .before .before .before
-    .before .before .before .args .n) (c .before .before .before .before .before .before .args .s .now) (c .before
-    .before .before .before .before .before .args .at) (x .result) (x .ensures .1) _ (c .wrong-ends .ensures)
+    let a = c .before .before .before .before .before .before .before .before .before .before .before .args in
+    let x = c .before .before .before .before .before .before .constraint-at in
+    ends-none (a .names .now) (a .n) (a .s .now) (a .at) (x .result) _ _ (x .ensures .1) _ (c .wrong-ends .ensures)
     (not-true (x .result .right) (c .before .if1 .taken))
 
 condition-at-requires : tie.Need-condition-at-requires
 condition-at-requires c κs =
-    let x = c .before .before .before .constraint-at in
-    let w = x .ensures .0 (not-false (x .result .right) (c .if1 .left)) in
-    (w .1, omega arith, omega arith)
+    let x = c .before .before .before .before .before .before .constraint-at in
+    let w = x .ensures .0 (not-false (x .result .right) (c .before .if1 .left)) in (
+      w .1,
+      c .before .before .before .before .before .before .before .before .before .before .before .pre .1,
+      omega
+          (arith, c .before .before .before .before .before .before .before .before .before .before .before .pre .2),
+      c
+          .before .before .before .before .before .before .before .before .before .before .before .pre .3,
+    )
 
 wrong-ends-requires-2 : tie.Need-wrong-ends-requires-2
 wrong-ends-requires-2 c κs = search needs
 
+same-length-2 : tie.Need-same-length-2
+same-length-2 c = search needs
+
+same-length-3 : tie.Need-same-length-3
+same-length-3 c = search needs
+
 returns-2 : tie.Need-returns-2
 returns-2 c =
-    let x = c .before .before .before .before .before .before .before .before .constraint-at in
-    let y = c .before .before .before .before .condition-at in
-    let first = not-false (x .result .right) (c .before .before .before .before .before .if1 .left) in
-    ends-later (c .before .before .before .before .before .before .before .before .before .before .args .names .now)
-    (c .before .before .before .before .before .before .before .before .before .before .args .n) (c .before .before
-    .before .before .before .before .before .before .before .before .args .s .now) (c .before .before .before .before
-    .before .before .before .before .before .before .args .at) (x .result) (x .ensures .1) first (y .result) (y
+    let a = c .before .before .before .before .before .before .before .before .before .before .before .before .before
+    .before .before .before .before .before .args in
+    let x = c .before .before .before .before .before .before .before .before .before .before .before .before .before
+    .constraint-at in
+    let y = c .before .before .before .before .before .before .condition-at in
+    let first = not-false (x .result .right) (c .before .before .before .before .before .before .before .before .if1
+    .left) in
+    ends-later (a .names .now) (a .n) (a .s .now) (a .at) (x .result) _ _ (x .ensures .1) first (y .result) (y
     .ensures .1) _ (c .wrong-ends2 .ensures)
     (not-true (y .result .right) (c .before .if2 .taken))
 
@@ -60,83 +80,98 @@ slice-aggregate-starts-at c = search needs
 
 starts-at-requires : tie.Need-starts-at-requires
 starts-at-requires c κs =
-    let y = c .before .before .before .before .condition-at in
+    let y = c .before .before .before .before .before .before .condition-at in
     y .ensures .0 (not-false (y .result .right) (c .before .if2 .left)) .1
 
 add-remark-ok : tie.Need-add-remark-ok
 add-remark-ok c =
-    let y = c .before .before .before .before .before .before .condition-at in
+    let y = c .before .before .before .before .before .before .before .before .condition-at in
     let w = y .ensures .0 (not-false (y .result .right) (c .before .before .before .if2 .left)) in
     let le : y .result .tree .next ≤ length (c .before .before .before .before .before .before .before .before
-    .before .before .before .before .args .s .now) = w .1 in
-    search needs
+    .before .before .before .before .before .before .before .before .before .before .before .before .args .s .now) =
+    w .1 in
+    let m = c .before .before .before .before .before .before .before .before .before .before .before .before .before
+    .before .before .before .before .before .before .before .pre .1 in
+    search (needs, m)
 
 remark-ok-requires : tie.Need-remark-ok-requires
 remark-ok-requires c κs =
-    let y = c .before .before .before .before .before .before .condition-at in
+    let y = c .before .before .before .before .before .before .before .before .condition-at in
     let w = y .ensures .0 (not-false (y .result .right) (c .before .before .before .if2 .left)) in
     clause-room (c .before .before .before .before .before .before .before .before .before .before .before .before
-    .args .s .now) (y .result .tree .next) (w .1) (bytes ".") (sym (c .before .starts-at .ensures) ∙ c .if3 .taken)
+    .before .before .before .before .before .before .before .before .args .s .now) (y .result .tree .next) (w .1)
+    (bytes ".") (sym (c .before .starts-at .ensures) ∙ c .if3 .taken)
+
+same-length-4 : tie.Need-same-length-4
+same-length-4 c = search needs
+
+same-length-5 : tie.Need-same-length-5
+same-length-5 c = search needs
 
 returns-3 : tie.Need-returns-3
 returns-3 c =
-    let x = c .before .before .before .before .before .before .before .before .before .before .before .before
-    .constraint-at in
-    let y = c .before .before .before .before .before .before .before .before .condition-at in
+    let a = c .before .before .before .before .before .before .before .before .before .before .before .before .before
+    .before .before .before .before .before .before .before .before .before .args in
+    let x = c .before .before .before .before .before .before .before .before .before .before .before .before .before
+    .before .before .before .before .constraint-at in
+    let y = c .before .before .before .before .before .before .before .before .before .before .condition-at in
     let first = not-false (x .result .right) (c .before .before .before .before .before .before .before .before
-    .before .if1 .left) in
+    .before .before .before .before .if1 .left) in
     let second = not-false (y .result .right) (c .before .before .before .before .before .if2 .left) in
     let w = y .ensures .0 second in
-    ends-whole (c .before .before .before .before .before .before .before .before .before .before .before .before
-    .before .before .args .names .now) (c .before .before .before .before .before .before .before .before .before
-    .before .before .before .before .before .args .n) (c .before .before .before .before .before .before .before
-    .before .before .before .before .before .before .before .args .s .now) (c .before .before .before .before .before
-    .before .before .before .before .before .before .before .before .before .args .at) (x .result) (x .ensures .1)
-    first (y .result)
-    (y .ensures .1) second (w .1) (sym (c .before .before .before .starts-at .ensures) ∙ c .before .before .if3
-    .taken) (sym (c .before .remark-ok .ensures) ∙ c .if4 .taken)
+    ends-whole (a .names .now) (a .n) (a .s .now) (a .at) (x .result) _ _ (x .ensures .1) first (y .result) (y
+    .ensures .1) second (w .1)
+    (sym (c .before .before .before .starts-at .ensures) ∙ c .before .before .if3 .taken) (sym (c .before .remark-ok
+    .ensures) ∙ c .if4 .taken)
 
 wrong-ends-requires-3 : tie.Need-wrong-ends-requires-3
 wrong-ends-requires-3 c κs = search needs
 
+same-length-6 : tie.Need-same-length-6
+same-length-6 c = search needs
+
+same-length-7 : tie.Need-same-length-7
+same-length-7 c = search needs
+
 returns-4 : tie.Need-returns-4
 returns-4 c =
+    let a = c .before .before .before .before .before .before .before .before .before .before .before .before .before
+    .before .before .before .before .before .before .before .before .before .before .args in
     let x = c .before .before .before .before .before .before .before .before .before .before .before .before .before
-    .constraint-at in
-    let y = c .before .before .before .before .before .before .before .before .before .condition-at in
+    .before .before .before .before .before .constraint-at in
+    let y = c .before .before .before .before .before .before .before .before .before .before .before .condition-at in
     let first = not-false (x .result .right) (c .before .before .before .before .before .before .before .before
-    .before .before .if1 .left) in
+    .before .before .before .before .before .if1 .left) in
     let second = not-false (y .result .right) (c .before .before .before .before .before .before .if2 .left) in
     let w = y .ensures .0 second in
-    ends-remark (c .before .before .before .before .before .before .before .before .before .before .before .before
-    .before .before .before .args .names .now) (c .before .before .before .before .before .before .before .before
-    .before .before .before .before .before .before .before .args .n) (c .before .before .before .before .before
-    .before .before .before .before .before .before .before .before .before .before .args .s .now) (c .before .before
-    .before .before .before .before .before .before .before .before .before .before .before .before .before .args
-    .at) (x .result) (x .ensures .1) first (y .result)
-    (y .ensures .1) second (w .1) _ (c .wrong-ends3 .ensures) (sym (c .before .before .before .before .starts-at
-    .ensures) ∙ c .before .before .before .if3 .taken)
-    (sym (c .before .before .remark-ok .ensures) ∙ c .before .if4 .left)
+    ends-remark (a .names .now) (a .n) (a .s .now) (a .at) (x .result) _ _ (x .ensures .1) first (y .result) (y
+    .ensures .1) second (w .1) _
+    (c .wrong-ends3 .ensures) (sym (c .before .before .before .before .starts-at .ensures) ∙ c .before .before
+    .before .if3 .taken) (sym (c .before .before .remark-ok .ensures) ∙ c .before .if4 .left)
 
 wrong-ends-requires-4 : tie.Need-wrong-ends-requires-4
 wrong-ends-requires-4 c κs = search needs
 
+same-length-8 : tie.Need-same-length-8
+same-length-8 c = search needs
+
+same-length-9 : tie.Need-same-length-9
+same-length-9 c = search needs
+
 returns-5 : tie.Need-returns-5
 returns-5 c =
-    let x = c .before .before .before .before .before .before .before .before .before .before .before .constraint-at
-    in
-    let y = c .before .before .before .before .before .before .before .condition-at in
-    let first = not-false (x .result .right) (c .before .before .before .before .before .before .before .before .if1
-    .left) in
+    let a = c .before .before .before .before .before .before .before .before .before .before .before .before .before
+    .before .before .before .before .before .before .before .before .args in
+    let x = c .before .before .before .before .before .before .before .before .before .before .before .before .before
+    .before .before .before .constraint-at in
+    let y = c .before .before .before .before .before .before .before .before .before .condition-at in
+    let first = not-false (x .result .right) (c .before .before .before .before .before .before .before .before
+    .before .before .before .if1 .left) in
     let second = not-false (y .result .right) (c .before .before .before .before .if2 .left) in
     let w = y .ensures .0 second in
-    ends-unstopped (c .before .before .before .before .before .before .before .before .before .before .before .before
-    .before .args .names .now) (c .before .before .before .before .before .before .before .before .before .before
-    .before .before .before .args .n) (c .before .before .before .before .before .before .before .before .before
-    .before .before .before .before .args .s .now) (c .before .before .before .before .before .before .before .before
-    .before .before .before .before .before .args .at) (x .result) (x .ensures .1) first (y .result)
-    (y .ensures .1) second (w .1) _ (c .wrong-ends4 .ensures) (sym (c .before .before .starts-at .ensures) ∙ c
-    .before .if3 .left)
+    ends-unstopped (a .names .now) (a .n) (a .s .now) (a .at) (x .result) _ _ (x .ensures .1) first (y .result) (y
+    .ensures .1) second (w .1) _
+    (c .wrong-ends4 .ensures) (sym (c .before .before .starts-at .ensures) ∙ c .before .if3 .left)
 
 pub ends-at-spec : {M : Type 1} → statement M
 ends-at-spec =
@@ -145,16 +180,25 @@ ends-at-spec =
     add-constraint-at
     constraint-at-requires
     wrong-ends-requires
+    same-length
     returns
     condition-at-requires
     wrong-ends-requires-2
+    same-length-2
+    same-length-3
     returns-2
     slice-aggregate-starts-at
     starts-at-requires
     add-remark-ok
     remark-ok-requires
+    same-length-4
+    same-length-5
     returns-3
     wrong-ends-requires-3
+    same-length-6
+    same-length-7
     returns-4
     wrong-ends-requires-4
+    same-length-8
+    same-length-9
     returns-5)

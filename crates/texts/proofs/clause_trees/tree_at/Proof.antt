@@ -9,11 +9,14 @@ use Rattle.texts.proofs.stored_trees.stored_tree.Reads as stored-tree-r
 stored-tree-requires : tie.Need-stored-tree-requires
 stored-tree-requires c κs = search needs
 
+same-length : tie.Need-same-length
+same-length c = search needs
+
 returns : tie.Need-returns
 returns c =
-    let t = c .before .stored-tree in
-    clause-tree (c .before .before .before .args .names .now) (c .before .before .before .args .n) (c .before .before
-    .before .args .s .now) (c .before .before .before .args .at) (t .result) (t .ensures .0) (t .ensures .1)
+    let a = c .before .before .before .before .before .before .before .args in
+    let t = c .before .before .before .stored-tree in
+    clause-tree (a .names .now) (a .n) (a .s .now) (a .at) (t .result) _ (t .ensures .0) (t .ensures .1)
 
 pub tree-at-spec : {M : Type 1} → statement M
-tree-at-spec = tie.close (tie.spec stored-tree-requires returns)
+tree-at-spec = tie.close (tie.spec stored-tree-requires same-length returns)

@@ -1,4 +1,4 @@
-use mathlib.Core.Path.{_≡_, sym, _∙_}
+use mathlib.Core.Path.{sym, _∙_}
 use native.Mathlib.Omega.{arith}
 use Rattle.texts.proofs.StateSteps.{taken-wrong, holds-wrong}
 use Rattle.texts.proofs.HeadSteps.{behind-none, behind-read, named-line, unnamed-line, name-fits, name-put}

@@ -16,16 +16,22 @@ use Rattle.texts.proofs.head_lines.take_row.Statement.{statement}
 use Rattle.texts.proofs.head_lines.take_row.Tie as tie
 use Rattle.texts.proofs.head_lines.take_row.Reads as reads
 use Rattle.texts.proofs.head_lines.take_row.Lts as lts
+use Rattle.names.proofs.classes.class_table.Reads as class-table-reads
 use Rattle.texts.proofs.slots.put_row.Reads as put-row-reads
 use Rattle.texts.proofs.states.onward.Reads as onward-reads
 use Rattle.texts.proofs.states.wrong.Reads as wrong-reads
 
+class-table-requires : tie.Need-class-table-requires
+class-table-requires c κs = search needs
+
 put-row-requires : tie.Need-put-row-requires
-put-row-requires c κs = let k = c .before .before .before .pre .0 in (
-  k .width,
-  omega
-      (arith, k .slots, k .cells, c .before .before .before .pre .2),
-)
+put-row-requires c κs =
+    let k = c .before .before .before .before .before .pre .0 in (
+      k .width,
+      omega (arith, k .slots, k .cells, c .before .before .before .before .before .pre .2),
+      c .before .before
+          .class-table .ensures,
+    )
 
 enum-known-row : tie.Need-enum-known-row
 enum-known-row c = search needs
@@ -34,30 +40,34 @@ enum-told : tie.Need-enum-told
 enum-told c = search needs
 
 wrong-requires : tie.Need-wrong-requires
-wrong-requires c κs = c .before .before .before .before .before .before .before .before .pre .1
+wrong-requires c κs = c .before .before .before .before .before .before .before .before .before .before .pre .1
 
 same-length : tie.Need-same-length
 same-length c = search needs
 
 returns : tie.Need-returns
 returns c =
-    let r = c .before .before .before .before .before .before .before .before .before .args .r in
-    let l = now (c .before .before .before .before .before .before .before .before .before .args .line) in
+    let r = c .before .before .before .before .before .before .before .before .before .before .before .args .r in
+    let l = now (c .before .before .before .before .before .before .before .before .before .before .before .args
+    .line) in
     let q = row-none _ _ _ _ (readRow (r .width) l) (c .before .before .before .before .before .put-row .ensures)
     (c .before .enum-told .given .1) in
     rw (c .wrong .ensures) (
-      taken-wrong r (c .before .before .before .before .before .before .before .before .before .pre .0),
+      taken-wrong r (c .before .before .before .before .before .before .before .before .before .before .before .pre
+          .0),
       (λ table f labels shorts names k b h.
           let e : readRow (f .width) l ≡ none = subst (λ (w : ℕ). readRow w l ≡ none) (h .counts .width) (q .0) in
           rw (e, q .1) (holds-wrong f r h)),
     )
 
 sub-most : tie.Need-sub-most
-sub-most c = let q = c .before .before .before .before .before .before .before .before .before .before .pre .0 .cells
+sub-most c = let q = c .before .before .before .before .before .before .before .before .before .before .before .before
+    .pre .0 .cells
     in search (needs, q)
 
 onward-requires : tie.Need-onward-requires
-onward-requires c κs = c .before .before .before .before .before .before .before .before .before .before .before .pre .1
+onward-requires c κs = c .before .before .before .before .before .before .before .before .before .before .before
+    .before .before .pre .1
 
 same-length-2 : tie.Need-same-length-2
 same-length-2 c = search needs
@@ -65,11 +75,13 @@ same-length-2 c = search needs
 returns-2 : tie.Need-returns-2
 unfolding noteOf
 returns-2 c =
-    let r = c .before .before .before .before .before .before .before .before .before .before .before .before .args
+    let r = c .before .before .before .before .before .before .before .before .before .before .before .before .before
+    .before .args
     .r in
     let l = now (c .before .before .before .before .before .before .before .before .before .before .before .before
-    .args .line) in
-    let room = c .before .before .before .before .before .before .before .before .before .before .before .before .pre
+    .before .before .args .line) in
+    let room = c .before .before .before .before .before .before .before .before .before .before .before .before
+    .before .before .pre
     .0 in
     let p = row-some _ _ _ _ (readRow (r .width) l) _ _
     (c .before .before .before .before .before .before .before .before .put-row .ensures)
@@ -84,18 +96,18 @@ returns-2 c =
             arith,
             room .slots,
             room .cells,
-            c .before .before .before .before .before .before .before .before .before
-                .before .before .before .pre .2,
+            c .before .before .before .before .before .before .before .before .before .before .before .before .before
+                .before .pre .2,
           )))),
     )
 
 add-r : tie.Need-add-r
 add-r c = let q = c .before .before .before .before .before .before .before .before .before .before .before .before
-    .pre .0 .cells in let k = c .before .if1 .left in omega (arith, q, k)
+    .before .before .pre .0 .cells in let k = c .before .if1 .left in omega (arith, q, k)
 
 onward-requires-2 : tie.Need-onward-requires-2
 onward-requires-2 c κs = c .before .before .before .before .before .before .before .before .before .before .before
-    .before .before .pre .1
+    .before .before .before .before .pre .1
 
 same-length-3 : tie.Need-same-length-3
 same-length-3 c = search needs
@@ -103,11 +115,11 @@ same-length-3 c = search needs
 returns-3 : tie.Need-returns-3
 returns-3 c =
     let r = c .before .before .before .before .before .before .before .before .before .before .before .before .before
-    .before .args .r in
+    .before .before .before .args .r in
     let l = now (c .before .before .before .before .before .before .before .before .before .before .before .before
-    .before .before .args .line) in
+    .before .before .before .before .args .line) in
     let room = c .before .before .before .before .before .before .before .before .before .before .before .before
-    .before .before .pre .0 in
+    .before .before .before .before .pre .0 in
     let p = row-some _ _ _ _ (readRow (r .width) l) _ _
     (c .before .before .before .before .before .before .before .before .before .before .put-row .ensures)
     (c .before .before .before .before .before .before .row .given .1) in
@@ -135,6 +147,7 @@ pub take-row-spec : {M : Type 1} → statement M
 take-row-spec =
     tie.close
     (tie.spec
+    class-table-requires
     put-row-requires
     enum-known-row
     enum-told

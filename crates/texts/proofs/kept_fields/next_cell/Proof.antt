@@ -2,7 +2,6 @@ use mathlib.Core.Path.{sym, _∙_}
 use native.Mathlib.Omega.{arith}
 use denote.Ref.{now}
 use Rattle.texts.proofs.SlotPlaces.{none-next, slot-here}
-use borrow.Author.Needs.{needs}
 use Rattle.texts.proofs.kept_fields.next_cell.Statement.{statement}
 use Rattle.texts.proofs.kept_fields.next_cell.Tie as tie
 use Rattle.texts.proofs.kept_fields.next_cell.Reads as reads

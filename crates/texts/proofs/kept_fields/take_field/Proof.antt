@@ -20,6 +20,7 @@ use Rattle.texts.proofs.kept_fields.take_field.Statement.{statement}
 use Rattle.texts.proofs.kept_fields.take_field.Tie as tie
 use Rattle.texts.proofs.kept_fields.take_field.Reads as reads
 use Rattle.texts.proofs.kept_fields.take_field.Lts as lts
+use Rattle.names.proofs.classes.class_table.Reads as class-table-reads
 use Rattle.texts.proofs.kept_fields.is_full.Reads as is-full-reads
 use Rattle.texts.proofs.kept_fields.refuse_line.Reads as refuse-line-reads
 use Rattle.texts.proofs.kept_fields.take_form.Reads as take-form-reads
@@ -46,51 +47,110 @@ returns c =
       ),
     )
 
+class-table-requires : tie.Need-class-table-requires
+class-table-requires c κs = search needs
+
+slice-aggregate-parts-of : tie.Need-slice-aggregate-parts-of
+slice-aggregate-parts-of c = search needs
+
+slice-aggregate-parts-of-2 : tie.Need-slice-aggregate-parts-of-2
+slice-aggregate-parts-of-2 c = search needs
+
+slice-aggregate-parts-of-3 : tie.Need-slice-aggregate-parts-of-3
+slice-aggregate-parts-of-3 c = search needs
+
 parts-of-requires : tie.Need-parts-of-requires
 parts-of-requires c κs =
-    let few = full-room (c .before .before .before .before .before .before .args .r) (sym (c .before .before .is-full .ensures) ∙ c .before .if1 .left) in
-    (c .before .before .before .before .before .before .pre .2, omega (arith, few, c .before .before .before .before .before .before .pre .0 .fields))
+    let few = full-room (c .before .before .before .before .before .before .before .before .before .before .before
+    .args .r) (sym (c .before .before .before .before .before .before .before .is-full .ensures) ∙ c .before .before
+    .before .before .before .before .if1 .left) in (
+      c .before .before .before .before .before .before .before .before .before .before .before .pre .2,
+      omega (
+        arith,
+        few,
+        c .before .before .before .before .before .before .before .before .before .before .before .pre .0 .fields,
+      ),
+      c .before .before .before .before .before .class-table .ensures,
+    )
 
 refuse-line-requires : tie.Need-refuse-line-requires
 refuse-line-requires c κs = (
-  c .before .before .before .before .before .before .before .before .before .pre .0,
-  c .before .before .before .before .before .before .before .before .before .pre .1,
-  full-room (c .before .before .before .before .before .before .before .before .before .args .r) (sym (c .before .before .before .before .before .is-full .ensures) ∙ c .before .before .before .before .if1 .left),
+  c .before .before .before .before .before .before .before .before .before .before .before .before .before .before
+      .before .before .before .pre .0,
+  c .before .before .before .before .before .before .before .before .before .before .before .before .before .before
+      .before .before .before .pre .1,
+  full-room (c .before .before .before .before .before .before .before .before .before .before .before .before
+      .before .before .before .before .before .args .r) (sym (c .before .before .before .before .before .before
+      .before .before .before .before .before .before .before .is-full .ensures) ∙ c .before .before .before .before
+      .before .before .before .before .before .before .before .before .if1 .left),
   omega arith,
   omega arith,
 )
 
 returns-2 : tie.Need-returns-2
 returns-2 c =
-    let r = c .before .before .before .before .before .before .before .before .before .before .args .r in
-    let l = now (c .before .before .before .before .before .before .before .before .before .before .args .line) in
-    let p = c .before .before .before .parts-of .result in
-    let o = c .before .before .before .parts-of .ensures in
-    let e = form-none _ (r .fields) l (readForm l) p (o .1) (c .before .if2 .taken) in
+    let r = c .before .before .before .before .before .before .before .before .before .before .before .before .before
+    .before .before .before .before .before .args .r in
+    let l = now (c .before .before .before .before .before .before .before .before .before .before .before .before
+    .before .before .before .before .before .before .args .line) in
+    let p = c .before .before .before .before .before .before .parts-of .result in
+    let o = c .before .before .before .before .before .before .parts-of .ensures in
+    let e = form-none _ (r .fields) l (readForm l) _ p (o .1) (c .before .if2 .taken) in
     let q = c .refuse-line .ensures in (
       q .0,
       (
         refl,
         (λ f k h. rw (q .1 .0) (holds-formless f r (holds-kept f r h (o .0)) l (c .refuse-line .result .note)
-            (sym (full-same f r (h .counts)) ∙ sym (c .before .before .before .before .before .before .is-full .ensures) ∙ c .before .before .before .before .before .if1 .left) e (q .1 .1))),
+            (sym (full-same f r (h .counts)) ∙ sym (c .before .before .before .before .before .before .before .before
+            .before .before .before .before .before .before .is-full .ensures) ∙ c .before .before .before
+            .before .before .before .before .before .before .before .before .before .before .if1 .left) e (q .1
+            .1))),
       ),
     )
 
 sizes-kept-requires : tie.Need-sizes-kept-requires
 sizes-kept-requires c κs = search needs
 
+slice-aggregate-take-form : tie.Need-slice-aggregate-take-form
+slice-aggregate-take-form c = search needs
+
+slice-aggregate-take-form-2 : tie.Need-slice-aggregate-take-form-2
+slice-aggregate-take-form-2 c = search needs
+
+slice-aggregate-take-form-3 : tie.Need-slice-aggregate-take-form-3
+slice-aggregate-take-form-3 c = search needs
+
 take-form-requires : tie.Need-take-form-requires
 take-form-requires c κs =
-    let r = c .before .before .before .before .before .before .before .before .before .before .before .before .before .before .args .r in
-    let l = now (c .before .before .before .before .before .before .before .before .before .before .before .before .before .before .args .line) in
-    let p = c .before .before .before .before .before .before .before .parts-of .result in
-    let x = form-some _ (r .fields) l (readForm l) p (c .before .before .before .before .before .before .before .parts-of .ensures .1) (c .before .before .before .before .before .if2 .left) in
-    let small = sym (c .before .before .before .before .sizes-kept .ensures _ (r .fields) l (x .0) (x .2)) ∙ c .before .before .before .if3 .taken in (
-      c .before .before .before .before .before .before .before .before .before .before .before .before .before .before .pre,
-      full-room r (sym (c .before .before .before .before .before .before .before .before .before .before .is-full .ensures) ∙ c .before .before .before .before .before .before .before .before .before .if1 .left),
+    let r = c .before .before .before .before .before .before .before .before .before .before .before .before .before
+    .before .before .before .before .before .before .before .before .before .before .before .before .args .r in
+    let l = now (c .before .before .before .before .before .before .before .before .before .before .before .before
+    .before .before .before .before .before .before .before .before .before .before .before .before .before .args
+    .line) in
+    let p = c .before .before .before .before .before .before .before .before .before .before .before .before .before
+    .parts-of .result in
+    let x = form-some _ (r .fields) l (readForm l) _ p (c .before .before .before .before .before .before .before
+    .before .before .before .before .before .before .parts-of .ensures .1) (c .before .before .before .before .before
+    .before .before .before .if2 .left) in
+    let small = sym (c .before .before .before .before .before .before .before .sizes-kept .ensures _ (r .fields) l
+    (x .0) _ (x .2)) ∙ c .before .before .before .before .before .before .if3 .taken in (
+      c .before .before .before .before .before .before .before .before .before .before .before .before .before
+          .before .before .before .before .before .before .before .before .before .before .before .before .pre,
+      full-room r (sym (c .before .before .before .before .before .before .before .before .before .before .before
+          .before .before .before .before .before .before .before .before .before .before .is-full .ensures) ∙ c
+          .before .before .before .before .before .before .before .before .before .before .before .before .before
+          .before .before .before .before .before .before .before .if1 .left),
       (
-        parts-writable _ (r .fields) l (x .0) p (x .2) small,
-        field-most _ (r .fields) l (x .0) p (x .2) small (line-formed l (x .0) (x .1)),
+        parts-writable _ (r .fields) l (x .0) _ p (x .2) small,
+        field-most _ (r .fields) l (x .0) _ p (x .2) small (line-formed l (x .0) (x .1)),
+        record {
+          width = (let k = c .before .before .before .before .before .before .before .before .before .before .before
+              .before .before .parts-of .kept .1 .1 .1 .1 .0 in omega (arith, k));
+          constraint = (let k = c .before .before .before .before .before .before .before .before .before .before
+              .before .before .before .parts-of .kept .1 .1 .1 .1 .1 .0 in omega (arith, k));
+          condition = (let k = c .before .before .before .before .before .before .before .before .before .before
+              .before .before .before .parts-of .kept .1 .1 .1 .1 .1 .1 .0 in omega (arith, k));
+        },
       ),
     )
 
@@ -99,46 +159,70 @@ same-length c = search needs
 
 returns-3 : tie.Need-returns-3
 returns-3 c =
-    let r = c .before .before .before .before .before .before .before .before .before .before .before .before .before .before .before .before .before .args .r in
-    let l = now (c .before .before .before .before .before .before .before .before .before .before .before .before .before .before .before .before .before .args .line) in
-    let p = c .before .before .before .before .before .before .before .before .before .before .parts-of .result in
-    let o = c .before .before .before .before .before .before .before .before .before .before .parts-of .ensures in
-    let x = form-some _ (r .fields) l (readForm l) p (o .1) (c .before .before .before .before .before .before .before .before .if2 .left) in
-    let small = sym (c .before .before .before .before .before .before .before .sizes-kept .ensures _ (r .fields) l (x .0) (x .2)) ∙ c .before .before .before .before .before .before .if3 .taken in
+    let r = c .before .before .before .before .before .before .before .before .before .before .before .before .before
+    .before .before .before .before .before .before .before .before .before .before .before .before .before .before
+    .before .args .r in
+    let l = now (c .before .before .before .before .before .before .before .before .before .before .before .before
+    .before .before .before .before .before .before .before .before .before .before .before .before .before .before
+    .before .before .args .line) in
+    let p = c .before .before .before .before .before .before .before .before .before .before .before .before .before
+    .before .before .before .parts-of .result in
+    let o = c .before .before .before .before .before .before .before .before .before .before .before .before .before
+    .before .before .before .parts-of .ensures in
+    let x = form-some _ (r .fields) l (readForm l) _ p (o .1) (c .before .before .before .before .before .before
+    .before .before .before .before .before .if2 .left) in
+    let small = sym (c .before .before .before .before .before .before .before .before .before .before .sizes-kept
+    .ensures _ (r .fields) l (x .0) _ (x .2)) ∙ c .before .before .before .before .before .before .before .before
+    .before .if3 .taken in
     let q = c .before .before .take-form .ensures in (
       q .0,
       (
         q .1 .0,
         (λ f k h. q .1 .1 f (x .0) _ k
-            (sym (full-same f r (h .counts)) ∙ sym (c .before .before .before .before .before .before .before .before .before .before .before .before .before .is-full .ensures) ∙ c .before .before .before .before .before .before .before .before .before .before .before .before .if1 .left)
+            (sym (full-same f r (h .counts)) ∙ sym (c .before .before .before .before .before .before .before .before
+            .before .before .before .before .before .before .before .before .before .before .before .before
+            .before .before .before .before .is-full .ensures) ∙ c .before .before .before .before .before
+            .before .before .before .before .before .before .before .before .before .before .before .before
+            .before .before .before .before .before .before .if1 .left)
             (holds-kept f r h (o .0)) (x .1) small (x .2)),
       ),
     )
 
 refuse-line-requires-2 : tie.Need-refuse-line-requires-2
 refuse-line-requires-2 c κs = (
-  c .before .before .before .before .before .before .before .before .before .before .before .pre .0,
-  c .before .before .before .before .before .before .before .before .before .before .before .pre .1,
-  full-room (c .before .before .before .before .before .before .before .before .before .before .before .args .r) (sym (c .before .before .before .before .before .before .before .is-full .ensures) ∙ c .before .before .before .before .before .before .if1 .left),
+  c .before .before .before .before .before .before .before .before .before .before .before .before .before .before
+      .before .before .before .before .before .pre .0,
+  c .before .before .before .before .before .before .before .before .before .before .before .before .before .before
+      .before .before .before .before .before .pre .1,
+  full-room (c .before .before .before .before .before .before .before .before .before .before .before .before
+      .before .before .before .before .before .before .before .args .r) (sym (c .before .before .before .before
+      .before .before .before .before .before .before .before .before .before .before .before .is-full .ensures) ∙ c
+      .before .before .before .before .before .before .before .before .before .before .before .before .before .before
+      .if1 .left),
   omega arith,
   omega arith,
 )
 
 returns-4 : tie.Need-returns-4
 returns-4 c =
-    let r = c .before .before .before .before .before .before .before .before .before .before .before .before .args .r in
-    let l = now (c .before .before .before .before .before .before .before .before .before .before .before .before .args .line) in
-    let p = c .before .before .before .before .before .parts-of .result in
-    let o = c .before .before .before .before .before .parts-of .ensures in
-    let x = form-some _ (r .fields) l (readForm l) p (o .1) (c .before .before .before .if2 .left) in
+    let r = c .before .before .before .before .before .before .before .before .before .before .before .before .before
+    .before .before .before .before .before .before .before .args .r in
+    let l = now (c .before .before .before .before .before .before .before .before .before .before .before .before
+    .before .before .before .before .before .before .before .before .args .line) in
+    let p = c .before .before .before .before .before .before .before .before .parts-of .result in
+    let o = c .before .before .before .before .before .before .before .before .parts-of .ensures in
+    let x = form-some _ (r .fields) l (readForm l) _ p (o .1) (c .before .before .before .if2 .left) in
     let q = c .refuse-line2 .ensures in
     let large : all isSmall (trees (x .0)) ≡ false =
-    sym (c .before .before .sizes-kept .ensures _ (r .fields) l (x .0) (x .2)) ∙ c .before .if3 .left in (
+    sym (c .before .before .sizes-kept .ensures _ (r .fields) l (x .0) _ (x .2)) ∙ c .before .if3 .left in (
       q .0,
       (
         refl,
         (λ f k h. rw (q .1 .0) (holds-closed f r (holds-kept f r h (o .0)) l (x .0) (c .refuse-line2 .result .note)
-            (sym (full-same f r (h .counts)) ∙ sym (c .before .before .before .before .before .before .before .before .is-full .ensures) ∙ c .before .before .before .before .before .before .before .if1 .left) (x .1)
+            (sym (full-same f r (h .counts)) ∙ sym (c .before .before .before .before .before .before .before .before
+            .before .before .before .before .before .before .before .before .is-full .ensures) ∙ c .before
+            .before .before .before .before .before .before .before .before .before .before .before .before
+            .before .before .if1 .left) (x .1)
             (q .1 .1 ∙ large-note f r (x .0) (h .counts) large)
             (ap isOpen (q .1 .1) ∙ shut-six (noteOf (r .note)) (r .lines + 1)))),
       ),
@@ -151,10 +235,17 @@ take-field-spec =
     is-full-requires
     onward-requires
     returns
+    class-table-requires
+    slice-aggregate-parts-of
+    slice-aggregate-parts-of-2
+    slice-aggregate-parts-of-3
     parts-of-requires
     refuse-line-requires
     returns-2
     sizes-kept-requires
+    slice-aggregate-take-form
+    slice-aggregate-take-form-2
+    slice-aggregate-take-form-3
     take-form-requires
     same-length
     returns-3

@@ -1,9 +1,11 @@
 use mathlib.Core.Path.{_≡_, refl, ap, sym, _∙_}
-use mathlib.Core.Bool.{true}
-use Prim.Native.Nat.{ℕ, _+_, _<_}
+use mathlib.Core.Bool.{true, false}
+use Prim.Native.Nat.{_<_}
 use native.Mathlib.Omega.{arith}
 use denote.Ref.{now}
 use Rattle.rules.specs.Limits.{fieldsMost}
+use Rattle.text_laws.specs.Judging.{isOpen}
+use Rattle.texts.specs.HeldParts.{bytesOf}
 use Rattle.texts.specs.Noted.{noteOf}
 use Rattle.texts.specs.States.{isTold}
 use Rattle.texts.proofs.FormRules.{form-short, all-formed}
@@ -27,15 +29,19 @@ use Rattle.texts.proofs.states.onward.Reads as onward-reads
 
 hold-names-requires : tie.Need-hold-names-requires
 hold-names-requires c κs =
-    let w = c .before .before .before .before .before .pre .2 .0 in
-    let few : c .before .before .before .before .before .args .r .fields < fieldsMost = omega (arith, c .before .before .before .before .before .pre .0 .0 .fields, c .before .before .before .before .before .pre .1) in
+    let a = c .before .before .before .before .before .before .before .before .args in
+    let q = c .before .before .before .before .before .before .before .before .pre in
+    let w = q .2 .0 in
+    let few : a .r .fields < fieldsMost = omega (arith, q .0 .0 .fields, q .1) in
     ((w .label, w .short), few)
 
 later-rule-requires : tie.Need-later-rule-requires
 later-rule-requires c κs =
-    let w = c .before .before .before .before .before .before .before .before .pre .2 .0 in
-    let few : c .before .before .before .before .before .before .before .before .args .r .fields < fieldsMost = omega (arith, c .before .before .before .before .before .before .before .before .pre .0 .0 .fields, c .before .before .before .before .before .before .before .before .pre .1) in
-    (c .before .before .before .before .before .before .before .before .pre .0 .0, c .before .before .before .before .before .before .before .before .pre .0 .1, few, (w .label, w .short), c .before .before .before .before .before .before .before .before .pre .0 .3)
+    let a = c .before .before .before .before .before .before .before .before .before .before .before .args in
+    let q = c .before .before .before .before .before .before .before .before .before .before .before .pre in
+    let w = q .2 .0 in
+    let few : a .r .fields < fieldsMost = omega (arith, q .0 .0 .fields, q .1) in
+    (q .0 .0, q .0 .1, few, (w .label, w .short), q .0 .3)
 
 lower-requires : tie.Need-lower-requires
 lower-requires c κs = search needs
@@ -45,89 +51,133 @@ is-open-requires c κs = search needs
 
 put-field-requires : tie.Need-put-field-requires
 put-field-requires c κs =
-    let few : c .before .before .before .before .before .before .before .before .before .before .before .before .before .args .r .fields < fieldsMost = omega (arith, c .before .before .before .before .before .before .before .before .before .before .before .before .before .pre .0 .0 .fields, c .before .before .before .before .before .before .before .before .before .before .before .before .before .pre .1) in
-    (c .before .before .before .before .before .before .before .before .before .before .before .before .before .pre .2 .0, c .before .before .before .before .before .before .before .before .before .before .before .before .before .pre .0 .2, omega (arith, c .before .before .before .before .before .before .before .before .before .before .before .before .before .pre .2 .1, c .before .before .before .before .before .before .before .before .before .before .before .before .before .pre .0 .0 .end, few, c .before .before .before .before .before .before .before .before .before .before .before .before .before .pre .0 .4))
+    let a = c .before .before .before .before .before .before .before .before .before .before .before .before .before
+    .before .before .before .args in
+    let q = c .before .before .before .before .before .before .before .before .before .before .before .before .before
+    .before .before .before .pre in
+    let few : a .r .fields < fieldsMost = omega (arith, q .0 .0 .fields, q .1) in
+    (q .2 .0, q .0 .2, omega (arith, q .2 .1, q .0 .0 .end, few, q .0 .4), q .2 .2)
 
 next-cell-requires : tie.Need-next-cell-requires
-next-cell-requires c κs = (c .before .before .before .before .before .before .before .before .before .before .before .before .before .before .before .before .pre .0 .0, c .before .before .before .before .before .before .before .before .before .before .before .before .before .before .before .before .pre .0 .3)
+next-cell-requires c κs =
+    let q = c .before .before .before .before .before .before .before .before .before .before .before .before .before
+    .before .before .before .before .before .before .pre in
+    (q .0 .0, q .0 .3)
 
 rests-requires : tie.Need-rests-requires
 rests-requires c κs = search needs
 
 add-r : tie.Need-add-r
-add-r c = let q = c .before .before .before .before .before .before .before .before .before .before .before .before .before .before .before .before .before .before .before .pre .1 in let k = c .before .before .before .before .before .before .before .before .before .before .before .before .before .before .before .before .before .before .before .pre .0 .0 .fields in search (needs, q, k)
+add-r c =
+    let p = c .before .before .before .before .before .before .before .before .before .before .before .before .before
+    .before .before .before .before .before .before .before .before .before .pre in
+    let q = p .1 in
+    let k = p .0 .0 .fields in
+    search (needs, q, k)
 
 add-r-2 : tie.Need-add-r-2
-add-r-2 c = let q = c .before .before .before .before .before .before .before .before .before .before .before .before .before .before .before .before .before .before .before .before .pre .1 in let k = c .before .before .before .before .before .before .before .before .before .before .before .before .before .before .before .before .before .before .before .before .pre .0 .0 .fields in search (needs, q, k)
+add-r-2 c =
+    let p = c .before .before .before .before .before .before .before .before .before .before .before .before .before
+    .before .before .before .before .before .before .before .before .before .before .pre in
+    let q = p .1 in
+    let k = p .0 .0 .fields in
+    search (needs, q, k)
 
 onward-requires : tie.Need-onward-requires
-onward-requires c κs = c .before .before .before .before .before .before .before .before .before .before .before .before .before .before .before .before .before .before .before .before .pre .0 .1
+onward-requires c κs = c .before .before .before .before .before .before .before .before .before .before .before
+    .before .before .before .before .before .before .before .before .before .before .before .before .pre .0 .1
 
 same-length : tie.Need-same-length
 same-length c = search needs
 
 returns : tie.Need-returns
 returns c =
-    let a = c .before .before .before .before .before .before .before .before .before .before .before .before .before .before .before .before .before .before .before .before .before .args in
+    let a = c .before .before .before .before .before .before .before .before .before .before .before .before .before
+    .before .before .before .before .before .before .before .before .before .before .before .args in
+    let q = c .before .before .before .before .before .before .before .before .before .before .before .before .before
+    .before .before .before .before .before .before .before .before .before .before .before .pre in
+    let held = c .before .before .before .before .before .before .before .before .before .before .before .before
+    .before .before .before .hold-names .ensures in
+    let rule = c .before .before .before .before .before .before .before .before .before .before .before .before
+    .later-rule in
+    let lowest = c .before .before .before .before .before .before .before .before .before .before .before .lower in
+    let put = c .before .before .before .before .before .before .before .put-field in
+    let cell = c .before .before .before .before .next-cell in
+    let rest = c .before .before .before .rests in
     let r = a .r in
     let l = now (a .line) in
-    let room = c .before .before .before .before .before .before .before .before .before .before .before .before .before .before .before .before .before .before .before .before .before .pre .0 .0 in
-    let few : r .fields < fieldsMost = omega (arith, room .fields, c .before .before .before .before .before .before .before .before .before .before .before .before .before .before .before .before .before .before .before .before .before .pre .1) in
-    let told : isTold (noteOf (c .before .before .before .before .before .before .before .before .before .before .before .lower .result)) ≡ true =
-    ap isTold (c .before .before .before .before .before .before .before .before .before .before .before .lower .ensures)
-    ∙ told-lower (noteOf (r .note)) (noteOf (c .before .before .before .before .before .before .before .before .before .before .before .before .later-rule .result)) (room .told) (c .before .before .before .before .before .before .before .before .before .before .before .before .later-rule .ensures .0) in
-    let w = c .before .before .before .before .before .before .before .put-field .ensures .1 in
-    let z = c .before .before .before .before .before .before .before .put-field .ensures .0 in
+    let v = bytesOf (now (a .wide)) (now (a .first)) (now (a .second)) in
+    let room = q .0 .0 in
+    let few : r .fields < fieldsMost = omega (arith, room .fields, q .1) in
+    let told : isTold (noteOf (lowest .result)) ≡ true =
+    ap isTold (lowest .ensures)
+    ∙ told-lower (noteOf (r .note)) (noteOf (rule .result)) (room .told) (rule .ensures .0) in
+    let w = put .ensures .1 in
+    let z = put .ensures .0 in
+    let kept : isOpen (noteOf (lowest .result)) ≡ true = sym
+    (c .before .before .before .before .before .before .before .before .before .before .is-open .ensures)
+    ∙ c .before .before .before .before .before .before .before .before .before .if1 .taken in
     rw (c .onward .ensures) (
       (
-        room-kept r (c .before .before .before .before .next-cell .result) (c .before .before .before .before .before .before .before .put-field .result) (c .before .before .before .rests .result) (c .before .before .before .before .before .before .before .before .before .before .before .lower .result) room (c .before .before .before .before .before .before .before .before .before .before .before .before .before .before .before .before .before .before .before .before .before .pre .1)
-            (c .before .before .before .before .next-cell .ensures .0) (omega (arith, z)) (omega (arith, z, c .before .before .before .before .before .before .before .before .before .before .before .before .before .before .before .before .before .before .before .before .before .pre .2 .1)) told,
+        room-kept r (cell .result) (put .result) (rest .result) (lowest .result) room (q .1) (cell .ensures .0)
+            (omega (arith, z)) (omega (arith, z, q .2 .1)) told,
         omega arith,
       ),
       (
         w .kept,
         (λ f x names k full h isForm small is.
-            let nw = named-with l x (a .p) is f r (h .counts) few refl (h .named) (c .before .before .before .before .before .before .before .before .before .before .before .before .before .before .before .hold-names .ensures .0)
-            (c .before .before .before .before .before .before .before .before .before .before .before .before .before .before .before .hold-names .ensures .1) in
-            let low = c .before .before .before .before .before .before .before .before .before .before .before .lower .ensures ∙ form-note f r x (h .counts) small
-            (c .before .before .before .before .before .before .before .before .before .before .before .before .later-rule .ensures .1 f x names k (h .counts) (h .slots) nw isForm is) in
+            let nw = named-with l x (a .p) is f r (h .counts) few refl (h .named) (held .0) (held .1) in
+            let low = lowest .ensures ∙ form-note f r x (h .counts) small
+            (rule .ensures .1 f x names v k (h .counts) (h .slots) nw isForm is) in
             holds-open f r h x (record {
-              cell = c .before .before .before .before .next-cell .ensures .1 f (h .counts) (h .slots);
-              writes = rw (record-bytes names (r .fields) l x (a .p) is (c .before .before .before .before .before .before .before .before .before .before .before .before .before .before .before .before .before .before .before .before .before .pre .2 .0)) at w;
-              rested = c .before .before .before .rests .ensures ∙ rests-here f r x (h .counts) (a .p) is;
+              cell = cell .ensures .1 f (h .counts) (h .slots);
+              writes = rw (record-bytes names (r .fields) l x v (a .p) is (q .2 .0) (q .2 .2)) at w;
+              rested = rest .ensures ∙ rests-here f r x (h .counts) (a .p) is;
               named = nw;
-            }) k (form-short f k l x isForm) (all-formed f k l x isForm) l (c .before .before .before .before .before .before .before .before .before .before .before .lower .result) full isForm low
-            (sym (c .before .before .before .before .before .before .before .before .before .before .is-open .ensures) ∙ c .before .before .before .before .before .before .before .before .before .if1 .taken)),
+            }) k (form-short f k l x isForm) (all-formed f k l x isForm) l (lowest .result) full isForm low kept),
       ),
     )
 
 add-r-3 : tie.Need-add-r-3
-add-r-3 c = let q = c .before .before .before .before .before .before .before .before .before .before .before .before .before .pre .1 in let k = c .before .before .before .before .before .before .before .before .before .before .before .before .before .pre .0 .0 .fields in search (needs, q, k)
+add-r-3 c =
+    let p = c .before .before .before .before .before .before .before .before .before .before .before .before .before
+    .before .before .before .pre in
+    let q = p .1 in
+    let k = p .0 .0 .fields in
+    search (needs, q, k)
 
 onward-requires-2 : tie.Need-onward-requires-2
-onward-requires-2 c κs = c .before .before .before .before .before .before .before .before .before .before .before .before .before .pre .0 .1
+onward-requires-2 c κs = c .before .before .before .before .before .before .before .before .before .before .before
+    .before .before .before .before .before .pre .0 .1
 
 returns-2 : tie.Need-returns-2
 returns-2 c =
-    let a = c .before .before .before .before .before .before .before .before .before .before .before .before .before .before .args in
+    let a = c .before .before .before .before .before .before .before .before .before .before .before .before .before
+    .before .before .before .before .args in
+    let q = c .before .before .before .before .before .before .before .before .before .before .before .before .before
+    .before .before .before .before .pre in
+    let held = c .before .before .before .before .before .before .before .before .hold-names .ensures in
+    let rule = c .before .before .before .before .before .later-rule in
+    let lowest = c .before .before .before .before .lower in
     let r = a .r in
     let l = now (a .line) in
-    let room = c .before .before .before .before .before .before .before .before .before .before .before .before .before .before .pre .0 .0 in
-    let few : r .fields < fieldsMost = omega (arith, room .fields, c .before .before .before .before .before .before .before .before .before .before .before .before .before .before .pre .1) in
-    let told : isTold (noteOf (c .before .before .before .before .lower .result)) ≡ true =
-    ap isTold (c .before .before .before .before .lower .ensures)
-    ∙ told-lower (noteOf (r .note)) (noteOf (c .before .before .before .before .before .later-rule .result)) (room .told) (c .before .before .before .before .before .later-rule .ensures .0) in
+    let v = bytesOf (now (a .wide)) (now (a .first)) (now (a .second)) in
+    let room = q .0 .0 in
+    let few : r .fields < fieldsMost = omega (arith, room .fields, q .1) in
+    let told : isTold (noteOf (lowest .result)) ≡ true =
+    ap isTold (lowest .ensures)
+    ∙ told-lower (noteOf (r .note)) (noteOf (rule .result)) (room .told) (rule .ensures .0) in
+    let shut : isOpen (noteOf (lowest .result)) ≡ false = sym (c .before .before .before .is-open .ensures)
+    ∙ c .before .before .if1 .left in
     rw (c .onward2 .ensures) (
-      (room-refused r (c .before .before .before .before .lower .result) room (c .before .before .before .before .before .before .before .before .before .before .before .before .before .before .pre .1) told, omega arith),
+      (room-refused r (lowest .result) room (q .1) told, omega arith),
       (
         refl,
         (λ f x names k full h isForm small is.
-            let nw = named-with l x (a .p) is f r (h .counts) few refl (h .named) (c .before .before .before .before .before .before .before .before .hold-names .ensures .0)
-            (c .before .before .before .before .before .before .before .before .hold-names .ensures .1) in
-            let low = c .before .before .before .before .lower .ensures ∙ form-note f r x (h .counts) small
-            (c .before .before .before .before .before .later-rule .ensures .1 f x names k (h .counts) (h .slots) nw isForm is) in
-            holds-closed f r (holds-named f r x h nw) l x (c .before .before .before .before .lower .result) full isForm low
-            (sym (c .before .before .before .is-open .ensures) ∙ c .before .before .if1 .left)),
+            let nw = named-with l x (a .p) is f r (h .counts) few refl (h .named) (held .0) (held .1) in
+            let low = lowest .ensures ∙ form-note f r x (h .counts) small
+            (rule .ensures .1 f x names v k (h .counts) (h .slots) nw isForm is) in
+            holds-closed f r (holds-named f r x h nw) l x (lowest .result) full isForm low shut),
       ),
     )
 

@@ -16,15 +16,14 @@ use Rattle.texts.proofs.leaves.is_number.Statement.{statement}
 use Rattle.texts.proofs.leaves.is_number.Tie as tie
 use Rattle.texts.proofs.leaves.is_number.Reads as reads
 use Rattle.texts.proofs.leaves.is_number.Lts as lts
-use Rattle.names.proofs.classes.class_table.Reads as class-table-reads
 use Rattle.names.proofs.classes.is_digit_in.Reads as is-digit-in-reads
 
 abbrev Inv-loop : tie.InvT-loop
-Inv-loop w classes v₀ i₀ v i = (i ≤ length w) × (v ≤ numberMost) × (wordValue w ≡ scan v (drop i w)) ×
+Inv-loop classes w v₀ i₀ v i = (i ≤ length w) × (v ≤ numberMost) × (wordValue w ≡ scan v (drop i w)) ×
     (all isDigit w ≡ all isDigit (drop i w))
 
 abbrev μ-loop : tie.MeasureT-loop
-μ-loop w classes v₀ i₀ v i = length w - i
+μ-loop classes w v₀ i₀ v i = length w - i
 
 returns : tie.Need-returns Inv-loop μ-loop
 returns c = sym (number-empty (c .before .before .args .w .now) (c .if1 .taken))
@@ -34,9 +33,6 @@ shared-slice-read-if2 c = search needs
 
 returns-2 : tie.Need-returns-2 Inv-loop μ-loop
 returns-2 c = number-zero (c .before .before .before .before .args .w .now) (omega arith) (c .if2 .taken)
-
-class-table-requires : tie.Need-class-table-requires Inv-loop μ-loop
-class-table-requires c κs = search needs
 
 loop-holds : tie.Need-loop-holds Inv-loop μ-loop
 unfolding wordValue
@@ -50,14 +46,18 @@ is-digit-in-requires c κs = search needs
 
 returns-3 : tie.Need-returns-3 Inv-loop μ-loop
 returns-3 c =
-    let w = c .before .before .before .before .before .before .before .before .before .before .before .args .w .now in
-    let i = c .before .before .before .before .before .loop .i in
-    let v = c .before .before .before .before .before .loop .v in
-    let inv = c .before .before .before .before .before .loop .inv in
-    let byte : getD w i 0 < 256 = omega (arith, c .before .before .before .shared-slice-known3 .given i) in
+    let w = c .before .before .before .before .before .before .before .before .before .args .w .now in
+    let i = c .before .before .before .before .loop .i in
+    let v = c .before .before .before .before .loop .v in
+    let inv = c .before .before .before .before .loop .inv in
+    let byte : getD w i 0 < 256 = omega (
+      arith,
+      c .before .before .before .before .before .before .shared-slice-known2
+          .given i,
+    ) in
     let n : isDigit (getD w i 0) ≡ false =
-    sym (digit-in (c .before .before .before .before .before .before .class-table .result)
-    (c .before .before .before .before .before .before .class-table .ensures) (getD w i 0) byte) ∙ sym
+    sym (digit-in (c .before .before .before .before .before .before .before .before .before .args .classes .now)
+    (c .before .before .before .before .before .before .before .before .before .pre) (getD w i 0) byte) ∙ sym
     (c .before .is-digit-in .ensures)
     ∙ not-true (c .before .is-digit-in .result) (c .if3 .taken) in
     sym (number-other w (inv .3 ∙ all-stop isDigit w i (omega arith) n))
@@ -67,14 +67,18 @@ mul-v c = omega arith
 
 cast-v : tie.Need-cast-v Inv-loop μ-loop
 cast-v c =
-    let w = c .before .before .before .before .before .before .before .before .before .before .before .args .w .now in
-    let i = c .before .before .before .before .before .loop .i in
-    let v = c .before .before .before .before .before .loop .v in
-    let inv = c .before .before .before .before .before .loop .inv in
-    let byte : getD w i 0 < 256 = omega (arith, c .before .before .before .shared-slice-known3 .given i) in
+    let w = c .before .before .before .before .before .before .before .before .before .args .w .now in
+    let i = c .before .before .before .before .loop .i in
+    let v = c .before .before .before .before .loop .v in
+    let inv = c .before .before .before .before .loop .inv in
+    let byte : getD w i 0 < 256 = omega (
+      arith,
+      c .before .before .before .before .before .before .shared-slice-known2
+          .given i,
+    ) in
     let y : isDigit (getD w i 0) ≡ true =
-    sym (digit-in (c .before .before .before .before .before .before .class-table .result)
-    (c .before .before .before .before .before .before .class-table .ensures) (getD w i 0) byte) ∙ sym
+    sym (digit-in (c .before .before .before .before .before .before .before .before .before .args .classes .now)
+    (c .before .before .before .before .before .before .before .before .before .pre) (getD w i 0) byte) ∙ sym
     (c .before .is-digit-in .ensures)
     ∙ not-false (c .before .is-digit-in .result) (c .if3 .left) in
     let ge : 48 ≤ getD w i 0 = digit-range (getD w i 0) y .0 in
@@ -83,14 +87,18 @@ cast-v c =
 
 sub-v : tie.Need-sub-v Inv-loop μ-loop
 sub-v c =
-    let w = c .before .before .before .before .before .before .before .before .before .before .before .args .w .now in
-    let i = c .before .before .before .before .before .loop .i in
-    let v = c .before .before .before .before .before .loop .v in
-    let inv = c .before .before .before .before .before .loop .inv in
-    let byte : getD w i 0 < 256 = omega (arith, c .before .before .before .shared-slice-known3 .given i) in
+    let w = c .before .before .before .before .before .before .before .before .before .args .w .now in
+    let i = c .before .before .before .before .loop .i in
+    let v = c .before .before .before .before .loop .v in
+    let inv = c .before .before .before .before .loop .inv in
+    let byte : getD w i 0 < 256 = omega (
+      arith,
+      c .before .before .before .before .before .before .shared-slice-known2
+          .given i,
+    ) in
     let y : isDigit (getD w i 0) ≡ true =
-    sym (digit-in (c .before .before .before .before .before .before .class-table .result)
-    (c .before .before .before .before .before .before .class-table .ensures) (getD w i 0) byte) ∙ sym
+    sym (digit-in (c .before .before .before .before .before .before .before .before .before .args .classes .now)
+    (c .before .before .before .before .before .before .before .before .before .pre) (getD w i 0) byte) ∙ sym
     (c .before .is-digit-in .ensures)
     ∙ not-false (c .before .is-digit-in .result) (c .if3 .left) in
     let ge : 48 ≤ getD w i 0 = digit-range (getD w i 0) y .0 in
@@ -99,14 +107,18 @@ sub-v c =
 
 add-v : tie.Need-add-v Inv-loop μ-loop
 add-v c =
-    let w = c .before .before .before .before .before .before .before .before .before .before .before .args .w .now in
-    let i = c .before .before .before .before .before .loop .i in
-    let v = c .before .before .before .before .before .loop .v in
-    let inv = c .before .before .before .before .before .loop .inv in
-    let byte : getD w i 0 < 256 = omega (arith, c .before .before .before .shared-slice-known3 .given i) in
+    let w = c .before .before .before .before .before .before .before .before .before .args .w .now in
+    let i = c .before .before .before .before .loop .i in
+    let v = c .before .before .before .before .loop .v in
+    let inv = c .before .before .before .before .loop .inv in
+    let byte : getD w i 0 < 256 = omega (
+      arith,
+      c .before .before .before .before .before .before .shared-slice-known2
+          .given i,
+    ) in
     let y : isDigit (getD w i 0) ≡ true =
-    sym (digit-in (c .before .before .before .before .before .before .class-table .result)
-    (c .before .before .before .before .before .before .class-table .ensures) (getD w i 0) byte) ∙ sym
+    sym (digit-in (c .before .before .before .before .before .before .before .before .before .args .classes .now)
+    (c .before .before .before .before .before .before .before .before .before .pre) (getD w i 0) byte) ∙ sym
     (c .before .is-digit-in .ensures)
     ∙ not-false (c .before .is-digit-in .result) (c .if3 .left) in
     let ge : 48 ≤ getD w i 0 = digit-range (getD w i 0) y .0 in
@@ -115,11 +127,10 @@ add-v c =
 
 returns-4 : tie.Need-returns-4 Inv-loop μ-loop
 returns-4 c =
-    let s = c .before .before .before .before .before .before .before .before .before .before .before .before in
-    let w = s .args .w .now in
-    let i = c .before .before .before .before .before .before .loop .i in
-    let v = c .before .before .before .before .before .before .loop .v in
-    let inv = c .before .before .before .before .before .before .loop .inv in
+    let w = c .before .before .before .before .before .before .before .before .before .before .args .w .now in
+    let i = c .before .before .before .before .before .loop .i in
+    let v = c .before .before .before .before .before .loop .v in
+    let inv = c .before .before .before .before .before .loop .inv in
     sym (number-large w (omega (
       arith,
       inv .2,
@@ -135,15 +146,19 @@ loop-less c = search needs
 
 loop-again : tie.Need-loop-again Inv-loop μ-loop
 loop-again c =
-    let s = c .before .before .before .before .before .before .before .before .before .before .before .before in
-    let w = s .args .w .now in
-    let i = c .before .before .before .before .before .before .loop .i in
-    let v = c .before .before .before .before .before .before .loop .v in
-    let inv = c .before .before .before .before .before .before .loop .inv in
-    let byte : getD w i 0 < 256 = omega (arith, c .before .before .before .before .shared-slice-known3 .given i) in
+    let w = c .before .before .before .before .before .before .before .before .before .before .args .w .now in
+    let i = c .before .before .before .before .before .loop .i in
+    let v = c .before .before .before .before .before .loop .v in
+    let inv = c .before .before .before .before .before .loop .inv in
+    let byte : getD w i 0 < 256 = omega (
+      arith,
+      c .before .before .before .before .before .before .before
+          .shared-slice-known2 .given i,
+    ) in
     let y : isDigit (getD w i 0) ≡ true =
-    sym (digit-in (c .before .before .before .before .before .before .before .class-table .result)
-    (c .before .before .before .before .before .before .before .class-table .ensures) (getD w i 0) byte) ∙ sym
+    sym (digit-in (c .before .before .before .before .before .before .before .before .before .before .args .classes
+    .now) (c .before .before .before .before .before .before .before .before .before .before .pre) (getD w i 0) byte)
+    ∙ sym
     (c .before .before .is-digit-in .ensures)
     ∙ not-false (c .before .before .is-digit-in .result) (c .before .if3 .left) in
     let ge : 48 ≤ getD w i 0 = digit-range (getD w i 0) y .0 in
@@ -157,11 +172,11 @@ loop-again c =
 
 returns-5 : tie.Need-returns-5 Inv-loop μ-loop
 returns-5 c =
-    let w = c .before .before .before .before .before .before .before .args .w .now in
+    let w = c .before .before .before .before .before .before .args .w .now in
     let i = c .before .loop .i in
     let v = c .before .loop .v in
     let inv = c .before .loop .inv in
-    sym (number-yes w (omega arith) (c .before .before .before .if2 .left) (inv .3 ∙ all-end isDigit w i (omega arith)
+    sym (number-yes w (omega arith) (c .before .before .if2 .left) (inv .3 ∙ all-end isDigit w i (omega arith)
     (omega arith))
     (omega (arith, inv .2, scan-end w i v (omega arith) (omega arith))))
 
@@ -174,7 +189,6 @@ is-number-spec =
     returns
     shared-slice-read-if2
     returns-2
-    class-table-requires
     loop-holds
     shared-slice-read-c
     is-digit-in-requires

@@ -1,6 +1,6 @@
 use mathlib.Core.Path.{sym, _∙_}
+use Prim.Native.Nat.{_+_, _≤_}
 use native.Mathlib.Omega.{arith}
-use Prim.Native.Nat.{_≤_, _+_}
 use lib.ListN.{length}
 use Rattle.base.specs.Bytes.{bytes}
 use Rattle.texts.proofs.FieldClauses.{clause-room}
@@ -18,7 +18,7 @@ use Rattle.texts.proofs.line_parts.no_parts.Reads as no-parts-reads
 use Rattle.texts.proofs.phrases.starts_at.Reads as starts-at-reads
 
 label-at-requires : tie.Need-label-at-requires
-label-at-requires c κs = search needs
+label-at-requires c κs = (omega arith, c .before .before .before .before .pre .2)
 
 enum-known-l : tie.Need-enum-known-l
 enum-known-l c = search needs
@@ -30,20 +30,21 @@ no-parts-requires : tie.Need-no-parts-requires
 no-parts-requires c κs = search needs
 
 returns : tie.Need-returns
-returns c = (
-  kept-all _ _,
-  parts-no-label _ (c .before .before .before .before .before .args .n) (c .before .before .before
-      .before .before .args .s .now) _ (c .no-parts .ensures) (c .before .before .before .label-at .ensures .1) (c
-      .before .enum-told .given .1),
-)
+returns c =
+    let a = c .before .before .before .before .before .before .before .before .args in (
+      kept-all _ _,
+      parts-no-label _ (a .n) (a .s .now) _ _ (c .no-parts .ensures) (c .before .before .before .label-at .ensures
+          .1) (c .before .enum-told .given .1),
+    )
 
 short-at-requires : tie.Need-short-at-requires
 short-at-requires c κs =
-    let s = c .before .before .before .before .before .args .s .now in
+    let a = c .before .before .before .before .before .before .before .before .args in
+    let s = a .s .now in
     let f = c .before .before .before .label-at in
     let q = c .before .l .given in
     let w = label-within _ _ (q .1) (f .ensures .0) in
-    omega arith
+    (w .1, c .before .before .before .before .before .before .before .before .pre .2)
 
 enum-known-h : tie.Need-enum-known-h
 enum-known-h c = search needs
@@ -56,12 +57,12 @@ no-parts-requires-2 c κs = search needs
 
 returns-2 : tie.Need-returns-2
 returns-2 c =
-    let a = c .before .before .before .before .before .before .before .before .before .args in
+    let a = c .before .before .before .before .before .before .before .before .before .before .before .before .args in
     let f = c .before .before .before .before .before .before .before .label-at in
     let x = label-as (a .s .now) (f .ensures .1) (c .before .before .before .before .before .l .given .1) in
     let g = c .before .before .before .short-at in (
       kept-all _ _,
-      parts-no-short _ (a .n) (a .s .now) x _ (c .no-parts2 .ensures) (g .ensures .1) (c .before .enum-told2 .given
+      parts-no-short _ (a .n) (a .s .now) _ x _ (c .no-parts2 .ensures) (g .ensures .1) (c .before .enum-told2 .given
           .1),
     )
 
@@ -70,83 +71,104 @@ slice-aggregate-starts-at c = search needs
 
 starts-at-requires : tie.Need-starts-at-requires
 starts-at-requires c κs =
-    let s = c .before .before .before .before .before .before .before .before .before .before .args .s .now in
+    let a = c .before .before .before .before .before .before .before .before .before .before .before .before .before
+    .args in
+    let s = a .s .now in
     let f = c .before .before .before .before .before .before .before .before .label-at in
     let q = c .before .before .before .before .before .before .l .given in
     let w = label-within _ _ (q .1) (f .ensures .0) in
     let g = c .before .before .before .before .short-at in
     let p = c .before .before .h .given in
     let u = short-within _ _ (p .1) (g .ensures .0) in
-    omega arith
+    u .3
 
-sub-t14 : tie.Need-sub-t14
-sub-t14 c =
-    let s = c .before .before .before .before .before .before .before .before .before .before .before .before .args
-    .s .now in
-    let f = c .before .before .before .before .before .before .before .before .before .before .label-at in
-    let q = c .before .before .before .before .before .before .before .before .l .given in
-    let w = label-within _ _ (q .1) (f .ensures .0) in
+sub-behind-names : tie.Need-sub-behind-names
+sub-behind-names c =
     let g = c .before .before .before .before .before .before .short-at in
     let p = c .before .before .before .before .h .given in
     let u = short-within _ _ (p .1) (g .ensures .0) in
-    omega arith
+    let le = u .1 in
+    search (needs, le)
 
 add-behind-names : tie.Need-add-behind-names
 add-behind-names c =
-    let s = c .before .before .before .before .before .before .before .before .before .before .before .before .args
-    .s .now in
-    let f = c .before .before .before .before .before .before .before .before .before .before .label-at in
-    let q = c .before .before .before .before .before .before .before .before .l .given in
-    let w = label-within _ _ (q .1) (f .ensures .0) in
     let g = c .before .before .before .before .before .before .short-at in
     let p = c .before .before .before .before .h .given in
     let u = short-within _ _ (p .1) (g .ensures .0) in
-    omega arith
+    let le = u .3 in
+    let m = c .before .before .before .before .before .before .before .before .before .before .before .before .before
+    .before .before .pre .0 in
+    search (needs, le, m)
 
 behind-names-requires : tie.Need-behind-names-requires
 behind-names-requires c κs =
-    let s = c .before .before .before .before .before .before .before .before .before .before .before .before .before
-    .args .s .now in
-    let f = c .before .before .before .before .before .before .before .before .before .before .before .label-at in
-    let q = c .before .before .before .before .before .before .before .before .before .l .given in
+    let a = c .before .before .before .before .before .before .before .before .before .before .before .before .before
+    .before .before .before .before .before .before .args in
+    let s = a .s .now in
+    let f = c .before .before .before .before .before .before .before .before .before .before .before .before .before
+    .before .label-at in
+    let q = c .before .before .before .before .before .before .before .before .before .before .before .before .l
+    .given in
     let w = label-within _ _ (q .1) (f .ensures .0) in
-    let g = c .before .before .before .before .before .before .before .short-at in
-    let p = c .before .before .before .before .before .h .given in
+    let g = c .before .before .before .before .before .before .before .before .before .before .short-at in
+    let p = c .before .before .before .before .before .before .before .before .h .given in
     let u = short-within _ _ (p .1) (g .ensures .0) in
     let n = p .0 .1 .1 .0 in
-    let le : n ≤ length s = omega arith in
-    let r : n + 2 ≤ length s = clause-room s n le (bytes ": ") (sym (c .before .before .starts-at .ensures) ∙ c
-    .before .if1 .taken) in
-    (r, omega arith, omega arith, (omega arith, omega arith))
+    let r : n + 2 ≤ length s =
+    clause-room s n (u .3) (bytes ": ") (sym (c .before .before .before .before .before .starts-at .ensures) ∙ c
+    .before .before .before .before .if1 .taken) in (
+      r,
+      c .before .before .before .before .before .before .before .before .before .before .before .before .before
+          .before .before .before .before .before .before .pre .0,
+      c .before .before .before .before .before .before
+          .before .before .before .before .before .before .before .before .before .before .before .before .before
+          .pre .1,
+      (w .1, omega (arith, u .1, u .2, u .3)),
+      c .before .before .before .before .before .before .before .before
+          .before .before .before .before .before .before .before .before .before .before .before .pre .2,
+    )
+
+same-length : tie.Need-same-length
+same-length c = search needs
+
+same-length-2 : tie.Need-same-length-2
+same-length-2 c = search needs
+
+same-length-3 : tie.Need-same-length-3
+same-length-3 c = search needs
 
 returns-3 : tie.Need-returns-3
 returns-3 c =
-    let s = c .before .before .before .before .before .before .before .before .before .before .before .before .before
-    .before .args .s .now in
-    let f = c .before .before .before .before .before .before .before .before .before .before .before .before
-    .label-at in
-    let q = c .before .before .before .before .before .before .before .before .before .before .l .given in
+    let a = c .before .before .before .before .before .before .before .before .before .before .before .before .before
+    .before .before .before .before .before .before .before .before .before .before .before .before .before .args in
+    let s = a .s .now in
+    let f = c .before .before .before .before .before .before .before .before .before .before .before .before .before
+    .before .before .before .before .before .before .before .before .label-at in
+    let q = c .before .before .before .before .before .before .before .before .before .before .before .before .before
+    .before .before .before .before .before .before .l .given in
     let w = label-within _ _ (q .1) (f .ensures .0) in
-    let g = c .before .before .before .before .before .before .before .before .short-at in
-    let p = c .before .before .before .before .before .before .h .given in
+    let g = c .before .before .before .before .before .before .before .before .before .before .before .before .before
+    .before .before .before .before .short-at in
+    let p = c .before .before .before .before .before .before .before .before .before .before .before .before .before
+    .before .before .h .given in
     let u = short-within _ _ (p .1) (g .ensures .0) in
     let x = label-as s (f .ensures .1) (q .1) in
     let y = short-as s (q .0 .0) (g .ensures .1) (p .1) in
-    let le : p .0 .1 .1 .0 ≤ length s = omega arith in
-    let b = c .behind-names in
-    let d = sym (c .before .before .before .starts-at .ensures) ∙ c .before .before .if1 .taken in (
-      b .ensures .0,
-      parts-behind _ (c .before .before .before .before .before .before .before .before .before .before
-          .before .before .before .before .args .n) s x y le (b .result) d (b .ensures .1),
-    )
+    let le : p .0 .1 .1 .0 ≤ length s = u .3 in
+    let b = c .before .before .before .before .before .before .behind-names in
+    let d = sym (c .before .before .before .before .before .before .before .before .before .before .before .before
+    .starts-at .ensures) ∙ c .before .before .before .before .before .before .before .before .before .before .before
+    .if1 .taken in
+    (b .ensures .0, parts-behind _ (a .n) s _ x y le (b .result) d (b .ensures .1))
 
 no-parts-requires-3 : tie.Need-no-parts-requires-3
 no-parts-requires-3 c κs = search needs
 
 returns-4 : tie.Need-returns-4
 returns-4 c =
-    let s = c .before .before .before .before .before .before .before .before .before .before .before .before .before
-    .args .s .now in
+    let a = c .before .before .before .before .before .before .before .before .before .before .before .before .before
+    .before .before .before .args in
+    let s = a .s .now in
     let f = c .before .before .before .before .before .before .before .before .before .before .before .label-at in
     let q = c .before .before .before .before .before .before .before .before .before .l .given in
     let w = label-within _ _ (q .1) (f .ensures .0) in
@@ -155,12 +177,9 @@ returns-4 c =
     let u = short-within _ _ (p .1) (g .ensures .0) in
     let x = label-as s (f .ensures .1) (q .1) in
     let y = short-as s (q .0 .0) (g .ensures .1) (p .1) in
-    let le : p .0 .1 .1 .0 ≤ length s = omega arith in
-    let d = sym (c .before .before .starts-at .ensures) ∙ c .before .if1 .left in (
-      kept-all _ _,
-      parts-no-colon _ (c .before .before .before .before .before .before .before .before .before
-          .before .before .before .before .args .n) s x y le _ (c .no-parts3 .ensures) d,
-    )
+    let le : p .0 .1 .1 .0 ≤ length s = u .3 in
+    let d = sym (c .before .before .starts-at .ensures) ∙ c .before .if1 .left in
+    (kept-all _ _, parts-no-colon _ (a .n) s _ x y le _ (c .no-parts3 .ensures) d)
 
 pub parts-of-spec : {M : Type 1} → statement M
 parts-of-spec =
@@ -178,9 +197,12 @@ parts-of-spec =
     returns-2
     slice-aggregate-starts-at
     starts-at-requires
-    sub-t14
+    sub-behind-names
     add-behind-names
     behind-names-requires
+    same-length
+    same-length-2
+    same-length-3
     returns-3
     no-parts-requires-3
     returns-4)

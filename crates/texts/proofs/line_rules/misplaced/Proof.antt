@@ -1,5 +1,4 @@
 use borrow.Author.Tests.{eq-eqb, ne-eqb}
-use borrow.Author.Needs.{needs}
 use Rattle.texts.proofs.line_rules.misplaced.Statement.{statement}
 use Rattle.texts.proofs.line_rules.misplaced.Tie as tie
 use Rattle.texts.proofs.line_rules.misplaced.Reads as reads

@@ -1,4 +1,3 @@
-use borrow.Author.Needs.{needs}
 use Rattle.texts.proofs.line_rules.rests.Statement.{statement}
 use Rattle.texts.proofs.line_rules.rests.Tie as tie
 use Rattle.texts.proofs.line_rules.rests.Reads as reads

@@ -1,5 +1,4 @@
 use Rattle.texts.proofs.NoteLaws.{lower-none, lower-only, lower-less, lower-first}
-use borrow.Author.Needs.{needs}
 use Rattle.texts.proofs.notes.lower.Statement.{statement}
 use Rattle.texts.proofs.notes.lower.Tie as tie
 use Rattle.texts.proofs.notes.lower.Reads as reads

@@ -16,20 +16,16 @@ use Rattle.texts.proofs.numbers.word_value.Statement.{statement}
 use Rattle.texts.proofs.numbers.word_value.Tie as tie
 use Rattle.texts.proofs.numbers.word_value.Reads as reads
 use Rattle.texts.proofs.numbers.word_value.Lts as lts
-use Rattle.names.proofs.classes.class_table.Reads as class-table-reads
 use Rattle.names.proofs.classes.is_digit_in.Reads as is-digit-in-reads
 
 abbrev Inv-loop : tie.InvT-loop
-Inv-loop w classes v₀ i₀ v i = (i ≤ length w) × (v ≤ numberMost) × (isNumberWord w ≡ true → Upto w v i)
+Inv-loop classes w v₀ i₀ v i = (i ≤ length w) × (v ≤ numberMost) × (isNumberWord w ≡ true → Upto w v i)
 
 abbrev μ-loop : tie.MeasureT-loop
-μ-loop w classes v₀ i₀ v i = length w - i
-
-class-table-requires : tie.Need-class-table-requires Inv-loop μ-loop
-class-table-requires c κs = search needs
+μ-loop classes w v₀ i₀ v i = length w - i
 
 loop-holds : tie.Need-loop-holds Inv-loop μ-loop
-loop-holds c = (omega arith, omega arith, λ y. upto-start (c .before .before .args .w .now) y)
+loop-holds c = (omega arith, omega arith, λ y. upto-start (c .before .args .w .now) y)
 
 shared-slice-read-c : tie.Need-shared-slice-read-c Inv-loop μ-loop
 shared-slice-read-c c = search needs
@@ -39,11 +35,15 @@ is-digit-in-requires c κs = search needs
 
 returns : tie.Need-returns Inv-loop μ-loop
 returns c =
-    let w = c .before .before .before .before .before .before .before .before .args .w .now in
-    let l = c .before .before .before .before .before .loop in
-    let byte : getD w (l .i) 0 < 256 = omega (arith, c .before .before .before .shared-slice-known2 .given (l .i)) in
-    let tells = sym (digit-in (c .before .before .before .before .before .before .class-table .result)
-    (c .before .before .before .before .before .before .class-table .ensures) (getD w (l .i) 0) byte)
+    let w = c .before .before .before .before .before .before .args .w .now in
+    let l = c .before .before .before .before .loop in
+    let byte : getD w (l .i) 0 < 256 = omega (
+      arith,
+      c .before .before .before .before .before .shared-slice-known
+          .given (l .i),
+    ) in
+    let tells = sym (digit-in (c .before .before .before .before .before .before .args .classes .now)
+    (c .before .before .before .before .before .before .pre) (getD w (l .i) 0) byte)
     ∙ sym (c .before .is-digit-in .ensures) in
     let n : isDigit (getD w (l .i) 0) ≡ false = tells ∙ not-true (c .before .is-digit-in .result) (c .if1 .taken) in
     (omega arith, λ y. absurd (not-both _ (upto-digit w (l .v) (l .i) (omega arith) (l .inv .2 y)) n))
@@ -53,11 +53,15 @@ mul-v c = search needs
 
 cast-v : tie.Need-cast-v Inv-loop μ-loop
 cast-v c =
-    let w = c .before .before .before .before .before .before .before .before .args .w .now in
-    let l = c .before .before .before .before .before .loop in
-    let byte : getD w (l .i) 0 < 256 = omega (arith, c .before .before .before .shared-slice-known2 .given (l .i)) in
-    let tells = sym (digit-in (c .before .before .before .before .before .before .class-table .result)
-    (c .before .before .before .before .before .before .class-table .ensures) (getD w (l .i) 0) byte)
+    let w = c .before .before .before .before .before .before .args .w .now in
+    let l = c .before .before .before .before .loop in
+    let byte : getD w (l .i) 0 < 256 = omega (
+      arith,
+      c .before .before .before .before .before .shared-slice-known
+          .given (l .i),
+    ) in
+    let tells = sym (digit-in (c .before .before .before .before .before .before .args .classes .now)
+    (c .before .before .before .before .before .before .pre) (getD w (l .i) 0) byte)
     ∙ sym (c .before .is-digit-in .ensures) in
     let y : isDigit (getD w (l .i) 0) ≡ true = tells ∙ not-false (c .before .is-digit-in .result) (c .if1 .left) in
     let r = digit-range (getD w (l .i) 0) y in
@@ -65,11 +69,15 @@ cast-v c =
 
 sub-v : tie.Need-sub-v Inv-loop μ-loop
 sub-v c =
-    let w = c .before .before .before .before .before .before .before .before .args .w .now in
-    let l = c .before .before .before .before .before .loop in
-    let byte : getD w (l .i) 0 < 256 = omega (arith, c .before .before .before .shared-slice-known2 .given (l .i)) in
-    let tells = sym (digit-in (c .before .before .before .before .before .before .class-table .result)
-    (c .before .before .before .before .before .before .class-table .ensures) (getD w (l .i) 0) byte)
+    let w = c .before .before .before .before .before .before .args .w .now in
+    let l = c .before .before .before .before .loop in
+    let byte : getD w (l .i) 0 < 256 = omega (
+      arith,
+      c .before .before .before .before .before .shared-slice-known
+          .given (l .i),
+    ) in
+    let tells = sym (digit-in (c .before .before .before .before .before .before .args .classes .now)
+    (c .before .before .before .before .before .before .pre) (getD w (l .i) 0) byte)
     ∙ sym (c .before .is-digit-in .ensures) in
     let y : isDigit (getD w (l .i) 0) ≡ true = tells ∙ not-false (c .before .is-digit-in .result) (c .if1 .left) in
     let r = digit-range (getD w (l .i) 0) y in
@@ -77,11 +85,15 @@ sub-v c =
 
 add-v : tie.Need-add-v Inv-loop μ-loop
 add-v c =
-    let w = c .before .before .before .before .before .before .before .before .args .w .now in
-    let l = c .before .before .before .before .before .loop in
-    let byte : getD w (l .i) 0 < 256 = omega (arith, c .before .before .before .shared-slice-known2 .given (l .i)) in
-    let tells = sym (digit-in (c .before .before .before .before .before .before .class-table .result)
-    (c .before .before .before .before .before .before .class-table .ensures) (getD w (l .i) 0) byte)
+    let w = c .before .before .before .before .before .before .args .w .now in
+    let l = c .before .before .before .before .loop in
+    let byte : getD w (l .i) 0 < 256 = omega (
+      arith,
+      c .before .before .before .before .before .shared-slice-known
+          .given (l .i),
+    ) in
+    let tells = sym (digit-in (c .before .before .before .before .before .before .args .classes .now)
+    (c .before .before .before .before .before .before .pre) (getD w (l .i) 0) byte)
     ∙ sym (c .before .is-digit-in .ensures) in
     let y : isDigit (getD w (l .i) 0) ≡ true = tells ∙ not-false (c .before .is-digit-in .result) (c .if1 .left) in
     let r = digit-range (getD w (l .i) 0) y in
@@ -89,8 +101,8 @@ add-v c =
 
 returns-2 : tie.Need-returns-2 Inv-loop μ-loop
 returns-2 c =
-    let w = c .before .before .before .before .before .before .before .before .before .args .w .now in
-    let l = c .before .before .before .before .before .before .loop in
+    let w = c .before .before .before .before .before .before .before .args .w .now in
+    let l = c .before .before .before .before .before .loop in
     let v = l .v * 10 + (getD w (l .i) 0 - 48) in (
       omega arith,
       λ y. absurd (upto-large w v (l .i + 1) y (upto-step w (l .v) (l .i) (omega arith) (l .inv .2 y))
@@ -105,13 +117,13 @@ loop-less c = search needs
 
 loop-again : tie.Need-loop-again Inv-loop μ-loop
 loop-again c =
-    let w = c .before .before .before .before .before .before .before .before .before .args .w .now in
-    let l = c .before .before .before .before .before .before .loop in
+    let w = c .before .before .before .before .before .before .before .args .w .now in
+    let l = c .before .before .before .before .before .loop in
     (omega arith, omega arith, λ y. upto-step w (l .v) (l .i) (omega arith) (l .inv .2 y))
 
 returns-3 : tie.Need-returns-3 Inv-loop μ-loop
 returns-3 c =
-    let w = c .before .before .before .before .args .w .now in
+    let w = c .before .before .before .args .w .now in
     let l = c .before .loop in
     (omega arith, λ y. upto-end w (l .v) (l .i) (omega arith) (omega arith) (l .inv .2 y))
 
@@ -121,7 +133,6 @@ word-value-spec =
     (tie.spec
     Inv-loop
     μ-loop
-    class-table-requires
     loop-holds
     shared-slice-read-c
     is-digit-in-requires

@@ -1,4 +1,4 @@
-use mathlib.Core.Path.{_≡_, sym, _∙_}
+use mathlib.Core.Path.{sym, _∙_}
 use native.Mathlib.Omega.{arith}
 use Rattle.texts.proofs.HeadSteps.{opening-short, opening-an, opening-a, opening-none}
 use borrow.Author.Needs.{needs}

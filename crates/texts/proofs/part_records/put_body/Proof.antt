@@ -11,26 +11,20 @@ use Rattle.texts.proofs.part_records.put_tree.Reads as put-tree-reads
 use Rattle.texts.proofs.part_records.put_width.Reads as put-width-reads
 
 put-names-requires : tie.Need-put-names-requires
-put-names-requires c κs = (
-  c .before .before .before .before .before .pre .0,
-  omega (
-    arith,
-    size-sum (c .before .before .before .before
-        .before .args .p),
-    c .before .before .before .before .before .pre .1,
-  ),
-)
+put-names-requires c κs =
+    let q = c .before .before .before .before .before .before .before .before .pre in
+    (q .0, omega (arith, size-sum (c .before .before .before .before .before .before .before .before .args .p), q .1))
 
 put-width-requires : tie.Need-put-width-requires
 put-width-requires c κs =
+    let q = c .before .before .before .before .before .before .before .before .before .before .before .before .pre in
     let n = c .before .before .before .put-names .ensures in (
-      c .before .before .before .before .before .before .before .before .before .pre .0 .width,
+      omega (arith, q .0 .width, q .2 .width),
       omega (
         arith,
-        size-sum
-            (c .before .before .before .before .before .before .before .before .before .args .p),
-        c .before .before .before
-            .before .before .before .before .before .before .pre .1,
+        size-sum (c .before .before .before .before .before .before .before .before .before .before
+            .before .before .args .p),
+        q .1,
         n .0,
         n .1 .kept,
       ),
@@ -38,16 +32,16 @@ put-width-requires c κs =
 
 put-tree-requires : tie.Need-put-tree-requires
 put-tree-requires c κs =
+    let q = c .before .before .before .before .before .before .before .before .before .before .before .before .before
+    .before .before .before .pre in
     let n = c .before .before .before .before .before .before .before .put-names .ensures in
     let w = c .before .before .before .put-width .ensures in (
-      c .before .before .before .before .before .before .before .before .before .before .before .before .before .pre
-          .0 .constraint,
+      omega (arith, q .0 .constraint, q .2 .constraint),
       omega (
         arith,
-        size-sum (c .before .before .before .before .before .before .before .before .before
-            .before .before .before .before .args .p),
-        c .before .before .before .before .before .before .before .before
-            .before .before .before .before .before .pre .1,
+        size-sum (c .before .before .before .before .before .before .before .before .before .before
+            .before .before .before .before .before .before .args .p),
+        q .1,
         n .0,
         n .1 .kept,
         w .0,
@@ -57,47 +51,33 @@ put-tree-requires c κs =
 
 put-tree-requires-2 : tie.Need-put-tree-requires-2
 put-tree-requires-2 c κs =
+    let q = c .before .before .before .before .before .before .before .before .before .before .before .before .before
+    .before .before .before .before .before .before .before .pre in
+    let p = c .before .before .before .before .before .before .before .before .before .before .before .before .before
+    .before .before .before .before .before .before .before .args .p in
     let n = c .before .before .before .before .before .before .before .before .before .before .before .put-names
     .ensures in
     let w = c .before .before .before .before .before .before .before .put-width .ensures in
     let t = c .before .before .before .put-tree .ensures in (
-      c .before .before .before .before .before .before .before .before .before .before .before .before .before
-          .before .before .before .before .pre .0 .condition,
-      omega (
-        arith,
-        size-sum (c .before .before .before .before .before .before .before .before .before .before .before
-            .before .before .before .before .before .before .args .p),
-        c .before .before .before .before .before .before
-            .before .before .before .before .before .before .before .before .before .before .before .pre .1,
-        n .0,
-        n .1
-            .kept,
-        w .0,
-        w .1 .kept,
-        t .0,
-        t .1 .kept,
-      ),
+      omega (arith, q .0 .condition, q .2 .condition),
+      omega (arith, size-sum p, q .1, n .0, n .1 .kept, w .0, w .1 .kept, t .0, t .1 .kept),
     )
 
 same-length : tie.Need-same-length
 same-length c = search needs
 
 returns : tie.Need-returns
-returns c = (
-  omega (
-    arith,
-    size-sum (c .before .before .before .before .before .before .before .before .before .before .before .before .before .before .before .before .before .before .before .before .args .p),
-    c .before .before .before .before .before .before .before .before .before .before .before .before .before .before .put-names .ensures .0,
-    c .before .before .before .before .before .before .before .before .before .before .put-width .ensures .0,
-    c .before .before .before .before .before .before .put-tree .ensures .0,
-    c .before .before .put-tree2 .ensures .0,
-  ),
-  writes-join (c .before .before .before .before .before .before .before .before .before .before .before .before
-      .before .before .put-names .ensures .1) (writes-join (c .before .before .before .before .before .before .before
-      .before .before .before .put-width .ensures .1)
-      (writes-join (c .before .before .before .before .before .before .put-tree .ensures .1) (c .before .before
-      .put-tree2 .ensures .1))),
-)
+returns c =
+    let p = c .before .before .before .before .before .before .before .before .before .before .before .before .before
+    .before .before .before .before .before .before .before .before .before .before .args .p in
+    let n = c .before .before .before .before .before .before .before .before .before .before .before .before .before
+    .before .put-names .ensures in
+    let w = c .before .before .before .before .before .before .before .before .before .before .put-width .ensures in
+    let t = c .before .before .before .before .before .before .put-tree .ensures in
+    let u = c .before .before .put-tree2 .ensures in (
+      omega (arith, size-sum p, n .0, w .0, t .0, u .0),
+      writes-join (n .1) (writes-join (w .1) (writes-join (t .1) (u .1))),
+    )
 
 pub put-body-spec : {M : Type 1} → statement M
 put-body-spec =

@@ -1,4 +1,3 @@
-use native.Mathlib.Omega.{arith}
 use Rattle.texts.proofs.PartBytes.{names-put}
 use borrow.Author.Needs.{needs}
 use Rattle.texts.proofs.part_records.put_names.Statement.{statement}

@@ -1,8 +1,4 @@
-use mathlib.Core.Path.{_≡_}
-use native.Mathlib.Omega.{arith}
-use Prim.Native.Nat.{_≤_}
-use lib.ListN.{length}
-use Rattle.rules.specs.Limits.{storedMost}
+use denote.Ref.{now}
 use Rattle.texts.proofs.PartBytes.{tree-put}
 use borrow.Author.Needs.{needs}
 use Rattle.texts.proofs.part_records.put_tree.Statement.{statement}
@@ -18,11 +14,7 @@ part-put-counted-start : tie.Need-part-put-counted-start
 part-put-counted-start c = search needs
 
 part-put-counted-end : tie.Need-part-put-counted-end
-part-put-counted-end c =
-    let q : length (c .before .before .before .before .args .t .bytes) ≡ storedMost = search needs in
-    let r : c .before .before .before .before .args .t .len ≤ length (c .before .before .before .before .args .t
-    .bytes) = omega (arith, q, c .before .before .before .before .pre .0) in
-    r
+part-put-counted-end c = c .before .before .before .pre .0
 
 put-counted-requires : tie.Need-put-counted-requires
 put-counted-requires c κs = search needs
@@ -32,15 +24,9 @@ same-length c = search needs
 
 returns : tie.Need-returns
 returns c =
-    let q : length (c .before .before .before .before .before .before .before .before .args .t .bytes) ≡ storedMost =
-    search needs in
-    tree-put (c .before .before .before .before .before .before .before .before .args .t) (omega (
-      arith,
-      q,
-      c .before
-          .before .before .before .before .before .before .before .pre .0,
-    )) (c .before .before .before .before .before
-    .before .before .before .pre .1) (c .before .before .put-counted .ensures)
+    let a = c .before .before .before .before .before .before .before .args in
+    let q = c .before .before .before .before .before .before .before .pre in
+    tree-put (a .len) (now (a .tree)) (q .0) (q .1) (c .before .before .put-counted .ensures)
 
 pub put-tree-spec : {M : Type 1} → statement M
 put-tree-spec =

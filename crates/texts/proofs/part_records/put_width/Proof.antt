@@ -1,4 +1,4 @@
-use native.Mathlib.Omega.{arith}
+use denote.Ref.{now}
 use Rattle.texts.proofs.PartBytes.{width-fixed, width-two, width-measured, width-rest}
 use borrow.Author.Needs.{needs}
 use Rattle.texts.proofs.part_records.put_width.Statement.{statement}
@@ -16,38 +16,40 @@ same-length c = search needs
 
 returns : tie.Need-returns
 returns c =
-    width-fixed (c .before .before .before .before .before .before .before .args .p) (c .before .before .before
-    .before .if1 .taken) (c .before .before .before .before .before .before .before .pre .1) (c .before .before
-    .put-two .ensures)
+    let a = c .before .before .before .before .before .before .before .before .args in
+    width-fixed (a .p) (now (a .wide)) (c .before .before .before .before .if1 .taken)
+    (c .before .before .before .before .before .before .before .before .pre .1) (c .before .before .put-two .ensures)
 
 put-two-requires-2 : tie.Need-put-two-requires-2
 put-two-requires-2 c κs = search needs
 
 put-tree-requires : tie.Need-put-tree-requires
-put-tree-requires c κs = (
-  c .before .before .before .before .before .before .before .before .before .before .before .pre .0,
-  width-two (c
-      .before .before .before .before .before .before .before .before .before .before .before .args .p) (c .before
-      .before .before .before .before .before .if2 .taken) (c .before .before .before .before .before .before .before
-      .before .before .before .before .pre .1) (c .before .before .before .before .put-two2 .ensures) .1,
-)
+put-tree-requires c κs =
+    let a = c .before .before .before .before .before .before .before .before .before .before .before .before .args in
+    let q = c .before .before .before .before .before .before .before .before .before .before .before .before .pre in (
+      q .0,
+      width-two (a .p) (now (a .wide)) (c .before .before .before .before .before .before .if2 .taken) (q .1)
+          (c .before .before .before .before .put-two2 .ensures) .1,
+    )
 
 same-length-2 : tie.Need-same-length-2
 same-length-2 c = search needs
 
 returns-2 : tie.Need-returns-2
 returns-2 c =
-    let w = width-two (c .before .before .before .before .before .before .before .before .before .before .before
-    .before .before .before .args .p) (c .before .before .before .before .before .before .before .before .before .if2
-    .taken) (c .before .before .before .before .before .before .before .before .before .before .before .before
-    .before .before .pre .1) (c .before .before .before .before .before .before .before .put-two2 .ensures) in
-    width-measured (c .before .before .before .before .before .before .before .before .before .before .before .before
-    .before .before .args .p) (c .before .before .before .before .before .before .before .before .before .if2 .taken)
-    (w .0) (c .before .before .put-tree .ensures .0) (c .before .before .put-tree .ensures .1)
+    let a = c .before .before .before .before .before .before .before .before .before .before .before .before .before
+    .before .before .args in
+    let k = c .before .before .before .before .before .before .before .before .before .if2 .taken in
+    let w = width-two (a .p) (now (a .wide)) k (c .before .before .before .before .before .before .before .before
+    .before .before .before .before .before .before .before .pre .1)
+    (c .before .before .before .before .before .before .before .put-two2 .ensures) in
+    let t = c .before .before .put-tree .ensures in
+    width-measured (a .p) (now (a .wide)) k (w .0) (t .0) (t .1)
 
 returns-3 : tie.Need-returns-3
 returns-3 c =
-    width-rest (c .before .before .before .before .before .args .p) (c .before .before .if1 .left) (c .if2 .left)
+    let a = c .before .before .before .before .before .before .args in
+    width-rest (a .p) (now (a .wide)) (c .before .before .if1 .left) (c .if2 .left)
 
 pub put-width-spec : {M : Type 1} → statement M
 put-width-spec =

@@ -1,5 +1,4 @@
 use Rattle.texts.proofs.PartRules.{small-none, small-flat, small-deep}
-use borrow.Author.Needs.{needs}
 use Rattle.texts.proofs.part_tests.is_small.Statement.{statement}
 use Rattle.texts.proofs.part_tests.is_small.Tie as tie
 use Rattle.texts.proofs.part_tests.is_small.Reads as reads

@@ -1,5 +1,4 @@
 use Rattle.texts.proofs.PartRules.{type-none, type-some}
-use borrow.Author.Needs.{needs}
 use Rattle.texts.proofs.part_tests.is_type.Statement.{statement}
 use Rattle.texts.proofs.part_tests.is_type.Tie as tie
 use Rattle.texts.proofs.part_tests.is_type.Reads as reads

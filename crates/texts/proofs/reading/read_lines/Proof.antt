@@ -1,13 +1,20 @@
 use mathlib.Core.Path.{_≡_, refl, ap, sym, _∙_}
-use Prim.Native.Nat.{ℕ, _-_, _≤_}
+use Prim.Native.Nat.{ℕ, _-_, _≤_, _<_}
 use native.Mathlib.Omega.{arith}
 use denote.Ref.{now}
 use lib.Dec.{eqb}
-use lib.ListN.{length}
-use Rattle.rules.specs.Names.{lineFeed}
+use lib.ListN.{length, drop, length-drop}
+use lib.Seq.{length-take-le}
 use Rattle.texts.specs.States.{Room}
-use Rattle.texts.proofs.SplitSteps.{piece-length}
-use Rattle.texts.proofs.LineWalk.{Walking, room-begun, walking-start, walking-next, walking-reads, empty-end}
+use Rattle.texts.proofs.LineWalk.{
+  Walking,
+  room-begun,
+  walking-start,
+  walking-next,
+  walking-reads,
+  walking-stops,
+  empty-end,
+}
 use borrow.Author.Needs.{needs}
 use Rattle.texts.proofs.reading.read_lines.Statement.{statement}
 use Rattle.texts.proofs.reading.read_lines.Tie as tie
@@ -36,7 +43,7 @@ begin-requires c κs = search needs
 
 loop-holds : tie.Need-loop-holds Inv-loop μ-loop
 loop-holds c =
-    let a = c .before .before .before .before .before .args in
+    let p = c .before .before .before .before .before .pre in
     rw (c .begin .ensures) (
       omega arith,
       omega arith,
@@ -44,25 +51,20 @@ loop-holds c =
       refl,
       refl,
       room-begun,
-      walking-start (now (a .text)) _ _ _ _ _ (c .before .before .before .before .before .pre .3),
+      walking-start (now (c .before .before .before .before .before .args .text)) _ _ _ _ _ (p .3),
     )
 
 line-end-requires : tie.Need-line-end-requires Inv-loop μ-loop
 line-end-requires c κs = search needs
 
 end-text-requires : tie.Need-end-text-requires Inv-loop μ-loop
-end-text-requires c κs = let v = c .before .before .before .before .loop in (
-  v .inv .5,
-  omega (
-    arith,
-    v .inv .1,
-    v .inv .0,
-    c .before .before .before .before .before .before .before .before .before .before
-        .pre .0 .size,
-  ),
-  omega
-      (arith, v .inv .4, c .before .before .before .before .before .before .before .before .before .before .pre .2),
-)
+end-text-requires c κs =
+    let p = c .before .before .before .before .before .before .before .before .before .before .pre in
+    let v = c .before .before .before .before .loop in (
+      v .inv .5,
+      omega (arith, v .inv .1, v .inv .0, p .0),
+      omega (arith, v .inv .4, p .2),
+    )
 
 same-length : tie.Need-same-length Inv-loop μ-loop
 same-length c = search needs
@@ -77,15 +79,37 @@ returns : tie.Need-returns Inv-loop μ-loop
 returns c =
     let t = now (c .before .before .before .before .before .before .before .before .before .before .before .before
     .before .args .text) in
+    let p = c .before .before .before .before .before .before .before .before .before .before .before .before
+    .before .pre in
     let v = c .before .before .before .before .before .before .before .loop in
     let e = c .before .before .before .before .before .before .line-end in
     let w = v .inv .6 in
     let z = walking-reads t (v .at) (e .result) (v .r) w (e .ensures .1) (v .inv .0) (e .ensures .0 .1)
-    (omega (arith, c .before .before .before .before .before .if1 .taken))
-    (c .before .before .before .before .before .before .before .before .before .before .before .before .before .pre
-    .0) in
+    (omega (arith, c .before .before .before .before .before .if1 .taken)) (p .0) in
     rw (← v .inv .2) (z _ _ (c .before .before .end-text .ensures _ _ _ _ _ (empty-end t (v .at) (v .inv .0)
     ∙ ap (λ (n : ℕ). eqb (v .at) n) (sym (c .before .before .before .before .before .if1 .taken))) (w .holds)))
+
+shared-slice-read-if2 : tie.Need-shared-slice-read-if2 Inv-loop μ-loop
+shared-slice-read-if2 c = search needs
+
+same-length-4 : tie.Need-same-length-4 Inv-loop μ-loop
+same-length-4 c = search needs
+
+same-length-5 : tie.Need-same-length-5 Inv-loop μ-loop
+same-length-5 c = search needs
+
+same-length-6 : tie.Need-same-length-6 Inv-loop μ-loop
+same-length-6 c = search needs
+
+returns-2 : tie.Need-returns-2 Inv-loop μ-loop
+returns-2 c =
+    let t = now (c .before .before .before .before .before .before .before .before .before .before .args .text) in
+    let p = c .before .before .before .before .before .before .before .before .before .before .pre in
+    let v = c .before .before .before .before .loop in
+    let e = c .before .before .before .line-end in
+    let lt : e .result < length t = omega (arith, e .ensures .0 .1, c .before .before .if1 .left) in
+    rw (← v .inv .2)
+    (walking-stops t (v .at) (e .result) (v .r) (v .inv .6) (e .ensures .1) lt (c .if2 .taken) (p .0) _)
 
 sub-take-line : tie.Need-sub-take-line Inv-loop μ-loop
 sub-take-line c = search needs
@@ -99,82 +123,56 @@ part-take-line-end c = search needs
 take-line-requires : tie.Need-take-line-requires Inv-loop μ-loop
 take-line-requires c κs =
     let t = now (c .before .before .before .before .before .before .before .before .before .before .before .before
-    .before .before .args .text) in
-    let v = c .before .before .before .before .before .before .before .before .loop in
-    let e = c .before .before .before .before .before .before .before .line-end in
-    let n = piece-length lineFeed t (v .at) (e .result) (e .ensures .1) (omega
-    (arith, e .ensures .0 .1, c .before .before .before .before .before .before .if1 .left)) in (
+    .before .before .before .before .args .text) in
+    let p = c .before .before .before .before .before .before .before .before .before .before .before .before
+    .before .before .before .before .pre in
+    let v = c .before .before .before .before .before .before .before .before .before .before .loop in
+    let e = c .before .before .before .before .before .before .before .before .before .line-end in
+    let n = length-take-le (e .result - v .at) (drop (v .at) t)
+    (omega (arith, e .ensures .0 .1, length-drop (v .at) t)) in (
       v .inv .5,
-      omega (
-        arith,
-        v .inv .1,
-        v .inv .0,
-        c .before .before .before .before .before .before .before .before .before
-            .before .before .before .before .before .pre .0 .size,
-      ),
-      omega (
-        arith,
-        n,
-        e .ensures .0 .1,
-        c .before .before .before .before .before .before .before .before .before
-            .before .before .before .before .before .pre .0 .size,
-      ),
-      omega (
-        arith,
-        v .inv .3,
-        c .before .before .before .before .before .before .before .before .before .before
-            .before .before .before .before .pre .1,
-      ),
-      omega (
-        arith,
-        v .inv .4,
-        c .before .before .before .before .before .before .before .before .before .before
-            .before .before .before .before .pre .2,
-      ),
+      omega (arith, v .inv .1, v .inv .0, p .0),
+      omega (arith, n, e .ensures .0 .1, p .0),
+      omega (arith, v .inv .3, p .1),
+      omega (arith, v .inv .4, p .2),
     )
 
 add-at : tie.Need-add-at Inv-loop μ-loop
-add-at c = let q = c .before .before .before .before .before .before .before .before .before .before .before .before
-    .line-end .ensures .0 .1 in let z = c .before .before .before .before .before .before .before .before .before
-    .before .before .before .before .before .before .before .before .before .before .pre .0 .size in omega (arith, q, z)
+add-at c =
+    let q = c .before .before .before .before .before .before .before .before .before .before .before .before
+    .before .before .line-end .ensures .0 .1 in
+    let p = c .before .before .before .before .before .before .before .before .before .before .before .before
+    .before .before .before .before .before .before .before .before .before .pre in
+    omega (arith, q, p .0)
 
 loop-less : tie.Need-loop-less Inv-loop μ-loop
-loop-less c = let q = c .before .before .before .before .before .before .before .before .before .before .before
-    .before .line-end .ensures .0 in omega (
-      arith,
-      q .0,
-      q .1,
-      c .before .before .before .before .before .before .before .before .before .before .before
-          .if1 .left,
-    )
+loop-less c =
+    let q = c .before .before .before .before .before .before .before .before .before .before .before .before
+    .before .before .line-end .ensures .0 in
+    let n = c .before .before .before .before .before .before .before .before .before .before .before .before
+    .before .if1 .left in
+    omega (arith, q .0, q .1, n)
 
 loop-again : tie.Need-loop-again Inv-loop μ-loop
 loop-again c =
     let t = now (c .before .before .before .before .before .before .before .before .before .before .before .before
-    .before .before .before .before .before .before .before .args .text) in
-    let v = c .before .before .before .before .before .before .before .before .before .before .before .before .before
-    .loop in
+    .before .before .before .before .before .before .before .before .before .args .text) in
+    let v = c .before .before .before .before .before .before .before .before .before .before .before .before
+    .before .before .before .loop in
     let e = c .before .before .before .before .before .before .before .before .before .before .before .before
-    .line-end in
+    .before .before .line-end in
     let q = c .before .before .before .before .take-line .ensures in
-    let lt = e .ensures .0 .1 in (
-      omega (
-        arith,
-        lt,
-        c .before .before .before .before .before .before .before .before .before .before .before
-            .if1 .left,
-      ),
+    let n = c .before .before .before .before .before .before .before .before .before .before .before .before
+    .before .if1 .left in
+    let f = c .before .before .before .before .before .before .before .before .before .before .before .if2 .left in
+    let lt : e .result < length t = omega (arith, e .ensures .0 .1, n) in (
+      omega (arith, lt),
       omega (arith, q .0 .1, v .inv .1, e .ensures .0 .0),
       v .inv .2,
       omega (arith, q .1 .0, v .inv .3),
       omega (arith, q .1 .1, v .inv .4),
       q .0 .0,
-      walking-next t (v .at) (e .result) (v .r) (v .inv .6) (e .ensures .1) (omega (
-        arith,
-        lt,
-        c .before .before .before .before .before .before .before .before .before .before
-            .before .if1 .left,
-      ))
+      walking-next t (v .at) (e .result) (v .r) (v .inv .6) (e .ensures .1) lt f
           (c .before .before .before .before .take-line .result) (q .1),
     )
 
@@ -192,6 +190,11 @@ read-lines-spec =
     same-length-2
     same-length-3
     returns
+    shared-slice-read-if2
+    same-length-4
+    same-length-5
+    same-length-6
+    returns-2
     sub-take-line
     part-take-line-start
     part-take-line-end

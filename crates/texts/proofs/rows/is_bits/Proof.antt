@@ -17,11 +17,11 @@ use Rattle.texts.proofs.rows.is_cell.Reads as is-cell-reads
 use Rattle.texts.proofs.text_bytes.part_end.Reads as part-end-reads
 
 abbrev Inv-loop : tie.InvT-loop
-Inv-loop l w at₀ bits₀ at bits =
+Inv-loop classes l w at₀ bits₀ at bits =
     (at ≤ length l) × (bits ≤ at) × (isBits w l ≡ fits w bits (rest 124 (drop at l)) (pieces 124 (drop at l)))
 
 abbrev μ-loop : tie.MeasureT-loop
-μ-loop l w at₀ bits₀ at bits = length l - at
+μ-loop classes l w at₀ bits₀ at bits = length l - at
 
 loop-holds : tie.Need-loop-holds Inv-loop μ-loop
 loop-holds c = (omega arith, omega arith, fits-start (c .before .args .w) (c .before .args .l .now))
@@ -33,8 +33,9 @@ returns : tie.Need-returns Inv-loop μ-loop
 returns c =
     let p = c .before .part-end in
     let v = c .before .before .before .loop in
-    sym (v .inv .2 ∙ fits-none (c .before .before .before .before .before .args .w) (c .before .before .before
-    .before .before .args .l .now) (v .at) (v .bits) (p .result) (p .ensures .1) (omega arith)
+    sym (v .inv .2 ∙ fits-none (c .before .before .before .before .before .args .w)
+    (c .before .before .before .before .before .args .l .now) (v .at) (v .bits) (p .result) (p .ensures .1)
+    (omega arith)
     (omega arith) (omega arith))
 
 sub-is-cell : tie.Need-sub-is-cell Inv-loop μ-loop

@@ -16,8 +16,8 @@ sub-if1 c = search needs
 
 returns : tie.Need-returns
 returns c =
-    long-end (c .before .before .before .args .w) (c .before .before .before .args .l .now) (c .before
-    .part-end .result) (c .before .part-end .ensures .1) (c .before .part-end .ensures .0 .1)
+    long-end (c .before .before .before .args .w) (c .before .before .before .args .l .now)
+    (c .before .part-end .result) (c .before .part-end .ensures .1) (c .before .part-end .ensures .0 .1)
     (c .if1 .taken)
 
 mul-if2 : tie.Need-mul-if2
@@ -26,8 +26,8 @@ mul-if2 c = search needs
 returns-2 : tie.Need-returns-2
 returns-2 c =
     long-width (c .before .before .before .before .args .w) (c .before .before .before .before .args .l .now)
-    (c .before .before .part-end .result) (c .before .before .part-end .ensures .1) (c .before .before
-    .part-end .ensures .0 .1)
+    (c .before .before .part-end .result) (c .before .before .part-end .ensures .1)
+    (c .before .before .part-end .ensures .0 .1)
     (c .before .if1 .left) (c .if2 .taken)
 
 sub-is-cell : tie.Need-sub-is-cell
@@ -45,9 +45,10 @@ is-cell-requires c κs = search needs
 returns-3 : tie.Need-returns-3
 returns-3 c =
     c .is-cell .ensures
-    ∙ long-cell (c .before .before .before .before .before .before .args .w) (c .before .before .before .before
-    .before .before .args .l .now) (c .before .before .before .before .part-end .result) (c .before .before
-    .before .before .part-end .ensures .1) (c .before .before .before .before .part-end .ensures .0 .1)
+    ∙ long-cell (c .before .before .before .before .before .before .args .w)
+    (c .before .before .before .before .before .before .args .l .now)
+    (c .before .before .before .before .part-end .result) (c .before .before .before .before .part-end .ensures .1)
+    (c .before .before .before .before .part-end .ensures .0 .1)
     (c .before .before .before .if1 .left) (c .before .before .if2 .left)
 
 pub is-long-spec : {M : Type 1} → statement M

@@ -27,9 +27,9 @@ is-bits-requires : tie.Need-is-bits-requires
 is-bits-requires c κs = search needs
 
 returns-2 : tie.Need-returns-2
-returns-2 c = c .is-bits .ensures ∙ row-bits (c .before .before .before .before .before .before .args .w) (c .before
-    .before .before .before .before .before .args .line .now) (c .before .before .before .before .if1 .left) (c
-    .before .before .if2 .taken)
+returns-2 c = c .is-bits .ensures ∙ row-bits (c .before .before .before .before .before .before .args .w)
+    (c .before .before .before .before .before .before .args .line .now)
+    (c .before .before .before .before .if1 .left) (c .before .before .if2 .taken)
 
 shared-slice-read-if3 : tie.Need-shared-slice-read-if3
 shared-slice-read-if3 c = search needs
@@ -48,12 +48,13 @@ is-long-requires c κs = search needs
 
 returns-3 : tie.Need-returns-3
 returns-3 c = c .is-long .ensures ∙ row-long (c .before .before .before .before .before .before .before .before .args
-    .w) (c .before .before .before .before .before .before .before .before .args .line .now) (c .before .before
-    .before .before .before .before .if1 .left) (c .before .before .if3 .taken)
+    .w) (c .before .before .before .before .before .before .before .before .args .line .now)
+    (c .before .before .before .before .before .before .if1 .left) (c .before .before .if3 .taken)
 
 returns-4 : tie.Need-returns-4
-returns-4 c = row-other (c .before .before .before .before .before .before .args .w) (c .before .before .before
-    .before .before .before .args .line .now) (c .before .before .before .before .if1 .left) (c .before .before .if2
+returns-4 c = row-other (c .before .before .before .before .before .before .args .w)
+    (c .before .before .before .before .before .before .args .line .now)
+    (c .before .before .before .before .if1 .left) (c .before .before .if2
     .left) (c .if3 .left)
 
 pub is-row-spec : {M : Type 1} → statement M

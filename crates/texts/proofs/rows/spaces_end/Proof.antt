@@ -1,6 +1,6 @@
-use mathlib.Core.Path.{_≡_, refl, sym, _∙_, ap}
+use mathlib.Core.Path.{_≡_, refl, sym, _∙_}
 use native.Mathlib.Omega.{arith}
-use Prim.Native.Nat.{_≤_, _-_, _+_, _*_, _<_}
+use Prim.Native.Nat.{_≤_, _-_, _<_}
 use borrow.Author.Tests.{not-true, not-false}
 use lib.ListN.{length, drop, getD}
 use Rattle.names.proofs.ClassRules.{space-in}
@@ -11,17 +11,13 @@ use Rattle.texts.proofs.rows.spaces_end.Statement.{statement}
 use Rattle.texts.proofs.rows.spaces_end.Tie as tie
 use Rattle.texts.proofs.rows.spaces_end.Reads as reads
 use Rattle.texts.proofs.rows.spaces_end.Lts as lts
-use Rattle.names.proofs.classes.class_table.Reads as class-table-reads
 use Rattle.names.proofs.classes.is_space_in.Reads as is-space-in-reads
 
 abbrev Inv-loop : tie.InvT-loop
-Inv-loop s classes i₀ i = (i ≤ length s) × (leftTrim s ≡ leftTrim (drop i s))
+Inv-loop classes s i₀ i = (i ≤ length s) × (leftTrim s ≡ leftTrim (drop i s))
 
 abbrev μ-loop : tie.MeasureT-loop
-μ-loop s classes i₀ i = length s - i
-
-class-table-requires : tie.Need-class-table-requires Inv-loop μ-loop
-class-table-requires c κs = search needs
+μ-loop classes s i₀ i = length s - i
 
 loop-holds : tie.Need-loop-holds Inv-loop μ-loop
 loop-holds c = (omega arith, refl)
@@ -34,15 +30,19 @@ is-space-in-requires c κs = search needs
 
 returns : tie.Need-returns Inv-loop μ-loop
 returns c =
-    let s = c .before .before .before .before .before .before .before .before .args .s .now in
-    let i = c .before .before .before .before .before .loop .i in
-    let byte : getD s i 0 < 256 = omega (arith, c .before .before .shared-slice-known2 .given i) in
-    let tells = sym (space-in (c .before .before .before .before .before .before .class-table .result)
-    (c .before .before .before .before .before .before .class-table .ensures) (getD s i 0) byte)
+    let s = c .before .before .before .before .before .before .args .s .now in
+    let i = c .before .before .before .before .loop .i in
+    let byte : getD s i 0 < 256 = omega (
+      arith,
+      c .before .before .before .before .before .shared-slice-known .given
+          i,
+    ) in
+    let tells = sym (space-in (c .before .before .before .before .before .before .args .classes .now)
+    (c .before .before .before .before .before .before .pre) (getD s i 0) byte)
     ∙ sym (c .before .is-space-in .ensures) in (
       omega arith,
       left-stop s i (omega arith) (tells ∙ not-true (c .before .is-space-in .result)
-          (c .if1 .taken)) ∙ sym (c .before .before .before .before .before .loop .inv .1),
+          (c .if1 .taken)) ∙ sym (c .before .before .before .before .loop .inv .1),
     )
 
 add-i : tie.Need-add-i Inv-loop μ-loop
@@ -53,20 +53,24 @@ loop-less c = search needs
 
 loop-again : tie.Need-loop-again Inv-loop μ-loop
 loop-again c =
-    let s = c .before .before .before .before .before .before .before .before .args .s .now in
-    let i = c .before .before .before .before .before .loop .i in
-    let byte : getD s i 0 < 256 = omega (arith, c .before .before .shared-slice-known2 .given i) in
-    let tells = sym (space-in (c .before .before .before .before .before .before .class-table .result)
-    (c .before .before .before .before .before .before .class-table .ensures) (getD s i 0) byte)
+    let s = c .before .before .before .before .before .before .args .s .now in
+    let i = c .before .before .before .before .loop .i in
+    let byte : getD s i 0 < 256 = omega (
+      arith,
+      c .before .before .before .before .before .shared-slice-known .given
+          i,
+    ) in
+    let tells = sym (space-in (c .before .before .before .before .before .before .args .classes .now)
+    (c .before .before .before .before .before .before .pre) (getD s i 0) byte)
     ∙ sym (c .before .is-space-in .ensures) in (
       omega arith,
-      c .before .before .before .before .before .loop .inv .1 ∙ left-step s i (omega arith)
+      c .before .before .before .before .loop .inv .1 ∙ left-step s i (omega arith)
           (tells ∙ not-false (c .before .is-space-in .result) (c .if1 .left)),
     )
 
 returns-2 : tie.Need-returns-2 Inv-loop μ-loop
 returns-2 c =
-    let s = c .before .before .before .before .args .s .now in
+    let s = c .before .before .before .args .s .now in
     (omega arith, left-end s (c .before .loop .i) (omega arith) (omega arith) ∙ sym (c .before .loop .inv .1))
 
 pub spaces-end-spec : {M : Type 1} → statement M
@@ -75,7 +79,6 @@ spaces-end-spec =
     (tie.spec
     Inv-loop
     μ-loop
-    class-table-requires
     loop-holds
     shared-slice-read-is-space-in
     is-space-in-requires

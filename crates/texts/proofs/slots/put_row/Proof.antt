@@ -14,19 +14,27 @@ is-row-requires c κs = search needs
 
 put-slots-requires : tie.Need-put-slots-requires
 put-slots-requires c κs =
-    let q = row-read (c .before .before .before .before .before .args .w) (c .before .before .before .before .before
-    .args .line .now) (sym (c .before .before .is-row .ensures) ∙ c .before .if1 .taken) .1 in
-    (omega (arith, q .size), omega (arith, q .size), omega arith, q .noRest)
+    let q = row-read (c .before .before .before .before .before .args .w)
+    (c .before .before .before .before .before .args .line .now) (sym (c .before .before .is-row .ensures)
+    ∙ c .before .if1 .taken) .1 in (
+      omega (arith, q .size),
+      omega (arith, q .size),
+      omega arith,
+      q .noRest,
+      c .before .before .before .before .before
+          .pre .2,
+    )
 
 same-length : tie.Need-same-length
 same-length c = search needs
 
 returns : tie.Need-returns
 returns c =
-    rowed-put (c .before .before .before .before .before .before .before .before .args .w) (c .before .before .before
-    .before .before .before .before .before .args .line .now) _ _ (c .before .before .before .before .before .before
-    .before .before .args .at) _ (sym (c .before .before .before .before .before .is-row .ensures) ∙ c .before
-    .before .before .before .if1 .taken) (c .before .before .put-slots .ensures)
+    rowed-put (c .before .before .before .before .before .before .before .before .args .w)
+    (c .before .before .before .before .before .before .before .before .args .line .now) _ _
+    (c .before .before .before .before .before .before .before .before .args .at) _ (sym
+    (c .before .before .before .before .before .is-row .ensures) ∙ c .before .before .before .before .if1 .taken)
+    (c .before .before .put-slots .ensures)
 
 returns-2 : tie.Need-returns-2
 returns-2 c = rowed-wrong (c .before .before .before .before .args .w) (c .before .before .before .before .args .line

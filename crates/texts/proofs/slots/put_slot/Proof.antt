@@ -27,14 +27,14 @@ trimmed-requires c κs = search needs
 yes-no-requires : tie.Need-yes-no-requires
 yes-no-requires c κs = search needs
 
-add-t14 : tie.Need-add-t14
-add-t14 c = search needs
-
-cast-t16 : tie.Need-cast-t16
-cast-t16 c = search needs
+add-t15 : tie.Need-add-t15
+add-t15 c = search needs
 
 cast-t17 : tie.Need-cast-t17
 cast-t17 c = search needs
+
+cast-t18 : tie.Need-cast-t18
+cast-t18 c = search needs
 
 slice-aggregate-put : tie.Need-slice-aggregate-put
 slice-aggregate-put c = search needs
@@ -69,8 +69,8 @@ returns c =
     let t = c .before .before .before .before .before .before .before .before .before .before .before .trimmed in
     let y = c .before .before .before .before .before .before .before .before .before .before .yes-no .ensures in
     slot-put (a .chars .now) (a .long) (f .result) (t .result) (f .ensures .1) (t .ensures .0) (t .ensures .1)
-    (f .ensures .0) (c .before .before .before .before .before .before .before .before .before .before .before
-    .before .before .before .before .before .pre .1)
+    (f .ensures .0) (c .before .before .before .before .before .before .before .before .before .before .before .before
+    .before .before .before .before .pre .1)
     (rw y at (c .before .before .before .before .before .before .before .put .ensures)) (c .before .before .put2
     .ensures)
 
@@ -84,9 +84,9 @@ put-slot-spec =
     part-trimmed-end
     trimmed-requires
     yes-no-requires
-    add-t14
-    cast-t16
+    add-t15
     cast-t17
+    cast-t18
     slice-aggregate-put
     put-requires
     add-put

@@ -1,5 +1,5 @@
 use mathlib.Core.Path.{_≡_, refl}
-use Prim.Native.Nat.{_≤_, _-_, _<_}
+use Prim.Native.Nat.{_≤_, _-_}
 use native.Mathlib.Omega.{arith}
 use lib.ListN.{length}
 use Rattle.texts.proofs.SlotRows.{Putting, putting-start, bar-there, putting-next, putting-end}
@@ -12,11 +12,11 @@ use Rattle.texts.proofs.slots.put_slot.Reads as put-slot-reads
 use Rattle.texts.proofs.text_bytes.part_end.Reads as part-end-reads
 
 abbrev Inv-loop : tie.InvT-loop
-Inv-loop cells₀ at line bar next₀ from₀ n₀ cells next from n =
+Inv-loop classes cells₀ at line bar next₀ from₀ n₀ cells next from n =
     (from ≤ length line) × (length cells ≡ length cells₀) × Putting cells₀ at line cells next from n
 
 abbrev μ-loop : tie.MeasureT-loop
-μ-loop cells₀ at line bar next₀ from₀ n₀ cells next from n = length line - from
+μ-loop classes cells₀ at line bar next₀ from₀ n₀ cells next from n = length line - from
 
 shared-slice-read-bar : tie.Need-shared-slice-read-bar Inv-loop μ-loop
 shared-slice-read-bar c = search needs
@@ -25,8 +25,8 @@ loop-holds : tie.Need-loop-holds Inv-loop μ-loop
 loop-holds c = (
   omega arith,
   refl,
-  putting-start _ (c .before .before .before .args .line .now) (c .before .before
-      .before .args .at) (c .before .before .before .pre .3),
+  putting-start _ (c .before .before .before .args .line .now) (c .before .before .before .args .at)
+      (c .before .before .before .pre .3),
 )
 
 part-end-requires : tie.Need-part-end-requires Inv-loop μ-loop
@@ -46,7 +46,7 @@ put-slot-requires c κs =
     let p = c .before .before .part-end in
     let v = c .before .before .before .before .loop .inv .2 in
     let lt = bar-there v (p .result) (p .ensures .1) (omega arith) (p .ensures .0 .1) in
-    (omega arith, omega (arith, v .near))
+    (omega arith, omega (arith, v .near), c .before .before .before .before .before .before .before .before .pre .4)
 
 add-n : tie.Need-add-n Inv-loop μ-loop
 add-n c = search needs

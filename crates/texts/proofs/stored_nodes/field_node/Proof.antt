@@ -1,7 +1,6 @@
-use Rattle.rules.specs.Limits.{storedMost}
-use mathlib.Core.Path.{_≡_, refl}
-use lib.ListN.{length}
+use mathlib.Core.Path.{refl}
 use native.Mathlib.Omega.{arith}
+use denote.Ref.{now}
 use Rattle.texts.proofs.StoredBytes.{set-two}
 use borrow.Author.Needs.{needs}
 use Rattle.texts.proofs.stored_nodes.field_node.Statement.{statement}
@@ -9,40 +8,48 @@ use Rattle.texts.proofs.stored_nodes.field_node.Tie as tie
 use Rattle.texts.proofs.stored_nodes.field_node.Reads as reads
 use Rattle.texts.proofs.stored_nodes.field_node.Lts as lts
 use Rattle.texts.proofs.stored_nodes.name_type.Reads as name-type-reads
-use Rattle.texts.proofs.stored_nodes.no_tree.Reads as no-tree-reads
-
-no-tree-requires : tie.Need-no-tree-requires
-no-tree-requires c κs = search needs
-
-array-write-bytes : tie.Need-array-write-bytes
-array-write-bytes c = search needs
-
-cast-bytes : tie.Need-cast-bytes
-cast-bytes c = search needs
-
-array-write-bytes-2 : tie.Need-array-write-bytes-2
-array-write-bytes-2 c = search needs
 
 name-type-requires : tie.Need-name-type-requires
 name-type-requires c κs = search needs
 
+slice-write-out : tie.Need-slice-write-out
+slice-write-out c = search needs
+
+cast-out : tie.Need-cast-out
+cast-out c = search needs
+
+slice-write-out-2 : tie.Need-slice-write-out-2
+slice-write-out-2 c = search needs
+
+same-length : tie.Need-same-length
+same-length c = search needs
+
 returns : tie.Need-returns
 returns c = record {
   next = refl;
-  gives = c .name-type .ensures;
+  gives = c .before .name-type .ensures;
   deep = refl;
   len = refl;
-  bytes = λ h. set-two (c .before .before .no-tree .result .bytes) _ _
-      (let q : length (c .before .before .no-tree .result .bytes) ≡ storedMost = search needs in omega arith);
+  bytes = λ h. set-two (now (c .before .before .before .args .out)) _ _ (omega (arith, c .if1 .taken));
+}
+
+returns-2 : tie.Need-returns-2
+returns-2 c = record {
+  next = refl;
+  gives = c .before .name-type .ensures;
+  deep = refl;
+  len = refl;
+  bytes = λ h. absurd (omega (arith, h, c .if1 .left));
 }
 
 pub field-node-spec : {M : Type 1} → statement M
 field-node-spec =
     tie.close
     (tie.spec
-    no-tree-requires
-    array-write-bytes
-    cast-bytes
-    array-write-bytes-2
     name-type-requires
-    returns)
+    slice-write-out
+    cast-out
+    slice-write-out-2
+    same-length
+    returns
+    returns-2)

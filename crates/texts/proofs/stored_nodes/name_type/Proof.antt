@@ -1,6 +1,5 @@
 use mathlib.Core.Path.{refl}
 use borrow.Author.Tests.{lt-ltb, le-ltb}
-use borrow.Author.Needs.{needs}
 use Rattle.texts.proofs.stored_nodes.name_type.Statement.{statement}
 use Rattle.texts.proofs.stored_nodes.name_type.Tie as tie
 use Rattle.texts.proofs.stored_nodes.name_type.Reads as reads

@@ -1,7 +1,8 @@
-use Rattle.rules.specs.Limits.{storedMost}
-use mathlib.Core.Path.{_≡_, refl}
-use lib.ListN.{length}
+use mathlib.Core.Path.{refl}
 use native.Mathlib.Omega.{arith}
+use Prim.Native.Nat.{_<_}
+use lib.ListN.{length}
+use denote.Ref.{now}
 use Rattle.rules.specs.Trees.{le4}
 use Rattle.texts.proofs.StoredBytes.{set-five}
 use borrow.Author.Needs.{needs}
@@ -9,37 +10,46 @@ use Rattle.texts.proofs.stored_nodes.number_node.Statement.{statement}
 use Rattle.texts.proofs.stored_nodes.number_node.Tie as tie
 use Rattle.texts.proofs.stored_nodes.number_node.Reads as reads
 use Rattle.texts.proofs.stored_nodes.number_node.Lts as lts
-use Rattle.texts.proofs.stored_nodes.no_tree.Reads as no-tree-reads
 
-no-tree-requires : tie.Need-no-tree-requires
-no-tree-requires c κs = search needs
+slice-write-out : tie.Need-slice-write-out
+slice-write-out c =
+    let q : 0 < length (now (c .before .args .out)) = omega (arith, c .if1 .taken) in
+    search (needs, q)
 
-array-write-bytes : tie.Need-array-write-bytes
-array-write-bytes c = search needs
+cast-out : tie.Need-cast-out
+cast-out c = search needs
 
-cast-bytes : tie.Need-cast-bytes
-cast-bytes c = search needs
+slice-write-out-2 : tie.Need-slice-write-out-2
+slice-write-out-2 c =
+    let q : 1 < length (now (c .before .args .out)) = omega (arith, c .if1 .taken) in
+    search (needs, q)
 
-array-write-bytes-2 : tie.Need-array-write-bytes-2
-array-write-bytes-2 c = search needs
+cast-out-2 : tie.Need-cast-out-2
+cast-out-2 c = search needs
 
-cast-bytes-2 : tie.Need-cast-bytes-2
-cast-bytes-2 c = search needs
+slice-write-out-3 : tie.Need-slice-write-out-3
+slice-write-out-3 c =
+    let q : 2 < length (now (c .before .args .out)) = omega (arith, c .if1 .taken) in
+    search (needs, q)
 
-array-write-bytes-3 : tie.Need-array-write-bytes-3
-array-write-bytes-3 c = search needs
+cast-out-3 : tie.Need-cast-out-3
+cast-out-3 c = search needs
 
-cast-bytes-3 : tie.Need-cast-bytes-3
-cast-bytes-3 c = search needs
+slice-write-out-4 : tie.Need-slice-write-out-4
+slice-write-out-4 c =
+    let q : 3 < length (now (c .before .args .out)) = omega (arith, c .if1 .taken) in
+    search (needs, q)
 
-array-write-bytes-4 : tie.Need-array-write-bytes-4
-array-write-bytes-4 c = search needs
+cast-out-4 : tie.Need-cast-out-4
+cast-out-4 c = search needs
 
-cast-bytes-4 : tie.Need-cast-bytes-4
-cast-bytes-4 c = search needs
+slice-write-out-5 : tie.Need-slice-write-out-5
+slice-write-out-5 c =
+    let q : 4 < length (now (c .before .args .out)) = omega (arith, c .if1 .taken) in
+    search (needs, q)
 
-array-write-bytes-5 : tie.Need-array-write-bytes-5
-array-write-bytes-5 c = search needs
+same-length : tie.Need-same-length
+same-length c = search needs
 
 returns : tie.Need-returns
 unfolding le4
@@ -48,22 +58,31 @@ returns c = record {
   gives = refl;
   deep = refl;
   len = refl;
-  bytes = λ h. set-five (c .before .no-tree .result .bytes) _ _ _ _ _
-      (let q : length (c .before .no-tree .result .bytes) ≡ storedMost = search needs in omega arith);
+  bytes = λ h. set-five (now (c .before .args .out)) _ _ _ _ _ (omega (arith, c .if1 .taken));
+}
+
+returns-2 : tie.Need-returns-2
+returns-2 c = record {
+  next = refl;
+  gives = refl;
+  deep = refl;
+  len = refl;
+  bytes = λ h. absurd (omega (arith, h, c .if1 .left));
 }
 
 pub number-node-spec : {M : Type 1} → statement M
 number-node-spec =
     tie.close
     (tie.spec
-    no-tree-requires
-    array-write-bytes
-    cast-bytes
-    array-write-bytes-2
-    cast-bytes-2
-    array-write-bytes-3
-    cast-bytes-3
-    array-write-bytes-4
-    cast-bytes-4
-    array-write-bytes-5
-    returns)
+    slice-write-out
+    cast-out
+    slice-write-out-2
+    cast-out-2
+    slice-write-out-3
+    cast-out-3
+    slice-write-out-4
+    cast-out-4
+    slice-write-out-5
+    same-length
+    returns
+    returns-2)

@@ -1,6 +1,8 @@
-use mathlib.Core.Path.{refl, ap, _∙_}
-use Prim.Native.Nat.{ℕ, _+_}
+use mathlib.Core.Path.{_≡_, refl, ap, _∙_}
+use Prim.Native.Nat.{ℕ, _+_, _<_}
 use native.Mathlib.Omega.{arith}
+use denote.Ref.{now}
+use lib.ListN.{length}
 use Rattle.texts.proofs.OperatorRows.{row-code}
 use borrow.Author.Needs.{needs}
 use Rattle.texts.proofs.stored_nodes.two_node.Statement.{statement}
@@ -8,8 +10,8 @@ use Rattle.texts.proofs.stored_nodes.two_node.Tie as tie
 use Rattle.texts.proofs.stored_nodes.two_node.Reads as reads
 use Rattle.texts.proofs.stored_nodes.two_node.Lts as lts
 use Rattle.operators.proofs.rows.operator.Reads as operator-reads
-use Rattle.texts.proofs.stored_nodes.joined.Reads as joined-reads
 use Rattle.texts.proofs.stored_nodes.larger.Reads as larger-reads
+use Rattle.texts.proofs.stored_nodes.put_first.Reads as put-first-reads
 use Rattle.texts.proofs.stored_nodes.two_type.Reads as two-type-reads
 
 two-type-requires : tie.Need-two-type-requires
@@ -21,35 +23,36 @@ larger-requires c κs = search needs
 add-depth : tie.Need-add-depth
 add-depth c = search needs
 
-add-len : tie.Need-add-len
-add-len c = search needs
-
-add-len-2 : tie.Need-add-len-2
-add-len-2 c = search needs
+add-n : tie.Need-add-n
+add-n c = search needs
 
 operator-requires : tie.Need-operator-requires
 operator-requires c κs = search needs
 
-joined-requires : tie.Need-joined-requires
-joined-requires c κs = search needs
+put-first-requires : tie.Need-put-first-requires
+put-first-requires c κs = search needs
+
+add-t9 : tie.Need-add-t9
+add-t9 c = search needs
+
+same-length : tie.Need-same-length
+same-length c = search needs
 
 returns : tie.Need-returns
 returns c = record {
   next = refl;
-  gives = c .before .before .before .before .before .before .two-type .ensures;
-  deep = ap (λ (d : ℕ). 1 + d) (c .before .before .before .before .before .larger .ensures);
+  gives = c .before .before .before .before .before .before .before .before .two-type .ensures;
+  deep = ap (λ (d : ℕ). 1 + d) (c .before .before .before .before .before .before .before .larger .ensures);
   len = refl;
-  bytes = λ h. c .joined .ensures ∙ rw (row-code (c .before .operator .result)
-      (c .before .before .before .before .before .before .before .args .o) (c .before .operator .ensures)) refl;
-}
-
-returns-2 : tie.Need-returns-2
-returns-2 c = record {
-  next = refl;
-  gives = c .before .before .before .before .two-type .ensures;
-  deep = ap (λ (d : ℕ). 1 + d) (c .before .before .before .larger .ensures);
-  len = refl;
-  bytes = λ h. absurd (omega (arith, h));
+  bytes = λ h.
+      let n = c .before .before .before .before .before .before .before .before .before .before .args .a .len + c
+      .before .before .before .before .before .before .before .before .before .before .args .b .len in
+      let lt : n < length (now (c .before .before .before .before .before .before .before .before .before .before
+      .args .out)) = omega (arith, h, c .before .before .put-first .kept .0) in
+      let e : 1 + n ≡ n + 1 = omega arith in
+      rw e (c .before .before .put-first .ensures lt ∙ rw (row-code (c .before .before .before .before .operator
+      .result) (c .before .before .before .before .before .before .before .before .before .before .args .o) (c
+      .before .before .before .before .operator .ensures)) refl);
 }
 
 pub two-node-spec : {M : Type 1} → statement M
@@ -59,9 +62,9 @@ two-node-spec =
     two-type-requires
     larger-requires
     add-depth
-    add-len
-    add-len-2
+    add-n
     operator-requires
-    joined-requires
-    returns
-    returns-2)
+    put-first-requires
+    add-t9
+    same-length
+    returns)

@@ -9,10 +9,16 @@ use Rattle.texts.proofs.stored_trees.tree_expr.Reads as tree-expr-reads
 tree-expr-requires : tie.Need-tree-expr-requires
 tree-expr-requires c κs = search needs
 
+same-length : tie.Need-same-length
+same-length c = search needs
+
 returns : tie.Need-returns
 returns c =
-    let a = c .before .before .args in
-    (c .tree-expr .ensures .0, whole-stored (a .names .now) (a .n) (a .s .now) (a .at) _ (c .tree-expr .ensures .1))
+    let a = c .before .before .before .before .before .before .args in (
+      c .before .before .tree-expr .ensures .0,
+      whole-stored (a .names .now) (a .n) (a .s .now) (a .at) _ (c .before
+          .before .tree-expr .ensures .1),
+    )
 
 pub stored-tree-spec : {M : Type 1} → statement M
-stored-tree-spec = tie.close (tie.spec tree-expr-requires returns)
+stored-tree-spec = tie.close (tie.spec tree-expr-requires same-length returns)

@@ -1,8 +1,10 @@
 use mathlib.Core.Path.{_≡_, sym, _∙_}
 use mathlib.Core.Bool.{true, false}
 use Prim.Native.Nat.{_-_}
+use denote.Ref.{now}
 use lib.ListN.{take, drop}
 use Rattle.rules.specs.Names.{isShort}
+use Rattle.names.proofs.LentLaws.{short-in}
 use Rattle.text_laws.specs.Reader.{isNumberWord}
 use Rattle.texts.proofs.StoredSteps.{leaf-name, leaf-number, leaf-none}
 use borrow.Author.Needs.{needs}
@@ -10,7 +12,7 @@ use Rattle.texts.proofs.stored_trees.tree_leaf.Statement.{statement}
 use Rattle.texts.proofs.stored_trees.tree_leaf.Tie as tie
 use Rattle.texts.proofs.stored_trees.tree_leaf.Reads as reads
 use Rattle.texts.proofs.stored_trees.tree_leaf.Lts as lts
-use Rattle.names.proofs.labels.is_short.Reads as is-short-reads
+use Rattle.names.proofs.labels.is_short_in.Reads as is-short-in-reads
 use Rattle.texts.proofs.held_names.look_up.Reads as look-up-reads
 use Rattle.texts.proofs.leaves.is_number.Reads as is-number-reads
 use Rattle.texts.proofs.leaves.word_end.Reads as word-end-reads
@@ -20,19 +22,19 @@ use Rattle.texts.proofs.stored_nodes.no_tree.Reads as no-tree-reads
 use Rattle.texts.proofs.stored_nodes.number_node.Reads as number-node-reads
 
 word-end-requires : tie.Need-word-end-requires
-word-end-requires c κs = search needs
+word-end-requires c κs = (c .before .before .pre .0, c .before .before .pre .2)
 
-sub-is-short : tie.Need-sub-is-short
-sub-is-short c = search needs
+sub-is-short-in : tie.Need-sub-is-short-in
+sub-is-short-in c = search needs
 
-part-is-short-start : tie.Need-part-is-short-start
-part-is-short-start c = search needs
+part-is-short-in-start : tie.Need-part-is-short-in-start
+part-is-short-in-start c = search needs
 
-part-is-short-end : tie.Need-part-is-short-end
-part-is-short-end c = search needs
+part-is-short-in-end : tie.Need-part-is-short-in-end
+part-is-short-in-end c = search needs
 
-is-short-requires : tie.Need-is-short-requires
-is-short-requires c κs = search needs
+is-short-in-requires : tie.Need-is-short-in-requires
+is-short-in-requires c κs = search needs
 
 sub-look-up : tie.Need-sub-look-up
 sub-look-up c = search needs
@@ -49,16 +51,23 @@ look-up-requires c κs = search needs
 field-node-requires : tie.Need-field-node-requires
 field-node-requires c κs = search needs
 
+same-length : tie.Need-same-length
+same-length c = search needs
+
 returns : tie.Need-returns
 returns c =
-    let a = c .before .before .before .before .before .before .before .before .args in
-    let s = a .s .now in
-    let end = c .before .before .before .before .before .before .word-end .result in
-    let w = c .before .before .before .before .before .before .word-end .ensures in
-    let y : isShort (take (end - a .at) (drop (a .at) s)) ≡ true =
-    sym (c .before .before .before .before .is-short .ensures) ∙ c .before .before .before .if1 .taken in
-    leaf-name (a .names .now) (a .n) s (a .at) end (w .0 .0) (w .0 .1) (w .1) _ _ y (c .before .look-up .ensures .1)
-    (c .field-node .ensures)
+    let a = c .before .before .before .before .before .before .before .before .before .before .before .before .args in
+    let s = now (a .s) in
+    let end = c .before .before .before .before .before .before .before .before .before .word-end .result in
+    let w = c .before .before .before .before .before .before .before .before .before .word-end .ensures in
+    let word = take (end - a .at) (drop (a .at) s) in
+    let y : isShort word ≡ true =
+    sym (short-in (now (a .classes)) (c .before .before .before .before .before .before .before .before .before
+    .before .before .before .pre .2) word) ∙ sym (c .before .before .before .before .before .before .before
+    .is-short-in .ensures) ∙ c .before .before .before .before .before .before .if1 .taken in
+    leaf-name (now (a .names)) (a .n) s (a .at) end (w .0 .0) (w .0 .1) (w .1) _ _ _ y (c .before .before .before
+    .before .look-up .ensures .1)
+    (c .before .before .field-node .ensures)
 
 sub-is-number : tie.Need-sub-is-number
 sub-is-number c = search needs
@@ -70,7 +79,7 @@ part-is-number-end : tie.Need-part-is-number-end
 part-is-number-end c = search needs
 
 is-number-requires : tie.Need-is-number-requires
-is-number-requires c κs = search needs
+is-number-requires c κs = c .before .before .before .before .before .before .before .pre .2
 
 sub-word-value : tie.Need-sub-word-value
 sub-word-value c = search needs
@@ -82,55 +91,66 @@ part-word-value-end : tie.Need-part-word-value-end
 part-word-value-end c = search needs
 
 word-value-requires : tie.Need-word-value-requires
-word-value-requires c κs = search needs
+word-value-requires c κs = c .before .before .before .before .before .before .before .before .before .before .pre .2
 
 number-node-requires : tie.Need-number-node-requires
 number-node-requires c κs = search needs
 
+same-length-2 : tie.Need-same-length-2
+same-length-2 c = search needs
+
 returns-2 : tie.Need-returns-2
 returns-2 c =
-    let a = c .before .before .before .before .before .before .before .before .before .before .before .args in
-    let s = a .s .now in
-    let end = c .before .before .before .before .before .before .before .before .before .word-end .result in
-    let w = c .before .before .before .before .before .before .before .before .before .word-end .ensures in
-    let k : isShort (take (end - a .at) (drop (a .at) s)) ≡ false =
-    sym (c .before .before .before .before .before .before .before .is-short .ensures) ∙
-    c .before .before .before .before .before .before .if1 .left in
-    let y : isNumberWord (take (end - a .at) (drop (a .at) s)) ≡ true =
-    sym (c .before .before .before .before .is-number .ensures) ∙ c .before .before .before .if2 .taken in
-    leaf-number (a .names .now) (a .n) s (a .at) end (w .0 .0) (w .0 .1) (w .1) _ _ k y
-    (c .before .word-value .ensures .1) (c .number-node .ensures)
+    let a = c .before .before .before .before .before .before .before .before .before .before .before .before .before
+    .before .before .args in
+    let s = now (a .s) in
+    let end = c .before .before .before .before .before .before .before .before .before .before .before .before
+    .word-end .result in
+    let w = c .before .before .before .before .before .before .before .before .before .before .before .before
+    .word-end .ensures in
+    let word = take (end - a .at) (drop (a .at) s) in
+    let k : isShort word ≡ false =
+    sym (short-in (now (a .classes)) (c .before .before .before .before .before .before .before .before .before
+    .before .before .before .before .before .before .pre .2) word) ∙ sym (c .before .before .before .before .before
+    .before .before .before .before .before .is-short-in .ensures) ∙ c .before .before .before .before .before
+    .before .before .before .before .if1 .left in
+    let y : isNumberWord word ≡ true = sym (c .before .before .before .before .before .before .before .is-number
+    .ensures) ∙ c .before .before .before .before .before .before .if2 .taken in
+    leaf-number (now (a .names)) (a .n) s (a .at) end (w .0 .0) (w .0 .1) (w .1) _ _ _ k y
+    (c .before .before .before .before .word-value .ensures .1) (c .before .before .number-node .ensures)
 
 no-tree-requires : tie.Need-no-tree-requires
 no-tree-requires c κs = search needs
 
 returns-3 : tie.Need-returns-3
 returns-3 c =
-    let a = c .before .before .before .before .before .before .before .before .before .args in
-    let s = a .s .now in
+    let a = c .before .before .before .before .before .before .before .before .before .before .args in
+    let s = now (a .s) in
     let end = c .before .before .before .before .before .before .before .word-end .result in
     let w = c .before .before .before .before .before .before .before .word-end .ensures in
-    let k : isShort (take (end - a .at) (drop (a .at) s)) ≡ false =
-    sym (c .before .before .before .before .before .is-short .ensures) ∙ c .before .before .before .before .if1 .left
-    in
-    let y : isNumberWord (take (end - a .at) (drop (a .at) s)) ≡ false =
-    sym (c .before .before .is-number .ensures) ∙ c .before .if2 .left in
-    leaf-none (a .names .now) (a .n) s (a .at) end (w .0 .0) (w .0 .1) (w .1) _ k y (c .no-tree .ensures)
+    let word = take (end - a .at) (drop (a .at) s) in
+    let k : isShort word ≡ false =
+    sym (short-in (now (a .classes)) (c .before .before .before .before .before .before .before .before .before
+    .before .pre .2) word) ∙ sym (c .before .before .before .before .before .is-short-in .ensures) ∙ c .before
+    .before .before .before .if1 .left in
+    let y : isNumberWord word ≡ false = sym (c .before .before .is-number .ensures) ∙ c .before .if2 .left in
+    leaf-none (now (a .names)) (a .n) s (a .at) end (w .0 .0) (w .0 .1) (w .1) _ _ k y (c .no-tree .ensures)
 
 pub tree-leaf-spec : {M : Type 1} → statement M
 tree-leaf-spec =
     tie.close
     (tie.spec
     word-end-requires
-    sub-is-short
-    part-is-short-start
-    part-is-short-end
-    is-short-requires
+    sub-is-short-in
+    part-is-short-in-start
+    part-is-short-in-end
+    is-short-in-requires
     sub-look-up
     part-look-up-start
     part-look-up-end
     look-up-requires
     field-node-requires
+    same-length
     returns
     sub-is-number
     part-is-number-start
@@ -141,6 +161,7 @@ tree-leaf-spec =
     part-word-value-end
     word-value-requires
     number-node-requires
+    same-length-2
     returns-2
     no-tree-requires
     returns-3)

@@ -1,4 +1,3 @@
-use native.Mathlib.Omega.{arith}
 use Rattle.texts.proofs.WidthTrees.{fixed-zero, fixed-large, fixed-here}
 use borrow.Author.Needs.{needs}
 use Rattle.texts.proofs.width_trees.fixed_width.Statement.{statement}

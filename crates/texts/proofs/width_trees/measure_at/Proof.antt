@@ -18,17 +18,23 @@ stored-tree-requires c κs = search needs
 plain-requires : tie.Need-plain-requires
 plain-requires c κs = search needs
 
+same-length : tie.Need-same-length
+same-length c = search needs
+
 returns : tie.Need-returns
 returns c =
-    let t = c .before .before .before .stored-tree in
-    measure-fail (c .before .before .before .before .before .args .names .now) (c .before .before .before .before
-    .before .args .n) (c .before .before .before .before .before .args .s .now) (c .before .before .before .before
-    .before .args .at) (t .result) (t .ensures .1) _ (c .plain .ensures) (c .before .if1 .taken)
+    let a = c .before .before .before .before .before .before .before .before .before .args in
+    let t = c .before .before .before .before .before .stored-tree in
+    measure-fail (a .names .now) (a .n) (a .s .now) (a .at) (t .result) _ (t .ensures .1) _ (c .plain .ensures) (c
+    .before .if1 .taken)
 
 unit-behind-requires : tie.Need-unit-behind-requires
 unit-behind-requires c κs =
-    let t = c .before .before .stored-tree in
-    got-within _ _ _ _ (t .result) (c .if1 .left) (t .ensures .0) .1
+    let t = c .before .before .before .before .stored-tree in (
+      got-within _ _ _ _ (t .result) (c .if1 .left) (t .ensures .0) .1,
+      c .before .before .before .before .before
+          .before .before .before .pre .3,
+    )
 
 enum-told : tie.Need-enum-told
 enum-told c = search needs
@@ -41,38 +47,46 @@ enum-known-b c = search needs
 
 sized-requires : tie.Need-sized-requires
 sized-requires c κs =
-    let t = c .before .before .before .before .before .before .stored-tree in
+    let t = c .before .before .before .before .before .before .before .before .stored-tree in
     let p = c .before .b .given in
     let h = c .before .before .before .unit-behind .ensures in
     let w = got-within _ _ _ _ (t .result) (c .before .before .before .before .if1 .left) (t .ensures .0) in
     let v = bits-within _ _ (p .1) (h .0) in (
-      omega arith,
+      omega (arith, w .0, v .0),
       v .1,
-      bits-unit (c .before .before .before .before .before .before .before .before .args .s .now)
-          (t .result .next) _ (h .1) (p .1),
+      bits-unit (c .before .before .before .before .before .before .before .before
+          .before .before .before .before .args .s .now) (t .result .next) _ (h .1) (p .1),
+      c .before .before .before
+          .before .before .before .before .before .before .before .before .before .pre .3,
     )
+
+same-length-2 : tie.Need-same-length-2
+same-length-2 c = search needs
 
 returns-2 : tie.Need-returns-2
 returns-2 c =
-    let t = c .before .before .before .before .before .before .stored-tree in
+    let a = c .before .before .before .before .before .before .before .before .before .before .before .before .args in
+    let t = c .before .before .before .before .before .before .before .before .stored-tree in
     let h = c .before .before .before .unit-behind .ensures in
-    let m = bits-none (c .before .before .before .before .before .before .before .before .args .s .now) (t .result
-    .next) _ (h .1) (c .before .enum-told .given .1) in
-    measure-bare (c .before .before .before .before .before .before .before .before .args .names .now) (c .before
-    .before .before .before .before .before .before .before .args .n) (c .before .before .before .before .before
-    .before .before .before .args .s .now) (c .before .before .before .before .before .before .before .before .args
-    .at) (t .result) (t .ensures .1) _ (c .plain2 .ensures) (c .before .before .before .before .if1 .left) m
+    let m = bits-none (a .s .now) (t .result .next) _ (h .1) (c .before .enum-told .given .1) in
+    measure-bare (a .names .now) (a .n) (a .s .now) (a .at) (t .result) _ (t .ensures .1) _ (c .plain2 .ensures) (c
+    .before .before .before .before .if1 .left) m
+
+same-length-3 : tie.Need-same-length-3
+same-length-3 c = search needs
 
 returns-3 : tie.Need-returns-3
 returns-3 c =
-    let a = c .before .before .before .before .before .before .before .before .before .args in
-    let t = c .before .before .before .before .before .before .before .stored-tree in
+    let a = c .before .before .before .before .before .before .before .before .before .before .before .before .before
+    .args in
+    let t = c .before .before .before .before .before .before .before .before .before .stored-tree in
     let p = c .before .before .b .given in
     let h = c .before .before .before .before .unit-behind .ensures in
     let k = c .sized in
     let m = bits-some (a .s .now) (t .result .next) _ (h .1) (p .1) in
-    measure-sized (a .names .now) (a .n) (a .s .now) (a .at) (t .result) (t .ensures .1) (p .0 .0) (p .0 .1 .0)
-    (k .result) (c .before .before .before .before .before .if1 .left) m (k .ensures .0) (k .ensures .1)
+    measure-sized (a .names .now) (a .n) (a .s .now) (a .at) (t .result) _ (t .ensures .1) (p .0 .0) (p .0 .1 .0) (k
+    .result) (c .before .before .before .before .before .if1 .left) m (k .ensures .0)
+    (k .ensures .1)
 
 pub measure-at-spec : {M : Type 1} → statement M
 measure-at-spec =
@@ -80,11 +94,14 @@ measure-at-spec =
     (tie.spec
     stored-tree-requires
     plain-requires
+    same-length
     returns
     unit-behind-requires
     enum-told
     plain-requires-2
     enum-known-b
     sized-requires
+    same-length-2
     returns-2
+    same-length-3
     returns-3)

@@ -1,5 +1,4 @@
 use mathlib.Core.Path.{sym, _∙_}
-use native.Mathlib.Omega.{arith}
 use Rattle.texts.proofs.WidthTrees.{sized-single, sized-other}
 use borrow.Author.Needs.{needs}
 use Rattle.texts.proofs.width_trees.sized.Statement.{statement}

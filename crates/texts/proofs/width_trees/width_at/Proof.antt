@@ -1,5 +1,4 @@
 use mathlib.Core.Path.{sym, _∙_}
-use native.Mathlib.Omega.{arith}
 use Rattle.texts.proofs.WidthTrees.{width-rest, width-measure}
 use borrow.Author.Needs.{needs}
 use Rattle.texts.proofs.width_trees.width_at.Statement.{statement}
@@ -24,20 +23,26 @@ plain-requires c κs = search needs
 
 returns : tie.Need-returns
 returns c =
-    width-rest (c .before .before .before .before .before .args .names .now) (c .before .before .before .before
-    .before .args .n) (c .before .before .before .before .before .args .s .now) (c .before .before .before .before
-    .before .args .at) (omega arith) _ (sym (c .before .before .starts-at .ensures) ∙ c .before .if1 .taken) (c
-    .plain .ensures)
+    let a = c .before .before .before .before .before .before .args in
+    width-rest (a .names .now) (a .n) (a .s .now) (a .at) (c .before .before .before .before .before .before .pre .0)
+    _ _ (sym (c .before .before .starts-at .ensures) ∙ c .before .if1 .taken) (c .plain .ensures)
 
 measure-at-requires : tie.Need-measure-at-requires
 measure-at-requires c κs = search needs
 
+same-length : tie.Need-same-length
+same-length c = search needs
+
 returns-2 : tie.Need-returns-2
 returns-2 c =
-    let a = c .before .before .before .before .before .args in
-    let m = c .measure-at in
-    let n = sym (c .before .before .starts-at .ensures) ∙ c .before .if1 .left in
-    (m .ensures .0, width-measure (a .names .now) (a .n) (a .s .now) (a .at) (omega arith) _ n (m .ensures .1))
+    let a = c .before .before .before .before .before .before .before .before .before .args in
+    let m = c .before .before .measure-at in
+    let n = sym (c .before .before .before .before .before .starts-at .ensures) ∙ c .before .before .before .before
+    .if1 .left in (
+      m .ensures .0,
+      width-measure (a .names .now) (a .n) (a .s .now) (a .at) (c .before .before .before .before
+          .before .before .before .before .before .pre .0) _ _ n (m .ensures .1),
+    )
 
 pub width-at-spec : {M : Type 1} → statement M
 width-at-spec =
@@ -49,4 +54,5 @@ width-at-spec =
     plain-requires
     returns
     measure-at-requires
+    same-length
     returns-2)

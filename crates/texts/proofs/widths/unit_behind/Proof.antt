@@ -22,7 +22,7 @@ unit-at-requires : tie.Need-unit-at-requires
 unit-at-requires c κs =
     let a = c .before .before .before .before .args in
     let y = sym (c .before .starts-at .ensures) ∙ c .if1 .taken in
-    spaced-room (a .s .now) (a .at) (omega arith) y
+    (spaced-room (a .s .now) (a .at) (omega arith) y, c .before .before .before .before .pre .1)
 
 returns : tie.Need-returns
 returns c =

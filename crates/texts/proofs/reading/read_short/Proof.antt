@@ -1,8 +1,8 @@
 use borrow.Author.Needs.{needs}
-use Rattle.texts.proofs.reading.read_plain.Statement.{statement}
-use Rattle.texts.proofs.reading.read_plain.Tie as tie
-use Rattle.texts.proofs.reading.read_plain.Reads as reads
-use Rattle.texts.proofs.reading.read_plain.Lts as lts
+use Rattle.texts.proofs.reading.read_short.Statement.{statement}
+use Rattle.texts.proofs.reading.read_short.Tie as tie
+use Rattle.texts.proofs.reading.read_short.Reads as reads
+use Rattle.texts.proofs.reading.read_short.Lts as lts
 use Rattle.texts.proofs.reading.read_lines.Reads as read-lines-reads
 
 slice-aggregate-read-lines : tie.Need-slice-aggregate-read-lines
@@ -25,8 +25,8 @@ same-length c = search needs
 returns : tie.Need-returns
 returns c = search needs
 
-pub read-plain-spec : {M : Type 1} → statement M
-read-plain-spec =
+pub read-short-spec : {M : Type 1} → statement M
+read-short-spec =
     tie.close
     (tie.spec
     slice-aggregate-read-lines
