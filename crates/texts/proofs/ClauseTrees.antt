@@ -101,93 +101,93 @@ module _ (names : List (List ℕ)) (n : ℕ) (s : List ℕ) where
     },
   )
 
-  module _ (at : ℕ) (le : at ≤ length s) (r : Clause) (b : List ℕ) where
-    pub condition-yes : begins (bytes "; present only when ") (drop at s) ≡ true → ClauseWithin s (at + 20) r
-        → ClauseFor names n s (treeClause (drop (at + 20) s)) b r
-        → ClauseWithin s at r × ClauseFor names n s (readCondition (drop at s)) b r
-    condition-yes y w h =
-        let l = literal-at (bytes "; present only when ") s at le y .1 in
-        (within-from at (at + 20) r (omega arith) w, rw (condition-there (drop at s) (drop (at + 20) s) y l) h)
+module _ (names : List (List ℕ)) (n : ℕ) (s : List ℕ) (at : ℕ) (le : at ≤ length s) (r : Clause) (b : List ℕ) where
+  pub condition-yes : begins (bytes "; present only when ") (drop at s) ≡ true → ClauseWithin s (at + 20) r
+      → ClauseFor names n s (treeClause (drop (at + 20) s)) b r
+      → ClauseWithin s at r × ClauseFor names n s (readCondition (drop at s)) b r
+  condition-yes y w h =
+      let l = literal-at (bytes "; present only when ") s at le y .1 in
+      (within-from names n s at (at + 20) r (omega arith) w, rw (condition-there (drop at s) (drop (at + 20) s) y l) h)
 
-    pub condition-no : begins (bytes "; present only when ") (drop at s) ≡ false
-        → (r .right ≡ true) × (r .tree .len ≡ 0) × (r .tree .next ≡ at)
-        → ClauseWithin s at r × ClauseFor names n s (readCondition (drop at s)) b r
-    condition-no k h = bare at r (readCondition (drop at s)) le h (condition-none (drop at s) k) b
+  pub condition-no : begins (bytes "; present only when ") (drop at s) ≡ false
+      → (r .right ≡ true) × (r .tree .len ≡ 0) × (r .tree .next ≡ at)
+      → ClauseWithin s at r × ClauseFor names n s (readCondition (drop at s)) b r
+  condition-no k h = bare names n s at r (readCondition (drop at s)) le h (condition-none (drop at s) k) b
 
-    pub constraint-yes : begins (bytes "; present only when ") (drop at s) ≡ false
-        → begins (bytes "; ") (drop at s) ≡ true → ClauseWithin s (at + 2) r
-        → ClauseFor names n s (treeClause (drop (at + 2) s)) b r
-        → ClauseWithin s at r × ClauseFor names n s (readConstraint (drop at s)) b r
-    constraint-yes k y w h =
-        let l = literal-at (bytes "; ") s at le y .1 in
-        (within-from at (at + 2) r (omega arith) w, rw (constraint-there (drop at s) (drop (at + 2) s) k y l) h)
+  pub constraint-yes : begins (bytes "; present only when ") (drop at s) ≡ false
+      → begins (bytes "; ") (drop at s) ≡ true → ClauseWithin s (at + 2) r
+      → ClauseFor names n s (treeClause (drop (at + 2) s)) b r
+      → ClauseWithin s at r × ClauseFor names n s (readConstraint (drop at s)) b r
+  constraint-yes k y w h =
+      let l = literal-at (bytes "; ") s at le y .1 in
+      (within-from names n s at (at + 2) r (omega arith) w, rw (constraint-there (drop at s) (drop (at + 2) s) k y l) h)
 
-    pub constraint-no : begins (bytes "; ") (drop at s) ≡ false
-        → (r .right ≡ true) × (r .tree .len ≡ 0) × (r .tree .next ≡ at)
-        → ClauseWithin s at r × ClauseFor names n s (readConstraint (drop at s)) b r
-    constraint-no k h = bare at r (readConstraint (drop at s)) le h (constraint-none (drop at s) k) b
+  pub constraint-no : begins (bytes "; ") (drop at s) ≡ false
+      → (r .right ≡ true) × (r .tree .len ≡ 0) × (r .tree .next ≡ at)
+      → ClauseWithin s at r × ClauseFor names n s (readConstraint (drop at s)) b r
+  constraint-no k h = bare names n s at r (readConstraint (drop at s)) le h (constraint-none (drop at s) k) b
 
-    pub constraint-not-yet : begins (bytes "; present only when ") (drop at s) ≡ true
-        → (r .right ≡ true) × (r .tree .len ≡ 0) × (r .tree .next ≡ at)
-        → ClauseWithin s at r × ClauseFor names n s (readConstraint (drop at s)) b r
-    constraint-not-yet y h = bare at r (readConstraint (drop at s)) le h (constraint-later (drop at s) y) b
+  pub constraint-not-yet : begins (bytes "; present only when ") (drop at s) ≡ true
+      → (r .right ≡ true) × (r .tree .len ≡ 0) × (r .tree .next ≡ at)
+      → ClauseWithin s at r × ClauseFor names n s (readConstraint (drop at s)) b r
+  constraint-not-yet y h = bare names n s at r (readConstraint (drop at s)) le h (constraint-later (drop at s) y) b
 
-  -- ── up to the end of the line ──
+-- ── up to the end of the line ──
 
-  module _ (at : ℕ) (c : Clause) (v w : List ℕ) (x : ClauseFor names (n + 1) s (readConstraint (drop at s)) v c)
-    where
-      pub ends-none : (r : Ends) → r .right ≡ false → c .right ≡ false → EndsFor names n s at v w r
-      ends-none r e k = record {
-        wrong = λ _ form. ends-first form (drop at s) (x .wrong k);
+module _ (names : List (List ℕ)) (n : ℕ) (s : List ℕ) (at : ℕ) (c : Clause) (v w : List ℕ)
+    (x : ClauseFor names (n + 1) s (readConstraint (drop at s)) v c) where
+  pub ends-none : (r : Ends) → r .right ≡ false → c .right ≡ false → EndsFor names n s at v w r
+  ends-none r e k = record {
+    wrong = λ _ form. ends-first form (drop at s) (x .wrong k);
+    there = λ h. absurd (false≢true (sym e ∙ h));
+  }
+
+  module _ (first : c .right ≡ true) (d : Clause)
+      (y : ClauseFor names n s (readCondition (drop (c .tree .next) s)) w d) where
+    constraint-is : ClauseAs names (n + 1) s (readConstraint (drop at s)) (held (c .tree) v)
+    constraint-is = x .there first
+
+    pub ends-later : (r : Ends) → r .right ≡ false → d .right ≡ false → EndsFor names n s at v w r
+    ends-later r e k = record {
+      wrong = λ _ form. ends-second form (drop at s) (drop (c .tree .next) s) (constraint-is .tree)
+          (constraint-is .isRead) (y .wrong k);
+      there = λ h. absurd (false≢true (sym e ∙ h));
+    }
+
+    module _ (second : d .right ≡ true) (le : d .tree .next ≤ length s) where
+      condition-is : ClauseAs names n s (readCondition (drop (c .tree .next) s)) (held (d .tree) w)
+      condition-is = y .there second
+
+      pub ends-unstopped : (r : Ends) → r .right ≡ false → begins (bytes ".") (drop (d .tree .next) s) ≡ false
+          → EndsFor names n s at v w r
+      ends-unstopped r e l = record {
+        wrong = λ _ form. ends-open form (drop at s) (drop (c .tree .next) s) (drop (d .tree .next) s)
+            (constraint-is .tree) (condition-is .tree) (constraint-is .isRead) (condition-is .isRead)
+            (literal-none (bytes ".") (drop (d .tree .next) s) l);
         there = λ h. absurd (false≢true (sym e ∙ h));
       }
 
-      module _ (first : c .right ≡ true) (d : Clause)
-          (y : ClauseFor names n s (readCondition (drop (c .tree .next) s)) w d) where
-        constraint-is : ClauseAs names (n + 1) s (readConstraint (drop at s)) (held (c .tree) v)
-        constraint-is = x .there first
+      pub ends-remark : (r : Ends) → r .right ≡ false → begins (bytes ".") (drop (d .tree .next) s) ≡ true
+          → isRemark (drop (d .tree .next + 1) s) ≡ false → EndsFor names n s at v w r
+      ends-remark r e l k = record {
+        wrong = λ _ form. ends-bad form (drop at s) (drop (c .tree .next) s) (drop (d .tree .next) s)
+            (drop (d .tree .next + 1) s) (constraint-is .tree) (condition-is .tree) (constraint-is .isRead)
+            (condition-is .isRead) (literal-at (bytes ".") s (d .tree .next) le l .1) k;
+        there = λ h. absurd (false≢true (sym e ∙ h));
+      }
 
-        pub ends-later : (r : Ends) → r .right ≡ false → d .right ≡ false → EndsFor names n s at v w r
-        ends-later r e k = record {
-          wrong = λ _ form. ends-second form (drop at s) (drop (c .tree .next) s) (constraint-is .tree)
-              (constraint-is .isRead) (y .wrong k);
-          there = λ h. absurd (false≢true (sym e ∙ h));
-        }
-
-        module _ (second : d .right ≡ true) (le : d .tree .next ≤ length s) where
-          condition-is : ClauseAs names n s (readCondition (drop (c .tree .next) s)) (held (d .tree) w)
-          condition-is = y .there second
-
-          pub ends-unstopped : (r : Ends) → r .right ≡ false → begins (bytes ".") (drop (d .tree .next) s) ≡ false
-              → EndsFor names n s at v w r
-          ends-unstopped r e l = record {
-            wrong = λ _ form. ends-open form (drop at s) (drop (c .tree .next) s) (drop (d .tree .next) s)
-                (constraint-is .tree) (condition-is .tree) (constraint-is .isRead) (condition-is .isRead)
-                (literal-none (bytes ".") (drop (d .tree .next) s) l);
-            there = λ h. absurd (false≢true (sym e ∙ h));
-          }
-
-          pub ends-remark : (r : Ends) → r .right ≡ false → begins (bytes ".") (drop (d .tree .next) s) ≡ true
-              → isRemark (drop (d .tree .next + 1) s) ≡ false → EndsFor names n s at v w r
-          ends-remark r e l k = record {
-            wrong = λ _ form. ends-bad form (drop at s) (drop (c .tree .next) s) (drop (d .tree .next) s)
-                (drop (d .tree .next + 1) s) (constraint-is .tree) (condition-is .tree) (constraint-is .isRead)
-                (condition-is .isRead) (literal-at (bytes ".") s (d .tree .next) le l .1) k;
-            there = λ h. absurd (false≢true (sym e ∙ h));
-          }
-
-          pub ends-whole : begins (bytes ".") (drop (d .tree .next) s) ≡ true
-              → isRemark (drop (d .tree .next + 1) s) ≡ true
-              → EndsFor names n s at v w (record { right = true; constraint = c .tree; condition = d .tree })
-          ends-whole l k = record {
-            wrong = λ h. absurd (false≢true (sym h));
-            there = λ _. record {
-              constraint = constraint-is .tree;
-              condition = condition-is .tree;
-              isRead = λ form. ends-good form (drop at s) (drop (c .tree .next) s) (drop (d .tree .next) s)
-                  (drop (d .tree .next + 1) s) (constraint-is .tree) (condition-is .tree) (constraint-is .isRead)
-                  (condition-is .isRead) (literal-at (bytes ".") s (d .tree .next) le l .1) k;
-              first = constraint-is .stored;
-              second = condition-is .stored;
-            };
-          }
+      pub ends-whole : begins (bytes ".") (drop (d .tree .next) s) ≡ true
+          → isRemark (drop (d .tree .next + 1) s) ≡ true
+          → EndsFor names n s at v w (record { right = true; constraint = c .tree; condition = d .tree })
+      ends-whole l k = record {
+        wrong = λ h. absurd (false≢true (sym h));
+        there = λ _. record {
+          constraint = constraint-is .tree;
+          condition = condition-is .tree;
+          isRead = λ form. ends-good form (drop at s) (drop (c .tree .next) s) (drop (d .tree .next) s)
+              (drop (d .tree .next + 1) s) (constraint-is .tree) (condition-is .tree) (constraint-is .isRead)
+              (condition-is .isRead) (literal-at (bytes ".") s (d .tree .next) le l .1) k;
+          first = constraint-is .stored;
+          second = condition-is .stored;
+        };
+      }

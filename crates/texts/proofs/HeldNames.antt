@@ -108,53 +108,57 @@ module _ (before : List Form) (x : Form) (names : List (List ℕ))
       )
       refl
 
-  -- ── the record of this line, where it keeps 8 and 9 ──
+-- ── the record of this line, where it keeps 8 and 9 ──
 
-  module _ (unique : firstBreak keepsNames [] (before ++ (x ∷ [])) ≡ none)
-      (types : keepsTypes nameReadable before x ≡ true) where
-    index-same : (k : ℕ) → k ≤ length (before ++ (x ∷ [])) → (w : List ℕ) → (isShort w && mayRead names k w) ≡ true
-        → lookUp names k w ≡ indexOf (before ++ (x ∷ [])) w
-    unfolding lookUp
-    index-same k le w both =
-        let q : isShort w ≡ true = and-left (isShort w) (mayRead names k w) both in
-        let j = firstFrom (isHeld names w) 0 k in
-        let lt : j < k = ltb-true j k (and-right (isShort w) (mayRead names k w) both) in
-        let hit : isHeld names w j ≡ true = search-hit (isHeld names w) 0 k (omega arith) in
-        let y = element-at (before ++ (x ∷ [])) j (omega arith) in
-        let is = sym (held-fixed j (y .0) w (y .1) q) ∙ hit in
-        let named : any (same w) (readNames (y .0)) ≡ true =
-        and-right (isFixed (y .0)) (any (same w) (readNames (y .0))) is in
-        let found =
-        element-any (λ (z : Form). any (same w) (readNames z)) (before ++ (x ∷ [])) j (y .0) (y .1) named in
-        let z = any-element (λ (v : Form). any (same w) (readNames v)) (before ++ (x ∷ [])) found in
-        name-unique (before ++ (x ∷ [])) unique j (indexOf (before ++ (x ∷ [])) w) w (y .0, y .1, named)
-        (z .0, z .1, z .2)
+module _ (before : List Form) (x : Form) (names : List (List ℕ))
+    (formed : (i : ℕ) (y : Form) → getElem? (before ++ (x ∷ [])) i ≡ some y → ifAny isShort (y .short) ≡ true)
+    (held : (i : ℕ) (y : Form) → getElem? (before ++ (x ∷ [])) i ≡ some y → getD names i [] ≡ heldName y)
+    (short : ShortNames x)
+    (unique : firstBreak keepsNames [] (before ++ (x ∷ [])) ≡ none)
+    (types : keepsTypes nameReadable before x ≡ true) where
+  index-same : (k : ℕ) → k ≤ length (before ++ (x ∷ [])) → (w : List ℕ) → (isShort w && mayRead names k w) ≡ true
+      → lookUp names k w ≡ indexOf (before ++ (x ∷ [])) w
+  unfolding lookUp
+  index-same k le w both =
+      let q : isShort w ≡ true = and-left (isShort w) (mayRead names k w) both in
+      let j = firstFrom (isHeld names w) 0 k in
+      let lt : j < k = ltb-true j k (and-right (isShort w) (mayRead names k w) both) in
+      let hit : isHeld names w j ≡ true = search-hit (isHeld names w) 0 k (omega arith) in
+      let y = element-at (before ++ (x ∷ [])) j (omega arith) in
+      let is = sym (held-fixed before x names formed held short j (y .0) w (y .1) q) ∙ hit in
+      let named : any (same w) (readNames (y .0)) ≡ true =
+      and-right (isFixed (y .0)) (any (same w) (readNames (y .0))) is in
+      let found =
+      element-any (λ (z : Form). any (same w) (readNames z)) (before ++ (x ∷ [])) j (y .0) (y .1) named in
+      let z = any-element (λ (v : Form). any (same w) (readNames v)) (before ++ (x ∷ [])) found in
+      name-unique (before ++ (x ∷ [])) unique j (indexOf (before ++ (x ∷ [])) w) w (y .0, y .1, named)
+      (z .0, z .1, z .2)
 
-    -- a tree of short names reads only such ones
-    both-width : (may : List ℕ → Bool) (v : Width (List ℕ)) → all (allNames isShort) (widthTrees v) ≡ true
-        → widthHasType may v ≡ true → widthHasType (λ w. isShort w && may w) v ≡ true
-    both-width may v e h = sym (width-type may (λ w. isShort w && may w) (λ w q. rw q refl) v e) ∙ h
+  -- a tree of short names reads only such ones
+  both-width : (may : List ℕ → Bool) (v : Width (List ℕ)) → all (allNames isShort) (widthTrees v) ≡ true
+      → widthHasType may v ≡ true → widthHasType (λ w. isShort w && may w) v ≡ true
+  both-width may v e h = sym (width-type before x names formed held short may (λ w. isShort w && may w) (λ w q. rw q refl) v e) ∙ h
 
-    both-maybe : (may : List ℕ → Bool) (o : Option (Tree (List ℕ))) → ifAny (allNames isShort) o ≡ true
-        → ifAny (hasType may YesNo) o ≡ true → ifAny (hasType (λ w. isShort w && may w) YesNo) o ≡ true
-    both-maybe may o e h = sym (maybe-type may (λ w. isShort w && may w) (λ w q. rw q refl) o e) ∙ h
+  both-maybe : (may : List ℕ → Bool) (o : Option (Tree (List ℕ))) → ifAny (allNames isShort) o ≡ true
+      → ifAny (hasType may YesNo) o ≡ true → ifAny (hasType (λ w. isShort w && may w) YesNo) o ≡ true
+  both-maybe may o e h = sym (maybe-type before x names formed held short may (λ w. isShort w && may w) (λ w q. rw q refl) o e) ∙ h
 
-    pub record-here : indexed names (length before) x ≡ renameField (indexOf (before ++ (x ∷ []))) x
-    record-here =
-        let n = length before in
-        let k = types-here ∙ types in
-        let wide = widthHasType (mayRead names n) (x .width) in
-        let own = ifAny (hasType (mayRead names (n + 1)) YesNo) (x .constraint) in
-        let when = ifAny (hasType (mayRead names n) YesNo) (x .condition) in
-        let both = and-right wide (own && when) k in
-        let g = indexOf (before ++ (x ∷ [])) in
-        rw (
-          same-width (λ w. isShort w && mayRead names n w) (lookUp names n) g (index-same n (omega (arith, longer)))
-              (x .width) (both-width (mayRead names n) (x .width) (short .width) (and-left wide (own && when) k)),
-          same-maybe (λ w. isShort w && mayRead names (n + 1) w) (lookUp names (n + 1)) g
-              (index-same (n + 1) (omega (arith, longer))) (x .constraint)
-              (both-maybe (mayRead names (n + 1)) (x .constraint) (short .constraint) (and-left own when both)),
-          same-maybe (λ w. isShort w && mayRead names n w) (lookUp names n) g (index-same n (omega (arith, longer)))
-              (x .condition) (both-maybe (mayRead names n) (x .condition) (short .condition) (and-right own when both)),
-        )
-        refl
+  pub record-here : indexed names (length before) x ≡ renameField (indexOf (before ++ (x ∷ []))) x
+  record-here =
+      let n = length before in
+      let k = types-here before x names formed held short ∙ types in
+      let wide = widthHasType (mayRead names n) (x .width) in
+      let own = ifAny (hasType (mayRead names (n + 1)) YesNo) (x .constraint) in
+      let when = ifAny (hasType (mayRead names n) YesNo) (x .condition) in
+      let both = and-right wide (own && when) k in
+      let g = indexOf (before ++ (x ∷ [])) in
+      rw (
+        same-width (λ w. isShort w && mayRead names n w) (lookUp names n) g (index-same n (omega (arith, longer before x names formed held short)))
+            (x .width) (both-width (mayRead names n) (x .width) (short .width) (and-left wide (own && when) k)),
+        same-maybe (λ w. isShort w && mayRead names (n + 1) w) (lookUp names (n + 1)) g
+            (index-same (n + 1) (omega (arith, longer before x names formed held short))) (x .constraint)
+            (both-maybe (mayRead names (n + 1)) (x .constraint) (short .constraint) (and-left own when both)),
+        same-maybe (λ w. isShort w && mayRead names n w) (lookUp names n) g (index-same n (omega (arith, longer before x names formed held short)))
+            (x .condition) (both-maybe (mayRead names n) (x .condition) (short .condition) (and-right own when both)),
+      )
+      refl

@@ -398,54 +398,10 @@ returns-13 c =
 pub take-line-spec : {M : Type 1} → statement M
 take-line-spec =
     tie.close
-    (tie.spec
-    enum-told
-    take-opening-requires
-    enum-told-2
-    expect-requires
-    enum-told-3
-    take-ruler-requires
-    enum-told-4
-    is-units-requires
-    expect-requires-2
-    enum-told-5
-    is-border-requires
-    expect-requires-3
-    enum-told-6
-    take-row-requires
-    enum-told-7
-    is-border-requires-2
-    expect-requires-4
-    enum-told-8
-    take-row-or-blank-requires
-    enum-told-9
-    slice-aggregate-same-words
-    same-words-requires
-    expect-requires-5
-    enum-told-10
-    expect-requires-6
-    enum-told-11
-    take-field-requires
-    enum-told-12
-    take-field-requires-2
-    enum-told-13
-    same-length
-    returns
-    returns-2
-    returns-3
-    returns-4
-    returns-5
-    same-length-2
-    returns-6
-    returns-7
-    same-length-3
-    returns-8
-    returns-9
-    returns-10
-    same-length-4
-    same-length-5
-    returns-11
-    same-length-6
-    same-length-7
-    returns-12
-    returns-13)
+    (tie.spec enum-told take-opening-requires enum-told-2 expect-requires enum-told-3 take-ruler-requires
+    enum-told-4 is-units-requires expect-requires-2 enum-told-5 is-border-requires expect-requires-3 enum-told-6
+    take-row-requires enum-told-7 is-border-requires-2 expect-requires-4 enum-told-8 take-row-or-blank-requires
+    enum-told-9 slice-aggregate-same-words same-words-requires expect-requires-5 enum-told-10 expect-requires-6
+    enum-told-11 take-field-requires enum-told-12 take-field-requires-2 enum-told-13 same-length returns returns-2
+    returns-3 returns-4 returns-5 same-length-2 returns-6 returns-7 same-length-3 returns-8 returns-9 returns-10
+    same-length-4 same-length-5 returns-11 same-length-6 same-length-7 returns-12 returns-13)

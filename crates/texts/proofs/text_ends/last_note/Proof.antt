@@ -139,42 +139,8 @@ returns-13 c = rw (c .before .enum-told13 .given .1) refl
 pub last-note-spec : {M : Type 1} → statement M
 last-note-spec =
     tie.close
-    (tie.spec
-    enum-told
-    early-requires
-    enum-told-2
-    early-requires-2
-    enum-told-3
-    early-requires-3
-    enum-told-4
-    early-requires-4
-    enum-told-5
-    early-requires-5
-    enum-told-6
-    early-requires-6
-    enum-told-7
-    early-requires-7
-    enum-told-8
-    early-requires-8
-    enum-told-9
-    early-requires-9
-    enum-told-10
-    early-requires-10
-    enum-told-11
-    early-requires-11
-    enum-told-12
-    fields-note-requires
-    enum-told-13
-    returns
-    returns-2
-    returns-3
-    returns-4
-    returns-5
-    returns-6
-    returns-7
-    returns-8
-    returns-9
-    returns-10
-    returns-11
-    returns-12
-    returns-13)
+    (tie.spec enum-told early-requires enum-told-2 early-requires-2 enum-told-3 early-requires-3 enum-told-4
+    early-requires-4 enum-told-5 early-requires-5 enum-told-6 early-requires-6 enum-told-7 early-requires-7
+    enum-told-8 early-requires-8 enum-told-9 early-requires-9 enum-told-10 early-requires-10 enum-told-11
+    early-requires-11 enum-told-12 fields-note-requires enum-told-13 returns returns-2 returns-3 returns-4 returns-5
+    returns-6 returns-7 returns-8 returns-9 returns-10 returns-11 returns-12 returns-13)
