@@ -199,6 +199,20 @@ rest-face x = go (x .width)
 same-count : (j : Judged) (fs : List (Field ℕ)) → StandIn j fs → length fs ≡ length (j .fields)
 same-count j fs h = sym (length-map fs face) ∙ ap length (h .seen) ∙ length-map (j .fields) face
 
+-- one record more
+stored-more : (name : List ℕ) (fs : List (Field ℕ)) (next : Field ℕ)
+    → name ++ joined storedField (fs ++ (next ∷ [])) ≡ (name ++ joined storedField fs) ++ storedField next
+stored-more name fs next =
+    ap (λ (z : List ℕ). name ++ z) (joined-append storedField fs (next ∷ [])
+    ∙ ap (λ (z : List ℕ). joined storedField fs ++ z) (joined-one storedField next))
+    ∙ sym (append-assoc name (joined storedField fs) (storedField next))
+
+-- and one field more, as later lines see it
+seen-more : (j : Judged) (before : List (Field ℕ)) (y : Field ℕ) (x : Form) → j .fields ≡ before ++ (y ∷ [])
+    → face y ≡ face x → faces (j .fields) ≡ faces before ++ (face x ∷ [])
+seen-more j before y x e same =
+    ap faces e ∙ faces-append before y ∙ ap (λ (z : Form). faces before ++ (z ∷ [])) same
+
 -- what a kept field adds: its cell is passed, its record is written, its names are held
 pub record Kept (f : fold.Found) (r : Reading) (x : Form) (to end : ℕ) (isRested : Bool) (table after : List ℕ)
     (labels shorts names : List (List ℕ)) : Type 0 where
@@ -220,16 +234,11 @@ module _ (f : fold.Found) (r : Reading) {cells table after : List ℕ} {labels s
       let n : length (before ++ (y ∷ [])) ≡ length before + 1 = length-append before (y ∷ []) in
       let m : length fs ≡ r .fields =
       same-count (f .judged) fs (h .records .stands) ∙ sym (h .counts .fields) in
-      let seen : faces (j .fields) ≡ faces before ++ (face x ∷ []) =
-      ap faces e ∙ faces-append before y ∙ ap (λ (z : Form). faces before ++ (z ∷ [])) same in
+      let seen = seen-more j before y x e same in
       let next = indexed names′ (length fs) x in
       let w : take end after ≡ take (r .end) table ++ storedField next =
       k .writes .text ∙ ap (λ (i : ℕ). take (r .end) table ++ storedField (indexed names′ i x)) (sym m) in
-      let all-stored : f .name ++ joined storedField (fs ++ (next ∷ []))
-      ≡ (f .name ++ joined storedField fs) ++ storedField next =
-      ap (λ (z : List ℕ). f .name ++ z) (joined-append storedField fs (next ∷ [])
-      ∙ ap (λ (z : List ℕ). joined storedField fs ++ z) (joined-one storedField next))
-      ∙ sym (append-assoc (f .name) (joined storedField fs) (storedField next)) in
+      let all-stored = stored-more (f .name) fs next in
       record {
         counts = record {
           lines = next-line f r h;
@@ -262,25 +271,28 @@ module _ (f : fold.Found) (r : Reading) {cells table after : List ℕ} {labels s
             (named-face (faces before) x (k .named));
       }
 
-  -- the code's field stands in for the fold's
-  module _ (steady : Steady f) (short : ShortNames x)
-      (formed : (i : ℕ) (y : Form) → getElem? (faces (f .judged .fields) ++ (x ∷ [])) i ≡ some y
-      → ifAny isShort (y .short) ≡ true) where
-    pub holds-open : (l : List ℕ) (a : Note) → isFull (f .judged) ≡ false → readForm l ≡ some x
-        → noteOf a ≡ lower (f .judged .lowest)
-        (broken 6 (suc (f .lines)) (rules (f .cells)) (faces (f .judged .fields)) x)
-        → isOpen (noteOf a) ≡ true
-        → Holds (fold.withField f l) (lineKept r cell end rested a) cells after labels′ shorts′ names′
-    unfolding judge withForm
-    holds-open l a e o low is =
-        let before = f .judged .fields in
-        let fs = h .records .fields in
-        let here = lower (f .judged .lowest) (broken 6 (suc (f .lines)) (rules (f .cells)) (faces before) x) in
-        let q : isOpen here ≡ true = rw (← low) is in
-        let seen = h .records .stands .seen in
-        let stands = writes (f .cells) (suc (f .lines)) (f .judged) fs (h .records .stands)
-        (steady .clear) x names′ short
-        (λ i y z. formed i y (subst (λ (b : List Form). getElem? (b ++ (x ∷ [])) i ≡ some y) seen z))
-        (λ i y z. k .named .name i y (subst (λ (b : List Form). getElem? (b ++ (x ∷ [])) i ≡ some y) seen z)) q in
-        rw (e, o) (holds-grown (withForm (f .cells) (suc (f .lines)) (f .judged) (some x)) (resolvedIn before x) a refl
-        (rw q refl) (renamed-face (indexOf (faces before ++ (x ∷ []))) x) stands low)
+-- the code's field stands in for the fold's
+module _ (f : fold.Found) (r : Reading) {cells table after : List ℕ} {labels shorts names labels′ shorts′ names′ :
+    List (List ℕ)} (h : Holds f r cells table labels shorts names) (x : Form) {end cell : ℕ} {rested : Bool}
+    (k : Kept f r x cell end rested table after labels′ shorts′ names′)
+    (steady : Steady f) (short : ShortNames x)
+    (formed : (i : ℕ) (y : Form) → getElem? (faces (f .judged .fields) ++ (x ∷ [])) i ≡ some y
+    → ifAny isShort (y .short) ≡ true) where
+  pub holds-open : (l : List ℕ) (a : Note) → isFull (f .judged) ≡ false → readForm l ≡ some x
+      → noteOf a ≡ lower (f .judged .lowest)
+      (broken 6 (suc (f .lines)) (rules (f .cells)) (faces (f .judged .fields)) x)
+      → isOpen (noteOf a) ≡ true
+      → Holds (fold.withField f l) (lineKept r cell end rested a) cells after labels′ shorts′ names′
+  unfolding judge withForm
+  holds-open l a e o low is =
+      let before = f .judged .fields in
+      let fs = h .records .fields in
+      let here = lower (f .judged .lowest) (broken 6 (suc (f .lines)) (rules (f .cells)) (faces before) x) in
+      let q : isOpen here ≡ true = rw (← low) is in
+      let seen = h .records .stands .seen in
+      let stands = writes (f .cells) (suc (f .lines)) (f .judged) fs (h .records .stands)
+      (steady .clear) x names′ short
+      (λ i y z. formed i y (subst (λ (b : List Form). getElem? (b ++ (x ∷ [])) i ≡ some y) seen z))
+      (λ i y z. k .named .name i y (subst (λ (b : List Form). getElem? (b ++ (x ∷ [])) i ≡ some y) seen z)) q in
+      rw (e, o) (holds-grown f r h x k (withForm (f .cells) (suc (f .lines)) (f .judged) (some x)) (resolvedIn before x) a refl
+      (rw q refl) (renamed-face (indexOf (faces before ++ (x ∷ []))) x) stands low)

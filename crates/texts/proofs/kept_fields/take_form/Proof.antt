@@ -92,16 +92,17 @@ same-length c = search needs
 
 returns : tie.Need-returns
 returns c =
-    let a = c .before .before .before .before .before .before .before .before .before .before .before .before .before
-    .before .before .before .before .before .before .before .before .before .before .before .args in
-    let q = c .before .before .before .before .before .before .before .before .before .before .before .before .before
-    .before .before .before .before .before .before .before .before .before .before .before .pre in
-    let held = c .before .before .before .before .before .before .before .before .before .before .before .before
-    .before .before .before .hold-names .ensures in
-    let rule = c .before .before .before .before .before .before .before .before .before .before .before .before
-    .later-rule in
-    let lowest = c .before .before .before .before .before .before .before .before .before .before .before .lower in
-    let put = c .before .before .before .before .before .before .before .put-field in
+    let c7 = c .before .before .before .before .before .before .before in
+    let c9 = c7 .before .before in
+    let c11 = c9 .before .before in
+    let c15 = c11 .before .before .before .before in
+    let c24 = c15 .before .before .before .before .before .before .before .before .before in
+    let a = c24 .args in
+    let q = c24 .pre in
+    let held = c15 .hold-names .ensures in
+    let rule = c11 .before .later-rule in
+    let lowest = c11 .lower in
+    let put = c7 .put-field in
     let cell = c .before .before .before .before .next-cell in
     let rest = c .before .before .before .rests in
     let r = a .r in
@@ -114,9 +115,7 @@ returns c =
     ∙ told-lower (noteOf (r .note)) (noteOf (rule .result)) (room .told) (rule .ensures .0) in
     let w = put .ensures .1 in
     let z = put .ensures .0 in
-    let kept : isOpen (noteOf (lowest .result)) ≡ true = sym
-    (c .before .before .before .before .before .before .before .before .before .before .is-open .ensures)
-    ∙ c .before .before .before .before .before .before .before .before .before .if1 .taken in
+    let kept : isOpen (noteOf (lowest .result)) ≡ true = sym (c9 .before .is-open .ensures) ∙ c9 .if1 .taken in
     rw (c .onward .ensures) (
       (
         room-kept r (cell .result) (put .result) (rest .result) (lowest .result) room (q .1) (cell .ensures .0)
