@@ -142,52 +142,54 @@ module _ (names : List (List ℕ)) (n : ℕ) (s : List ℕ) (at : ℕ) (c : Clau
     there = λ h. absurd (false≢true (sym e ∙ h));
   }
 
-  module _ (first : c .right ≡ true) (d : Clause)
-      (y : ClauseFor names n s (readCondition (drop (c .tree .next) s)) w d) where
-    constraint-is : ClauseAs names (n + 1) s (readConstraint (drop at s)) (held (c .tree) v)
-    constraint-is = x .there first
+module _ (names : List (List ℕ)) (n : ℕ) (s : List ℕ) (at : ℕ) (c : Clause) (v w : List ℕ)
+    (x : ClauseFor names (n + 1) s (readConstraint (drop at s)) v c)
+    (first : c .right ≡ true) (d : Clause)
+    (y : ClauseFor names n s (readCondition (drop (c .tree .next) s)) w d) where
+  constraint-is : ClauseAs names (n + 1) s (readConstraint (drop at s)) (held (c .tree) v)
+  constraint-is = x .there first
 
-    pub ends-later : (r : Ends) → r .right ≡ false → d .right ≡ false → EndsFor names n s at v w r
-    ends-later r e k = record {
-      wrong = λ _ form. ends-second form (drop at s) (drop (c .tree .next) s) (constraint-is .tree)
-          (constraint-is .isRead) (y .wrong k);
+  pub ends-later : (r : Ends) → r .right ≡ false → d .right ≡ false → EndsFor names n s at v w r
+  ends-later r e k = record {
+    wrong = λ _ form. ends-second form (drop at s) (drop (c .tree .next) s) (constraint-is .tree)
+        (constraint-is .isRead) (y .wrong k);
+    there = λ h. absurd (false≢true (sym e ∙ h));
+  }
+
+  module _ (second : d .right ≡ true) (le : d .tree .next ≤ length s) where
+    condition-is : ClauseAs names n s (readCondition (drop (c .tree .next) s)) (held (d .tree) w)
+    condition-is = y .there second
+
+    pub ends-unstopped : (r : Ends) → r .right ≡ false → begins (bytes ".") (drop (d .tree .next) s) ≡ false
+        → EndsFor names n s at v w r
+    ends-unstopped r e l = record {
+      wrong = λ _ form. ends-open form (drop at s) (drop (c .tree .next) s) (drop (d .tree .next) s)
+          (constraint-is .tree) (condition-is .tree) (constraint-is .isRead) (condition-is .isRead)
+          (literal-none (bytes ".") (drop (d .tree .next) s) l);
       there = λ h. absurd (false≢true (sym e ∙ h));
     }
 
-    module _ (second : d .right ≡ true) (le : d .tree .next ≤ length s) where
-      condition-is : ClauseAs names n s (readCondition (drop (c .tree .next) s)) (held (d .tree) w)
-      condition-is = y .there second
+    pub ends-remark : (r : Ends) → r .right ≡ false → begins (bytes ".") (drop (d .tree .next) s) ≡ true
+        → isRemark (drop (d .tree .next + 1) s) ≡ false → EndsFor names n s at v w r
+    ends-remark r e l k = record {
+      wrong = λ _ form. ends-bad form (drop at s) (drop (c .tree .next) s) (drop (d .tree .next) s)
+          (drop (d .tree .next + 1) s) (constraint-is .tree) (condition-is .tree) (constraint-is .isRead)
+          (condition-is .isRead) (literal-at (bytes ".") s (d .tree .next) le l .1) k;
+      there = λ h. absurd (false≢true (sym e ∙ h));
+    }
 
-      pub ends-unstopped : (r : Ends) → r .right ≡ false → begins (bytes ".") (drop (d .tree .next) s) ≡ false
-          → EndsFor names n s at v w r
-      ends-unstopped r e l = record {
-        wrong = λ _ form. ends-open form (drop at s) (drop (c .tree .next) s) (drop (d .tree .next) s)
-            (constraint-is .tree) (condition-is .tree) (constraint-is .isRead) (condition-is .isRead)
-            (literal-none (bytes ".") (drop (d .tree .next) s) l);
-        there = λ h. absurd (false≢true (sym e ∙ h));
-      }
-
-      pub ends-remark : (r : Ends) → r .right ≡ false → begins (bytes ".") (drop (d .tree .next) s) ≡ true
-          → isRemark (drop (d .tree .next + 1) s) ≡ false → EndsFor names n s at v w r
-      ends-remark r e l k = record {
-        wrong = λ _ form. ends-bad form (drop at s) (drop (c .tree .next) s) (drop (d .tree .next) s)
+    pub ends-whole : begins (bytes ".") (drop (d .tree .next) s) ≡ true
+        → isRemark (drop (d .tree .next + 1) s) ≡ true
+        → EndsFor names n s at v w (record { right = true; constraint = c .tree; condition = d .tree })
+    ends-whole l k = record {
+      wrong = λ h. absurd (false≢true (sym h));
+      there = λ _. record {
+        constraint = constraint-is .tree;
+        condition = condition-is .tree;
+        isRead = λ form. ends-good form (drop at s) (drop (c .tree .next) s) (drop (d .tree .next) s)
             (drop (d .tree .next + 1) s) (constraint-is .tree) (condition-is .tree) (constraint-is .isRead)
             (condition-is .isRead) (literal-at (bytes ".") s (d .tree .next) le l .1) k;
-        there = λ h. absurd (false≢true (sym e ∙ h));
-      }
-
-      pub ends-whole : begins (bytes ".") (drop (d .tree .next) s) ≡ true
-          → isRemark (drop (d .tree .next + 1) s) ≡ true
-          → EndsFor names n s at v w (record { right = true; constraint = c .tree; condition = d .tree })
-      ends-whole l k = record {
-        wrong = λ h. absurd (false≢true (sym h));
-        there = λ _. record {
-          constraint = constraint-is .tree;
-          condition = condition-is .tree;
-          isRead = λ form. ends-good form (drop at s) (drop (c .tree .next) s) (drop (d .tree .next) s)
-              (drop (d .tree .next + 1) s) (constraint-is .tree) (condition-is .tree) (constraint-is .isRead)
-              (condition-is .isRead) (literal-at (bytes ".") s (d .tree .next) le l .1) k;
-          first = constraint-is .stored;
-          second = condition-is .stored;
-        };
-      }
+        first = constraint-is .stored;
+        second = condition-is .stored;
+      };
+    }

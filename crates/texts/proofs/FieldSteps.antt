@@ -224,6 +224,26 @@ pub record Kept (f : fold.Found) (r : Reading) (x : Form) (to end : ℕ) (isRest
 module _ (f : fold.Found) (r : Reading) {cells table after : List ℕ} {labels shorts names labels′ shorts′ names′ :
     List (List ℕ)} (h : Holds f r cells table labels shorts names) (x : Form) {end cell : ℕ} {rested : Bool}
     (k : Kept f r x cell end rested table after labels′ shorts′ names′) where
+  counts-grown : (j : Judged) (y : Field ℕ) (a : Note) → j .count ≡ suc (f .judged .count)
+      → j .fields ≡ f .judged .fields ++ (y ∷ []) → face y ≡ face x → noteOf a ≡ j .lowest
+      → Counts (fieldFound f j) (lineKept r cell end rested a)
+  counts-grown j y a c e same low =
+      let before = f .judged .fields in
+      let n : length (before ++ (y ∷ [])) ≡ length before + 1 = length-append before (y ∷ []) in
+      let seen = seen-more j before y x e same in
+      record {
+        lines = next-line f r h;
+        stage = refl;
+        width = h .counts .width;
+        name = h .counts .name;
+        cells = h .counts .cells;
+        count = (let q = h .counts .count in omega (arith, q, c));
+        fields = (let q = h .counts .fields in let z = ap length e in omega (arith, q, n, z));
+        rested = k .rested ∙ sym (ap (any isRest) seen ∙ any-more (faces before) (face x)
+            ∙ ap (λ (b : Bool). any isRest (faces before) || b) (rest-face x));
+        lowest = low;
+      }
+
   holds-grown : (j : Judged) (y : Field ℕ) (a : Note) → j .count ≡ suc (f .judged .count)
       → j .fields ≡ f .judged .fields ++ (y ∷ []) → face y ≡ face x
       → StandIn j (h .records .fields ++ (indexed names′ (length (h .records .fields)) x ∷ [])) → noteOf a ≡ j .lowest
@@ -240,18 +260,7 @@ module _ (f : fold.Found) (r : Reading) {cells table after : List ℕ} {labels s
       k .writes .text ∙ ap (λ (i : ℕ). take (r .end) table ++ storedField (indexed names′ i x)) (sym m) in
       let all-stored = stored-more (f .name) fs next in
       record {
-        counts = record {
-          lines = next-line f r h;
-          stage = refl;
-          width = h .counts .width;
-          name = h .counts .name;
-          cells = h .counts .cells;
-          count = (let q = h .counts .count in omega (arith, q, c));
-          fields = (let q = h .counts .fields in let z = ap length e in omega (arith, q, n, z));
-          rested = k .rested ∙ sym (ap (any isRest) seen ∙ any-more (faces before) (face x)
-              ∙ ap (λ (b : Bool). any isRest (faces before) || b) (rest-face x));
-          lowest = low;
-        };
+        counts = counts-grown j y a c e same low;
         slots = record {
           stored = h .slots .stored;
           end = h .slots .end;
@@ -294,5 +303,6 @@ module _ (f : fold.Found) (r : Reading) {cells table after : List ℕ} {labels s
       (steady .clear) x names′ short
       (λ i y z. formed i y (subst (λ (b : List Form). getElem? (b ++ (x ∷ [])) i ≡ some y) seen z))
       (λ i y z. k .named .name i y (subst (λ (b : List Form). getElem? (b ++ (x ∷ [])) i ≡ some y) seen z)) q in
-      rw (e, o) (holds-grown f r h x k (withForm (f .cells) (suc (f .lines)) (f .judged) (some x)) (resolvedIn before x) a refl
+      rw (e, o) (holds-grown f r h x k (withForm (f .cells) (suc (f .lines)) (f .judged) (some x)) (resolvedIn before
+      x) a refl
       (rw q refl) (renamed-face (indexOf (faces before ++ (x ∷ []))) x) stands low)

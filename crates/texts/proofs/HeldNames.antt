@@ -137,11 +137,13 @@ module _ (before : List Form) (x : Form) (names : List (List ℕ))
   -- a tree of short names reads only such ones
   both-width : (may : List ℕ → Bool) (v : Width (List ℕ)) → all (allNames isShort) (widthTrees v) ≡ true
       → widthHasType may v ≡ true → widthHasType (λ w. isShort w && may w) v ≡ true
-  both-width may v e h = sym (width-type before x names formed held short may (λ w. isShort w && may w) (λ w q. rw q refl) v e) ∙ h
+  both-width may v e h = sym (width-type before x names formed held short may (λ w. isShort w && may w) (λ w q. rw q
+      refl) v e) ∙ h
 
   both-maybe : (may : List ℕ → Bool) (o : Option (Tree (List ℕ))) → ifAny (allNames isShort) o ≡ true
       → ifAny (hasType may YesNo) o ≡ true → ifAny (hasType (λ w. isShort w && may w) YesNo) o ≡ true
-  both-maybe may o e h = sym (maybe-type before x names formed held short may (λ w. isShort w && may w) (λ w q. rw q refl) o e) ∙ h
+  both-maybe may o e h = sym (maybe-type before x names formed held short may (λ w. isShort w && may w) (λ w q. rw q
+      refl) o e) ∙ h
 
   pub record-here : indexed names (length before) x ≡ renameField (indexOf (before ++ (x ∷ []))) x
   record-here =
@@ -153,12 +155,20 @@ module _ (before : List Form) (x : Form) (names : List (List ℕ))
       let both = and-right wide (own && when) k in
       let g = indexOf (before ++ (x ∷ [])) in
       rw (
-        same-width (λ w. isShort w && mayRead names n w) (lookUp names n) g (index-same n (omega (arith, longer before x names formed held short)))
+        same-width (λ w. isShort w && mayRead names n w) (lookUp names n) g (index-same n (omega (
+          arith,
+          longer
+              before x names formed held short,
+        )))
             (x .width) (both-width (mayRead names n) (x .width) (short .width) (and-left wide (own && when) k)),
         same-maybe (λ w. isShort w && mayRead names (n + 1) w) (lookUp names (n + 1)) g
             (index-same (n + 1) (omega (arith, longer before x names formed held short))) (x .constraint)
             (both-maybe (mayRead names (n + 1)) (x .constraint) (short .constraint) (and-left own when both)),
-        same-maybe (λ w. isShort w && mayRead names n w) (lookUp names n) g (index-same n (omega (arith, longer before x names formed held short)))
+        same-maybe (λ w. isShort w && mayRead names n w) (lookUp names n) g (index-same n (omega (
+          arith,
+          longer
+              before x names formed held short,
+        )))
             (x .condition) (both-maybe (mayRead names n) (x .condition) (short .condition) (and-right own when both)),
       )
       refl

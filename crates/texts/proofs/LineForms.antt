@@ -219,6 +219,10 @@ told-lower (some a) (some b) p q = go (ltb (b .number) (a .number))
     go true = q
     go false = p
 
+pub told-after : (a b : Option Answer) (n : Note) → noteOf n ≡ lower a b → isTold a ≡ true → isTold b ≡ true
+    → isTold (noteOf n) ≡ true
+told-after a b n e p q = ap isTold e ∙ told-lower a b p q
+
 pub told-some : (n p : ℕ) → 5 ≤ n → n ≤ 10 → isTold (some (refused n p)) ≡ true
 told-some n p lo hi = rw (true-between 3 n 10 (omega arith) hi, ne-eqb n 4 (λ e. absurd (omega (arith, lo, e)))) refl
 

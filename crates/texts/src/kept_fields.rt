@@ -137,7 +137,8 @@ fn take_form(
     ensures room { λ q. ⌜ Taken r q ⌝ }
     ensures step { λ q. ⌜ FormStep (now (line .entry))
         (bytesOf (now (wide .entry)) (now (first .entry)) (now (second .entry))) p r q (now (cells .entry))
-        (now (table .entry)) (now (table .exit)) (now (labels .entry)) (now (labels .exit)) (now (shorts .entry)) (now (shorts .exit)) ⌝ }
+        (now (table .entry)) (now (table .exit)) (now (labels .entry)) (now (labels .exit)) (now (shorts .entry))
+        (now (shorts .exit)) ⌝ }
 {
     let n = r.fields;
     hold_names(line, p.label, p.short, n, labels, shorts);

@@ -10,7 +10,7 @@ use Rattle.texts.specs.Noted.{noteOf}
 use Rattle.texts.specs.States.{isTold}
 use Rattle.texts.proofs.FormRules.{form-short, all-formed}
 use Rattle.texts.proofs.FieldSteps.{holds-open, holds-closed, holds-named}
-use Rattle.texts.proofs.LineForms.{named-with, told-lower, room-kept, room-refused}
+use Rattle.texts.proofs.LineForms.{named-with, told-after, room-kept, room-refused}
 use Rattle.texts.proofs.LineForms.{form-note, rests-here}
 use Rattle.texts.proofs.PartBytes.{record-bytes}
 use borrow.Author.Needs.{needs}
@@ -93,45 +93,39 @@ same-length c = search needs
 returns : tie.Need-returns
 returns c =
     let c7 = c .before .before .before .before .before .before .before in
-    let c9 = c7 .before .before in
-    let c11 = c9 .before .before in
+    let c11 = c7 .before .before .before .before in
     let c15 = c11 .before .before .before .before in
     let c24 = c15 .before .before .before .before .before .before .before .before .before in
     let a = c24 .args in
     let q = c24 .pre in
-    let held = c15 .hold-names .ensures in
     let rule = c11 .before .later-rule in
     let lowest = c11 .lower in
     let put = c7 .put-field in
     let cell = c .before .before .before .before .next-cell in
-    let rest = c .before .before .before .rests in
     let r = a .r in
     let l = now (a .line) in
     let v = bytesOf (now (a .wide)) (now (a .first)) (now (a .second)) in
-    let room = q .0 .0 in
-    let few : r .fields < fieldsMost = omega (arith, room .fields, q .1) in
-    let told : isTold (noteOf (lowest .result)) ≡ true =
-    ap isTold (lowest .ensures)
-    ∙ told-lower (noteOf (r .note)) (noteOf (rule .result)) (room .told) (rule .ensures .0) in
-    let w = put .ensures .1 in
-    let z = put .ensures .0 in
-    let kept : isOpen (noteOf (lowest .result)) ≡ true = sym (c9 .before .is-open .ensures) ∙ c9 .if1 .taken in
+    let few : r .fields < fieldsMost = omega (arith, q .0 .0 .fields, q .1) in
+    let told = told-after (noteOf (r .note)) _ (lowest .result) (lowest .ensures) (q .0 .0 .told) (rule .ensures .0) in
+    let kept = sym (c7 .before .before .before .is-open .ensures) ∙ c7 .before .before .if1 .taken in
     rw (c .onward .ensures) (
       (
-        room-kept r (cell .result) (put .result) (rest .result) (lowest .result) room (q .1) (cell .ensures .0)
-            (omega (arith, z)) (omega (arith, z, q .2 .1)) told,
+        room-kept r (cell .result) (put .result) (c .before .before .before .rests .result) (lowest .result) (q .0 .0) (q
+            .1) (cell .ensures .0)
+            (omega (arith, put .ensures .0)) (omega (arith, put .ensures .0, q .2 .1)) told,
         omega arith,
       ),
       (
-        w .kept,
+        put .ensures .1 .kept,
         (λ f x names k full h isForm small is.
-            let nw = named-with l x (a .p) is f r (h .counts) few refl (h .named) (held .0) (held .1) in
+            let nw = named-with l x (a .p) is f r (h .counts) few refl (h .named) (c15 .hold-names .ensures .0) (c15
+            .hold-names .ensures .1) in
             let low = lowest .ensures ∙ form-note f r x (h .counts) small
             (rule .ensures .1 f x names v k (h .counts) (h .slots) nw isForm is) in
             holds-open f r h x (record {
               cell = cell .ensures .1 f (h .counts) (h .slots);
-              writes = rw (record-bytes names (r .fields) l x v (a .p) is (q .2 .0) (q .2 .2)) at w;
-              rested = rest .ensures ∙ rests-here f r x (h .counts) (a .p) is;
+              writes = rw (record-bytes names (r .fields) l x v (a .p) is (q .2 .0) (q .2 .2)) at (put .ensures .1);
+              rested = c .before .before .before .rests .ensures ∙ rests-here f r x (h .counts) (a .p) is;
               named = nw;
             }) k (form-short f k l x isForm) (all-formed f k l x isForm) l (lowest .result) full isForm low kept),
       ),
@@ -163,9 +157,7 @@ returns-2 c =
     let v = bytesOf (now (a .wide)) (now (a .first)) (now (a .second)) in
     let room = q .0 .0 in
     let few : r .fields < fieldsMost = omega (arith, room .fields, q .1) in
-    let told : isTold (noteOf (lowest .result)) ≡ true =
-    ap isTold (lowest .ensures)
-    ∙ told-lower (noteOf (r .note)) (noteOf (rule .result)) (room .told) (rule .ensures .0) in
+    let told = told-after (noteOf (r .note)) _ (lowest .result) (lowest .ensures) (room .told) (rule .ensures .0) in
     let shut : isOpen (noteOf (lowest .result)) ≡ false = sym (c .before .before .before .is-open .ensures)
     ∙ c .before .before .if1 .left in
     rw (c .onward2 .ensures) (
