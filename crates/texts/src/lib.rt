@@ -1,5 +1,12 @@
-// Texts: where expressions, the parts of field lines and of a frame stand in them. specs/ holds readers that mirror
-// what the code does, proofs/ the theorems on spelling.
+// Texts, read in one pass. The rooms, by what they read:
+// bytes and lines   text_bytes, phrases, reading (the pass), line_steps (a line), text_ends (the end)
+// the frame         openings, rulers, rows, slots, shown_slots, head_lines
+// field lines       labels, units, widths, width_trees, clause_trees, line_parts
+// expressions       leaves, numbers, signs, stored_nodes, stored_trees
+// names             held_names, name_clashes
+// rules, records    part_tests, part_slots, line_rules, form_rules, part_records, kept_fields
+// what is kept      states, notes
+// specs/ holds definitions that mirror what the code does, proofs/ the theorems on them.
 mod clause_trees;
 mod form_rules;
 mod head_lines;
