@@ -65,7 +65,7 @@ pub(crate) fn later_rule(
             place: place,
         };
     }
-    if clashes(labels, shorts, n, labels[n], shorts[n]) {
+    if clashes(labels, shorts, n) {
         return Note {
             number: 8,
             place: place,

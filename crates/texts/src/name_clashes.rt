@@ -5,8 +5,10 @@ use names::words::same_words;
 use rules::FIELDS_MOST;
 use rules::LABEL_MOST;
 use rules::SHORT_MOST;
+ghost use mathlib.Core.List.{[]};
 ghost use mathlib.Core.Path.{_≡_};
-ghost use Prim.Native.Nat.{_≤_};
+ghost use Prim.Native.Nat.{_<_};
+ghost use lib.ListN.{getD};
 ghost use Rattle.base.specs.Lists.{same};
 ghost use Rattle.rules.specs.Limits.{fieldsMost, labelMost};
 ghost use Rattle.names.specs.Repeats.{padTo};
@@ -25,32 +27,33 @@ pub(crate) fn held_label(w: &[u8]) -> [u8; LABEL_MOST]
     label
 }
 
-fn same_label(a: [u8; LABEL_MOST], b: [u8; LABEL_MOST]) -> bool
-    ensures { λ r. ⌜ r ≡ same a b ⌝ }
+// The labels of two indexes are the same, byte by byte, where they stand.
+fn same_label(labels: &[[u8; LABEL_MOST]; FIELDS_MOST], i: usize, n: usize) -> bool
+    requires { ⌜ (i < fieldsMost) × (n < fieldsMost) ⌝ }
+    ensures { λ r. ⌜ r ≡ same (getD (now (labels .entry)) n []) (getD (now (labels .entry)) i []) ⌝ }
 {
-    same_words(&a, &b)
+    same_words(&labels[n], &labels[i])
 }
 
-// One of the first n fields has the label or the short name.
+// One of the first n fields has the label or the short name of index n.
 pub(crate) fn clashes(
     labels: &[[u8; LABEL_MOST]; FIELDS_MOST],
     shorts: &[[u8; SHORT_MOST]; FIELDS_MOST],
     n: usize,
-    label: [u8; LABEL_MOST],
-    short: [u8; SHORT_MOST],
 ) -> bool
-    requires { ⌜ n ≤ fieldsMost ⌝ }
-    ensures { λ r. ⌜ r ≡ anyClash (now (labels .entry)) (now (shorts .entry)) n label short ⌝ }
+    requires { ⌜ n < fieldsMost ⌝ }
+    ensures { λ r. ⌜ r ≡ anyClash (now (labels .entry)) (now (shorts .entry)) n (getD (now (labels .entry)) n [])
+        (getD (now (shorts .entry)) n []) ⌝ }
 {
     let mut i = 0;
     'earlier: loop {
         if i >= n {
             break 'earlier false;
         }
-        if same_label(label, labels[i]) {
+        if same_label(labels, i, n) {
             break 'earlier true;
         }
-        if same_name(short, shorts[i]) {
+        if same_name(shorts[n], shorts[i]) {
             break 'earlier true;
         }
         i += 1;

@@ -37,31 +37,19 @@ returns c =
           sym (later-is f (a .r) x n false _ _ _ shown refl refl refl)),
     )
 
-mul-clashes : tie.Need-mul-clashes
-mul-clashes c = search needs
-
-element-copy-out-clashes : tie.Need-element-copy-out-clashes
-element-copy-out-clashes c = search needs
-
-mul-clashes-2 : tie.Need-mul-clashes-2
-mul-clashes-2 c = search needs
-
-element-copy-out-clashes-2 : tie.Need-element-copy-out-clashes-2
-element-copy-out-clashes-2 c = search needs
-
 clashes-requires : tie.Need-clashes-requires
-clashes-requires c κs = let q = c .before .before .before .before .before .before .before .pre .2 in omega (arith, q)
+clashes-requires c κs = let q = c .before .before .before .before .before .pre .2 in omega (arith, q)
 
 returns-2 : tie.Need-returns-2
 unfolding noteOf
 returns-2 c =
-    let a = c .before .before .before .before .before .before .before .before .before .args in (
+    let a = c .before .before .before .before .before .before .before .args in (
       refl,
       (λ f x names v k n s nw e p.
           let shown : showsCell (f .cells) (faces (f .judged .fields)) x
-          ≡ true = sym (c .before .before .before .before .before .shows-cell .ensures f x names v k n s p)
-          ∙ not-false (c .before .before .before .before .before .shows-cell .result)
-          (c .before .before .before .before .if1 .left) in
+          ≡ true = sym (c .before .before .before .shows-cell .ensures f x names v k n s p)
+          ∙ not-false (c .before .before .before .shows-cell .result)
+          (c .before .before .if1 .left) in
           let unique : keepsNames (faces (f .judged .fields)) x ≡ false =
           ap not (sym (names-here f k (now (a .line)) x e (a .r) n nw) ∙ sym (c .before .clashes .ensures)
           ∙ c .if2 .taken) in
@@ -74,14 +62,14 @@ types-kept-requires c κs = search needs
 returns-3 : tie.Need-returns-3
 unfolding noteOf
 returns-3 c =
-    let a = c .before .before .before .before .before .before .before .before .before .before .before .args in (
+    let a = c .before .before .before .before .before .before .before .before .before .args in (
       refl,
       (λ f x names v k n s nw e p.
           let shown : showsCell (f .cells) (faces (f .judged .fields)) x
-          ≡ true = sym (c .before .before .before .before .before .before .before .shows-cell .ensures f x names v k n
+          ≡ true = sym (c .before .before .before .before .before .shows-cell .ensures f x names v k n
           s p)
-          ∙ not-false (c .before .before .before .before .before .before .before .shows-cell .result)
-          (c .before .before .before .before .before .before .if1 .left) in
+          ∙ not-false (c .before .before .before .before .before .shows-cell .result)
+          (c .before .before .before .before .if1 .left) in
           let unique : keepsNames (faces (f .judged .fields)) x ≡ true =
           ap not (sym (names-here f k (now (a .line)) x e (a .r) n nw)
           ∙ sym (c .before .before .before .clashes .ensures) ∙ c .before .before .if2 .left) in
@@ -98,15 +86,14 @@ misplaced-requires c κs = search needs
 returns-4 : tie.Need-returns-4
 unfolding noteOf
 returns-4 c =
-    let a = c .before .before .before .before .before .before .before .before .before .before .before .before .before
-    .args in (
+    let a = c .before .before .before .before .before .before .before .before .before .before .before .args in (
       refl,
       (λ f x names v k n s nw e p.
           let shown : showsCell (f .cells) (faces (f .judged .fields)) x
-          ≡ true = sym (c .before .before .before .before .before .before .before .before .before .shows-cell
+          ≡ true = sym (c .before .before .before .before .before .before .before .shows-cell
           .ensures f x names v k n s p) ∙ not-false
-          (c .before .before .before .before .before .before .before .before .before .shows-cell .result)
-          (c .before .before .before .before .before .before .before .before .if1 .left) in
+          (c .before .before .before .before .before .before .before .shows-cell .result)
+          (c .before .before .before .before .before .before .if1 .left) in
           let unique : keepsNames (faces (f .judged .fields)) x ≡ true =
           ap not (sym (names-here f k (now (a .line)) x e (a .r) n nw)
           ∙ sym (c .before .before .before .before .before .clashes .ensures)
@@ -126,15 +113,14 @@ returns-4 c =
 returns-5 : tie.Need-returns-5
 unfolding noteOf
 returns-5 c =
-    let a = c .before .before .before .before .before .before .before .before .before .before .before .before .before
-    .args in (
+    let a = c .before .before .before .before .before .before .before .before .before .before .before .args in (
       refl,
       (λ f x names v k n s nw e p.
           let shown : showsCell (f .cells) (faces (f .judged .fields)) x
-          ≡ true = sym (c .before .before .before .before .before .before .before .before .before .shows-cell
+          ≡ true = sym (c .before .before .before .before .before .before .before .shows-cell
           .ensures f x names v k n s p) ∙ not-false
-          (c .before .before .before .before .before .before .before .before .before .shows-cell .result)
-          (c .before .before .before .before .before .before .before .before .if1 .left) in
+          (c .before .before .before .before .before .before .before .shows-cell .result)
+          (c .before .before .before .before .before .before .if1 .left) in
           let unique : keepsNames (faces (f .judged .fields)) x ≡ true =
           ap not (sym (names-here f k (now (a .line)) x e (a .r) n nw)
           ∙ sym (c .before .before .before .before .before .clashes .ensures)
@@ -158,10 +144,6 @@ later-rule-spec =
     add-place
     shows-cell-requires
     returns
-    mul-clashes
-    element-copy-out-clashes
-    mul-clashes-2
-    element-copy-out-clashes-2
     clashes-requires
     returns-2
     types-kept-requires
