@@ -1,9 +1,9 @@
 -- The code that makes the stored forms of expressions, step by step, against the reader over what is left of the text.
 use mathlib.Core.Path.{_≡_, refl, ap, sym, _∙_, subst}
-use mathlib.Core.Bool.{Bool, true, false}
+use mathlib.Core.Bool.{Bool, true, false, false≢true}
 use mathlib.Core.Logic.{_⊎_}
 use mathlib.Core.List.{List, _∷_}
-use Prim.Native.Nat.{ℕ, zero, suc, _+_, _-_, _≤_, _<_}
+use Prim.Native.Nat.{ℕ, zero, suc, _+_, _*_, _-_, _≤_, _<_}
 use native.Mathlib.Omega.{arith}
 use native.Mathlib.Numerals.{add-one}
 use lib.ListN.{length, drop, getD, length-drop}
@@ -20,7 +20,8 @@ use Rattle.texts.specs.ExprPlaces.{SameSign}
 use Rattle.text_laws.specs.LineReader.{ofOut, readTree}
 use Rattle.texts.specs.StoredTrees.{TreeBytes, held, StoredIs, SameStored, StoredFor}
 use Rattle.texts.specs.StoredPlaces.{TwoMade, wrapOf, LeafStored, ExprStored, AtomStored}
-use Rattle.texts.specs.StoredPlaces.{InsideStored, ClosedStored, MoreStored}
+use Rattle.texts.specs.StoredPlaces.{InsideStored, ClosedStored, MoreStored, WithinStored, WithinStep, StepStored}
+use Rattle.texts.specs.declared.stored_trees.Step.{Step}
 use Rattle.texts.specs.declared.signs.Sign.{Sign}
 use Rattle.texts.specs.declared.signs.Sign.the-variants as sign
 use Rattle.texts.specs.declared.stored_trees.StoredTree.{StoredTree}
@@ -95,6 +96,27 @@ module _ (names : List (List ℕ)) (n : ℕ) (s : List ℕ) where
             (subst (StoredIs names n t) pe q) (subst (StoredIs names n (u .tree)) ye (u .stored)) jo) lt′ in
             rw (more-at s at k h b end o row t f (got (u .tree) (drop (y .next) s)) j is kl eh (u .is))
             (rw mn at go)
+
+  -- ── one operator after the other ──
+
+  module _ (at k h b z : ℕ) (p : TreeBytes) (bytes : List ℕ) (r : Step) where
+    pub step-ends : r .on ≡ false → WithinStored s at at z (r .tree)
+        → MoreStored names n s at k h b p (held (r .tree) bytes)
+        → WithinStep s at z r × StepStored names n s at k h b p bytes r
+    step-ends e w m = (
+      record { ends = λ _. w; goes = λ o. absurd (false≢true (sym e ∙ o)) },
+      record { ends = λ _. m; goes = λ o. absurd (false≢true (sym e ∙ o)) },
+    )
+
+    pub step-goes : r .on ≡ true → at < r .tree .next → r .tree .next ≤ length s
+        → r .tree .len + 5 * at ≤ z + 5 * r .tree .next → r .tree .depth ≤ r .tree .len
+        → ((q : TreeBytes) → MoreStored names n s (r .tree .next) k (r .level) b (held (r .tree) bytes) q
+        → MoreStored names n s at k h b p q)
+        → WithinStep s at z r × StepStored names n s at k h b p bytes r
+    step-goes e lo hi grown flat m = (
+      record { ends = λ o. absurd (false≢true (sym o ∙ e)); goes = λ _. (lo, hi, grown, flat) },
+      record { ends = λ o. absurd (false≢true (sym o ∙ e)); goes = λ _. m },
+    )
 
   -- ── atom ──
 

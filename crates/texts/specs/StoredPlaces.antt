@@ -1,7 +1,7 @@
 -- How the code makes stored expressions, and what it promises of them at places of a text: mirrors the code, no public
 -- promise rests on it.
 use mathlib.Core.Path.{_≡_}
-use mathlib.Core.Bool.{Bool, cond, _&&_}
+use mathlib.Core.Bool.{Bool, true, false, cond, _&&_}
 use mathlib.Core.List.{List, _∷_}
 use Prim.Native.Nat.{ℕ, suc, _+_, _*_, _≤_, _<_, max}
 use lib.Dec.{eqb}
@@ -11,8 +11,9 @@ use Rattle.rules.specs.Operators.{code, takes, gives, notCode}
 use Rattle.rules.specs.Trees.{Tree, negation}
 use Rattle.text_laws.specs.Reader.{got, word, behind, leaf, close, inside, atom, expr}
 use Rattle.text_laws.specs.Reader.{more}
-use Rattle.texts.specs.StoredTrees.{typeCode, TreeBytes, StoredIs, SameStored}
+use Rattle.texts.specs.StoredTrees.{typeCode, TreeBytes, held, StoredIs, SameStored}
 use Rattle.texts.specs.declared.stored_trees.StoredTree.{StoredTree}
+use Rattle.texts.specs.declared.stored_trees.Step.{Step}
 
 -- ── expressions made of expressions ──
 
@@ -81,3 +82,16 @@ abbrev pub MoreStored : List (List ℕ) → ℕ → List ℕ → ℕ → ℕ →
 MoreStored names n s at k h b p r =
     (t : Tree (List ℕ)) (f : ℕ) → StoredIs names n t p → length (drop at s) < f
     → SameStored names n s (more f k h b t (drop at s)) r
+
+-- one operator behind the expression p: it goes on with the whole, or ends
+pub record StepStored (names : List (List ℕ)) (n : ℕ) (s : List ℕ) (at k h b : ℕ) (p : TreeBytes) (bytes : List ℕ)
+    (r : Step) : Type 0 where
+  pub ends : r .on ≡ false → MoreStored names n s at k h b p (held (r .tree) bytes)
+  pub goes : r .on ≡ true → (q : TreeBytes) → MoreStored names n s (r .tree .next) k (r .level) b (held (r .tree) bytes) q
+      → MoreStored names n s at k h b p q
+
+-- places as of `WithinStored`
+pub record WithinStep (s : List ℕ) (at z : ℕ) (r : Step) : Type 0 where
+  pub ends : r .on ≡ false → WithinStored s at at z (r .tree)
+  pub goes : r .on ≡ true → (at < r .tree .next) × (r .tree .next ≤ length s)
+      × (r .tree .len + 5 * at ≤ z + 5 * r .tree .next) × (r .tree .depth ≤ r .tree .len)

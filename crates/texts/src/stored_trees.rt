@@ -16,6 +16,7 @@ use operators::rows::operator;
 use rules::FIELDS_MOST;
 use rules::OPEN_MOST;
 use rules::SHORT_MOST;
+ghost use mathlib.Core.Bool.{false};
 ghost use mathlib.Core.Path.{_≡_};
 ghost use Prim.Native.Nat.{_+_, _*_, _≤_};
 ghost use lib.ListN.{length, drop};
@@ -31,6 +32,8 @@ ghost use Rattle.texts.specs.StoredPlaces.{
   InsideStored,
   ClosedStored,
   MoreStored,
+  WithinStep,
+  StepStored,
 };
 
 // The place behind an expression, its type (1 number, 2 yes or no, 0 wrong), its depth and the length of its stored
@@ -40,6 +43,23 @@ pub(crate) struct StoredTree {
     pub gives: usize,
     pub depth: usize,
     pub len: usize,
+}
+
+// The whole of an expression and what stands behind it, and its level; or the end of an expression.
+pub(crate) struct Step {
+    pub on: bool,
+    pub level: u8,
+    pub tree: StoredTree,
+}
+
+fn ending(tree: StoredTree) -> Step
+    ensures { λ r. ⌜ (r .on ≡ false) × (r .tree ≡ tree) ⌝ }
+{
+    Step {
+        on: false,
+        level: 0,
+        tree: tree,
+    }
 }
 
 // The short name or number at `at`.
@@ -185,7 +205,54 @@ fn place_in(at: usize, end: usize) -> usize
     if at < end { at } else { end }
 }
 
-// What goes on behind an expression of level `h` that ends at `at`.
+// One operator behind an expression of level `h` that ends at `at`, with its right operand: goes on with the whole. Else
+// ends with the expression, or with none where the operand is missing.
+fn tree_step(
+    classes: &[u8; 256],
+    s: &[u8],
+    at: usize,
+    k: u8,
+    h: u8,
+    b: u8,
+    left: StoredTree,
+    names: &[[u8; SHORT_MOST]; FIELDS_MOST],
+    n: usize,
+    out: &mut [u8],
+) -> Step
+    requires { ⌜ (at ≤ length (now s)) × (length (now s) ≤ textMost) × (n ≤ fieldsMost) × (left .next ≡ at)
+        × (left .len ≤ 5 * at) × (left .depth ≤ left .len) × (now classes ≡ classTable) ⌝ }
+    ensures place { λ r. ⌜ WithinStep (now (s .entry)) at (left .len) r ⌝ }
+    ensures same { λ r. ⌜ StepStored (now (names .entry)) n (now (s .entry)) at k h b
+        (held left (now (out .entry))) (now (out .exit)) r ⌝ }
+{
+    let g = operator_at(classes, s, at);
+    match g {
+        Sign::Nothing => ending(left),
+        Sign::At(o, end) => {
+            let row = operator(o);
+            let l = row.level;
+            if l < k {
+                return ending(left);
+            }
+            if h < row.left {
+                return ending(left);
+            }
+            let from = place_in(left.len, out.len());
+            let y = tree_expr(classes, s, end, row.right, b, names, n, &mut out[from..]);
+            if y.len == 0 {
+                return ending(y);
+            }
+            let t = two_node(o, left, y, out);
+            Step {
+                on: true,
+                level: l,
+                tree: t,
+            }
+        }
+    }
+}
+
+// All that goes on behind an expression of level `h` that ends at `at`.
 fn tree_more(
     classes: &[u8; 256],
     s: &[u8],
@@ -204,26 +271,16 @@ fn tree_more(
     ensures same { λ r. ⌜ MoreStored (now (names .entry)) n (now (s .entry)) at k h b
         (held left (now (out .entry))) (held r (now (out .exit))) ⌝ }
 {
-    let g = operator_at(classes, s, at);
-    match g {
-        Sign::Nothing => left,
-        Sign::At(o, end) => {
-            let row = operator(o);
-            let l = row.level;
-            if k <= l {
-                if row.left <= h {
-                    let from = place_in(left.len, out.len());
-                    let y = tree_expr(classes, s, end, row.right, b, names, n, &mut out[from..]);
-                    if y.len == 0 {
-                        return y;
-                    }
-                    let t = two_node(o, left, y, out);
-                    let next = t.next;
-                    return tree_more(classes, s, next, k, l, b, t, names, n, out);
-                }
-            }
-            left
+    let mut p = left;
+    let mut level = h;
+    loop {
+        let q = tree_step(classes, s, p.next, k, level, b, p, names, n, out);
+        let t = q.tree;
+        if !q.on {
+            return t;
         }
+        p = t;
+        level = q.level;
     }
 }
 
