@@ -87,7 +87,8 @@ MoreStored names n s at k h b p r =
 pub record StepStored (names : List (List ℕ)) (n : ℕ) (s : List ℕ) (at k h b : ℕ) (p : TreeBytes) (bytes : List ℕ)
     (r : Step) : Type 0 where
   pub ends : r .on ≡ false → MoreStored names n s at k h b p (held (r .tree) bytes)
-  pub goes : r .on ≡ true → (q : TreeBytes) → MoreStored names n s (r .tree .next) k (r .level) b (held (r .tree) bytes) q
+  pub goes : r .on ≡ true → (q : TreeBytes) → MoreStored names n s (r .tree .next) k (r .level) b (held (r .tree)
+      bytes) q
       → MoreStored names n s at k h b p q
 
 -- places as of `WithinStored`

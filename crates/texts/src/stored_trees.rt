@@ -205,8 +205,8 @@ fn place_in(at: usize, end: usize) -> usize
     if at < end { at } else { end }
 }
 
-// One operator behind an expression of level `h` that ends at `at`, with its right operand: goes on with the whole. Else
-// ends with the expression, or with none where the operand is missing.
+// One operator behind an expression of level `h` that ends at `at`, with its right operand: goes on with the whole.
+// Else ends with the expression, or with none where the operand is missing.
 fn tree_step(
     classes: &[u8; 256],
     s: &[u8],
