@@ -28,7 +28,7 @@ use Rattle.texts.specs.declared.stored_trees.StoredTree.{StoredTree}
 use Rattle.texts.proofs.ExprSigns.{sign-none, sign-some}
 use Rattle.texts.proofs.ExprSteps.{more-at, in-rest, in-other, row-stops}
 use Rattle.texts.proofs.StoredBytes.{Joined}
-use Rattle.texts.proofs.StoredSteps.{is-two, stored-fail, stored-got, same-none, same-here}
+use Rattle.texts.proofs.StoredSteps.{is-two, stored-fail, stored-got, same-none, same-here, here-within}
 
 module _ (names : List (List ℕ)) (n : ℕ) (s : List ℕ) where
   -- ── expr ──
@@ -117,6 +117,21 @@ module _ (names : List (List ℕ)) (n : ℕ) (s : List ℕ) where
       record { ends = λ o. absurd (false≢true (sym o ∙ e)); goes = λ _. (lo, hi, grown, flat) },
       record { ends = λ o. absurd (false≢true (sym o ∙ e)); goes = λ _. m },
     )
+
+  module _ (at k h b : ℕ) (left : StoredTree) (bytes : List ℕ) where
+    pub more-next : left .next ≡ at → (q : TreeBytes) → MoreStored names n s (left .next) k h b (held left bytes) q
+        → MoreStored names n s at k h b (held left bytes) q
+    more-next e q m = subst (λ (x : ℕ). MoreStored names n s x k h b (held left bytes) q) e m
+
+    pub step-stop : (r : Step) → (r .on ≡ false) × (r .tree ≡ left) → at ≤ length s → left .next ≡ at
+        → left .depth ≤ left .len
+        → MoreStored names n s at k h b (held left bytes) (held left bytes)
+        → WithinStep s at (left .len) r × StepStored names n s at k h b (held left bytes) bytes r
+    step-stop r e hi q flat m =
+        step-ends at k h b (left .len) (held left bytes) bytes r (e .0)
+        (rw (e .1) (here-within s at at (left .len) left (omega (arith, q)) (omega (arith, q, hi)) (omega (arith, q))
+        flat))
+        (rw (e .1) m)
 
   -- ── atom ──
 

@@ -110,10 +110,8 @@ returns c =
     let kept = sym (c7 .before .before .before .is-open .ensures) ∙ c7 .before .before .if1 .taken in
     rw (c .onward .ensures) (
       (
-        room-kept r (cell .result) (put .result) (c .before .before .before .rests .result) (lowest .result) (q .0
-            .0) (q
-            .1) (cell .ensures .0)
-            (omega (arith, put .ensures .0)) (omega (arith, put .ensures .0, q .2 .1)) told,
+        room-kept r (cell .result) (put .result) (c .before .before .before .rests .result) (lowest .result) (q .0 .0)
+            (q .1) (cell .ensures .0) (omega (arith, put .ensures .0)) (omega (arith, put .ensures .0, q .2 .1)) told,
         omega arith,
       ),
       (

@@ -1,5 +1,5 @@
 use mathlib.Core.Logic.{inl, inr}
-use mathlib.Core.Path.{_≡_, refl, _∙_, subst}
+use mathlib.Core.Path.{_≡_, refl, _∙_}
 use native.Mathlib.Omega.{arith}
 use lib.ListN.{length}
 use borrow.Author.Tests.{not-true, not-false}
@@ -7,9 +7,9 @@ use Rattle.texts.specs.StoredTrees.{TreeBytes, held}
 use Rattle.texts.specs.StoredPlaces.{MoreStored}
 use Rattle.texts.proofs.ExprSigns.{sign-within}
 use Rattle.texts.proofs.StoredBytes.{joined-part}
-use Rattle.texts.proofs.StoredSteps.{none-within, here-within, up-within, got-within}
+use Rattle.texts.proofs.StoredSteps.{none-within, up-within, got-within}
 use Rattle.texts.proofs.StoredExprs.{expr-fail, expr-go, more-none, more-stop, more-fail, more-go}
-use Rattle.texts.proofs.StoredExprs.{step-ends, step-goes}
+use Rattle.texts.proofs.StoredExprs.{step-ends, step-stop, step-goes, more-next}
 use Rattle.texts.proofs.StoredExprs.{atom-end, atom-bang, atom-paren, atom-word}
 use Rattle.texts.proofs.StoredExprs.{in-end, in-zero, in-wrong, in-fail, in-go}
 use borrow.Author.Needs.{needs}
@@ -39,12 +39,8 @@ use Rattle.texts.proofs.stored_trees.ending.Reads as ending
 use Rattle.texts.proofs.stored_trees.place_in.Reads as place
 use Rattle.texts.proofs.stored_trees.tree_closed.Reads as closed
 use Rattle.texts.proofs.stored_trees.tree_leaf.Reads as leaf
-use Rattle.texts.proofs.stored_trees.+tree_atom+tree_expr+tree_inside+tree_more+tree_step.{
-  statement,
-}
-use Rattle.texts.proofs.stored_trees.+tree_atom+tree_expr+tree_inside+tree_more+tree_step.Tie.{
-  close,
-}
+use Rattle.texts.proofs.stored_trees.+tree_atom+tree_expr+tree_inside+tree_more+tree_step.{statement}
+use Rattle.texts.proofs.stored_trees.+tree_atom+tree_expr+tree_inside+tree_more+tree_step.Tie.{close}
 
 abbrev μ-atom : Measures 4 atom-kinds.ps ℕ
 μ-atom κs a = 5 * (length (a .1 .0 .now) - a .1 .1 .0) + 1
@@ -65,37 +61,31 @@ abbrev atom-at : ℕ → In 4 atom-kinds.ps
 atom-at t = and 4 atom-kinds.ps (is 4 atom-kinds.ps μ-atom t) atom.Pre
 
 abbrev atom-below : ℕ → In 4 atom-kinds.ps
-atom-below t =
-    and 4 atom-kinds.ps (falls 4 atom-kinds.ps _<_ μ-atom t) atom.Pre
+atom-below t = and 4 atom-kinds.ps (falls 4 atom-kinds.ps _<_ μ-atom t) atom.Pre
 
 abbrev expr-at : ℕ → In 4 expr-kinds.ps
 expr-at t = and 4 expr-kinds.ps (is 4 expr-kinds.ps μ-expr t) expr.Pre
 
 abbrev expr-below : ℕ → In 4 expr-kinds.ps
-expr-below t =
-    and 4 expr-kinds.ps (falls 4 expr-kinds.ps _<_ μ-expr t) expr.Pre
+expr-below t = and 4 expr-kinds.ps (falls 4 expr-kinds.ps _<_ μ-expr t) expr.Pre
 
 abbrev inside-at : ℕ → In 4 inside-kinds.ps
-inside-at t =
-    and 4 inside-kinds.ps (is 4 inside-kinds.ps μ-inside t) inside.Pre
+inside-at t = and 4 inside-kinds.ps (is 4 inside-kinds.ps μ-inside t) inside.Pre
 
 abbrev inside-below : ℕ → In 4 inside-kinds.ps
-inside-below t =
-    and 4 inside-kinds.ps (falls 4 inside-kinds.ps _<_ μ-inside t) inside.Pre
+inside-below t = and 4 inside-kinds.ps (falls 4 inside-kinds.ps _<_ μ-inside t) inside.Pre
 
 abbrev more-at : ℕ → In 4 more-kinds.ps
 more-at t = and 4 more-kinds.ps (is 4 more-kinds.ps μ-more t) more.Pre
 
 abbrev more-below : ℕ → In 4 more-kinds.ps
-more-below t =
-    and 4 more-kinds.ps (falls 4 more-kinds.ps _<_ μ-more t) more.Pre
+more-below t = and 4 more-kinds.ps (falls 4 more-kinds.ps _<_ μ-more t) more.Pre
 
 abbrev step-at : ℕ → In 4 step-kinds.ps
 step-at t = and 4 step-kinds.ps (is 4 step-kinds.ps μ-step t) step.Pre
 
 abbrev step-below : ℕ → In 4 step-kinds.ps
-step-below t =
-    and 4 step-kinds.ps (falls 4 step-kinds.ps _<_ μ-step t) step.Pre
+step-below t = and 4 step-kinds.ps (falls 4 step-kinds.ps _<_ μ-step t) step.Pre
 
 abbrev atom-calls : ℕ → atom-lts.Claims
 atom-calls t = (none.Asked, none.Learnt, inside-below t, inside.Post, leaf.Asked, leaf.Learnt)
@@ -176,42 +166,22 @@ atom-returns-4 t c =
     )
 
 expr-tree-atom-requires : (t : ℕ) → expr-lts.Need-tree-atom-requires (expr-calls t) (expr-at t) expr.Post
-expr-tree-atom-requires t c κs = (
-  omega arith,
-  (
-    c .before .before .before .pre .1 .0,
-    c .before .before .before .pre .1 .1,
-    c .before .before
-        .before .pre .1 .2,
-    c .before .before .before .pre .1 .3,
-  ),
-)
+expr-tree-atom-requires t c κs = (omega arith, c .before .before .before .pre .1)
 
 expr-returns : (t : ℕ) → expr-lts.Need-returns (expr-calls t) (expr-at t) expr.Post
 expr-returns t c =
     let a = c .before .before .before .before .before .before .before .before .args in
     let p = c .before .before .before .before .tree-atom in (
       p .ensures .0,
-      expr-fail (a .names .now) (a .n) (a .s .now) (a .at) (a .k) (a .b) _ (p .ensures .1) (c .if1
-          .taken),
+      expr-fail (a .names .now) (a .n) (a .s .now) (a .at) (a .k) (a .b) _ (p .ensures .1) (c .if1 .taken),
     )
 
 expr-tree-more-requires : (t : ℕ) → expr-lts.Need-tree-more-requires (expr-calls t) (expr-at t) expr.Post
 expr-tree-more-requires t c κs =
-    let w = got-within _ _ _ _ _ (c .before .if1 .left) (c .before .before .before .before .before .tree-atom
-    .ensures .0) in (
-      omega arith,
-      (
-        omega arith,
-        omega arith,
-        omega arith,
-        refl,
-        omega arith,
-        omega arith,
-        c .before .before .before .before
-            .before .before .before .before .before .pre .1 .3,
-      ),
-    )
+    let c1 = c .before .before .before .before .before in
+    let p = c1 .before .before .before .before .pre .1 in
+    let w = got-within _ _ _ _ _ (c .before .if1 .left) (c1 .tree-atom .ensures .0) in
+    (omega arith, (w .1, p .1, p .2, refl, omega arith, w .3, p .3))
 
 expr-returns-2 : (t : ℕ) → expr-lts.Need-returns-2 (expr-calls t) (expr-at t) expr.Post
 expr-returns-2 t c =
@@ -261,12 +231,8 @@ inside-returns-4 : (t : ℕ) → inside-lts.Need-returns-4 (inside-calls t) (ins
 inside-returns-4 t c =
     let c1 = c .before .before .before .before .before .before .before .before .before .before .before .before in
     let a = c1 .args in
-    let lt : a .at < length (a .s .now) = omega (
-      arith,
-      c1 .pre .1 .0,
-      c .before .before .before .before .before
-          .before .before .before .before .if1 .left,
-    ) in
+    let z = c .before .before .before .before .before .before .before .before .before .if1 .left in
+    let lt : a .at < length (a .s .now) = omega (arith, c1 .pre .1 .0, z) in
     let y = c .before .before .before .before .tree-expr in (
       none-within _ _ _ _ _ (c .if4 .taken),
       in-fail (a .names .now) (a .n) (a .s .now) (a .at) (a .b) (a .neg) lt (c .before .before .before .before
@@ -314,15 +280,9 @@ more-μ-loop classes s at k h b names n out₀ p₀ level₀ out p level = lengt
 more-loop-holds : (t : ℕ) → more-lts.Need-loop-holds (more-calls t) (more-at t) more.Post more-Inv-loop more-μ-loop
 more-loop-holds t c =
     let p = c .before .before .pre .1 in
-    let a = c .before .before .args in (
-      omega (arith, p .3),
-      omega (arith, p .0, p .3),
-      omega (arith, p .3),
-      p .5,
-      refl,
-      λ q w. subst (λ (x : ℕ). MoreStored (a .names .now) (a .n) (a .s .now) x (a .k) (a .h) (a .b)
-          (held (a .left) (a .out .now)) q) (p .3) w,
-    )
+    let a = c .before .before .args in
+    let m = more-next (a .names .now) (a .n) (a .s .now) (a .at) (a .k) (a .h) (a .b) _ _ (p .3) in
+    (omega (arith, p .3), omega (arith, p .0, p .3), omega (arith, p .3), p .5, refl, m)
 
 more-tree-step-requires : (t : ℕ) → more-lts.Need-tree-step-requires (more-calls t) (more-at t) more.Post
     more-Inv-loop more-μ-loop
@@ -364,8 +324,7 @@ more-loop-again t c =
     )
 
 step-operator-at-requires : (t : ℕ) → step-lts.Need-operator-at-requires (step-calls t) (step-at t) step.Post
-step-operator-at-requires t c κs =
-    (c .before .before .pre .1 .0, c .before .before .pre .1 .6)
+step-operator-at-requires t c κs = (c .before .before .pre .1 .0, c .before .before .pre .1 .6)
 
 step-returns : (t : ℕ) → step-lts.Need-returns (step-calls t) (step-at t) step.Post
 step-returns t c =
@@ -374,13 +333,11 @@ step-returns t c =
     let a = c2 .args in
     let v = c1 .g .given .0 in
     let p = c2 .pre .1 in
-    let e = c .ending2 .ensures in
-    step-ends (a .names .now) (a .n) (a .s .now) (a .at) (a .k) (a .h) (a .b) (a .left .len) (held (a .left) (a .out
-    .now)) _ _ (e .0) (rw (e .1) (here-within _ _ _ _ (a .left) (omega (arith, p .3)) (omega (arith, p .0, p .3))
-    (omega (arith, p .3)) (p .5)))
-    (rw (e .1) (more-stop (a .names .now) (a .n) (a .s .now) (a .at) (a .k) (a .h) (a .b) _ _ (c1 .before .before
+    step-stop (a .names .now) (a .n) (a .s .now) (a .at) (a .k) (a .h) (a .b) (a .left) (a .out .now) _
+    (c .ending2 .ensures) (p .0) (p .3) (p .5)
+    (more-stop (a .names .now) (a .n) (a .s .now) (a .at) (a .k) (a .h) (a .b) _ _ (c1 .before .before
     .operator-at .ensures .1) (v .0) (v .1 .0) (c1 .g .given .1) (c .before .before .operator .result)
-    (c .before .before .operator .ensures) (inl (omega (arith, c .before .if1 .taken))) (p .3)))
+    (c .before .before .operator .ensures) (inl (omega (arith, c .before .if1 .taken))) (p .3))
 
 step-returns-2 : (t : ℕ) → step-lts.Need-returns-2 (step-calls t) (step-at t) step.Post
 step-returns-2 t c =
@@ -390,13 +347,11 @@ step-returns-2 t c =
     let a = c3 .args in
     let v = c2 .g .given .0 in
     let p = c3 .pre .1 in
-    let e = c .ending3 .ensures in
-    step-ends (a .names .now) (a .n) (a .s .now) (a .at) (a .k) (a .h) (a .b) (a .left .len) (held (a .left) (a .out
-    .now)) _ _ (e .0) (rw (e .1) (here-within _ _ _ _ (a .left) (omega (arith, p .3)) (omega (arith, p .0, p .3))
-    (omega (arith, p .3)) (p .5)))
-    (rw (e .1) (more-stop (a .names .now) (a .n) (a .s .now) (a .at) (a .k) (a .h) (a .b) _ _ (c2 .before .before
+    step-stop (a .names .now) (a .n) (a .s .now) (a .at) (a .k) (a .h) (a .b) (a .left) (a .out .now) _
+    (c .ending3 .ensures) (p .0) (p .3) (p .5)
+    (more-stop (a .names .now) (a .n) (a .s .now) (a .at) (a .k) (a .h) (a .b) _ _ (c2 .before .before
     .operator-at .ensures .1) (v .0) (v .1 .0) (c2 .g .given .1) (c1 .operator .result)
-    (c1 .operator .ensures) (inr (omega (arith, c .before .if2 .taken))) (p .3)))
+    (c1 .operator .ensures) (inr (omega (arith, c .before .if2 .taken))) (p .3))
 
 step-tree-expr-requires : (t : ℕ) → step-lts.Need-tree-expr-requires (step-calls t) (step-at t) step.Post
 step-tree-expr-requires t c κs =
@@ -445,12 +400,10 @@ step-returns-4 t c =
     let c1 = c .before .before .before .before .before .before in
     let a = c1 .args in
     let p = c1 .pre .1 in
-    let e = c .ending .ensures in
-    step-ends (a .names .now) (a .n) (a .s .now) (a .at) (a .k) (a .h) (a .b) (a .left .len) (held (a .left) (a .out
-    .now)) _ _ (e .0) (rw (e .1) (here-within _ _ _ _ (a .left) (omega (arith, p .3)) (omega (arith, p .0, p .3))
-    (omega (arith, p .3)) (p .5)))
-    (rw (e .1) (more-none (a .names .now) (a .n) (a .s .now) (a .at) (a .k) (a .h) (a .b) _ _ (c .before .before
-    .before .operator-at .ensures .1) (c .before .enum-told .given .1) (p .3)))
+    step-stop (a .names .now) (a .n) (a .s .now) (a .at) (a .k) (a .h) (a .b) (a .left) (a .out .now) _
+    (c .ending .ensures) (p .0) (p .3) (p .5)
+    (more-none (a .names .now) (a .n) (a .s .now) (a .at) (a .k) (a .h) (a .b) _ _ (c .before .before
+    .before .operator-at .ensures .1) (c .before .enum-told .given .1) (p .3))
 
 step-returns-5 : (t : ℕ) → step-lts.Need-returns-5 (step-calls t) (step-at t) step.Post
 step-returns-5 t c =
@@ -482,22 +435,19 @@ step-returns-5 t c =
 
 pub +tree-atom+tree-expr+tree-inside+tree-more+tree-step-spec : {M : Type 1} → statement M
 +tree-atom+tree-expr+tree-inside+tree-more+tree-step-spec =
-    close μ-atom μ-expr μ-inside μ-more μ-step (λ t. atom-lts.spec (atom-calls t)
-    (atom-at t) atom.Post (λ c κs. search needs) (atom-returns t) (λ c. search needs) (λ c. search
-    needs) (atom-tree-inside-requires t) (λ c. search needs) (atom-returns-2 t)
-    (atom-tree-inside-requires-2 t) (λ c. search needs) (atom-returns-3 t) (atom-tree-leaf-requires
-    t) (λ c. search needs) (atom-returns-4 t)) (λ t. expr-lts.spec (expr-calls t) (expr-at t)
-    expr.Post (expr-tree-atom-requires t) (λ c. search needs) (expr-returns t)
-    (expr-tree-more-requires t) (λ c. search needs) (expr-returns-2 t)) (λ t. inside-lts.spec
-    (inside-calls t) (inside-at t) inside.Post (λ c κs. search needs) (inside-returns t) (λ c κs.
-    search needs) (inside-returns-2 t) (λ c. search needs) (λ c κs. search needs) (inside-returns-3 t)
-    (λ c. search needs) (λ c. search needs) (inside-tree-expr-requires t) (λ c. search needs)
-    (inside-returns-4 t) (inside-tree-closed-requires t) (λ c. search needs) (inside-returns-5 t))
-    (λ t. more-lts.spec (more-calls t) (more-at t) more.Post more-Inv-loop more-μ-loop
-    (more-loop-holds t) (more-tree-step-requires t) (λ c. search needs) (more-returns t)
-    (more-loop-less t) (more-loop-again t)) λ t. step-lts.spec (step-calls t) (step-at t)
-    step.Post (step-operator-at-requires t) (λ c. search needs) (λ c κs. search needs) (λ c. search
-    needs) (λ c κs. search needs) (λ c κs. search needs) (step-returns t) (λ c κs. search needs)
-    (step-returns-2 t) (λ c κs. search needs) (λ c. search needs) (λ c. search needs) (λ c. search needs)
-    (step-tree-expr-requires t) (λ c κs. search needs) (λ c. search needs) (step-returns-3 t)
-    (step-two-node-requires t) (step-returns-4 t) (λ c. search needs) (step-returns-5 t)
+    close μ-atom μ-expr μ-inside μ-more μ-step (λ t. atom-lts.spec (atom-calls t) (atom-at t) atom.Post (λ c κs.
+    search needs) (atom-returns t) (λ c. search needs) (λ c. search needs) (atom-tree-inside-requires t) (λ c. search
+    needs) (atom-returns-2 t) (atom-tree-inside-requires-2 t) (λ c. search needs) (atom-returns-3 t)
+    (atom-tree-leaf-requires t) (λ c. search needs) (atom-returns-4 t)) (λ t. expr-lts.spec (expr-calls t) (expr-at t)
+    expr.Post (expr-tree-atom-requires t) (λ c. search needs) (expr-returns t) (expr-tree-more-requires t) (λ c.
+    search needs) (expr-returns-2 t)) (λ t. inside-lts.spec (inside-calls t) (inside-at t) inside.Post (λ c κs. search
+    needs) (inside-returns t) (λ c κs. search needs) (inside-returns-2 t) (λ c. search needs) (λ c κs. search needs)
+    (inside-returns-3 t) (λ c. search needs) (λ c. search needs) (inside-tree-expr-requires t) (λ c. search needs)
+    (inside-returns-4 t) (inside-tree-closed-requires t) (λ c. search needs) (inside-returns-5 t)) (λ t. more-lts.spec
+    (more-calls t) (more-at t) more.Post more-Inv-loop more-μ-loop (more-loop-holds t) (more-tree-step-requires t) (λ
+    c. search needs) (more-returns t) (more-loop-less t) (more-loop-again t)) λ t. step-lts.spec (step-calls t)
+    (step-at t) step.Post (step-operator-at-requires t) (λ c. search needs) (λ c κs. search needs) (λ c. search needs)
+    (λ c κs. search needs) (λ c κs. search needs) (step-returns t) (λ c κs. search needs) (step-returns-2 t) (λ c κs.
+    search needs) (λ c. search needs) (λ c. search needs) (λ c. search needs) (step-tree-expr-requires t) (λ c κs.
+    search needs) (λ c. search needs) (step-returns-3 t) (step-two-node-requires t) (step-returns-4 t) (λ c. search
+    needs) (step-returns-5 t)
