@@ -1,8 +1,11 @@
-//! Compiles the plain C reader and the clock with gcc -O2.
+//! Compiles the plain C reader and the clock with gcc -O2. Where UMAREKOZA_BEFORE_DIR names the folder of another
+//! libumarekoza.a, three of its functions are linked too, as `before_..`, so that both are timed in one run.
 
 use std::env;
-use std::path::PathBuf;
+use std::path::{Path, PathBuf};
 use std::process::{exit, Command};
+
+const SETTING: &str = "UMAREKOZA_BEFORE_DIR";
 
 fn main() {
     let folder = PathBuf::from(env::var_os("OUT_DIR").unwrap_or_default());
@@ -16,6 +19,26 @@ fn main() {
     }
     println!("cargo:rustc-link-search=native={}", folder.display());
     println!("cargo:rustc-link-lib=static=plain");
+    println!("cargo:rustc-check-cfg=cfg(before)");
+    println!("cargo:rerun-if-env-changed={SETTING}");
+    if let Some(earlier) = env::var_os(SETTING).filter(|earlier| !earlier.is_empty()) {
+        rename(&PathBuf::from(earlier).join("libumarekoza.a"), &folder);
+        println!("cargo:rustc-link-lib=static=before");
+        println!("cargo:rustc-cfg=before");
+    }
+}
+
+/// The library under other names: its three functions as `before_..`, the others kept to itself.
+fn rename(library: &Path, folder: &Path) {
+    println!("cargo:rerun-if-changed={}", library.display());
+    let (named, kept) = (folder.join("named.a"), folder.join("libbefore.a"));
+    let (mut naming, mut keeping) = (Command::new("objcopy"), Command::new("objcopy"));
+    for name in ["check_table", "read_packet", "write_table"] {
+        naming.arg(format!("--redefine-sym=umarekoza_{name}=before_{name}"));
+        keeping.arg(format!("--keep-global-symbol=before_{name}"));
+    }
+    run(naming.arg(library).arg(&named));
+    run(keeping.arg(&named).arg(&kept));
 }
 
 fn run(command: &mut Command) {

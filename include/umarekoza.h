@@ -26,15 +26,15 @@ extern "C" {
 
 #define UMAREKOZA_VERSION "0.1.0"
 
-/* The limits of document 01 that a caller meets: bytes of a text, fields, bytes of a packet. */
+/* The limits of documents 01 and 02 that a caller meets: bytes of a text, fields, bytes of a packet. */
 #define UMAREKOZA_TEXT_MOST 16384
-#define UMAREKOZA_FIELDS_MOST 64
-#define UMAREKOZA_PACKET_MOST 2048
+#define UMAREKOZA_FIELDS_MOST 128
+#define UMAREKOZA_PACKET_MOST 8191
 
 /* A run of so many numbers, and an output of so many bytes for a table or for a listing, is always enough. */
-#define UMAREKOZA_RUN_MOST 256
-#define UMAREKOZA_TABLE_MOST 27190
-#define UMAREKOZA_LISTING_MOST 3979
+#define UMAREKOZA_RUN_MOST 512
+#define UMAREKOZA_TABLE_MOST 54326
+#define UMAREKOZA_LISTING_MOST 7947
 
 /* Number 0: accepted, with place 0 and a length. Else refused: the number and place of the refusal, and length 0. */
 struct umarekoza_answer {

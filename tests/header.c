@@ -125,7 +125,9 @@ static void most(void)
     static uint8_t lines[UMAREKOZA_LISTING_MOST];
     static uint32_t numbers[UMAREKOZA_RUN_MOST];
     static const uint8_t packet[UMAREKOZA_PACKET_MOST + 1];
+    static const char due[] = "Text: 0 65528\nbits 65528\n";
     const size_t run_len = UMAREKOZA_RUN_MOST;
+    struct umarekoza_answer note;
     expect(UMAREKOZA_RUN_MOST == 4 * UMAREKOZA_FIELDS_MOST, "four numbers a field");
     expect(is(umarekoza_write_table(BYTES(tag), bytes, sizeof bytes), 0, 0, 44), "the Tag text to a long output");
     expect(is(umarekoza_read_packet(tag_table, 44, packet, UMAREKOZA_PACKET_MOST, numbers, run_len), 25, 1, 0),
@@ -134,6 +136,12 @@ static void most(void)
            "a packet too long");
     expect(is(umarekoza_list_packet(tag_table, 44, packet, sizeof packet, lines, sizeof lines), 0, 0, 16),
            "a packet too long listed");
+    note = umarekoza_write_table(BYTES(rest), bytes, sizeof bytes);
+    expect(is(umarekoza_list_packet(bytes, note.length, packet, 8191, lines, sizeof lines), 0, 0, sizeof due - 1),
+           "a packet of 8,191 bytes listed");
+    expect(memcmp(lines, due, sizeof due - 1) == 0, "the listing of a packet of 8,191 bytes");
+    expect(is(umarekoza_read_packet(bytes, note.length, packet, 8192, numbers, run_len), 22, 0, 0),
+           "a packet of 8,192 bytes");
 }
 
 static void write_table(void)

@@ -1,12 +1,15 @@
-"""The requests of crates/runs on tables and packets, with their answers: M1 to M10 of document 01, and those of
-tables.tsv and packets.tsv of the vectors. A part is answered by its length and its bytes, `part LEN HEX`, where the
-vectors have `part START LEN`.
+"""The requests of crates/runs on tables and packets, with their answers: M1 to M10 of document 01; as many fields and
+bytes as may be, and one more; and those of the vectors. A part is answered by its length and its bytes, `part LEN HEX`,
+where the vectors have `part START LEN`.
 """
 from collections import Counter
 
-from runs import BLADE, TAG, both, fixed, number, spelled, split, table
+from runs import BLADE, TAG, both, fixed, full, full_table, number, rest, spelled, split, stored, table
 
+VECTORS = ("tables", "packets", "base2", "large", "r10")
+KINDS = {"tables": ("table",), "packets": ("read", "part", "list")}
 SHORT = {"tables": 420, "packets": 500}  # every request of at most so many bytes is taken
+SHORT_R10 = 6000  # of r10.tsv of so many
 LEAST = 30  # so many of each kind of request and answer are taken, as far as there are, whatever their length
 
 # Document 01's packets, the answer to `read` and the listing of each.
@@ -86,6 +89,37 @@ def marked_values():
             yield "read 4 %s 09" % kind.hex(), due
 
 
+# Tables of 64, 65, 128 and 129 fields, and packets for them, whose fields of two bits hold 0, 1, 2, 3 in turn.
+def limits():
+    for n in (64, 65, 128):
+        full_n, end = full_table(n).hex(), n // 16 * 32
+        packet = "1b" * (end // 8) + "00000007" * (n % 16)
+        fields = [(2 * i, 2, i % 4) for i in range(n - n % 16)] + [(end, 32, 7)] * (n % 16)
+        total = 4 * len(packet)
+        lines = ["%s: %d %d %d\n" % (label.decode(), *three) for (label, _), three in zip(full(n), fields)]
+        yield "table " + full_n, "ok"
+        yield "read %d %s %s" % (4 * n, full_n, packet), "ok %d" % total + "".join(" 1,%d,%d,%d" % f for f in fields)
+        yield "read %d %s %s" % (4 * n - 1, full_n, packet), "refused 23 0"
+        yield "list %s %s" % (full_n, packet), ("".join(lines) + "bits %d\n" % total).encode().hex()
+    yield "table " + full_table(129).hex(), "refused 21 0"
+    yield "read 516 %s -" % full_table(129).hex(), "refused 21 0"
+    yield "list %s -" % full_table(129).hex(), b"refused 21 at 0\n".hex()
+    yield from long_packets()
+
+
+# Packets of one rest field, of 2,048 and 8,191 bytes and of one more.
+def long_packets():
+    note = table(b"Note", 8, rest(b"Text", b"")).hex()
+    for size in (2048, 2049, 8191):
+        yield "read 4 %s %s" % (note, "5a" * size), "ok %d 1,0,%d,0" % (8 * size, 8 * size)
+    listing = b"Text: 0 65528\nbits 65528\n"
+    for size, part, listed in ((8191, b"Z" * 8191, listing), (8192, b"", b"refused 22 at 0\n")):
+        yield "part 0 %s %s" % (note, "5a" * size), shown(part)
+        yield "list %s %s" % (note, "5a" * size), listed.hex()
+    yield "read 4 %s %s" % (note, "5a" * 8192), "refused 22 0"
+    yield "read 3 %s %s" % (note, "5a" * 8192), "refused 22 0"
+
+
 # A vector's answer as the program gives it.
 def due_to(request, answer):
     words = request.split(" ")
@@ -109,15 +143,16 @@ def group(request, answer):
 
 # The short requests, more where a group has few, and the longest of each kind.
 def chosen(vectors, name):
-    with open("%s/%s.tsv" % (vectors, name)) as lines:
-        cases = [tuple(line.rstrip("\n").split("\t")) for line in lines]
-    have = Counter(group(*case) for case in cases if len(case[0]) <= SHORT[name])
-    longest = {}
-    for case in cases:
+    cases, short, longest = [], set(), {}
+    for file, *case in stored(vectors, VECTORS, KINDS[name]):
         kind = case[0].split(" ")[0]
-        longest[kind] = max(longest.get(kind, case), case, key=lambda c: len(c[0]))
+        cases.append(tuple(case))
+        if len(case[0]) <= (SHORT_R10 if file == "r10" else SHORT[name]):
+            short.add(cases[-1])
+        longest[kind] = max(longest.get(kind, cases[-1]), cases[-1], key=lambda c: len(c[0]))
+    have = Counter(group(*case) for case in short)
     for case in cases:
-        if len(case[0]) > SHORT[name] and case not in longest.values():
+        if case not in short and case not in longest.values():
             if have[group(*case)] >= LEAST:
                 continue
             have[group(*case)] += 1
@@ -125,7 +160,7 @@ def chosen(vectors, name):
 
 
 def files(vectors):
-    files = {"marked_packets": list(marked())}
-    for name in SHORT:
+    files = {"marked_packets": list(marked()), **split("limits", list(limits()))}
+    for name in KINDS:
         files.update(split(name, [(r, due_to(r, a)) for r, a in chosen(vectors, name)]))
     return files

@@ -1,4 +1,4 @@
-"""What packet_requests.py and text_requests.py share: document 01's stored form, and files of requests."""
+"""What packet_requests.py and text_requests.py share: document 01's stored form, the vectors, and files of requests."""
 import struct
 
 ROOM = 65536  # no file of requests is longer
@@ -62,6 +62,27 @@ TAG = table(b"Tag", 8, fixed(b"Kind", b"K", 8, both("==", field(0), number(7))))
 TAG_OF_01 = """0D 00 01 00 08 00 01 00 03 00 54 61 67 1B 00 02 00 04 00 4B 69 6E 64 01 00 4B 08 00 08 00
     20 02 00 01 07 00 00 00 00 00 04 00 05 00"""
 assert TAG == bytes.fromhex(TAG_OF_01)
+
+
+# The labels and bits of n fields in rows of 32 bits: sixteen to a row, and one alone where one is left.
+def full(n):
+    assert n % 16 < 2
+    bits = [2] * (n - n % 16) + [32] * (n % 16)
+    return [(b"%c%d" % (65 + i // 10, i % 10), bits[i]) for i in range(n)]
+
+
+def full_table(n):
+    return table(b"Full", 32, *(fixed(label, b"", bits) for label, bits in full(n)))
+
+
+# The requests of these kinds in files of the vectors, with their answers.
+def stored(vectors, names, kinds):
+    for name in names:
+        with open("%s/%s.tsv" % (vectors, name)) as lines:
+            for line in lines:
+                request, answer = line.rstrip("\n").split("\t")
+                if request.split(" ")[0] in kinds:
+                    yield name, request, answer
 
 
 def spelled(s):

@@ -1,11 +1,12 @@
 """The requests of crates/runs on texts, with their answers: the Tag and the blade report of document 01, a TCP header
-and a QUIC long header, with outputs that are exactly long enough, too short and longer; and those of spelled.tsv, edge.tsv
-and mutated.tsv of the vectors.
+and a QUIC long header, with outputs that are exactly long enough, too short and longer; texts of as many fields as may
+be, and of more; and those of the vectors.
 """
-from runs import BLADE, ROOM, TAG, both, field, fixed, measured, number, rest, spelled, table
+from runs import BLADE, ROOM, TAG, both, field, fixed, full, full_table, measured, number, rest, spelled, stored, table
 
-VECTORS = ("spelled", "edge", "mutated")
+VECTORS = ("spelled", "edge", "mutated", "base2", "r10")
 ACCEPTED = 105  # so many accepted texts are taken, the shortest, and the longest too
+MANY = 5  # so many more of over 64 fields
 REFUSED = 12  # so many of each refusal number, the shortest
 RARE = ("refused 1", "refused 4", "refused 8", "refused 10")  # all of these
 
@@ -141,27 +142,46 @@ def whole(short):
 
 def marked():
     for short, due in ((TAG_TEXT, TAG), (BLADE_TEXT, BLADE), (TCP_TEXT, TCP), (LONG_HEADER_TEXT, LONG_HEADER)):
-        for size in (len(due), len(due) - 1, 28672) + ((0, len(due) + 1) if due == TAG else ()):
+        for size in (len(due), len(due) - 1, 57344) + ((0, len(due) + 1) if due == TAG else ()):
             answer = "ok " + due.hex() if len(due) <= size else "refused 11 0"
             yield "text %d %s" % (size, spelled(whole(short))), answer
 
 
-# `ok`, or `refused N`.
+# The text of so many cells and lines of full().
+def full_text(cells, lines):
+    rows = []
+    for at in range(0, cells, 16):
+        row = full(cells)[at : at + 16]
+        rows.append("|%s|" % "|".join(label.decode().center(2 * bits - 1) for label, bits in row))
+    told = ["%s: %d bits." % (label.decode(), bits) for label, bits in full(lines)]
+    return whole("\n".join(["Full 32"] + rows + [""] + told + [""]))
+
+
+# Texts of 64, 65 and 128 fields, and of 129 cells or lines.
+def limits():
+    for n in (64, 65, 128):
+        due = full_table(n)
+        yield "text %d %s" % (len(due), full_text(n, n).hex()), "ok " + due.hex()
+    yield "text %d %s" % (len(due) - 1, full_text(128, 128).hex()), "refused 11 0"
+    for cells, lines in ((129, 129), (129, 128), (128, 129), (129, 1), (1, 129)):
+        yield "text 57344 %s" % full_text(cells, lines).hex(), "refused 4 0"
+
+
+# `ok`, or `refused N`; of over 64 fields `many`.
 def group(answer):
-    return "ok" if answer.startswith("ok") else answer.rsplit(" ", 1)[0]
+    if answer.startswith("ok"):
+        return "many" if bytes.fromhex(answer.split(" ")[1])[6] > 64 else "ok"
+    return answer.rsplit(" ", 1)[0]
 
 
 # The shortest requests of each group, and the longest that is accepted.
 def chosen(vectors):
     groups = {}
-    for name in VECTORS:
-        with open("%s/%s.tsv" % (vectors, name)) as lines:
-            for line in lines:
-                request, answer = line.rstrip("\n").split("\t")
-                groups.setdefault(group(answer), []).append((request, answer))
+    for _, request, answer in stored(vectors, VECTORS, ("text",)):
+        groups.setdefault(group(answer), []).append((request, answer))
     for kind, cases in groups.items():
         cases.sort(key=lambda case: len(case[0]))
-        yield from cases if kind in RARE else cases[: ACCEPTED if kind == "ok" else REFUSED]
+        yield from cases if kind in RARE else cases[: {"ok": ACCEPTED, "many": MANY}.get(kind, REFUSED)]
     yield groups["ok"][-1]
 
 
@@ -179,4 +199,4 @@ def packed(cases):
 
 
 def files(vectors):
-    return {"marked_texts": list(marked()), **packed(chosen(vectors))}
+    return {"marked_texts": list(marked()), **packed([*limits(), *chosen(vectors)])}

@@ -28,7 +28,7 @@ impl Case {
         let remark = length.saturating_sub(bare) / fields;
         let page = constrained_page(fields, remark);
         let name = format!("{fields} fields with constraints, {} bytes of text", page.len());
-        Case::new(&name, page, (0..fields).map(|field| 3 * field as u8).collect())
+        Case::new(&name, page, (0..fields).map(|field| (3 * field % 251) as u8).collect())
     }
 
     /// A packet of `length` bytes, nearly all of them in one measured field.
@@ -85,15 +85,15 @@ fn page(rows: &[String], lines: &str) -> String {
 #[cfg(test)]
 mod tests {
     use super::Case;
-    use umarekoza::{FIELDS_MOST, RUN_MOST, TEXT_MOST};
+    use umarekoza::{FIELDS_MOST, PACKET_MOST, RUN_MOST, TEXT_MOST};
     use umarekoza_model::read_packet;
 
     #[test]
     fn cases_are_accepted() {
         let mut cases = vec![Case::blade()];
-        for doubling in 0..4 {
-            cases.push(Case::constrained(8 << doubling, 2048 << doubling));
-            cases.push(Case::long(256 << doubling));
+        for doubling in 0..5 {
+            cases.push(Case::constrained(8 << doubling, 1024 << doubling));
+            cases.push(Case::long((512 << doubling).min(PACKET_MOST)));
         }
         for case in cases {
             let bits = 8 * case.packet.len() as u32;

@@ -1,6 +1,9 @@
 //! Prints how long the library takes against the model and against a plain C reader, and how its times grow as
-//! sizes double. UMAREKOZA_ROUNDS is the number of rounds, 21 if not set.
+//! sizes double. UMAREKOZA_ROUNDS is the number of rounds, 21 if not set. Where another library is linked
+//! (UMAREKOZA_BEFORE_DIR), prints the ratios to its times too.
 
+#[cfg(before)]
+mod before;
 mod cases;
 mod reader;
 mod rounds;
@@ -25,22 +28,70 @@ fn main() {
     ratios(rounds);
     println!("\nGrowth of the library's times as sizes double; 2 is linear.\n");
     growth(rounds);
+    #[cfg(before)]
+    against_before(rounds);
+}
+
+/// The library twice, and the other one, by what both accept.
+#[cfg(before)]
+fn against_before(rounds: usize) {
+    let cases =
+        [Case::blade(), Case::constrained(16, 4096), Case::constrained(64, TEXT_MOST), Case::long(2048)];
+    println!("\nAgainst the library of UMAREKOZA_BEFORE_DIR.\n");
+    println!("| Call | Case | library, ns | / before | again |");
+    println!("|---|---|---|---|---|");
+    for case in &cases {
+        before_row("check_table", case, &mut [check(case), check(case), before_check(case)], rounds);
+        before_row("read_packet", case, &mut [read(case), read(case), before_read(case)], rounds);
+        before_row("write_table", case, &mut [write(case), write(case), before_write(case)], rounds);
+    }
+}
+
+#[cfg(before)]
+fn before_row(call: &str, case: &Case, calls: &mut [Call], rounds: usize) {
+    let times = times(calls, rounds);
+    let (ratio, again) = (shown(&times.ratio(0, 2)), shown(&times.ratio(1, 0)));
+    println!("| {call} | {} | {:.0} | {ratio} | {again} |", case.name, times.of(0).median);
+}
+
+#[cfg(before)]
+fn before_check(case: &Case) -> Call<'_> {
+    Box::new(|| assert!(black_box(before::check_table(black_box(&case.table))).is_some()))
+}
+
+#[cfg(before)]
+fn before_read(case: &Case) -> Call<'_> {
+    let mut run = vec![0; RUN_MOST];
+    Box::new(move || {
+        let bits = before::read_packet(black_box(&case.table), black_box(&case.packet), &mut run);
+        assert_eq!(black_box(bits), Some(8 * case.packet.len() as u64));
+    })
+}
+
+#[cfg(before)]
+fn before_write(case: &Case) -> Call<'_> {
+    let mut out = vec![0; TABLE_MOST];
+    Box::new(move || {
+        let length = before::write_table(black_box(&case.page), &mut out);
+        assert_eq!(black_box(length), Some(case.table.len() as u64));
+    })
 }
 
 fn ratios(rounds: usize) {
     let blade = Case::blade();
+    let half = Case::constrained(FIELDS_MOST / 2, TEXT_MOST);
     let fields = Case::constrained(FIELDS_MOST, TEXT_MOST);
     let long = Case::long(PACKET_MOST);
     println!("| Call | Case | library, ns | / model | / plain C | / C with constraints | again |");
     println!("|---|---|---|---|---|---|---|");
-    for case in [&blade, &fields] {
+    for case in [&blade, &half, &fields] {
         ratio_row("check_table", case, &mut [check(case), check(case), model_check(case)], rounds);
     }
-    for case in [&blade, &fields, &long] {
+    for case in [&blade, &half, &fields, &long] {
         let mut calls = [read(case), read(case), model_read(case), plain(case, false), plain(case, true)];
         ratio_row("read_packet", case, &mut calls, rounds);
     }
-    for case in [&blade, &fields] {
+    for case in [&blade, &half, &fields] {
         ratio_row("write_table", case, &mut [write(case), write(case), model_write(case)], rounds);
     }
 }
@@ -63,14 +114,14 @@ fn shown(Spread { low, median, high }: &Spread) -> String {
 
 fn growth(rounds: usize) {
     let fields: Vec<Case> =
-        (0..4).map(|doubling| Case::constrained(8 << doubling, 2048 << doubling)).collect();
-    let long: Vec<Case> = (0..4).map(|doubling| Case::long(256 << doubling)).collect();
+        (0..5).map(|doubling| Case::constrained(8 << doubling, 1024 << doubling)).collect();
+    let long: Vec<Case> = (0..5).map(|doubling| Case::long((512 << doubling).min(PACKET_MOST))).collect();
     println!("| Call | Sizes | ns | ratio at each doubling |");
     println!("|---|---|---|---|");
-    growth_row("check_table", "8, 16, 32, 64 fields", fields.iter().map(check), rounds);
-    growth_row("read_packet", "8, 16, 32, 64 fields", fields.iter().map(read), rounds);
-    growth_row("read_packet", "256, 512, 1024, 2048 bytes", long.iter().map(read), rounds);
-    growth_row("write_table", "2, 4, 8, 16 KiB with 8, 16, 32, 64 fields", fields.iter().map(write), rounds);
+    growth_row("check_table", "8, 16, 32, 64, 128 fields", fields.iter().map(check), rounds);
+    growth_row("read_packet", "8, 16, 32, 64, 128 fields", fields.iter().map(read), rounds);
+    growth_row("read_packet", "512, 1024, 2048, 4096, 8191 bytes", long.iter().map(read), rounds);
+    growth_row("write_table", "1 to 16 KiB with 8 to 128 fields", fields.iter().map(write), rounds);
 }
 
 fn growth_row<'a>(call: &str, sizes: &str, calls: impl Iterator<Item = Call<'a>>, rounds: usize) {

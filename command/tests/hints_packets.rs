@@ -108,11 +108,11 @@ read before the refusal:
 #[test]
 fn a_packet_too_long_22() {
     let due = "\
-error[22]: the packet has 2,049 bytes, at most 2,048
+error[22]: the packet has 8,192 bytes, at most 8,191
  --> packet.bin
  = note: see that it is one packet, and in bytes
 ";
-    told("22", BLADE, &[0; 2049], "refused 22 at 0", due);
+    told("22", BLADE, &[0; 8192], "refused 22 at 0", due);
 }
 
 #[test]
@@ -208,7 +208,7 @@ fn documented_packets() {
     let place = Place::new("documented-packets");
     let m4 = [&M1[..], &[0]].concat();
     let cases: [(&str, &[u8]); 6] =
-        [("N", &[0; 2049]), ("N", &M1[..5]), ("N", &[0x55, 7]), ("Bor", &M2), ("N - 3", &M1), ("N", &m4)];
+        [("N", &[0; 8192]), ("N", &M1[..5]), ("N", &[0x55, 7]), ("Bor", &M2), ("N - 3", &M1), ("N", &m4)];
     for (readings, packet) in cases {
         place.put("my-page.txt", with("Readings: N bytes.", &format!("Readings: {readings} bytes.")));
         place.put("my-packet.bin", packet);

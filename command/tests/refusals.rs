@@ -48,8 +48,8 @@ fn wrong_line_3() {
 
 #[test]
 fn too_many_fields_4() {
-    let lines = format!("Sum: 2 bytes.\n{}", "x\n".repeat(58));
-    page_refused("4", &[("Sum: 2 bytes.\n", &lines)], "refused 4 at 0", &["64"]);
+    let lines = format!("Sum: 2 bytes.\n{}", "x\n".repeat(122));
+    page_refused("4", &[("Sum: 2 bytes.\n", &lines)], "refused 4 at 0", &["129 field lines, at most 128"]);
 }
 
 #[test]
@@ -133,7 +133,7 @@ fn bad_table_21() {
 fn packets_22_to_28() {
     let place = Place::new("packets");
     let cases: [(&[u8], &str, &str); 5] = [
-        (&[0; 2049], "refused 22 at 0", "2,048"),
+        (&[0; 8192], "refused 22 at 0", "8,191"),
         (&M1[..7], "refused 24 at 7", " --> packet, field 7: Sum\n"),
         (&[0x22, 7, 1, 0x2C, 0xAA, 0xBB, 0, 9], "refused 25 at 1", "field 1: Version\n"),
         (&[0x55, 7], "refused 25 at 3", "field 3: Cells\n"),

@@ -17,7 +17,7 @@ impl Case {
             let text = if rng.one_in(50) { noise(rng) } else { text(rng) };
             return Case::Text(text);
         }
-        if rng.one_in(150) {
+        if rng.one_in(250) {
             let (table, packet) = tail(rng);
             return Case::Packet { table, packet };
         }
@@ -41,7 +41,86 @@ fn noise(rng: &mut Rng) -> Vec<u8> {
     (0..rng.between(0, most)).map(|_| rng.byte()).collect()
 }
 
-/// Bytes at the limit of a packet.
+/// Bytes at the limit of a packet, at the earlier one, between them or beyond.
 fn long_packet(rng: &mut Rng) -> Vec<u8> {
-    (0..rng.pick([PACKET_MOST - 1, PACKET_MOST, PACKET_MOST + 1, 5000])).map(|_| rng.byte()).collect()
+    let length =
+        rng.pick([2_047, 2_048, 2_049, 5_000, PACKET_MOST - 1, PACKET_MOST, PACKET_MOST + 1, 16_384]);
+    rng.bytes(length)
+}
+
+#[cfg(test)]
+mod tests {
+    use super::Case;
+    use std::ops::RangeInclusive;
+    use umarekoza::RUN_MOST;
+    use umarekoza_model::generate::Rng;
+    use umarekoza_model::{check_table, count_fields, read_packet, write_table, Refusal};
+
+    /// A text or a table with its number of fields, or a packet with its number of bytes, and whether it is accepted.
+    /// Of texts refused for their number of fields it is 129.
+    type Seen = (&'static str, usize, bool);
+
+    fn seen(case: &Case) -> Vec<Seen> {
+        match case {
+            Case::Text(text) => match write_table(text, usize::MAX) {
+                Ok(table) => vec![("text", count_fields(&table).unwrap(), true)],
+                Err(Refusal { number: 4, .. }) => vec![("text", 129, false)],
+                Err(_) => vec![],
+            },
+            Case::Packet { table, packet } => {
+                let stated = table.get(6..8).map_or(0, |two| u16::from_le_bytes([two[0], two[1]]));
+                let mut seen = vec![("table", usize::from(stated), check_table(table).is_ok())];
+                match read_packet(table, packet, RUN_MOST) {
+                    Ok(_) => seen.push(("packet", packet.len(), true)),
+                    Err(Refusal { number: 22, .. }) => seen.push(("packet", packet.len(), false)),
+                    Err(_) => {}
+                }
+                seen
+            }
+        }
+    }
+
+    fn seen_in(rng: &mut Rng, cases: usize) -> Vec<Seen> {
+        (0..cases).flat_map(|_| seen(&Case::random(rng))).collect()
+    }
+
+    /// What is at the limits of fields and packets, 128 and 8,191, and at those before [02, R-10], 64 and 2,048.
+    const FAR: [(&str, RangeInclusive<usize>, bool); 7] = [
+        ("text", 65..=128, true),
+        ("text", 129..=129, false),
+        ("table", 65..=128, true),
+        ("table", 129..=258, false),
+        ("packet", 2_047..=2_049, true),
+        ("packet", 8_190..=8_191, true),
+        ("packet", 8_192..=16_384, false),
+    ];
+
+    #[test]
+    fn each_thousand_has_far_cases() {
+        let mut rng = Rng::new(1);
+        for block in 0..20 {
+            let seen = seen_in(&mut rng, 1_000);
+            for (what, numbers, accepted) in FAR {
+                let is_one = |one: &Seen| one.0 == what && numbers.contains(&one.1) && one.2 == accepted;
+                assert!(seen.iter().any(is_one), "block {block}: no {what} of {numbers:?}, {accepted}");
+            }
+        }
+    }
+
+    #[test]
+    fn each_number_at_a_limit_turns_up() {
+        let seen = seen_in(&mut Rng::new(2), 20_000);
+        let accepted = |what, number| assert!(seen.contains(&(what, number, true)), "no {what} of {number}");
+        for fields in [64, 65, 127, 128] {
+            accepted("text", fields);
+            accepted("table", fields);
+        }
+        for bytes in [2_047, 2_048, 2_049, 8_190, 8_191] {
+            accepted("packet", bytes);
+        }
+        let refused = [("table", 129), ("table", 130), ("table", 256), ("table", 257), ("packet", 8_192)];
+        for (what, number) in refused {
+            assert!(seen.contains(&(what, number, false)), "no refused {what} of {number}");
+        }
+    }
 }

@@ -13,9 +13,7 @@ pub trait Unit: Copy + PartialEq {
 
 impl Unit for u8 {
     fn add(rng: &mut Rng, to: &mut Vec<Self>, count: usize) {
-        let length = to.len() + count;
-        to.extend((0..count.div_ceil(8)).flat_map(|_| rng.bits().to_le_bytes()));
-        to.truncate(length);
+        to.extend(rng.bytes(count));
     }
 }
 

@@ -13,3 +13,5 @@ mod lent;
 pub mod runs;
 mod tally;
 mod vectors;
+
+pub use vectors::FILES;

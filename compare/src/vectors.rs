@@ -9,7 +9,17 @@ use umarekoza::LISTING_MOST;
 use umarekoza_model::protocol::from_hex;
 use umarekoza_model::{Reading, Refusal};
 
-const FILES: [&str; 5] = ["spelled.tsv", "edge.tsv", "mutated.tsv", "tables.tsv", "packets.tsv"];
+/// The files of stored cases.
+pub const FILES: [&str; 8] = [
+    "spelled.tsv",
+    "edge.tsv",
+    "mutated.tsv",
+    "tables.tsv",
+    "packets.tsv",
+    "base2.tsv",
+    "large.tsv",
+    "r10.tsv",
+];
 
 /// Compares all requests.
 pub fn compare_all(calls: &mut Calls) -> Result<(), Wrong> {

@@ -4,11 +4,13 @@
 use umarekoza_compare::exports::{Answer, Exports, Span, LIBRARY};
 use umarekoza_compare::runs::{generated, Settings};
 
-/// No listing is longer than 3,979 bytes, and no good table than 27,126.
-const LISTING_LIMIT: u64 = 3_900;
-const TABLE_LIMIT: usize = 27_100;
+/// No listing is longer than 7,947 bytes, and no good table than 54,198. A text has room for about half of that.
+const LISTING_LIMIT: u64 = 7_800;
+const TABLE_LIMIT: usize = 54_100;
+const TEXT_TABLE_LIMIT: usize = 28_000;
 
 const NOT_GOOD: Answer = Answer { number: 21, place: 0, length: 0 };
+const TOO_LONG: Answer = Answer { number: 22, place: 0, length: 0 };
 const NOTHING: Span = Span { offset: 0, length: 0 };
 
 /// A place of a text that fits some bits only, from this refusal number on.
@@ -35,15 +37,15 @@ unsafe extern "C" fn last_places(text: *const u8, n: usize, out: *mut u8, m: usi
 }
 
 unsafe extern "C" fn line_places(text: *const u8, n: usize, out: *mut u8, m: usize) -> Answer {
-    folded((5, 128), text, n, out, m)
+    folded((5, 256), text, n, out, m)
 }
 
 unsafe extern "C" fn later_line_places(text: *const u8, n: usize, out: *mut u8, m: usize) -> Answer {
-    folded((8, 128), text, n, out, m)
+    folded((8, 256), text, n, out, m)
 }
 
 unsafe extern "C" fn no_long_table(text: *const u8, n: usize, out: *mut u8, m: usize) -> Answer {
-    (LIBRARY.write_table)(text, n, out, m.min(TABLE_LIMIT))
+    (LIBRARY.write_table)(text, n, out, m.min(TEXT_TABLE_LIMIT))
 }
 
 unsafe extern "C" fn long_not_good(table: *const u8, n: usize) -> Answer {
@@ -82,7 +84,7 @@ unsafe extern "C" fn no_long_listing(
 
 unsafe extern "C" fn near_labels(table: *const u8, n: usize, index: usize) -> Span {
     let label = (LIBRARY.field_label)(table, n, index);
-    if label.offset >= 1 << 14 {
+    if label.offset >= 1 << 15 {
         return NOTHING;
     }
     label
@@ -90,14 +92,19 @@ unsafe extern "C" fn near_labels(table: *const u8, n: usize, index: usize) -> Sp
 
 unsafe extern "C" fn early_fields(table: *const u8, n: usize, name: *const u8, m: usize) -> Answer {
     let mut answer = (LIBRARY.find_field)(table, n, name, m);
-    answer.length %= 60;
+    answer.length %= 120;
     answer
+}
+
+/// The two-byte number at a place of a table.
+fn number_in(table: &[u8], at: usize) -> Option<usize> {
+    let two = table.get(at..at + 2)?;
+    Some(usize::from(u16::from_le_bytes([two[0], two[1]])))
 }
 
 /// The index of the rest field of a good table, and the fixed bits behind it.
 fn behind_rest(table: &[u8]) -> Option<(usize, u32)> {
-    let number =
-        |at: usize| table.get(at..at + 2).map(|two| usize::from(u16::from_le_bytes([two[0], two[1]])));
+    let number = |at: usize| number_in(table, at);
     let (mut at, mut index, mut found) = (number(0)?, 0, None);
     while number(at + 2)? != 5 {
         let short = at + 6 + number(at + 4)?;
@@ -111,7 +118,7 @@ fn behind_rest(table: &[u8]) -> Option<(usize, u32)> {
     found
 }
 
-/// The sum of the fixed widths behind a rest field is taken modulo 1,024.
+/// The sum of the fixed widths behind a rest field is taken modulo 2,048.
 unsafe extern "C" fn few_bits_behind(
     table: *const u8,
     n: usize,
@@ -123,12 +130,12 @@ unsafe extern "C" fn few_bits_behind(
     let answer = (LIBRARY.read_packet)(table, n, packet, m, run, len);
     let rest = if answer.number == 0 { behind_rest(std::slice::from_raw_parts(table, n)) } else { None };
     if let Some((index, behind)) = rest {
-        *run.add(4 * index + 2) += behind - behind % 1024;
+        *run.add(4 * index + 2) += behind - behind % 2048;
     }
     answer
 }
 
-/// Offsets of fields are taken modulo 8,192.
+/// Offsets of fields are taken modulo 32,768.
 unsafe extern "C" fn near_offsets(
     table: *const u8,
     n: usize,
@@ -140,28 +147,123 @@ unsafe extern "C" fn near_offsets(
     let answer = (LIBRARY.read_packet)(table, n, packet, m, run, len);
     if answer.number == 0 {
         let fields = usize::from(*table.add(6));
-        (0..fields).for_each(|index| *run.add(4 * index + 1) %= 8192);
+        (0..fields).for_each(|index| *run.add(4 * index + 1) %= 32_768);
     }
     answer
 }
 
-const WRONG: [(&str, &str, Exports); 12] = [
+/// The number of fields of a table whose records are as many as its head says.
+fn fields_in(table: &[u8]) -> Option<usize> {
+    let number = |at: usize| number_in(table, at);
+    let (mut at, mut count) = (number(0)?, 0);
+    while number(at + 2)? != 5 {
+        (at, count) = (at + number(at)?.max(1), count + 1);
+    }
+    (number(6)? == count && at + 4 == table.len()).then_some(count)
+}
+
+/// Over 64 fields, as many as there were before [02, R-10], are refused.
+unsafe extern "C" fn few_fields_of_texts(text: *const u8, n: usize, out: *mut u8, m: usize) -> Answer {
+    let answer = (LIBRARY.write_table)(text, n, out, m);
+    if answer.number == 0 && *out.add(6) > 64 {
+        return Answer { number: 4, place: 0, length: 0 };
+    }
+    answer
+}
+
+unsafe extern "C" fn few_fields(table: *const u8, n: usize) -> Answer {
+    let answer = (LIBRARY.check_table)(table, n);
+    if answer.number == 0 && *table.add(6) > 64 {
+        return NOT_GOOD;
+    }
+    answer
+}
+
+unsafe extern "C" fn short_packets(
+    table: *const u8,
+    n: usize,
+    packet: *const u8,
+    m: usize,
+    run: *mut u32,
+    len: usize,
+) -> Answer {
+    let answer = (LIBRARY.read_packet)(table, n, packet, m, run, len);
+    if answer.number == 0 && m > 2_048 {
+        return TOO_LONG;
+    }
+    answer
+}
+
+unsafe extern "C" fn one_field_less(table: *const u8, n: usize) -> Answer {
+    let answer = (LIBRARY.check_table)(table, n);
+    if answer.number == 0 && *table.add(6) > 127 {
+        return NOT_GOOD;
+    }
+    answer
+}
+
+/// A table of 129 fields is good, if there are as many records.
+unsafe extern "C" fn one_field_more(table: *const u8, n: usize) -> Answer {
+    if fields_in(std::slice::from_raw_parts(table, n)) == Some(129) {
+        return Answer { number: 0, place: 0, length: n as u64 };
+    }
+    (LIBRARY.check_table)(table, n)
+}
+
+unsafe extern "C" fn one_byte_less(
+    table: *const u8,
+    n: usize,
+    packet: *const u8,
+    m: usize,
+    run: *mut u32,
+    len: usize,
+) -> Answer {
+    let answer = (LIBRARY.read_packet)(table, n, packet, m, run, len);
+    if answer.number == 0 && m > 8_190 {
+        return TOO_LONG;
+    }
+    answer
+}
+
+unsafe extern "C" fn one_byte_more(
+    table: *const u8,
+    n: usize,
+    packet: *const u8,
+    m: usize,
+    run: *mut u32,
+    len: usize,
+) -> Answer {
+    let answer = (LIBRARY.read_packet)(table, n, packet, m, run, len);
+    if answer.number == 22 && m == 8_192 {
+        return Answer { number: 28, place: 0, length: 0 };
+    }
+    answer
+}
+
+const WRONG: [(&str, &str, Exports); 19] = [
     ("write_table", "places of rows modulo 512", Exports { write_table: row_places, ..LIBRARY }),
     ("write_table", "places of last lines modulo 8192", Exports { write_table: last_places, ..LIBRARY }),
-    ("write_table", "places of 5 to 11 modulo 128", Exports { write_table: line_places, ..LIBRARY }),
-    ("write_table", "places of 8 to 11 modulo 128", Exports { write_table: later_line_places, ..LIBRARY }),
+    ("write_table", "places of 5 to 11 modulo 256", Exports { write_table: line_places, ..LIBRARY }),
+    ("write_table", "places of 8 to 11 modulo 256", Exports { write_table: later_line_places, ..LIBRARY }),
     ("write_table", "no table over the limit", Exports { write_table: no_long_table, ..LIBRARY }),
     ("check_table", "no table over the limit", Exports { check_table: long_not_good, ..LIBRARY }),
     ("read_packet", "no table over the limit", Exports { read_packet: long_not_read, ..LIBRARY }),
     (
         "read_packet",
-        "bits behind a rest field modulo 1024",
+        "bits behind a rest field modulo 2048",
         Exports { read_packet: few_bits_behind, ..LIBRARY },
     ),
-    ("read_packet", "offsets modulo 8192", Exports { read_packet: near_offsets, ..LIBRARY }),
+    ("read_packet", "offsets modulo 32768", Exports { read_packet: near_offsets, ..LIBRARY }),
     ("list_packet", "no listing over the limit", Exports { list_packet: no_long_listing, ..LIBRARY }),
-    ("find_field", "indexes modulo 60", Exports { find_field: early_fields, ..LIBRARY }),
-    ("field_label", "no label beyond 16,384 bytes", Exports { field_label: near_labels, ..LIBRARY }),
+    ("find_field", "indexes modulo 120", Exports { find_field: early_fields, ..LIBRARY }),
+    ("field_label", "no label beyond 32,768 bytes", Exports { field_label: near_labels, ..LIBRARY }),
+    ("write_table", "over 64 fields are a 4", Exports { write_table: few_fields_of_texts, ..LIBRARY }),
+    ("check_table", "over 64 fields are a 21", Exports { check_table: few_fields, ..LIBRARY }),
+    ("check_table", "128 fields are a 21", Exports { check_table: one_field_less, ..LIBRARY }),
+    ("check_table", "129 fields are good", Exports { check_table: one_field_more, ..LIBRARY }),
+    ("read_packet", "over 2,048 bytes are a 22", Exports { read_packet: short_packets, ..LIBRARY }),
+    ("read_packet", "8,191 bytes are a 22", Exports { read_packet: one_byte_less, ..LIBRARY }),
+    ("read_packet", "8,192 bytes are no 22", Exports { read_packet: one_byte_more, ..LIBRARY }),
 ];
 
 #[test]

@@ -5,7 +5,7 @@ use std::collections::BTreeMap;
 use std::fs;
 use std::path::Path;
 use umarekoza::{read_partly, table_of, write_table, Refusal, RUN_MOST};
-use umarekoza_compare::runs::Settings;
+use umarekoza_compare::{runs::Settings, FILES};
 use umarekoza_hints::{fields_before, packet_hint, page_hint, plain, plain_packet, Hint, Verdict, ALSO_MOST};
 use umarekoza_model::generate::{packet, spelled_text, table, text, Rng};
 use umarekoza_model::protocol::{from_hex, to_hex};
@@ -94,7 +94,7 @@ fn stored(line: &str) -> Option<(Vec<u8>, Verdict)> {
 fn hints_for_pages_agree_with_the_stored_cases() {
     let folder = Path::new(env!("CARGO_MANIFEST_DIR")).join("../vectors");
     let mut refused = 0;
-    for file in ["spelled.tsv", "edge.tsv", "mutated.tsv"] {
+    for file in FILES {
         for (page, verdict) in fs::read_to_string(folder.join(file)).unwrap().lines().filter_map(stored) {
             let hint = page_hint(&page, verdict);
             let found = wrong(&hint, verdict, &page);
@@ -102,7 +102,7 @@ fn hints_for_pages_agree_with_the_stored_cases() {
             refused += 1;
         }
     }
-    assert_eq!(refused, 1142);
+    assert_eq!(refused, 1232);
 }
 
 /// A wrong verdict gets the number's meaning alone, at its line.
@@ -199,11 +199,11 @@ fn hints_for_packets_answer_every_input() {
     for _ in 0..5000 {
         let table = table(&mut rng);
         let packet = packet(&mut rng, &table);
-        let fields = rng.below(70);
+        let fields = rng.below(140);
         let before: Vec<[u32; 4]> = (0..fields)
             .map(|_| [rng.below(3) as u32, rng.bits() as u32, rng.bits() as u32, rng.below(9) as u32])
             .collect();
-        let due = Verdict { number: rng.between(20, 31) as u32, place: rng.below(70) as u32 };
+        let due = Verdict { number: rng.between(20, 31) as u32, place: rng.below(140) as u32 };
         let hint = packet_hint(&table, &packet, &before, due);
         assert_eq!((hint.number, hint.field), (due.number, due.place as usize));
         assert!(is_plain(&plain_packet(&hint, "packet")));

@@ -3,22 +3,23 @@
 use crate::faults::{Fault, Mistake};
 use crate::field_lines::{FieldLine, Width};
 use crate::fields::{Field, Fields};
+use crate::limits::FIELDS_MOST;
 use crate::lines::Lines;
 use crate::rows::Cell;
 use crate::shown::{counted, quoted};
 use crate::trees::Tree;
 
-const FIELDS_MOST: usize = 64;
-
-/// Number 4: over 64 cells or field lines.
+/// Number 4: too many cells or field lines.
 pub fn too_many(cells: &[Cell], fields: &Fields) -> Option<Mistake> {
-    let count = |number: usize, thing: &str| format!("{}, at most 64", counted(number as u64, thing));
-    let (spot, line, found, what) = if let Some(cell) = cells.get(FIELDS_MOST) {
-        (cell.text.clone(), cell.line, count(cells.len(), "cell"), "the 65th cell")
+    let count =
+        |number: usize, thing: &str| format!("{}, at most {FIELDS_MOST}", counted(number as u64, thing));
+    let (spot, line, found, thing) = if let Some(cell) = cells.get(FIELDS_MOST) {
+        (cell.text.clone(), cell.line, count(cells.len(), "cell"), "cell")
     } else {
         let field = fields.lines.get(FIELDS_MOST)?;
-        (0..field.line.len(), field.number, count(fields.lines.len(), "field line"), "the 65th field line")
+        (0..field.line.len(), field.number, count(fields.lines.len(), "field line"), "field line")
     };
+    let what = format!("the {}th {thing}", FIELDS_MOST + 1);
     let fault = Fault::new(spot, found, what).note("every line below `where:` counts as a field");
     Some(fault.at(4, line).without_place())
 }

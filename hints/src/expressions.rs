@@ -2,12 +2,12 @@
 
 use crate::expression_faults::{behind, broken_number, is_sign, no_number, signs};
 use crate::faults::Fault;
-use crate::names::{is_reserved, OF_SHORTS, SHORT_MOST};
+use crate::limits::{OPEN_MOST, SHORT_MOST};
+use crate::names::{is_reserved, OF_SHORTS};
 use crate::operators::{operator_at, Operator, ATOM, COMPARISON};
 use crate::shown::{counted, found, quoted, word_length};
 use crate::trees::{Kind, Node, Tree};
 
-const OPEN_MOST: usize = 12;
 const ATOMS: &str = "a number, a short name or `(`";
 
 /// The expression that begins at this byte of a line, and where it ends.

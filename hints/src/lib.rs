@@ -5,7 +5,7 @@
 //! within a line and the words; where this reading does not come to the same number and place, only the number's
 //! meaning is told.
 //!
-//! In reading order: `hint` is what is answered, `faults` what is found; `characters` (2), `frame_lines`, `rows`,
+//! In reading order: `limits`; `hint` is what is answered, `faults` what is found; `characters` (2), `frame_lines`, `rows`,
 //! `frames` (3), `names`, `operators`, `trees`, `expressions`,
 //! `expression_faults`, `field_lines`, `fields` (5), `sizes` (6, 8, 10),
 //! `cells` (4, 7), `reads` (9) find it, `pages` puts it together, `plain` writes it out. `packets` is for packets.
@@ -20,6 +20,7 @@ mod fields;
 mod frame_lines;
 mod frames;
 mod hint;
+mod limits;
 mod lines;
 mod meanings;
 mod names;

@@ -19,7 +19,7 @@ const MEANINGS: [(u32, &str, &str); 20] = [
         "a page has the characters from space to `~` and LF line ends, no others",
     ),
     (3, "this line is not what a page has at this place", "docs/RULES.md has the order of the lines"),
-    (4, "there are too many fields", "at most 64 cells and 64 field lines"),
+    (4, "there are too many fields", "at most 128 cells and 128 field lines"),
     (5, "this field line has not the form of one", "docs/RULES.md has the form of a field line"),
     (6, "an expression on this line is too large", "at most depth 12 and 120 stored bytes"),
     (7, "this field line and its cell disagree", "cells and field lines belong together in their order"),
@@ -36,7 +36,7 @@ const MEANINGS: [(u32, &str, &str); 20] = [
     ),
     (11, "the output is too short", "give it more room"),
     (21, "this is not a good table", "write it again from its page"),
-    (22, "the packet is too long", "a packet has at most 2,048 bytes"),
+    (22, "the packet is too long", "a packet has at most 8,191 bytes"),
     (23, "the run is too short", "give it four numbers a field"),
     (
         24,

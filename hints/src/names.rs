@@ -1,10 +1,9 @@
 //! Which rule of labels or short names is broken.
 
 use crate::faults::Fault;
+use crate::limits::{LABEL_MOST, SHORT_MOST};
 use crate::shown::{counted, quoted};
 
-const LABEL_MOST: usize = 40;
-pub const SHORT_MOST: usize = 8;
 const RESERVED: [&[u8]; 6] = [b"bit", b"bits", b"byte", b"bytes", b"variable", b"present"];
 const OF_LABELS: &str =
     "a label has 1 to 40 letters, digits, single spaces and hyphens, and a letter or digit at \

@@ -6,13 +6,12 @@ mod values;
 mod written;
 
 use crate::hint::Verdict;
+use crate::limits::PACKET_MOST;
 use crate::meanings::meaning_of;
 use crate::shown::{counted, quoted, shown, shown_name, spelled};
 use stored::{fields_of, StoredField, StoredWidth, Tree};
 use values::{value_of, Fault};
 use written::{name_of, written};
-
-const PACKET_MOST: usize = 2_048;
 
 /// What is said of a refused packet.
 #[derive(Clone, Debug, Default, PartialEq, Eq)]

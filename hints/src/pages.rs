@@ -7,14 +7,13 @@ use crate::field_lines::Width;
 use crate::fields::{Field, Fields};
 use crate::frames;
 use crate::hint::{Hint, Verdict, ALSO_MOST};
+use crate::limits::TEXT_MOST;
 use crate::lines::split;
 use crate::meanings::meaning_of;
 use crate::reads;
 use crate::rows::Cell;
 use crate::shown::{counted, is_plain, spelled};
 use crate::sizes::{behind_rest, repeats, sizes};
-
-const TEXT_MOST: usize = 16_384;
 
 /// Where the mistake of a refused page is. Where this reading of the page does not come to the verdict's number and
 /// place, only the meaning of the number is told.

@@ -3,12 +3,10 @@
 use crate::faults::{Fault, Mistake};
 use crate::field_lines::{FieldLine, Width};
 use crate::fields::{Field, Fields};
+use crate::limits::{DEPTH_MOST, STORED_MOST};
 use crate::shown::quoted;
 use crate::trees::Tree;
 use std::ops::Range;
-
-const DEPTH_MOST: usize = 12;
-const STORED_MOST: usize = 120;
 
 /// Number 6, the first of each line.
 pub fn sizes(fields: &Fields) -> Vec<Mistake> {

@@ -21,16 +21,22 @@ pub use rng::Rng;
 use crate::descriptions::Description;
 use crate::rules::MOST_FIELDS;
 use crate::stored::encode;
-use layouts::{full_layout, layout, tall_layout, Layout};
+use layouts::{full_layout, layout, many, tall_layout, too_many, Layout, Slot};
 use spelling::{spell, Manner};
 use words::Names;
 
-/// A text at the far ends is one of so many, and a table too.
-const FAR: usize = 80;
+/// A text at the far ends is one of so many.
+const FAR_TEXT: usize = 60;
+/// A table as long as may be is one of so many, and one of too many fields.
+const FAR_TABLE: usize = 800;
+const CROWDED_TABLE: usize = 60;
+/// The most fields, and the most bytes of a packet, before [02, R-10].
+const EARLIER_FIELDS: usize = 64;
+const EARLIER_PACKET: usize = 2_048;
 
 /// A text: about half of them spell a description, the others are damaged.
 pub fn text(rng: &mut Rng) -> Vec<u8> {
-    if rng.one_in(FAR) {
+    if rng.one_in(FAR_TEXT) {
         return far_text(rng);
     }
     let (layout, names) = plan(rng, true);
@@ -45,7 +51,7 @@ pub fn text(rng: &mut Rng) -> Vec<u8> {
             let manner = Manner::wrong(rng);
             spell(rng, &description, &description, manner)
         }
-        5 => too_many_fields(rng),
+        5 if rng.one_in(2) => too_many_fields(rng),
         _ => bent_text(rng, &description),
     }
 }
@@ -59,8 +65,11 @@ pub fn spelled_text(rng: &mut Rng) -> (Vec<u8>, Vec<u8>) {
 
 /// A table: about half of them are good, the others have broken rules or changed bytes.
 pub fn table(rng: &mut Rng) -> Vec<u8> {
-    if rng.one_in(4 * FAR) {
+    if rng.one_in(FAR_TABLE) {
         return longest_table(rng);
+    }
+    if rng.one_in(CROWDED_TABLE) {
+        return crowded_table(rng);
     }
     let (layout, names) = plan(rng, false);
     let mut description = fields::description(rng, &layout, &names);
@@ -105,16 +114,21 @@ fn longest_table(rng: &mut Rng) -> Vec<u8> {
     table
 }
 
-/// A text of very many lines, or one of the longest table; about half of them damaged.
+/// A table of more fields than there may be.
+fn crowded_table(rng: &mut Rng) -> Vec<u8> {
+    let count = too_many(rng);
+    let layout = full_layout(rng, count);
+    let names = Names::random(rng, &layout, false);
+    encode(&fields::description(rng, &layout, &names))
+}
+
+/// A text of very many lines or fields, or one of a long table; about half of them damaged.
 fn far_text(rng: &mut Rng) -> Vec<u8> {
-    let text = match rng.below(3) {
+    let text = match rng.below(4) {
         0 => extremes::many_rows(rng),
         1 => extremes::many_lines(rng),
-        _ => {
-            let names = Names::longest(rng, MOST_FIELDS);
-            let description = extremes::longest(rng, &names);
-            spell(rng, &description, &description, Manner::PLAIN)
-        }
+        2 => return tall_text(rng),
+        _ => long_table_text(rng),
     };
     match rng.below(4) {
         0 => edits::edit_bytes(text, rng, &edits::TEXT_BYTES),
@@ -123,12 +137,43 @@ fn far_text(rng: &mut Rng) -> Vec<u8> {
     }
 }
 
+/// A text of about as many fields with the longest expressions as its length allows, with long or short names.
+fn long_table_text(rng: &mut Rng) -> Vec<u8> {
+    let names = if rng.one_in(2) {
+        let count = rng.between(EARLIER_FIELDS, 67);
+        Names::longest(rng, count)
+    } else {
+        let slots = vec![Slot::Measured; rng.between(70, 80)];
+        Names::random(rng, &Layout { row_bits: 8, slots }, true)
+    };
+    let description = extremes::longest(rng, &names);
+    spell(rng, &description, &description, Manner::PLAIN)
+}
+
+/// A text of as many fields as may be, each in a row of its own, with broken rules.
+fn tall_text(rng: &mut Rng) -> Vec<u8> {
+    let layout = tall_layout(rng, 8, MOST_FIELDS);
+    let names = Names::random(rng, &layout, true);
+    let description = fields::description(rng, &layout, &names);
+    bent_text(rng, &description)
+}
+
+/// Rows of `count` fields, of several cells or of one.
+fn wide_or_tall(rng: &mut Rng, count: usize) -> Layout {
+    if rng.one_in(3) {
+        let row_bits = rng.pick([8, 8, 16, 32]);
+        return tall_layout(rng, row_bits, count);
+    }
+    full_layout(rng, count)
+}
+
 /// Rows and names; with `shown`, each field has a name that its cell has room for.
 fn plan(rng: &mut Rng, shown: bool) -> (Layout, Names) {
-    let layout = match rng.below(50) {
-        0 | 1 => full_layout(rng, MOST_FIELDS),
-        2 => tall_layout(rng, MOST_FIELDS),
-        _ => layout(rng),
+    let layout = if rng.one_in(if shown { 20 } else { 50 }) {
+        let count = many(rng);
+        wide_or_tall(rng, count)
+    } else {
+        layout(rng)
     };
     let names = Names::random(rng, &layout, shown);
     (layout, names)
@@ -142,13 +187,19 @@ fn spelled(rng: &mut Rng, description: &Description) -> Vec<u8> {
     text
 }
 
-/// A text of one or two fields more than there may be.
+/// A text of more fields than there may be, or of too many cells or lines only.
 fn too_many_fields(rng: &mut Rng) -> Vec<u8> {
-    let over = rng.between(1, 2);
-    let layout = full_layout(rng, MOST_FIELDS + over);
+    let count = too_many(rng);
+    let layout = wide_or_tall(rng, count);
     let names = Names::random(rng, &layout, true);
     let description = fields::description(rng, &layout, &names);
-    spelled(rng, &description)
+    let mut fewer = description.clone();
+    fewer.fields.truncate(MOST_FIELDS - rng.below(2));
+    match rng.below(4) {
+        0 => spell(rng, &description, &fewer, Manner::default()),
+        1 => spell(rng, &fewer, &description, Manner::default()),
+        _ => spelled(rng, &description),
+    }
 }
 
 /// A text whose lines, and at times cells, are those of a description with broken rules.

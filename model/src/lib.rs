@@ -1,6 +1,6 @@
-//! A model of document 01, written from it and from the readings of its open points in `docs/DECISIONS.md`, not from
-//! the library: it reads description texts, writes and checks field tables, reads packets by a table and lists
-//! them. Every function answers for every input.
+//! A model of document 01 and of request R-10 of document 02, written from them and from the readings of their open
+//! points in `docs/DECISIONS.md`, not from the library: it reads description texts, writes and checks field tables,
+//! reads packets by a table and lists them. Every function answers for every input.
 //!
 //! In reading order: `names`, `trees`, `expressions`, `descriptions`, `rules` say what a description is;
 //! `lines`, `frames`, `field_lines`, `matching`, `texts` read a text; `stored`, `tables` hold the stored form;

@@ -5,7 +5,7 @@ use crate::evaluation::value;
 use crate::refusals::{refused, Refusal};
 use crate::tables::good_description;
 
-pub const LONGEST_PACKET: usize = 2_048;
+pub const LONGEST_PACKET: usize = 8_191;
 const BITS_MISSING: u32 = 24;
 const CONSTRAINT_FALSE: u32 = 25;
 

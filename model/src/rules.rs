@@ -6,7 +6,7 @@ use crate::names::{is_label, is_short_name};
 use crate::trees::{Kind, Node, Tree};
 
 pub const ROW_BITS: [u32; 3] = [8, 16, 32];
-pub const MOST_FIELDS: usize = 64;
+pub const MOST_FIELDS: usize = 128;
 pub const MOST_FIXED_BITS: u32 = 32;
 pub const MOST_DEPTH: u32 = 12;
 pub const LONGEST_TREE: usize = 120;

@@ -69,7 +69,7 @@ fn packets_of_every_answer() {
     for _ in 0..6000 {
         let table = table(&mut rng);
         let packet = packet(&mut rng, &table);
-        let run_len = if rng.one_in(20) { rng.below(40) } else { 256 };
+        let run_len = if rng.one_in(20) { rng.below(40) } else { 512 };
         let answer = read_packet(&table, &packet, run_len);
         tally.add(&answer);
         if let Ok(reading) = answer {
@@ -77,7 +77,7 @@ fn packets_of_every_answer() {
             assert_eq!(reading.fields.iter().map(|field| field[2]).sum::<u32>(), reading.total);
             assert!(list_packet(&table, &packet).ends_with(format!("bits {}\n", reading.total).as_bytes()));
         }
-        let (start, length) = field_bytes(&table, &packet, rng.below(66));
+        let (start, length) = field_bytes(&table, &packet, rng.below(130));
         assert!(start + length <= packet.len());
     }
     tally.has_all(21..=28);

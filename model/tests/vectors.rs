@@ -4,12 +4,10 @@ use std::fs;
 use std::path::Path;
 use umarekoza_model::protocol::answer;
 
-const LINES: usize = 600;
-
-fn agrees(file: &str) {
+fn agrees(file: &str, count: usize) {
     let path = Path::new(env!("CARGO_MANIFEST_DIR")).join("../vectors").join(file);
     let lines = fs::read_to_string(&path).unwrap();
-    assert_eq!(lines.lines().count(), LINES);
+    assert_eq!(lines.lines().count(), count);
     for (number, line) in lines.lines().enumerate() {
         let (request, expected) = line.split_once('\t').unwrap();
         assert_eq!(answer(request), expected, "{file}, line {}: {request}", number + 1);
@@ -18,25 +16,40 @@ fn agrees(file: &str) {
 
 #[test]
 fn spelled() {
-    agrees("spelled.tsv");
+    agrees("spelled.tsv", 600);
 }
 
 #[test]
 fn edge() {
-    agrees("edge.tsv");
+    agrees("edge.tsv", 591);
 }
 
 #[test]
 fn mutated() {
-    agrees("mutated.tsv");
+    agrees("mutated.tsv", 600);
 }
 
 #[test]
 fn tables() {
-    agrees("tables.tsv");
+    agrees("tables.tsv", 597);
 }
 
 #[test]
 fn packets() {
-    agrees("packets.tsv");
+    agrees("packets.tsv", 589);
+}
+
+#[test]
+fn base2() {
+    agrees("base2.tsv", 200);
+}
+
+#[test]
+fn large() {
+    agrees("large.tsv", 24);
+}
+
+#[test]
+fn r10() {
+    agrees("r10.tsv", 80);
 }

@@ -8,6 +8,10 @@ import umarekoza
 from umarekoza import Refusal
 
 VECTORS = Path(__file__).resolve().parents[2] / "vectors"
+# How many lines each file has.
+FILES = {
+    "spelled": 600, "edge": 591, "mutated": 600, "tables": 597, "packets": 589, "base2": 200, "large": 24, "r10": 80,
+}  # fmt: skip
 
 
 def from_hex(word):
@@ -59,9 +63,9 @@ def answer(request):
 
 class Stored(unittest.TestCase):
     def test_stored_cases_are_answered(self):
-        for name in ("spelled", "edge", "mutated", "tables", "packets"):
+        for name, count in FILES.items():
             lines = (VECTORS / f"{name}.tsv").read_text().splitlines()
-            self.assertEqual(len(lines), 600)
+            self.assertEqual(len(lines), count)
             for number, line in enumerate(lines, 1):
                 request, expected = line.split("\t")
                 given = answer(request)

@@ -77,7 +77,11 @@ class Marked(unittest.TestCase):
         refusals = {M1[:7]: (24, 7), M1 + b"\0": (28, 0), b"\x22" + M1[1:]: (25, 1), b"\x55\x07": (25, 3), b"": (24, 1)}
         for packet, (number, place) in refusals.items():
             self.refused(number, place, umarekoza.fields_of, TABLE, packet)
-        self.refused(22, 0, umarekoza.fields_of, TABLE, bytes(2049))
+        self.refused(22, 0, umarekoza.fields_of, TABLE, bytes(8192))
+        page = TAG.replace(b"|       K       |", b":     Kind      :").replace(b"1 byte; K == 7", b"variable")
+        rest = umarekoza.table_of(page)
+        self.assertEqual(umarekoza.fields_of(rest, bytes(8191)), [Field(True, 0, 65528, 0)])
+        self.assertEqual(umarekoza.listing(rest, bytes(8191)), b"Kind: 0 65528\nbits 65528\n")
         self.refused(21, 0, umarekoza.fields_of, b"", M1)
 
     def test_what_was_read_before_a_refusal(self):

@@ -34,15 +34,15 @@ __all__ = [
 
 VERSION = "0.1.0"
 
-# The limits of document 01 that a caller meets: bytes of a text, fields, bytes of a packet.
+# The limits of documents 01 and 02 that a caller meets: bytes of a text, fields, bytes of a packet.
 TEXT_MOST = 16384
-FIELDS_MOST = 64
-PACKET_MOST = 2048
+FIELDS_MOST = 128
+PACKET_MOST = 8191
 
 # A run of so many numbers, and an output of so many bytes for a table or for a listing, is always enough.
-RUN_MOST = 256
-TABLE_MOST = 27190
-LISTING_MOST = 3979
+RUN_MOST = 512
+TABLE_MOST = 54326
+LISTING_MOST = 7947
 
 # No number of a reading, which is 0 or 1 where a field begins.
 _UNTOUCHED = 0xFFFFFFFF

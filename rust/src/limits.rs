@@ -1,11 +1,11 @@
-//! The limits of document 01 that a caller meets, and how long a lent buffer has to be at most.
+//! The limits of documents 01 and 02 that a caller meets, and how long a lent buffer has to be at most.
 
 /// The most bytes of a page text.
 pub const TEXT_MOST: usize = 16_384;
 /// The most fields of a page or a table.
-pub const FIELDS_MOST: usize = 64;
+pub const FIELDS_MOST: usize = 128;
 /// The most bytes of a packet.
-pub const PACKET_MOST: usize = 2_048;
+pub const PACKET_MOST: usize = 8_191;
 
 const LABEL_MOST: usize = 40;
 const SHORT_MOST: usize = 8;
@@ -17,7 +17,7 @@ pub const RUN_MOST: usize = 4 * FIELDS_MOST;
 pub const TABLE_MOST: usize = 10 + LABEL_MOST + FIELDS_MOST * RECORD_MOST + 4;
 /// Length and kind, label, short name, unit, and three expressions, each behind its length.
 const RECORD_MOST: usize = 4 + (2 + LABEL_MOST) + (2 + SHORT_MOST) + 2 + 3 * (2 + STORED_MOST);
-/// An output of so many bytes has room for every listing: the line of each field, and `bits 16384` with its LF.
+/// An output of so many bytes has room for every listing: the line of each field, and `bits 65528` with its LF.
 pub const LISTING_MOST: usize = FIELDS_MOST * LINE_MOST + 11;
 /// A label, `: `, an offset of five digits, a width of two, a value of ten, two spaces and LF. The line of a long field
 /// is shorter: its width has five digits at most, and it has no value.

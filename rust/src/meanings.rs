@@ -38,7 +38,7 @@ const MEANINGS: [Meaning; 20] = [
     },
     Meaning {
         number: 4,
-        what: "there are over 64 cells or over 64 field lines",
+        what: "there are over 128 cells or over 128 field lines",
         mend: "every line below `where:` counts as a field",
     },
     Meaning {
@@ -88,7 +88,7 @@ const MEANINGS: [Meaning; 20] = [
     },
     Meaning {
         number: 22,
-        what: "the packet is longer than 2,048 bytes",
+        what: "the packet is longer than 8,191 bytes",
         mend: "see that the file holds one packet only; one that is written in hexadecimal needs `--hex`",
     },
     Meaning { number: 23, what: "the run is too short", mend: "give it four numbers a field" },

@@ -1,4 +1,4 @@
-//! The marked cases M1 to M10 of document 01, as many fields as may be, empty slices, and what lent slices hold
+//! The marked cases M1 to M10 of document 01, as many fields and bytes as may be, empty slices, and what lent slices hold
 //! afterwards.
 
 use umarekoza::*;
@@ -97,20 +97,43 @@ fn fields_and_their_bytes() {
     assert_eq!(field_bytes(&table, &M1[..7], 4), b"");
 }
 
+/// A page of so many fields `F1`, `F2` and so on, a byte each.
+fn bytes_page(count: usize) -> String {
+    let border = "+-+-+-+-+-+-+-+-+\n";
+    let rows: String = (1..=count).map(|number| format!("|{:15}|\n{border}", format!("F{number}"))).collect();
+    let lines: String = (1..=count).map(|number| format!("F{number}: 1 byte.\n")).collect();
+    let head = "A Full is formatted as follows:\n\n 0\n 0 1 2 3 4 5 6 7\n";
+    format!("{head}{border}{rows}\nwhere:\n\n{lines}")
+}
+
 #[test]
-fn sixty_four_fields() {
-    let border = format!("{}+\n", "+-".repeat(16));
-    let cell = |number: usize| format!("|{:3}", format!("F{number}"));
-    let row = |first: usize| format!("{}|\n{border}", (first..first + 8).map(cell).collect::<String>());
-    let rows: String = (1..=64).step_by(8).map(row).collect();
-    let lines: String = (1..=64).map(|number| format!("F{number}: 2 bits.\n")).collect();
-    let rulers = " 0                   1\n 0 1 2 3 4 5 6 7 8 9 0 1 2 3 4 5\n";
-    let page = format!("A Full is formatted as follows:\n\n{rulers}{border}{rows}\nwhere:\n\n{lines}");
-    let fields = fields_of(&table_of(page.as_bytes()).unwrap(), &[0b11_10_01_00; 16]).unwrap();
-    assert_eq!(fields.len(), 64);
-    for (field, index) in fields.into_iter().zip(0..) {
-        assert_eq!(field, Field { present: true, offset: 2 * index, width: 2, value: 3 - index % 4 });
+fn as_many_fields_as_may_be() {
+    for count in [64, 65, 127, 128] {
+        let table = table_of(bytes_page(count).as_bytes()).unwrap();
+        assert_eq!(count_fields(&table), Ok(count));
+        let packet: Vec<u8> = (0..count as u8).rev().collect();
+        let fields = fields_of(&table, &packet).unwrap();
+        assert_eq!(fields.len(), count);
+        for ((field, index), byte) in fields.into_iter().zip(0..).zip(packet) {
+            assert_eq!(field, Field { present: true, offset: 8 * index, width: 8, value: byte.into() });
+        }
     }
+    assert_eq!(table_of(bytes_page(129).as_bytes()), refused(4, 0));
+}
+
+#[test]
+fn packets_as_long_as_may_be() {
+    let text = "|      Len      |\n+-+-+-+-+-+-+-+-+\n:     Text      :\n";
+    let lines = one_byte("Len: 8 bits.\nText: variable.");
+    let table = table_of(lines.replace("|       K       |\n", text).as_bytes()).unwrap();
+    for (length, bits) in [(2_048, 16_384), (2_049, 16_392), (8_191, 65_528)] {
+        let packet = vec![7; length];
+        let listed = format!("Len: 0 8 7\nText: 8 {}\nbits {bits}\n", bits - 8);
+        assert_eq!(listing(&table, &packet), listed.as_bytes());
+        assert_eq!(field_bytes(&table, &packet, 1).len(), length - 1);
+    }
+    assert_eq!(fields_of(&table, &[7; 8_192]), refused(22, 0));
+    assert_eq!(listing(&table, &[7; 8_192]), b"refused 22 at 0\n");
 }
 
 #[test]

@@ -4,6 +4,18 @@ use std::fs;
 use std::path::Path;
 use umarekoza::*;
 
+/// The files, and how many lines each has.
+const FILES: [(&str, usize); 8] = [
+    ("spelled.tsv", 600),
+    ("edge.tsv", 591),
+    ("mutated.tsv", 600),
+    ("tables.tsv", 597),
+    ("packets.tsv", 589),
+    ("base2.tsv", 200),
+    ("large.tsv", 24),
+    ("r10.tsv", 80),
+];
+
 /// The bytes of a hex word, `-` for none.
 fn bytes(word: &str) -> Vec<u8> {
     let word = word.trim_start_matches('-');
@@ -72,9 +84,9 @@ fn answer(request: &str) -> String {
 #[test]
 fn stored_cases_are_answered() {
     let folder = Path::new(env!("CARGO_MANIFEST_DIR")).join("../vectors");
-    for file in ["spelled.tsv", "edge.tsv", "mutated.tsv", "tables.tsv", "packets.tsv"] {
+    for (file, count) in FILES {
         let lines = fs::read_to_string(folder.join(file)).unwrap();
-        assert_eq!(lines.lines().count(), 600, "{file}");
+        assert_eq!(lines.lines().count(), count, "{file}");
         for (line, at) in lines.lines().zip(1..) {
             let (request, expected) = line.split_once('\t').unwrap();
             assert_eq!(answer(request), expected, "{file}, line {at}");

@@ -9,7 +9,7 @@ use lib.Dec.{eqb}
 use lib.ListN.{length, getD, drop}
 use borrow.Author.Tests.{eqb-true, not-true}
 use Rattle.base.specs.Lists.{all, same, isNone}
-use Rattle.base.proofs.Lists.{and-both, not-both, every-passes, same-true, same-self}
+use Rattle.base.proofs.Lists.{every-passes, same-true}
 use Rattle.base.proofs.Breaks.{and-true}
 use Rattle.rules.specs.declared.Fault.{Fault}
 use Rattle.rules.specs.Limits.{openMost}
@@ -18,20 +18,19 @@ use Rattle.rules.specs.Values.{Value, value, fault, evaluate}
 use Rattle.rules.specs.Fields.{Description}
 use Rattle.rules.specs.Within.{Within}
 use Rattle.rules.specs.Stored.{stored, Good}
-use Rattle.rules.specs.Editions.{current}
+use Rattle.rules.specs.Editions.{Edition, current}
 use Rattle.rules.specs.Expressions.{SpellsTree}
 use Rattle.rules.specs.Lines.{Unresolved}
 use Rattle.rules.specs.Frames.{isFrame}
 use Rattle.rules.specs.Spelling.{Spells}
 use Rattle.rules.specs.Refusals.{ruleBroken, Refuses}
 use Rattle.rules.specs.Reading.{Part, reading, partIn, partBytes}
-use Rattle.rules.specs.Answers.{Answer, accepted, faultNumber}
+use Rattle.rules.specs.Answers.{Answer, faultNumber}
 use Rattle.rules.specs.Promises.{
   Outcome,
-  notGood,
   byTable,
-  ChecksTable,
-  packetOutcome,
+  ChecksTableIn,
+  packetOutcomeIn,
   movedBy,
   Lends,
   firstNamed,
@@ -44,7 +43,7 @@ use Rattle.rules.specs.Promises.{
 use Rattle.rules.specs.Cases.{
   Case,
   fits,
-  reads,
+  readsBy,
   readsEach,
   prints,
   hands,
@@ -56,7 +55,7 @@ use Rattle.rules.specs.Cases.{
   unspelled,
   spells,
   stores,
-  checks,
+  checksBy,
   unframed,
   breaks,
   keeps,
@@ -69,10 +68,9 @@ use Rattle.rules.specs.Cases.{
   Holds,
   AllHold,
 }
-use Rattle.laws.proofs.WithinTest.{isWithin, within, outside}
-use Rattle.laws.proofs.Readers.{describedIn}
+use Rattle.laws.proofs.WithinTest.{isWithinIn, within-in, isWithin, within, outside}
 use Rattle.laws.proofs.Unique.{stored-unique}
-use Rattle.laws.proofs.Decidable.{described-good}
+use Rattle.laws.proofs.GoodTest.{answerIn, table-told}
 use Rattle.laws.proofs.RuledOut.{good-stored, labelAt, answerNumbers, numbers, placeNumbers}
 use Rattle.text_laws.specs.Reader.{Out, fail, got, expr}
 use Rattle.text_laws.proofs.ReaderUnique.{tree-unique, found-whole}
@@ -154,43 +152,9 @@ pub by-stored : {A : Type 0} (d : Description) → Within d → (f : Description
 by-stored d w f e (yes g) = ap f (stored-unique current (g .description) d (g .within) w (g .isStored))
 by-stored d w f e (no bad) = absurd (bad (good-stored d w))
 
--- a table is good where what is read from it is within the limits and has this table
-abbrev pub isGood : List ℕ → Bool
-isGood table = isWithin (describedIn current table) && same (stored (describedIn current table)) table
-
-good-passed : (table : List ℕ) → isGood table ≡ true → Good table
-good-passed table h =
-    let e = and-true (isWithin (describedIn current table)) (same (stored (describedIn current table)) table) h in
-    record { description = describedIn current table; within = within _ (e .0); isStored = same-true _ _ (e .1) }
-
-inside : (d : Description) → Within d → isWithin d ≡ true
-inside d w = go (isWithin d) refl
-  where
-    go : (b : Bool) → isWithin d ≡ b → b ≡ true
-    go true e = refl
-    go false e = absurd (outside d e w)
-
-good-failed : (table : List ℕ) → isGood table ≡ false → Good table → ⊥
-good-failed table h g =
-    let e : g .description ≡ describedIn current table = described-good current table g in
-    let s = subst (λ (d : Description). stored d ≡ table) e (g .isStored) in
-    not-both (isGood table)
-    (and-both _ _ (inside _ (subst Within e (g .within))) (ap (λ (l : List ℕ). same l table) s ∙ same-self table)) h
-
-abbrev pub tableAnswer : List ℕ → Bool → Answer
-tableAnswer table true = accepted (length table)
-tableAnswer table false = notGood
-
-checked : (table : List ℕ) (a : Answer)
-    → same (answerNumbers a) (answerNumbers (tableAnswer table (isGood table))) ≡ true → ChecksTable table a
-checked table a h good = answer-same a (tableAnswer table (isGood table)) h ∙ go (isGood table) refl good
-  where
-    go : (b : Bool) → isGood table ≡ b → (good : Dec (Good table))
-        → tableAnswer table b ≡ byTable good (λ d. accepted (length table)) notGood
-    go true e (yes g) = refl
-    go true e (no bad) = absurd (bad (good-passed table e))
-    go false e (yes g) = absurd (good-failed table e g)
-    go false e (no bad) = refl
+checked : (e : Edition) (table : List ℕ) (a : Answer)
+    → same (answerNumbers a) (answerNumbers (answerIn e table)) ≡ true → ChecksTableIn e table a
+checked e table a h good = answer-same a (answerIn e table) h ∙ table-told e table good
 
 found-in : (d : Description) (name : List ℕ) (a : Answer) → Within d
     → same (answerNumbers a) (answerNumbers (firstNamed name 0 (d .fields))) ≡ true → FindsField (stored d) name a
@@ -250,7 +214,8 @@ spelled-by text d (inr c) p h =
 -- of what a case says of every number, no test is made
 abbrev pub isRight : Case → Bool
 isRight (fits d) = isWithin d
-isRight (reads d packet o) = isWithin d && same (numbers (packetOutcome d packet lentRun)) (numbers o)
+isRight (readsBy e d packet o) =
+    isWithinIn e d && same (numbers (packetOutcomeIn e d packet lentRun)) (numbers o)
 isRight (readsEach d packet o) = false
 isRight (prints d packet text) = isWithin d && same (listing d packet) text
 isRight (hands d packet i part) =
@@ -264,7 +229,7 @@ isRight (faults s t n) = isTree t (readWhole s) && isFaultOf n (evaluate noField
 isRight (unspelled s) = not (isWhole (readWhole s))
 isRight (spells text d) = isSpelled d (seen text)
 isRight (stores d table) = isWithin d && same (stored d) table
-isRight (checks table a) = same (answerNumbers a) (answerNumbers (tableAnswer table (isGood table)))
+isRight (checksBy e table a) = same (answerNumbers a) (answerNumbers (answerIn e table))
 isRight (unframed f) = not (isFrame f)
 isRight (breaks f forms a) = isFrame f && isAnswer a (ruleBroken f forms)
 isRight (keeps f forms) = isFrame f && isNone (ruleBroken f forms)
@@ -281,7 +246,7 @@ fitting d b f h = let e = and-true (isWithin d) b h in (within d (e .0), f (with
 
 pub right : (c : Case) → isRight c ≡ true → Holds c
 right (fits d) h = within d h
-right (reads d packet o) h = fitting d _ (λ w e. outcome-same _ _ e) h
+right (readsBy e d packet o) h = both _ _ (within-in e d) (outcome-same _ _) h
 right (readsEach d packet o) h = absurd (false≢true h)
 right (prints d packet text) h = fitting d _ (λ w e. same-true _ _ e) h
 right (hands d packet i part) h = fitting d _ (λ w e. part-same _ _ e) h
@@ -296,7 +261,7 @@ right (faults s t n) h =
 right (unspelled s) h = none-found s (not-true (isWhole (readWhole s)) h)
 right (spells text d) h = spelled-by text d (seen text) (is-seen text) h
 right (stores d table) h = fitting d _ (λ w e. same-true _ _ e) h
-right (checks table a) h = checked table a h
+right (checksBy e table a) h = checked e table a h
 right (unframed f) h = not-true (isFrame f) h
 right (breaks f forms a) h = both _ _ (λ e. e) (answer-is a (ruleBroken f forms)) h
 right (keeps f forms) h = both _ _ (λ e. e) (none-is (ruleBroken f forms)) h

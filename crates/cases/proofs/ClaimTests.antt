@@ -3,19 +3,35 @@ use mathlib.Core.Path.{_≡_, ap, sym, subst, _∙_}
 use mathlib.Core.Bool.{Bool, true, _&&_}
 use mathlib.Core.List.{List, [], _∷_}
 use Prim.Native.Nat.{ℕ}
-use lib.ListN.{length, getD}
+use lib.ListN.{length, getD, replicate}
 use Rattle.base.specs.Lists.{all, same}
 use Rattle.base.proofs.Lists.{every-passes, same-true}
 use Rattle.base.proofs.Breaks.{and-true}
-use Rattle.rules.specs.Stored.{stored}
-use Rattle.rules.specs.Reading.{Part, reading, partIn, partBytes}
+use Rattle.rules.specs.Fields.{Description}
+use Rattle.rules.specs.Within.{Within}
+use Rattle.rules.specs.Stored.{stored, Good}
+use Rattle.rules.specs.Reading.{Part, noPart, reading, partIn, partBytes}
 use Rattle.rules.specs.Answers.{accepted}
-use Rattle.rules.specs.Promises.{delivered, notGood, movedBy, Lends, partBy, labelBy, shortBy, Partly}
+use Rattle.rules.specs.Promises.{
+  leaves,
+  packetOutcomeIn,
+  delivered,
+  notGood,
+  byTable,
+  movedBy,
+  Lends,
+  partBy,
+  labelBy,
+  shortBy,
+  Partly,
+}
 use Rattle.laws.specs.Wrong.{
   Claim,
   checks,
-  reads,
-  lists,
+  checksIn,
+  readsIn,
+  readsWith,
+  listsWith,
   hands,
   placesPart,
   finds,
@@ -29,11 +45,11 @@ use Rattle.laws.specs.Wrong.{
   tellsKind,
   shorts,
   placesShort,
-  readsPartly,
-  lentOutput,
+  partlyWith,
   Claimed,
 }
 use Rattle.laws.proofs.WithinTest.{within}
+use Rattle.laws.proofs.GoodTest.{told-by, table-told}
 use Rattle.laws.proofs.RuledOut.{labelAt, shortAt, claimed, given, isFitting}
 use Rattle.cases.specs.Promised.{AllSo}
 use Rattle.cases.proofs.CaseTests.{answer-from, outcome-from, part-from, by-stored}
@@ -47,6 +63,18 @@ lent buffer part bytes start e = record {
   place = ap (λ (l : List ℕ). movedBy (getD l 0 0) (0, 0)) e;
 }
 
+-- the part that the description gives, whatever the decision
+lends-so : (d : Description) (buffer : List ℕ) (part : Description → Part) (bytes : List ℕ) (start : ℕ) → Within d
+    → start ∷ bytes ≡ part d .start ∷ partBytes buffer (part d)
+    → (from : ℕ × ℕ) × ((good : Dec (Good (stored d)))
+    → Lends buffer from (byTable good part noPart) bytes (movedBy start from))
+lends-so d buffer part bytes start w e = (
+  (0, 0),
+  λ good.
+      subst (λ (p : Part). Lends buffer (0, 0) p bytes (movedBy start (0, 0)))
+      (sym (by-stored d w part noPart good)) (lent buffer (part d) bytes start e),
+)
+
 partly-from : List ℕ → Partly
 partly-from [] = record { outcome = outcome-from []; count = 0 }
 partly-from (n ∷ l) = record { outcome = outcome-from l; count = n }
@@ -58,26 +86,19 @@ claim-so : (c : Claim) → isFitting c ≡ true → claimed c ≡ given c → Cl
 unfolding partBy labelBy shortBy partly-from
 claim-so (checks d a) h e = λ good.
     ap answer-from e ∙ sym (by-stored d (within d h) (λ c. accepted (length (stored d))) notGood good)
-claim-so (reads d packet a after) h e = λ good. ap outcome-from e ∙ sym (by-stored d (within d h) _ _ good)
-claim-so (lists d packet a after) h e = λ good.
-    ap outcome-from e ∙ ap (λ (l : List ℕ). delivered l lentOutput) (sym (by-stored d (within d h) _ _ good))
-claim-so (hands d packet i bytes start) h e = (
-  (0, 0),
-  λ good.
-      subst (λ (part : Part). Lends packet (0, 0) part bytes (movedBy start (0, 0)))
-      (sym (by-stored d (within d h) (λ c. partIn (reading c packet) i) _ good))
-      (lent packet (partIn (reading d packet) i) bytes start e),
-)
+claim-so (checksIn v table a) h e = λ good. ap answer-from e ∙ table-told v table good
+claim-so (readsIn v n table packet a after) h e = λ good.
+    ap outcome-from e ∙ told-by v table (λ d. packetOutcomeIn v d packet (replicate n 9))
+    (leaves notGood (replicate n 9)) good
+claim-so (readsWith n d packet a after) h e = λ good. ap outcome-from e ∙ sym (by-stored d (within d h) _ _ good)
+claim-so (listsWith n d packet a after) h e = λ good.
+    ap outcome-from e ∙ ap (λ (l : List ℕ). delivered l (replicate n 9)) (sym (by-stored d (within d h) _ _ good))
+claim-so (hands d packet i bytes start) h e =
+    lends-so d packet (λ c. partIn (reading c packet) i) bytes start (within d h) e
 claim-so (placesPart d packet i part) h e = λ good.
     ap part-from e ∙ sym (by-stored d (within d h) (λ c. partIn (reading c packet) i) _ good)
 claim-so (finds d name a) h e = λ good. ap answer-from e ∙ sym (by-stored d (within d h) _ _ good)
-claim-so (labels d i bytes start) h e = (
-  (0, 0),
-  λ good.
-      subst (λ (part : Part). Lends (stored d) (0, 0) part bytes (movedBy start (0, 0)))
-      (sym (by-stored d (within d h) (λ c. labelAt c i) _ good))
-      (lent (stored d) (labelAt d i) bytes start e),
-)
+claim-so (labels d i bytes start) h e = lends-so d (stored d) (λ c. labelAt c i) bytes start (within d h) e
 claim-so (placesLabel d i part) h e = λ good.
     ap part-from e ∙ sym (by-stored d (within d h) (λ c. labelAt c i) _ good)
 claim-so (tellsNumber r n) h e = first-same e
@@ -87,16 +108,10 @@ claim-so (tellsLimits l) h e = e
 claim-so (counts d a) h e = λ good.
     ap answer-from e ∙ sym (by-stored d (within d h) (λ c. accepted (length (c .fields))) notGood good)
 claim-so (tellsKind d i a) h e = λ good. ap answer-from e ∙ sym (by-stored d (within d h) _ _ good)
-claim-so (shorts d i bytes start) h e = (
-  (0, 0),
-  λ good.
-      subst (λ (part : Part). Lends (stored d) (0, 0) part bytes (movedBy start (0, 0)))
-      (sym (by-stored d (within d h) (λ c. shortAt c i) _ good))
-      (lent (stored d) (shortAt d i) bytes start e),
-)
+claim-so (shorts d i bytes start) h e = lends-so d (stored d) (λ c. shortAt c i) bytes start (within d h) e
 claim-so (placesShort d i part) h e = λ good.
     ap part-from e ∙ sym (by-stored d (within d h) (λ c. shortAt c i) _ good)
-claim-so (readsPartly d packet a after n) h e = λ good. ap partly-from e ∙ sym (by-stored d (within d h) _ _ good)
+claim-so (partlyWith m d packet a after n) h e = λ good. ap partly-from e ∙ sym (by-stored d (within d h) _ _ good)
 
 abbrev pub isSo : Claim → Bool
 isSo c = isFitting c && same (claimed c) (given c)

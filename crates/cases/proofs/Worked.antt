@@ -25,11 +25,11 @@ use Rattle.rules.specs.Stored.{storedIn, storedFieldIn, fieldBody, headBody}
 use Rattle.rules.specs.Frames.{tens, units, border, cellText, rowLines, isFrame, headLines, cells}
 use Rattle.rules.specs.Spelling.{mismatch}
 use Rattle.rules.specs.Refusals.{ruleBroken}
-use Rattle.rules.specs.Reading.{bitsAt, valueIn, readField, readFields, reading, fieldsBefore, entriesBefore}
+use Rattle.rules.specs.Reading.{bitsAt, valueIn, readField, readFields, readingIn, fieldsBefore, entriesBefore}
 use Rattle.rules.specs.Listing.{entryLines, linesText}
 use Rattle.rules.specs.Answers.{faultNumber, ofTable, ofPacket, ofText, ofListing}
-use Rattle.rules.specs.Promises.{delivered, readingAnswer, packetOutcome, partlyOutcome, firstNamed, readingLines}
-use Rattle.rules.specs.Pages.{manyFields, notTimes, andTimes}
+use Rattle.rules.specs.Promises.{delivered, readingAnswer, packetOutcomeIn, partlyOutcome, firstNamed, readingLines}
+use Rattle.rules.specs.Pages.{manyFields, manyRows, manyLines, notTimes, andTimes}
 use Rattle.text_laws.specs.Reader.{
   after,
   firstOf,
@@ -110,6 +110,7 @@ use Rattle.cases.proofs.SameTree.{sameTree}
 use Rattle.text_laws.proofs.TextSeen.{formsOf, seen}
 use Rattle.rules.specs.Cases.{AllHold}
 use Rattle.rules.specs.Marked.{bladeReport, marked}
+use Rattle.laws.specs.WrongLimits.{entriesOf, linesOf}
 use Rattle.laws.proofs.Readers as Tables
 use Rattle.laws.proofs.WithinTest.{within}
 use Rattle.base.proofs.Also.{_also_}
@@ -121,6 +122,7 @@ use Rattle.cases.specs.Spelling.{spelling}
 use Rattle.cases.specs.ReadingAPacket.{readingAPacket}
 use Rattle.cases.specs.RefusalNumbers.{refusalNumbers}
 use Rattle.cases.specs.Listing.{listings}
+use Rattle.cases.specs.EarlierLimits.{earlierLimits}
 use Rattle.cases.specs.Promised.{promised}
 use Rattle.cases.specs.Worked.{Worked}
 use Rattle.cases.proofs.CaseTests.{all-right, in-order}
@@ -129,20 +131,19 @@ use Rattle.cases.proofs.ClaimTests.{all-so}
 cases-hold : AllHold marked × Worked
 unfolding digits all any same lastIs sum joined tabulate firstBreak operator operators isLetter isDigit isSpace
     isPrintable isAllowed isWordByte isLabelByte noTwoSpaces isLabel reserved isReserved isShort depth le2 le4
-    storedTree isInRange hasType apply decides evaluate rowsFit storedIn storedFieldIn fieldBody headBody tens
-    units border cellText rowLines isFrame headLines cells mismatch ruleBroken bitsAt valueIn readField
-    readFields reading fieldsBefore entriesBefore entryLines linesText faultNumber ofTable ofPacket ofText ofListing
-    delivered
-    readingAnswer packetOutcome partlyOutcome firstNamed readingLines manyFields notTimes andTimes after firstOf insert
-    longestFirst order skip skipBehind operatorAt word behind scan wordValue isNumeral isNumberWord andThen leaf
-    close inside atom step expr more Lines.readField literal begins labelEnds labelText labelBehind readLabel
-    readClosedName readShort readTree unitOf readUnit readMeasure readWidth readPhrase readMaybe isCondition
-    isConstraint readConstraint readCondition isRemark readForm Frames.readName Frames.step onFirst pieces rest
-    lead leftTrim keepEnd rightTrim cellOf keepRow longOf readRow closing readTens onName onWidth onRow rowOrEnd
+    storedTree isInRange hasType apply decides evaluate rowsFit storedIn storedFieldIn fieldBody headBody tens units
+    border cellText rowLines isFrame headLines cells mismatch ruleBroken bitsAt valueIn readField readFields readingIn
+    fieldsBefore entriesBefore entryLines linesText faultNumber ofTable ofPacket ofText ofListing delivered
+    readingAnswer packetOutcomeIn partlyOutcome firstNamed readingLines manyFields notTimes andTimes after manyRows
+    manyLines firstOf insert longestFirst order skip skipBehind operatorAt word behind scan wordValue isNumeral
+    isNumberWord andThen leaf close inside atom step expr more Lines.readField literal begins labelEnds labelText
+    labelBehind readLabel readClosedName readShort readTree unitOf readUnit readMeasure readWidth readPhrase readMaybe
+    isCondition isConstraint readConstraint readCondition isRemark readForm Frames.readName Frames.step onFirst pieces
+    rest lead leftTrim keepEnd rightTrim cellOf keepRow longOf readRow closing readTens onName onWidth onRow rowOrEnd
     opened onSame run rightFrom rightLines whole readFrame firstIndex renameTree resolve sameTree formsOf seen
-    Tables.readTwo Tables.readFour Tables.readCounted Tables.codeIn Tables.codeOf Tables.readAfter
-    Tables.readTree Tables.treeOf Tables.readFixed Tables.readMeasured Tables.readWidth Tables.fieldFrom
-    Tables.readField Tables.readFields Tables.describedIn
+    Tables.readTwo Tables.readFour Tables.readCounted Tables.codeIn Tables.codeOf Tables.readAfter Tables.readTree
+    Tables.treeOf Tables.readFixed Tables.readMeasured Tables.readWidth Tables.fieldFrom Tables.readField
+    Tables.readFields Tables.describedIn entriesOf linesOf
 cases-hold = (
   -- M4, the fifth of the list, for every byte
   in-order (take 4 marked) (drop 4 marked) (all-right (take 4 marked) refl)
@@ -157,6 +158,7 @@ cases-hold = (
     packets = all-right readingAPacket refl;
     refusals = all-right refusalNumbers refl;
     listings = all-right listings refl;
+    earlier = all-right earlierLimits refl;
     promises = all-so promised refl;
   },
 )

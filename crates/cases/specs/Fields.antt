@@ -1,4 +1,4 @@
--- Worked cases: how many fields, their names, their widths, their rows. [01, Fields]
+-- Worked cases: how many fields, their names, their widths, their rows. [01, Fields] [02, R-10]
 use mathlib.Core.List.{List, [], _∷_, _++_}
 use mathlib.Core.Option.{none, some}
 use Rattle.base.specs.Bytes.{bytes}
@@ -13,8 +13,8 @@ counts =
     -- limits, at their value and one over: fields
     fits allKinds
     ∷ exceeds (page [])
-    ∷ fits (page (manyFields 0 64))
-    ∷ exceeds (page (manyFields 0 65))
+    ∷ fits (page (manyFields 0 128))
+    ∷ exceeds (page (manyFields 0 129))
     ∷ []
 
 abbrev together : List Case

@@ -4,7 +4,7 @@ use lib.ListN.{replicate}
 use Rattle.base.specs.Bytes.{bytes}
 use Rattle.rules.specs.Cases.{Case, prints}
 use Rattle.rules.specs.Marked.{bladeReport, m1}
-use Rattle.rules.specs.Pages.{m2, m2Listing, m3}
+use Rattle.rules.specs.Pages.{withRest, m2, m2Listing, m3}
 
 abbrev pub listings : List Case
 listings =
@@ -13,5 +13,6 @@ listings =
     ∷ prints bladeReport m3 (bytes "refused 24 at 7\n")
     ∷ prints bladeReport [] (bytes "refused 24 at 1\n")
     ∷ prints bladeReport (m1 ++ (0 ∷ [])) (bytes "refused 28 at 0\n")
-    ∷ prints bladeReport (replicate 2049 0) (bytes "refused 22 at 0\n")
+    ∷ prints bladeReport (replicate 8192 0) (bytes "refused 22 at 0\n")
+    ∷ prints withRest (replicate 8191 7) (bytes "Head: 0 8 7\nBody: 8 65512\nSum: 65520 8 7\nbits 65528\n")
     ∷ []

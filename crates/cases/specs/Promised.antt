@@ -1,20 +1,27 @@
 -- Right answers: for each sort of claim of which laws/specs/Wrong lists false ones, one that holds, so that none of
 -- those is false for want of any answer. [01, The blade report, marked cases and listing]
 use mathlib.Core.List.{List, [], _∷_, _++_}
-use lib.ListN.{length}
+use lib.ListN.{length, replicate}
 use Rattle.base.specs.Bytes.{bytes}
-use Rattle.base.specs.Lists.{Every}
+use Rattle.base.specs.Lists.{joined, Every}
 use Rattle.rules.specs.declared.Fault.the-variants.{BitsMissing}
 use Rattle.rules.specs.declared.PacketAnswer.the-variants.{Accepted, Refused}
 use Rattle.rules.specs.Limits.{limits}
-use Rattle.rules.specs.Reading.{partFrom}
+use Rattle.rules.specs.Reading.{numbersOf, partFrom}
 use Rattle.rules.specs.Answers.{accepted, refused}
+use Rattle.rules.specs.Editions.{earlier}
+use Rattle.rules.specs.Stored.{stored}
+use Rattle.rules.specs.Promises.{overlaid}
 use Rattle.rules.specs.Cases.{lentRun}
 use Rattle.rules.specs.Marked.{bladeReport, m1, m1Listing}
-use Rattle.rules.specs.Pages.{m3}
+use Rattle.rules.specs.Pages.{withRest, m3}
 use Rattle.laws.specs.Wrong.{
   Claim,
   checks,
+  checksIn,
+  checksBytes,
+  readsIn,
+  readsWith,
   reads,
   lists,
   hands,
@@ -31,16 +38,27 @@ use Rattle.laws.specs.Wrong.{
   shorts,
   placesShort,
   readsPartly,
+  partlyWith,
+  listsWith,
   Claimed,
   runOf,
   outputOf,
   m1Six,
   m1Entries,
 }
+use Rattle.laws.specs.WrongLimits.{fieldsOf, fives, entriesOf, listingOf}
 
 abbrev pub promised : List Claim
 promised =
     checks bladeReport (accepted 201)
+    ∷ checksBytes [] (refused 21 0)
+    ∷ checks (fieldsOf 65) (accepted 1113)
+    ∷ readsWith 260 (fieldsOf 65) (fives 65) (accepted 520) (joined numbersOf (entriesOf 0 65))
+    ∷ partlyWith 260 (fieldsOf 65) (fives 65) (accepted 520) (joined numbersOf (entriesOf 0 65)) 65
+    ∷ listsWith 1000 (fieldsOf 65) (fives 65) (accepted 829)
+    (overlaid (listingOf 65 (bytes "bits 520\n")) (replicate 1000 9))
+    ∷ checksIn earlier (stored (fieldsOf 65)) (refused 21 0)
+    ∷ readsIn earlier 30 (stored withRest) (fives 2049) (refused 22 0) lentRun
     ∷ reads bladeReport m1 (accepted 64) (runOf m1Entries)
     ∷ reads bladeReport m3 (refused 24 7) lentRun
     ∷ lists bladeReport m1 (accepted (length m1Listing)) (outputOf m1Listing)

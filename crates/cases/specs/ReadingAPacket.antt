@@ -44,10 +44,10 @@ packets =
     ∷ reads measuredPage (2 ∷ []) (refusedBy 27 2)
     -- the unit is applied exactly: no fault of range, but 24
     ∷ reads (wide 8 (measured 8 (compared 4_294_967_295 Mul 1))) [] (refusedBy 24 1)
-    -- a run that is too short is 23, a packet that is too long is 22 before it
+    -- a run that is too short is 23, a packet that is too long is 22 before it [02, R-10]
     ∷ reads (page (manyFields 0 8)) (replicate 8 0) (refusedBy 23 0)
-    ∷ reads (page (manyFields 0 8)) (replicate 2049 0) (refusedBy 22 0)
-    ∷ reads withRest (replicate 2048 5) (readsTo 16384 (entry 0 8 5 ∷ entry 8 16368 0 ∷ entry 16376 8 5 ∷ []))
+    ∷ reads (page (manyFields 0 8)) (replicate 8192 0) (refusedBy 22 0)
+    ∷ reads withRest (replicate 8191 5) (readsTo 65528 (entry 0 8 5 ∷ entry 8 65512 0 ∷ entry 65520 8 5 ∷ []))
     -- four numbers a field, and what lies beyond them stays
     ∷ reads (called (bytes "a") none) (5 ∷ []) (leaves (accepted 8) (1 ∷ 0 ∷ 8 ∷ 5 ∷ replicate 26 9))
     ∷ []
@@ -65,7 +65,8 @@ parts =
     ∷ hands bladeReport m1 7 noPart
     ∷ hands bladeReport m3 3 noPart
     ∷ hands bladeReport (m1 ++ (0 ∷ [])) 3 noPart
-    ∷ hands withRest (replicate 2049 7) 1 noPart
+    ∷ hands withRest (replicate 8192 7) 1 noPart
+    ∷ hands withRest (replicate 8191 7) 1 (record { start = 1; size = 8189 })
     ∷ []
 
 abbrev pub readingAPacket : List Case

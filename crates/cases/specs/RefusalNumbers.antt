@@ -17,7 +17,19 @@ use Rattle.rules.specs.Answers.{accepted, refused, ofTable, ofPacket, ofText, o
 use Rattle.rules.specs.Promises.{leaves}
 use Rattle.rules.specs.Cases.{Case, checks, breaks, refuses, answers, stands, named, unnamed}
 use Rattle.rules.specs.Marked.{tagText, tagTable}
-use Rattle.rules.specs.Pages.{oneIsOne, notTimes, long, tagHead, tagLines, tagUnended, crowded}
+use Rattle.rules.specs.Stored.{stored}
+use Rattle.rules.specs.Pages.{
+  page,
+  manyFields,
+  oneIsOne,
+  notTimes,
+  long,
+  tagHead,
+  tagLines,
+  tagUnended,
+  crowded,
+  manyText,
+}
 use Rattle.rules.specs.Sheets.{bitsOf, longOf, sheet, plain, requiring, depending, summed, left, isOne}
 use Rattle.text_laws.specs.WrongTexts.{
   pageText,
@@ -134,11 +146,14 @@ lines =
 
 abbrev counts : List Case
 counts =
-    -- 4 and its limit
-    refuses (tagLines 65) (refused 4 0)
-    ∷ refuses (tagLines 64) (refused 7 12)
-    ∷ refuses (crowded 9) (refused 4 0)
-    ∷ refuses (crowded 8) (refused 7 25)
+    -- 4 and its limit [02, R-10]
+    refuses (tagLines 129) (refused 4 0)
+    ∷ refuses (tagLines 128) (refused 7 12)
+    ∷ refuses (crowded 17) (refused 4 0)
+    ∷ refuses (crowded 16) (refused 7 41)
+    ∷ refuses (manyText 129) (refused 4 0)
+    ∷ answers (manyText 65) (replicate 1113 9) (leaves (accepted 1113) (stored (page (manyFields 0 65))))
+    ∷ answers (manyText 128) (replicate 2212 9) (leaves (accepted 2212) (stored (page (manyFields 0 128))))
     ∷ []
 
 abbrev forms : List Case
@@ -213,6 +228,9 @@ tables =
     ∷ checks (tagWith 26 7) (refused 21 0)
     ∷ checks (tagWith 30 0x26) (refused 21 0)
     ∷ checks (tagWith 32 1) (refused 21 0)
+    -- the most fields, and one more [02, R-10]
+    ∷ checks (stored (page (manyFields 0 128))) (accepted 2212)
+    ∷ checks (stored (page (manyFields 0 129))) (refused 21 0)
     ∷ []
 
 abbrev answersOfTheCode : List Case

@@ -5,6 +5,8 @@
 -- ReadsFields   the records of fields are read again
 -- Unique        a stored table stores one description
 -- Decidable     whether a table is good is decidable
+-- Earlier       what an edition with narrower limits accepts is accepted by one with wider ones
+-- GoodTest      good, by one test of a table's bytes
 -- Readings      what an accepted packet's entries come from
 -- Cover         an accepted packet's bits lie in one present field each
 -- Conditions    presence goes by conditions, and constraints are kept
@@ -21,6 +23,8 @@ pub mod ReadsTrees
 pub mod ReadsFields
 pub mod Unique
 pub mod Decidable
+pub mod Earlier
+pub mod GoodTest
 pub mod Readings
 pub mod Cover
 pub mod Conditions

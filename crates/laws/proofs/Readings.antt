@@ -3,13 +3,12 @@
 use mathlib.Core.Path.{_≡_, refl}
 use mathlib.Core.Bool.{Bool, true, false, cond}
 use mathlib.Core.List.{List, [], _∷_, _++_}
-use Prim.Native.Nat.{ℕ, suc, _<_}
+use Prim.Native.Nat.{ℕ, _<_}
 use native.Mathlib.Omega.{arith}
 use lib.Dec.{eqb}
-use lib.ListN.{length}
 use Rattle.base.specs.Lists.{sum}
 use Rattle.rules.specs.declared.Fault.{Fault}
-use Rattle.rules.specs.Answers.{Answer, faultNumber}
+use Rattle.rules.specs.Answers.{faultNumber}
 use Rattle.rules.specs.Fields.{Field, Description, fixedBits}
 use Rattle.rules.specs.Reading.{
   Entry,
@@ -27,11 +26,12 @@ use Rattle.rules.specs.Reading.{
   readFields,
   isTooLong,
   reading,
+  readingIn,
 }
 
 pub accepted-short : (d : Description) (packet : List ℕ) (entries : List Entry) → reading d packet ≡ complete entries
     → isTooLong packet ≡ false
-unfolding reading
+unfolding readingIn
 accepted-short d packet entries h = go (isTooLong packet) h
   where
     go : (b : Bool) → cond b tooLong (readFields packet [] 0 (d .fields)) ≡ complete entries → b ≡ false
@@ -40,7 +40,7 @@ accepted-short d packet entries h = go (isTooLong packet) h
 
 pub accepted-fields : (d : Description) (packet : List ℕ) (entries : List Entry) → reading d packet ≡ complete entries
     → readFields packet [] 0 (d .fields) ≡ complete entries
-unfolding reading
+unfolding readingIn
 accepted-fields d packet entries h = rw (accepted-short d packet entries h) at h
 
 -- ── refusals ──
@@ -74,7 +74,7 @@ fields-told packet entries place (f ∷ fs) =
     go (stop f) ih = (fault-large f, refl)
 
 pub reading-told : (d : Description) (packet : List ℕ) → Told (reading d packet)
-unfolding reading
+unfolding readingIn
 reading-told d packet = go (isTooLong packet)
   where
     go : (b : Bool) → Told (cond b tooLong (readFields packet [] 0 (d .fields)))

@@ -1,16 +1,17 @@
 -- What the promises rule out. For the stored table of a description within the limits, a promise allows one answer and
 -- one buffer; of other numbers it is false. Each claim of specs/Wrong has other numbers, by one computation.
-use mathlib.Core.Path.{_≡_, refl, ap, _∙_}
-use mathlib.Core.Bool.{Bool, true, _&&_, not}
-use mathlib.Core.List.{List, [], _∷_}
+use mathlib.Core.Path.{_≡_, refl, ap, sym, _∙_}
+use mathlib.Core.Bool.{Bool, true, cond, _&&_, not}
+use mathlib.Core.List.{List, [], _∷_, _++_}
 use Prim.Native.Nat.{ℕ}
 use native.Mathlib.Omega.{arith}
-use lib.ListN.{length, getElem?}
+use lib.ListN.{length, getElem?, replicate}
 use Rattle.base.specs.Bytes.{digits}
 use Rattle.base.specs.Lists.{all, any, same, lastIs, sum, joined, firstBreak}
 use Rattle.base.proofs.Lists.{every-passes, not-same}
 use Rattle.base.proofs.Breaks.{and-true}
 use Rattle.rules.specs.Limits.{limits}
+use Rattle.rules.specs.Editions.{Edition}
 use Rattle.rules.specs.Operators.{operator}
 use Rattle.rules.specs.Names.{
   isLetter,
@@ -38,6 +39,7 @@ use Rattle.rules.specs.Reading.{
   readField,
   readFields,
   reading,
+  readingIn,
   fieldsBefore,
   entriesBefore,
 }
@@ -47,9 +49,13 @@ use Rattle.rules.specs.Promises.{
   Outcome,
   leaves,
   delivered,
+  notGood,
+  ChecksTableIn,
   ChecksTable,
   readingAnswer,
   packetOutcome,
+  packetOutcomeIn,
+  ReadsPacketIn,
   ReadsPacket,
   partBy,
   PlacesPart,
@@ -77,13 +83,18 @@ use Rattle.rules.specs.Promises.{
   kindAnswer,
   TellsKind,
 }
-use Rattle.rules.specs.Cases.{lentRun}
+use Rattle.rules.specs.Pages.{manyFields}
 use Rattle.laws.proofs.WithinTest.{isWithin, within}
+use Rattle.laws.proofs.Decidable.{good-decidable-in}
+use Rattle.laws.proofs.GoodTest.{isGoodIn, told-by, answerIn, table-told}
+use Rattle.laws.proofs.Readers as Tables
 use Rattle.laws.specs.Wrong.{
   Claim,
   checks,
-  reads,
-  lists,
+  checksIn,
+  readsIn,
+  readsWith,
+  listsWith,
   hands,
   placesPart,
   finds,
@@ -97,12 +108,12 @@ use Rattle.laws.specs.Wrong.{
   tellsKind,
   shorts,
   placesShort,
-  readsPartly,
-  lentOutput,
+  partlyWith,
   Claimed,
   AllFalse,
   wrong,
 }
+use Rattle.laws.specs.WrongLimits.{entriesOf, linesOf, wrongLimits}
 
 -- ── all that a promise allows ──
 
@@ -111,6 +122,22 @@ good-stored d w = record { description = d; within = w; isStored = refl }
 
 pub table-only : (d : Description) (a : Answer) → Within d → ChecksTable (stored d) a → a ≡ accepted (length (stored d))
 table-only d a w p = p (yes (good-stored d w))
+
+-- the outcome of a packet, by an edition
+abbrev pub outcomeIn : Edition → List ℕ → List ℕ → List ℕ → Outcome
+outcomeIn e table packet run =
+    cond (isGoodIn e table) (packetOutcomeIn e (Tables.describedIn e table) packet run) (leaves notGood run)
+
+pub answer-only : (e : Edition) (table : List ℕ) (a : Answer) → ChecksTableIn e table a → a ≡ answerIn e table
+answer-only e table a p =
+    let good = good-decidable-in e table in
+    p good ∙ sym (table-told e table good)
+
+pub outcome-only-in : (e : Edition) (table packet run : List ℕ) (o : Outcome) → ReadsPacketIn e table packet run o
+    → o ≡ outcomeIn e table packet run
+outcome-only-in e table packet run o p =
+    let good = good-decidable-in e table in
+    p good ∙ sym (told-by e table (λ d. packetOutcomeIn e d packet run) (leaves notGood run) good)
 
 pub outcome-only : (d : Description) (packet run : List ℕ) (o : Outcome) → Within d
     → ReadsPacket (stored d) packet run o → o ≡ packetOutcome d packet run
@@ -209,8 +236,10 @@ single n = n ∷ []
 -- what a claim says, and what the definitions give, in numbers
 abbrev pub claimed : Claim → List ℕ
 claimed (checks d a) = answerNumbers a
-claimed (reads d packet a after) = numbers (leaves a after)
-claimed (lists d packet a after) = numbers (leaves a after)
+claimed (checksIn e table a) = answerNumbers a
+claimed (readsIn e n table packet a after) = numbers (leaves a after)
+claimed (readsWith n d packet a after) = numbers (leaves a after)
+claimed (listsWith n d packet a after) = numbers (leaves a after)
 claimed (hands d packet i bytes start) = start ∷ bytes
 claimed (placesPart d packet i part) = placeNumbers part
 claimed (finds d name a) = answerNumbers a
@@ -224,12 +253,14 @@ claimed (counts d a) = answerNumbers a
 claimed (tellsKind d i a) = answerNumbers a
 claimed (shorts d i bytes start) = start ∷ bytes
 claimed (placesShort d i part) = placeNumbers part
-claimed (readsPartly d packet a after n) = partlyNumbers (leavesPartly a after n)
+claimed (partlyWith m d packet a after n) = partlyNumbers (leavesPartly a after n)
 
 abbrev pub given : Claim → List ℕ
 given (checks d r) = answerNumbers (accepted (length (stored d)))
-given (reads d packet r after) = numbers (packetOutcome d packet lentRun)
-given (lists d packet r after) = numbers (delivered (listing d packet) lentOutput)
+given (checksIn e table r) = answerNumbers (answerIn e table)
+given (readsIn e n table packet r after) = numbers (outcomeIn e table packet (replicate n 9))
+given (readsWith n d packet r after) = numbers (packetOutcome d packet (replicate n 9))
+given (listsWith n d packet r after) = numbers (delivered (listing d packet) (replicate n 9))
 given (hands d packet i bytes start) = partNumbers packet (partIn (reading d packet) i)
 given (placesPart d packet i part) = placeNumbers (partIn (reading d packet) i)
 given (finds d name r) = answerNumbers (firstNamed name 0 (d .fields))
@@ -243,13 +274,15 @@ given (counts d a) = answerNumbers (accepted (length (d .fields)))
 given (tellsKind d i a) = answerNumbers (kindAnswer (getElem? (d .fields) i))
 given (shorts d i bytes start) = partNumbers (stored d) (shortAt d i)
 given (placesShort d i part) = placeNumbers (shortAt d i)
-given (readsPartly d packet a after n) = partlyNumbers (partlyOutcome d packet lentRun)
+given (partlyWith m d packet a after n) = partlyNumbers (partlyOutcome d packet (replicate m 9))
 
 -- what is claimed of a table is of the table of a description within the limits
 abbrev pub isFitting : Claim → Bool
 isFitting (checks d r) = isWithin d
-isFitting (reads d packet r after) = isWithin d
-isFitting (lists d packet r after) = isWithin d
+isFitting (checksIn e table r) = true
+isFitting (readsIn e n table packet r after) = true
+isFitting (readsWith n d packet r after) = isWithin d
+isFitting (listsWith n d packet r after) = isWithin d
 isFitting (hands d packet i bytes start) = isWithin d
 isFitting (placesPart d packet i part) = isWithin d
 isFitting (finds d name r) = isWithin d
@@ -263,16 +296,20 @@ isFitting (counts d a) = isWithin d
 isFitting (tellsKind d i a) = isWithin d
 isFitting (shorts d i bytes start) = isWithin d
 isFitting (placesShort d i part) = isWithin d
-isFitting (readsPartly d packet a after n) = isWithin d
+isFitting (partlyWith m d packet a after n) = isWithin d
 
 two-parts : {m n : ℕ} {s t : List ℕ} → (s ≡ t) × (m ≡ n) → m ∷ s ≡ n ∷ t
 two-parts {n = n} {s = s} q = ap (λ (k : ℕ). k ∷ s) (q .1) ∙ ap (λ (l : List ℕ). n ∷ l) (q .0)
 
 pub claim-only : (c : Claim) → isFitting c ≡ true → Claimed c → claimed c ≡ given c
 claim-only (checks d a) h p = ap answerNumbers (table-only d a (within d h) p)
-claim-only (reads d packet a after) h p = ap numbers (outcome-only d packet lentRun (leaves a after) (within d h) p)
-claim-only (lists d packet a after) h p =
-    ap numbers (listing-only d packet lentOutput (leaves a after) (within d h) p)
+claim-only (checksIn e table a) h p = ap answerNumbers (answer-only e table a p)
+claim-only (readsIn e n table packet a after) h p =
+    ap numbers (outcome-only-in e table packet (replicate n 9) (leaves a after) p)
+claim-only (readsWith n d packet a after) h p =
+    ap numbers (outcome-only d packet (replicate n 9) (leaves a after) (within d h) p)
+claim-only (listsWith n d packet a after) h p =
+    ap numbers (listing-only d packet (replicate n 9) (leaves a after) (within d h) p)
 claim-only (hands d packet i bytes start) h p = two-parts (part-only d packet i (p .0) bytes start (within d h) (p .1))
 claim-only (placesPart d packet i part) h p = ap placeNumbers (part-place-only d packet i part (within d h) p)
 claim-only (finds d name a) h p = ap answerNumbers (field-only d name a (within d h) p)
@@ -286,8 +323,8 @@ claim-only (counts d a) h p = ap answerNumbers (count-only d a (within d h) p)
 claim-only (tellsKind d i a) h p = ap answerNumbers (kind-only d i a (within d h) p)
 claim-only (shorts d i bytes start) h p = two-parts (short-only d i (p .0) bytes start (within d h) (p .1))
 claim-only (placesShort d i part) h p = ap placeNumbers (short-place-only d i part (within d h) p)
-claim-only (readsPartly d packet a after n) h p =
-    ap partlyNumbers (partly-only d packet lentRun (leavesPartly a after n) (within d h) p)
+claim-only (partlyWith m d packet a after n) h p =
+    ap partlyNumbers (partly-only d packet (replicate m 9) (leavesPartly a after n) (within d h) p)
 
 abbrev pub isOther : Claim → Bool
 isOther c = isFitting c && not (same (claimed c) (given c))
@@ -301,23 +338,13 @@ pub all-out : (cs : List Claim) → all isOther cs ≡ true → AllFalse cs
 all-out = every-passes isOther ruled-out
 
 -- each wrong program's answer is ruled out
-pub all-ruled-out : AllFalse wrong
+pub all-ruled-out : AllFalse (wrong ++ wrongLimits)
 unfolding digits all any same lastIs sum joined firstBreak operator isLetter isDigit isSpace isWordByte
     isLabelByte noTwoSpaces isLabel reserved isReserved isShort depth le2 le4 storedTree isInRange hasType
     apply decides evaluate rowsFit storedIn storedFieldIn fieldBody headBody bitsAt valueIn readField readFields
-    reading entryLines linesText faultNumber ofPacket delivered readingAnswer
-    packetOutcome readingLines firstNamed fieldsBefore entriesBefore partlyOutcome
-all-ruled-out = all-out wrong refl
-
--- ── a table that is not good ──
-
--- the table of no bytes
-pub empty-bad : Good [] → ⊥
-unfolding storedIn le2
-empty-bad g = let z : _≡_ {A = ℕ} 0 1 = cc in omega arith
-
--- every table accepted
-pub not-every-table : ChecksTable [] (accepted 0) → ⊥
-not-every-table p =
-    let z : _≡_ {A = ℕ} 0 21 = ap (λ (a : Answer). a .number) (p (no empty-bad)) in
-    omega arith
+    readingIn entryLines linesText faultNumber ofPacket delivered readingAnswer
+    packetOutcomeIn readingLines firstNamed fieldsBefore entriesBefore partlyOutcome manyFields entriesOf linesOf
+    Tables.readTwo Tables.readFour Tables.readCounted Tables.codeIn Tables.codeOf Tables.readAfter
+    Tables.readTree Tables.treeOf Tables.readFixed Tables.readMeasured Tables.readWidth Tables.fieldFrom
+    Tables.readField Tables.readFields Tables.describedIn
+all-ruled-out = all-out (wrong ++ wrongLimits) refl

@@ -22,6 +22,7 @@ use Rattle.rules.specs.Promises.{
   readingAnswer,
   runAfter,
   packetOutcome,
+  packetOutcomeIn,
   ReadsPacket,
 }
 use Rattle.laws.proofs.Readings.{Told, reading-told}
@@ -50,7 +51,7 @@ either P true x y p q = p
 either P false x y p q = q
 
 packet-fair : (d : Description) (packet run : List ℕ) → Fair packet run (packetOutcome d packet run)
-unfolding packetOutcome
+unfolding packetOutcomeIn
 packet-fair d packet run =
     either (Fair packet run) (not (isTooLong packet) && ltb (length run) (4 * length (d .fields))) _ _
     (refused-fair packet run 23 0 (omega arith))
@@ -103,7 +104,7 @@ reading-other packet (refusing a) t e = omega (arith, t .0, e)
 -- and for a packet by one
 pub good-read : (d : Description) (packet run after : List ℕ) → Within d
     → ReadsPacket (stored d) packet run (leaves notGood after) → ⊥
-unfolding packetOutcome
+unfolding packetOutcomeIn
 good-read d packet run after w p =
     either (λ (o : Outcome). o .answer .number ≡ 21 → ⊥)
     (not (isTooLong packet) && ltb (length run) (4 * length (d .fields))) (leaves (refused 23 0) run)

@@ -1,5 +1,5 @@
 -- What an accepted packet leaves in the run: entries that cover each bit exactly once; the answer is the bit total.
-use mathlib.Core.Path.{_≡_, refl, sym, ap}
+use mathlib.Core.Path.{_≡_, refl, ap}
 use mathlib.Core.Bool.{Bool, true, false, cond, _&&_, not}
 use mathlib.Core.List.{List, [], _∷_, _++_}
 use Prim.Native.Nat.{ℕ, suc, _*_}
@@ -12,7 +12,16 @@ use Rattle.rules.specs.Stored.{Good}
 use Rattle.rules.specs.Answers.{accepted, refused}
 use Rattle.rules.specs.Reading.{Entry, Reading, complete, refusing, isTooLong, reading, numbersOf}
 use Rattle.rules.specs.Cover.{Kept, entriesIn, Covered}
-use Rattle.rules.specs.Promises.{Outcome, leaves, notGood, byTable, readingAnswer, runAfter, packetOutcome}
+use Rattle.rules.specs.Promises.{
+  Outcome,
+  leaves,
+  notGood,
+  byTable,
+  readingAnswer,
+  runAfter,
+  packetOutcome,
+  packetOutcomeIn,
+}
 use Rattle.rules.specs.Results.{PacketCovered}
 use Rattle.laws.proofs.Readings.{Told, reading-told}
 use Rattle.laws.proofs.Decidable.{good-decidable}
@@ -56,7 +65,7 @@ module _ (d : Description) (packet run after : List ℕ) (n : ℕ) where
       let z : 0 ≡ a .number = ap (λ (x : Outcome). x .answer .number) e in absurd (omega (arith, t .0))
 
   outcome : leaves (accepted n) after ≡ packetOutcome d packet run → Covering
-  unfolding packetOutcome
+  unfolding packetOutcomeIn
   outcome = go (not (isTooLong packet) && ltb (length run) (4 * length (d .fields)))
     where
       go : (x : Bool)

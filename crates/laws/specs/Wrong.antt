@@ -15,6 +15,7 @@ use Rattle.rules.specs.declared.PacketAnswer.the-variants.{Accepted, Refused, L
 use Rattle.rules.specs.Limits.{limits}
 use Rattle.rules.specs.Trees.{num, read, two}
 use Rattle.rules.specs.Fields.{fixed, Description}
+use Rattle.rules.specs.Editions.{Edition, current}
 use Rattle.rules.specs.Stored.{stored}
 use Rattle.rules.specs.Reading.{Entry, absent, numbersOf, Part, partFrom}
 use Rattle.rules.specs.Answers.{Answer, accepted, refused, ofPacket}
@@ -22,7 +23,9 @@ use Rattle.rules.specs.Promises.{
   leaves,
   overlaid,
   notGood,
+  ChecksTableIn,
   ChecksTable,
+  ReadsPacketIn,
   ReadsPacket,
   movedBy,
   PlacesPart,
@@ -47,10 +50,14 @@ use Rattle.rules.specs.Pages.{page, isNine, flagged, m2, m3}
 pub data Claim : Type 0 where
   -- the answer to the table
   checks : Description → Answer → Claim
-  -- the answer to a packet, and what a run of thirty 9s holds then
-  reads : Description → List ℕ → Answer → List ℕ → Claim
-  -- the answer where a packet is listed, and what an output of 120 nines holds then
-  lists : Description → List ℕ → Answer → List ℕ → Claim
+  -- the answer to any bytes as a table, by an edition
+  checksIn : Edition → List ℕ → Answer → Claim
+  -- and to a packet, and what a run of so many 9s holds then
+  readsIn : Edition → ℕ → List ℕ → List ℕ → Answer → List ℕ → Claim
+  -- the answer to a packet, and what a run of so many 9s holds then
+  readsWith : ℕ → Description → List ℕ → Answer → List ℕ → Claim
+  -- the answer where a packet is listed, and what an output of so many 9s holds then
+  listsWith : ℕ → Description → List ℕ → Answer → List ℕ → Claim
   -- the bytes of the field of an index, and where in the packet they begin
   hands : Description → List ℕ → ℕ → List ℕ → ℕ → Claim
   -- where they begin, and how many they are
@@ -75,16 +82,33 @@ pub data Claim : Type 0 where
   shorts : Description → ℕ → List ℕ → ℕ → Claim
   -- where it begins, and its length
   placesShort : Description → ℕ → Part → Claim
-  -- the answer to a packet, what a run of thirty 9s holds then, and how many fields it has
-  readsPartly : Description → List ℕ → Answer → List ℕ → ℕ → Claim
+  -- the answer to a packet, what a run of so many 9s holds then, and how many fields it has
+  partlyWith : ℕ → Description → List ℕ → Answer → List ℕ → ℕ → Claim
 
+-- with a run of thirty 9s
+abbrev pub reads : Description → List ℕ → Answer → List ℕ → Claim
+reads d packet a after = readsWith 30 d packet a after
+
+-- by the edition in force
+abbrev pub checksBytes : List ℕ → Answer → Claim
+checksBytes table a = checksIn current table a
+
+abbrev pub readsPartly : Description → List ℕ → Answer → List ℕ → ℕ → Claim
+readsPartly d packet a after n = partlyWith 30 d packet a after n
+
+-- with an output of 120 nines
 abbrev pub lentOutput : List ℕ
 lentOutput = replicate 120 9
 
+abbrev pub lists : Description → List ℕ → Answer → List ℕ → Claim
+lists d packet a after = listsWith 120 d packet a after
+
 abbrev pub Claimed : Claim → Type 0
 Claimed (checks d a) = ChecksTable (stored d) a
-Claimed (reads d packet a after) = ReadsPacket (stored d) packet lentRun (leaves a after)
-Claimed (lists d packet a after) = ListsPacket (stored d) packet lentOutput (leaves a after)
+Claimed (checksIn e table a) = ChecksTableIn e table a
+Claimed (readsIn e n table packet a after) = ReadsPacketIn e table packet (replicate n 9) (leaves a after)
+Claimed (readsWith n d packet a after) = ReadsPacket (stored d) packet (replicate n 9) (leaves a after)
+Claimed (listsWith n d packet a after) = ListsPacket (stored d) packet (replicate n 9) (leaves a after)
 Claimed (hands d packet i part start) = (from : ℕ × ℕ) × LendsPart (stored d) packet i from part (movedBy start from)
 Claimed (placesPart d packet i part) = PlacesPart (stored d) packet i part
 Claimed (finds d name a) = FindsField (stored d) name a
@@ -98,7 +122,7 @@ Claimed (counts d a) = CountsFields (stored d) a
 Claimed (tellsKind d i a) = TellsKind (stored d) i a
 Claimed (shorts d i short start) = (from : ℕ × ℕ) × LendsShort (stored d) i from short (movedBy start from)
 Claimed (placesShort d i part) = PlacesShort (stored d) i part
-Claimed (readsPartly d packet a after n) = ReadsPartly (stored d) packet lentRun (leavesPartly a after n)
+Claimed (partlyWith m d packet a after n) = ReadsPartly (stored d) packet (replicate m 9) (leavesPartly a after n)
 
 abbrev pub AllFalse : List Claim → Type 0
 AllFalse = Every (λ c. Claimed c → ⊥)
@@ -143,6 +167,8 @@ wrongTables =
     ∷ reads bladeReport m1 notGood lentRun
     -- another length for a table
     ∷ checks bladeReport (accepted 0)
+    -- every table accepted
+    ∷ checksBytes [] (accepted 0)
     ∷ []
 
 abbrev wrongReadings : List Claim
@@ -268,7 +294,7 @@ wrongAnswers =
     ∷ tellsAmount (Accepted 64) 0
     ∷ tellsAmount (Accepted 64) 8
     -- the limits: one field more; a byte less for a label; one left out
-    ∷ tellsLimits (set limits 1 65)
+    ∷ tellsLimits (set limits 1 129)
     ∷ tellsLimits (set limits 3 39)
     ∷ tellsLimits (take 9 limits)
     -- the number of fields: those with a short name alone; the table's length; 21 for a good table

@@ -22,7 +22,7 @@ firstRepeat alike n = firstFrom (repeats alike) 0 n
 
 -- how many remainders of keys are told apart
 abbrev pub remainders : ℕ
-remainders = 61
+remainders = 241
 
 -- where a search for what is like j begins, that has a key: at j where no key of its remainder was seen
 unfoldable pub startOf : List ℕ → ℕ → ℕ → ℕ

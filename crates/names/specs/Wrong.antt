@@ -76,6 +76,11 @@ lentNames =
     ∷ padTo shortMost []
     ∷ []
 
+-- 64 without a name, and A twice
+abbrev pub lateNames : List (List ℕ)
+lateNames =
+    replicate 64 (padTo shortMost []) ++ (padTo shortMost (bytes "A") ∷ padTo shortMost (bytes "A") ∷ [])
+
 -- one remainder is marked
 abbrev pub marked : ℕ → List ℕ
 marked i = set (replicate remainders 0) i 1
@@ -160,6 +165,11 @@ wrongHeld =
     ∷ repeatsAt lentNames 5 4
     ∷ repeatsAt (padTo shortMost [] ∷ padTo shortMost [] ∷ []) 2 1
     ∷ repeatsAt lentNames 3 1
+    -- names behind the 64th left out; more asked for than there may be [02, R-10]
+    ∷ repeatsAt lateNames 66 64
+    ∷ repeatsAt lateNames 66 66
+    ∷ repeatsAt [] 65 64
+    ∷ repeatsAt [] 129 129
     ∷ []
 
 abbrev pub wrong : List Claim

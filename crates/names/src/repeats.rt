@@ -11,7 +11,7 @@ ghost use Rattle.names.specs.Keys.{wordKey};
 ghost use Rattle.names.specs.Repeats.{padTo, sameName, namesAlike, firstRepeat, startOf, atMost};
 
 // How many remainders of keys are told apart.
-pub const REMAINDERS: usize = 61;
+pub const REMAINDERS: usize = 241;
 
 // A name of at most SHORT_MOST bytes, with zeros behind its end; of a longer one its first bytes.
 pub fn held_name(w: &[u8]) -> [u8; SHORT_MOST]

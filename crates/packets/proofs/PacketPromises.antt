@@ -13,8 +13,16 @@ use Rattle.rules.specs.declared.PacketAnswer.{PacketAnswer}
 use Rattle.rules.specs.Fields.{Description}
 use Rattle.rules.specs.Stored.{Good}
 use Rattle.rules.specs.Answers.{Answer, faultNumber, ofTable, ofPacket}
-use Rattle.rules.specs.Reading.{Entry, Reading, complete, refusing, reading}
-use Rattle.rules.specs.Promises.{leaves, readingAnswer, runAfter, packetOutcome, ChecksTable, ReadsPacket}
+use Rattle.rules.specs.Reading.{Entry, Reading, complete, refusing, reading, readingIn}
+use Rattle.rules.specs.Promises.{
+  leaves,
+  readingAnswer,
+  runAfter,
+  packetOutcome,
+  packetOutcomeIn,
+  ChecksTable,
+  ReadsPacket,
+}
 use Rattle.rules.specs.declared.Fault.{Fault}
 use Rattle.laws.proofs.Readings.{Told, reading-told}
 use Rattle.laws.proofs.Decidable.{good-decidable}
@@ -130,14 +138,14 @@ module _ (table packet run : List ℕ) where
 
   pub packet-too-long : Good table → packetMost < length packet
       → ReadsPacket table packet run (leaves (ofPacket PacketAnswer.TooLong) run)
-  unfolding ofPacket packetOutcome reading readingAnswer
+  unfolding ofPacket packetOutcomeIn readingIn readingAnswer
   packet-too-long good lt =
       let far : ltb packetMost (length packet) ≡ true = lt-ltb packetMost (length packet) lt in
       by-good table packet run PacketAnswer.TooLong run good (λ g. rw far)
 
   pub packet-short-run : Good table → length packet ≤ packetMost → length run < 4 * twoAt table 6
       → ReadsPacket table packet run (leaves (ofPacket PacketAnswer.ShortRun) run)
-  unfolding ofPacket packetOutcome
+  unfolding ofPacket packetOutcomeIn
   packet-short-run good le lt =
       let near : ltb packetMost (length packet) ≡ false = le-ltb packetMost (length packet) le in
       by-good table packet run PacketAnswer.ShortRun run good (λ g.
@@ -150,7 +158,7 @@ module _ (table packet run : List ℕ) where
       (room : 4 * twoAt table 6 ≤ length run) (reads : ReadsRun table packet r numbers) where
     answered : (after : List ℕ) → ((g : Good table) → after ≡ runAfter (reading (g .description) packet) run)
         → ReadsPacket table packet run (leaves (ofPacket r) after)
-    unfolding packetOutcome
+    unfolding packetOutcomeIn
     answered after h =
         let near : ltb packetMost (length packet) ≡ false = le-ltb packetMost (length packet) le in
         by-good table packet run r after good (λ g.

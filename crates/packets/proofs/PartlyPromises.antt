@@ -14,9 +14,8 @@ use Rattle.rules.specs.declared.PacketAnswer.{PacketAnswer}
 use Rattle.rules.specs.Limits.{packetMost}
 use Rattle.rules.specs.Stored.{Good}
 use Rattle.rules.specs.Answers.{ofTable, ofPacket}
-use Rattle.rules.specs.Reading.{reading, entriesBefore}
+use Rattle.rules.specs.Reading.{readingIn, entriesBefore}
 use Rattle.rules.specs.Promises.{readingAnswer, Partly, leavesPartly, partlyOutcome, ChecksTable, ReadsPartly}
-use Rattle.packets.specs.Parts.{runMost}
 use Rattle.packets.specs.Walks.{Walks}
 use Rattle.packets.specs.RunRead.{countIn, RunBegins}
 use Rattle.packets.proofs.RunEntries.{length-joined}
@@ -38,7 +37,7 @@ module _ (table packet run : List ℕ) where
 
   pub partly-too-long : Good table → packetMost < length packet
       → ReadsPartly table packet run (leavesPartly (ofPacket PacketAnswer.TooLong) run 0)
-  unfolding ofPacket partlyOutcome reading readingAnswer entriesBefore joined
+  unfolding ofPacket partlyOutcome readingIn readingAnswer entriesBefore joined
   partly-too-long good lt =
       let far : ltb packetMost (length packet) ≡ true = lt-ltb packetMost (length packet) lt in
       by-good table packet run _ good (λ g. rw far)
@@ -56,8 +55,8 @@ module _ (table packet run : List ℕ) where
 
   -- the walk into a run of its own, and the numbers of the first fields copied
   module _ (own : List ℕ) (r : PacketAnswer) (numbers : List ℕ) (n : ℕ) (good : Good table)
-      (le : length packet ≤ packetMost) (long : runMost ≤ length own) (walks : Walks table packet own r numbers)
-      (is : n ≡ countIn r (twoAt table 6)) where
+      (le : length packet ≤ packetMost) (long : 4 * twoAt table 6 ≤ length own)
+      (walks : Walks table packet own r numbers) (is : n ≡ countIn r (twoAt table 6)) where
     begun : (g : Good table)
         → RunBegins (length (g .description .fields)) (entriesBefore (g .description) packet) r numbers
     begun g = run-begins (g .description) table packet own r numbers (g .within) (g .isStored) long le walks

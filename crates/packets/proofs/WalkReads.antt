@@ -30,6 +30,7 @@ use Rattle.rules.specs.Reading.{
   readField,
   readFields,
   reading,
+  readingIn,
   onStep as stepsOn,
   fieldsBefore,
   entriesBefore,
@@ -38,7 +39,7 @@ use Rattle.rules.specs.Reading.{
 use Rattle.rules.specs.Promises.{readingAnswer}
 use Rattle.laws.proofs.ReadsFields.{formed-parts}
 use Rattle.rules.specs.Limits.{packetMost}
-use Rattle.packets.specs.Parts.{tableMost, runMost}
+use Rattle.packets.specs.Parts.{tableMost}
 use Rattle.packets.specs.PartsStand.{PartsStand}
 use Rattle.packets.specs.Steps.{recordAt, laterBits, fieldStep}
 use Rattle.packets.specs.Walks.{stepAfter, runWith, Walk, onStep, walkFrom, walkAll, walkAnswer, walkRun, Walks}
@@ -177,7 +178,7 @@ walk-reads s packet (f ∷ fs) before entries run n place at end counts all begi
     (field-matches s packet run before entries place f r counts begins (omega arith) (e .0) (z .0) (k .0) (q .parts)
     (length fs) (sum fixedBits fs) sums)
 
-pub walk-all : (d : Description) → Within d → (s packet run : List ℕ) → stored d ≡ s → runMost ≤ length run
+pub walk-all : (d : Description) → Within d → (s packet run : List ℕ) → stored d ≡ s → 4 * twoAt s 6 ≤ length run
     → WalkHolds packet (length (d .fields)) (readFields packet [] 0 (d .fields))
     (fieldsBefore packet [] 0 (d .fields)) (walkAll s packet run)
 unfolding walkAll joined
@@ -185,22 +186,22 @@ walk-all d w s packet run e room =
     let h = head-stands d w s e in
     rw (h .count)
     (walk-reads s packet (d .fields) [] [] run (length (d .fields)) 0 (twoAt s 0) (h .end) refl (omega arith) refl
-    (omega (arith, h .few)) (w .form) (w .size) (w .types) (h .fields) (h .short))
+    (omega (arith, h .count, room)) (w .form) (w .size) (w .types) (h .fields) (h .short))
 
 -- ── a packet read into a run ──
 
 module _ (d : Description) (s packet run : List ℕ) (r : PacketAnswer) (after : List ℕ) where
   -- the entries of the fields before the first refused one
-  pub run-begins : Within d → stored d ≡ s → runMost ≤ length run → length packet ≤ packetMost
+  pub run-begins : Within d → stored d ≡ s → 4 * twoAt s 6 ≤ length run → length packet ≤ packetMost
       → Walks s packet run r after → RunBegins (length (d .fields)) (entriesBefore d packet) r after
   unfolding entriesBefore
   run-begins w e room le walks =
       let near : ltb packetMost (length packet) ≡ false = le-ltb packetMost (length packet) le in
       rw (near, walks .0, walks .1) (walk-all d w s packet run e room .begins)
 
-  pub run-read : Within d → stored d ≡ s → runMost ≤ length run → length packet ≤ packetMost
+  pub run-read : Within d → stored d ≡ s → 4 * twoAt s 6 ≤ length run → length packet ≤ packetMost
       → Walks s packet run r after → RunHolds (reading d packet) packet r after
-  unfolding reading
+  unfolding readingIn
   run-read w e room le walks =
       let near : ltb packetMost (length packet) ≡ false = le-ltb packetMost (length packet) le in
       let h = walk-all d w s packet run e room in
@@ -210,13 +211,13 @@ module _ (d : Description) (s packet run : List ℕ) (r : PacketAnswer) (after :
       })
 
   pub run-long : packetMost < length packet → r ≡ PacketAnswer.TooLong → RunHolds (reading d packet) packet r after
-  unfolding reading ofPacket readingAnswer
+  unfolding readingIn ofPacket readingAnswer
   run-long lt is =
       let far : ltb packetMost (length packet) ≡ true = lt-ltb packetMost (length packet) lt in
       rw far
       (record { answer = rw is; front = λ es e. let z : _≡_ {A = ℕ} 0 1 = cc in absurd (omega arith) })
 
 -- what a walk over all fields leaves in a run
-pub walks-read : (s packet run : List ℕ) {r : PacketAnswer} {after : List ℕ} → runMost ≤ length run
+pub walks-read : (s packet run : List ℕ) {r : PacketAnswer} {after : List ℕ} → 4 * twoAt s 6 ≤ length run
     → length packet ≤ packetMost → Walks s packet run r after → ReadsRun s packet r after
 walks-read s packet run room le w d within is = run-read d s packet run _ _ within is room le w

@@ -47,7 +47,8 @@ abbrev pub afterFields : List ℕ → Walked → Bool
 afterFields s (Past at) = lastTest s at && namesTest s (twoAt s 6) (10 + twoAt s 8)
 afterFields s Bad = false
 
+abbrev pub fieldsTest : List ℕ → Bool
+fieldsTest s = afterFields s (walkAt (twoAt s 4) (twoAt s 6) [] 0 false s (10 + twoAt s 8))
+
 unfoldable pub tableTest : List ℕ → Bool
-tableTest s =
-    leb (length s) tableMost
-    && (headTest s && afterFields s (walkAt (twoAt s 4) (twoAt s 6) [] 0 false s (10 + twoAt s 8)))
+tableTest s = leb (length s) tableMost && (headTest s && fieldsTest s)

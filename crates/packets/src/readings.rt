@@ -1,5 +1,6 @@
 // Packets are read by a table: into a run of four numbers a field, whole or as far as it goes, and a field's bytes as a
 // part of the packet.
+use crate::records::FEW_FIELDS;
 use crate::records::two_at;
 use crate::tables::check_table;
 use crate::walks::walk_fields;
@@ -15,7 +16,8 @@ ghost use lib.ListN.{length, take, drop};
 ghost use Rattle.rules.specs.Reading.{partFrom};
 ghost use Rattle.rules.specs.Promises.{ReadsPacket, ReadsPartly, PlacesPart, LendsPart, leaves, leavesPartly};
 ghost use Rattle.laws.specs.Places.{twoAt};
-ghost use Rattle.rules.specs.Limits.{fieldsMost};
+ghost use Rattle.rules.specs.Limits.{fieldsMost, packetMost};
+ghost use Rattle.rules.specs.Stored.{Good};
 ghost use Rattle.packets.specs.Parts.{runMost};
 ghost use Rattle.packets.specs.RunRead.{ReadsRun, countIn};
 ghost use Rattle.packets.specs.FieldParts.{isAccepted, partAt, OnPacket};
@@ -63,6 +65,25 @@ fn copy_numbers(dst: &mut [u32], src: &[u32], n: usize)
     }
 }
 
+// Four numbers a field.
+const FEW_NUMBERS: usize = 4 * FEW_FIELDS;
+
+// A packet read by a table that was checked before: into numbers of our own, and from there into the run.
+fn read_by(table: &[u8], packet: &[u8], run: &mut [u32], numbers: &mut [u32]) -> PacketAnswer
+    requires { ⌜ (4 * twoAt (now table) 6 ≤ length (now run)) × (4 * twoAt (now table) 6 ≤ length (now numbers))
+        × (length (now packet) ≤ packetMost) × (twoAt (now table) 6 ≤ fieldsMost) ⌝ }
+    ensures { λ r. ⌜ (Good (now (table .entry)) → ReadsPacket (now (table .entry)) (now (packet .entry))
+        (now (run .entry)) (leaves (ofPacket r) (now (run .exit)))) ⌝ }
+{
+    let answer = walk_fields(table, packet, numbers);
+    if is_accepted(answer) {
+        let n = 4 * two_at(table, 6);
+        copy_numbers(run, numbers, n);
+        return answer;
+    }
+    answer
+}
+
 // A packet read by a table: four numbers a field into the run.
 pub fn read_packet(table: &[u8], packet: &[u8], run: &mut [u32]) -> PacketAnswer
     ensures { λ r. ⌜ ReadsPacket (now (table .entry)) (now (packet .entry)) (now (run .entry)) (leaves (ofPacket r)
@@ -79,13 +100,12 @@ pub fn read_packet(table: &[u8], packet: &[u8], run: &mut [u32]) -> PacketAnswer
     if run.len() < n {
         return PacketAnswer::ShortRun;
     }
-    let mut numbers = [0u32; RUN_MOST];
-    let answer = walk_fields(table, packet, &mut numbers);
-    if is_accepted(answer) {
-        copy_numbers(run, &numbers, n);
-        return answer;
+    if n <= FEW_NUMBERS {
+        let mut few = [0u32; FEW_NUMBERS];
+        return read_by(table, packet, run, &mut few);
     }
-    answer
+    let mut numbers = [0u32; RUN_MOST];
+    read_by(table, packet, run, &mut numbers)
 }
 
 // What was read of a packet: the answer, and the number of fields whose numbers the run has.

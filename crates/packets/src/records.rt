@@ -6,6 +6,9 @@ ghost use lib.ListN.{getD};
 ghost use Rattle.laws.specs.Places.{twoAt};
 ghost use Rattle.packets.specs.Parts.{placeMost, tableMost, Spans, Widths, partsAt};
 
+// So many fields are few: for them small arrays are cleared.
+pub(crate) const FEW_FIELDS: usize = 16;
+
 // The record kinds of fields.
 pub(crate) const FIXED: usize = 2;
 

@@ -4,6 +4,7 @@ use crate::fields::ends_with;
 use crate::fields::has_trees;
 use crate::fields::is_field;
 use crate::fields::mark_of;
+use crate::records::FEW_FIELDS;
 use crate::records::parts_at;
 use crate::records::two_at;
 use crate::unique::gather;
@@ -14,7 +15,7 @@ use rules::SHORT_MOST;
 use rules::TABLE_MOST;
 use rules::TableAnswer;
 ghost use mathlib.Core.Path.{_≡_};
-ghost use mathlib.Core.Bool.{false};
+ghost use mathlib.Core.Bool.{true, false};
 ghost use mathlib.Core.List.{[]};
 ghost use Prim.Native.Nat.{_<_, _≤_};
 ghost use lib.ListN.{length};
@@ -22,7 +23,15 @@ ghost use Rattle.rules.specs.Within.{isRowWidth};
 ghost use Rattle.rules.specs.Promises.{ChecksTable};
 ghost use Rattle.rules.specs.Limits.{fieldsMost};
 ghost use Rattle.packets.specs.Parts.{tableMost};
-ghost use Rattle.packets.specs.TableTest.{GatheredBy, walkAt, headTest, lastTest, tableTest};
+ghost use Rattle.packets.specs.TableTest.{
+  GatheredBy,
+  walkAt,
+  headTest,
+  lastTest,
+  fieldsTest,
+  tableTest,
+};
+ghost use Rattle.laws.specs.Places.{twoAt};
 ghost use Rattle.rules.specs.Answers.{ofTable};
 
 const HEAD: usize = 1;
@@ -131,6 +140,28 @@ fn walk(
     Walked::Bad
 }
 
+// What comes behind a right head: the records of the fields, and the last. Marks, places and keys have room for each
+// field.
+fn has_fields(table: &[u8], marks: &mut [u8], places: &mut [usize], keys: &mut [usize]) -> bool
+    requires { ⌜ (length (now table) ≤ tableMost) × (headTest (now table) ≡ true) ⌝ }
+    requires { ⌜ (twoAt (now table) 6 ≤ length (now marks)) × (twoAt (now table) 6 ≤ length (now places))
+        × (twoAt (now table) 6 ≤ length (now keys)) ⌝ }
+    ensures { λ r. ⌜ r ≡ fieldsTest (now (table .entry)) ⌝ }
+{
+    let w = two_at(table, 4);
+    let count = two_at(table, 6);
+    let from = 10 + two_at(table, 8);
+    let mut names = [[0u8; SHORT_MOST]; FIELDS_MOST];
+    let walked = walk(table, w, count, from, marks, places, keys, &mut names);
+    let Walked::Past(at) = walked else {
+        return false;
+    };
+    if !is_last(table, at) {
+        return false;
+    }
+    has_unique_names(table, places, keys, &names, count)
+}
+
 fn is_table(table: &[u8]) -> bool
     ensures { λ r. ⌜ r ≡ tableTest (now (table .entry)) ⌝ }
 {
@@ -140,30 +171,16 @@ fn is_table(table: &[u8]) -> bool
     if !is_head(table) {
         return false;
     }
-    let w = two_at(table, 4);
-    let count = two_at(table, 6);
-    let from = 10 + two_at(table, 8);
+    if two_at(table, 6) <= FEW_FIELDS {
+        let mut marks = [0u8; FEW_FIELDS];
+        let mut places = [0usize; FEW_FIELDS];
+        let mut keys = [0usize; FEW_FIELDS];
+        return has_fields(table, &mut marks, &mut places, &mut keys);
+    }
     let mut marks = [0u8; FIELDS_MOST];
     let mut places = [0usize; FIELDS_MOST];
     let mut keys = [0usize; FIELDS_MOST];
-    let mut names = [[0u8; SHORT_MOST]; FIELDS_MOST];
-    let walked = walk(
-        table,
-        w,
-        count,
-        from,
-        &mut marks,
-        &mut places,
-        &mut keys,
-        &mut names,
-    );
-    let Walked::Past(at) = walked else {
-        return false;
-    };
-    if !is_last(table, at) {
-        return false;
-    }
-    has_unique_names(table, &places, &keys, &names, count)
+    has_fields(table, &mut marks, &mut places, &mut keys)
 }
 
 // Good, with its length, exactly where the bytes are the stored form of a description within the limits.

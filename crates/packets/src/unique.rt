@@ -107,14 +107,9 @@ fn same_labels(s: &[u8], a: usize, b: usize, key: usize, other: usize) -> bool
 }
 
 // The first of the records whose label repeats an earlier one, else their number.
-fn first_label(
-    s: &[u8],
-    places: &[usize; FIELDS_MOST],
-    keys: &[usize; FIELDS_MOST],
-    n: usize,
-) -> usize
+fn first_label(s: &[u8], places: &[usize], keys: &[usize], n: usize) -> usize
     requires { ⌜ (n ≤ fieldsMost) × (length (now s) ≤ tableMost) × FieldPlaces (now s) n (now places)
-        × LabelKeys (now s) (now places) n (now keys) ⌝ }
+        × LabelKeys (now s) (now places) n (now keys) × (n ≤ length (now places)) × (n ≤ length (now keys)) ⌝ }
     ensures { λ r. ⌜ r ≡ firstRepeat (labelsAlike (now (s .entry)) (now (places .entry))) n ⌝ }
 {
     let mut seen = [0u8; REMAINDERS];
@@ -139,13 +134,13 @@ fn first_label(
 // No label and no short name of the n records repeats an earlier one.
 pub(crate) fn has_unique_names(
     s: &[u8],
-    places: &[usize; FIELDS_MOST],
-    keys: &[usize; FIELDS_MOST],
+    places: &[usize],
+    keys: &[usize],
     names: &[[u8; SHORT_MOST]; FIELDS_MOST],
     n: usize,
 ) -> bool
     requires { ⌜ (n ≤ fieldsMost) × (length (now s) ≤ tableMost) × FieldPlaces (now s) n (now places)
-        × LabelKeys (now s) (now places) n (now keys) ⌝ }
+        × LabelKeys (now s) (now places) n (now keys) × (n ≤ length (now places)) × (n ≤ length (now keys)) ⌝ }
     ensures { λ r. ⌜ r ≡ uniqueIn (now (s .entry)) (now (places .entry)) (now (names .entry)) n ⌝ }
 {
     if first_label(s, places, keys, n) != n {

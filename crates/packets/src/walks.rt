@@ -17,7 +17,6 @@ ghost use lib.ListN.{length};
 ghost use Rattle.rules.specs.Reading.{bitTotal};
 ghost use Rattle.rules.specs.Limits.{fieldsMost, packetMost};
 ghost use Rattle.laws.specs.Places.{twoAt};
-ghost use Rattle.packets.specs.Parts.{runMost};
 ghost use Rattle.packets.specs.Steps.{entryIn, foundOf};
 ghost use Rattle.packets.specs.Walks.{putAt, keptAt, refusedOf, Steps, Walks};
 
@@ -83,7 +82,7 @@ fn refused(found: Found, k: usize) -> PacketAnswer
 
 // All fields of a table, into the front of the run.
 pub(crate) fn walk_fields(table: &[u8], packet: &[u8], run: &mut [u32]) -> PacketAnswer
-    requires { ⌜ (runMost ≤ length (now run)) × (length (now packet) ≤ packetMost)
+    requires { ⌜ (4 * twoAt (now table) 6 ≤ length (now run)) × (length (now packet) ≤ packetMost)
         × (twoAt (now table) 6 ≤ fieldsMost) ⌝ }
     ensures { λ r. ⌜ Walks (now (table .entry)) (now (packet .entry)) (now (run .entry)) r (now (run .exit)) ⌝ }
 {

@@ -1,19 +1,11 @@
-// Reads a page and a packet from its data folder, and prints the packet's listing by the page.
+// Reads a page and a packet from its data folder, and prints the packet's listing by the page. A buffer of 65,536 bytes
+// has room for any page, table, packet and listing.
 use libc::STDOUT_FILENO;
 use packets::listing::list_packet;
 use rules::ListingAnswer;
 use rules::TextAnswer;
 use texts::reading::read_text;
-ghost use mathlib.Core.Path.{_≡_};
-ghost use lib.ListN.{length};
 ghost use Rattle.io.specs.Counts.{Counts};
-
-// Room for any table.
-fn table_room() -> [u8; 28672]
-    ensures { λ r. ⌜ 28672 ≡ length r ⌝ }
-{
-    [0; 28672]
-}
 
 // A file's bytes, as many as fit; answers how many.
 fn load(path: &[u8], out: &mut [u8]) -> usize
@@ -51,7 +43,7 @@ fn list_into(table: &[u8], packet: &[u8], out: &mut [u8]) {
 
 // The listing of a packet by the table that the first n bytes are.
 fn list_by(table: &[u8], n: usize, packet: &[u8]) {
-    let mut out = io::buffer();
+    let mut out = io::large_buffer();
     if n <= table.len() {
         list_into(&table[0..n], packet, &mut out);
     }
@@ -68,14 +60,14 @@ fn list_page(page: &[u8], packet: &[u8], table: &mut [u8]) {
 }
 
 fn list(page: &[u8], packet: &[u8]) {
-    let mut table = table_room();
+    let mut table = io::large_buffer();
     list_page(page, packet, &mut table);
 }
 
 fn main() {
     let mut page = io::large_buffer();
     let n = load(b"page", &mut page);
-    let mut packet = io::buffer();
+    let mut packet = io::large_buffer();
     let m = load(b"packet", &mut packet);
     list(&page[..n], &packet[..m]);
 }

@@ -1,18 +1,31 @@
--- What may differ between editions of the rules, and the edition in force.
+-- What may differ between editions of the rules: the edition in force, and an earlier one.
 use mathlib.Core.Path.{_≡_, refl}
 use mathlib.Core.Bool.{true}
 use Prim.Native.Nat.{ℕ, _+_}
 use lib.Dec.{ltb, leb}
-use Rattle.rules.specs.Limits.{fieldsMost}
+use Rattle.rules.specs.Limits.{fieldsMost, packetMost}
 
 pub record Edition : Type 0 where
   -- how many fields there may be; an index takes one byte
   pub fields : ℕ
   pub few : leb fields 256 ≡ true
+  -- how many bytes a packet may have
+  pub packet : ℕ
   -- the kind of a fixed field's record; a measured one's and the rest field's are the next two
   pub fixedKind : ℕ
   pub short : ltb (fixedKind + 2) 65536 ≡ true
 
--- [01, Fields] [01, The stored table]
+-- [01, The stored table] [02, R-10]
 abbrev pub current : Edition
-current = record { fields = fieldsMost; few = refl; fixedKind = 2; short = refl }
+current = record { fields = fieldsMost; few = refl; packet = packetMost; fixedKind = 2; short = refl }
+
+-- what a depot runs that still has the limits of document 01, all else as in force
+-- [01, Fields] [01, Refusal numbers] [02, R-10]
+abbrev pub earlier : Edition
+earlier = record {
+  fields = 64;
+  few = refl;
+  packet = 2048;
+  fixedKind = current .fixedKind;
+  short = current .short;
+}

@@ -8,8 +8,8 @@ use lib.Dec.{ltb, eqb}
 use lib.ListN.{length, replicate}
 use Rattle.base.specs.Bytes.{bytes}
 use Rattle.base.specs.Lists.{all, isEmpty, joined, sum, tabulate}
-use Rattle.rules.specs.Limits.{fieldsMost}
-use Rattle.rules.specs.Names.{isLabel, isSpace, lineFeed}
+use Rattle.rules.specs.Editions.{Edition, current}
+use Rattle.rules.specs.Names.{isLabel, lineFeed}
 use Rattle.rules.specs.Within.{isRowWidth}
 
 -- ── rulers and borders: the character at each column, from 0 ──
@@ -130,6 +130,9 @@ slotsIn (longRow c) = record { long = true; bits = c .bits; text = c .text } ∷
 unfoldable pub cells : Frame → List Slot
 cells f = joined slotsIn (f .rows)
 
--- over 64 cells or field lines [01, Refusal numbers]
+-- too many cells or field lines, by an edition [01, Refusal numbers] [02, R-10]
+abbrev pub isOverfullIn : Edition → Frame → Bool
+isOverfullIn e f = ltb (e .fields) (length (cells f)) || ltb (e .fields) (length (f .lines))
+
 abbrev pub isOverfull : Frame → Bool
-isOverfull f = ltb fieldsMost (length (cells f)) || ltb fieldsMost (length (f .lines))
+isOverfull f = isOverfullIn current f

@@ -1,18 +1,19 @@
--- The limits of document 01, each in one place.
+-- The limits of documents 01 and 02, each in one place.
 use mathlib.Core.Bool.{Bool}
 use mathlib.Core.List.{List, [], _∷_}
 use Prim.Native.Nat.{ℕ}
 use lib.Dec.{leb}
 
--- [01, Refusal numbers] bytes of a text, fields, bytes of a packet
+-- [01, Refusal numbers] bytes of a text
 abbrev pub textMost : ℕ
 textMost = 16384
 
+-- fields, bytes of a packet [01, Fields] [01, Refusal numbers] [02, R-10]
 abbrev pub fieldsMost : ℕ
-fieldsMost = 64
+fieldsMost = 128
 
 abbrev pub packetMost : ℕ
-packetMost = 2048
+packetMost = 8191
 
 -- [01, The lines of a text] bytes of a label and of a short name
 abbrev pub labelMost : ℕ

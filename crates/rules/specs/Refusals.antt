@@ -1,20 +1,21 @@
 -- When a text is refused, by which number and at which place. [01, Refusal numbers]
 -- Each stage speaks of what nothing spells; a later one presumes the earlier ones passed.
 use mathlib.Core.Path.{_≡_}
-use mathlib.Core.Bool.{Bool, true, false, cond}
+use mathlib.Core.Bool.{true, false, cond}
 use mathlib.Core.List.{List, [], _∷_, _++_}
-use mathlib.Core.Option.{Option, none, some, Option·map}
+use mathlib.Core.Option.{Option, some, Option·map}
 use Prim.Native.Nat.{ℕ, zero, suc, _+_, _≤_, _<_}
 use lib.Dec.{eqb}
 use lib.ListN.{length, getD}
 use Rattle.base.specs.Lists.{all, Each, firstBreak, orElse}
 use Rattle.rules.specs.Answers.{Answer, refused}
 use Rattle.rules.specs.Limits.{textMost}
+use Rattle.rules.specs.Editions.{Edition, current}
 use Rattle.rules.specs.Names.{isAllowed, lineFeed}
 use Rattle.rules.specs.Fields.{Form}
 use Rattle.rules.specs.Within.{keepsSize, keepsNames, keepsTypes, keepsRest, nameReadable}
 use Rattle.rules.specs.Lines.{SpellsField, Unresolved}
-use Rattle.rules.specs.Frames.{Frame, isFrame, frameText, FrameOf, lineNumber, cells, isOverfull}
+use Rattle.rules.specs.Frames.{Frame, isFrame, frameText, FrameOf, lineNumber, cells, isOverfullIn}
 use Rattle.rules.specs.Spelling.{mismatch}
 
 -- ── 3: lines ──
@@ -76,20 +77,27 @@ pub record Plain (text : List ℕ) : Type 0 where
   pub size : length text ≤ textMost
   pub bytes : all isAllowed text ≡ true
 
--- the text of a frame that is not overfull
-pub record Framed (text : List ℕ) (f : Frame) : Type 0 where
+-- the text of a frame that is not overfull, by an edition
+pub record FramedIn (e : Edition) (text : List ℕ) (f : Frame) : Type 0 where
   pub plain : Plain text
   pub isFrameOf : FrameOf text f
-  pub few : isOverfull f ≡ false
+  pub few : isOverfullIn e f ≡ false
 
--- 01's number and place for a text that is refused, whatever the output
-pub data Refuses (text : List ℕ) : Answer → Type 0 where
-  long : textMost < length text → Refuses text (refused 1 0)
-  byte : length text ≤ textMost → all isAllowed text ≡ false → Refuses text (refused 2 0)
+-- 01's number and place for a text that is refused, whatever the output, by an edition
+pub data RefusesIn (e : Edition) (text : List ℕ) : Answer → Type 0 where
+  long : textMost < length text → RefusesIn e text (refused 1 0)
+  byte : length text ≤ textMost → all isAllowed text ≡ false → RefusesIn e text (refused 2 0)
   line : {k : ℕ} → Plain text → ((f : Frame) → FrameOf text f → ⊥) → RightLines text k
-      → Refuses text (refused 3 (suc k))
-  many : {f : Frame} → Plain text → FrameOf text f → isOverfull f ≡ true → Refuses text (refused 4 0)
-  form : {f : Frame} {i : ℕ} → Framed text f → FirstFormless (f .lines) i
-      → Refuses text (refused 5 (lineNumber f i))
-  rule : {f : Frame} {a : Answer} (forms : List Form) → Framed text f
-      → Each (SpellsField Unresolved) forms (f .lines) → ruleBroken f forms ≡ some a → Refuses text a
+      → RefusesIn e text (refused 3 (suc k))
+  many : {f : Frame} → Plain text → FrameOf text f → isOverfullIn e f ≡ true → RefusesIn e text (refused 4 0)
+  form : {f : Frame} {i : ℕ} → FramedIn e text f → FirstFormless (f .lines) i
+      → RefusesIn e text (refused 5 (lineNumber f i))
+  rule : {f : Frame} {a : Answer} (forms : List Form) → FramedIn e text f
+      → Each (SpellsField Unresolved) forms (f .lines) → ruleBroken f forms ≡ some a → RefusesIn e text a
+
+-- by the edition in force
+abbrev pub Framed : List ℕ → Frame → Type 0
+Framed text f = FramedIn current text f
+
+abbrev pub Refuses : List ℕ → Answer → Type 0
+Refuses text a = RefusesIn current text a

@@ -47,7 +47,7 @@ fn answer_text(words: &[u8]) {
 
 // `table TABLE`.
 fn answer_table(words: &[u8]) {
-    let mut table = io::buffer();
+    let mut table = io::large_buffer();
     let n = bytes_in(words, &mut table);
     show_table(check_table(&table[..n]));
 }
@@ -93,10 +93,10 @@ fn run_packet(table: &[u8], packet: &[u8], kind: u8, number: usize) {
 
 // `read SIZE TABLE PACKET`, `part INDEX TABLE PACKET` or `list TABLE PACKET`; the words begin with the table.
 fn answer_packet(words: &[u8], kind: u8, number: usize) {
-    let mut table = io::buffer();
+    let mut table = io::large_buffer();
     let n = bytes_in(words, &mut table);
     let second = next_word(words);
-    let mut packet = io::buffer();
+    let mut packet = io::large_buffer();
     let m = bytes_in(&words[second..], &mut packet);
     run_packet(&table[..n], &packet[..m], kind, number);
 }

@@ -11,17 +11,17 @@ const BEFORE: u8 = 165;
 const NUMBER_BEFORE: u32 = 2779096485;
 
 // An output longer than any table.
-pub(crate) fn output() -> [u8; 28672]
-    ensures { λ r. ⌜ 28672 ≡ length r ⌝ }
+pub(crate) fn output() -> [u8; 57344]
+    ensures { λ r. ⌜ 57344 ≡ length r ⌝ }
 {
-    [BEFORE; 28672]
+    [BEFORE; 57344]
 }
 
 // A run longer than any table needs.
-pub(crate) fn run() -> [u32; 512]
-    ensures { λ r. ⌜ 512 ≡ length r ⌝ }
+pub(crate) fn run() -> [u32; 640]
+    ensures { λ r. ⌜ 640 ≡ length r ⌝ }
 {
-    [NUMBER_BEFORE; 512]
+    [NUMBER_BEFORE; 640]
 }
 
 // How many numbers of a run are lent: size, or all if there are fewer.

@@ -46,16 +46,42 @@ fn run_texts() {
     run_file(b"texts7");
     run_file(b"texts8");
     run_file(b"texts9");
+    run_file(b"texts10");
+    run_file(b"texts11");
+    run_file(b"texts12");
 }
 
-fn main() {
-    run_texts();
-    run_file(b"marked_packets");
+fn run_limits() {
+    run_file(b"limits1");
+    run_file(b"limits2");
+    run_file(b"limits3");
+    run_file(b"limits4");
+}
+
+fn run_tables() {
     run_file(b"tables1");
     run_file(b"tables2");
+    run_file(b"tables3");
+}
+
+fn run_packets() {
     run_file(b"packets1");
     run_file(b"packets2");
     run_file(b"packets3");
     run_file(b"packets4");
     run_file(b"packets5");
+    run_file(b"packets6");
+    run_file(b"packets7");
+    run_file(b"packets8");
+    run_file(b"packets9");
+    run_file(b"packets10");
+    run_file(b"packets11");
+}
+
+fn main() {
+    run_texts();
+    run_file(b"marked_packets");
+    run_limits();
+    run_tables();
+    run_packets();
 }

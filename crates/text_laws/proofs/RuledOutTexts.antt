@@ -112,7 +112,7 @@ use Rattle.rules.specs.Stored.{stored}
 use Rattle.rules.specs.Answers.{Answer, refused}
 use Rattle.rules.specs.Promises.{Outcome, leaves, ReadsText}
 use Rattle.rules.specs.Marked.{tag, tagText}
-use Rattle.rules.specs.Pages.{tagLines}
+use Rattle.rules.specs.Pages.{tagLines, manyFields, manyRows, manyLines}
 use Rattle.laws.proofs.RuledOut.{numbers}
 use Rattle.text_laws.specs.WrongTexts.{Claim, reads, Claimed, AllFalse, wrongTexts}
 use Rattle.text_laws.proofs.TextResults.{text-unique}
@@ -152,7 +152,7 @@ unfolding digits all any same lastIs sum joined tabulate firstBreak operator ope
     readTree unitOf readUnit readMeasure readWidth readPhrase readMaybe isCondition isConstraint readConstraint
     readCondition isRemark readForm Frames.readName Frames.step onFirst pieces rest lead leftTrim keepEnd
     rightTrim cellOf keepRow longOf readRow closing readTens onName onWidth onRow rowOrEnd opened onSame run
-    rightFrom rightLines whole readFrame firstIndex renameTree resolve formsOf seen
+    rightFrom rightLines whole readFrame firstIndex renameTree resolve formsOf seen manyFields manyRows manyLines
 computed = record { spelled = refl; barred = refl; others = refl }
 
 -- the outcomes of two texts

@@ -46,7 +46,7 @@ pub record Found : Type 0 where
   -- NAME and W, once they are read
   pub name : List ℕ
   pub width : ℕ
-  -- at most 64
+  -- no more than there may be
   pub cells : List Slot
   pub judged : Judged
 

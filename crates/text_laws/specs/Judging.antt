@@ -57,7 +57,7 @@ rules cells = keepsSize ∷ showsCell cells ∷ keepsNames ∷ keepsTypes nameRe
 -- ── what is kept of field lines ──
 
 pub record Judged : Type 0 where
-  -- field lines, up to 64
+  -- field lines, up to the most that there may be
   pub count : ℕ
   pub fields : List (Field ℕ)
   pub lowest : Option Answer

@@ -13,6 +13,7 @@ use Rattle.rules.specs.declared.TextAnswer.{TextAnswer}
 use Rattle.rules.specs.declared.TextAnswer.the-variants.{
   Accepted,
   BadLine,
+  TooMany,
   BadForm,
   Mismatch,
   Repeated,
@@ -27,7 +28,18 @@ use Rattle.rules.specs.Stored.{stored}
 use Rattle.rules.specs.Promises.{overlaid, ReadsText, leaves}
 use Rattle.rules.specs.Cases.{named, unnamed}
 use Rattle.rules.specs.Marked.{bladeReport, tagText, tagTable}
-use Rattle.rules.specs.Pages.{bladeText, freePage, freeText, tagLines, tagUnended, notTimes}
+use Rattle.rules.specs.Pages.{
+  bladeText,
+  freePage,
+  freeText,
+  tagLines,
+  tagUnended,
+  crowded,
+  notTimes,
+  page,
+  manyFields,
+  manyText,
+}
 use Rattle.rules.specs.Answers.{ofText}
 
 -- ── claims of a text ──
@@ -189,6 +201,9 @@ wrongRefusals =
     ∷ leavesIt (tagLines 1 ++ (0x7F ∷ [])) (BadLine 1)
     ∷ leavesIt (tagLines (1 + fieldsMost)) (Mismatch 12)
     ∷ leavesIt (tagLines fieldsMost) (Repeated 12)
+    -- 4 for 65 field lines, or for 72 cells [02, R-10]
+    ∷ leavesIt (tagLines 65) TooMany
+    ∷ leavesIt (crowded 9) TooMany
     ∷ leavesIt (tagLines 1 ++ bytes "\n") (Mismatch 12)
     -- 11 before the text's own faults
     ∷ reads [] [] NoRoom []
@@ -252,5 +267,19 @@ wrongPairs =
     ∷ leavesIt twoRests (BadRest 13)
     ∷ []
 
+-- of a text of 65 fields [02, R-10]
+abbrev pub wrongMany : List Claim
+wrongMany =
+    -- 4, or 7 at the 65th line; 64 of the fields written; 11 for an output that the table just fills; nothing written
+    reads (manyText 65) (nines 1113) TooMany (nines 1113)
+    ∷ reads (manyText 65) (nines 1113) (Mismatch 206) (nines 1113)
+    ∷ reads (manyText 65) (nines 1113) (Accepted 1096) (overlaid (stored (page (manyFields 0 64))) (nines 1113))
+    ∷ reads (manyText 65) (nines 1113) NoRoom (nines 1113)
+    ∷ reads (manyText 65) (nines 1113) (Accepted 1113) (nines 1113)
+    -- 129 accepted
+    ∷ reads (manyText 129) (nines 2300) (Accepted (length (stored (page (manyFields 0 129)))))
+    (overlaid (stored (page (manyFields 0 129))) (nines 2300))
+    ∷ []
+
 abbrev pub wrongTexts : List Claim
-wrongTexts = wrongOutputs ++ (wrongRefusals ++ (wrongPages ++ wrongPairs))
+wrongTexts = wrongOutputs ++ (wrongRefusals ++ (wrongPages ++ (wrongPairs ++ wrongMany)))

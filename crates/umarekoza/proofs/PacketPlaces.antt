@@ -29,6 +29,7 @@ use Rattle.rules.specs.Reading.{
   readFields,
   isTooLong,
   reading,
+  readingIn,
   entriesBefore,
 }
 use Rattle.rules.specs.Promises.{
@@ -39,6 +40,7 @@ use Rattle.rules.specs.Promises.{
   readingAnswer,
   runAfter,
   packetOutcome,
+  packetOutcomeIn,
   ReadsPacket,
   Partly,
   leavesPartly,
@@ -90,7 +92,7 @@ module _ (packet : List ℕ) where
       omega (arith, q)
 
   reading-low : (d : Description) → readingAnswer (reading d packet) packet .place ≤ length (d .fields)
-  unfolding reading readingAnswer
+  unfolding readingIn readingAnswer
   reading-low d = go (isTooLong packet)
     where
       go : (b : Bool)
@@ -99,7 +101,7 @@ module _ (packet : List ℕ) where
       go false = omega (arith, fields-low [] 0 (d .fields))
 
   outcome-low : (d : Description) (run : List ℕ) → packetOutcome d packet run .answer .place ≤ length (d .fields)
-  unfolding packetOutcome
+  unfolding packetOutcomeIn
   outcome-low d run = go (not (isTooLong packet) && ltb (length run) (4 * length (d .fields)))
     where
       go : (b : Bool)

@@ -19,10 +19,10 @@ use Rattle.rules.specs.Trees.{depth, le2, le4, storedTree, isInRange, hasType}
 use Rattle.rules.specs.Values.{apply, decides, evaluate}
 use Rattle.rules.specs.Within.{rowsFit}
 use Rattle.rules.specs.Stored.{storedIn, storedFieldIn, fieldBody, headBody}
-use Rattle.rules.specs.Reading.{bitsAt, valueIn, readField, readFields, reading, fieldsBefore, entriesBefore}
+use Rattle.rules.specs.Reading.{bitsAt, valueIn, readField, readFields, readingIn, fieldsBefore, entriesBefore}
 use Rattle.rules.specs.Listing.{entryLines, linesText}
 use Rattle.rules.specs.Answers.{faultNumber}
-use Rattle.rules.specs.Promises.{delivered, readingAnswer, packetOutcome, partlyOutcome, readingLines, firstNamed}
+use Rattle.rules.specs.Promises.{delivered, readingAnswer, packetOutcomeIn, partlyOutcome, readingLines, firstNamed}
 use Rattle.laws.specs.Wrong.{AllFalse}
 use Rattle.laws.proofs.RuledOut.{all-out}
 use Rattle.text_laws.proofs.RuledOutTexts.{other, tag-known, barred-known}
@@ -32,7 +32,7 @@ pub replies-ruled-out : AllFalse wrongReplies
 unfolding digits all any same lastIs sum joined firstBreak operator isLetter isDigit isSpace isWordByte
     isLabelByte noTwoSpaces isLabel reserved isReserved isShort depth le2 le4 storedTree isInRange hasType
     apply decides evaluate rowsFit storedIn storedFieldIn fieldBody headBody bitsAt valueIn readField readFields
-    reading entryLines linesText faultNumber delivered readingAnswer packetOutcome readingLines firstNamed
+    readingIn entryLines linesText faultNumber delivered readingAnswer packetOutcomeIn readingLines firstNamed
     fieldsBefore entriesBefore partlyOutcome
 replies-ruled-out = all-out wrongReplies refl
 

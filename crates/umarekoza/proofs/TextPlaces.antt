@@ -1,4 +1,4 @@
--- The place of a text's answer fits 32 bits: it is at most 65 more than the bytes that a text may have.
+-- The place of a text's answer fits 32 bits: it is at most one more than the fields and the bytes that a text may have.
 use mathlib.Core.Path.{ap}
 use mathlib.Core.Bool.{Bool, true, false, cond}
 use mathlib.Core.List.{List, [], _∷_, _++_}
@@ -122,10 +122,10 @@ rules-low f forms m p q =
 -- ── the promise ──
 
 abbrev most : ℕ
-most = 65 + textMost
+most = 1 + fieldsMost + textMost
 
 framed-low : (text : List ℕ) (f : Frame) → Framed text f
-    → (length (headLines f) ≤ textMost) × (length (cells f) ≤ 64) × (length (f .lines) ≤ 64)
+    → (length (headLines f) ≤ textMost) × (length (cells f) ≤ fieldsMost) × (length (f .lines) ≤ fieldsMost)
 framed-low text f h =
     let head = frame-low text f (h .isFrameOf) in (
       omega (arith, head, h .plain .size),
@@ -143,12 +143,12 @@ refuses-low text a (form {f = f} p q) =
     omega (arith, q .there, l .0, l .2)
 refuses-low text a (rule {f = f} forms p q r) =
     let l = framed-low text f p in
-    let s = rules-low f forms 64 (l .1) (omega (
+    let s = rules-low f forms fieldsMost (l .1) (omega (
       arith,
       l .2,
       each-length (SpellsField Unresolved) forms (f .lines) q,
     )) in
-    let t : Low (suc (length (headLines f)) + 64) (some a) = rw r at s in
+    let t : Low (suc (length (headLines f)) + fieldsMost) (some a) = rw r at s in
     omega (arith, t .is, l .0)
 
 delivered-low : (w out : List ℕ) → delivered w out .answer .place ≤ most

@@ -1,8 +1,7 @@
 //! The fields of a stored table, with their expressions as trees.
 
+use crate::limits::DEPTH_MOST;
 use crate::operators::{Operator, NAME, NOT, NUMBER, OPERATORS};
-
-const DEPTH_MOST: usize = 12;
 
 /// A field of a table.
 #[derive(Clone, Debug)]

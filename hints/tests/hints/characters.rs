@@ -136,7 +136,7 @@ error[1]: the page has 16,385 bytes, at most 16,384
 /// A page of so many cells and field lines, each of 8 bits.
 fn long_page(cells: usize, lines: usize) -> String {
     const BORDER: &str = "+-+-+-+-+-+-+-+-+\n";
-    let rows: String = (1..=cells).map(|cell| format!("|      F{cell:<2}      |\n{BORDER}")).collect();
+    let rows: String = (1..=cells).map(|cell| format!("|      F{cell:<3}     |\n{BORDER}")).collect();
     let fields: String = (1..=lines).map(|line| format!("F{line}: 1 byte.\n")).collect();
     format!(
         "A Long Page is formatted as follows:\n\n 0\n 0 1 2 3 4 5 6 7\n{BORDER}{rows}\nwhere:\n\n{fields}"
@@ -146,23 +146,23 @@ fn long_page(cells: usize, lines: usize) -> String {
 #[test]
 fn too_many_fields() {
     let due = "\
-error[4]: 65 cells, at most 64
-    --> page.txt:134:8
+error[4]: 129 cells, at most 128
+    --> page.txt:262:8
     |
-134 | |      F65      |
-    |        ^^^ the 65th cell
+262 | |      F129     |
+    |        ^^^^ the 129th cell
     |
     = note: every line below `where:` counts as a field
 ";
-    told(long_page(65, 65), 4, 0, due);
+    told(long_page(129, 129), 4, 0, due);
     let due = "\
-error[4]: 66 field lines, at most 64
-    --> page.txt:201:1
+error[4]: 130 field lines, at most 128
+    --> page.txt:393:1
     |
-201 | F65: 1 byte.
-    | ^^^^^^^^^^^^ the 65th field line
+393 | F129: 1 byte.
+    | ^^^^^^^^^^^^^ the 129th field line
     |
     = note: every line below `where:` counts as a field
 ";
-    told(long_page(64, 66), 4, 0, due);
+    told(long_page(128, 130), 4, 0, due);
 }

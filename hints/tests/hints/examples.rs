@@ -5,7 +5,7 @@ use crate::common::{with, BLADE};
 /// Refused pages, each with its number and place; 11 is none that the command can meet.
 pub fn pages() -> Vec<(String, u32, u32)> {
     let remark = "x".repeat(16_385 - BLADE.len() - 1);
-    let fields: String = (8..=66).map(|field| format!("Field{field}: 1 byte.\n")).collect();
+    let fields: String = (8..=130).map(|field| format!("Field{field}: 1 byte.\n")).collect();
     let page = |from: &str, to: &str, number: u32, place: u32| (with(&[(from, to)]), number, place);
     let rest = ("Readings: N bytes", "Readings: variable");
     vec![

@@ -130,11 +130,11 @@ error[28]: 11 bits are left over from bit 21 on: 1 byte and 3 bits
 #[test]
 fn a_packet_that_is_too_long() {
     let due = "\
-error[22]: the packet has 2,049 bytes, at most 2,048
+error[22]: the packet has 8,192 bytes, at most 8,191
  --> packet.bin
  = note: see that it is one packet, and in bytes
 ";
-    told(&blade(), &[0; 2_049], &[], (22, 0), due);
+    told(&blade(), &[0; 8_192], &[], (22, 0), due);
 }
 
 #[test]

@@ -7,7 +7,7 @@ use crate::texts::LONGEST_TEXT;
 pub const TEXT_BYTES: [u8; 24] = *b"|:+- (();.=<&!*09aZ\n\n\x7F\t\r";
 /// Bytes that edits put into a table or a packet.
 pub const TABLE_BYTES: [u8; 24] =
-    [0, 1, 2, 3, 4, 5, 8, 9, 16, 17, 18, 31, 32, 33, 37, 38, 48, 49, 50, 64, 65, 127, 128, 255];
+    [0, 1, 2, 3, 4, 5, 8, 16, 17, 18, 31, 32, 33, 37, 38, 48, 49, 50, 64, 65, 127, 128, 129, 255];
 
 /// One to three bytes changed, added or taken out.
 pub fn edit_bytes(mut bytes: Vec<u8>, rng: &mut Rng, likely: &[u8; 24]) -> Vec<u8> {

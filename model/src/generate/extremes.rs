@@ -3,7 +3,7 @@
 
 use super::growth::Growth;
 use super::words::Names;
-use super::Rng;
+use super::{Rng, EARLIER_PACKET};
 use crate::descriptions::{Description, Field, Width};
 use crate::frames::{border, tens_ruler, units_ruler, FORMATTED, WHERE};
 use crate::reading::LONGEST_PACKET;
@@ -43,16 +43,24 @@ pub fn tail<'a>(rng: &mut Rng, names: &'a Names) -> Description<'a> {
     Description { name: &names.name, row_bits: MOST_FIXED_BITS, fields: fields.collect() }
 }
 
+/// A length of a packet that may be: the most, about the earlier most, or one less.
+pub fn far_length(rng: &mut Rng) -> usize {
+    match rng.below(2) {
+        0 => LONGEST_PACKET - rng.below(2),
+        _ => rng.between(EARLIER_PACKET - 1, EARLIER_PACKET + 1),
+    }
+}
+
 /// A packet for such a description: as long as may be, about as long as its fixed fields, or anything else.
 pub fn tail_packet(rng: &mut Rng, description: &Description) -> Vec<u8> {
     let fixed: u32 = description.fields.iter().filter_map(Field::fixed_bits).sum();
     let least = fixed as usize / 8;
     let length = match rng.below(4) {
-        0 | 1 => LONGEST_PACKET - rng.below(2),
+        0 | 1 => far_length(rng),
         2 => (least + rng.below(3)).saturating_sub(1),
         _ => rng.between(0, LONGEST_PACKET + 1),
     };
-    (0..length).map(|_| rng.byte()).collect()
+    rng.bytes(length)
 }
 
 /// A right frame up to its rows.

@@ -1,5 +1,6 @@
 //! Packets made for a table.
 
+use super::extremes::far_length;
 use super::Rng;
 use crate::descriptions::{Description, Field, Width};
 use crate::evaluation::value;
@@ -10,10 +11,14 @@ use crate::trees::Node;
 const MOST_BITS: u64 = 8 * LONGEST_PACKET as u64;
 const VALUES_TRIED: usize = 24;
 const PACKETS_TRIED: usize = 6;
+/// A rest field that fills a far packet is one of so many.
+const FAR: usize = 2;
 
 /// A packet that the table accepts, if one is found soon; random bytes for a table that is not good.
 pub fn fitting(rng: &mut Rng, table: &[u8]) -> Vec<u8> {
-    let Ok(description) = good_description(table) else { return random_packet(rng) };
+    let Ok(description) = good_description(table) else {
+        return if rng.one_in(4) { random_packet(rng) } else { few_bytes(rng) };
+    };
     let mut packet = Vec::new();
     for _ in 0..PACKETS_TRIED {
         packet = attempt(rng, &description);
@@ -26,9 +31,17 @@ pub fn fitting(rng: &mut Rng, table: &[u8]) -> Vec<u8> {
 
 /// Random bytes, at times as many as a packet may have, or more.
 pub fn random_packet(rng: &mut Rng) -> Vec<u8> {
-    let length =
-        if rng.one_in(4) { rng.between(LONGEST_PACKET - 1, LONGEST_PACKET + 2) } else { rng.below(40) };
-    (0..length).map(|_| rng.byte()).collect()
+    let length = match rng.below(8) {
+        0 => far_length(rng),
+        1 | 2 => rng.between(LONGEST_PACKET + 1, LONGEST_PACKET + 2),
+        _ => return few_bytes(rng),
+    };
+    rng.bytes(length)
+}
+
+fn few_bytes(rng: &mut Rng) -> Vec<u8> {
+    let length = rng.below(40);
+    rng.bytes(length)
 }
 
 /// A packet of fields in order, up to the first that faults.
@@ -72,15 +85,18 @@ fn add_field(
         Width::Measured { unit, tree } => u64::from(*unit) * u64::from(value(tree, values).ok()?),
         Width::Rest => {
             let behind: u32 = after.iter().filter_map(Field::fixed_bits).sum();
-            let over = (bits.len() as u64 + u64::from(behind)) % 8;
-            (8 - over) % 8 + 8 * rng.below(4) as u64
+            let others = bits.len() as u64 + u64::from(behind);
+            let length = if rng.one_in(FAR) { far_length(rng) as u64 } else { 0 };
+            let fewest = others.div_ceil(8) + rng.below(4) as u64;
+            8 * fewest.max(length) - others
         }
     };
     values.push(None);
     if long + bits.len() as u64 > MOST_BITS {
         return None;
     }
-    bits.extend((0..long).map(|_| rng.one_in(2)));
+    let bytes = rng.bytes((long as usize).div_ceil(8));
+    bits.extend((0..long as usize).map(|place| bytes[place / 8] >> (place % 8) & 1 == 1));
     Some(())
 }
 
@@ -108,9 +124,10 @@ fn choose(rng: &mut Rng, field: &Field<usize>, width: u32, values: &[Option<u32>
 
 /// A number, small as a rule.
 fn likely(rng: &mut Rng) -> u64 {
-    match rng.below(6) {
-        0 => rng.bits() & u64::from(u32::MAX),
-        1 => rng.bits() & 255,
+    match rng.below(60) {
+        0 => rng.below(LONGEST_PACKET) as u64,
+        1..=10 => rng.bits() & u64::from(u32::MAX),
+        11..=20 => rng.bits() & 255,
         _ => rng.bits() & 3,
     }
 }

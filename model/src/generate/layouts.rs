@@ -1,7 +1,8 @@
 //! Random rows: which fields a description has, in order.
 
 use super::Rng;
-use crate::rules::ROW_BITS;
+use super::EARLIER_FIELDS;
+use crate::rules::{MOST_FIELDS, ROW_BITS};
 
 #[derive(Clone, Copy, PartialEq, Eq)]
 pub enum Slot {
@@ -36,9 +37,27 @@ pub fn full_layout(rng: &mut Rng, count: usize) -> Layout {
     Layout { row_bits, slots }
 }
 
+/// A number of fields at the limit, at the earlier one or between them.
+pub fn many(rng: &mut Rng) -> usize {
+    match rng.below(3) {
+        0 => EARLIER_FIELDS + rng.below(2),
+        1 => MOST_FIELDS - rng.below(2),
+        _ => rng.between(EARLIER_FIELDS, MOST_FIELDS),
+    }
+}
+
+/// A number of fields over the limit; at times it takes more than a byte.
+pub fn too_many(rng: &mut Rng) -> usize {
+    match rng.below(8) {
+        0..=4 => MOST_FIELDS + 1,
+        5 => MOST_FIELDS + 2,
+        6 => rng.between(MOST_FIELDS + 3, 255),
+        _ => rng.between(256, 258),
+    }
+}
+
 /// `count` fields, each in a row of its own.
-pub fn tall_layout(rng: &mut Rng, count: usize) -> Layout {
-    let row_bits = rng.pick(ROW_BITS);
+pub fn tall_layout(rng: &mut Rng, row_bits: u32, count: usize) -> Layout {
     let mut slots = Vec::new();
     while slots.len() < count {
         add_row(rng, row_bits, &mut slots, 1);
@@ -49,7 +68,7 @@ pub fn tall_layout(rng: &mut Rng, count: usize) -> Layout {
 /// Adds a row of at most `most` fields; after the rest field bit rows only.
 fn add_row(rng: &mut Rng, row_bits: u32, slots: &mut Vec<Slot>, most: usize) {
     if !slots.contains(&Slot::Rest) && rng.one_in(4) {
-        let slot = if rng.one_in(4) { Slot::Rest } else { Slot::Measured };
+        let slot = if rng.one_in(3) { Slot::Rest } else { Slot::Measured };
         return slots.push(slot);
     }
     let mut left = row_bits;

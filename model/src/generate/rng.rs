@@ -41,4 +41,14 @@ impl Rng {
     pub fn byte(&mut self) -> u8 {
         self.bits() as u8
     }
+
+    /// So many random bytes.
+    pub fn bytes(&mut self, count: usize) -> Vec<u8> {
+        let mut bytes = Vec::with_capacity(count + 8);
+        while bytes.len() < count {
+            bytes.extend_from_slice(&self.bits().to_le_bytes());
+        }
+        bytes.truncate(count);
+        bytes
+    }
 }

@@ -1,5 +1,3 @@
-use Rattle.packets.proofs.WalkReads.{walks-read}
-use mathlib.Core.Path.{sym, _∙_}
 use native.Mathlib.Omega.{arith}
 use denote.Ref.{now}
 use Rattle.packets.proofs.PacketPromises.{
@@ -9,17 +7,13 @@ use Rattle.packets.proofs.PacketPromises.{
   packet-not-good,
   packet-too-long,
   packet-short-run,
-  packet-accepted,
-  packet-refused,
 }
 use borrow.Author.Needs.{needs}
 use Rattle.packets.proofs.readings.read_packet.Statement.{statement}
 use Rattle.packets.proofs.readings.read_packet.Tie as tie
 use Rattle.packets.proofs.readings.read_packet.Reads as reads
 use Rattle.packets.proofs.readings.read_packet.Lts as lts
-use Rattle.packets.proofs.readings.copy_numbers.Reads as copy-numbers-reads
-use Rattle.packets.proofs.readings.is_accepted.Reads as is-accepted-reads
-use Rattle.packets.proofs.walks.walk_fields.Reads as walk-fields-reads
+use Rattle.packets.proofs.readings.read_by.Reads as read-by-reads
 use Rattle.packets.proofs.records.two_at.Reads as two-at-reads
 use Rattle.packets.proofs.tables.check_table.Reads as check-table-reads
 
@@ -35,23 +29,16 @@ enum-told c = search needs
 returns : tie.Need-returns
 returns c =
     let a = c .before .before .before .before .before .before .args in
-    let check-table = c .before .before .check-table in
-    let enum-told = c .enum-told in
-    let table = now (a .table) in
-    let packet = now (a .packet) in
-    let bad = bad-from table (check-table .result) (check-table .ensures) (enum-told .given .1) in
-    packet-not-good table packet (now (a .run)) bad
+    let checked = c .before .before .check-table in
+    let bad = bad-from (now (a .table)) (checked .result) (checked .ensures) (c .enum-told .given .1) in
+    packet-not-good (now (a .table)) (now (a .packet)) (now (a .run)) bad
 
 returns-2 : tie.Need-returns-2
 returns-2 c =
     let a = c .before .before .before .before .before .before .before .before .args in
-    let check-table = c .before .before .before .before .check-table in
-    let checked = c .before .before .checked in
-    let if1 = c .if1 in
-    let table = now (a .table) in
-    let packet = now (a .packet) in
-    let good = good-from table (check-table .result) _ (check-table .ensures) (checked .given .1) in
-    packet-too-long table packet (now (a .run)) good (if1 .taken)
+    let good = good-from (now (a .table)) (c .before .before .before .before .check-table .result) _ (c .before
+    .before .before .before .check-table .ensures) (c .before .before .checked .given .1) in
+    packet-too-long (now (a .table)) (now (a .packet)) (now (a .run)) good (c .if1 .taken)
 
 two-at-requires : tie.Need-two-at-requires
 two-at-requires c κs = search needs
@@ -61,49 +48,33 @@ mul-n c = search needs
 
 returns-3 : tie.Need-returns-3
 returns-3 c =
-    let c₈ = c .before .before .before .before .before .before .before .before in
-    let a = c₈ .before .before .args in
-    let check-table = c .before .before .before .before .before .before .check-table in
-    let checked = c .before .before .before .before .checked in
-    let two-at = c .before .two-at in
-    let table = now (a .table) in
-    let packet = now (a .packet) in
-    let good = good-from table (check-table .result) _ (check-table .ensures) (checked .given .1) in
-    packet-short-run table packet (now (a .run)) good (omega arith) (omega (arith, two-at .ensures .0))
+    let a = c .before .before .before .before .before .before .before .before .before .before .args in
+    let good = good-from (now (a .table)) (c .before .before .before .before .before .before .check-table .result) _
+    (c .before .before .before .before .before .before .check-table .ensures) (c .before .before .before .before
+    .checked .given .1) in
+    packet-short-run (now (a .table)) (now (a .packet)) (now (a .run)) good (omega (
+      arith,
+      c .before .before .if1
+          .left,
+    ))
+    (omega (arith, c .before .two-at .ensures .0, c .if2 .taken))
 
-slice-aggregate-walk-fields : tie.Need-slice-aggregate-walk-fields
-slice-aggregate-walk-fields c = search needs
+slice-aggregate-read-by : tie.Need-slice-aggregate-read-by
+slice-aggregate-read-by c = search needs
 
-walk-fields-requires : tie.Need-walk-fields-requires
-walk-fields-requires c κs =
-    let c₈ = c .before .before .before .before .before .before .before .before in
-    let table = now (c₈ .before .before .before .args .table) in
-    let good = good-from table (c .before .before .before .before .before .before .before .check-table .result) _
-    (c .before .before .before .before .before .before .before .check-table .ensures) (c .before .before .before .before
-    .before .checked .given .1) in
-    (omega arith, omega arith, good-few table good)
-
-is-accepted-requires : tie.Need-is-accepted-requires
-is-accepted-requires c κs = search needs
-
-slice-aggregate-copy-numbers : tie.Need-slice-aggregate-copy-numbers
-slice-aggregate-copy-numbers c = sym (c .before .before .before .before .before .walk-fields .kept .1 .1 .0)
-
-copy-numbers-requires : tie.Need-copy-numbers-requires
-copy-numbers-requires c κs =
-    let c₈ = c .before .before .before .before .before .before .before .before in
-    let c₁₆ = c₈ .before .before .before .before .before .before .before .before in
-    let table = now (c₁₆ .before .args .table) in
-    let good = good-from table (c₈ .before .before .before .before .before .check-table .result) _ (c₈ .before
-    .before .before .before .before .check-table .ensures) (c₈ .before .before .before .checked .given .1) in
-    let few = good-few table good in (
-      omega (arith, c₈ .two-at .ensures .0),
-      omega (
-        arith,
-        c₈ .two-at .ensures .0,
-        c .before .before .before .before
-            .before .walk-fields .kept .1 .1 .0,
-      ),
+read-by-requires : tie.Need-read-by-requires
+read-by-requires c κs =
+    let a = c .before .before .before .before .before .before .before .before .before .before .before .before .before
+    .args in
+    let good = good-from (now (a .table)) (c .before .before .before .before .before .before .before .before .before
+    .check-table .result) _ (c .before .before .before .before .before .before .before .before .before .check-table
+    .ensures) (c .before .before .before .before .before .before .before .checked .given .1) in
+    let few = good-few (now (a .table)) good in
+    let n = c .before .before .before .before .two-at .ensures .0 in (
+      omega (arith, n, c .before .before .before .if2 .left),
+      omega (arith, n, few, c .before .before .if3 .taken),
+      omega (arith, c .before .before .before .before .before .if1 .left),
+      few,
     )
 
 same-length : tie.Need-same-length
@@ -111,33 +82,48 @@ same-length c = search needs
 
 returns-4 : tie.Need-returns-4
 returns-4 c =
-    let c₈ = c .before .before .before .before .before .before .before .before in
-    let c₁₆ = c₈ .before .before .before .before .before .before .before .before in
-    let table = now (c₁₆ .before .before .before .before .args .table) in
-    let packet = now (c₁₆ .before .before .before .before .args .packet) in
-    let good = good-from table (c₁₆ .check-table .result) _ (c₁₆ .check-table .ensures) (c₈ .before .before .before
-    .before .before .before .checked .given .1) in
-    let reads = walks-read table packet _ (omega arith) (omega arith) (c₈ .walk-fields .ensures) in
-    let accepted = sym (c .before .before .before .before .before .before .is-accepted .ensures) ∙ c .before .before
-    .before .before .before .if3 .taken in
-    rw (c .before .before .copy-numbers .ensures, c₈ .before .before .before .two-at .ensures .0)
-    (packet-accepted table packet (now (c₁₆ .before .before .before .before .args .run)) (c₈ .walk-fields .result)
-    (c₈ .walk-fields .last .1 .1 .0) good
-    (omega arith) (omega (arith, c₈ .before .before .before .two-at .ensures .0)) reads accepted)
+    let a = c .before .before .before .before .before .before .before .before .before .before .before .before .before
+    .before .before .before .before .args in
+    let good = good-from (now (a .table)) (c .before .before .before .before .before .before .before .before .before
+    .before .before .before .before .check-table .result) _ (c .before .before .before .before .before .before
+    .before .before .before .before .before .before .before .check-table .ensures) (c .before .before .before .before
+    .before .before .before .before .before .before .before .checked .given .1) in
+    c .before .before .before .read-by .ensures good
+
+slice-aggregate-read-by-2 : tie.Need-slice-aggregate-read-by-2
+slice-aggregate-read-by-2 c = search needs
+
+read-by-requires-2 : tie.Need-read-by-requires-2
+read-by-requires-2 c κs =
+    let a = c .before .before .before .before .before .before .before .before .before .before .before .before .before
+    .args in
+    let good = good-from (now (a .table)) (c .before .before .before .before .before .before .before .before .before
+    .check-table .result) _ (c .before .before .before .before .before .before .before .before .before .check-table
+    .ensures) (c .before .before .before .before .before .before .before .checked .given .1) in
+    let few = good-few (now (a .table)) good in
+    let n = c .before .before .before .before .two-at .ensures .0 in (
+      omega (arith, n, c .before .before .before .if2 .left),
+      omega (arith, n, few),
+      omega (
+        arith,
+        c .before .before
+            .before .before .before .if1 .left,
+      ),
+      few,
+    )
+
+same-length-2 : tie.Need-same-length-2
+same-length-2 c = search needs
 
 returns-5 : tie.Need-returns-5
 returns-5 c =
-    let c₈ = c .before .before .before .before .before .before .before .before in
-    let table = now (c₈ .before .before .before .before .before .before .before .args .table) in
-    let packet = now (c₈ .before .before .before .before .before .before .before .args .packet) in
-    let good = good-from table (c₈ .before .before .before .check-table .result) _ (c₈ .before .before .before
-    .check-table .ensures) (c₈ .before .checked .given .1) in
-    let reads = walks-read table packet _ (omega arith) (omega arith) (c .before .before .before .walk-fields
-    .ensures) in
-    let refused = sym (c .before .is-accepted .ensures) ∙ c .if3 .left in
-    packet-refused table packet (now (c₈ .before .before .before .before .before .before .before .args .run))
-    (c .before .before .before .walk-fields .result) (c .before .before .before .walk-fields .last .1 .1 .0) good
-    (omega arith) (omega (arith, c .before .before .before .before .before .before .two-at .ensures .0)) reads refused
+    let a = c .before .before .before .before .before .before .before .before .before .before .before .before .before
+    .before .before .before .before .args in
+    let good = good-from (now (a .table)) (c .before .before .before .before .before .before .before .before .before
+    .before .before .before .before .check-table .result) _ (c .before .before .before .before .before .before
+    .before .before .before .before .before .before .before .check-table .ensures) (c .before .before .before .before
+    .before .before .before .before .before .before .before .checked .given .1) in
+    c .before .before .before .read-by2 .ensures good
 
 pub read-packet-spec : {M : Type 1} → statement M
 read-packet-spec =
@@ -151,11 +137,11 @@ read-packet-spec =
     two-at-requires
     mul-n
     returns-3
-    slice-aggregate-walk-fields
-    walk-fields-requires
-    is-accepted-requires
-    slice-aggregate-copy-numbers
-    copy-numbers-requires
+    slice-aggregate-read-by
+    read-by-requires
     same-length
     returns-4
+    slice-aggregate-read-by-2
+    read-by-requires-2
+    same-length-2
     returns-5)

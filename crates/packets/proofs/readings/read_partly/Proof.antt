@@ -74,7 +74,8 @@ walk-fields-requires c κs =
     let packet = now (c₈ .before .before .before .args .packet) in
     let good = good-from table _ _ (c .before .before .before .before .before .before .before .check-table .ensures)
     (c .before .before .before .before .before .checked .given .1) in
-    (omega arith, omega arith, good-few table good)
+    let few = good-few table good in
+    (omega (arith, few), omega arith, few)
 
 count-of-requires : tie.Need-count-of-requires
 count-of-requires c κs = search needs
@@ -94,7 +95,7 @@ mul-copy-numbers c =
     .count-of .ensures) in
     let most = partly-most table packet (now (c₁₆ .args .run)) _ (c .before .before .before .before .walk-fields
     .result) (c .before .before .before .before .walk-fields .last .1 .1 .0) _ good
-    (omega arith) (omega arith) (c .before .before .before .before .walk-fields .ensures) is in
+    (omega arith) (omega (arith, good-few table good)) (c .before .before .before .before .walk-fields .ensures) is in
     record { fits = omega (arith, most, c .before .before .before .before .before .before .before .two-at .ensures) }
 
 copy-numbers-requires : tie.Need-copy-numbers-requires
@@ -109,7 +110,7 @@ copy-numbers-requires c κs =
     .count-of .ensures) in
     let most = partly-most table packet (now (c₁₆ .args .run)) _ (c .before .before .before .before .walk-fields
     .result) (c .before .before .before .before .walk-fields .last .1 .1 .0) _ good
-    (omega arith) (omega arith) (c .before .before .before .before .walk-fields .ensures) is in
+    (omega arith) (omega (arith, good-few table good)) (c .before .before .before .before .walk-fields .ensures) is in
     let few = good-few table good in (
       omega (arith, most, c .before .before .before .before .before .before .before .two-at .ensures .0),
       omega
@@ -133,7 +134,8 @@ returns-4 c =
     (partly-read table packet (now (c₁₆ .before .before .before .args .run)) _ (c .before .before .before .before
     .before .before .before .walk-fields .result) (c .before .before .before .before .before .before .before
     .walk-fields .last .1 .1 .0) _ good
-    (omega arith) (omega arith) (c .before .before .before .before .before .before .before .walk-fields .ensures) is
+    (omega arith) (omega (arith, good-few table good)) (c .before .before .before .before .before .before .before
+    .walk-fields .ensures) is
     (omega (arith, c₈ .before .before .two-at .ensures .0)))
 
 pub read-partly-spec : {M : Type 1} → statement M

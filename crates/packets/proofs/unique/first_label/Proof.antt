@@ -31,22 +31,23 @@ abbrev μ-later : tie.MeasureT-later
 
 later-holds : tie.Need-later-holds Inv-loop μ-loop Inv-later μ-later
 later-holds c =
-    let alike = labelsAlike (now (c .before .args .s)) (now (c .before .args .places)) in
-    (later-starts alike (c .before .args .n), search needs, λ k lt. absurd (omega arith))
+    let alike = labelsAlike (now (c .before .before .before .args .s)) (now (c .before .before .before .args
+    .places)) in
+    (later-starts alike (c .before .before .before .args .n), search needs, λ k lt. absurd (omega arith))
 
 mul-key : tie.Need-mul-key Inv-loop μ-loop Inv-later μ-later
 mul-key c = search needs
 
-element-copy-out-key : tie.Need-element-copy-out-key Inv-loop μ-loop Inv-later μ-later
-element-copy-out-key c = search needs
+shared-slice-read-key : tie.Need-shared-slice-read-key Inv-loop μ-loop Inv-later μ-later
+shared-slice-read-key c = search needs
 
 start-of-requires : tie.Need-start-of-requires Inv-loop μ-loop Inv-later μ-later
 start-of-requires c κs = search needs
 
 loop-holds : tie.Need-loop-holds Inv-loop μ-loop Inv-later μ-later
 loop-holds c =
-    let a = c .before .before .before .before .before .before .args in
-    let pre = c .before .before .before .before .before .before .pre in
+    let a = c .before .before .before .before .before .before .before .before .args in
+    let pre = c .before .before .before .before .before .before .before .before .pre in
     let o = c .before .before .before .before .later in
     let alike = labelsAlike (now (a .s)) (now (a .places)) in
     let key : ℕ → ℕ = λ k. getD (now (a .keys)) k 0 in
@@ -58,27 +59,28 @@ loop-holds c =
 mul-same-labels : tie.Need-mul-same-labels Inv-loop μ-loop Inv-later μ-later
 mul-same-labels c = search needs
 
-element-copy-out-same-labels :
-    tie.Need-element-copy-out-same-labels Inv-loop μ-loop Inv-later μ-later
-element-copy-out-same-labels c = search needs
+shared-slice-read-same-labels :
+    tie.Need-shared-slice-read-same-labels Inv-loop μ-loop Inv-later μ-later
+shared-slice-read-same-labels c = search needs
 
 mul-same-labels-2 : tie.Need-mul-same-labels-2 Inv-loop μ-loop Inv-later μ-later
 mul-same-labels-2 c = search needs
 
-element-copy-out-same-labels-2 :
-    tie.Need-element-copy-out-same-labels-2 Inv-loop μ-loop Inv-later μ-later
-element-copy-out-same-labels-2 c = search needs
+shared-slice-read-same-labels-2 :
+    tie.Need-shared-slice-read-same-labels-2 Inv-loop μ-loop Inv-later μ-later
+shared-slice-read-same-labels-2 c = search needs
 
 mul-same-labels-3 : tie.Need-mul-same-labels-3 Inv-loop μ-loop Inv-later μ-later
 mul-same-labels-3 c = search needs
 
-element-copy-out-same-labels-3 :
-    tie.Need-element-copy-out-same-labels-3 Inv-loop μ-loop Inv-later μ-later
-element-copy-out-same-labels-3 c = search needs
+shared-slice-read-same-labels-3 :
+    tie.Need-shared-slice-read-same-labels-3 Inv-loop μ-loop Inv-later μ-later
+shared-slice-read-same-labels-3 c = search needs
 
 same-labels-requires : tie.Need-same-labels-requires Inv-loop μ-loop Inv-later μ-later
 same-labels-requires c κs =
-    let pre = c .before .before .before .before .before .before .before .before .before .before .before .pre in
+    let pre = c .before .before .before .before .before .before .before .before .before .before .before .before
+    .before .pre in
     let o = c .before .before .before .before .before .before .before .before .before .later in
     let l = c .before .before .before .before .loop in (
       pre .1,
@@ -97,7 +99,7 @@ loop-less c = search needs
 loop-again : tie.Need-loop-again Inv-loop μ-loop Inv-later μ-later
 loop-again c =
     let a = c .before .before .before .before .before .before .before .before .before .before .before .before .before
-    .args in
+    .before .before .args in
     let o = c .before .before .before .before .before .before .before .before .before .before .before .later in
     let l = c .before .before .before .before .before .before .loop in
     let alike = labelsAlike (now (a .s)) (now (a .places)) in
@@ -115,7 +117,7 @@ later-less c = search needs
 
 later-again : tie.Need-later-again Inv-loop μ-loop Inv-later μ-later
 later-again c =
-    let a = c .before .before .before .before .before .before .before .before .args in
+    let a = c .before .before .before .before .before .before .before .before .before .before .args in
     let o = c .before .before .before .before .before .before .later in
     let alike = labelsAlike (now (a .s)) (now (a .places)) in
     let key : ℕ → ℕ = λ k. getD (now (a .keys)) k 0 in
@@ -125,14 +127,14 @@ later-again c =
 
 returns : tie.Need-returns Inv-loop μ-loop Inv-later μ-later
 returns c =
-    let a = c .before .before .before .args in
+    let a = c .before .before .before .before .before .args in
     let alike = labelsAlike (now (a .s)) (now (a .places)) in
     later-ends alike (a .n) (c .before .later .j) (omega arith) (c .before .later .inv .0)
 
 returns-2 : tie.Need-returns-2 Inv-loop μ-loop Inv-later μ-later
 returns-2 c =
     let a = c .before .before .before .before .before .before .before .before .before .before .before .before .before
-    .args in
+    .before .before .args in
     let o = c .before .before .before .before .before .before .before .before .before .before .before .later in
     let l = c .before .before .before .before .before .before .loop in
     let alike = labelsAlike (now (a .s)) (now (a .places)) in
@@ -149,15 +151,15 @@ first-label-spec =
     μ-later
     later-holds
     mul-key
-    element-copy-out-key
+    shared-slice-read-key
     start-of-requires
     loop-holds
     mul-same-labels
-    element-copy-out-same-labels
+    shared-slice-read-same-labels
     mul-same-labels-2
-    element-copy-out-same-labels-2
+    shared-slice-read-same-labels-2
     mul-same-labels-3
-    element-copy-out-same-labels-3
+    shared-slice-read-same-labels-3
     same-labels-requires
     add-i
     loop-less

@@ -24,8 +24,9 @@ first-repeat-requires c κs = search needs
 returns-2 : tie.Need-returns-2
 unfolding uniqueIn
 returns-2 c =
-    let few : c .before .before .before .before .args .n ≤ fieldsMost = omega arith in
-    let r = rw (le-ltb fieldsMost (c .before .before .before .before .args .n) few) at (c .first-repeat .ensures) in
+    let few : c .before .before .before .before .before .before .args .n ≤ fieldsMost = omega arith in
+    let r = rw (le-ltb fieldsMost (c .before .before .before .before .before .before .args .n) few) at (c
+    .first-repeat .ensures) in
     rw (← c .before .before .first-label .ensures, eq-eqb _ _ (c .before .if1 .left), ← r)
 
 pub has-unique-names-spec : {M : Type 1} → statement M

@@ -1,0 +1,13 @@
+//! The limits that a page or a packet can exceed.
+
+/// Bytes of a page, fields, bytes of a packet.
+pub const TEXT_MOST: usize = 16_384;
+pub const FIELDS_MOST: usize = 128;
+pub const PACKET_MOST: usize = 8_191;
+/// Bytes of a label and of a short name.
+pub const LABEL_MOST: usize = 40;
+pub const SHORT_MOST: usize = 8;
+/// Of an expression: open parentheses, the depth of its tree, the bytes of its stored form.
+pub const OPEN_MOST: usize = 12;
+pub const DEPTH_MOST: usize = 12;
+pub const STORED_MOST: usize = 120;
