@@ -1,7 +1,7 @@
 /* Umarekoza: packet diagrams as tables, and packets read by them.
 
-   Link libumarekoza.a (x86-64 Linux). Numbers, places and bytes are those of document 01; only 30, for a name or index
-   that no field has, is not there: document 02 gives it where there is no such field.
+   Link libumarekoza.a (x86-64 Linux). Numbers, places and bytes are those of document 01 with the limits that document
+   02 gives; only 30, for a name or index that no field has, is not in 01: document 02 gives it.
 
    Each function has a proved promise, which holds for all bytes and lengths: it settles the answer, and what every
    lent buffer holds afterwards. A buffer that is not written is left as it was, and so is any byte beyond what is
@@ -13,7 +13,7 @@
    - while the call runs, nothing else writes any of its buffers, those that it only reads too, or reads one that it
      writes;
    - NULL with length 0 is taken as an empty buffer: nothing is read or written through it;
-   - there is stack enough: a call may need some tens of kilobytes. */
+   - there is stack enough: a call may need up to some 90 kilobytes. */
 #ifndef UMAREKOZA_H
 #define UMAREKOZA_H
 

@@ -41,7 +41,7 @@ fn noise(rng: &mut Rng) -> Vec<u8> {
     (0..rng.between(0, most)).map(|_| rng.byte()).collect()
 }
 
-/// Bytes at the limit of a packet, at the earlier one, between them or beyond.
+/// Bytes at the limit of a packet, at that of document 01, between them or beyond.
 fn long_packet(rng: &mut Rng) -> Vec<u8> {
     let length =
         rng.pick([2_047, 2_048, 2_049, 5_000, PACKET_MOST - 1, PACKET_MOST, PACKET_MOST + 1, 16_384]);
@@ -84,7 +84,7 @@ mod tests {
         (0..cases).flat_map(|_| seen(&Case::random(rng))).collect()
     }
 
-    /// What is at the limits of fields and packets, 128 and 8,191, and at those before [02, R-10], 64 and 2,048.
+    /// What is at the limits of fields and packets, 128 and 8,191, and at those of document 01, 64 and 2,048.
     const FAR: [(&str, RangeInclusive<usize>, bool); 7] = [
         ("text", 65..=128, true),
         ("text", 129..=129, false),

@@ -162,7 +162,7 @@ fn fields_in(table: &[u8]) -> Option<usize> {
     (number(6)? == count && at + 4 == table.len()).then_some(count)
 }
 
-/// Over 64 fields, as many as there were before [02, R-10], are refused.
+/// Over 64 fields, document 01's most, are refused.
 unsafe extern "C" fn few_fields_of_texts(text: *const u8, n: usize, out: *mut u8, m: usize) -> Answer {
     let answer = (LIBRARY.write_table)(text, n, out, m);
     if answer.number == 0 && *out.add(6) > 64 {

@@ -30,7 +30,7 @@ const FAR_TEXT: usize = 60;
 /// A table as long as may be is one of so many, and one of too many fields.
 const FAR_TABLE: usize = 800;
 const CROWDED_TABLE: usize = 60;
-/// The most fields, and the most bytes of a packet, before [02, R-10].
+/// The most fields, and the most bytes of a packet, by document 01 alone.
 const EARLIER_FIELDS: usize = 64;
 const EARLIER_PACKET: usize = 2_048;
 

@@ -6,7 +6,7 @@
 //! byte of it where they refuse, and nothing beyond what they write where they accept; [`read_partly`] alone writes
 //! what it read before a refusal.
 //!
-//! The library uses the stack of the thread that calls it: a call may need some tens of kilobytes.
+//! The library uses the stack of the thread that calls it: a call may need up to some 90 kilobytes.
 //!
 //! ```
 //! let page = "\

@@ -18,7 +18,7 @@ use Rattle.rules.specs.Values.{Value, value, fault, evaluate}
 use Rattle.rules.specs.Fields.{Description}
 use Rattle.rules.specs.Within.{Within}
 use Rattle.rules.specs.Stored.{stored, Good}
-use Rattle.rules.specs.Editions.{Edition, current}
+use Rattle.rules.specs.Editions.{current}
 use Rattle.rules.specs.Expressions.{SpellsTree}
 use Rattle.rules.specs.Lines.{Unresolved}
 use Rattle.rules.specs.Frames.{isFrame}
@@ -29,8 +29,8 @@ use Rattle.rules.specs.Answers.{Answer, faultNumber}
 use Rattle.rules.specs.Promises.{
   Outcome,
   byTable,
-  ChecksTableIn,
-  packetOutcomeIn,
+  ChecksTable,
+  packetOutcome,
   movedBy,
   Lends,
   firstNamed,
@@ -43,7 +43,7 @@ use Rattle.rules.specs.Promises.{
 use Rattle.rules.specs.Cases.{
   Case,
   fits,
-  readsBy,
+  reads,
   readsEach,
   prints,
   hands,
@@ -55,7 +55,7 @@ use Rattle.rules.specs.Cases.{
   unspelled,
   spells,
   stores,
-  checksBy,
+  checks,
   unframed,
   breaks,
   keeps,
@@ -68,7 +68,7 @@ use Rattle.rules.specs.Cases.{
   Holds,
   AllHold,
 }
-use Rattle.laws.proofs.WithinTest.{isWithinIn, within-in, isWithin, within, outside}
+use Rattle.laws.proofs.WithinTest.{isWithin, within, outside}
 use Rattle.laws.proofs.Unique.{stored-unique}
 use Rattle.laws.proofs.GoodTest.{answerIn, table-told}
 use Rattle.laws.proofs.RuledOut.{good-stored, labelAt, answerNumbers, numbers, placeNumbers}
@@ -152,9 +152,9 @@ pub by-stored : {A : Type 0} (d : Description) → Within d → (f : Description
 by-stored d w f e (yes g) = ap f (stored-unique current (g .description) d (g .within) w (g .isStored))
 by-stored d w f e (no bad) = absurd (bad (good-stored d w))
 
-checked : (e : Edition) (table : List ℕ) (a : Answer)
-    → same (answerNumbers a) (answerNumbers (answerIn e table)) ≡ true → ChecksTableIn e table a
-checked e table a h good = answer-same a (answerIn e table) h ∙ table-told e table good
+checked : (table : List ℕ) (a : Answer)
+    → same (answerNumbers a) (answerNumbers (answerIn current table)) ≡ true → ChecksTable table a
+checked table a h good = answer-same a (answerIn current table) h ∙ table-told current table good
 
 found-in : (d : Description) (name : List ℕ) (a : Answer) → Within d
     → same (answerNumbers a) (answerNumbers (firstNamed name 0 (d .fields))) ≡ true → FindsField (stored d) name a
@@ -214,8 +214,7 @@ spelled-by text d (inr c) p h =
 -- of what a case says of every number, no test is made
 abbrev pub isRight : Case → Bool
 isRight (fits d) = isWithin d
-isRight (readsBy e d packet o) =
-    isWithinIn e d && same (numbers (packetOutcomeIn e d packet lentRun)) (numbers o)
+isRight (reads d packet o) = isWithin d && same (numbers (packetOutcome d packet lentRun)) (numbers o)
 isRight (readsEach d packet o) = false
 isRight (prints d packet text) = isWithin d && same (listing d packet) text
 isRight (hands d packet i part) =
@@ -229,7 +228,7 @@ isRight (faults s t n) = isTree t (readWhole s) && isFaultOf n (evaluate noField
 isRight (unspelled s) = not (isWhole (readWhole s))
 isRight (spells text d) = isSpelled d (seen text)
 isRight (stores d table) = isWithin d && same (stored d) table
-isRight (checksBy e table a) = same (answerNumbers a) (answerNumbers (answerIn e table))
+isRight (checks table a) = same (answerNumbers a) (answerNumbers (answerIn current table))
 isRight (unframed f) = not (isFrame f)
 isRight (breaks f forms a) = isFrame f && isAnswer a (ruleBroken f forms)
 isRight (keeps f forms) = isFrame f && isNone (ruleBroken f forms)
@@ -246,7 +245,7 @@ fitting d b f h = let e = and-true (isWithin d) b h in (within d (e .0), f (with
 
 pub right : (c : Case) → isRight c ≡ true → Holds c
 right (fits d) h = within d h
-right (readsBy e d packet o) h = both _ _ (within-in e d) (outcome-same _ _) h
+right (reads d packet o) h = fitting d _ (λ w e. outcome-same _ _ e) h
 right (readsEach d packet o) h = absurd (false≢true h)
 right (prints d packet text) h = fitting d _ (λ w e. same-true _ _ e) h
 right (hands d packet i part) h = fitting d _ (λ w e. part-same _ _ e) h
@@ -261,7 +260,7 @@ right (faults s t n) h =
 right (unspelled s) h = none-found s (not-true (isWhole (readWhole s)) h)
 right (spells text d) h = spelled-by text d (seen text) (is-seen text) h
 right (stores d table) h = fitting d _ (λ w e. same-true _ _ e) h
-right (checksBy e table a) h = checked e table a h
+right (checks table a) h = checked table a h
 right (unframed f) h = not-true (isFrame f) h
 right (breaks f forms a) h = both _ _ (λ e. e) (answer-is a (ruleBroken f forms)) h
 right (keeps f forms) h = both _ _ (λ e. e) (none-is (ruleBroken f forms)) h

@@ -122,7 +122,6 @@ use Rattle.cases.specs.Spelling.{spelling}
 use Rattle.cases.specs.ReadingAPacket.{readingAPacket}
 use Rattle.cases.specs.RefusalNumbers.{refusalNumbers}
 use Rattle.cases.specs.Listing.{listings}
-use Rattle.cases.specs.EarlierLimits.{earlierLimits}
 use Rattle.cases.specs.Promised.{promised}
 use Rattle.cases.specs.Worked.{Worked}
 use Rattle.cases.proofs.CaseTests.{all-right, in-order}
@@ -158,7 +157,6 @@ cases-hold = (
     packets = all-right readingAPacket refl;
     refusals = all-right refusalNumbers refl;
     listings = all-right listings refl;
-    earlier = all-right earlierLimits refl;
     promises = all-so promised refl;
   },
 )

@@ -7,7 +7,6 @@
 -- ReadingAPacket   packets, and what is handed out
 -- RefusalNumbers   numbers and places of refusals
 -- Listing          listings
--- EarlierLimits    the earlier edition at its limits
 -- Promised         right answers, one for each sort of claim
 pub mod LinesOfAText
 pub mod Expressions
@@ -17,6 +16,5 @@ pub mod Spelling
 pub mod ReadingAPacket
 pub mod RefusalNumbers
 pub mod Listing
-pub mod EarlierLimits
 pub mod Promised
 pub mod Worked

@@ -1,5 +1,5 @@
--- Right answers: for each sort of claim of which laws/specs/Wrong lists false ones, one that holds, so that none of
--- those is false for want of any answer. [01, The blade report, marked cases and listing]
+-- Right answers: for each sort of claim of which laws/specs/Wrong and WrongLimits list false ones, one that holds, so
+-- that none of those is false for want of any answer. [01, The blade report, marked cases and listing] [02, R-10]
 use mathlib.Core.List.{List, [], _∷_, _++_}
 use lib.ListN.{length, replicate}
 use Rattle.base.specs.Bytes.{bytes}
@@ -12,7 +12,7 @@ use Rattle.rules.specs.Answers.{accepted, refused}
 use Rattle.rules.specs.Editions.{earlier}
 use Rattle.rules.specs.Stored.{stored}
 use Rattle.rules.specs.Promises.{overlaid}
-use Rattle.rules.specs.Cases.{lentRun}
+use Rattle.rules.specs.Cases.{lentRun, entry}
 use Rattle.rules.specs.Marked.{bladeReport, m1, m1Listing}
 use Rattle.rules.specs.Pages.{withRest, m3}
 use Rattle.laws.specs.Wrong.{
@@ -57,8 +57,14 @@ promised =
     ∷ partlyWith 260 (fieldsOf 65) (fives 65) (accepted 520) (joined numbersOf (entriesOf 0 65)) 65
     ∷ listsWith 1000 (fieldsOf 65) (fives 65) (accepted 829)
     (overlaid (listingOf 65 (bytes "bits 520\n")) (replicate 1000 9))
+    -- the earlier edition at its limits and one over
+    ∷ checksIn earlier (stored (fieldsOf 64)) (accepted 1096)
     ∷ checksIn earlier (stored (fieldsOf 65)) (refused 21 0)
+    ∷ readsIn earlier 30 (stored withRest) (fives 2048) (accepted 16384)
+    (runOf (entry 0 8 5 ∷ entry 8 16368 0 ∷ entry 16376 8 5 ∷ []))
     ∷ readsIn earlier 30 (stored withRest) (fives 2049) (refused 22 0) lentRun
+    ∷ reads withRest (fives 2049) (accepted 16392) (runOf (entry 0 8 5 ∷ entry 8 16376 0 ∷ entry 16384 8 5 ∷ []))
+    -- the blade report
     ∷ reads bladeReport m1 (accepted 64) (runOf m1Entries)
     ∷ reads bladeReport m3 (refused 24 7) lentRun
     ∷ lists bladeReport m1 (accepted (length m1Listing)) (outputOf m1Listing)

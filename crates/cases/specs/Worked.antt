@@ -1,5 +1,4 @@
--- All worked cases hold: a list for each section of 01, of what M1 to M10 leave open, and one of the earlier edition,
--- so that no definition is hollow.
+-- All worked cases hold: a list for each section of 01, of what M1 to M10 leave open, so that no definition is hollow.
 use Rattle.rules.specs.Cases.{AllHold}
 use Rattle.cases.specs.LinesOfAText.{linesOfAText}
 use Rattle.cases.specs.Expressions.{expressions}
@@ -9,7 +8,6 @@ use Rattle.cases.specs.Spelling.{spelling}
 use Rattle.cases.specs.ReadingAPacket.{readingAPacket}
 use Rattle.cases.specs.RefusalNumbers.{refusalNumbers}
 use Rattle.cases.specs.Listing.{listings}
-use Rattle.cases.specs.EarlierLimits.{earlierLimits}
 use Rattle.cases.specs.Promised.{promised, AllSo}
 
 pub record Worked : Type 0 where
@@ -21,5 +19,4 @@ pub record Worked : Type 0 where
   pub packets : AllHold readingAPacket
   pub refusals : AllHold refusalNumbers
   pub listings : AllHold listings
-  pub earlier : AllHold earlierLimits
   pub promises : AllSo promised

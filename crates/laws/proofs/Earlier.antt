@@ -130,25 +130,27 @@ pub larger-unread-earlier : LargerUnreadEarlier
 larger-unread-earlier table good more A a b (yes old) = absurd (larger-bad table good more old)
 larger-unread-earlier table good more A a b (no bad) = refl
 
-pub table-answers-stay : TableAnswersStay
-table-answers-stay table a p ne good = go (good-decidable-in earlier table) good
+-- what the earlier edition gives by a good table stays, where the one in force gives the same by its description
+stays : {A : Type 0} (table : List ℕ) (v w : Description → A) (none x : A)
+    → ((old : Dec (GoodIn earlier table)) → x ≡ byTable old v none) → (x ≡ none → ⊥)
+    → ((d : Description) → x ≡ v d → x ≡ w d) → (good : Dec (Good table)) → x ≡ byTable good w none
+stays {A} table v w none x p ne same good = go (good-decidable-in earlier table) good
   where
-    go : Dec (GoodIn earlier table) → (good : Dec (Good table))
-        → a ≡ byTable good (λ d. accepted (length table)) notGood
-    go (yes old) (yes g) = p (yes old)
+    go : Dec (GoodIn earlier table) → (good : Dec (Good table)) → x ≡ byTable good w none
+    go (yes old) (yes g) =
+        same (old .description) (p (yes old)) ∙ ap w (good-like earlier current (omega arith) refl table old g)
     go (yes old) (no bad) = absurd (bad (good-more earlier current (omega arith) refl table old))
-    go (no bad) g = absurd (ne (ap (λ (x : Answer). x .number) (p (no bad))))
+    go (no bad) g = absurd (ne (p (no bad)))
+
+pub table-answers-stay : TableAnswersStay
+table-answers-stay table a p ne =
+    stays table (λ d. accepted (length table)) (λ d. accepted (length table)) notGood a p
+    (λ e. ne (ap (λ (x : Answer). x .number) e)) (λ d e. e)
 
 pub packet-answers-stay : PacketAnswersStay
-packet-answers-stay table packet run o p ne long good = go (good-decidable-in earlier table) good
-  where
-    go : Dec (GoodIn earlier table) → (good : Dec (Good table))
-        → o ≡ byTable good (λ d. packetOutcomeIn current d packet run) (leaves notGood run)
-    go (yes old) (yes g) =
-        let q = p (yes old) in
-        q ∙ (outcome-more earlier current (omega arith) (old .description) packet run
-        (λ e. long (ap (λ (x : Outcome). x .answer .number) q ∙ e))
-        ∙ ap (λ (d : Description). packetOutcomeIn current d packet run)
-        (good-like earlier current (omega arith) refl table old g))
-    go (yes old) (no bad) = absurd (bad (good-more earlier current (omega arith) refl table old))
-    go (no bad) g = absurd (ne (ap (λ (x : Outcome). x .answer .number) (p (no bad))))
+packet-answers-stay table packet run o p ne long =
+    stays table (λ d. packetOutcomeIn earlier d packet run) (λ d. packetOutcomeIn current d packet run)
+    (leaves notGood run) o p (λ e. ne (ap (λ (x : Outcome). x .answer .number) e))
+    (λ d e.
+    e ∙ outcome-more earlier current (omega arith) d packet run
+    (λ q. long (ap (λ (x : Outcome). x .answer .number) e ∙ q)))

@@ -85,13 +85,13 @@ pub data Claim : Type 0 where
   -- the answer to a packet, what a run of so many 9s holds then, and how many fields it has
   partlyWith : ℕ → Description → List ℕ → Answer → List ℕ → ℕ → Claim
 
--- with a run of thirty 9s
-abbrev pub reads : Description → List ℕ → Answer → List ℕ → Claim
-reads d packet a after = readsWith 30 d packet a after
-
 -- by the edition in force
 abbrev pub checksBytes : List ℕ → Answer → Claim
 checksBytes table a = checksIn current table a
+
+-- with a run of thirty 9s
+abbrev pub reads : Description → List ℕ → Answer → List ℕ → Claim
+reads d packet a after = readsWith 30 d packet a after
 
 abbrev pub readsPartly : Description → List ℕ → Answer → List ℕ → ℕ → Claim
 readsPartly d packet a after n = partlyWith 30 d packet a after n

@@ -1,6 +1,6 @@
 -- A text that is not refused for its number of fields keeps its outcome in an edition that allows more. [02, R-10]
 use mathlib.Core.Path.{_≡_, refl, sym, subst, _∙_}
-use mathlib.Core.Bool.{Bool, true, false, _||_, false≢true, Bool-discrete}
+use mathlib.Core.Bool.{Bool, true, false, false≢true, Bool-discrete}
 use mathlib.Core.List.{List}
 use Prim.Native.Nat.{ℕ, _≤_, _<_}
 use native.Mathlib.Omega.{arith}
@@ -42,11 +42,14 @@ module _ (a b : Edition) (more : a .fields ≤ b .fields) (kind : a .fixedKind �
   few-more : (n : ℕ) → ltb (a .fields) n ≡ false → ltb (b .fields) n ≡ false
   few-more n e = le-ltb (b .fields) n (omega (arith, ltb-false (a .fields) n e, more))
 
+  frame-more : (f : Frame) → isOverfullIn a f ≡ false → isOverfullIn b f ≡ false
+  frame-more f e =
+      let c = ltb (a .fields) (length (cells f)) in
+      let l = ltb (a .fields) (length (f .lines)) in
+      rw (few-more (length (cells f)) (or-false-left c l e), few-more (length (f .lines)) (or-false-right c l e)) refl
+
   framed-more : (f : Frame) → FramedIn a text f → FramedIn b text f
-  framed-more f w =
-      let c = few-more (length (cells f)) (or-false-left (ltb (a .fields) _) _ (w .few)) in
-      let l = few-more (length (f .lines)) (or-false-right (ltb (a .fields) (length (cells f))) _ (w .few)) in
-      record { plain = w .plain; isFrameOf = w .isFrameOf; few = rw (c, l) refl }
+  framed-more f w = record { plain = w .plain; isFrameOf = w .isFrameOf; few = frame-more f (w .few) }
 
   refuses-more : (x : Answer) → RefusesIn a text x → (x .number ≡ 4 → ⊥) → RefusesIn b text x
   refuses-more x (long h) ne = long h
@@ -68,9 +71,6 @@ text-answers-stay text out o p ne = text-more earlier current (omega arith) refl
 
 -- ── each text has an outcome by the earlier edition ──
 
-or-both : {a b : Bool} → a ≡ false → b ≡ false → (a || b) ≡ false
-or-both p q = rw (p, q) refl
-
 module _ (text : List ℕ) where
   overfull? : (f : Frame) → Dec (isOverfullIn earlier f ≡ true)
   overfull? f = Bool-discrete (isOverfullIn earlier f) true
@@ -91,20 +91,12 @@ module _ (text : List ℕ) where
       choose (yes e) = (refused 4 0, many (w .plain) (w .isFrameOf) e)
       choose (no n) = (x, go (record { plain = w .plain; isFrameOf = w .isFrameOf; few = not-over f n }))
 
-  still-few : (f : Frame) → isOverfullIn earlier f ≡ false → isOverfull f ≡ false
-  still-few f e =
-      let c = few-more earlier current (omega arith) refl text (length (cells f))
-      (or-false-left (ltb (earlier .fields) (length (cells f))) (ltb (earlier .fields) (length (f .lines))) e) in
-      let l = few-more earlier current (omega arith) refl text (length (f .lines))
-      (or-false-right (ltb (earlier .fields) (length (cells f))) (ltb (earlier .fields) (length (f .lines))) e) in
-      or-both c l
-
   over-less : (f : Frame) → isOverfull f ≡ true → isOverfullIn earlier f ≡ true
   over-less f e = go (overfull? f)
     where
       go : Dec (isOverfullIn earlier f ≡ true) → isOverfullIn earlier f ≡ true
       go (yes h) = h
-      go (no n) = absurd (false≢true (sym (still-few f (not-over f n)) ∙ e))
+      go (no n) = absurd (false≢true (sym (frame-more earlier current (omega arith) refl text f (not-over f n)) ∙ e))
 
   refused-total : (x : Answer) → Refuses text x → (y : Answer) × RefusesIn earlier text y
   refused-total x (long h) = (refused 1 0, long h)

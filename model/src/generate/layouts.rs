@@ -37,7 +37,7 @@ pub fn full_layout(rng: &mut Rng, count: usize) -> Layout {
     Layout { row_bits, slots }
 }
 
-/// A number of fields at the limit, at the earlier one or between them.
+/// A number of fields at the limit, at that of document 01 or between them.
 pub fn many(rng: &mut Rng) -> usize {
     match rng.below(3) {
         0 => EARLIER_FIELDS + rng.below(2),
