@@ -82,8 +82,8 @@ struct umarekoza_span umarekoza_field_bytes(const uint8_t *table, size_t table_l
 struct umarekoza_answer umarekoza_list_packet(const uint8_t *table, size_t table_len, const uint8_t *packet,
                                               size_t packet_len, uint8_t *out, size_t out_len);
 
-/* The first field that has the name as its label or short name. Accepted: its index from 0, as the length.
-   Refused: 21 at 0 (the table), 30 at 0 (no such field). */
+/* The field that has the name as its label or short name; no two fields of a good table share a name.
+   Accepted: its index from 0, as the length. Refused: 21 at 0 (the table), 30 at 0 (no such field). */
 struct umarekoza_answer umarekoza_find_field(const uint8_t *table, size_t table_len, const uint8_t *name,
                                              size_t name_len);
 

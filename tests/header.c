@@ -220,6 +220,7 @@ static void find_field(void)
     expect(is(umarekoza_find_field(table, table_len, BYTES("bor")), 30, 0, 0), "an unknown name");
     expect(is(umarekoza_find_field(table, table_len, BYTES("Bor")), 0, 0, 4), "a short name");
     expect(is(umarekoza_find_field(table, table_len, BYTES("Sum")), 0, 0, 6), "a label");
+    expect(is(umarekoza_find_field(table, table_len, BYTES("Borrower")), 0, 0, 4), "a label beside a short name");
 }
 
 static void field_label(void)

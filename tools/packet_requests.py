@@ -4,9 +4,9 @@ where the vectors have `part START LEN`.
 """
 from collections import Counter
 
-from runs import BLADE, TAG, both, fixed, full, full_table, number, rest, spelled, split, stored, table
+from runs import BLADE, TAG, both, fixed, full, full_table, number, rest, spelled, split, stored, table, tcp
 
-VECTORS = ("tables", "packets", "base2", "large", "r10")
+VECTORS = ("tables", "packets", "base2", "large", "r10", "r2")
 KINDS = {"tables": ("table",), "packets": ("read", "part", "list")}
 SHORT = {"tables": 420, "packets": 500}  # every request of at most so many bytes is taken
 SHORT_R10 = 6000  # of r10.tsv of so many
@@ -55,6 +55,14 @@ VALUES = [
     (both("-", number(3), number(5)), None),
 ]
 
+# Segments of TCP: a SYN with an option of four bytes, whose flags are bits 104 to 111, and one with SYN and FIN set.
+SYN = "c0000050123456780000000060 02 ffff ead70000 020405b4"
+SYN_FIN = "c0000050123456780000000050 03 ffff 00000000"
+SYN_READ = "ok 192 1,0,16,49152 1,16,16,80 1,32,32,305419896 1,64,32,0 1,96,4,6 1,100,4,0 %s %s" % (
+    " ".join("1,%d,1,%d" % (bit, bit == 110) for bit in range(104, 112)),
+    "1,112,16,65535 1,128,16,60119 1,144,16,0 1,160,32,0 1,192,0,0",
+)
+
 
 def shown(part):
     return "part %d %s" % (len(part), spelled(part))
@@ -77,6 +85,15 @@ def marked():
     yield "table " + TAG.hex(), "ok"
     yield "read 4 %s 07" % TAG.hex(), "ok 8 1,0,8,7"
     yield "read 4 %s 08" % TAG.hex(), "refused 25 1"
+    yield from marked_flags()
+
+
+# The published TCP header reads SYN and FIN by their labels, which have no short names beside them.
+def marked_flags():
+    header = tcp(False).hex()
+    yield "table " + header, "ok"
+    yield "read 76 %s %s" % (header, bytes.fromhex(SYN).hex()), SYN_READ
+    yield "read 76 %s %s" % (header, bytes.fromhex(SYN_FIN).hex()), "refused 25 14"
 
 
 # Each tree in the constraint of a byte: accepted where its value is the one compared with.

@@ -58,6 +58,34 @@ BLADE = table(
     measured(b"Readings", b"", 8, field(2)),
     fixed(b"Sum", b"", 16),
 )
+FLAGS = (b"CWR", b"ECE", b"URG", b"ACK", b"PSH", b"RST", b"SYN", b"FIN")
+
+
+# The source document's TCP header as far as document 01 takes it: a row is one line, and what has no fixed width stands
+# in long rows. A flag has its first letter as short name, so that a cell of one bit can show it, or none, as published.
+def tcp(letters):
+    no_fin_and_syn = both("||", both("==", field(13), number(0)), both("==", field(12), number(0)))
+    rules = [b""] * 7 + [no_fin_and_syn]
+    more = both(">", field(4), number(5))
+    options = both("*", both("-", field(4), number(5)), number(32))
+    return table(
+        b"TCP Header",
+        32,
+        fixed(b"Source Port", b"", 16),
+        fixed(b"Destination Port", b"", 16),
+        fixed(b"Sequence Number", b"", 32),
+        fixed(b"Acknowledgment Number", b"", 32),
+        fixed(b"Data Offset", b"DOffset", 4, both(">=", field(4), number(5))),
+        fixed(b"Reserved", b"Rsrvd", 4, both("==", field(5), number(0))),
+        *(fixed(flag, flag[:1] if letters else b"", 1, rule) for flag, rule in zip(FLAGS, rules)),
+        fixed(b"Window Size", b"", 16),
+        fixed(b"Checksum", b"", 16),
+        fixed(b"Urgent Pointer", b"", 16),
+        measured(b"Options", b"", 1, options, more),
+        rest(b"Payload", b""),
+    )
+
+
 TAG = table(b"Tag", 8, fixed(b"Kind", b"K", 8, both("==", field(0), number(7))))
 TAG_OF_01 = """0D 00 01 00 08 00 01 00 03 00 54 61 67 1B 00 02 00 04 00 4B 69 6E 64 01 00 4B 08 00 08 00
     20 02 00 01 07 00 00 00 00 00 04 00 05 00"""

@@ -2,41 +2,16 @@
 and a QUIC long header, with outputs that are exactly long enough, too short and longer; texts of as many fields as may
 be, and of more; and those of the vectors.
 """
-from runs import BLADE, ROOM, TAG, both, field, fixed, full, full_table, measured, number, rest, spelled, stored, table
+from runs import BLADE, ROOM, TAG, both, field, fixed, full, full_table, measured, number, spelled, stored, table, tcp
 
-VECTORS = ("spelled", "edge", "mutated", "base2", "r10")
-ACCEPTED = 105  # so many accepted texts are taken, the shortest, and the longest too
-MANY = 5  # so many more of over 64 fields
-REFUSED = 12  # so many of each refusal number, the shortest
-RARE = ("refused 1", "refused 4", "refused 8", "refused 10")  # all of these
+VECTORS = ("spelled", "edge", "mutated", "base2", "r10", "r2")
+# So many texts of each group are taken, the shortest, and the longest accepted one; of r2.tsv and of the others.
+TAKEN_R2 = {"ok": 40, "refused 8": 20, "refused 9": 12, "refused 5": 8, "refused 11": 4}
+TAKEN = {"ok": 70, "many": 5, "refused 1": 8, "refused 4": 12}
+REFUSED = 12  # of every other group
 
-# The source document's TCP header and QUIC long header as far as document 01 takes them: a row is one line, a cell
-# shows a short name that fits it, and what has no fixed width stands in long rows.
-TCP = table(
-    b"TCP Header",
-    32,
-    fixed(b"Source Port", b"", 16),
-    fixed(b"Destination Port", b"", 16),
-    fixed(b"Sequence Number", b"", 32),
-    fixed(b"Acknowledgment Number", b"", 32),
-    fixed(b"Data Offset", b"DOffset", 4, both(">=", field(4), number(5))),
-    fixed(b"Reserved", b"Rsrvd", 4, both("==", field(5), number(0))),
-    fixed(b"CWR", b"C", 1),
-    fixed(b"ECE", b"E", 1),
-    fixed(b"URG", b"U", 1),
-    fixed(b"ACK", b"A", 1),
-    fixed(b"PSH", b"P", 1),
-    fixed(b"RST", b"R", 1),
-    fixed(b"SYN", b"S", 1),
-    fixed(b"FIN", b"F", 1, both("||", both("==", field(13), number(0)), both("==", field(12), number(0)))),
-    fixed(b"Window Size", b"", 16),
-    fixed(b"Checksum", b"", 16),
-    fixed(b"Urgent Pointer", b"", 16),
-    measured(
-        b"Options", b"", 1, both("*", both("-", field(4), number(5)), number(32)), both(">", field(4), number(5))
-    ),
-    rest(b"Payload", b""),
-)
+# The source document's QUIC long header as far as document 01 takes it: a cell shows a short name that fits it, and
+# what has no fixed width stands in long rows.
 LONG_HEADER = table(
     b"Long Header",
     8,
@@ -93,7 +68,7 @@ ACK (A): 1 bit.
 PSH (P): 1 bit.
 RST (R): 1 bit.
 SYN (S): 1 bit.
-FIN (F): 1 bit; (F == 0) || (S == 0).
+FIN (F): 1 bit; (FIN == 0) || (SYN == 0).
 Window Size: 16 bits.
 Checksum: 16 bits.
 Urgent Pointer: 16 bits.
@@ -141,7 +116,7 @@ def whole(short):
 
 
 def marked():
-    for short, due in ((TAG_TEXT, TAG), (BLADE_TEXT, BLADE), (TCP_TEXT, TCP), (LONG_HEADER_TEXT, LONG_HEADER)):
+    for short, due in ((TAG_TEXT, TAG), (BLADE_TEXT, BLADE), (TCP_TEXT, tcp(True)), (LONG_HEADER_TEXT, LONG_HEADER)):
         for size in (len(due), len(due) - 1, 57344) + ((0, len(due) + 1) if due == TAG else ()):
             answer = "ok " + due.hex() if len(due) <= size else "refused 11 0"
             yield "text %d %s" % (size, spelled(whole(short))), answer
@@ -177,12 +152,12 @@ def group(answer):
 # The shortest requests of each group, and the longest that is accepted.
 def chosen(vectors):
     groups = {}
-    for _, request, answer in stored(vectors, VECTORS, ("text",)):
-        groups.setdefault(group(answer), []).append((request, answer))
-    for kind, cases in groups.items():
+    for file, request, answer in stored(vectors, VECTORS, ("text",)):
+        groups.setdefault((file == "r2", group(answer)), []).append((request, answer))
+    for (is_r2, kind), cases in groups.items():
         cases.sort(key=lambda case: len(case[0]))
-        yield from cases if kind in RARE else cases[: {"ok": ACCEPTED, "many": MANY}.get(kind, REFUSED)]
-    yield groups["ok"][-1]
+        yield from cases[: TAKEN_R2.get(kind, 0) if is_r2 else TAKEN.get(kind, REFUSED)]
+    yield groups[False, "ok"][-1]
 
 
 # The cases, the longest first, each in the first file with room for it.

@@ -36,11 +36,14 @@ fn compare_table(calls: &mut Calls, table: &[u8]) -> Result<(), Wrong> {
     calls.count_fields(table, &model::count_fields(table))?;
     for index in [0, calls.rng.below(8), calls.rng.below(FIELDS_MOST + 2), usize::MAX] {
         let (start, length) = model::field_label(table, index);
+        let (short_start, short_length) = model::field_short(table, index);
         calls.field_label(table, index, (start, length))?;
-        calls.field_short(table, index, model::field_short(table, index))?;
+        calls.field_short(table, index, (short_start, short_length))?;
         calls.field_kind(table, index, &model::field_kind(table, index))?;
         let name = name_like(&mut calls.rng, table, &table[start..start + length]);
-        calls.find_field(table, &name, &model::find_field(table, &name))?;
+        for name in [&name[..], &table[short_start..short_start + short_length]] {
+            calls.find_field(table, name, &model::find_field(table, name))?;
+        }
     }
     Ok(())
 }
@@ -74,7 +77,7 @@ fn rooms(rng: &mut Rng, needed: usize, most: usize) -> [usize; 5] {
     [needed, needed.saturating_sub(1), 0, needed + rng.between(1, 300), most]
 }
 
-/// A label as it is or with a change, or some bytes of the table, which may hold a short name.
+/// A label as it is or with a change, or some bytes of the table.
 fn name_like(rng: &mut Rng, table: &[u8], label: &[u8]) -> Vec<u8> {
     let mut name = label.to_vec();
     match rng.below(4) {

@@ -10,7 +10,7 @@ use umarekoza_model::protocol::from_hex;
 use umarekoza_model::{Reading, Refusal};
 
 /// The files of stored cases.
-pub const FILES: [&str; 8] = [
+pub const FILES: [&str; 9] = [
     "spelled.tsv",
     "edge.tsv",
     "mutated.tsv",
@@ -19,6 +19,7 @@ pub const FILES: [&str; 8] = [
     "base2.tsv",
     "large.tsv",
     "r10.tsv",
+    "r2.tsv",
 ];
 
 /// Compares all requests.

@@ -70,9 +70,7 @@ impl Page<'_> {
             return Some(Fault::new(0..field.line.len(), message, "no cell").note_if(self.counts()));
         };
         let told = self.told(index, cell);
-        let is_shown = |name: &[u8]| name == self.text(cell);
-        let short = form.short.as_ref().map(|short| field.part(short));
-        if !is_shown(field.part(&form.label)) && !short.is_some_and(is_shown) {
+        if field.called(form, self.text(cell)).is_none() {
             return Some(self.misnamed(field, form, &told));
         }
         let fault = match (&form.width, cell.bits) {
@@ -97,10 +95,8 @@ impl Page<'_> {
     /// A width that is only a name, which no field has.
     fn unknown_name(&self, field: &Field, tree: &Tree) -> Option<String> {
         let name = field.part(&tree.names().next().filter(|name| *name == tree.span)?);
-        let has =
-            |(other, form): (&Field, &FieldLine)| form.short.as_ref().map(|short| other.part(short) == name);
-        let known = self.fields.right().any(|named| has(named) == Some(true));
-        let note = format!("{} is taken for a short name; a fixed width is a number", quoted(name));
+        let known = self.fields.right().any(|(other, form)| other.called(form, name).is_some());
+        let note = format!("{} is taken for a name; a fixed width is a number", quoted(name));
         (!known).then_some(note)
     }
 
@@ -113,9 +109,8 @@ impl Page<'_> {
             None => quoted(label),
         };
         let message = format!("{told}; this line: {own}");
-        let elsewhere = self.cells.iter().enumerate().find(|(_, cell)| {
-            self.text(cell) == label || short.is_some_and(|short| self.text(cell) == short)
-        });
+        let shows = |cell: &Cell| field.called(form, self.text(cell)).is_some();
+        let elsewhere = self.cells.iter().enumerate().find(|(_, cell)| shows(cell));
         let place = elsewhere.map(|(index, cell)| {
             format!(
                 "cell {} (line {}) shows this field: cells and lines have one order",

@@ -8,14 +8,18 @@ use crate::operators::{operator_at, Operator, ATOM, COMPARISON};
 use crate::shown::{counted, found, quoted, word_length};
 use crate::trees::{Kind, Node, Tree};
 
-const ATOMS: &str = "a number, a short name or `(`";
+const ATOMS: &str = "a number, a name or `(`";
 
 /// The expression that begins at this byte of a line, and where it ends.
 pub fn read(line: &[u8], at: usize) -> Result<(Tree, usize), Fault> {
-    let mut reader = Reader { line, at, open: 0, nodes: Vec::new() };
-    let root = reader.level(0)?;
-    let span = reader.nodes[root].span.clone();
-    Ok((Tree { nodes: reader.nodes, span }, reader.at))
+    let mut reader = Reader { line, at, open: 0, nodes: Vec::new(), operands: Vec::new() };
+    match reader.level(0) {
+        Ok(root) => {
+            let span = reader.nodes[root].span.clone();
+            Ok((Tree { nodes: reader.nodes, span, operands: reader.operands }, reader.at))
+        }
+        Err(fault) => Err(fault.of_operands(reader.operands)),
+    }
 }
 
 struct Reader<'a> {
@@ -24,6 +28,8 @@ struct Reader<'a> {
     /// Parentheses that are open.
     open: usize,
     nodes: Vec<Node>,
+    /// Where operands were looked for.
+    operands: Vec<usize>,
 }
 
 impl Reader<'_> {
@@ -65,6 +71,7 @@ impl Reader<'_> {
 
     fn atom(&mut self) -> Result<usize, Fault> {
         let from = self.at;
+        self.operands.push(from);
         match self.rest() {
             [b'!', b'(', ..] => {
                 self.at += 1;
@@ -139,7 +146,7 @@ impl Reader<'_> {
             self.at += length;
             return Ok(self.push(Kind::Name(from..self.at), from, 0));
         };
-        let message = format!("{} is no short name: {broken}", quoted(name));
+        let message = format!("{} has not the form of a short name: {broken}", quoted(name));
         Err(Fault::new(from..from + length, message, broken).note(OF_SHORTS))
     }
 

@@ -10,11 +10,14 @@ pub struct Fault {
     pub message: String,
     pub label: String,
     pub notes: Vec<String>,
+    /// Where the operands begin of the expression at the spot or right before it.
+    pub operands: Vec<usize>,
 }
 
 impl Fault {
     pub fn new(spot: Range<usize>, message: impl Into<String>, label: impl Into<String>) -> Self {
-        Fault { spot, message: message.into(), label: label.into(), notes: Vec::new() }
+        let (message, label) = (message.into(), label.into());
+        Fault { spot, message, label, notes: Vec::new(), operands: Vec::new() }
     }
 
     pub fn note(mut self, note: impl Into<String>) -> Self {
@@ -28,6 +31,11 @@ impl Fault {
             Some(note) => self.note(note),
             None => self,
         }
+    }
+
+    /// In or right behind an expression with operands at these places.
+    pub fn of_operands(self, operands: Vec<usize>) -> Self {
+        Fault { operands, ..self }
     }
 
     /// As a mistake in a line, counted from 1.

@@ -46,22 +46,39 @@ impl FieldLine {
         width.into_iter().chain(constraint).chain(condition)
     }
 
+    /// The names of the field: which each is, and its part of the line.
+    pub fn names(&self) -> impl Iterator<Item = (&'static str, &Range<usize>)> {
+        let short = self.short.as_ref().map(|short| ("short name", short));
+        [("label", &self.label)].into_iter().chain(short)
+    }
+
     pub fn is_fixed(&self) -> bool {
         matches!(self.width, Width::Fixed(_))
     }
 }
 
-/// Reads a field line.
-pub fn read(line: &[u8]) -> Result<FieldLine, Fault> {
+/// The label of a line, its short name if it has one, and the place of its width.
+pub type Names = (Range<usize>, Option<Range<usize>>, usize);
+
+/// The names with which a line begins.
+pub fn line_names(line: &[u8]) -> Result<Names, Fault> {
     let (label, at) = label(line)?;
     let (short, at) = short(line, at)?;
-    let at = colon(line, at)?;
+    Ok((label, short, colon(line, at)?))
+}
+
+/// Reads a field line.
+pub fn read(line: &[u8]) -> Result<FieldLine, Fault> {
+    let (label, short, at) = line_names(line)?;
     let (width, end) = width(line, at)?;
     let width_span = at..end;
     let (constraint, end) = constraint(line, end)?;
     let (condition, end) = condition(line, end)?;
     let due = if condition.is_some() { "`.`" } else { "`;` or `.`" };
-    stop(line, end, due, constraint.is_some() || condition.is_some())?;
+    match condition.as_ref().or(constraint.as_ref()) {
+        Some(last) => stop(line, end, due, true).map_err(|fault| fault.of_operands(last.operands.clone()))?,
+        None => stop(line, end, due, false)?,
+    }
     Ok(FieldLine { label, short, width, width_span, constraint, condition })
 }
 
@@ -149,7 +166,9 @@ fn width(line: &[u8], at: usize) -> Result<(Width, usize), Fault> {
     let (tree, end) = read_expression(line, at)?;
     let (unit, end) = unit(line, end).map_err(|fault| {
         let variable = line[at..end].eq_ignore_ascii_case(VARIABLE);
-        fault.note_if(variable.then(|| "did you mean `variable`?".to_string()))
+        fault
+            .of_operands(tree.operands.clone())
+            .note_if(variable.then(|| "did you mean `variable`?".to_string()))
     })?;
     match tree.single() {
         None => Ok((Width::Measured { unit, tree }, end)),
@@ -199,7 +218,7 @@ fn no_unit(word: &[u8], at: usize) -> Fault {
     if small.starts_with(b"b") || mend.is_some() {
         return fault;
     }
-    fault.note("only short names are read, and an operator stands between operands")
+    fault.note("a name in an expression is one word, and an operator stands between operands")
 }
 
 /// The constraint, if `; ` begins one, and the place behind it.

@@ -5,10 +5,10 @@
 //! within a line and the words; where this reading does not come to the same number and place, only the number's
 //! meaning is told.
 //!
-//! In reading order: `limits`; `hint` is what is answered, `faults` what is found; `characters` (2), `frame_lines`, `rows`,
-//! `frames` (3), `names`, `operators`, `trees`, `expressions`,
-//! `expression_faults`, `field_lines`, `fields` (5), `sizes` (6, 8, 10),
-//! `cells` (4, 7), `reads` (9) find it, `pages` puts it together, `plain` writes it out. `packets` is for packets.
+//! In reading order: `limits`; `hint` is what is answered, `faults` what is found; `characters` (2), `frame_lines`,
+//! `rows`, `frames` (3), `names`, `operators`, `trees`, `expressions`, `expression_faults`, `field_lines`,
+//! `unreadable`, `fields` (5), `sizes` (6, 8, 10), `cells` (4, 7), `reads` (9) find it, `pages` puts it together,
+//! `plain` writes it out. `packets` is for packets.
 
 mod cells;
 mod characters;
@@ -33,6 +33,7 @@ mod rows;
 mod shown;
 mod sizes;
 mod trees;
+mod unreadable;
 
 pub use hint::{Also, Hint, Verdict, ALSO_MOST};
 pub use packets::{fields_before, packet_hint, plain_packet, PacketHint};

@@ -23,11 +23,15 @@ const MEANINGS: [(u32, &str, &str); 20] = [
     (5, "this field line has not the form of one", "docs/RULES.md has the form of a field line"),
     (6, "an expression on this line is too large", "at most depth 12 and 120 stored bytes"),
     (7, "this field line and its cell disagree", "cells and field lines belong together in their order"),
-    (8, "an earlier field has this label or short name", "choose another one"),
+    (
+        8,
+        "an earlier field has a name of this one",
+        "no label or short name of a field is either name of another",
+    ),
     (
         9,
         "an expression on this line has a wrong name or type",
-        "only short names of earlier fixed fields are read",
+        "only earlier fixed fields are read, by a short name or a label of that form",
     ),
     (
         10,

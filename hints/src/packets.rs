@@ -266,7 +266,9 @@ impl Reading<'_> {
                 None => "absent".to_string(),
             };
             let label = self.fields.get(index).map_or(String::new(), |field| shown(&field.label));
-            Some(format!("`{}` ({label}) is {value}", name_of(self.fields, index)))
+            let name = name_of(self.fields, index);
+            let whose = if name == label { String::new() } else { format!(" ({label})") };
+            Some(format!("`{name}`{whose} is {value}"))
         };
         let values: Vec<String> = tree.fields().into_iter().filter_map(told).collect();
         (!values.is_empty()).then(|| values.join(", "))

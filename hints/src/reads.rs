@@ -3,13 +3,13 @@
 use crate::faults::{Fault, Mistake};
 use crate::field_lines::{FieldLine, Width};
 use crate::fields::{Field, Fields};
-use crate::names::is_short;
 use crate::operators::Type;
 use crate::shown::{listed, quoted};
 use crate::trees::{Kind, Tree};
+use crate::unreadable::Unreadable;
 use std::ops::Range;
 
-/// So many names that may be read are listed.
+/// So many fields that may be read are listed.
 const LISTED: usize = 12;
 
 /// The first of each line.
@@ -17,7 +17,7 @@ pub fn mistakes(fields: &Fields) -> Vec<Mistake> {
     let first = |(field, form): (&Field, &FieldLine)| {
         let faults = form.expressions().flat_map(|(what, tree)| {
             let place = Place { fields, field, what };
-            let names: Vec<Fault> = tree.names().filter_map(|name| place.name_fault(&name)).collect();
+            let names: Vec<Fault> = tree.names().filter_map(|name| place.name_fault(tree, &name)).collect();
             names.into_iter().chain(type_fault(field, what, tree))
         });
         let fault = faults.min_by_key(|fault| fault.spot.start)?;
@@ -40,84 +40,70 @@ impl Place<'_> {
         form.is_fixed() && (other.number < self.field.number || own)
     }
 
-    fn readable(&self) -> impl Iterator<Item = &[u8]> {
-        let right = self.fields.right().filter(|(other, form)| self.reads(other, form));
-        right.filter_map(|(other, form)| Some(other.part(form.short.as_ref()?)))
+    /// The fields that may be read here.
+    fn readable(&self) -> impl Iterator<Item = (&Field<'_>, &FieldLine)> {
+        self.fields.right().filter(|(other, form)| self.reads(other, form))
     }
 
     /// What is wrong with a name, if it may not be read.
-    fn name_fault(&self, spot: &Range<usize>) -> Option<Fault> {
+    fn name_fault(&self, tree: &Tree, spot: &Range<usize>) -> Option<Fault> {
         let name = self.field.part(spot);
-        if self.readable().any(|short| short == name) {
+        if self.readable().any(|(other, form)| other.called(form, name).is_some()) {
             return None;
         }
         let shown = quoted(name);
-        let has =
-            |part: Option<&Range<usize>>, field: &Field| part.is_some_and(|part| field.part(part) == name);
-        let named = self.fields.right().find(|(field, form)| has(form.short.as_ref(), field));
-        let labelled = self.fields.right().find(|(field, form)| has(Some(&form.label), field));
-        let (message, mend) = match (named, labelled) {
-            (Some((other, form)), _) => (self.unreadable(&shown, other, form), None),
-            (None, Some((other, form))) => labelled_only(&shown, other, form),
-            (None, None) => (format!("no field has the short name {shown}"), self.nearest(name)),
+        let named = self.fields.right().find_map(|(other, form)| {
+            let what = other.called(form, name)?;
+            Some(self.unreadable(&format!("{shown} is the {what} of"), other, form))
+        });
+        let fault = match named {
+            Some(message) => Fault::new(spot.clone(), message, "cannot be read here"),
+            None => Fault::new(spot.clone(), format!("no field has the name {shown}"), "no such name")
+                .note_if(self.within_label(tree, spot.start))
+                .note_if(self.nearest(name)),
         };
-        let label = if named.is_some() { "cannot be read here" } else { "no short name" };
-        Some(Fault::new(spot.clone(), message, label).note_if(mend).note(self.listing()))
+        Some(fault.note(self.listing()))
     }
 
-    /// Why a field with this short name cannot be read.
-    fn unreadable(&self, shown: &str, other: &Field, form: &FieldLine) -> String {
-        let line = other.number;
-        match form.width {
-            Width::Measured { .. } => {
-                format!("{shown} (line {line}) has a measured width: it has no value to read")
-            }
-            Width::Rest => format!("{shown} (line {line}) is `variable`: it has no value to read"),
-            Width::Fixed(_) if line == self.field.number => {
-                format!("{shown} is this line's own field: only its constraint may read it")
-            }
-            Width::Fixed(_) => {
-                format!("{shown} comes later, on line {line}: only earlier fields may be read")
-            }
-        }
+    /// Why a field with this name cannot be read.
+    fn unreadable(&self, name_of: &str, other: &Field, form: &FieldLine) -> String {
+        let own = other.number == self.field.number;
+        let line = if own { "this line".to_string() } else { format!("line {}", other.number) };
+        let why = match form.width {
+            Width::Measured { .. } => ", which has a measured width: it has no value to read",
+            Width::Rest => ", which is `variable`: it has no value to read",
+            Width::Fixed(_) if own => ": only its constraint may read it",
+            Width::Fixed(_) => ", which comes later: only earlier fields may be read",
+        };
+        format!("{name_of} {line}{why}")
+    }
+
+    /// A label that cannot be read, lies in the expression and holds this byte.
+    fn within_label(&self, tree: &Tree, at: usize) -> Option<String> {
+        let line = &self.field.line[..tree.span.end];
+        Unreadable::at(&self.fields.unreadable, line, &tree.operands, at).map(|(label, _)| label.note())
     }
 
     fn nearest(&self, name: &[u8]) -> Option<String> {
-        let near = self.readable().map(|short| (distance(name, short), short));
-        let (_, short) =
-            near.filter(|(steps, short)| *steps <= 2 && *steps < short.len()).min_by_key(|(s, _)| *s)?;
-        Some(format!("did you mean {}?", quoted(short)))
+        let names = self.readable().flat_map(|(other, form)| other.read_names(form));
+        let near = names.map(|readable| (distance(name, readable), readable));
+        let (_, nearest) =
+            near.filter(|(steps, other)| *steps <= 2 && *steps < other.len()).min_by_key(|(s, _)| *s)?;
+        Some(format!("did you mean {}?", quoted(nearest)))
     }
 
+    /// What may be read, a field with both names as `label` (`short name`).
     fn listing(&self) -> String {
-        let names: Vec<String> = self.readable().map(quoted).collect();
+        let told = |(other, form): (&Field, &FieldLine)| match other.read_names(form)[..] {
+            [label, short] => Some(format!("{} ({})", quoted(label), quoted(short))),
+            [name] => Some(quoted(name)),
+            _ => None,
+        };
+        let names: Vec<String> = self.readable().filter_map(told).collect();
         match names.len() {
-            0 => {
-                "no short name may be read here: none of an earlier field of fixed width is there".to_string()
-            }
+            0 => "no name may be read here: no earlier field of fixed width has one".to_string(),
             count if count > LISTED => format!("may be read here: {} and others", names[..LISTED].join(", ")),
             _ => format!("may be read here: {}", listed(&names, "and")),
-        }
-    }
-}
-
-/// A name that is only a label.
-fn labelled_only(shown: &str, other: &Field, form: &FieldLine) -> (String, Option<String>) {
-    let line = other.number;
-    let label = other.part(&form.label);
-    match &form.short {
-        Some(short) => {
-            let short = quoted(other.part(short));
-            (
-                format!("{shown} is the label of line {line}: a field is read by its short name"),
-                Some(format!("did you mean {short}?")),
-            )
-        }
-        None => {
-            let shorts = if is_short(label) { label } else { b"Short" };
-            let mend = [label, b" (", shorts, b")"].concat();
-            let message = format!("{shown} is the label of line {line}, which has no short name");
-            (message, Some(format!("write {} on line {line}", quoted(&mend))))
         }
     }
 }

@@ -40,27 +40,25 @@ fn size_fault(what: &str, tree: &Tree) -> Option<Fault> {
 
 /// Number 8, the first of each line.
 pub fn repeats(fields: &Fields) -> Vec<Mistake> {
-    let mut found = Vec::new();
-    for (index, (field, form)) in fields.right().enumerate() {
-        let earlier = || fields.right().take(index);
-        let label = earlier().find(|(other, its)| other.part(&its.label) == field.part(&form.label));
-        let same_short = |other: &Field, its: &FieldLine| {
-            let (its, own) = (its.short.as_ref()?, form.short.as_ref()?);
-            (other.part(its) == field.part(own)).then(|| own.clone())
-        };
-        let short = earlier().find_map(|(other, its)| Some((other.number, same_short(other, its)?)));
-        if let Some((other, _)) = label {
-            found.push(repeat(field, &form.label, "label", other.number));
-        } else if let Some((line, own)) = short {
-            found.push(repeat(field, &own, "short name", line));
-        }
-    }
-    found
+    let repeated = |(index, (field, form)): (usize, (&Field, &FieldLine))| {
+        form.names().find_map(|(what, part)| {
+            let mut earlier = fields.right().take(index);
+            let its = |(other, its): (&Field, &FieldLine)| {
+                Some((other.called(its, field.part(part))?, other.number))
+            };
+            Some(repeat(field, part, what, earlier.find_map(its)?))
+        })
+    };
+    fields.right().enumerate().filter_map(repeated).collect()
 }
 
-fn repeat(field: &Field, part: &Range<usize>, what: &str, earlier: usize) -> Mistake {
-    let message = format!("the {what} {} stands on line {earlier} already", quoted(field.part(part)));
-    Fault::new(part.clone(), message, format!("first on line {earlier}"))
+/// A name of this line is one of an earlier line.
+fn repeat(field: &Field, part: &Range<usize>, what: &str, (its, line): (&str, usize)) -> Mistake {
+    let message = format!("the {what} {} is the {its} of line {line} already", quoted(field.part(part)));
+    let unlike =
+        (what != its).then(|| "no label or short name of a field is either name of another".to_string());
+    Fault::new(part.clone(), message, format!("first on line {line}"))
+        .note_if(unlike)
         .note(format!("choose another {what}; large and small letters count"))
         .at(8, field.number)
 }

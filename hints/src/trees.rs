@@ -26,6 +26,8 @@ pub enum Kind {
 pub struct Tree {
     pub nodes: Vec<Node>,
     pub span: Range<usize>,
+    /// Where the operands begin, those in parentheses too.
+    pub operands: Vec<usize>,
 }
 
 impl Tree {

@@ -9,7 +9,7 @@ pub enum Width<N> {
     Rest,
 }
 
-/// A field; `N` is how its trees name a field: by short name as read from a text, or by index.
+/// A field; `N` is how its trees name a field: by a name as read from a text, or by index.
 #[derive(Clone)]
 pub struct Field<'a, N> {
     pub label: &'a [u8],
@@ -27,7 +27,7 @@ pub struct Description<'a> {
     pub fields: Vec<Field<'a, usize>>,
 }
 
-impl<N> Field<'_, N> {
+impl<'a, N> Field<'a, N> {
     /// The bits of a fixed field.
     pub fn fixed_bits(&self) -> Option<u32> {
         match self.width {
@@ -40,9 +40,14 @@ impl<N> Field<'_, N> {
         matches!(self.width, Width::Rest)
     }
 
+    /// The names of the field: its label, and its short name if it has one.
+    pub fn names(&self) -> impl Iterator<Item = &'a [u8]> {
+        [Some(self.label), self.short].into_iter().flatten()
+    }
+
     /// Whether `name` is the label or the short name.
     pub fn is_called(&self, name: &[u8]) -> bool {
-        self.label == name || self.short == Some(name)
+        self.names().any(|own| own == name)
     }
 
     /// The trees of the field: width, constraint, condition.

@@ -1,6 +1,6 @@
 //! Reads an expression from a text [01, Expressions].
 
-use crate::names::is_short_name;
+use crate::naming::name_at;
 use crate::trees::{Node, Op, Tree, COMPARISON, OR, PRODUCT};
 
 const MOST_OPEN: usize = 12;
@@ -93,7 +93,7 @@ impl<'a> Reader<'a> {
     }
 
     fn number(&mut self) -> Option<usize> {
-        let digits = self.run(u8::is_ascii_digit);
+        let digits = self.digits();
         if digits.len() > 10 || (digits.len() > 1 && digits[0] == b'0') {
             return None;
         }
@@ -103,14 +103,15 @@ impl<'a> Reader<'a> {
     }
 
     fn name(&mut self) -> Option<usize> {
-        let name = self.run(u8::is_ascii_alphanumeric);
-        is_short_name(name).then(|| self.push(Node::Name(name)))
+        let name = name_at(&self.text[self.at..])?;
+        self.at += name.len();
+        Some(self.push(Node::Name(name)))
     }
 
-    /// Takes the bytes of one class from here on.
-    fn run(&mut self, class: fn(&u8) -> bool) -> &'a [u8] {
+    /// Takes the digits from here on.
+    fn digits(&mut self) -> &'a [u8] {
         let rest = &self.text[self.at..];
-        let length = rest.iter().position(|byte| !class(byte)).unwrap_or(rest.len());
+        let length = rest.iter().position(|byte| !byte.is_ascii_digit()).unwrap_or(rest.len());
         self.at += length;
         &rest[..length]
     }

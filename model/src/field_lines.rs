@@ -11,7 +11,7 @@ pub const PRESENT: &[u8] = b"; present only when ";
 /// The words of each unit, with its bits.
 pub const UNITS: [(&[u8], u32); 4] = [(b"bit", 1), (b"bits", 1), (b"byte", 8), (b"bytes", 8)];
 
-/// The field that a line describes, its trees with short names as they stand.
+/// The field that a line describes, its trees with names as they stand.
 pub fn field_line(line: &[u8]) -> Option<Field<'_, &[u8]>> {
     let mut rest = line;
     let (label, short) = names(&mut rest)?;

@@ -2,10 +2,11 @@
 //! the same cases.
 //!
 //! `layouts` and `words` choose rows and names, `growth` the trees, `fields` the description; `spelling` writes
-//! it as one of its texts; `bends` breaks a rule of a description, `edits` changes bytes and lines; `fitting`
-//! makes packets for a table. `extremes` makes what stands at the far ends of the limits.
+//! it as one of its texts; `bends` breaks a rule of a description, `clashes` those on equal names, `edits` changes
+//! bytes and lines; `fitting` makes packets for a table. `extremes` makes what stands at the far ends of the limits.
 
 mod bends;
+mod clashes;
 mod edits;
 mod extremes;
 mod fields;
@@ -30,6 +31,8 @@ const FAR_TEXT: usize = 60;
 /// A table as long as may be is one of so many, and one of too many fields.
 const FAR_TABLE: usize = 800;
 const CROWDED_TABLE: usize = 60;
+/// A description with broken rules is one of so many that has equal names.
+const CLASHING: usize = 8;
 /// The most fields, and the most bytes of a packet, by document 01 alone.
 const EARLIER_FIELDS: usize = 64;
 const EARLIER_PACKET: usize = 2_048;
@@ -75,8 +78,8 @@ pub fn table(rng: &mut Rng) -> Vec<u8> {
     let mut description = fields::description(rng, &layout, &names);
     match rng.below(8) {
         0 | 1 => {
-            for _ in 0..rng.between(1, 2) {
-                bends::bend(rng, &mut description);
+            if !clashed(rng, &mut description, 2) {
+                bent(rng, &mut description);
             }
             encode(&description)
         }
@@ -204,10 +207,28 @@ fn too_many_fields(rng: &mut Rng) -> Vec<u8> {
 
 /// A text whose lines, and at times cells, are those of a description with broken rules.
 fn bent_text(rng: &mut Rng, description: &Description) -> Vec<u8> {
-    let mut bent = description.clone();
-    for _ in 0..rng.between(1, 2) {
-        bends::bend(rng, &mut bent);
+    let mut told = description.clone();
+    if clashed(rng, &mut told, 5) {
+        return spell(rng, &told, &told, Manner::default());
     }
-    let drawn = if rng.one_in(2) { &bent } else { description };
-    spell(rng, drawn, &bent, Manner::default())
+    bent(rng, &mut told);
+    let drawn = if rng.one_in(2) { &told } else { description };
+    spell(rng, drawn, &told, Manner::default())
+}
+
+/// Breaks one or two rules of a description.
+fn bent(rng: &mut Rng, description: &mut Description) {
+    for _ in 0..rng.between(1, 2) {
+        bends::bend(rng, description);
+    }
+}
+
+/// Gives fields of a description equal names, one time in `CLASHING`, with many fields one in `many`, and says so.
+fn clashed(rng: &mut Rng, description: &mut Description, many: usize) -> bool {
+    let rarity = if description.fields.len() >= EARLIER_FIELDS { many } else { CLASHING };
+    let clashes = rng.one_in(rarity);
+    if clashes {
+        clashes::clash(rng, description);
+    }
+    clashes
 }

@@ -1,8 +1,8 @@
-//! A model of document 01 and of request R-10 of document 02, written from them and from the readings of their open
-//! points in `docs/DECISIONS.md`, not from the library: it reads description texts, writes and checks field tables,
-//! reads packets by a table and lists them. Every function answers for every input.
+//! A model of document 01 and of requests of document 02, written from them and from the readings of
+//! their open points in `docs/DECISIONS.md`, not from the library: it reads description texts, writes and checks field
+//! tables, reads packets by a table and lists them. Every function answers for every input.
 //!
-//! In reading order: `names`, `trees`, `expressions`, `descriptions`, `rules` say what a description is;
+//! In reading order: `names`, `trees`, `expressions`, `descriptions`, `naming`, `rules` say what a description is;
 //! `lines`, `frames`, `field_lines`, `matching`, `texts` read a text; `stored`, `tables` hold the stored form;
 //! `evaluation`, `reading`, `listing`, `lookups` use a table. `generate` makes random cases, and `protocol`
 //! answers the requests of the oracle.
@@ -18,6 +18,7 @@ mod listing;
 mod lookups;
 mod matching;
 mod names;
+mod naming;
 pub mod protocol;
 mod reading;
 mod refusals;

@@ -4,8 +4,8 @@ use crate::descriptions::Width;
 use crate::refusals::{refused, Refusal};
 use crate::tables::good_description;
 
-/// The index of the first field whose label or short name is `name`; 30, the number that document 02 gives where
-/// there is no such field, if none has it.
+/// The index of the field whose label or short name is `name`; 30, the number that document 02 gives where there is
+/// no such field, if none has it.
 pub fn find_field(table: &[u8], name: &[u8]) -> Result<usize, Refusal> {
     let fields = good_description(table)?.fields;
     match fields.iter().position(|field| field.is_called(name)) {

@@ -3,6 +3,7 @@
 
 use crate::descriptions::{Description, Field, Width};
 use crate::names::{is_label, is_short_name};
+use crate::naming::{first_repeat, may_read};
 use crate::trees::{Kind, Node, Tree};
 
 pub const ROW_BITS: [u32; 3] = [8, 16, 32];
@@ -18,7 +19,8 @@ pub fn within_limits(description: &Description) -> bool {
         && is_label(description.name)
         && (1..=MOST_FIELDS).contains(&fields.len())
         && fields.iter().all(|field| names_right(field) && width_right(field) && trees_small(field))
-        && (0..fields.len()).all(|index| !repeats(fields, index) && reads_right(fields, index))
+        && first_repeat(fields).is_none()
+        && (0..fields.len()).all(|index| reads_right(fields, index))
         && first_after_rest(fields).is_none()
         && rows_fit(description)
 }
@@ -40,21 +42,16 @@ pub fn trees_small<N: Copy>(field: &Field<N>) -> bool {
     field.trees().all(|tree| tree.depth() <= MOST_DEPTH && tree.stored_length() <= LONGEST_TREE)
 }
 
-/// The label or the short name is that of an earlier field.
-pub fn repeats<N>(fields: &[Field<N>], index: usize) -> bool {
-    let field = &fields[index];
-    let repeated = |earlier: &Field<N>| {
-        earlier.label == field.label || (field.short.is_some() && earlier.short == field.short)
-    };
-    fields[..index].iter().any(repeated)
-}
-
-/// The trees have their types and read earlier fixed fields that have a short name; a constraint may read its
-/// own field too.
+/// The trees have their types and read earlier fixed fields that have a name to be read by; a constraint may read
+/// its own field too.
 pub fn reads_right(fields: &[Field<usize>], index: usize) -> bool {
     let field = &fields[index];
-    let right = |tree: &Tree<usize>, kind: Kind, readable: usize| {
-        tree.kind() == Some(kind) && reads_among(tree, &fields[..readable])
+    let right = |tree: &Tree<usize>, kind: Kind, end: usize| {
+        let reads = |node: &Node<usize>| match node {
+            Node::Name(place) => may_read(fields, *place, end),
+            _ => true,
+        };
+        tree.kind() == Some(kind) && tree.nodes.iter().all(reads)
     };
     let width = match &field.width {
         Width::Measured { tree, .. } => right(tree, Kind::Number, index),
@@ -63,14 +60,6 @@ pub fn reads_right(fields: &[Field<usize>], index: usize) -> bool {
     width
         && field.constraint.as_ref().is_none_or(|tree| right(tree, Kind::Truth, index + 1))
         && field.condition.as_ref().is_none_or(|tree| right(tree, Kind::Truth, index))
-}
-
-fn reads_among(tree: &Tree<usize>, fields: &[Field<usize>]) -> bool {
-    let readable = |field: &Field<usize>| field.fixed_bits().is_some() && field.short.is_some();
-    tree.nodes.iter().all(|node| match node {
-        Node::Name(index) => fields.get(*index).is_some_and(readable),
-        _ => true,
-    })
 }
 
 /// The first field after the rest field that is not a fixed one without a condition.

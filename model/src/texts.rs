@@ -4,8 +4,9 @@ use crate::descriptions::{Description, Field, Width};
 use crate::field_lines::field_line;
 use crate::frames::{frame, Frame};
 use crate::matching::first_mismatch;
+use crate::naming::{first_repeat, read_names};
 use crate::refusals::{refused, Refusal};
-use crate::rules::{first_after_rest, reads_right, repeats, trees_small, MOST_FIELDS};
+use crate::rules::{first_after_rest, reads_right, trees_small, MOST_FIELDS};
 use crate::stored::encode;
 use crate::trees::{Node, Tree};
 
@@ -35,8 +36,9 @@ pub fn description(text: &[u8]) -> Result<Description<'_>, Refusal> {
     let named = named_fields(&frame)?;
     refuse_line(&frame, 6, named.iter().position(|field| !trees_small(field)))?;
     refuse_line(&frame, 7, first_mismatch(&frame.cells, &named))?;
-    refuse_line(&frame, 8, (0..named.len()).find(|index| repeats(&named, *index)))?;
-    let fields = resolved_fields(&frame, named)?;
+    refuse_line(&frame, 8, first_repeat(&named))?;
+    let fields = resolved_fields(named);
+    refuse_line(&frame, 9, (0..fields.len()).find(|index| !reads_right(&fields, *index)))?;
     refuse_line(&frame, 10, first_after_rest(&fields))?;
     Ok(Description { name: frame.name, row_bits: frame.row_bits, fields })
 }
@@ -59,49 +61,30 @@ fn named_fields<'a>(frame: &Frame<'a>) -> Result<Vec<Field<'a, &'a [u8]>>, Refus
     Ok(fields)
 }
 
-/// The fields with indices for short names, or the first line that reads wrongly. Names are looked up among the
-/// earlier fields and the field itself.
-fn resolved_fields<'a>(
-    frame: &Frame<'a>,
-    named: Vec<Field<'a, &'a [u8]>>,
-) -> Result<Vec<Field<'a, usize>>, Refusal> {
-    let shorts: Vec<Option<&[u8]>> = named.iter().map(|field| field.short).collect();
-    let mut fields = Vec::with_capacity(named.len());
-    for (index, field) in named.into_iter().enumerate() {
-        let right = match resolved_field(field, &shorts[..=index]) {
-            Some(field) => {
-                fields.push(field);
-                reads_right(&fields, index)
-            }
-            None => false,
-        };
-        refuse_line(frame, 9, (!right).then_some(index))?;
-    }
-    Ok(fields)
+/// The fields with indices for the names by which fields may be read, and for any other name an index of no field.
+fn resolved_fields<'a>(named: Vec<Field<'a, &'a [u8]>>) -> Vec<Field<'a, usize>> {
+    let names: Vec<Vec<&[u8]>> = named.iter().map(|field| read_names(field).collect()).collect();
+    named.into_iter().map(|field| resolved_field(field, &names)).collect()
 }
 
-fn resolved_field<'a>(field: Field<'a, &'a [u8]>, shorts: &[Option<&[u8]>]) -> Option<Field<'a, usize>> {
-    let clause = |tree: Option<Tree<&[u8]>>| match tree {
-        Some(tree) => resolved_tree(&tree, shorts).map(Some),
-        None => Some(None),
-    };
+fn resolved_field<'a>(field: Field<'a, &'a [u8]>, names: &[Vec<&[u8]>]) -> Field<'a, usize> {
+    let clause = |tree: Option<Tree<&[u8]>>| tree.map(|tree| resolved_tree(&tree, names));
     let width = match field.width {
         Width::Fixed(bits) => Width::Fixed(bits),
-        Width::Measured { unit, tree } => Width::Measured { unit, tree: resolved_tree(&tree, shorts)? },
+        Width::Measured { unit, tree } => Width::Measured { unit, tree: resolved_tree(&tree, names) },
         Width::Rest => Width::Rest,
     };
-    let constraint = clause(field.constraint)?;
-    let condition = clause(field.condition)?;
-    Some(Field { label: field.label, short: field.short, width, constraint, condition })
+    let (constraint, condition) = (clause(field.constraint), clause(field.condition));
+    Field { label: field.label, short: field.short, width, constraint, condition }
 }
 
-fn resolved_tree(tree: &Tree<&[u8]>, shorts: &[Option<&[u8]>]) -> Option<Tree<usize>> {
+fn resolved_tree(tree: &Tree<&[u8]>, names: &[Vec<&[u8]>]) -> Tree<usize> {
+    let place = |name: &[u8]| names.iter().position(|names| names.contains(&name)).unwrap_or(names.len());
     let resolved = |node: &Node<&[u8]>| match *node {
-        Node::Number(number) => Some(Node::Number(number)),
-        Node::Name(name) => shorts.iter().position(|short| *short == Some(name)).map(Node::Name),
-        Node::Not(operand) => Some(Node::Not(operand)),
-        Node::Two(op, left, right) => Some(Node::Two(op, left, right)),
+        Node::Number(number) => Node::Number(number),
+        Node::Name(name) => Node::Name(place(name)),
+        Node::Not(operand) => Node::Not(operand),
+        Node::Two(op, left, right) => Node::Two(op, left, right),
     };
-    let nodes = tree.nodes.iter().map(resolved).collect::<Option<_>>()?;
-    Some(Tree { nodes })
+    Tree { nodes: tree.nodes.iter().map(resolved).collect() }
 }

@@ -65,7 +65,7 @@ impl Op {
     }
 }
 
-/// A node; operands are places in the list. `N` is how a field is named: its short name, or its index.
+/// A node; operands are places in the list. `N` is how a field is named: by a name, or by its index.
 #[derive(Clone, Copy, Debug, PartialEq, Eq)]
 pub enum Node<N> {
     Number(u32),

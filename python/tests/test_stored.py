@@ -10,7 +10,8 @@ from umarekoza import Refusal
 VECTORS = Path(__file__).resolve().parents[2] / "vectors"
 # How many lines each file has.
 FILES = {
-    "spelled": 600, "edge": 591, "mutated": 600, "tables": 597, "packets": 589, "base2": 200, "large": 24, "r10": 80,
+    "spelled": 384, "edge": 561, "mutated": 576, "tables": 512, "packets": 506, "base2": 200, "large": 24, "r10": 71,
+    "r2": 300,
 }  # fmt: skip
 
 

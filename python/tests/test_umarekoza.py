@@ -113,6 +113,14 @@ class Marked(unittest.TestCase):
         self.refused(30, 0, umarekoza.field_kind, TABLE, 7)
         self.refused(21, 0, umarekoza.field_kind, b"", 0)
 
+    def test_labels_are_names_too(self):
+        self.assertEqual(umarekoza.table_of(BLADE.replace(b"Readings: N", b"Readings: Cells")), TABLE)
+        self.refused(9, 22, umarekoza.table_of, BLADE.replace(b"Readings: N", b"Readings: Sum"))
+        self.refused(8, 21, umarekoza.table_of, BLADE.replace(b"(Bor)", b"(Cells)"))
+        both = umarekoza.table_of(BLADE.replace(b"Blade: 1", b"Blade (Blade): 1"))
+        self.assertEqual((umarekoza.find_field(both, "Blade"), umarekoza.field_short(both, 3)), (3, "Blade"))
+        self.refused(21, 0, umarekoza.check_table, TABLE.replace(b"\x03\0Bor", b"\x03\0Sum"))
+
     def test_an_index_is_never_taken_for_another(self):
         for index in (7, 2**63, 2**64, 2**64 + 4, 2**80):
             self.assertIsNone(umarekoza.field_label(TABLE, index))

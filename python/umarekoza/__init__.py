@@ -121,7 +121,10 @@ def listing(table, packet):
 
 
 def find_field(table, name):
-    """The index, from 0, of the first field with this label or short name. Refuses by 21, and by 30 if none has it."""
+    """The index, from 0, of the field with this label or short name; no two fields of a good table share a name.
+
+    Refuses by 21, and by 30 if there is none.
+    """
     return _calls.find_field(table, name.encode() if isinstance(name, str) else name)
 
 

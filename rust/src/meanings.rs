@@ -64,15 +64,16 @@ const MEANINGS: [Meaning; 20] = [
     },
     Meaning {
         number: 8,
-        what: "an earlier field has this label or short name already",
-        mend: "choose another one; case counts",
+        what: "an earlier field has a name of this one: its label or short name is there already",
+        mend: "choose another one: no label or short name of a field is either name of another; case counts",
     },
     Meaning {
         number: 9,
         what: "an expression on this line reads a name that it cannot read, or mixes numbers with yes \
                and no",
-        mend: "a name is the short name of a fixed field on an earlier line; a constraint may read its \
-               own field too. A width is a number, a constraint or condition a comparison",
+        mend: "a name is that of a fixed field on an earlier line, its short name or a label of that \
+               form; a constraint may read its own field too. A width is a number, a constraint or \
+               condition a comparison",
     },
     Meaning {
         number: 10,

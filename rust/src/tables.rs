@@ -59,7 +59,8 @@ pub fn check_table(table: &[u8]) -> Result<(), Refusal> {
     calls::check_table(table).settled().map(|_| ())
 }
 
-/// The index, from 0, of the field with this label or short name. Refuses by 21, and by 30 if there is none.
+/// The index, from 0, of the field with this label or short name; no two fields of a good table share a name. Refuses
+/// by 21, and by 30 if there is none.
 ///
 /// ```
 /// # let page = include_bytes!("../../examples/pages/blade-report.txt");

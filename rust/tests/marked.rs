@@ -1,5 +1,5 @@
-//! The marked cases M1 to M10 of document 01, as many fields and bytes as may be, empty slices, and what lent slices hold
-//! afterwards.
+//! The marked cases M1 to M10 of document 01, as many fields and bytes as may be, labels as names, empty slices, and
+//! what lent slices hold afterwards.
 
 use umarekoza::*;
 
@@ -148,6 +148,32 @@ fn names_and_labels() {
     assert_eq!(find_field(&table, b"n"), refused(30, 0));
     assert_eq!(field_label(&table, 7), None);
     assert_eq!(find_field(b"no table", b"N"), refused(21, 0));
+}
+
+/// The answer to the blade report with a part of it replaced.
+fn blade_with(from: &str, to: &str) -> Result<Vec<u8>, Refusal> {
+    let page = std::str::from_utf8(BLADE).unwrap();
+    assert_eq!(page.matches(from).count(), 1, "{from}");
+    table_of(page.replace(from, to).as_bytes())
+}
+
+#[test]
+fn labels_are_names_too() {
+    for same in ["Readings: Cells bytes", "Readings: N bytes"] {
+        assert_eq!(blade_with("Readings: N bytes", same), Ok(blade()), "{same}");
+    }
+    let by_label = blade_with("Readings: N bytes", "Readings: Blade - 5 bytes").unwrap();
+    assert_eq!(listing(&by_label, &M1), listing(&blade(), &M1));
+    assert_eq!(blade_with("(N): 5 bits; N <=", "(Cells): 5 bits; Cells <="), refused(9, 22));
+    assert_eq!(blade_with("Readings: N", "Readings: Sum"), refused(9, 22));
+    assert_eq!(blade_with("when L", "when On Loan"), refused(5, 21));
+    assert_eq!(blade_with("(Bor)", "(Cells)"), refused(8, 21));
+    let both = blade_with("Blade: 1", "Blade (Blade): 1").unwrap();
+    assert_eq!((find_field(&both, b"Blade"), field_short(&both, 3)), (Ok(3), Some(&b"Blade"[..])));
+    let mut clash = blade();
+    let short = clash.windows(5).position(|part| part == b"\x03\0Bor").unwrap() + 2;
+    clash[short..short + 3].copy_from_slice(b"Sum");
+    assert_eq!(check_table(&clash), refused(21, 0));
 }
 
 #[test]

@@ -5,15 +5,16 @@ use std::path::Path;
 use umarekoza::*;
 
 /// The files, and how many lines each has.
-const FILES: [(&str, usize); 8] = [
-    ("spelled.tsv", 600),
-    ("edge.tsv", 591),
-    ("mutated.tsv", 600),
-    ("tables.tsv", 597),
-    ("packets.tsv", 589),
+const FILES: [(&str, usize); 9] = [
+    ("spelled.tsv", 384),
+    ("edge.tsv", 561),
+    ("mutated.tsv", 576),
+    ("tables.tsv", 512),
+    ("packets.tsv", 506),
     ("base2.tsv", 200),
     ("large.tsv", 24),
-    ("r10.tsv", 80),
+    ("r10.tsv", 71),
+    ("r2.tsv", 300),
 ];
 
 /// The bytes of a hex word, `-` for none.

@@ -7,6 +7,7 @@ use lib.ListN.{length, getD, replicate}
 use Rattle.base.specs.Lists.{all, same}
 use Rattle.base.proofs.Lists.{every-passes, same-true}
 use Rattle.base.proofs.Breaks.{and-true}
+use Rattle.rules.specs.Editions.{current}
 use Rattle.rules.specs.Fields.{Description}
 use Rattle.rules.specs.Within.{Within}
 use Rattle.rules.specs.Stored.{stored, Good}
@@ -17,6 +18,7 @@ use Rattle.rules.specs.Promises.{
   packetOutcomeIn,
   delivered,
   notGood,
+  firstNamed,
   byTable,
   movedBy,
   Lends,
@@ -35,6 +37,7 @@ use Rattle.laws.specs.Wrong.{
   hands,
   placesPart,
   finds,
+  findsIn,
   labels,
   placesLabel,
   tellsNumber,
@@ -98,6 +101,8 @@ claim-so (hands d packet i bytes start) h e =
 claim-so (placesPart d packet i part) h e = λ good.
     ap part-from e ∙ sym (by-stored d (within d h) (λ c. partIn (reading c packet) i) _ good)
 claim-so (finds d name a) h e = λ good. ap answer-from e ∙ sym (by-stored d (within d h) _ _ good)
+claim-so (findsIn table name a) h e = λ good.
+    ap answer-from e ∙ told-by current table (λ d. firstNamed name 0 (d .fields)) notGood good
 claim-so (labels d i bytes start) h e = lends-so d (stored d) (λ c. labelAt c i) bytes start (within d h) e
 claim-so (placesLabel d i part) h e = λ good.
     ap part-from e ∙ sym (by-stored d (within d h) (λ c. labelAt c i) _ good)

@@ -117,6 +117,7 @@ use Rattle.base.proofs.Also.{_also_}
 use Rattle.cases.specs.LinesOfAText.{linesOfAText}
 use Rattle.cases.specs.Expressions.{expressions}
 use Rattle.cases.specs.Fields.{fields}
+use Rattle.cases.specs.Names.{names}
 use Rattle.cases.specs.StoredTable.{storedTable}
 use Rattle.cases.specs.Spelling.{spelling}
 use Rattle.cases.specs.ReadingAPacket.{readingAPacket}
@@ -152,6 +153,7 @@ cases-hold = (
     lines = all-right linesOfAText refl;
     expressions = all-right expressions refl;
     fields = all-right fields refl;
+    names = all-right names refl;
     tables = all-right storedTable refl;
     spelling = all-right spelling refl;
     packets = all-right readingAPacket refl;

@@ -112,7 +112,7 @@ types =
     ∷ fits (constrained (two Eq (read 0) (num 1)))
     ∷ exceeds (conditioned (two Eq (read 0) (num 1)))
     ∷ exceeds (constrained (two Eq (read 1) (num 1)))
-    ∷ exceeds (single (unnamed "Field" (fixed 8) (some (two Eq (read 0) (num 1))) none))
+    ∷ exceeds (single (unnamed "No Name" (fixed 8) (some (two Eq (read 0) (num 1))) none))
     ∷ exceeds (afterBody (two Eq (read 0) (num 1)))
     ∷ []
 

@@ -23,7 +23,6 @@ together =
     exceeds (record { name = bytes "Page-"; rowWidth = 8; fields = manyFields 0 1 })
     ∷ exceeds (page (manyFields 0 1 ++ manyFields 0 1))
     ∷ exceeds (page (named "A" "X" (fixed 8) none none ∷ named "B" "X" (fixed 8) none none ∷ []))
-    ∷ fits (page (named "A" "X" (fixed 8) none none ∷ named "X" "A" (fixed 8) none none ∷ []))
     -- what may stand after a rest field
     ∷ exceeds (page (unnamed "A" rest none none ∷ unnamed "B" rest none none ∷ []))
     ∷ exceeds (page (unnamed "A" rest none none ∷ unnamed "B" (measured 8 (compared 1 Add 1)) none none ∷ []))

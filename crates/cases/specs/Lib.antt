@@ -2,6 +2,7 @@
 -- LinesOfAText     frames, labels and short names
 -- Expressions      trees: spelling, values, limits
 -- Fields           how many fields, their names, widths and rows
+-- Names            which names may be read, and which clash
 -- StoredTable      tables, and what is looked up in them
 -- Spelling         texts that spell a description
 -- ReadingAPacket   packets, and what is handed out
@@ -11,6 +12,7 @@
 pub mod LinesOfAText
 pub mod Expressions
 pub mod Fields
+pub mod Names
 pub mod StoredTable
 pub mod Spelling
 pub mod ReadingAPacket

@@ -1,5 +1,6 @@
--- Right answers: for each sort of claim of which laws/specs/Wrong and WrongLimits list false ones, one that holds, so
--- that none of those is false for want of any answer. [01, The blade report, marked cases and listing] [02, R-10]
+-- Right answers: for each sort of claim of which laws/specs/Wrong, WrongLimits and WrongNames list false ones, one that
+-- holds, so that none of those is false for want of any answer.
+-- [01, The blade report, marked cases and listing] [02, R-10] [02, R-2]
 use mathlib.Core.List.{List, [], _∷_, _++_}
 use lib.ListN.{length, replicate}
 use Rattle.base.specs.Bytes.{bytes}
@@ -7,7 +8,7 @@ use Rattle.base.specs.Lists.{joined, Every}
 use Rattle.rules.specs.declared.Fault.the-variants.{BitsMissing}
 use Rattle.rules.specs.declared.PacketAnswer.the-variants.{Accepted, Refused}
 use Rattle.rules.specs.Limits.{limits}
-use Rattle.rules.specs.Reading.{numbersOf, partFrom}
+use Rattle.rules.specs.Reading.{absent, numbersOf, partFrom}
 use Rattle.rules.specs.Answers.{accepted, refused}
 use Rattle.rules.specs.Editions.{earlier}
 use Rattle.rules.specs.Stored.{stored}
@@ -27,6 +28,7 @@ use Rattle.laws.specs.Wrong.{
   hands,
   placesPart,
   finds,
+  findsIn,
   labels,
   placesLabel,
   tellsNumber,
@@ -47,9 +49,20 @@ use Rattle.laws.specs.Wrong.{
   m1Entries,
 }
 use Rattle.laws.specs.WrongLimits.{fieldsOf, fives, entriesOf, listingOf}
+use Rattle.laws.specs.WrongNames.{byLabel, labelFirst}
 
-abbrev pub promised : List Claim
-promised =
+-- a label that is read, and one that is another's short name [02, R-2]
+abbrev inNames : List Claim
+inNames =
+    checks (byLabel "Mine") (accepted 81)
+    ∷ checksBytes (stored labelFirst) (refused 21 0)
+    ∷ findsIn (stored labelFirst) (bytes "L") (refused 21 0)
+    ∷ findsIn (stored (byLabel "Mine")) (bytes "Mine") (accepted 0)
+    ∷ reads (byLabel "Mine") (0 ∷ 1 ∷ []) (accepted 16) (runOf (entry 0 8 0 ∷ entry 8 8 1 ∷ absent ∷ []))
+    ∷ []
+
+abbrev inAll : List Claim
+inAll =
     checks bladeReport (accepted 201)
     ∷ checksBytes [] (refused 21 0)
     ∷ checks (fieldsOf 65) (accepted 1113)
@@ -85,6 +98,9 @@ promised =
     ∷ readsPartly bladeReport m3 (refused 24 7) (runOf m1Six) 6
     ∷ readsPartly bladeReport (m1 ++ (0 ∷ [])) (refused 28 0) (runOf m1Entries) 7
     ∷ []
+
+abbrev pub promised : List Claim
+promised = inAll ++ inNames
 
 abbrev pub AllSo : List Claim → Type 0
 AllSo = Every Claimed

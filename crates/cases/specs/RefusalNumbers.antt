@@ -39,7 +39,6 @@ use Rattle.text_laws.specs.WrongTexts.{
   narrowBehind,
   shared,
   forward,
-  byLabel,
   ownCondition,
   numeric,
   deep,
@@ -90,13 +89,12 @@ rules =
     (plain "A" ∷ plain "B" ∷ plain "A" ∷ [])
     (refused 8 17)
     ∷ breaks (sheet (longOf "A" ∷ longOf "X" ∷ []) 2) (summed "A" "X" ∷ summed "B" "X" ∷ []) (refused 8 14)
-    -- 9: a name that is unknown, not earlier, not fixed, a label; a condition that reads its own field; wrong type
+    -- 9: a name that is unknown, not earlier, not fixed; a condition that reads its own field; wrong type
     ∷ breaks (sheet (bitsOf "A" ∷ []) 1) (requiring "A" (isOne "X") ∷ []) (refused 9 11)
     ∷ breaks (sheet (bitsOf "A" ∷ bitsOf "B" ∷ []) 2)
     (requiring "A" (isOne "X") ∷ named "B" "X" (fixed 8) none none ∷ [])
     (refused 9 13)
     ∷ breaks (sheet (longOf "A" ∷ bitsOf "B" ∷ []) 2) (summed "A" "X" ∷ requiring "B" (isOne "X") ∷ []) (refused 9 14)
-    ∷ breaks (sheet (bitsOf "A" ∷ []) 1) (requiring "A" (isOne "A") ∷ []) (refused 9 11)
     ∷ breaks (sheet (bitsOf "A" ∷ []) 1) (named "A" "X" (fixed 8) none (some (isOne "X")) ∷ []) (refused 9 11)
     ∷ breaks (sheet (bitsOf "A" ∷ []) 1) (requiring "A" (num 1) ∷ []) (refused 9 11)
     ∷ []
@@ -184,10 +182,9 @@ wholeTexts =
     ("A: 4 bits.\n" ∷ "A: 4 bits.\n" ∷ []))
     (refused 8 12)
     ∷ refuses shared (refused 8 12)
-    -- 9: a name that is unknown, of a later field, a label; a condition that reads its own field; wrong type
+    -- 9: a name that is unknown, of a later field; a condition that reads its own field; wrong type
     ∷ refuses (pairText ("A (a): 4 bits.\n" ∷ "B: 4 bits; z == 1.\n" ∷ [])) (refused 9 12)
     ∷ refuses forward (refused 9 11)
-    ∷ refuses byLabel (refused 9 11)
     ∷ refuses ownCondition (refused 9 11)
     ∷ refuses numeric (refused 9 11)
     -- 10: a second rest field; a measured field or a condition behind it

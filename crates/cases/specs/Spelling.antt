@@ -12,7 +12,7 @@ spelling =
     -- texts with and without freedoms
     spells bladeText bladeReport
     ∷ spells freeText freePage
-    -- a short name may be another field's label, and a cell may show either
+    -- a cell may show either name, and a line may read by either [02, R-2]
     ∷ keeps (sheet (longOf "A" ∷ bitsOf "B" ∷ bitsOf "Y" ∷ []) 3)
-    (left "A" ∷ named "X" "B" (fixed 8) (some (isOne "B")) none ∷ named "Y" "X" (fixed 8) (some (isOne "B")) none ∷ [])
+    (left "A" ∷ named "X" "B" (fixed 8) (some (isOne "B")) none ∷ named "Y" "Z" (fixed 8) (some (isOne "X")) none ∷ [])
     ∷ []

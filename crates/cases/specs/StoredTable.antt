@@ -5,7 +5,6 @@ use Rattle.rules.specs.Answers.{accepted, refused}
 use Rattle.rules.specs.Cases.{Case, stores, finds, labels}
 use Rattle.rules.specs.Marked.{bladeReport}
 use Rattle.rules.specs.Pages.{allKinds, allKindsTable, allCodes, allCodesTable}
-use Rattle.laws.specs.Wrong.{crossed}
 
 abbrev tables : List Case
 tables =
@@ -16,11 +15,10 @@ tables =
 
 abbrev lookups : List Case
 lookups =
-    -- a field by its short name, its label; the first of two; case counts, and a whole name is asked for
+    -- a field by its short name, its label; case counts, and a whole name is asked for
     finds bladeReport (bytes "V") (accepted 0)
     ∷ finds bladeReport (bytes "Version") (accepted 0)
     ∷ finds bladeReport (bytes "Sum") (accepted 6)
-    ∷ finds crossed (bytes "X") (accepted 0)
     ∷ finds bladeReport (bytes "v") (refused 30 0)
     ∷ finds bladeReport (bytes "Bla") (refused 30 0)
     ∷ finds bladeReport [] (refused 30 0)

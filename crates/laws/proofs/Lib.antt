@@ -3,6 +3,8 @@
 -- ReadsNumbers  numbers and counted lists are read again
 -- ReadsTrees    stored trees are read again
 -- ReadsFields   the records of fields are read again
+-- NameLaws      a name is that of one field only
+-- NamesStay     what R-2 left as it was
 -- Unique        a stored table stores one description
 -- Decidable     whether a table is good is decidable
 -- Earlier       what an edition with narrower limits accepts is accepted by one with wider ones
@@ -21,6 +23,8 @@ pub mod Readers
 pub mod ReadsNumbers
 pub mod ReadsTrees
 pub mod ReadsFields
+pub mod NameLaws
+pub mod NamesStay
 pub mod Unique
 pub mod Decidable
 pub mod Earlier

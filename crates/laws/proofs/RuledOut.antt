@@ -11,8 +11,8 @@ use Rattle.base.specs.Lists.{all, any, same, lastIs, sum, joined, firstBreak}
 use Rattle.base.proofs.Lists.{every-passes, not-same}
 use Rattle.base.proofs.Breaks.{and-true}
 use Rattle.rules.specs.Limits.{limits}
-use Rattle.rules.specs.Editions.{Edition}
-use Rattle.rules.specs.Operators.{operator}
+use Rattle.rules.specs.Editions.{Edition, current}
+use Rattle.rules.specs.Operators.{operator, operators}
 use Rattle.rules.specs.Names.{
   isLetter,
   isDigit,
@@ -98,6 +98,7 @@ use Rattle.laws.specs.Wrong.{
   hands,
   placesPart,
   finds,
+  findsIn,
   labels,
   placesLabel,
   tellsNumber,
@@ -114,6 +115,7 @@ use Rattle.laws.specs.Wrong.{
   wrong,
 }
 use Rattle.laws.specs.WrongLimits.{entriesOf, linesOf, wrongLimits}
+use Rattle.laws.specs.WrongNames.{wrongNames}
 
 -- ── all that a promise allows ──
 
@@ -170,6 +172,16 @@ part-place-only d packet i part w p = p (yes (good-stored d w))
 pub field-only : (d : Description) (name : List ℕ) (a : Answer) → Within d → FindsField (stored d) name a
     → a ≡ firstNamed name 0 (d .fields)
 field-only d name a w p = p (yes (good-stored d w))
+
+-- the field of a name, in any table
+abbrev pub foundIn : List ℕ → List ℕ → Answer
+foundIn table name =
+    cond (isGoodIn current table) (firstNamed name 0 (Tables.describedIn current table .fields)) notGood
+
+pub found-only : (table name : List ℕ) (a : Answer) → FindsField table name a → a ≡ foundIn table name
+found-only table name a p =
+    let good = good-decidable-in current table in
+    p good ∙ sym (told-by current table (λ d. firstNamed name 0 (d .fields)) notGood good)
 
 abbrev pub labelAt : Description → ℕ → Part
 labelAt d i = labelOf d i (getElem? (d .fields) i)
@@ -243,6 +255,7 @@ claimed (listsWith n d packet a after) = numbers (leaves a after)
 claimed (hands d packet i bytes start) = start ∷ bytes
 claimed (placesPart d packet i part) = placeNumbers part
 claimed (finds d name a) = answerNumbers a
+claimed (findsIn table name a) = answerNumbers a
 claimed (labels d i bytes start) = start ∷ bytes
 claimed (placesLabel d i part) = placeNumbers part
 claimed (tellsNumber r n) = single n
@@ -264,6 +277,7 @@ given (listsWith n d packet r after) = numbers (delivered (listing d packet) (re
 given (hands d packet i bytes start) = partNumbers packet (partIn (reading d packet) i)
 given (placesPart d packet i part) = placeNumbers (partIn (reading d packet) i)
 given (finds d name r) = answerNumbers (firstNamed name 0 (d .fields))
+given (findsIn table name r) = answerNumbers (foundIn table name)
 given (labels d i bytes start) = partNumbers (stored d) (labelAt d i)
 given (placesLabel d i part) = placeNumbers (labelAt d i)
 given (tellsNumber r n) = single (ofPacket r .number)
@@ -286,6 +300,7 @@ isFitting (listsWith n d packet r after) = isWithin d
 isFitting (hands d packet i bytes start) = isWithin d
 isFitting (placesPart d packet i part) = isWithin d
 isFitting (finds d name r) = isWithin d
+isFitting (findsIn table name r) = true
 isFitting (labels d i bytes start) = isWithin d
 isFitting (placesLabel d i part) = isWithin d
 isFitting (tellsNumber r n) = true
@@ -313,6 +328,7 @@ claim-only (listsWith n d packet a after) h p =
 claim-only (hands d packet i bytes start) h p = two-parts (part-only d packet i (p .0) bytes start (within d h) (p .1))
 claim-only (placesPart d packet i part) h p = ap placeNumbers (part-place-only d packet i part (within d h) p)
 claim-only (finds d name a) h p = ap answerNumbers (field-only d name a (within d h) p)
+claim-only (findsIn table name a) h p = ap answerNumbers (found-only table name a p)
 claim-only (labels d i bytes start) h p = two-parts (label-only d i (p .0) bytes start (within d h) (p .1))
 claim-only (placesLabel d i part) h p = ap placeNumbers (label-place-only d i part (within d h) p)
 claim-only (tellsNumber r n) h p = ap single p
@@ -338,8 +354,8 @@ pub all-out : (cs : List Claim) → all isOther cs ≡ true → AllFalse cs
 all-out = every-passes isOther ruled-out
 
 -- each wrong program's answer is ruled out
-pub all-ruled-out : AllFalse (wrong ++ wrongLimits)
-unfolding digits all any same lastIs sum joined firstBreak operator isLetter isDigit isSpace isWordByte
+pub all-ruled-out : AllFalse (wrong ++ (wrongLimits ++ wrongNames))
+unfolding digits all any same lastIs sum joined firstBreak operator operators isLetter isDigit isSpace isWordByte
     isLabelByte noTwoSpaces isLabel reserved isReserved isShort depth le2 le4 storedTree isInRange hasType
     apply decides evaluate rowsFit storedIn storedFieldIn fieldBody headBody bitsAt valueIn readField readFields
     readingIn entryLines linesText faultNumber ofPacket delivered readingAnswer
@@ -347,4 +363,4 @@ unfolding digits all any same lastIs sum joined firstBreak operator isLetter isD
     Tables.readTwo Tables.readFour Tables.readCounted Tables.codeIn Tables.codeOf Tables.readAfter
     Tables.readTree Tables.treeOf Tables.readFixed Tables.readMeasured Tables.readWidth Tables.fieldFrom
     Tables.readField Tables.readFields Tables.describedIn
-all-ruled-out = all-out (wrong ++ wrongLimits) refl
+all-ruled-out = all-out (wrong ++ (wrongLimits ++ wrongNames)) refl

@@ -62,8 +62,9 @@ pub data Claim : Type 0 where
   hands : Description → List ℕ → ℕ → List ℕ → ℕ → Claim
   -- where they begin, and how many they are
   placesPart : Description → List ℕ → ℕ → Part → Claim
-  -- the answer to a name that is looked for
+  -- the answer to a name that is looked for, in the table of a description and in any table
   finds : Description → List ℕ → Answer → Claim
+  findsIn : List ℕ → List ℕ → Answer → Claim
   -- the label of the field of an index, and where in the table it begins
   labels : Description → ℕ → List ℕ → ℕ → Claim
   -- where it begins, and its length
@@ -112,6 +113,7 @@ Claimed (listsWith n d packet a after) = ListsPacket (stored d) packet (replicat
 Claimed (hands d packet i part start) = (from : ℕ × ℕ) × LendsPart (stored d) packet i from part (movedBy start from)
 Claimed (placesPart d packet i part) = PlacesPart (stored d) packet i part
 Claimed (finds d name a) = FindsField (stored d) name a
+Claimed (findsIn table name a) = FindsField table name a
 Claimed (labels d i label start) = (from : ℕ × ℕ) × LendsLabel (stored d) i from label (movedBy start from)
 Claimed (placesLabel d i part) = PlacesLabel (stored d) i part
 Claimed (tellsNumber r n) = n ≡ ofPacket r .number
@@ -153,10 +155,6 @@ beside = page
     ∷ named "Other" "O" (fixed 8) none none
     ∷ unnamed "Tail" (fixed 8) none (some (two Eq (read 0) (num 1)))
     ∷ [])
-
--- each field has the other's label as its short name
-abbrev pub crossed : Description
-crossed = page (named "A" "X" (fixed 8) none none ∷ named "X" "A" (fixed 8) none none ∷ [])
 
 -- ── the answers ──
 
@@ -245,16 +243,15 @@ wrongParts =
     ∷ placesPart bladeReport m3 3 (partFrom 1 1)
     ∷ []
 
-abbrev wrongNames : List Claim
-wrongNames =
+abbrev wrongLookups : List Claim
+wrongLookups =
     -- a field by name: no name found; labels or short names passed over; indexes from 1; case ignored; a prefix taken
     finds bladeReport (bytes "V") (refused 30 0)
     ∷ finds bladeReport (bytes "Blade") (refused 30 0)
     ∷ finds bladeReport (bytes "Blade") (accepted 4)
     ∷ finds bladeReport (bytes "v") (accepted 0)
     ∷ finds bladeReport (bytes "Bla") (accepted 3)
-    -- the later of two fields that have the name; 21 for a good table
-    ∷ finds crossed (bytes "X") (accepted 1)
+    -- 21 for a good table
     ∷ finds bladeReport (bytes "V") notGood
     ∷ []
 
@@ -330,4 +327,4 @@ wrongAnswers =
 abbrev pub wrong : List Claim
 wrong =
     wrongTables
-    ++ (wrongReadings ++ (wrongListings ++ (wrongParts ++ (wrongNames ++ (wrongLabels ++ wrongAnswers)))))
+    ++ (wrongReadings ++ (wrongListings ++ (wrongParts ++ (wrongLookups ++ (wrongLabels ++ wrongAnswers)))))

@@ -33,9 +33,6 @@ start-marked seen key j n = rw (ne-eqb _ _ n)
 abbrev pub Seen : (ℕ → ℕ) → ℕ → List ℕ → Type 0
 Seen key j seen = (k : ℕ) → k < j → getD seen (key k % remainders) 0 ≡ 1
 
-pub seen-starts : (key : ℕ → ℕ) (seen : List ℕ) → Seen key 0 seen
-seen-starts key seen k lt = absurd (omega arith)
-
 pub seen-on : (key : ℕ → ℕ) (j : ℕ) (seen : List ℕ) → length seen ≡ remainders → Seen key j seen
     → Seen key (j + 1) (set seen (key j % remainders) 1)
 seen-on key j seen size h k lt = go (eqb (key k % remainders) (key j % remainders)) refl
@@ -56,6 +53,15 @@ seen-on key j seen size h k lt = go (eqb (key k % remainders) (key j % remainder
         last false u other =
             let e : k ≡ j = omega (arith, ltb-false k j u) in
             absurd (other (ap (λ (x : ℕ). key x % remainders) e))
+
+-- marking one more leaves what is marked
+pub seen-kept : (key : ℕ → ℕ) (j : ℕ) (seen : List ℕ) (m : ℕ) → m < length seen → Seen key j seen
+    → Seen key j (set seen m 1)
+seen-kept key j seen m fits h k lt = go (eqb (key k % remainders) m) refl
+  where
+    go : (b : Bool) → eqb (key k % remainders) m ≡ b → getD (set seen m 1) (key k % remainders) 0 ≡ 1
+    go true t = rw (eqb-true (key k % remainders) m t, getD-set-same seen m 1 0 fits) refl
+    go false t = getD-set-other seen m (key k % remainders) 1 0 (eqb-false _ _ t) ∙ h k lt
 
 module _ (alike : ℕ → ℕ → Bool) where
   pub inner-starts : (j : ℕ) → Inner alike j 0
@@ -89,6 +95,14 @@ module _ (alike : ℕ → ℕ → Bool) where
         let found = repeats-found lt like in
         sym (later .1 ∙ search-step (repeats alike) j n le ∙ simp found)
 
+  -- a search from j on, where nothing is like it
+  pub inner-none : (j : ℕ) → ((k : ℕ) → k < j → alike k j ≡ false) → Inner alike j j
+  inner-none j none =
+      let f : ℕ → Bool = λ k. alike k j in
+      let e : firstFrom f 0 j ≡ 0 + j = none-passes f 0 j (λ k p q. none k (omega arith)) in
+      let same : firstFrom f 0 j ≡ j = omega (arith, e) in
+      (omega arith, same ∙ sym (search-end f j))
+
   -- where no key that j's is like was seen, nothing is like it
   pub inner-from : (key : ℕ → ℕ) (seen : List ℕ) (j : ℕ)
       → ((k : ℕ) → k < j → (key k ≡ key j → ⊥) → alike k j ≡ false) → Seen key j seen
@@ -102,12 +116,7 @@ module _ (alike : ℕ → ℕ → Bool) where
           omega arith)
 
       go : (b : Bool) → eqb (getD seen (key j % remainders) 0) 0 ≡ b → Inner alike j (cond b j 0)
-      go true t =
-          let f : ℕ → Bool = λ k. alike k j in
-          let z = eqb-true _ _ t in
-          let e : firstFrom f 0 j ≡ 0 + j = none-passes f 0 j (λ k p q. none z k (omega arith)) in
-          let same : firstFrom f 0 j ≡ j = omega (arith, e) in
-          (omega arith, same ∙ sym (search-end f j))
+      go true t = inner-none j (none (eqb-true _ _ t))
       go false t = inner-starts j
 
   pub later-ends : (n j : ℕ) → n ≤ j → Later alike n j → n ≡ firstRepeat alike n

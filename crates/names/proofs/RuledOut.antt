@@ -12,7 +12,16 @@ use Rattle.rules.specs.Names.{isLetter, isDigit, isOperator, isSpace, classOf, 
 use Rattle.rules.specs.Names.{noTwoSpaces, isLabel, isShort, reserved, isReserved}
 use Rattle.names.specs.Classes.{digitClass, operatorClass, spaceClass, classTable, hasClass, isWordIn}
 use Rattle.names.specs.LentNames.{noTwo, isLabelIn, isShortIn}
-use Rattle.names.specs.Repeats.{firstFrom, padTo, sameName, namesAlike, firstRepeat, startOf, atMost}
+use Rattle.names.specs.Repeats.{
+  firstFrom,
+  padTo,
+  sameName,
+  namesMeet,
+  namesAlike,
+  firstRepeat,
+  startOf,
+  atMost,
+}
 use Rattle.names.specs.Wrong.{
   Claim,
   makesTable,
@@ -23,12 +32,12 @@ use Rattle.names.specs.Wrong.{
   saysLabelIn,
   saysShortIn,
   saysLabel,
-  saysShort,
   saysReserved,
   saysSame,
   answersByte,
   holds,
   saysAlike,
+  saysMeet,
   begins,
   repeatsAt,
   Claimed,
@@ -55,14 +64,14 @@ claimed (saysWord classes b r) = bit r
 claimed (saysLabelIn classes w r) = bit r
 claimed (saysShortIn classes w r) = bit r
 claimed (saysLabel w r) = bit r
-claimed (saysShort w r) = bit r
 claimed (saysReserved w r) = bit r
 claimed (saysSame a b r) = bit r
 claimed (answersByte w i r) = single r
 claimed (holds w r) = r
 claimed (saysAlike a b r) = bit r
+claimed (saysMeet a v b w r) = bit r
 claimed (begins seen key j r) = single r
-claimed (repeatsAt names n r) = single r
+claimed (repeatsAt shorts words n r) = single r
 
 abbrev given : Claim → List ℕ
 given (makesTable r) = classTable
@@ -73,14 +82,14 @@ given (saysWord classes b r) = bit (isWordIn classes b)
 given (saysLabelIn classes w r) = bit (isLabelIn classes w)
 given (saysShortIn classes w r) = bit (isShortIn classes w)
 given (saysLabel w r) = bit (isLabel w)
-given (saysShort w r) = bit (isShort w)
 given (saysReserved w r) = bit (isReserved w)
 given (saysSame a b r) = bit (same a b)
 given (answersByte w i r) = single (getD w i 0)
 given (holds w r) = padTo shortMost w
 given (saysAlike a b r) = bit (sameName a b)
+given (saysMeet a v b w r) = bit (namesMeet a v b w)
 given (begins seen key j r) = single (startOf seen key j)
-given (repeatsAt names n r) = single (firstRepeat (namesAlike names) (atMost fieldsMost n))
+given (repeatsAt shorts words n r) = single (firstRepeat (namesAlike shorts words) (atMost fieldsMost n))
 
 claim-only : (c : Claim) → Claimed c → claimed c ≡ given c
 claim-only (makesTable r) p = p
@@ -91,14 +100,14 @@ claim-only (saysWord classes b r) p = ap bit p
 claim-only (saysLabelIn classes w r) p = ap bit p
 claim-only (saysShortIn classes w r) p = ap bit p
 claim-only (saysLabel w r) p = ap bit p
-claim-only (saysShort w r) p = ap bit p
 claim-only (saysReserved w r) p = ap bit p
 claim-only (saysSame a b r) p = ap bit p
 claim-only (answersByte w i r) p = ap single p
 claim-only (holds w r) p = p
 claim-only (saysAlike a b r) p = ap bit p
+claim-only (saysMeet a v b w r) p = ap bit p
 claim-only (begins seen key j r) p = ap single p
-claim-only (repeatsAt names n r) p = ap single p
+claim-only (repeatsAt shorts words n r) p = ap single p
 
 -- ── other numbers ──
 
@@ -118,5 +127,5 @@ each-false (c ∷ cs) h =
 pub ruled-out : AllFalse wrong
 unfolding all any same lastIs tabulate operator operators isLetter isDigit isOperator isSpace classOf isWordByte
     isLabelByte noTwoSpaces isLabel isShort reserved isReserved classTable hasClass noTwo isLabelIn isShortIn
-    firstFrom padTo sameName startOf
+    firstFrom padTo sameName namesMeet startOf
 ruled-out = each-false wrong refl

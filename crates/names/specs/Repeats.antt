@@ -1,11 +1,13 @@
 -- The first of some things that is like an earlier one, and names held as arrays of bytes, zeros for none.
 -- [01, The form for each place]
-use mathlib.Core.Bool.{Bool, cond, _&&_, not}
+use mathlib.Core.Bool.{Bool, cond, _&&_, _||_, not}
 use mathlib.Core.List.{List, [], _∷_}
 use Prim.Native.Nat.{ℕ, zero, suc, _%_}
 use lib.Dec.{ltb, eqb}
 use lib.ListN.{getD}
 use Rattle.base.specs.Lists.{same}
+use Rattle.rules.specs.Limits.{shortMost}
+use Rattle.rules.specs.Names.{isShort}
 
 -- the first of the n indexes from i that passes the test, else i + n
 unfoldable pub firstFrom : (ℕ → Bool) → ℕ → ℕ → ℕ
@@ -38,8 +40,18 @@ padTo (suc n) (x ∷ w) = x ∷ padTo n w
 unfoldable pub sameName : List ℕ → List ℕ → Bool
 sameName a b = not (eqb (getD a 0 0) 0) && same a b
 
-abbrev pub namesAlike : List (List ℕ) → ℕ → ℕ → Bool
-namesAlike names i j = sameName (getD names i []) (getD names j [])
+-- a label as it is held for reading: none where it has not the form of a short name [02, R-2]
+abbrev pub heldWord : List ℕ → List ℕ
+heldWord w = padTo shortMost (cond (isShort w) w [])
+
+-- of two fields with the held short names s and t and the held labels v and w: the short name of one is a name of the
+-- other
+unfoldable pub namesMeet : List ℕ → List ℕ → List ℕ → List ℕ → Bool
+namesMeet s v t w = sameName s t || (sameName s w || sameName t v)
+
+-- the names of two indexes meet
+abbrev pub namesAlike : List (List ℕ) → List (List ℕ) → ℕ → ℕ → Bool
+namesAlike shorts words i j = namesMeet (getD shorts i []) (getD words i []) (getD shorts j []) (getD words j [])
 
 -- n, or most where n is more
 abbrev pub atMost : ℕ → ℕ → ℕ

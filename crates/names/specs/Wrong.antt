@@ -4,14 +4,24 @@ use mathlib.Core.Path.{_≡_}
 use mathlib.Core.Bool.{Bool, true, false}
 use mathlib.Core.List.{List, [], _∷_, _++_}
 use Prim.Native.Nat.{ℕ}
+use Prim.Native.String.{String}
 use lib.ListN.{getD, replicate, set}
 use Rattle.base.specs.Bytes.{bytes}
 use Rattle.base.specs.Lists.{same}
 use Rattle.rules.specs.Limits.{fieldsMost, shortMost}
-use Rattle.rules.specs.Names.{isLabel, isShort, isReserved}
+use Rattle.rules.specs.Names.{isLabel, isReserved}
 use Rattle.names.specs.Classes.{digitClass, operatorClass, spaceClass, classTable, hasClass, isWordIn}
 use Rattle.names.specs.LentNames.{isLabelIn, isShortIn}
-use Rattle.names.specs.Repeats.{padTo, sameName, namesAlike, firstRepeat, remainders, startOf, atMost}
+use Rattle.names.specs.Repeats.{
+  padTo,
+  sameName,
+  namesMeet,
+  namesAlike,
+  firstRepeat,
+  remainders,
+  startOf,
+  atMost,
+}
 
 pub data Claim : Type 0 where
   -- the table of classes
@@ -24,9 +34,8 @@ pub data Claim : Type 0 where
   -- by a lent table, whether a word is a label, and a short name
   saysLabelIn : List ℕ → List ℕ → Bool → Claim
   saysShortIn : List ℕ → List ℕ → Bool → Claim
-  -- whether a word is a label, a short name, reserved, and the same as another
+  -- whether a word is a label, reserved, and the same as another
   saysLabel : List ℕ → Bool → Claim
-  saysShort : List ℕ → Bool → Claim
   saysReserved : List ℕ → Bool → Claim
   saysSame : List ℕ → List ℕ → Bool → Claim
   -- the byte of an index
@@ -34,9 +43,12 @@ pub data Claim : Type 0 where
   -- a name as it is held, and whether two held ones are the same
   holds : List ℕ → List ℕ → Claim
   saysAlike : List ℕ → List ℕ → Bool → Claim
-  -- where the names that may be like the one of an index begin, and the first of n that repeats an earlier one
+  -- whether the names of two fields meet: short name and label of one, then of the other
+  saysMeet : List ℕ → List ℕ → List ℕ → List ℕ → Bool → Claim
+  -- where the names that may be like the one of an index begin; by short names and labels, the first of n fields
+  -- whose names meet those of an earlier one
   begins : List ℕ → ℕ → ℕ → ℕ → Claim
-  repeatsAt : List (List ℕ) → ℕ → ℕ → Claim
+  repeatsAt : List (List ℕ) → List (List ℕ) → ℕ → ℕ → Claim
 
 abbrev pub Claimed : Claim → Type 0
 Claimed (makesTable r) = r ≡ classTable
@@ -47,14 +59,14 @@ Claimed (saysWord classes b r) = r ≡ isWordIn classes b
 Claimed (saysLabelIn classes w r) = r ≡ isLabelIn classes w
 Claimed (saysShortIn classes w r) = r ≡ isShortIn classes w
 Claimed (saysLabel w r) = r ≡ isLabel w
-Claimed (saysShort w r) = r ≡ isShort w
 Claimed (saysReserved w r) = r ≡ isReserved w
 Claimed (saysSame a b r) = r ≡ same a b
 Claimed (answersByte w i r) = r ≡ getD w i 0
 Claimed (holds w r) = r ≡ padTo shortMost w
 Claimed (saysAlike a b r) = r ≡ sameName a b
+Claimed (saysMeet a v b w r) = r ≡ namesMeet a v b w
 Claimed (begins seen key j r) = r ≡ startOf seen key j
-Claimed (repeatsAt names n r) = r ≡ firstRepeat (namesAlike names) (atMost fieldsMost n)
+Claimed (repeatsAt shorts words n r) = r ≡ firstRepeat (namesAlike shorts words) (atMost fieldsMost n)
 
 abbrev pub AllFalse : List Claim → Type 0
 AllFalse [] = Unit {0}
@@ -66,20 +78,24 @@ AllFalse (c ∷ cs) = (Claimed c → ⊥) × AllFalse cs
 abbrev pub noClasses : List ℕ
 noClasses = replicate 256 0
 
+-- a word as it is held, and none
+abbrev pub heldAs : String → List ℕ
+heldAs w = padTo shortMost (bytes w)
+
+abbrev pub no : List ℕ
+no = padTo shortMost []
+
 -- A, B, none, A, none
 abbrev pub lentNames : List (List ℕ)
-lentNames =
-    padTo shortMost (bytes "A")
-    ∷ padTo shortMost (bytes "B")
-    ∷ padTo shortMost []
-    ∷ padTo shortMost (bytes "A")
-    ∷ padTo shortMost []
-    ∷ []
+lentNames = heldAs "A" ∷ heldAs "B" ∷ no ∷ heldAs "A" ∷ no ∷ []
 
 -- 64 without a name, and A twice
 abbrev pub lateNames : List (List ℕ)
-lateNames =
-    replicate 64 (padTo shortMost []) ++ (padTo shortMost (bytes "A") ∷ padTo shortMost (bytes "A") ∷ [])
+lateNames = replicate 64 no ++ (heldAs "A" ∷ heldAs "A" ∷ [])
+
+-- none of three, and then A
+abbrev pub lastNamed : List (List ℕ)
+lastNamed = no ∷ no ∷ no ∷ heldAs "A" ∷ []
 
 -- one remainder is marked
 abbrev pub marked : ℕ → List ℕ
@@ -122,16 +138,14 @@ wrongWords =
     ∷ saysLabel [] true
     -- an underscore for the hyphen
     ∷ saysLabel (bytes "A_B") true
-    -- a short name of 9 bytes, and one of 8 refused; a digit in front; a reserved word; only reserved words
-    ∷ saysShort (bytes "ABCDEFGHI") true
-    ∷ saysShort (bytes "ABCDEFGH") false
-    ∷ saysShort (bytes "1A") true
-    ∷ saysShort (bytes "bits") true
-    ∷ saysShort (bytes "Len") false
     -- the right table instead of the lent one; two spaces together; a space refused
     ∷ saysLabelIn noClasses (bytes "A") true
     ∷ saysLabelIn classTable (bytes "A  B") true
     ∷ saysLabelIn classTable (bytes "A B") false
+    -- a short name of 9 bytes, and one of 8 refused; only reserved words
+    ∷ saysShortIn classTable (bytes "ABCDEFGHI") true
+    ∷ saysShortIn classTable (bytes "ABCDEFGH") false
+    ∷ saysShortIn classTable (bytes "Len") false
     -- the right table instead of the lent one; a hyphen; a digit in front; a reserved word
     ∷ saysShortIn noClasses (bytes "A") true
     ∷ saysShortIn classTable (bytes "A-B") true
@@ -154,23 +168,51 @@ wrongHeld =
     ∷ holds (bytes "AB") (replicate shortMost 65)
     ∷ holds (bytes "AB") (bytes "AB      ")
     -- two fields without a short name repeat each other; names that begin alike; no name like itself
-    ∷ saysAlike (padTo shortMost []) (padTo shortMost []) true
-    ∷ saysAlike (padTo shortMost (bytes "A")) (padTo shortMost (bytes "AB")) true
-    ∷ saysAlike (padTo shortMost (bytes "A")) (padTo shortMost (bytes "A")) false
+    ∷ saysAlike no no true
+    ∷ saysAlike (heldAs "A") (heldAs "AB") true
+    ∷ saysAlike (heldAs "A") (heldAs "A") false
+    -- the label of one and the short name of the other left out, both ways; one word as both names of a field; two
+    -- fields without names; labels that are compared elsewhere [02, R-2]
+    ∷ saysMeet (heldAs "A") no no (heldAs "A") false
+    ∷ saysMeet no (heldAs "A") (heldAs "A") no false
+    ∷ saysMeet (heldAs "A") no (heldAs "A") no false
+    ∷ saysMeet (heldAs "A") (heldAs "A") (heldAs "B") (heldAs "B") true
+    ∷ saysMeet no no no no true
+    ∷ saysMeet no (heldAs "A") no (heldAs "A") true
+    -- a name and one that it begins; case ignored
+    ∷ saysMeet (heldAs "A") no no (heldAs "AB") true
+    ∷ saysMeet (heldAs "A") no no (heldAs "a") true
+    ∷ []
+
+-- of names that meet
+abbrev pub wrongRepeats : List Claim
+wrongRepeats =
     -- the search left out where the key was seen; another remainder of the key
-    ∷ begins (marked 60) 60 7 7
+    begins (marked 60) 60 7 7
     ∷ begins (marked 1) 60 7 0
     -- the earlier of two repeats; counted from 1; two without a name; beyond the names that were asked for
-    ∷ repeatsAt lentNames 5 0
-    ∷ repeatsAt lentNames 5 4
-    ∷ repeatsAt (padTo shortMost [] ∷ padTo shortMost [] ∷ []) 2 1
-    ∷ repeatsAt lentNames 3 1
+    ∷ repeatsAt lentNames [] 5 0
+    ∷ repeatsAt lentNames [] 5 4
+    ∷ repeatsAt (no ∷ no ∷ []) [] 2 1
+    ∷ repeatsAt lentNames [] 3 1
+    -- labels left out; a field whose two names are one word; the short name before its label [02, R-2]
+    ∷ repeatsAt (heldAs "A" ∷ []) lastNamed 4 4
+    ∷ repeatsAt lastNamed (heldAs "A" ∷ []) 4 4
+    ∷ repeatsAt lastNamed lastNamed 4 3
+    ∷ repeatsAt (heldAs "A" ∷ []) lastNamed 4 0
+    -- the pair with the earliest first field; short names before labels
+    ∷ repeatsAt (heldAs "A" ∷ heldAs "B" ∷ heldAs "B" ∷ heldAs "A" ∷ []) [] 4 3
+    ∷ repeatsAt (heldAs "A" ∷ no ∷ heldAs "B" ∷ heldAs "A" ∷ []) (no ∷ heldAs "B" ∷ []) 4 3
+    -- names whose keys have one remainder taken for the same; labels behind the 64th left out
+    ∷ repeatsAt (heldAs "Ap" ∷ heldAs "Ba" ∷ []) [] 2 1
+    ∷ repeatsAt (no ∷ heldAs "Ba" ∷ []) (heldAs "Ap" ∷ []) 2 1
+    ∷ repeatsAt (heldAs "A" ∷ []) (replicate 127 no ++ (heldAs "A" ∷ [])) 128 128
     -- names behind the 64th left out; more asked for than there may be [02, R-10]
-    ∷ repeatsAt lateNames 66 64
-    ∷ repeatsAt lateNames 66 66
-    ∷ repeatsAt [] 65 64
-    ∷ repeatsAt [] 129 129
+    ∷ repeatsAt lateNames [] 66 64
+    ∷ repeatsAt lateNames [] 66 66
+    ∷ repeatsAt [] [] 65 64
+    ∷ repeatsAt [] [] 129 129
     ∷ []
 
 abbrev pub wrong : List Claim
-wrong = wrongBytes ++ (wrongWords ++ wrongHeld)
+wrong = wrongBytes ++ (wrongWords ++ (wrongHeld ++ wrongRepeats))

@@ -9,7 +9,7 @@ use rules::LABEL_MOST;
 use rules::SHORT_MOST;
 ghost use mathlib.Core.Path.{_≡_};
 ghost use Rattle.base.specs.Lists.{all};
-ghost use Rattle.rules.specs.Names.{isLabel, isShort};
+ghost use Rattle.rules.specs.Names.{isLabel};
 ghost use Rattle.names.specs.Classes.{spaceClass, hasClass};
 ghost use Rattle.names.specs.LentNames.{isNameIn, hasEndsIn, noTwo, isLabelIn, isShortIn};
 
@@ -94,11 +94,4 @@ pub fn is_label(w: &[u8]) -> bool
 {
     let classes = class_table();
     is_label_in(&classes, w)
-}
-
-pub fn is_short(w: &[u8]) -> bool
-    ensures { λ r. ⌜ r ≡ isShort (now (w .entry)) ⌝ }
-{
-    let classes = class_table();
-    is_short_in(&classes, w)
 }

@@ -1,6 +1,6 @@
 // Words compared byte by byte, their keys, and the reserved words.
 ghost use mathlib.Core.Path.{_≡_};
-ghost use Prim.Native.Nat.{_<_};
+ghost use Prim.Native.Nat.{ℕ, _<_};
 ghost use lib.ListN.{getD};
 ghost use Rattle.base.specs.Lists.{same};
 ghost use Rattle.rules.specs.Names.{isReserved};
@@ -28,7 +28,8 @@ pub fn byte_of(w: &[u8], i: usize) -> u8
 
 // The number that the last 8 bytes of a word make.
 pub(crate) fn word_key(w: &[u8]) -> usize
-    ensures { λ r. ⌜ r ≡ wordKey (now (w .entry)) ⌝ }
+    ensures key { λ r. ⌜ r ≡ wordKey (now (w .entry)) ⌝ }
+    ensures bytes { λ r. ⌜ ((i : ℕ) → getD (now (w .entry)) i 0 < 256) ⌝ }
 {
     let mut key: usize = 0;
     let mut i = 0;

@@ -20,8 +20,8 @@ use Rattle.names.proofs.PadLaws.{short-held}
 use Rattle.packets.specs.declared.records.Parts.{Parts}
 use Rattle.packets.specs.StoredTrees.{marked}
 use Rattle.packets.specs.PartsStand.{WidthStands, PartsStand}
-use Rattle.packets.specs.FieldTest.{orderTest, markOf, bitsOf}
-use Rattle.packets.proofs.PartBytes.{in-length, stored-positive}
+use Rattle.packets.specs.FieldTest.{orderTest, markBy, markOf, bitsOf}
+use Rattle.packets.proofs.PartBytes.{bytes-are, in-length, stored-positive}
 
 -- ── marks ──
 
@@ -53,20 +53,27 @@ named-length none h = refl
 named-length (some []) h = absurd (not-both false (short-held [] h .1) refl)
 named-length (some (x ∷ w)) h = ne-eqb (suc (length w)) 0 (λ e. omega arith)
 
-opposite-mark : (b : Bool) → _≡_ {A = ℕ} (cond b 0 1) (cond (not b) 1 0)
-opposite-mark true = refl
-opposite-mark false = refl
+-- a field has a name by which it may be read where it has a short name, or its label b is such a word
+named-mark : (o : Option (List ℕ)) (b : Bool) (l : List ℕ)
+    → _≡_ {A = ℕ} (cond b 1 (cond (isEmpty (listOf o)) 0 1))
+    (cond (not (isEmpty (listOf o ++ cond b (l ∷ []) []))) 1 0)
+named-mark none true l = refl
+named-mark none false l = refl
+named-mark (some w) true l = refl
+named-mark (some w) false l = refl
 
 module _ (s : List ℕ) (p : Parts) where
-  pub mark-is : (f : Field ℕ) → PartsStand s p f → ifAny isShort (f .short) ≡ true → markOf p ≡ mark f
-  unfolding markOf
+  pub mark-is : (f : Field ℕ) → PartsStand s p f → ifAny isShort (f .short) ≡ true → markOf s p ≡ mark f
+  unfolding markBy
   mark-is f st h = go (f .width) refl
     where
       l : eqb (p .short .len) 0 ≡ isEmpty (listOf (f .short))
       l = rw (in-length s (p .short) (storedName (f .short)) (st .short)) (named-length (f .short) h)
 
-      go : (w : Width ℕ) → f .width ≡ w → markOf p ≡ mark f
-      go (fixed n) e = rw (st .kind, e, l) (opposite-mark (isEmpty (listOf (f .short))))
+      go : (w : Width ℕ) → f .width ≡ w → markOf s p ≡ mark f
+      go (fixed n) e =
+          rw (st .kind, e, l, bytes-are s (p .label) (f .label) (st .label))
+          (named-mark (f .short) (isShort (f .label)) (f .label))
       go (measured u t) e = rw (st .kind, e)
       go rest e = rw (st .kind, e)
 

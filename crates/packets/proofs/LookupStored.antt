@@ -15,7 +15,7 @@ use Rattle.laws.specs.Places.{Stands}
 use Rattle.laws.proofs.Places.{stands-left, stands-right, stands-some}
 use Rattle.base.proofs.Breaks.{firstBreak-cons}
 use Rattle.rules.specs.Names.{isLabel, isShort}
-use Rattle.rules.specs.Fields.{Field, cellNames}
+use Rattle.rules.specs.Fields.{Field, fieldNames}
 use Rattle.rules.specs.Within.{keepsForm, keepsSize}
 use Rattle.rules.specs.Stored.{storedName, storedField}
 use Rattle.rules.specs.Answers.{accepted, ofField}
@@ -68,7 +68,7 @@ named-short s p name (some []) h i = absurd (false≢true h)
 named-short s p name (some (x ∷ w)) h i = named-some s p name x w i ∙ or-false (same name (x ∷ w))
 
 has-name : (s : List ℕ) (p : Parts) (name : List ℕ) (f : Field ℕ) → isLabel (f .label) ≡ true
-    → ifAny isShort (f .short) ≡ true → PartsStand s p f → hasName s p name ≡ any (same name) (cellNames f)
+    → ifAny isShort (f .short) ≡ true → PartsStand s p f → hasName s p name ≡ any (same name) (fieldNames f)
 unfolding hasName any
 has-name s p name f l h q =
     rw (named-label s (p .label) name (f .label) l (q .label), named-short s (p .short) name (f .short) h (q .short))
@@ -124,7 +124,7 @@ module _ (s : List ℕ) (end : ℕ) (r : List ℕ) (short : end ≤ tableMost) w
         has-name s (partsAt s place) name f (w .label) (w .name) (w .parts),
         w .next,
       )
-      (go (any (same name) (cellNames f)) (ih ∙ ap (λ (n : ℕ). firstNamed name n fs) (add-one i)))
+      (go (any (same name) (fieldNames f)) (ih ∙ ap (λ (n : ℕ). firstNamed name n fs) (add-one i)))
     where
       go : (b : Bool)
           → ofField (findFrom s name (i + 1) (length fs) (place + length (storedField f))) ≡ firstNamed name (suc i) fs

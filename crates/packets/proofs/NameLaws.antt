@@ -1,41 +1,48 @@
 -- The test that names are unique holds where no field's names clash with an earlier field's, and only there.
 use mathlib.Core.Path.{_≡_, refl, sym, _∙_, ap}
-use mathlib.Core.Bool.{Bool, true, false}
-use mathlib.Core.List.{List, [], _∷_, _++_, append-assoc}
-use mathlib.Core.Option.{Option, none, some}
+use mathlib.Core.Bool.{Bool, true, false, _||_}
+use mathlib.Core.List.{List, [], _∷_, _++_, map, append-assoc}
+use mathlib.Core.Option.{none}
 use Prim.Native.Nat.{ℕ, zero, suc, _+_, _<_, _≤_}
 use native.Mathlib.Omega.{arith}
 use lib.Dec.{ltb, eqb}
 use lib.ListN.{length, getD, length-append}
 use lib.Seq.{getD-append-seam}
 use borrow.Author.Tests.{ltb-true, ltb-false, eqb-true, eq-eqb, not-true}
-use Rattle.base.specs.Lists.{any, same, ifAny, joined, firstBreak}
+use Rattle.base.specs.Lists.{any, ifAny, joined, firstBreak}
 use Rattle.laws.specs.Places.{Stands}
 use Rattle.base.proofs.Lists.{
   and-left,
   and-right,
   and-both,
-  not-both,
-  fails,
   or-false-left,
   or-false-right,
-  same-true,
-  same-self,
 }
 use Rattle.laws.proofs.Places.{stands-left, stands-right}
 use Rattle.base.proofs.Breaks.{firstBreak-cons}
 use Rattle.rules.specs.Limits.{shortMost}
 use Rattle.rules.specs.Names.{isShort}
 use Rattle.rules.specs.Fields.{Field, rest}
-use Rattle.rules.specs.Within.{isFormed, sameShort, keepsForm, keepsSize, clash, keepsNames}
-use Rattle.rules.specs.Stored.{storedField, storedName}
+use Rattle.rules.specs.Within.{isFormed, keepsForm, keepsSize, clash, keepsNames}
+use Rattle.rules.specs.Stored.{storedField}
 use Rattle.laws.proofs.ReadsFields.{formed-parts}
-use Rattle.names.specs.Repeats.{padTo, sameName, namesAlike, firstRepeat}
+use Rattle.names.specs.Repeats.{padTo, heldWord, namesAlike, firstRepeat}
 use Rattle.names.proofs.RepeatLaws.{no-repeat, repeat-none}
-use Rattle.names.proofs.PadLaws.{held-same, none-first, none-second}
+use Rattle.names.proofs.ClashLaws.{heldShort, clash-held}
+use Rattle.laws.proofs.NameLaws.{clash-turn}
 use Rattle.packets.specs.Parts.{partsAt}
 use Rattle.packets.specs.PartsStand.{PartsStand}
-use Rattle.packets.specs.NamesTest.{placesFrom, labelAt, heldIn, shortAt, labelsAlike, shortsAt, namesTest}
+use Rattle.packets.specs.NamesTest.{
+  placesFrom,
+  labelAt,
+  heldIn,
+  shortAt,
+  wordAt,
+  labelsAlike,
+  shortsAt,
+  wordsAt,
+  namesTest,
+}
 use Rattle.packets.proofs.FieldBounds.{field-bounds}
 use Rattle.packets.proofs.RecordLaws.{record-parts}
 use Rattle.packets.proofs.PartBytes.{bytes-are}
@@ -137,27 +144,13 @@ unfolding placesFrom
 places-length s zero at = refl
 places-length s (suc n) at = ap suc (places-length s n (partsAt s at .next))
 
-pub getD-shorts : (s l : List ℕ) (i : ℕ) → i < length l → getD (shortsAt s l) i [] ≡ shortAt s (getD l i 0)
-getD-shorts s [] i h = absurd (omega arith)
-getD-shorts s (x ∷ l) zero h = refl
-getD-shorts s (x ∷ l) (suc i) h = getD-shorts s l i (omega arith)
+pub getD-mapped : (f : ℕ → List ℕ) (l : List ℕ) (i : ℕ) → i < length l → getD (map f l) i [] ≡ f (getD l i 0)
+getD-mapped f [] i h = absurd (omega arith)
+getD-mapped f (x ∷ l) zero h = refl
+getD-mapped f (x ∷ l) (suc i) h = getD-mapped f l i (omega arith)
 
-held-short : (a b : Option (List ℕ)) → ifAny isShort a ≡ true → ifAny isShort b ≡ true
-    → sameName (padTo shortMost (storedName a)) (padTo shortMost (storedName b)) ≡ sameShort a b
-held-short none b p q = none-first (padTo shortMost (storedName b))
-held-short (some a) none p q = none-second a p
-held-short (some a) (some b) p q = held-same a b p q
-
--- ── the order of two names does not matter ──
-
-same-turn : (a b : List ℕ) → same a b ≡ false → same b a ≡ false
-same-turn a b h = fails (same b a) (λ e. not-both (same a b) (rw (same-true b a e) (same-self a)) h)
-
-short-turn : (a b : Option (List ℕ)) → sameShort a b ≡ false → sameShort b a ≡ false
-short-turn none none h = refl
-short-turn none (some b) h = refl
-short-turn (some a) none h = refl
-short-turn (some a) (some b) h = same-turn a b h
+or-neither : (a b : Bool) → a ≡ false → b ≡ false → (a || b) ≡ false
+or-neither a b p q = rw (p, q)
 
 -- ── the test ──
 
@@ -170,49 +163,47 @@ module _ (s : List ℕ) (l : List (Field ℕ)) (at next : ℕ) (form : firstBrea
   unfolding labelAt
   label-nth i lt = bytes-are s _ _ (parts-nth s [] l form size at next st i lt .label)
 
-  short-nth : (i : ℕ) → i < length l → getD (shortsAt s places) i [] ≡ padTo shortMost (storedName (nth l i .short))
+  short-nth : (i : ℕ) → i < length l → getD (shortsAt s places) i [] ≡ heldShort (nth l i .short)
   unfolding heldIn
   short-nth i lt =
-      getD-shorts s places i (omega (arith, places-length s (length l) at))
+      getD-mapped (shortAt s) places i (omega (arith, places-length s (length l) at))
       ∙ ap (padTo shortMost) (bytes-are s _ _ (parts-nth s [] l form size at next st i lt .short))
+
+  word-nth : (i : ℕ) → i < length l → getD (wordsAt s places) i [] ≡ heldWord (nth l i .label)
+  word-nth i lt =
+      getD-mapped (wordAt s) places i (omega (arith, places-length s (length l) at)) ∙ ap heldWord (label-nth i lt)
 
   short-good : (i : ℕ) → i < length l → ifAny isShort (nth l i .short) ≡ true
   short-good i lt = formed-parts (nth l i) (form-at [] l form i lt) .1
 
-  labels-are : (i j : ℕ) → i < length l → j < length l
-      → labelsAlike s places i j ≡ same (nth l i .label) (nth l j .label)
-  labels-are i j p q = rw (label-nth i p, label-nth j q)
-
-  shorts-are : (i j : ℕ) → i < length l → j < length l
-      → namesAlike (shortsAt s places) i j ≡ sameShort (nth l i .short) (nth l j .short)
-  shorts-are i j p q =
-      rw (short-nth i p, short-nth j q) (held-short (nth l i .short) (nth l j .short) (short-good i p)
-      (short-good j q))
+  -- the names of two records meet where those of the fields clash
+  alike-is : (i j : ℕ) → i < length l → j < length l
+      → (labelsAlike s places i j || namesAlike (shortsAt s places) (wordsAt s places) i j)
+      ≡ clash (nth l j) (nth l i)
+  alike-is i j p q =
+      rw (label-nth i p, label-nth j q, short-nth i p, short-nth j q, word-nth i p, word-nth j q)
+      (sym (clash-held (nth l i) (nth l j) (short-good i p) (short-good j q)) ∙ clash-turn (nth l i) (nth l j))
 
   pub names-sound : namesTest s (length l) at ≡ true → firstBreak keepsNames [] l ≡ none
   unfolding namesTest
   names-sound h =
       let n = length l in
+      let alike = namesAlike (shortsAt s places) (wordsAt s places) in
       let a = no-repeat (labelsAlike s places) n
       (eqb-true _ _ (and-left (eqb (firstRepeat (labelsAlike s places) n) n) _ h)) in
-      let b = no-repeat (namesAlike (shortsAt s places)) n
-      (eqb-true _ _ (and-right (eqb (firstRepeat (labelsAlike s places) n) n) _ h)) in
+      let b = no-repeat alike n (eqb-true _ _ (and-right (eqb (firstRepeat (labelsAlike s places) n) n) _ h)) in
       unique-build [] l (λ i j p q.
-      let x = sym (labels-are i j (omega arith) q) ∙ a i j p q in
-      let y = sym (shorts-are i j (omega arith) q) ∙ b i j p q in
-      rw (same-turn (nth l i .label) (nth l j .label) x) (short-turn (nth l i .short) (nth l j .short) y))
+      sym (alike-is i j (omega arith) q) ∙ or-neither (labelsAlike s places i j) (alike i j) (a i j p q) (b i j p q))
 
   pub names-complete : firstBreak keepsNames [] l ≡ none → namesTest s (length l) at ≡ true
   unfolding namesTest
   names-complete h =
       let n = length l in
-      let apart = unique-parts [] l h in
+      let alike = namesAlike (shortsAt s places) (wordsAt s places) in
+      let apart : (i j : ℕ) → i < j → j < n → (labelsAlike s places i j || alike i j) ≡ false = λ i j p q.
+      alike-is i j (omega arith) q ∙ unique-parts [] l h i j p (omega arith) q in
       let a = repeat-none (labelsAlike s places) n (λ i j p q.
-      labels-are i j (omega arith) q
-      ∙ same-turn (nth l j .label) (nth l i .label)
-      (or-false-left (same (nth l j .label) (nth l i .label)) _ (apart i j p (omega arith) q))) in
-      let b = repeat-none (namesAlike (shortsAt s places)) n (λ i j p q.
-      shorts-are i j (omega arith) q
-      ∙ short-turn (nth l j .short) (nth l i .short)
-      (or-false-right (same (nth l j .label) (nth l i .label)) _ (apart i j p (omega arith) q))) in
+      or-false-left (labelsAlike s places i j) (alike i j) (apart i j p q)) in
+      let b = repeat-none alike n (λ i j p q.
+      or-false-right (labelsAlike s places i j) (alike i j) (apart i j p q)) in
       and-both (eqb (firstRepeat (labelsAlike s places) n) n) _ (eq-eqb _ _ a) (eq-eqb _ _ b)

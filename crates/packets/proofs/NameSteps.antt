@@ -10,13 +10,14 @@ use lib.ListN.{length, take, set, getD, replicate}
 use lib.Seq.{getD-take, getD-set-same, getD-set-other, getD-at, length-take-le}
 use borrow.Author.Tests.{ltb-true, ltb-false}
 use Rattle.rules.specs.Limits.{shortMost}
-use Rattle.names.specs.Repeats.{padTo, namesAlike, firstRepeat}
+use Rattle.rules.specs.Names.{isShort}
+use Rattle.names.specs.Repeats.{padTo, heldWord, namesAlike, firstRepeat}
 use Rattle.names.proofs.RepeatLaws.{repeat-same}
 use Rattle.names.proofs.KeyLaws.{keys-apart}
 use Rattle.writing.specs.declared.spans.Span.{Span}
 use Rattle.packets.specs.Parts.{partsAt}
 use Rattle.packets.proofs.WalkSteps.{take-own}
-use Rattle.packets.proofs.NameLaws.{getD-shorts, places-length}
+use Rattle.packets.proofs.NameLaws.{getD-mapped, places-length}
 use Rattle.packets.specs.NamesTest.{
   placesFrom,
   FieldPlaces,
@@ -25,10 +26,13 @@ use Rattle.packets.specs.NamesTest.{
   labelKey,
   LabelKeys,
   HeldNames,
+  HeldWords,
   heldIn,
   shortAt,
+  wordAt,
   labelsAlike,
   shortsAt,
+  wordsAt,
   namesTest,
   uniqueIn,
   Gathered,
@@ -79,35 +83,43 @@ filled-again f d l i x lt h e k le = go (ltb k i) refl
         rw (m, getD-set-same l i x d lt) e
 
 -- what is gathered of n records once i of them are
-pub record Gathering (s : List ℕ) (n from i at : ℕ) (places keys : List ℕ) (names : List (List ℕ)) : Type 0 where
-  pub left : take i places ++ placesFrom s (n - i) at ≡ placesFrom s n from
-  pub keyed : LabelKeys s (placesFrom s n from) i keys
-  pub held : HeldNames s (placesFrom s n from) i names
+pub record Gathering (s : List ℕ) (n from i at : ℕ) (places keys : List ℕ) (shorts words : List (List ℕ)) : Type 0
+  where
+    pub left : take i places ++ placesFrom s (n - i) at ≡ placesFrom s n from
+    pub keyed : LabelKeys s (placesFrom s n from) i keys
+    pub held : HeldNames s (placesFrom s n from) i shorts
+    pub worded : HeldWords s (placesFrom s n from) i words
 
-pub gather-start : (s : List ℕ) (n from : ℕ) (places keys : List ℕ) (names : List (List ℕ))
-    → Gathering s n from 0 from places keys names
-gather-start s n from places keys names =
-    record { left = rw sub-zero; keyed = λ k lt. absurd (omega arith); held = λ k lt. absurd (omega arith) }
+pub gather-start : (s : List ℕ) (n from : ℕ) (places keys : List ℕ) (shorts words : List (List ℕ))
+    → Gathering s n from 0 from places keys shorts words
+gather-start s n from places keys shorts words = record {
+  left = rw sub-zero;
+  keyed = λ k lt. absurd (omega arith);
+  held = λ k lt. absurd (omega arith);
+  worded = λ k lt. absurd (omega arith);
+}
 
-module _ (s : List ℕ) (n from i at : ℕ) (places keys : List ℕ) (names : List (List ℕ))
-    (g : Gathering s n from i at places keys names) where
-  pub gather-again : i < n → i < length places → i < length keys → i < length names
+module _ (s : List ℕ) (n from i at : ℕ) (places keys : List ℕ) (shorts words : List (List ℕ))
+    (g : Gathering s n from i at places keys shorts words) where
+  pub gather-again : i < n → i < length places → i < length keys → i < length shorts → i < length words
       → Gathering s n from (i + 1) (partsAt s at .next) (set places i at) (set keys i (labelKey s at))
-      (set names i (shortAt s at))
-  gather-again lt lp lk ln =
+      (set shorts i (shortAt s at)) (set words i (wordAt s at))
+  gather-again lt lp lk ls lw =
       let all : ℕ → ℕ = λ k. getD (placesFrom s n from) k 0 in
       let here : all i ≡ at = place-next s n i at from places lt lp (g .left) in
       record {
         left = places-again s n i at from places _ lt lp (g .left);
         keyed = filled-again (λ k. labelKey s (all k)) 0 keys i _ lk (g .keyed) (rw here);
-        held = filled-again (λ k. shortAt s (all k)) [] names i _ ln (g .held) (rw here);
+        held = filled-again (λ k. shortAt s (all k)) [] shorts i _ ls (g .held) (rw here);
+        worded = filled-again (λ k. wordAt s (all k)) [] words i _ lw (g .worded) (rw here);
       }
 
-  pub gather-done : i ≡ n → Gathered s n from places keys names
+  pub gather-done : i ≡ n → Gathered s n from places keys shorts words
   gather-done e = record {
     placed = places-done s n i at from places _ e (g .left);
     keyed = rw e at (g .keyed);
     held = rw e at (g .held);
+    worded = rw e at (g .worded);
   }
 
 -- ── labels of other keys ──
@@ -119,7 +131,11 @@ labels-apart s places keys n i j h p q apart =
     keys-apart sampleKey (labelAt s (getD places i 0)) (labelAt s (getD places j 0))
     (λ e. apart (h i p ∙ e ∙ sym (h j q)))
 
--- ── a record without a short name ──
+-- ── a record without a short name, or whose label may not be read ──
+
+pub label-none : (w : List ℕ) → isShort w ≡ false → replicate shortMost 0 ≡ heldWord w
+unfolding padTo
+label-none w e = rw e
 
 pub short-none : (s : List ℕ) (p : Span) → p .len ≡ 0 → replicate shortMost 0 ≡ heldIn s p
 unfolding heldIn padTo
@@ -141,27 +157,33 @@ module _ (s : List ℕ) (n : ℕ) (places all : List ℕ) where
       repeat-same (labelsAlike s places) (labelsAlike s all) n (λ i j p q.
       rw (same-place e i (omega arith), same-place e j q))
 
-  pub all-names : (names : List (List ℕ)) → take n places ≡ all → length all ≡ n → HeldNames s places n names
-      → firstRepeat (namesAlike names) n ≡ firstRepeat (namesAlike (shortsAt s all)) n
-  all-names names e z h =
-      let one : (i : ℕ) → i < n → getD names i [] ≡ getD (shortsAt s all) i [] = λ i lt.
-      h i lt ∙ ap (shortAt s) (same-place e i lt) ∙ sym (getD-shorts s all i (omega arith)) in
-      repeat-same (namesAlike names) (namesAlike (shortsAt s all)) n (λ i j p q. rw (one i (omega arith), one j q))
+  pub all-names : (shorts words : List (List ℕ)) → take n places ≡ all → length all ≡ n
+      → HeldNames s places n shorts → HeldWords s places n words
+      → firstRepeat (namesAlike shorts words) n ≡ firstRepeat (namesAlike (shortsAt s all) (wordsAt s all)) n
+  all-names shorts words e z h k =
+      let one : (i : ℕ) → i < n → getD shorts i [] ≡ getD (shortsAt s all) i [] = λ i lt.
+      h i lt ∙ ap (shortAt s) (same-place e i lt) ∙ sym (getD-mapped (shortAt s) all i (omega arith)) in
+      let two : (i : ℕ) → i < n → getD words i [] ≡ getD (wordsAt s all) i [] = λ i lt.
+      k i lt ∙ ap (wordAt s) (same-place e i lt) ∙ sym (getD-mapped (wordAt s) all i (omega arith)) in
+      repeat-same (namesAlike shorts words) (namesAlike (shortsAt s all) (wordsAt s all)) n (λ i j p q.
+      rw (one i (omega arith), one j q, two i (omega arith), two j q))
 
 -- the code's test of what it gathered
-module _ (s : List ℕ) (n from : ℕ) (places keys : List ℕ) (names : List (List ℕ))
-    (g : Gathered s n from places keys names) where
+module _ (s : List ℕ) (n from : ℕ) (places keys : List ℕ) (shorts words : List (List ℕ))
+    (g : Gathered s n from places keys shorts words) where
   abbrev all : List ℕ
   all = placesFrom s n from
 
   pub gathered-keys : LabelKeys s places n keys
   gathered-keys i lt = rw (same-place s n places all (g .placed) i lt) (g .keyed i lt)
 
-  pub gathered-unique : uniqueIn s places names n ≡ namesTest s n from
+  pub gathered-unique : uniqueIn s places shorts words n ≡ namesTest s n from
   unfolding uniqueIn namesTest
   gathered-unique =
-      let held : HeldNames s places n names = λ i lt. rw (same-place s n places all (g .placed) i lt) (g .held i lt) in
+      let held : HeldNames s places n shorts = λ i lt. rw (same-place s n places all (g .placed) i lt) (g .held i lt) in
+      let worded : HeldWords s places n words = λ i lt.
+      rw (same-place s n places all (g .placed) i lt) (g .worded i lt) in
       rw (
         all-labels s n places all (g .placed),
-        all-names s n places all names (g .placed) (places-length s n from) held,
+        all-names s n places all shorts words (g .placed) (places-length s n from) held worded,
       )

@@ -96,6 +96,7 @@ pub walk-of : (s : List ℕ) {w n from : ℕ} {r x : Walked} → w ≡ twoAt s 4
 walk-of s a b c e f = rw (← a, ← b, ← c) (sym e ∙ f)
 
 -- what a walk to the end has gathered
-pub gathered-past : {r : Walked} {at : ℕ} {s : List ℕ} {n from : ℕ} {places keys : List ℕ} {names : List (List ℕ)}
-    → r ≡ Past at → GatheredBy r s n from places keys names → Gathered s n from places keys names
+pub gathered-past : {r : Walked} {at : ℕ} {s : List ℕ} {n from : ℕ} {places keys : List ℕ}
+    {shorts words : List (List ℕ)}
+    → r ≡ Past at → GatheredBy r s n from places keys shorts words → Gathered s n from places keys shorts words
 gathered-past e g = rw e at g

@@ -56,7 +56,7 @@ past-bad next e = let z : _≡_ {A = ℕ} 0 1 = cc in omega arith
 
 module _ (w n : ℕ) (marks : List ℕ) (place : ℕ) (ended : Bool) (s : List ℕ) (at next : ℕ) where
   abbrev own : List ℕ
-  own = marks ++ (markOf (partsAt s at) ∷ [])
+  own = marks ++ (markOf s (partsAt s at) ∷ [])
 
   abbrev then : Walked
   then =
@@ -166,16 +166,16 @@ module _ (w n place : ℕ) (before : List (Field ℕ)) (s : List ℕ) (at next :
   walk-cons : ((b : List (Field ℕ)) (q a : ℕ) → walkAt w n (marksOf b) q (any isRest b) s a ≡ Past next
       → (l : List (Field ℕ)) × (length l ≡ n) × FieldsIn w b q s a next l)
       → (f : Field ℕ) → PartsStand s (partsAt s at) f
-      → Keeps (marksOf before) (marksOf before ++ (markOf (partsAt s at) ∷ [])) f
+      → Keeps (marksOf before) (marksOf before ++ (markOf s (partsAt s at) ∷ [])) f
       → Stands s at (storedField f) (partsAt s at .next)
       → orderTest w place (any isRest before) (partsAt s at) ≡ true
-      → walkAt w n (marksOf before ++ (markOf (partsAt s at) ∷ [])) (place + bitsOf (partsAt s at))
+      → walkAt w n (marksOf before ++ (markOf s (partsAt s at) ∷ [])) (place + bitsOf (partsAt s at))
       (any isRest before || eqb (partsAt s at .kind) 4) s (partsAt s at .next) ≡ Past next
       → (l : List (Field ℕ)) × (length l ≡ suc n) × FieldsIn w before place s at next l
   walk-cons rec f ps keeps st order h =
       let p = partsAt s at in
       let short = formed-parts f (keeps .formed) .1 in
-      let o : marksOf before ++ (markOf p ∷ []) ≡ marksOf (before ++ (f ∷ [])) = own-marks before f (markOf p)
+      let o : marksOf before ++ (markOf s p ∷ []) ≡ marksOf (before ++ (f ∷ [])) = own-marks before f (markOf s p)
       (mark-is s p f ps short) in
       let e : (any isRest before || eqb (p .kind) 4) ≡ any isRest (before ++ (f ∷ [])) =
       rw (rest-is s p f ps) (sym (any-end isRest before f)) in
@@ -216,7 +216,7 @@ walk-sound w (suc n) before place s at next b h =
     let ended = any isRest before in
     let q = walk-parts w n (marksOf before) place ended s at next h in
     let t = test-parts w place ended s at (q .0) in
-    let r = record-sound s (marksOf before) (marksOf before ++ (markOf p ∷ [])) at b (t .0) (t .1) (q .1) in
+    let r = record-sound s (marksOf before) (marksOf before ++ (markOf s p ∷ [])) at b (t .0) (t .1) (q .1) in
     walk-cons w n place before s at next (λ c u a g. walk-sound w n c u s a next b g) (r .0) (r .1) (r .2) (r .3)
     (t .2) (q .2)
 
@@ -250,7 +250,7 @@ walk-complete w before place s at next (f ∷ l) le h =
     let c = record-complete s (marksOf before) (marksOf (before ++ (f ∷ []))) at f mid keeps st
     (omega (arith, right .end, le)) in
     let short = formed-parts f (form .0) .1 in
-    let o : marksOf before ++ (markOf p ∷ []) ≡ marksOf (before ++ (f ∷ [])) = own-marks before f (markOf p)
+    let o : marksOf before ++ (markOf s p ∷ []) ≡ marksOf (before ++ (f ∷ [])) = own-marks before f (markOf s p)
     (mark-is s p f (c .3) short) in
     let e : (any isRest before || eqb (p .kind) 4) ≡ any isRest (before ++ (f ∷ [])) =
     rw (rest-is s p f (c .3)) (sym (any-end isRest before f)) in

@@ -80,9 +80,12 @@ fieldTest w place ended s at p = boundsTest s at p && (formTest s p && orderTest
 
 -- ── what the fields behind see ──
 
--- 1 where the field may be read
-unfoldable pub markOf : Parts → ℕ
-markOf p = cond (eqb (p .kind) 2) (cond (eqb (p .short .len) 0) 0 1) 0
+-- 1 where the field may be read: word says whether its label has the form of a short name
+unfoldable pub markBy : Bool → Parts → ℕ
+markBy word p = cond (eqb (p .kind) 2) (cond word 1 (cond (eqb (p .short .len) 0) 0 1)) 0
+
+abbrev pub markOf : List ℕ → Parts → ℕ
+markOf s p = markBy (isShort (bytesIn s (p .label))) p
 
 unfoldable pub bitsOf : Parts → ℕ
 bitsOf p = cond (eqb (p .kind) 2) (p .number) 0

@@ -7,7 +7,7 @@ use lib.Dec.{eqb, ltb}
 use lib.ListN.{length, take, getD}
 use Rattle.base.specs.Lists.{same}
 use Rattle.laws.specs.Places.{twoAt}
-use Rattle.names.specs.Repeats.{padTo, namesAlike, firstRepeat}
+use Rattle.names.specs.Repeats.{padTo, heldWord, namesAlike, firstRepeat}
 use Rattle.rules.specs.Limits.{shortMost}
 use Rattle.writing.specs.declared.spans.Span.{Span}
 use Rattle.packets.specs.Parts.{tableMost, partsAt}
@@ -41,16 +41,23 @@ labelKey s at = sampleKey (labelAt s at)
 abbrev pub LabelKeys : List ℕ → List ℕ → ℕ → List ℕ → Type 0
 LabelKeys s places n keys = (i : ℕ) → i < n → getD keys i 0 ≡ labelKey s (getD places i 0)
 
--- a short name as it is held
+-- a part as it is held for a name
 unfoldable pub heldIn : List ℕ → Span → List ℕ
 heldIn s p = padTo shortMost (bytesIn s p)
 
 abbrev pub shortAt : List ℕ → ℕ → List ℕ
 shortAt s at = heldIn s (partsAt s at .short)
 
--- the short names at the first n places, as they are held
+-- a label as it is held for reading
+abbrev pub wordAt : List ℕ → ℕ → List ℕ
+wordAt s at = heldWord (labelAt s at)
+
+-- the short names at the first n places, as they are held, and the labels
 abbrev pub HeldNames : List ℕ → List ℕ → ℕ → List (List ℕ) → Type 0
-HeldNames s places n names = (i : ℕ) → i < n → getD names i [] ≡ shortAt s (getD places i 0)
+HeldNames s places n shorts = (i : ℕ) → i < n → getD shorts i [] ≡ shortAt s (getD places i 0)
+
+abbrev pub HeldWords : List ℕ → List ℕ → ℕ → List (List ℕ) → Type 0
+HeldWords s places n words = (i : ℕ) → i < n → getD words i [] ≡ wordAt s (getD places i 0)
 
 abbrev pub labelsAlike : List ℕ → List ℕ → ℕ → ℕ → Bool
 labelsAlike s places i j = same (labelAt s (getD places i 0)) (labelAt s (getD places j 0))
@@ -58,18 +65,22 @@ labelsAlike s places i j = same (labelAt s (getD places i 0)) (labelAt s (getD p
 abbrev pub shortsAt : List ℕ → List ℕ → List (List ℕ)
 shortsAt s places = map (shortAt s) places
 
+abbrev pub wordsAt : List ℕ → List ℕ → List (List ℕ)
+wordsAt s places = map (wordAt s) places
+
 unfoldable pub namesTest : List ℕ → ℕ → ℕ → Bool
 namesTest s n at =
     eqb (firstRepeat (labelsAlike s (placesFrom s n at)) n) n
-    && eqb (firstRepeat (namesAlike (shortsAt s (placesFrom s n at))) n) n
+    && eqb (firstRepeat (namesAlike (shortsAt s (placesFrom s n at)) (wordsAt s (placesFrom s n at))) n) n
 
--- the same by the places and the short names that the code holds
-unfoldable pub uniqueIn : List ℕ → List ℕ → List (List ℕ) → ℕ → Bool
-uniqueIn s places names n =
-    eqb (firstRepeat (labelsAlike s places) n) n && eqb (firstRepeat (namesAlike names) n) n
+-- the same by the places and the names that the code holds
+unfoldable pub uniqueIn : List ℕ → List ℕ → List (List ℕ) → List (List ℕ) → ℕ → Bool
+uniqueIn s places shorts words n =
+    eqb (firstRepeat (labelsAlike s places) n) n && eqb (firstRepeat (namesAlike shorts words) n) n
 
 -- what is held of the n records from a place on
-pub record Gathered (s : List ℕ) (n from : ℕ) (places keys : List ℕ) (names : List (List ℕ)) : Type 0 where
+pub record Gathered (s : List ℕ) (n from : ℕ) (places keys : List ℕ) (shorts words : List (List ℕ)) : Type 0 where
   pub placed : take n places ≡ placesFrom s n from
   pub keyed : LabelKeys s (placesFrom s n from) n keys
-  pub held : HeldNames s (placesFrom s n from) n names
+  pub held : HeldNames s (placesFrom s n from) n shorts
+  pub worded : HeldWords s (placesFrom s n from) n words

@@ -20,14 +20,14 @@ unfoldable pub walkAt : ℕ → ℕ → List ℕ → ℕ → Bool → List ℕ �
 walkAt w zero marks place ended s at = cond (eqb (place % w) 0) (Past at) Bad
 walkAt w (suc n) marks place ended s at =
     let p = partsAt s at in
-    let own = marks ++ (markOf p ∷ []) in
+    let own = marks ++ (markOf s p ∷ []) in
     cond (fieldTest w place ended s at p && treesTest s marks own p)
     (walkAt w n own (place + bitsOf p) (ended || eqb (p .kind) 4) s (p .next)) Bad
 
 -- what a walk to the end has gathered
-abbrev pub GatheredBy : Walked → List ℕ → ℕ → ℕ → List ℕ → List ℕ → List (List ℕ) → Type 0
-GatheredBy (Past at) s n from places keys names = Gathered s n from places keys names
-GatheredBy Bad s n from places keys names = Unit {0}
+abbrev pub GatheredBy : Walked → List ℕ → ℕ → ℕ → List ℕ → List ℕ → List (List ℕ) → List (List ℕ) → Type 0
+GatheredBy (Past at) s n from places keys shorts words = Gathered s n from places keys shorts words
+GatheredBy Bad s n from places keys shorts words = Unit {0}
 
 -- the first record: its length, kind, row width, count and name
 unfoldable pub headTest : List ℕ → Bool

@@ -8,8 +8,8 @@ use crate::records::two_at;
 use crate::trees::Checked;
 use crate::trees::Cursor;
 use crate::trees::same_type;
-use names::labels::is_label;
-use names::labels::is_short;
+use names::labels::is_label_in;
+use names::labels::is_short_in;
 use rules::DEPTH_MOST;
 use rules::FIXED_MOST;
 use rules::STORED_MOST;
@@ -20,8 +20,11 @@ ghost use mathlib.Core.Bool.{_||_};
 ghost use Prim.Native.Nat.{_+_, _<_, _≤_};
 ghost use lib.Dec.{eqb};
 ghost use lib.ListN.{length, take};
+ghost use Rattle.rules.specs.Names.{isShort};
+ghost use Rattle.names.specs.Classes.{classTable};
 ghost use Rattle.packets.specs.Parts.{placeMost, tableMost, ending, partsAt};
 ghost use Rattle.packets.specs.FieldTest.{
+  bytesIn,
   Inside,
   treeTest,
   maybeTest,
@@ -33,7 +36,7 @@ ghost use Rattle.packets.specs.FieldTest.{
   formTest,
   orderTest,
   fieldTest,
-  markOf,
+  markBy,
   bitsOf,
 };
 
@@ -134,30 +137,38 @@ fn is_number(kind: usize, number: usize) -> bool
     true
 }
 
+// The part has the form of a short name.
+pub(crate) fn is_word(classes: &[u8; 256], s: &[u8], p: Span) -> bool
+    requires { ⌜ (ending p ≤ length (now s)) × (length (now s) ≤ tableMost) × (now classes ≡ classTable) ⌝ }
+    ensures { λ r. ⌜ r ≡ isShort (bytesIn (now (s .entry)) p) ⌝ }
+{
+    let start = p.at;
+    let end = start + p.len;
+    is_short_in(classes, &s[start..end])
+}
+
 // None, or a short name.
-fn is_name(s: &[u8], p: Span) -> bool
-    requires { ⌜ (ending p ≤ length (now s)) × (length (now s) ≤ tableMost) ⌝ }
+fn is_name(classes: &[u8; 256], s: &[u8], p: Span) -> bool
+    requires { ⌜ (ending p ≤ length (now s)) × (length (now s) ≤ tableMost) × (now classes ≡ classTable) ⌝ }
     ensures { λ r. ⌜ r ≡ shortTest (now (s .entry)) p ⌝ }
 {
     if p.len == 0 {
         return true;
     }
-    let start = p.at;
-    let end = start + p.len;
-    is_short(&s[start..end])
+    is_word(classes, s, p)
 }
 
-fn is_formed(s: &[u8], parts: Parts) -> bool
-    requires { ⌜ (length (now s) ≤ tableMost) × Inside (now s) parts ⌝ }
+fn is_formed(classes: &[u8; 256], s: &[u8], parts: Parts) -> bool
+    requires { ⌜ (length (now s) ≤ tableMost) × Inside (now s) parts × (now classes ≡ classTable) ⌝ }
     ensures { λ r. ⌜ r ≡ formTest (now (s .entry)) parts ⌝ }
 {
     let label = parts.label;
     let start = label.at;
     let end = start + label.len;
-    if !is_label(&s[start..end]) {
+    if !is_label_in(classes, &s[start..end]) {
         return false;
     }
-    if !is_name(s, parts.short) {
+    if !is_name(classes, s, parts.short) {
         return false;
     }
     is_number(parts.kind, parts.number)
@@ -187,6 +198,7 @@ fn is_ordered(w: usize, place: usize, ended: bool, parts: Parts) -> bool
 
 // All but the trees of a field.
 pub(crate) fn is_field(
+    classes: &[u8; 256],
     s: &[u8],
     at: usize,
     parts: Parts,
@@ -194,23 +206,27 @@ pub(crate) fn is_field(
     place: usize,
     ended: bool,
 ) -> bool
-    requires { ⌜ (0 < w) × (at ≤ tableMost) × (length (now s) ≤ tableMost) × (parts ≡ partsAt (now s) at) ⌝ }
+    requires { ⌜ (0 < w) × (at ≤ tableMost) × (length (now s) ≤ tableMost) × (parts ≡ partsAt (now s) at)
+        × (now classes ≡ classTable) ⌝ }
     ensures { λ r. ⌜ r ≡ fieldTest w place ended (now (s .entry)) at parts ⌝ }
 {
     if !is_bounded(s, at, parts) {
         return false;
     }
-    if !is_formed(s, parts) {
+    if !is_formed(classes, s, parts) {
         return false;
     }
     is_ordered(w, place, ended, parts)
 }
 
-// 1 where the field may be read: it is fixed and has a short name.
-pub(crate) fn mark_of(parts: Parts) -> u8
-    ensures { λ r. ⌜ r ≡ markOf parts ⌝ }
+// 1 where the field may be read: it is fixed, and has a short name or a label that is such a word.
+pub(crate) fn mark_of(parts: Parts, word: bool) -> u8
+    ensures { λ r. ⌜ r ≡ markBy word parts ⌝ }
 {
     if parts.kind == FIXED {
+        if word {
+            return 1;
+        }
         let short = parts.short;
         if short.len == 0 {
             return 0;

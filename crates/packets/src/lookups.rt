@@ -99,7 +99,7 @@ fn find_from(table: &[u8], name: &[u8], n: usize, place: usize) -> FieldAnswer
     FieldAnswer::Unknown
 }
 
-// The index of the first field that has the name as its label or short name.
+// The index of the field that has the name as its label or short name.
 pub fn field_index(table: &[u8], name: &[u8]) -> FieldAnswer
     ensures { λ r. ⌜ FindsField (now (table .entry)) (now (name .entry)) (ofField r) ⌝ }
 {

@@ -3,12 +3,14 @@ use crate::fields::bits_of;
 use crate::fields::ends_with;
 use crate::fields::has_trees;
 use crate::fields::is_field;
+use crate::fields::is_word;
 use crate::fields::mark_of;
 use crate::records::FEW_FIELDS;
 use crate::records::parts_at;
 use crate::records::two_at;
 use crate::unique::gather;
 use crate::unique::has_unique_names;
+use names::classes::class_table;
 use names::labels::is_label;
 use rules::FIELDS_MOST;
 use rules::SHORT_MOST;
@@ -22,6 +24,7 @@ ghost use lib.ListN.{length};
 ghost use Rattle.rules.specs.Within.{isRowWidth};
 ghost use Rattle.rules.specs.Promises.{ChecksTable};
 ghost use Rattle.rules.specs.Limits.{fieldsMost};
+ghost use Rattle.names.specs.Classes.{classTable};
 ghost use Rattle.packets.specs.Parts.{tableMost};
 ghost use Rattle.packets.specs.TableTest.{
   GatheredBy,
@@ -99,6 +102,7 @@ fn is_last(s: &[u8], at: usize) -> bool
 
 // The fields, one after the other; marks are of those that may be read, and what names need is gathered.
 fn walk(
+    classes: &[u8; 256],
     s: &[u8],
     w: usize,
     count: usize,
@@ -106,14 +110,16 @@ fn walk(
     marks: &mut [u8],
     places: &mut [usize],
     keys: &mut [usize],
-    names: &mut [[u8; SHORT_MOST]; FIELDS_MOST],
+    shorts: &mut [[u8; SHORT_MOST]; FIELDS_MOST],
+    words: &mut [[u8; SHORT_MOST]; FIELDS_MOST],
 ) -> Walked
     requires { ⌜ (0 < w) × (count ≤ fieldsMost) × (count ≤ length (now marks)) × (length (now s) ≤ tableMost)
-        × (from ≤ length (now s)) ⌝ }
-    requires { ⌜ (count ≤ length (now places)) × (count ≤ length (now keys)) × (count ≤ length (now names)) ⌝ }
+        × (from ≤ length (now s)) × (now classes ≡ classTable) ⌝ }
+    requires { ⌜ (count ≤ length (now places)) × (count ≤ length (now keys)) × (count ≤ length (now shorts))
+        × (count ≤ length (now words)) ⌝ }
     ensures is { λ r. ⌜ r ≡ walkAt w count [] 0 false (now (s .entry)) from ⌝ }
     ensures gathered { λ r. ⌜ GatheredBy r (now (s .entry)) count from (now (places .exit)) (now (keys .exit))
-        (now (names .exit)) ⌝ }
+        (now (shorts .exit)) (now (words .exit)) ⌝ }
 {
     let mut at = from;
     let mut place: usize = 0;
@@ -121,14 +127,15 @@ fn walk(
     let mut i: usize = 0;
     while i < count {
         let parts = parts_at(s, at);
-        if !is_field(s, at, parts, w, place, ended) {
+        if !is_field(classes, s, at, parts, w, place, ended) {
             return Walked::Bad;
         }
-        marks[i] = mark_of(parts);
+        let word = is_word(classes, s, parts.label);
+        marks[i] = mark_of(parts, word);
         if !has_trees(s, parts, marks, i) {
             return Walked::Bad;
         }
-        gather(s, at, parts, i, places, keys, names);
+        gather(s, at, parts, word, i, places, keys, shorts, words);
         place += bits_of(parts);
         ended = ends_with(ended, parts);
         at = parts.next;
@@ -151,15 +158,28 @@ fn has_fields(table: &[u8], marks: &mut [u8], places: &mut [usize], keys: &mut [
     let w = two_at(table, 4);
     let count = two_at(table, 6);
     let from = 10 + two_at(table, 8);
-    let mut names = [[0u8; SHORT_MOST]; FIELDS_MOST];
-    let walked = walk(table, w, count, from, marks, places, keys, &mut names);
+    let classes = class_table();
+    let mut shorts = [[0u8; SHORT_MOST]; FIELDS_MOST];
+    let mut words = [[0u8; SHORT_MOST]; FIELDS_MOST];
+    let walked = walk(
+        &classes,
+        table,
+        w,
+        count,
+        from,
+        marks,
+        places,
+        keys,
+        &mut shorts,
+        &mut words,
+    );
     let Walked::Past(at) = walked else {
         return false;
     };
     if !is_last(table, at) {
         return false;
     }
-    has_unique_names(table, places, keys, &names, count)
+    has_unique_names(table, places, keys, &shorts, &words, count)
 }
 
 fn is_table(table: &[u8]) -> bool

@@ -1,4 +1,4 @@
-// Labels and short names are unique.
+// No two fields share a name.
 use crate::records::Parts;
 use crate::records::label_span;
 use crate::records::two_at;
@@ -15,7 +15,8 @@ ghost use mathlib.Core.Path.{_≡_};
 ghost use Prim.Native.Nat.{_≤_, _<_};
 ghost use lib.ListN.{length, set};
 ghost use Rattle.base.specs.Lists.{same};
-ghost use Rattle.names.specs.Repeats.{firstRepeat};
+ghost use Rattle.rules.specs.Names.{isShort};
+ghost use Rattle.names.specs.Repeats.{heldWord, firstRepeat};
 ghost use Rattle.rules.specs.Limits.{fieldsMost};
 ghost use Rattle.packets.specs.Parts.{tableMost, ending, partsAt};
 ghost use Rattle.packets.specs.FieldTest.{bytesIn, Inside};
@@ -28,21 +29,34 @@ ghost use Rattle.packets.specs.NamesTest.{
   LabelKeys,
   heldIn,
   shortAt,
+  wordAt,
   labelsAlike,
   uniqueIn,
 };
 
-// A short name as it is held.
-fn held_short(s: &[u8], short: Span) -> [u8; SHORT_MOST]
-    requires { ⌜ (ending short ≤ length (now s)) × (length (now s) ≤ tableMost) ⌝ }
-    ensures { λ r. ⌜ r ≡ heldIn (now (s .entry)) short ⌝ }
+// A part as it is held for a name.
+fn held_part(s: &[u8], p: Span) -> [u8; SHORT_MOST]
+    requires { ⌜ (ending p ≤ length (now s)) × (length (now s) ≤ tableMost) ⌝ }
+    ensures { λ r. ⌜ r ≡ heldIn (now (s .entry)) p ⌝ }
 {
-    if short.len == 0 {
+    if p.len == 0 {
         return [0u8; SHORT_MOST];
     }
-    let start = short.at;
-    let end = start + short.len;
+    let start = p.at;
+    let end = start + p.len;
     held_name(&s[start..end])
+}
+
+// A label as it is held for reading: zeros where it has not the form of a short name.
+fn held_label(s: &[u8], label: Span, word: bool) -> [u8; SHORT_MOST]
+    requires { ⌜ (ending label ≤ length (now s)) × (length (now s) ≤ tableMost)
+        × (word ≡ isShort (bytesIn (now s) label)) ⌝ }
+    ensures { λ r. ⌜ r ≡ heldWord (bytesIn (now (s .entry)) label) ⌝ }
+{
+    if word {
+        return held_part(s, label);
+    }
+    [0u8; SHORT_MOST]
 }
 
 // The length, the middle byte and the last two bytes of a label, in one number.
@@ -67,25 +81,31 @@ fn label_key(s: &[u8], label: Span) -> usize
     sample_key(&s[start..end])
 }
 
-// The place of a record, the key of its label and its short name, put into lent arrays.
+// The place of a record, the key of its label and its names, put into lent arrays; word says whether its label may be
+// read.
 pub(crate) fn gather(
     s: &[u8],
     at: usize,
     parts: Parts,
+    word: bool,
     i: usize,
     places: &mut [usize],
     keys: &mut [usize],
-    names: &mut [[u8; SHORT_MOST]; FIELDS_MOST],
+    shorts: &mut [[u8; SHORT_MOST]; FIELDS_MOST],
+    words: &mut [[u8; SHORT_MOST]; FIELDS_MOST],
 )
-    requires { ⌜ (length (now s) ≤ tableMost) × (parts ≡ partsAt (now s) at) × Inside (now s) parts ⌝ }
-    requires { ⌜ (i < length (now places)) × (i < length (now keys)) × (i < length (now names)) × (i < fieldsMost) ⌝ }
+    requires { ⌜ (length (now s) ≤ tableMost) × (parts ≡ partsAt (now s) at) × Inside (now s) parts
+        × (word ≡ isShort (bytesIn (now s) (parts .label))) ⌝ }
+    requires { ⌜ (i < length (now places)) × (i < length (now keys)) × (i < fieldsMost) ⌝ }
     ensures places { λ r. ⌜ now (places .exit) ≡ set (now (places .entry)) i at ⌝ }
     ensures keys { λ r. ⌜ now (keys .exit) ≡ set (now (keys .entry)) i (labelKey (now (s .entry)) at) ⌝ }
-    ensures names { λ r. ⌜ now (names .exit) ≡ set (now (names .entry)) i (shortAt (now (s .entry)) at) ⌝ }
+    ensures shorts { λ r. ⌜ now (shorts .exit) ≡ set (now (shorts .entry)) i (shortAt (now (s .entry)) at) ⌝ }
+    ensures words { λ r. ⌜ now (words .exit) ≡ set (now (words .entry)) i (wordAt (now (s .entry)) at) ⌝ }
 {
     places[i] = at;
     keys[i] = label_key(s, parts.label);
-    names[i] = held_short(s, parts.short);
+    shorts[i] = held_part(s, parts.short);
+    words[i] = held_label(s, parts.label, word);
 }
 
 // The records at two places, whose labels have these keys, have one label.
@@ -131,20 +151,22 @@ fn first_label(s: &[u8], places: &[usize], keys: &[usize], n: usize) -> usize
     }
 }
 
-// No label and no short name of the n records repeats an earlier one.
+// No label and no short name of the n records is a name of an earlier one.
 pub(crate) fn has_unique_names(
     s: &[u8],
     places: &[usize],
     keys: &[usize],
-    names: &[[u8; SHORT_MOST]; FIELDS_MOST],
+    shorts: &[[u8; SHORT_MOST]; FIELDS_MOST],
+    words: &[[u8; SHORT_MOST]; FIELDS_MOST],
     n: usize,
 ) -> bool
     requires { ⌜ (n ≤ fieldsMost) × (length (now s) ≤ tableMost) × FieldPlaces (now s) n (now places)
         × LabelKeys (now s) (now places) n (now keys) × (n ≤ length (now places)) × (n ≤ length (now keys)) ⌝ }
-    ensures { λ r. ⌜ r ≡ uniqueIn (now (s .entry)) (now (places .entry)) (now (names .entry)) n ⌝ }
+    ensures { λ r. ⌜ r
+        ≡ uniqueIn (now (s .entry)) (now (places .entry)) (now (shorts .entry)) (now (words .entry)) n ⌝ }
 {
     if first_label(s, places, keys, n) != n {
         return false;
     }
-    first_repeat(names, n) == n
+    first_repeat(shorts, words, n) == n
 }

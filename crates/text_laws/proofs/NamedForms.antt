@@ -6,21 +6,20 @@ use mathlib.Core.Option.{none}
 use Prim.Native.Nat.{ℕ, _≤_}
 use lib.ListN.{length}
 use borrow.Author.Tests.{le-ltb}
-use Rattle.base.specs.Lists.{same, Each, firstBreak}
+use Rattle.base.specs.Lists.{any, same, Each, firstBreak}
 use Rattle.base.proofs.Lists.{between-true}
 use Rattle.base.proofs.Lookups.{each-length, each-left}
 use Rattle.rules.specs.Limits.{fieldsMost}
 use Rattle.rules.specs.Names.{isShort}
-use Rattle.rules.specs.Fields.{Field, Form, Description}
+use Rattle.rules.specs.Fields.{Field, Form, Description, readNames}
 use Rattle.rules.specs.Within.{Within, keepsNames}
 use Rattle.rules.specs.Lines.{SpellsLine, SpellsField, Unresolved}
 use Rattle.rules.specs.Frames.{Frame, cells, isOverfull}
 use Rattle.rules.specs.Spelling.{Spells, NameOf, shows}
 use Rattle.rules.specs.Refusals.{ruleBroken}
+use Rattle.laws.proofs.NameLaws.{NameIn, name-unique-in}
 use Rattle.text_laws.proofs.NamedFields.{NamedField, spelled-field, unique-fields}
 use Rattle.text_laws.proofs.NamedRules.{
-  NameIn,
-  name-unique,
   name-short,
   same-sizes,
   same-unique,
@@ -95,19 +94,23 @@ forms-of text d s = let p = forms-named text d s in (p .forms, p .spelled, p .ke
 
 -- ── they settle the fields ──
 
+same-names : {R : ℕ → List ℕ → Type 0} (w : List ℕ) (x : Field ℕ) (y : Form) → NamedField R x y
+    → any (same w) (readNames y) ≡ any (same w) (readNames x)
+same-names w x y n = rw (n .label, n .short)
+
 -- a name of a field is the name of its form
 name-of-form : (R : ℕ → List ℕ → Type 0) (fields : List (Field ℕ)) (forms : List Form)
     → Each (NamedField R) fields forms → (i : ℕ) (w : List ℕ) → NameOf fields i w → NameIn forms i w
 name-of-form R fields forms h i w n =
     let p = each-left (NamedField R) fields forms h i (n .0) (n .1) in
-    (p .0, p .1, rw (p .2 .short) at (n .2))
+    (p .0, p .1, same-names w (n .0) (p .0) (p .2) ∙ n .2)
 
 pub forms-settle : (fields others : List (Field ℕ)) (forms : List Form) → firstBreak keepsNames [] fields ≡ none
     → Each (NamedField (NameOf fields)) fields forms → Each (NamedField (NameOf others)) others forms → fields ≡ others
 forms-settle fields others forms kept p q = unique-fields only fields others forms p q
   where
     only : (i j : ℕ) (w : List ℕ) → NameOf fields i w → NameOf others j w → i ≡ j
-    only i j w a b = name-unique forms (sym (same-unique (NameOf fields) fields forms p) ∙ kept) i j w
+    only i j w a b = name-unique-in forms (sym (same-unique (NameOf fields) fields forms p) ∙ kept) i j w
         (name-of-form (NameOf fields) fields forms p i w a) (name-of-form (NameOf others) others forms q j w b)
 
 -- two descriptions with one frame and the same forms are the same

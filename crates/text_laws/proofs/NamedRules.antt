@@ -1,20 +1,17 @@
 -- A description's fields and the forms of its lines keep the same rules.
-use mathlib.Core.Path.{_≡_, refl, ap, sym, _∙_}
-use mathlib.Core.Bool.{Bool, true, false, cond, _||_, not}
+use mathlib.Core.Path.{_≡_, refl, ap, sym}
+use mathlib.Core.Bool.{Bool, true, false, cond, not}
 use mathlib.Core.List.{List, [], _∷_}
 use mathlib.Core.Option.{Option, none, some, Option·none-ne-some}
-use Prim.Native.Nat.{ℕ, suc, _<_}
-use native.Mathlib.Omega.{arith}
-use native.Mathlib.Decide.{decLt}
-use lib.ListN.{length, getElem?}
-use Rattle.base.specs.Lists.{any, same, Each, firstBreak, listOf}
-use Rattle.base.proofs.Lists.{or-right, not-both, same-true, same-self}
-use Rattle.base.proofs.Lookups.{each-any, each-breaks, kept-at, element-below, element-parts, element-any}
+use Prim.Native.Nat.{ℕ, suc}
+use Rattle.base.specs.Lists.{Each, firstBreak}
+use Rattle.base.proofs.Lookups.{each-any, each-breaks, kept-at, element-parts}
 use Rattle.rules.specs.Names.{isShort}
-use Rattle.rules.specs.Fields.{Field, Form, isRest, readNames}
-use Rattle.rules.specs.Within.{sameShort, keepsForm, keepsSize, clash, keepsNames, keepsRest}
+use Rattle.rules.specs.Fields.{Field, Form, isRest}
+use Rattle.rules.specs.Within.{keepsForm, keepsSize, clash, keepsNames, keepsRest}
+use Rattle.laws.proofs.NameLaws.{NameIn, read-short}
 use Rattle.rules.specs.Frames.{Slot}
-use Rattle.rules.specs.Spelling.{shows, mismatch, NameOf}
+use Rattle.rules.specs.Spelling.{shows, mismatch}
 use Rattle.text_laws.proofs.NamedFields.{
   NamedField,
   formed-names,
@@ -27,59 +24,14 @@ use Rattle.text_laws.proofs.NamedFields.{
 
 -- ── the field of a name ──
 
--- NameOf, of fields over anything
-abbrev pub NameIn : {N : Type 0} → List (Field N) → ℕ → List ℕ → Type 0
-NameIn {N} fields i s = (f : Field N) × (getElem? fields i ≡ some f) × (any (same s) (readNames f) ≡ true)
-
--- the name is the short name
-listed-is : (o : Option (List ℕ)) (w : List ℕ) → any (same w) (listOf o) ≡ true → o ≡ some w
-unfolding any
-listed-is none w h = absurd (not-both false h refl)
-listed-is (some a) w h = go (same w a) refl h
-  where
-    go : (b : Bool) → same w a ≡ b → b || false ≡ true → some a ≡ some w
-    go true e k = ap {B = Option (List ℕ)} some (sym (same-true w a e))
-    go false e k = absurd (not-both false k refl)
-
-both-short : (a b : Option (List ℕ)) (w : List ℕ) → any (same w) (listOf a) ≡ true → any (same w) (listOf b) ≡ true
-    → sameShort a b ≡ true
-both-short a b w p q = rw (listed-is a w p, listed-is b w q) (same-self w)
-
 module _ {N : Type 0} (fields : List (Field N)) where
-  name-once : firstBreak keepsNames [] fields ≡ none → (i j : ℕ) (w : List ℕ) → NameIn fields i w → NameIn fields j w
-      → i < j → ⊥
-  name-once h i j w p q lt =
-      let x = p .0 in
-      let y = q .0 in
-      let s = element-parts fields j y (q .1) in
-      let k : keepsNames (s .0) y ≡ true =
-      kept-at keepsNames (s .0) y (s .1) (rw (s .2) at h) in
-      let below : i < length (s .0) = omega (arith, s .3) in
-      let e : getElem? (s .0) i ≡ some x =
-      sym (element-below (s .0) (y ∷ s .1) i below) ∙ (rw (s .2) at (p .1)) in
-      let c : clash y x ≡ true =
-      or-right (same (y .label) (x .label)) (sameShort (y .short) (x .short))
-      (both-short (y .short) (x .short) w (q .2) (p .2)) in
-      let a : any (clash y) (s .0) ≡ true = element-any (clash y) (s .0) i x e c in
-      not-both (not (any (clash y) (s .0))) k (rw a)
-
-  -- short names are unique
-  pub name-unique : firstBreak keepsNames [] fields ≡ none → (i j : ℕ) (w : List ℕ) → NameIn fields i w
-      → NameIn fields j w → i ≡ j
-  name-unique h i j w p q = go (decLt i j) (decLt j i)
-    where
-      go : Dec (i < j) → Dec (j < i) → i ≡ j
-      go (yes a) d = absurd (name-once h i j w p q a)
-      go (no a) (yes b) = absurd (name-once h j i w q p b)
-      go (no a) (no b) = omega arith
-
-  -- and have their form
+  -- a name by which a field may be read has the form of a short name
   pub name-short : firstBreak keepsForm [] fields ≡ none → (i : ℕ) (w : List ℕ) → NameIn fields i w → isShort w ≡ true
   name-short h i w p =
       let x = p .0 in
       let s = element-parts fields i x (p .1) in
       let k : keepsForm (s .0) x ≡ true = kept-at keepsForm (s .0) x (s .1) (rw (s .2) at h) in
-      rw (listed-is (x .short) w (p .2)) at (formed-names x k .1)
+      read-short x w (formed-names x k .1) (p .2)
 
 -- ── the rules ──
 

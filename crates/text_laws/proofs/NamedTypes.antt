@@ -27,7 +27,7 @@ use Rattle.rules.specs.Refusals.{ruleBroken}
 use Rattle.text_laws.specs.Resolving.{firstIndex}
 use Rattle.text_laws.proofs.Named.{named-type}
 use Rattle.text_laws.proofs.NamedFields.{NamedField, same-fixed-width, same-if-any, same-type-width}
-use Rattle.text_laws.proofs.NamedRules.{name-unique}
+use Rattle.laws.proofs.NameLaws.{name-unique-in}
 
 -- the first element that passes a test
 pub any-element : {A : Type 0} (p : A → Bool) (l : List A) → any p l ≡ true
@@ -76,7 +76,7 @@ module _ (before after : List (Field ℕ)) (kept : firstBreak keepsNames [] (bef
           let g = p .0 in
           let named : any (same w) (readNames g) ≡ true = and-right (isFixed g) (any (same w) (readNames g)) (p .2) in
           let is : j ≡ i =
-          name-unique (before ++ after) kept j i w (g, element-front before after j g (p .1), named) n in
+          name-unique-in (before ++ after) kept j i w (g, element-front before after j g (p .1), named) n in
           let e : getElem? before i ≡ some g = rw is at (p .1) in
           rw e (and-both (isFixed g) (not (isEmpty (readNames g)))
           (and-left (isFixed g) (any (same w) (readNames g)) (p .2)) (some-name w (readNames g) named))
@@ -85,7 +85,7 @@ module _ (before after : List (Field ℕ)) (kept : firstBreak keepsNames [] (bef
       → (i : ℕ) (w : List ℕ) → NameOf (before ++ after) i w → indexReadable before i ≡ nameReadable earlier w
   same-readable R earlier h i w n =
       index-read i w n
-      ∙ each-any (NamedField R) (readBy w) (readBy w) (λ f g m. rw (same-fixed-width (m .width), m .short))
+      ∙ each-any (NamedField R) (readBy w) (readBy w) (λ f g m. rw (same-fixed-width (m .width), m .label, m .short))
       before earlier h
 
 -- ── the types ──

@@ -12,7 +12,7 @@ use Rattle.base.specs.Lists.{all, any, same, joined, sum, Each}
 use Rattle.base.proofs.Lists.{and-left, and-right, and-both, not-both}
 use Rattle.base.proofs.Breaks.{all-cons}
 use Rattle.rules.specs.Names.{isLabel}
-use Rattle.rules.specs.Fields.{Width, fixed, measured, rest, Field, cellNames}
+use Rattle.rules.specs.Fields.{Width, fixed, measured, rest, Field, fieldNames}
 use Rattle.rules.specs.Within.{rowsFit, widths}
 use Rattle.rules.specs.Frames.{Cell, Row, bitRow, longRow, isCell, isRow, Slot, slotsIn}
 use Rattle.rules.specs.Spelling.{isPlaceFor, shows}
@@ -44,7 +44,7 @@ fit-long w place c rest l h e k =
     and-both (eqb (place % w) 0) (rowsFit w place l) (eq-eqb (place % w) 0 e) k
 
 place-of : (c : Slot) (x : Field ℕ) → shows c x ≡ true → isPlaceFor c (x .width) ≡ true
-place-of c x h = and-right (any (same (c .text)) (cellNames x)) (isPlaceFor c (x .width)) h
+place-of c x h = and-right (any (same (c .text)) (fieldNames x)) (isPlaceFor c (x .width)) h
 
 -- a cell has a bit
 some-bits : (c : Cell) → isCell c ≡ true → 0 < c .bits

@@ -115,6 +115,7 @@ use Rattle.rules.specs.Marked.{tag, tagText}
 use Rattle.rules.specs.Pages.{tagLines, manyFields, manyRows, manyLines}
 use Rattle.laws.proofs.RuledOut.{numbers}
 use Rattle.text_laws.specs.WrongTexts.{Claim, reads, Claimed, AllFalse, wrongTexts}
+use Rattle.text_laws.specs.WrongTextNames.{wrongTextNames}
 use Rattle.text_laws.proofs.TextResults.{text-unique}
 use Rattle.text_laws.proofs.TextSeen.{formsOf, seen, outcomeOf, outcome-is}
 
@@ -140,7 +141,7 @@ barredText = tagLines 1 ++ (0x7F ∷ [])
 record Computed : Type 0 where
   spelled : seen tagText ≡ inr tag
   barred : seen barredText ≡ inl (refused 2 0)
-  others : all isOther wrongTexts ≡ true
+  others : all isOther (wrongTexts ++ wrongTextNames) ≡ true
 
 computed : Computed
 unfolding digits all any same lastIs sum joined tabulate firstBreak operator operators isLetter isDigit isSpace
@@ -166,5 +167,5 @@ pub barred-known : {out : List ℕ} → ReadsText (tagLines 1 ++ (0x7F ∷ [])) 
 barred-known {out} = known barredText out (inl (refused 2 0)) (computed .barred)
 
 -- each wrong program's answer is ruled out
-pub texts-ruled-out : AllFalse wrongTexts
-texts-ruled-out = every-passes isOther ruled-out wrongTexts (computed .others)
+pub texts-ruled-out : AllFalse (wrongTexts ++ wrongTextNames)
+texts-ruled-out = every-passes isOther ruled-out (wrongTexts ++ wrongTextNames) (computed .others)

@@ -7,6 +7,7 @@
 -- Fold         one fold over the bytes of a text
 -- Steady       what is true of what is kept, behind any lines
 -- WrongTexts   answers of wrong programs to texts, of which the promise is false
+-- WrongTextNames  of those that are wrong about names
 -- The readers are helpers of code and proofs; no public promise rests on them.
 pub mod Reader
 pub mod LineReader
@@ -17,3 +18,4 @@ pub mod Judging
 pub mod Fold
 pub mod Steady
 pub mod WrongTexts
+pub mod WrongTextNames

@@ -127,12 +127,9 @@ narrowBehind = pairText ("A (a): 4 bits; z == 1.\n" ∷ "B: 3 bits.\n" ∷ [])
 abbrev pub shared : List ℕ
 shared = pairText ("A (s): 4 bits.\n" ∷ "B (s): 4 bits.\n" ∷ [])
 
--- the first line reads the second field; its own label; itself in its condition; and has a number for a constraint
+-- the first line reads the second field; itself in its condition; and has a number for a constraint
 abbrev pub forward : List ℕ
 forward = pairText ("A (a): 4 bits; b == 1.\n" ∷ "B (b): 4 bits.\n" ∷ [])
-
-abbrev pub byLabel : List ℕ
-byLabel = pairText ("A (a): 4 bits; A == 1.\n" ∷ "B: 4 bits.\n" ∷ [])
 
 abbrev pub ownCondition : List ℕ
 ownCondition = pairText ("A (a): 4 bits; present only when a == 1.\n" ∷ "B: 4 bits.\n" ∷ [])
@@ -248,10 +245,9 @@ wrongPairs =
     -- a repeated short name accepted, or refused at the first of the two
     ∷ writesTable shared (pair (named "A" "s" (fixed 4) none none) (named "B" "s" (fixed 4) none none))
     ∷ leavesIt shared (Repeated 11)
-    -- a later field read; a label read; a condition that reads its own field; a number taken for yes or no
+    -- a later field read; a condition that reads its own field; a number taken for yes or no
     ∷ writesTable forward
     (pair (named "A" "a" (fixed 4) (some (two Eq (read 1) (num 1))) none) (named "B" "b" (fixed 4) none none))
-    ∷ writesTable byLabel (pair (named "A" "a" (fixed 4) (some (two Eq (read 0) (num 1))) none) (four "B"))
     ∷ writesTable ownCondition (pair (named "A" "a" (fixed 4) none (some (two Eq (read 0) (num 1)))) (four "B"))
     ∷ writesTable numeric (pair (named "A" "a" (fixed 4) (some (read 0)) none) (four "B"))
     -- a border that is too short accepted, or refused at the line before it

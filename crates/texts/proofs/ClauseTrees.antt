@@ -11,6 +11,7 @@ use borrow.Author.Tests.{eq-eqb, eqb-true}
 use Rattle.base.specs.Bytes.{bytes}
 use Rattle.rules.specs.Trees.{Tree}
 use Rattle.text_laws.specs.LineReader.{Got, miss, hit, begins, readTree, readConstraint, readCondition, isRemark}
+use Rattle.texts.specs.HeldNames.{Names}
 use Rattle.texts.specs.FieldPlaces.{treeClause}
 use Rattle.texts.specs.HeldParts.{ClauseAs, ClauseFor, ClauseWithin, EndsFor}
 use Rattle.texts.specs.StoredTrees.{TreeBytes, held, StoredIs, StoredFor}
@@ -29,7 +30,7 @@ use Rattle.texts.proofs.FieldClauses.{
 }
 use Rattle.texts.proofs.FieldEnds.{ends-first, ends-second, ends-open, ends-bad, ends-good}
 
-module _ (names : List (List ℕ)) (n : ℕ) (s : List ℕ) where
+module _ (names : Names) (n : ℕ) (s : List ℕ) where
   -- ── the code's answer tells the reader's ──
 
   pub stored-miss : (g : Got (Tree (List ℕ))) (t : TreeBytes) → StoredFor names n s g t → t .len ≡ 0 → g ≡ miss
@@ -101,7 +102,7 @@ module _ (names : List (List ℕ)) (n : ℕ) (s : List ℕ) where
     },
   )
 
-module _ (names : List (List ℕ)) (n : ℕ) (s : List ℕ) (at : ℕ) (le : at ≤ length s) (r : Clause) (b : List ℕ) where
+module _ (names : Names) (n : ℕ) (s : List ℕ) (at : ℕ) (le : at ≤ length s) (r : Clause) (b : List ℕ) where
   pub condition-yes : begins (bytes "; present only when ") (drop at s) ≡ true → ClauseWithin s (at + 20) r
       → ClauseFor names n s (treeClause (drop (at + 20) s)) b r
       → ClauseWithin s at r × ClauseFor names n s (readCondition (drop at s)) b r
@@ -134,7 +135,7 @@ module _ (names : List (List ℕ)) (n : ℕ) (s : List ℕ) (at : ℕ) (le : at 
 
 -- ── up to the end of the line ──
 
-module _ (names : List (List ℕ)) (n : ℕ) (s : List ℕ) (at : ℕ) (c : Clause) (v w : List ℕ)
+module _ (names : Names) (n : ℕ) (s : List ℕ) (at : ℕ) (c : Clause) (v w : List ℕ)
     (x : ClauseFor names (n + 1) s (readConstraint (drop at s)) v c) where
   pub ends-none : (r : Ends) → r .right ≡ false → c .right ≡ false → EndsFor names n s at v w r
   ends-none r e k = record {
@@ -142,7 +143,7 @@ module _ (names : List (List ℕ)) (n : ℕ) (s : List ℕ) (at : ℕ) (c : Clau
     there = λ h. absurd (false≢true (sym e ∙ h));
   }
 
-module _ (names : List (List ℕ)) (n : ℕ) (s : List ℕ) (at : ℕ) (c : Clause) (v w : List ℕ)
+module _ (names : Names) (n : ℕ) (s : List ℕ) (at : ℕ) (c : Clause) (v w : List ℕ)
     (x : ClauseFor names (n + 1) s (readConstraint (drop at s)) v c)
     (first : c .right ≡ true) (d : Clause)
     (y : ClauseFor names n s (readCondition (drop (c .tree .next) s)) w d) where

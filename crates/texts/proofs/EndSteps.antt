@@ -22,6 +22,7 @@ use Rattle.rules.specs.Promises.{leaves, overlaid, delivered}
 use Rattle.text_laws.specs.Lowest.{lower}
 use Rattle.text_laws.specs.Fold as fold
 use Rattle.text_laws.proofs.Loose.{lowest-clear}
+use Rattle.texts.specs.HeldNames.{Names}
 use Rattle.texts.specs.Noted.{noteOf}
 use Rattle.texts.specs.States.{
   note,
@@ -202,8 +203,8 @@ size-all w n name body =
       two-length 5,
     )
 
-module _ (k : fold.Kept) (r : Reading) {cells table : List ℕ} {labels shorts names : List (List ℕ)}
-    (h : Holds (k .found) r cells table labels shorts names) (clear : fold.lowestOf k ≡ none) where
+module _ (k : fold.Kept) (r : Reading) {cells table : List ℕ} {labels : List (List ℕ)} {names : Names}
+    (h : Holds (k .found) r cells table labels names) (clear : fold.lowestOf k ≡ none) where
   same-fields : h .records .fields ≡ k .found .judged .fields
   same-fields = h .records .stands .exact (lowest-clear (k .found .stage) (k .line) (k .found) clear)
 

@@ -1,4 +1,4 @@
--- Words, numbers and short names at a place of a text, against the reader over what is left of it.
+-- Words, numbers and names at a place of a text, against the reader over what is left of it.
 use mathlib.Core.Path.{_≡_, refl, ap, sym, _∙_}
 use mathlib.Core.Bool.{Bool, true, false, _&&_, _||_, and-false}
 use mathlib.Core.List.{List, [], _∷_}

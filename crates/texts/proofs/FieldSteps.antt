@@ -25,8 +25,9 @@ use Rattle.text_laws.specs.Steady.{StandIn, Steady}
 use Rattle.text_laws.specs.Resolving.{indexOf}
 use Rattle.text_laws.proofs.Loose.{faces-append, lower-left}
 use Rattle.text_laws.proofs.Faces.{renamed-face}
+use Rattle.texts.specs.HeldNames.{Names}
 use Rattle.texts.specs.Noted.{noteOf}
-use Rattle.texts.specs.HeldParts as held
+use Rattle.texts.specs.HeldNames as held
 use Rattle.texts.specs.Slots.{storedSlot}
 use Rattle.texts.specs.Resolved.{indexed}
 use Rattle.texts.specs.States.{note, changed, withLine, lineRefused, lineKept, isFullAs, NamedWith}
@@ -75,12 +76,12 @@ fieldFound f j = record {
   judged = j;
 }
 
-module _ (f : fold.Found) (r : Reading) {cells table : List ℕ} {labels shorts names : List (List ℕ)}
-    (h : Holds f r cells table labels shorts names) where
+module _ (f : fold.Found) (r : Reading) {cells table : List ℕ} {labels : List (List ℕ)} {names : Names}
+    (h : Holds f r cells table labels names) where
   holds-judged : (j : Judged) (n : ℕ) (a : Note) → n ≡ j .count → j .fields ≡ f .judged .fields
       → (j .lowest ≡ none → f .judged .lowest ≡ none) → noteOf a ≡ j .lowest
       → Holds (fieldFound f j) (changed (withLine r (r .cell) n (r .fields) (r .end) (r .rested)) (r .lines + 1)
-      at.FieldLine a) cells table labels shorts names
+      at.FieldLine a) cells table labels names
   holds-judged j n a c e low k = record {
     counts = record {
       lines = next-line f r h;
@@ -108,12 +109,12 @@ module _ (f : fold.Found) (r : Reading) {cells table : List ℕ} {labels shorts 
       stored = h .records .stored;
       end = h .records .end;
     };
-    named = subst (λ (l : List (Field ℕ)). Named (faces l) labels shorts names) (sym e) (h .named);
+    named = subst (λ (l : List (Field ℕ)). Named (faces l) labels names) (sym e) (h .named);
   }
 
   -- 4
   pub holds-full : (l : List ℕ) → isFull (f .judged) ≡ true
-      → Holds (fold.withField f l) (changed r (r .lines + 1) at.FieldLine (note 4 0)) cells table labels shorts names
+      → Holds (fold.withField f l) (changed r (r .lines + 1) at.FieldLine (note 4 0)) cells table labels names
   unfolding judge noteOf
   holds-full l e =
       rw e (holds-judged (many (f .judged)) (r .count) (note 4 0) (h .counts .count) refl
@@ -125,7 +126,7 @@ module _ (f : fold.Found) (r : Reading) {cells table : List ℕ} {labels shorts 
   -- 5
   pub holds-formless : (l : List ℕ) (a : Note) → isFull (f .judged) ≡ false → readForm l ≡ none
       → noteOf a ≡ lower (noteOf (r .note)) (some (refused 5 (r .lines + 1)))
-      → Holds (fold.withField f l) (lineRefused r a) cells table labels shorts names
+      → Holds (fold.withField f l) (lineRefused r a) cells table labels names
   unfolding judge withForm
   holds-formless l a e o k =
       rw (e, o) (holds-judged (withForm (f .cells) (suc (f .lines)) (f .judged) none) (r .count + 1) a one-more refl
@@ -140,7 +141,7 @@ module _ (f : fold.Found) (r : Reading) {cells table : List ℕ} {labels shorts 
   -- 6, and what is closed behind an earlier refusal
   pub holds-closed : (l : List ℕ) (x : Form) (a : Note) → isFull (f .judged) ≡ false → readForm l ≡ some x
       → noteOf a ≡ noteOfForm x → isOpen (noteOf a) ≡ false
-      → Holds (fold.withField f l) (lineRefused r a) cells table labels shorts names
+      → Holds (fold.withField f l) (lineRefused r a) cells table labels names
   unfolding judge withForm
   holds-closed l x a e o k shut =
       let c : isOpen (noteOfForm x) ≡ false = rw (← k) shut in
@@ -152,8 +153,8 @@ module _ (f : fold.Found) (r : Reading) {cells table : List ℕ} {labels shorts 
 
 -- other names may be held behind those of the fields
 pub holds-named : (f : fold.Found) (r : Reading) (x : Form) {cells table : List ℕ}
-    {labels shorts names labels′ shorts′ names′ : List (List ℕ)} → Holds f r cells table labels shorts names
-    → NamedWith f x labels′ shorts′ names′ → Holds f r cells table labels′ shorts′ names′
+    {labels labels′ : List (List ℕ)} {names names′ : Names} → Holds f r cells table labels names
+    → NamedWith f x labels′ names′ → Holds f r cells table labels′ names′
 holds-named f r x h n = record {
   counts = h .counts;
   slots = h .slots;
@@ -162,9 +163,9 @@ holds-named f r x h n = record {
 }
 
 -- and behind those of the fields other names may stand
-pub holds-kept : (f : fold.Found) (r : Reading) {cells table : List ℕ} {labels shorts names names′ : List (List ℕ)}
-    → Holds f r cells table labels shorts names → held.Kept names (r .fields) names′
-    → Holds f r cells table labels shorts names′
+pub holds-kept : (f : fold.Found) (r : Reading) {cells table : List ℕ} {labels : List (List ℕ)} {names names′ : Names}
+    → Holds f r cells table labels names → held.Kept names (r .fields) names′
+    → Holds f r cells table labels names′
 holds-kept f r h k = record {
   counts = h .counts;
   slots = h .slots;
@@ -215,15 +216,15 @@ seen-more j before y x e same =
 
 -- what a kept field adds: its cell is passed, its record is written, its names are held
 pub record Kept (f : fold.Found) (r : Reading) (x : Form) (to end : ℕ) (isRested : Bool) (table after : List ℕ)
-    (labels shorts names : List (List ℕ)) : Type 0 where
+    (labels : List (List ℕ)) (names : Names) : Type 0 where
   pub cell : to ≡ length (joined storedSlot (take (suc (length (f .judged .fields))) (f .cells)))
   pub writes : Writes table (r .end) (storedField (indexed names (r .fields) x)) after end
   pub rested : isRested ≡ (any isRest (faces (f .judged .fields)) || isRest x)
-  pub named : NamedWith f x labels shorts names
+  pub named : NamedWith f x labels names
 
-module _ (f : fold.Found) (r : Reading) {cells table after : List ℕ} {labels shorts names labels′ shorts′ names′ :
-    List (List ℕ)} (h : Holds f r cells table labels shorts names) (x : Form) {end cell : ℕ} {rested : Bool}
-    (k : Kept f r x cell end rested table after labels′ shorts′ names′) where
+module _ (f : fold.Found) (r : Reading) {cells table after : List ℕ} {labels labels′ : List (List ℕ)}
+    {names names′ : Names} (h : Holds f r cells table labels names) (x : Form) {end cell : ℕ} {rested : Bool}
+    (k : Kept f r x cell end rested table after labels′ names′) where
   counts-grown : (j : Judged) (y : Field ℕ) (a : Note) → j .count ≡ suc (f .judged .count)
       → j .fields ≡ f .judged .fields ++ (y ∷ []) → face y ≡ face x → noteOf a ≡ j .lowest
       → Counts (fieldFound f j) (lineKept r cell end rested a)
@@ -247,7 +248,7 @@ module _ (f : fold.Found) (r : Reading) {cells table after : List ℕ} {labels s
   holds-grown : (j : Judged) (y : Field ℕ) (a : Note) → j .count ≡ suc (f .judged .count)
       → j .fields ≡ f .judged .fields ++ (y ∷ []) → face y ≡ face x
       → StandIn j (h .records .fields ++ (indexed names′ (length (h .records .fields)) x ∷ [])) → noteOf a ≡ j .lowest
-      → Holds (fieldFound f j) (lineKept r cell end rested a) cells after labels′ shorts′ names′
+      → Holds (fieldFound f j) (lineKept r cell end rested a) cells after labels′ names′
   holds-grown j y a c e same stands low =
       let before = f .judged .fields in
       let fs = h .records .fields in
@@ -276,14 +277,14 @@ module _ (f : fold.Found) (r : Reading) {cells table after : List ℕ} {labels s
               let z = ap (λ (i : ℕ). length (storedField (indexed names′ i x))) m in
               omega (arith, k .writes .end, h .records .end, q, p, z));
         };
-        named = subst (λ (z : List Form). Named z labels′ shorts′ names′) (sym seen)
+        named = subst (λ (z : List Form). Named z labels′ names′) (sym seen)
             (named-face (faces before) x (k .named));
       }
 
 -- the code's field stands in for the fold's
-module _ (f : fold.Found) (r : Reading) {cells table after : List ℕ} {labels shorts names labels′ shorts′ names′ :
-    List (List ℕ)} (h : Holds f r cells table labels shorts names) (x : Form) {end cell : ℕ} {rested : Bool}
-    (k : Kept f r x cell end rested table after labels′ shorts′ names′)
+module _ (f : fold.Found) (r : Reading) {cells table after : List ℕ} {labels labels′ : List (List ℕ)}
+    {names names′ : Names} (h : Holds f r cells table labels names) (x : Form) {end cell : ℕ} {rested : Bool}
+    (k : Kept f r x cell end rested table after labels′ names′)
     (steady : Steady f) (short : ShortNames x)
     (formed : (i : ℕ) (y : Form) → getElem? (faces (f .judged .fields) ++ (x ∷ [])) i ≡ some y
     → ifAny isShort (y .short) ≡ true) where
@@ -291,7 +292,7 @@ module _ (f : fold.Found) (r : Reading) {cells table after : List ℕ} {labels s
       → noteOf a ≡ lower (f .judged .lowest)
       (broken 6 (suc (f .lines)) (rules (f .cells)) (faces (f .judged .fields)) x)
       → isOpen (noteOf a) ≡ true
-      → Holds (fold.withField f l) (lineKept r cell end rested a) cells after labels′ shorts′ names′
+      → Holds (fold.withField f l) (lineKept r cell end rested a) cells after labels′ names′
   unfolding judge withForm
   holds-open l a e o low is =
       let before = f .judged .fields in

@@ -6,7 +6,7 @@ use mathlib.Core.Option.{none, some, Option·some-injective}
 use Prim.Native.Nat.{ℕ, zero, suc, _+_}
 use native.Mathlib.Omega.{arith}
 use lib.Dec.{eqb}
-use lib.ListN.{length, getD, getElem?, length-map}
+use lib.ListN.{length, getElem?, length-map}
 use Rattle.base.specs.Lists.{all, any, ifAny, isNone}
 use Rattle.base.proofs.Lists.{and-left, and-right}
 use Rattle.rules.specs.Answers.{refused}
@@ -19,6 +19,7 @@ use Rattle.text_laws.specs.Judging.{face, faces, showsCell}
 use Rattle.text_laws.specs.Fold as fold
 use Rattle.text_laws.specs.Steady.{isKept, Steady}
 use Rattle.text_laws.proofs.FormExact.{form-sound}
+use Rattle.texts.specs.HeldNames.{Names}
 use Rattle.texts.specs.HeldNames.{anyClash}
 use Rattle.texts.specs.HeldParts.{LineBytes, PartsHeld}
 use Rattle.texts.specs.StoredTrees.{held}
@@ -27,15 +28,12 @@ use Rattle.texts.specs.States.{laterNote, NamedWith, Counts}
 use Rattle.texts.specs.declared.line_parts.Parts.{Parts}
 use Rattle.texts.specs.declared.states.Reading.{Reading}
 use Rattle.texts.proofs.HeldArrays.{snoc-each, element-last, named-front}
-use Rattle.texts.proofs.HeldClashes.{clash-any}
+use Rattle.texts.proofs.HeldClashes.{NamesFormed, clash-any}
 use Rattle.texts.proofs.HeldNames.{types-here}
 use Rattle.texts.proofs.LineRules.{fixed-kind, none-length}
 use Rattle.texts.proofs.LineTypes.{ShortNames, spelled-short}
 
 -- ── names that have their form ──
-
-abbrev pub NamesFormed : Form → Type 0
-NamesFormed x = (isLabel (x .label) ≡ true) × (ifAny isShort (x .short) ≡ true)
 
 pub formed-names : {N : Type 0} (x : Field N) → isFormed x ≡ true
     → (isLabel (x .label) ≡ true) × (ifAny isShort (x .short) ≡ true)
@@ -68,8 +66,8 @@ module _ (f : fold.Found) (steady : Steady f) (line : List ℕ) (x : Form) (isFo
   pub form-short : ShortNames x
   form-short = spelled-short x line (form-sound line x isForm)
 
-  module _ (r : Reading) (counts : Counts f r) {labels shorts names : List (List ℕ)}
-      (named : NamedWith f x labels shorts names) where
+  module _ (r : Reading) (counts : Counts f r) {labels : List (List ℕ)} {names : Names}
+      (named : NamedWith f x labels names) where
     abbrev pub before : List Form
     before = faces (f .judged .fields)
 
@@ -77,15 +75,13 @@ module _ (f : fold.Found) (steady : Steady f) (line : List ℕ) (x : Form) (isFo
     count-is = length-map (f .judged .fields) face ∙ sym (counts .fields)
 
     -- 8
-    pub names-here : anyClash labels shorts (r .fields) (getD labels (r .fields) []) (getD shorts (r .fields) [])
-        ≡ any (clash x) before
+    pub names-here : anyClash labels (names .shorts) (names .words) (r .fields) ≡ any (clash x) before
     names-here =
         let front = named-front before x named in
         let e : getElem? (before ++ (x ∷ [])) (length before) ≡ some x = element-last before x in
-        subst (λ (n : ℕ). anyClash labels shorts n (getD labels n []) (getD shorts n [])
-        ≡ any (clash x) before) count-is
-        (rw (named .label (length before) x e, named .short (length before) x e)
-        (clash-any before x labels shorts form-formed fields-formed (front .label) (front .short)))
+        subst (λ (n : ℕ). anyClash labels (names .shorts) (names .words) n ≡ any (clash x) before) count-is
+        (clash-any before x labels names form-formed (named .label (length before) x e, named .name (length before) x e)
+        fields-formed (λ i y z. (front .label i y z, front .name i y z)))
 
     -- 9
     pub types-are : typesKept names (r .fields) x ≡ keepsTypes nameReadable before x
@@ -94,7 +90,7 @@ module _ (f : fold.Found) (steady : Steady f) (line : List ℕ) (x : Form) (isFo
         (types-here before x names all-formed (named .name) form-short)
 
   -- 10
-  pub rest-is : (names : List (List ℕ)) (n : ℕ) (v : LineBytes) (p : Parts) → PartsHeld names n line x v p
+  pub rest-is : (names : Names) (n : ℕ) (v : LineBytes) (p : Parts) → PartsHeld names n line x v p
       → (any isRest (faces (f .judged .fields)) && not (eqb (p .kind) 2 && eqb (p .condition .len) 0))
       ≡ not (keepsRest (faces (f .judged .fields)) x)
   rest-is names n v p is =

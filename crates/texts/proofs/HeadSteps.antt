@@ -20,6 +20,7 @@ use Rattle.rules.specs.Frames.{tens}
 use Rattle.text_laws.specs.FrameReader.{closing, readName, readTens}
 use Rattle.text_laws.specs.Judging.{faces}
 use Rattle.text_laws.specs.Fold as fold
+use Rattle.texts.specs.HeldNames.{Names}
 use Rattle.texts.specs.FramePlaces.{isSome, widthOr, nameBehind}
 use Rattle.texts.specs.States.{changed, withHead, slotMost, Room, Holds}
 use Rattle.texts.specs.declared.states.Stage.the-variants as at
@@ -119,12 +120,12 @@ module _ (l : List ℕ) (a : ℕ) (le : a ≤ length l) (n : NameOf (drop a l)) 
   name-put room e = put-writes (omega (arith, n .short, room)) (rw same-cut at e)
 
 -- where no field was kept, none stands in
-module _ (f : fold.Found) (r : Reading) {cells table : List ℕ} {labels shorts names : List (List ℕ)}
-    (h : Holds f r cells table labels shorts names) where
+module _ (f : fold.Found) (r : Reading) {cells table : List ℕ} {labels : List (List ℕ)} {names : Names}
+    (h : Holds f r cells table labels names) where
   -- NAME stands at the start of the table
   pub holds-name : f .judged .fields ≡ [] → (n : List ℕ) (k : ℕ) {after : List ℕ} → Writes table 0 n after k
       → Holds (fold.withName f (some n)) (changed (withHead r (r .width) k k (r .cells) (r .slots)) (r .lines + 1)
-      at.Blank (r .note)) cells after labels shorts names
+      at.Blank (r .note)) cells after labels names
   unfolding joined
   holds-name none-yet n k w = record {
     counts = record {
@@ -151,7 +152,7 @@ module _ (f : fold.Found) (r : Reading) {cells table : List ℕ} {labels shorts 
   -- W
   pub holds-width : (w : ℕ)
       → Holds (fold.withWidth f (some w)) (changed (withHead r w (r .name) (r .end) (r .cells) (r .slots))
-      (r .lines + 1) at.UnitsRuler (r .note)) cells table labels shorts names
+      (r .lines + 1) at.UnitsRuler (r .note)) cells table labels names
   holds-width w = record {
     counts = record {
       lines = next-line f r h;

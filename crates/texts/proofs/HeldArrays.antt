@@ -1,5 +1,5 @@
 -- Names held in arrays: one more at the end, and the fields that stand in for forms.
-use mathlib.Core.Path.{_≡_, refl, sym, _∙_, subst}
+use mathlib.Core.Path.{_≡_, refl, _∙_, subst}
 use mathlib.Core.List.{List, [], _∷_, _++_}
 use mathlib.Core.Bool.{cond}
 use mathlib.Core.Option.{some, Option·some-injective}
@@ -7,12 +7,11 @@ use Prim.Native.Nat.{ℕ, zero, suc, _<_}
 use native.Mathlib.Omega.{arith}
 use lib.ListN.{length, getD, set, getElem?}
 use lib.Seq.{getD-set-same, getD-set-other}
-use Rattle.rules.specs.Limits.{labelMost, shortMost}
+use Rattle.rules.specs.Limits.{labelMost}
 use Rattle.rules.specs.Fields.{Width, fixed, measured, rest, Form, isFixedWidth}
-use Rattle.rules.specs.Stored.{storedName}
 use Rattle.names.specs.Repeats.{padTo}
 use Rattle.text_laws.specs.Judging.{faceWidth, face}
-use Rattle.texts.specs.HeldNames.{heldName}
+use Rattle.texts.specs.HeldNames.{Names, HeldAs}
 use Rattle.texts.specs.States.{Named}
 use Rattle.texts.proofs.LineRules.{element-in}
 
@@ -46,35 +45,30 @@ module _ (l : List Form) (x : Form) (g : Form → List ℕ) (held : List (List �
       getD-set-other held (length l) i v [] (λ z. absurd (omega (arith, lt, z))) ∙ h i y k)
       (getD-set-same held (length l) v [] room ∙ e)
 
-face-name : (x : Form) → heldName (face x) ≡ heldName x
-face-name x = go (x .width)
+face-held : (names : Names) (i : ℕ) (x : Form) → HeldAs names i x → HeldAs names i (face x)
+face-held names i x h = record { short = h .short; word = h .word; mark = h .mark ∙ go (x .width) }
   where
-    go : (v : Width (List ℕ))
-        → padTo shortMost (cond (isFixedWidth (faceWidth v)) (storedName (x .short)) [])
-        ≡ padTo shortMost (cond (isFixedWidth v) (storedName (x .short)) [])
+    go : (v : Width (List ℕ)) → _≡_ {A = ℕ} (cond (isFixedWidth v) 1 0) (cond (isFixedWidth (faceWidth v)) 1 0)
     go (fixed n) = refl
     go (measured u t) = refl
     go rest = refl
 
-module _ (l : List Form) (x : Form) {labels shorts names : List (List ℕ)}
-    (h : Named (l ++ (x ∷ [])) labels shorts names) where
+module _ (l : List Form) (x : Form) {labels : List (List ℕ)} {names : Names}
+    (h : Named (l ++ (x ∷ [])) labels names) where
   -- without the last
-  pub named-front : Named l labels shorts names
+  pub named-front : Named l labels names
   named-front = record {
     label = λ i y e. h .label i y (element-front l (x ∷ []) i y e);
-    short = λ i y e. h .short i y (element-front l (x ∷ []) i y e);
     name = λ i y e. h .name i y (element-front l (x ∷ []) i y e);
     room = h .room;
   }
 
   -- the last by what later lines see of it
-  pub named-face : Named (l ++ (face x ∷ [])) labels shorts names
+  pub named-face : Named (l ++ (face x ∷ [])) labels names
   named-face = record {
     label = snoc-each (λ i y. getD labels i [] ≡ padTo labelMost (y .label)) l (face x) (named-front .label)
         (h .label (length l) x (element-last l x));
-    short = snoc-each (λ i y. getD shorts i [] ≡ padTo shortMost (storedName (y .short))) l (face x)
-        (named-front .short) (h .short (length l) x (element-last l x));
-    name = snoc-each (λ i y. getD names i [] ≡ heldName y) l (face x) (named-front .name)
-        (h .name (length l) x (element-last l x) ∙ sym (face-name x));
+    name = snoc-each (λ i y. HeldAs names i y) l (face x) (named-front .name)
+        (face-held names (length l) x (h .name (length l) x (element-last l x)));
     room = h .room;
   }

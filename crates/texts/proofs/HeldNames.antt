@@ -1,4 +1,4 @@
--- Names that the code holds by value, as arrays of 8 bytes: rule 9 of one line, and the record that is written of it.
+-- Names that the code holds by value, as arrays of bytes: rule 9 of one line, and the record that is written of it.
 -- On lists, with no text and no place in it: held names of the fields so far, and of the line's own form behind them.
 use mathlib.Core.Path.{_≡_, refl, sym, _∙_, ap}
 use mathlib.Core.Bool.{Bool, true, false, cond, _&&_, _||_}
@@ -6,7 +6,8 @@ use mathlib.Core.List.{List, [], _∷_, _++_}
 use mathlib.Core.Option.{Option, none, some}
 use Prim.Native.Nat.{ℕ, suc, _+_, _≤_, _<_}
 use native.Mathlib.Omega.{arith}
-use lib.ListN.{length, take, getD, getElem?, length-append}
+use lib.Dec.{eqb}
+use lib.ListN.{length, take, getElem?, length-append}
 use lib.Seq.{take-append-seam, take-length}
 use borrow.Author.Tests.{ltb-true}
 use Rattle.base.specs.Lists.{all, any, same, ifAny, listOf, firstBreak}
@@ -19,14 +20,14 @@ use Rattle.rules.specs.Trees.{Tree, hasType}
 use Rattle.rules.specs.Fields.{Width, fixed, measured, rest, Form, isFixed, readNames, widthTrees}
 use Rattle.rules.specs.Stored.{storedName}
 use Rattle.rules.specs.Within.{keepsNames, keepsTypes, widthHasType, nameReadable}
-use Rattle.names.specs.Repeats.{firstFrom, padTo, sameName}
+use Rattle.laws.proofs.NameLaws.{name-unique-in}
+use Rattle.names.specs.Repeats.{firstFrom, padTo, sameName, heldWord}
 use Rattle.names.proofs.PadLaws.{held-same, none-second}
 use Rattle.texts.specs.Resolved.{typesKept}
-use Rattle.texts.specs.StoredTrees.{isHeld, lookUp, mayRead}
-use Rattle.texts.specs.HeldNames.{heldName}
+use Rattle.texts.specs.StoredTrees.{readsAs, isHeld, lookUp, mayRead}
+use Rattle.texts.specs.HeldNames.{Names, HeldAs}
 use Rattle.texts.specs.Resolved.{indexed}
 use Rattle.text_laws.specs.Resolving.{indexOf, renameField}
-use Rattle.text_laws.proofs.NamedRules.{name-unique}
 use Rattle.text_laws.proofs.NamedTypes.{any-element}
 use Rattle.texts.proofs.FirstBreaks.{any-search, search-hit}
 use Rattle.texts.proofs.LineRules.{element-at}
@@ -35,29 +36,45 @@ use Rattle.text_laws.proofs.Resolved.{same-width, same-maybe}
 
 -- ── what may be read ──
 
-fixed-name : (x : Form) (w : List ℕ) → ifAny isShort (x .short) ≡ true → isShort w ≡ true
-    → sameName (padTo shortMost w) (heldName x) ≡ (isFixed x && any (same w) (readNames x))
+read-held : (x : Form) (w : List ℕ) → ifAny isShort (x .short) ≡ true → isShort w ≡ true
+    → (sameName (padTo shortMost w) (padTo shortMost (storedName (x .short)))
+    || sameName (padTo shortMost w) (heldWord (x .label)))
+    ≡ any (same w) (readNames x)
 unfolding any
-fixed-name x w p q = go (isFixed x) (x .short) p
+read-held x w p q = go (isShort l) refl (x .short) p
   where
-    or-false : (b : Bool) → b ≡ b || false
+    l : List ℕ
+    l = x .label
+
+    or-false : (a : Bool) → a ≡ a || false
     or-false true = refl
     or-false false = refl
 
-    go : (b : Bool) (o : Option (List ℕ)) → ifAny isShort o ≡ true
-        → sameName (padTo shortMost w) (padTo shortMost (cond b (storedName o) [])) ≡ (b && any (same w) (listOf o))
-    go false o p = none-second w q
-    go true none p = none-second w q
-    go true (some v) p = held-same w v q p ∙ or-false (same w v)
+    go : (b : Bool) → isShort l ≡ b → (o : Option (List ℕ)) → ifAny isShort o ≡ true
+        → (sameName (padTo shortMost w) (padTo shortMost (storedName o))
+        || sameName (padTo shortMost w) (padTo shortMost (cond b l [])))
+        ≡ any (same w) (listOf o ++ cond b (l ∷ []) [])
+    go true e none p = rw (none-second w q, held-same w l q e) (or-false (same w l))
+    go true e (some v) p =
+        rw (held-same w v q p, held-same w l q e) (ap (λ (a : Bool). same w v || a) (or-false (same w l)))
+    go false e none p = rw (none-second w q) refl
+    go false e (some v) p = rw (held-same w v q p, none-second w q) refl
+
+mark-is : (b : Bool) → eqb (cond b 1 0) 1 ≡ b
+mark-is true = refl
+mark-is false = refl
 
 -- those of the fields before, and of the line's own form x
-module _ (before : List Form) (x : Form) (names : List (List ℕ))
+module _ (before : List Form) (x : Form) (names : Names)
     (formed : (i : ℕ) (y : Form) → getElem? (before ++ (x ∷ [])) i ≡ some y → ifAny isShort (y .short) ≡ true)
-    (held : (i : ℕ) (y : Form) → getElem? (before ++ (x ∷ [])) i ≡ some y → getD names i [] ≡ heldName y)
+    (held : (i : ℕ) (y : Form) → getElem? (before ++ (x ∷ [])) i ≡ some y → HeldAs names i y)
     (short : ShortNames x) where
   held-fixed : (i : ℕ) (y : Form) (w : List ℕ) → getElem? (before ++ (x ∷ [])) i ≡ some y → isShort w ≡ true
       → isHeld names w i ≡ (isFixed y && any (same w) (readNames y))
-  held-fixed i y w e q = rw (held i y e) (fixed-name y w (formed i y e) q)
+  unfolding readsAs
+  held-fixed i y w e q =
+      let h = held i y e in
+      rw (h .mark, h .short, h .word, mark-is (isFixed y), read-held y w (formed i y e) q) refl
 
   may-read : (k : ℕ) (w : List ℕ) → k ≤ length (before ++ (x ∷ [])) → isShort w ≡ true
       → mayRead names k w ≡ nameReadable (take k (before ++ (x ∷ []))) w
@@ -110,9 +127,9 @@ module _ (before : List Form) (x : Form) (names : List (List ℕ))
 
 -- ── the record of this line, where it keeps 8 and 9 ──
 
-module _ (before : List Form) (x : Form) (names : List (List ℕ))
+module _ (before : List Form) (x : Form) (names : Names)
     (formed : (i : ℕ) (y : Form) → getElem? (before ++ (x ∷ [])) i ≡ some y → ifAny isShort (y .short) ≡ true)
-    (held : (i : ℕ) (y : Form) → getElem? (before ++ (x ∷ [])) i ≡ some y → getD names i [] ≡ heldName y)
+    (held : (i : ℕ) (y : Form) → getElem? (before ++ (x ∷ [])) i ≡ some y → HeldAs names i y)
     (short : ShortNames x)
     (unique : firstBreak keepsNames [] (before ++ (x ∷ [])) ≡ none)
     (types : keepsTypes nameReadable before x ≡ true) where
@@ -131,10 +148,10 @@ module _ (before : List Form) (x : Form) (names : List (List ℕ))
       let found =
       element-any (λ (z : Form). any (same w) (readNames z)) (before ++ (x ∷ [])) j (y .0) (y .1) named in
       let z = any-element (λ (v : Form). any (same w) (readNames v)) (before ++ (x ∷ [])) found in
-      name-unique (before ++ (x ∷ [])) unique j (indexOf (before ++ (x ∷ [])) w) w (y .0, y .1, named)
+      name-unique-in (before ++ (x ∷ [])) unique j (indexOf (before ++ (x ∷ [])) w) w (y .0, y .1, named)
       (z .0, z .1, z .2)
 
-  -- a tree of short names reads only such ones
+  -- a tree of names that have the form of short names reads only such ones
   both-width : (may : List ℕ → Bool) (v : Width (List ℕ)) → all (allNames isShort) (widthTrees v) ≡ true
       → widthHasType may v ≡ true → widthHasType (λ w. isShort w && may w) v ≡ true
   both-width may v e h = sym (width-type before x names formed held short may (λ w. isShort w && may w) (λ w q. rw q

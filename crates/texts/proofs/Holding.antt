@@ -5,15 +5,15 @@ use mathlib.Core.Bool.{true}
 use mathlib.Core.List.{List, [], _∷_, _++_}
 use mathlib.Core.Option.{Option, none, some}
 use Prim.Native.Nat.{ℕ}
-use lib.ListN.{length, length-map, getD, getElem?}
+use lib.ListN.{length, length-map, getElem?}
 use Rattle.base.specs.Lists.{ifAny, firstBreak}
-use Rattle.rules.specs.Answers.{Answer, refused}
+use Rattle.rules.specs.Answers.{Answer}
 use Rattle.rules.specs.Names.{isShort}
 use Rattle.rules.specs.Fields.{Width, fixed, measured, rest, Field, Form}
 use Rattle.rules.specs.Within.{keepsNames, keepsTypes, nameReadable}
 use Rattle.rules.specs.Frames.{Slot}
+use Rattle.texts.specs.HeldNames.{Names, HeldAs}
 use Rattle.texts.specs.Resolved.{indexed}
-use Rattle.texts.specs.HeldNames.{heldName}
 use Rattle.text_laws.specs.Resolving.{indexOf, renameWidth}
 use Rattle.texts.proofs.LineTypes.{ShortNames}
 use Rattle.text_laws.specs.Lowest.{lower, broken}
@@ -32,14 +32,14 @@ indexed-width g (fixed n) = refl
 indexed-width g (measured u t) = refl
 indexed-width g rest = refl
 
-indexed-face : (names : List (List ℕ)) (n : ℕ) (x : Form) → face (indexed names n x) ≡ face x
+indexed-face : (names : Names) (n : ℕ) (x : Form) → face (indexed names n x) ≡ face x
 indexed-face names n x = rw (indexed-width _ (x .width)) refl
 
--- fs are the fields that the code has written so far, and names the held ones, with that of x at its index
+-- fs are the fields that the code has written so far, and names the held ones, with those of x at its index
 module _ (cells : List Slot) (p : ℕ) (j : Judged) (fs : List (Field ℕ)) (stands : StandIn j fs) (clear : Clear j)
-    (x : Form) (names : List (List ℕ)) (short : ShortNames x)
+    (x : Form) (names : Names) (short : ShortNames x)
     (formed : (i : ℕ) (y : Form) → getElem? (faces fs ++ (x ∷ [])) i ≡ some y → ifAny isShort (y .short) ≡ true)
-    (held : (i : ℕ) (y : Form) → getElem? (faces fs ++ (x ∷ [])) i ≡ some y → getD names i [] ≡ heldName y) where
+    (held : (i : ℕ) (y : Form) → getElem? (faces fs ++ (x ∷ [])) i ≡ some y → HeldAs names i y) where
   abbrev pub here : Option Answer
   here = lower (j .lowest) (broken 6 p (rules cells) (faces (j .fields)) x)
 

@@ -1,12 +1,12 @@
 -- Facts of one field line: its form by its parts, its names as they are held, room for it.
-use mathlib.Core.Path.{_≡_, refl, ap, sym, _∙_}
+use mathlib.Core.Path.{_≡_, refl, ap, sym, _∙_, subst}
 use mathlib.Core.Bool.{Bool, true, false, cond, _&&_, _||_}
-use mathlib.Core.List.{List, []}
+use mathlib.Core.List.{List}
 use mathlib.Core.Option.{Option, none, some}
 use Prim.Native.Nat.{ℕ, suc, _+_, _≤_, _<_}
 use native.Mathlib.Omega.{arith}
 use lib.Dec.{ltb, leb, eqb}
-use lib.ListN.{length, take, getD, set, length-set, length-map}
+use lib.ListN.{length, take, set, length-set, length-map}
 use lib.Seq.{length-take-le}
 use borrow.Author.Tests.{leb-true, leb-false, eqb-true, ne-eqb}
 use Rattle.base.specs.Lists.{all, any, ifAny, headIs}
@@ -23,9 +23,8 @@ use Rattle.text_laws.specs.Lowest.{lower, broken}
 use Rattle.text_laws.specs.Judging.{face, faces, rules, isOpen}
 use Rattle.text_laws.specs.Fold as fold
 use Rattle.text_laws.proofs.FormExact.{form-sound}
-use Rattle.texts.specs.PartPlaces.{spanIn}
-use Rattle.texts.specs.HeldNames.{heldName}
-use Rattle.texts.specs.HeldParts.{WidthHeld, LineBytes, Kept, PartsHeld, PartsFor}
+use Rattle.texts.specs.HeldNames.{Names, HeldAs, Kept}
+use Rattle.texts.specs.HeldParts.{WidthHeld, LineBytes, PartsHeld, PartsFor}
 use Rattle.texts.specs.HeldRecords.{isSmallAs, fieldSize, Writable}
 use Rattle.texts.specs.Noted.{noteOf}
 use Rattle.texts.specs.States.{note, Named, NamedWith, laterNote, isTold, isFullAs, lineRefused, lineKept}
@@ -34,17 +33,17 @@ use Rattle.texts.specs.declared.notes.Note.{Note}
 use Rattle.texts.specs.StoredTrees.{TreeBytes, held}
 use Rattle.texts.specs.declared.line_parts.Parts.{Parts}
 use Rattle.texts.specs.declared.states.Reading.{Reading}
-use Rattle.texts.proofs.FormRules.{NamesFormed, formed-names}
+use Rattle.texts.proofs.FormRules.{formed-names}
+use Rattle.texts.proofs.HeldClashes.{NamesFormed}
 use Rattle.texts.proofs.HeldArrays.{snoc-each, held-more}
 use Rattle.texts.proofs.LineRules.{rest-kind, element-in}
 use Rattle.texts.proofs.PartRules.{sizes-are}
-use Rattle.texts.proofs.PartSteps.{short-text}
 use Rattle.texts.proofs.PartBytes.{size-sum, width-bound, short-length}
 use Rattle.texts.proofs.RowSteps.{label-most}
 
 -- ── the form of a line, by its parts ──
 
-module _ (names : List (List ℕ)) (n : ℕ) (s : List ℕ) where
+module _ (names : Names) (n : ℕ) (s : List ℕ) where
   kind-some : (v : Width (List ℕ)) (k b : ℕ) (t : TreeBytes) → WidthHeld names n v k b t → k ≡ 0 → ⊥
   kind-some (fixed m) k b t h e = absurd (omega (arith, h .0, e))
   kind-some (measured u v) k b t h e = absurd (omega (arith, h .0, e))
@@ -76,7 +75,7 @@ small-most d z h = go (eqb z 0) refl h
     go true e h = let q = eqb-true z 0 e in omega (arith, q)
     go false e h = leb-true z storedMost (and-right (leb d depthMost) (leb z storedMost) h)
 
-module _ (names : List (List ℕ)) (n : ℕ) (s : List ℕ) (x : Form) (v : LineBytes) (p : Parts)
+module _ (names : Names) (n : ℕ) (s : List ℕ) (x : Form) (v : LineBytes) (p : Parts)
     (is : PartsHeld names n s x v p) (small : all isSmall (trees x) ≡ true) where
   trees-small : (isSmallAs (p .width .depth) (p .width .len) && (isSmallAs (p .constraint .depth) (p .constraint .len)
       && isSmallAs (p .condition .depth) (p .condition .len))) ≡ true
@@ -117,44 +116,40 @@ module _ (names : List (List ℕ)) (n : ℕ) (s : List ℕ) (x : Form) (v : Line
 
 -- ── its names ──
 
-module _ (s : List ℕ) (x : Form) (p : Parts) {names : List (List ℕ)} {n : ℕ} {v : LineBytes}
+module _ (s : List ℕ) (x : Form) (p : Parts) {names : Names} {n : ℕ} {v : LineBytes}
     (is : PartsHeld names n s x v p) where
   pub named-with : (f : fold.Found) (r : Reading) → Counts f r → r .fields < fieldsMost → n ≡ r .fields
-      → {labels shorts labels′ shorts′ : List (List ℕ)} → Named (faces (f .judged .fields)) labels shorts names
-      → labels′ ≡ set labels (r .fields) (padTo labelMost (take (p .label) s))
-      → shorts′ ≡ set shorts (r .fields) (padTo shortMost (spanIn s (p .short)))
-      → NamedWith f x labels′ shorts′ names
-  named-with f r c lt at {labels} {shorts} {labels′} {shorts′} h a b =
+      → {labels labels′ : List (List ℕ)} → Named (faces (f .judged .fields)) labels names
+      → labels′ ≡ set labels (r .fields) (padTo labelMost (take (p .label) s)) → NamedWith f x labels′ names
+  named-with f r c lt at {labels} {labels′} h a =
       let before = faces (f .judged .fields) in
       let m : r .fields ≡ length before = c .fields ∙ sym (length-map (f .judged .fields) face) in
-      let e : (v : List (List ℕ)) (w : List ℕ) → set v (r .fields) w ≡ set v (length before) w =
-      λ v w. ap (λ (k : ℕ). set v k w) m in
-      let l₁ = length-set labels (r .fields) (padTo labelMost (take (p .label) s)) in
-      let l₂ = length-set shorts (r .fields) (padTo shortMost (spanIn s (p .short))) in
-      let own : getD names (length before) [] ≡ heldName x =
-      ap (λ (k : ℕ). getD names k []) (sym (at ∙ m)) ∙ is .own (omega (arith, at, lt, h .room .2)) in
+      let v = padTo labelMost (take (p .label) s) in
+      let l = length-set labels (r .fields) v in
+      let room = h .room .1 in
+      let own = is .own (
+        omega (arith, at, lt, room .0),
+        omega (arith, at, lt, room .1),
+        omega (arith, at, lt, room .2),
+      ) in
       record {
-        label = rw (a ∙ e labels _) (held-more before x (λ y. padTo labelMost (y .label)) labels
-            (omega (arith, m, lt, h .room .0)) (h .label) _ (ap (padTo labelMost) (is .label)));
-        short = rw (b ∙ e shorts _) (held-more before x (λ y. padTo shortMost (storedName (y .short))) shorts
-            (omega (arith, m, lt, h .room .1)) (h .short) _
-            (ap (padTo shortMost) (short-text s (x .short) (p .short) (is .short))));
-        name = snoc-each (λ i y. getD names i [] ≡ heldName y) before x (h .name) own;
-        room = (
-          (let z = ap length a in omega (arith, z, l₁, h .room .0)),
-          (let z = ap length b in omega (arith, z, l₂, h .room .1)),
-          h .room .2,
-        );
+        label = rw (a ∙ ap (λ (k : ℕ). set labels k v) m) (held-more before x (λ y. padTo labelMost (y .label)) labels
+            (omega (arith, m, lt, h .room .0)) (h .label) v (ap (padTo labelMost) (is .label)));
+        name = snoc-each (λ i y. HeldAs names i y) before x (h .name)
+            (subst (λ (k : ℕ). HeldAs names k x) (at ∙ m) own);
+        room = ((let z = ap length a in omega (arith, z, l, h .room .0)), room);
       }
 
 -- the names of a line that is not kept leave those of the fields as they were
-pub named-kept : (l : List Form) (n : ℕ) {labels shorts names names′ : List (List ℕ)} → length l ≡ n
-    → Kept names n names′ → Named l labels shorts names → Named l labels shorts names′
+pub named-kept : (l : List Form) (n : ℕ) {labels : List (List ℕ)} {names names′ : Names} → length l ≡ n
+    → Kept names n names′ → Named l labels names → Named l labels names′
 named-kept l n e k h = record {
   label = h .label;
-  short = h .short;
-  name = λ i y z. k .names i (let q = element-in l i y z in omega (arith, q, e)) ∙ h .name i y z;
-  room = (h .room .0, h .room .1, (let q = k .long in let m = h .room .2 in omega (arith, q, m)));
+  name = λ i y z.
+      let lt : i < n = (let q = element-in l i y z in omega (arith, q, e)) in
+      let g = h .name i y z in
+      record { short = k .shorts i lt ∙ g .short; word = k .words i lt ∙ g .word; mark = k .marks i lt ∙ g .mark };
+  room = (h .room .0, k .room fieldsMost (h .room .1));
 }
 
 -- ── 6 ──
@@ -186,7 +181,7 @@ module _ (f : fold.Found) (r : Reading) (x : Form) (c : Counts f r) where
       rw (c .lowest, n, six-broken f x large) refl
 
   -- the rest field is this one, or was listed before
-  pub rests-here : {names : List (List ℕ)} {n : ℕ} {s : List ℕ} {v : LineBytes} (p : Parts)
+  pub rests-here : {names : Names} {n : ℕ} {s : List ℕ} {v : LineBytes} (p : Parts)
       → PartsHeld names n s x v p
       → (r .rested || eqb (p .kind) 4) ≡ (any isRest (faces (f .judged .fields)) || isRest x)
   rests-here {names} {n} {s} {v} p is =

@@ -10,13 +10,14 @@ use borrow.Author.Tests.{eq-eqb, ne-eqb}
 use Rattle.base.specs.Lists.{isNone}
 use Rattle.rules.specs.Trees.{Tree}
 use Rattle.rules.specs.Fields.{Width, fixed, measured, rest, isFixedWidth, isRestWidth}
+use Rattle.texts.specs.HeldNames.{Names}
 use Rattle.texts.specs.HeldParts.{MaybeHeld, WidthHeld}
 use Rattle.texts.specs.StoredTrees.{TreeBytes}
 use Rattle.texts.proofs.StoredSteps.{some-length}
 
 -- ── kinds and conditions, as the code holds them ──
 
-module _ (names : List (List ℕ)) (n : ℕ) where
+module _ (names : Names) (n : ℕ) where
   pub fixed-kind : (v : Width (List ℕ)) (k b : ℕ) (t : TreeBytes) → WidthHeld names n v k b t
       → eqb k 2 ≡ isFixedWidth v
   fixed-kind (fixed m) k b t h = rw (h .0) refl

@@ -37,7 +37,7 @@ type-same p f g h k (two o x y) e =
     refl
 type-same p f g h k (negation x) e = rw (type-same p f g h YesNo x e) refl
 
--- those of a line that is not yet resolved are short names
+-- those of a line that is not yet resolved have the form of short names
 tree-short : {k b : ℕ} {t : Tree (List ℕ)} {s : List ℕ} → SpellsAt Unresolved k b t s → allNames isShort t ≡ true
 unfolding allNames
 tree-short (number le e) = refl

@@ -21,6 +21,7 @@ use Rattle.text_laws.specs.Steady.{Steady}
 use Rattle.text_laws.proofs.Answering.{kept-answers}
 use Rattle.text_laws.proofs.Fed.{kept-lines}
 use Rattle.text_laws.proofs.Steadiness.{steady-start, steady-line}
+use Rattle.texts.specs.HeldNames.{Names}
 use Rattle.texts.specs.LineEnds.{printableLength}
 use Rattle.texts.specs.Noted.{noteOf}
 use Rattle.texts.specs.States.{begunWith, Room, Begun, Holds, LineStep}
@@ -30,11 +31,11 @@ use Rattle.texts.proofs.SplitSteps.{piece-at, rest-at, piece-none}
 use Rattle.texts.proofs.StateSteps.{empty-nil, filled-nil}
 
 -- behind the lines up to a place
-pub record Walking (t : List ℕ) (at : ℕ) (r : Reading) (cells table : List ℕ) (labels shorts names : List (List ℕ)) :
+pub record Walking (t : List ℕ) (at : ℕ) (r : Reading) (cells table : List ℕ) (labels : List (List ℕ)) (names : Names) :
     Type 0 where
   pub found : fold.Found
   pub steady : Steady found
-  pub holds : Holds found r cells table labels shorts names
+  pub holds : Holds found r cells table labels names
   pub runs : foldl fold.lined fold.start (linesOf t) ≡ foldl fold.lined found (linesOf (drop at t))
   pub behind : rest lineFeed t ≡ rest lineFeed (drop at t)
   pub bytes : all isAllowed t ≡ all isAllowed (drop at t)
@@ -54,10 +55,10 @@ room-begun = record {
   told = refl;
 }
 
-pub walking-start : (t cells table : List ℕ) (labels shorts names : List (List ℕ)) → Begun labels shorts names
-    → Walking t 0 begunWith cells table labels shorts names
+pub walking-start : (t cells table : List ℕ) (labels : List (List ℕ)) (names : Names) → Begun labels names
+    → Walking t 0 begunWith cells table labels names
 unfolding joined any noteOf
-walking-start t cells table labels shorts names room = record {
+walking-start t cells table labels names room = record {
   found = fold.start;
   steady = steady-start;
   holds = record {
@@ -76,7 +77,6 @@ walking-start t cells table labels shorts names room = record {
     records = record { fields = []; stands = record { seen = refl; exact = λ e. refl }; stored = refl; end = refl };
     named = record {
       label = λ i y e. absurd (let z : _≡_ {A = ℕ} 0 1 = cc in omega arith);
-      short = λ i y e. absurd (let z : _≡_ {A = ℕ} 0 1 = cc in omega arith);
       name = λ i y e. absurd (let z : _≡_ {A = ℕ} 0 1 = cc in omega arith);
       room = room;
     };
@@ -86,12 +86,12 @@ walking-start t cells table labels shorts names room = record {
   bytes = refl;
 }
 
-module _ (t : List ℕ) (at i : ℕ) (r : Reading) {cells table : List ℕ} {labels shorts names : List (List ℕ)}
-    (w : Walking t at r cells table labels shorts names) (first : i ≡ at + printableLength (drop at t)) where
+module _ (t : List ℕ) (at i : ℕ) (r : Reading) {cells table : List ℕ} {labels : List (List ℕ)} {names : Names}
+    (w : Walking t at r cells table labels names) (first : i ≡ at + printableLength (drop at t)) where
   pub walking-next : i < length t → getD t i 0 ≡ lineFeed → (q : Reading) {cells′ table′ : List ℕ}
-      {labels′ shorts′ names′ : List (List ℕ)}
-      → LineStep (take (i - at) (drop at t)) r q cells cells′ table table′ labels labels′ shorts shorts′ names names′
-      → Walking t (i + 1) q cells′ table′ labels′ shorts′ names′
+      {labels′ : List (List ℕ)} {names′ : Names}
+      → LineStep (take (i - at) (drop at t)) r q cells cells′ table table′ labels labels′ names names′
+      → Walking t (i + 1) q cells′ table′ labels′ names′
   walking-next lt feed q step =
       let l = take (i - at) (drop at t) in
       let e = feed-here t at i first lt feed in

@@ -19,6 +19,7 @@ use Rattle.rules.specs.Stored.{storedFieldIn, counted, kindNumber, storedWidth,
 use Rattle.rules.specs.Stored.{storedField}
 use Rattle.text_laws.specs.Resolving.{renameTree, renameWidth}
 use Rattle.writing.specs.Puts.{placed, put}
+use Rattle.texts.specs.HeldNames.{Names}
 use Rattle.texts.specs.Resolved.{indexed}
 use Rattle.texts.specs.StoredTrees.{lookUp, TreeBytes, held, StoredIs}
 use Rattle.texts.specs.HeldParts.{MaybeHeld, WidthHeld, LineBytes, PartsHeld}
@@ -33,18 +34,18 @@ use Rattle.texts.proofs.RecordLaws.{two-writes, counted-writes, two-end
 -- ── the bytes are those of the record ──
 
 -- the stored form is not too long, and there is room for it
-held-bytes : (names : List (List ℕ)) (n : ℕ) (v : Tree (List ℕ)) (t : TreeBytes) → StoredIs names n v t
+held-bytes : (names : Names) (n : ℕ) (v : Tree (List ℕ)) (t : TreeBytes) → StoredIs names n v t
     → t .len ≤ length (t .bytes) → take (t .len) (t .bytes) ≡ storedTree (λ i. i) (renameTree (lookUp names n) v)
 held-bytes names n v t h le =
     h .bytes (omega (arith, h .len, le)) ∙ sym (stored-renamed (lookUp names n) v)
 
-maybe-bytes : (names : List (List ℕ)) (n : ℕ) (o : Option (Tree (List ℕ))) (t : TreeBytes) → MaybeHeld names n o t
+maybe-bytes : (names : Names) (n : ℕ) (o : Option (Tree (List ℕ))) (t : TreeBytes) → MaybeHeld names n o t
     → t .len ≤ length (t .bytes)
     → treeBytes (t .len) (t .bytes) ≡ counted (storedMaybe (Option·map (renameTree (lookUp names n)) o))
 maybe-bytes names n none t h le = rw h refl
 maybe-bytes names n (some v) t h le = ap counted (held-bytes names n v t h le)
 
-width-bytes : (names : List (List ℕ)) (n : ℕ) (v : Width (List ℕ)) (p : Parts) (b : List ℕ)
+width-bytes : (names : Names) (n : ℕ) (v : Width (List ℕ)) (p : Parts) (b : List ℕ)
     → WidthHeld names n v (p .kind) (p .bits) (held (p .width) b) → p .width .len ≤ length b
     → widthBytes b p ≡ storedWidth (renameWidth (lookUp names n) v)
 unfolding widthBytes
@@ -53,7 +54,7 @@ width-bytes names n (measured u v) p b h le =
     rw (h .0, h .1) (ap (λ (l : List ℕ). le2 u ++ counted l) (held-bytes names n v (held (p .width) b) (h .2) le))
 width-bytes names n rest p b h le = rw (h .0) refl
 
-width-kind : (names : List (List ℕ)) (n : ℕ) (v : Width (List ℕ)) (kind bits : ℕ) (t : TreeBytes)
+width-kind : (names : Names) (n : ℕ) (v : Width (List ℕ)) (kind bits : ℕ) (t : TreeBytes)
     → WidthHeld names n v kind bits t → kind ≡ kindNumber (renameWidth (lookUp names n) v)
 width-kind names n (fixed m) kind bits t h = h .0
 width-kind names n (measured u v) kind bits t h = h .0
@@ -162,12 +163,12 @@ names-put line p {before} {mid} {after} {at} {next} {end} h room e f =
 
 -- ── the record of the form ──
 
-tree-length : (names : List (List ℕ)) (n : ℕ) (v : Tree (List ℕ)) (t : TreeBytes) → StoredIs names n v t
+tree-length : (names : Names) (n : ℕ) (v : Tree (List ℕ)) (t : TreeBytes) → StoredIs names n v t
     → length (storedTree (λ i. i) (renameTree (lookUp names n) v)) ≡ t .len
 tree-length names n v t h =
     ap length (stored-renamed (lookUp names n) v) ∙ stored-length (lookUp names n) v ∙ sym (h .len)
 
-maybe-length : (names : List (List ℕ)) (n : ℕ) (o : Option (Tree (List ℕ))) (t : TreeBytes) → MaybeHeld names n o t
+maybe-length : (names : Names) (n : ℕ) (o : Option (Tree (List ℕ))) (t : TreeBytes) → MaybeHeld names n o t
     → length (counted (storedMaybe (Option·map (renameTree (lookUp names n)) o))) ≡ 2 + t .len
 maybe-length names n none t h = omega (arith, h, counted-length [])
 maybe-length names n (some v) t h =
@@ -177,7 +178,7 @@ maybe-length names n (some v) t h =
       tree-length names n v t h,
     )
 
-width-length : (names : List (List ℕ)) (n : ℕ) (v : Width (List ℕ)) (p : Parts) (b : List ℕ)
+width-length : (names : Names) (n : ℕ) (v : Width (List ℕ)) (p : Parts) (b : List ℕ)
     → WidthHeld names n v (p .kind) (p .bits) (held (p .width) b)
     → length (storedWidth (renameWidth (lookUp names n) v)) ≡ widthSize p
 width-length names n (fixed m) p b h = two-length m ∙ sym (size-fixed p (h .0))
@@ -194,14 +195,14 @@ width-length names n (measured u v) p b h =
 width-length names n rest p b h =
     sym (size-rest p (λ e. absurd (omega (arith, e, h .0))) (λ e. absurd (omega (arith, e, h .0))))
 
-pub short-length : (names : List (List ℕ)) (n : ℕ) (line : List ℕ) (x : Form) (v : LineBytes) (p : Parts)
+pub short-length : (names : Names) (n : ℕ) (line : List ℕ) (x : Form) (v : LineBytes) (p : Parts)
     → PartsHeld names n line x v p → p .short .at + p .short .len ≤ length line
     → length (storedName (x .short)) ≡ p .short .len
 short-length names n line x v p h le =
     ap length (sym (short-text line (x .short) (p .short) (h .short)) ∙ sym (part-span line (p .short)))
     ∙ part-length line (p .short) le
 
-module _ (names : List (List ℕ)) (n : ℕ) (line : List ℕ) (x : Form) (v : LineBytes) (p : Parts)
+module _ (names : Names) (n : ℕ) (line : List ℕ) (x : Form) (v : LineBytes) (p : Parts)
     (h : PartsHeld names n line x v p) (w : Writable (length line) p) (room : BytesRoom v) where
   parts-are : bodyBytes line v p ≡ (counted (x .label) ++ counted (storedName (x .short)))
       ++ (storedWidth (renameWidth (lookUp names n) (x .width))

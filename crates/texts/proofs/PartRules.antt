@@ -6,7 +6,6 @@ use mathlib.Core.Option.{Option, none, some}
 use Prim.Native.Nat.{ℕ, _+_, _≤_, _<_}
 use native.Mathlib.Omega.{arith}
 use lib.Dec.{eqb, leb}
-use lib.ListN.{length}
 use borrow.Author.Tests.{eq-eqb, ne-eqb, le-leb, lt-leb}
 use Rattle.base.specs.Lists.{all, ifAny, listOf}
 use Rattle.rules.specs.declared.ValueType.the-variants.{Number, YesNo}
@@ -14,6 +13,7 @@ use Rattle.rules.specs.Limits.{depthMost, storedMost}
 use Rattle.rules.specs.Trees.{Tree, depth, isSmall, hasType}
 use Rattle.rules.specs.Fields.{Width, fixed, measured, rest, trees, widthTrees}
 use Rattle.rules.specs.Within.{widthHasType}
+use Rattle.texts.specs.HeldNames.{Names}
 use Rattle.texts.specs.Resolved.{typesKept}
 use Rattle.texts.specs.StoredTrees.{mayRead, typeCode, TreeBytes, held, StoredIs}
 use Rattle.texts.specs.HeldParts.{MaybeHeld, WidthHeld}
@@ -41,11 +41,11 @@ pub type-some : (z gives wanted : ℕ) → (z ≡ 0 → ⊥) → eqb gives wante
 type-some z gives wanted e = rw (ne-eqb z 0 e) refl
 
 -- a tree has some length
-held-some : (names : List (List ℕ)) (n : ℕ) (v : Tree (List ℕ)) (t : TreeBytes) → StoredIs names n v t
+held-some : (names : Names) (n : ℕ) (v : Tree (List ℕ)) (t : TreeBytes) → StoredIs names n v t
     → eqb (t .len) 0 ≡ false
 held-some names n v t h = ne-eqb (t .len) 0 (λ e. absurd (omega (arith, e, h .len, some-length v)))
 
-tree-small : (names : List (List ℕ)) (n : ℕ) (v : Tree (List ℕ)) (t : TreeBytes) → StoredIs names n v t
+tree-small : (names : Names) (n : ℕ) (v : Tree (List ℕ)) (t : TreeBytes) → StoredIs names n v t
     → all isSmall (v ∷ []) ≡ isSmallAs (t .depth) (t .len)
 unfolding all
 tree-small names n v t h = rw (held-some names n v t h, h .deep, h .len) (go (isSmall v))
@@ -54,13 +54,13 @@ tree-small names n v t h = rw (held-some names n v t h, h .deep, h .len) (go (is
     go true = refl
     go false = refl
 
-maybe-small : (names : List (List ℕ)) (n : ℕ) (o : Option (Tree (List ℕ))) (t : TreeBytes) → MaybeHeld names n o t
+maybe-small : (names : Names) (n : ℕ) (o : Option (Tree (List ℕ))) (t : TreeBytes) → MaybeHeld names n o t
     → all isSmall (listOf o) ≡ isSmallAs (t .depth) (t .len)
 unfolding all
 maybe-small names n none t h = small-none (t .depth) (t .len) h
 maybe-small names n (some v) t h = tree-small names n v t h
 
-width-small : (names : List (List ℕ)) (n : ℕ) (v : Width (List ℕ)) (kind bits : ℕ) (t : TreeBytes)
+width-small : (names : Names) (n : ℕ) (v : Width (List ℕ)) (kind bits : ℕ) (t : TreeBytes)
     → WidthHeld names n v kind bits t → all isSmall (widthTrees v) ≡ isSmallAs (t .depth) (t .len)
 unfolding all
 width-small names n (fixed m) kind bits t h = small-none (t .depth) (t .len) (h .2)
@@ -78,13 +78,13 @@ sizes-are p r e names n s x b h =
     ∙ ap₂ _&&_ (maybe-small names (n + 1) (x .constraint) (held (p .constraint) (b .constraint)) (h .constraint))
     (maybe-small names n (x .condition) (held (p .condition) (b .condition)) (h .condition))))
 
-maybe-type : (names : List (List ℕ)) (n : ℕ) (o : Option (Tree (List ℕ))) (t : TreeBytes) → MaybeHeld names n o t
+maybe-type : (names : Names) (n : ℕ) (o : Option (Tree (List ℕ))) (t : TreeBytes) → MaybeHeld names n o t
     → ifAny (hasType (mayRead names n) YesNo) o ≡ isTypeAs (t .len) (t .gives) 2
 unfolding typeCode
 maybe-type names n none t h = type-none (t .len) (t .gives) 2 h
 maybe-type names n (some v) t h = rw (held-some names n v t h, h .gives) (type-code (mayRead names n) YesNo v)
 
-width-type : (names : List (List ℕ)) (n : ℕ) (v : Width (List ℕ)) (kind bits : ℕ) (t : TreeBytes)
+width-type : (names : Names) (n : ℕ) (v : Width (List ℕ)) (kind bits : ℕ) (t : TreeBytes)
     → WidthHeld names n v kind bits t → widthHasType (mayRead names n) v ≡ isTypeAs (t .len) (t .gives) 1
 unfolding typeCode
 width-type names n (fixed m) kind bits t h = type-none (t .len) (t .gives) 1 (h .2)

@@ -10,9 +10,10 @@ use lib.ListN.{length, take, drop, getD}
 use borrow.Author.Tests.{eq-eqb, ne-eqb}
 use Rattle.base.specs.Lists.{any, same}
 use Rattle.rules.specs.Names.{isLabel}
-use Rattle.rules.specs.Fields.{Width, fixed, measured, rest, Form, cellNames}
+use Rattle.rules.specs.Fields.{Width, fixed, measured, rest, Form, fieldNames}
 use Rattle.rules.specs.Frames.{Slot}
 use Rattle.rules.specs.Spelling.{isPlaceFor}
+use Rattle.texts.specs.HeldNames.{Names}
 use Rattle.texts.specs.PartPlaces.{spanIn}
 use Rattle.texts.specs.Slots.{storedSlot}
 use Rattle.texts.specs.HeldParts.{WidthHeld, LineBytes, PartsHeld}
@@ -40,7 +41,7 @@ module _ (long : Bool) (bits : ℕ) (p : Parts) where
   pub place-fixed : p .kind ≡ 2 → (not long && eqb bits (p .bits)) ≡ isPlacedBy long bits p
   place-fixed e = rw (eq-eqb (p .kind) 2 e) refl
 
-width-is : (names : List (List ℕ)) (n : ℕ) (c : Slot) (v : Width (List ℕ)) (kind b : ℕ) (t : TreeBytes)
+width-is : (names : Names) (n : ℕ) (c : Slot) (v : Width (List ℕ)) (kind b : ℕ) (t : TreeBytes)
     → WidthHeld names n v kind b t
     → cond (eqb kind 2) (not (c .long) && eqb (c .bits) b) (c .long) ≡ isPlaceFor c v
 width-is names n c (fixed m) kind b t h = rw (h .0, h .1) refl
@@ -53,9 +54,9 @@ module _ (cells line : List ℕ) (at end : ℕ) (p : Parts)
     abbrev pub named : Bool
     named = isNamedBy (take (end - (at + 3)) (drop (at + 3) cells)) line p
 
-    same-named : (c : Slot) (behind : List ℕ) (names : List (List ℕ)) (n : ℕ) (x : Form) (v : LineBytes)
+    same-named : (c : Slot) (behind : List ℕ) (names : Names) (n : ℕ) (x : Form) (v : LineBytes)
         → drop at cells ≡ storedSlot c ++ behind → isLabel (c .text) ≡ true → PartsHeld names n line x v p
-        → named ≡ any (same (c .text)) (cellNames x)
+        → named ≡ any (same (c .text)) (fieldNames x)
     same-named c behind names n x v e h o =
         let m : end - (at + 3) ≡ length (c .text) = omega (arith, ends c behind e, slot-length c) in
         ap (λ (k : ℕ). isNamedBy (take k (drop (at + 3) cells)) line p) m
@@ -65,13 +66,13 @@ module _ (cells line : List ℕ) (at end : ℕ) (p : Parts)
 
     pub part-not : (y : Bool) → y ≡ named → y ≡ false → PartShows cells at line p false
     part-not y e z c behind names n x v d h o =
-        let q : any (same (c .text)) (cellNames x) ≡ false = sym (same-named c behind names n x v d h o) ∙ sym e ∙ z in
+        let q : any (same (c .text)) (fieldNames x) ≡ false = sym (same-named c behind names n x v d h o) ∙ sym e ∙ z in
         ap (λ (b : Bool). b && isPlaceFor c (x .width)) (sym q)
 
     pub part-yes : (y r : Bool) → y ≡ named → y ≡ true
         → r ≡ isPlacedBy (eqb (getD cells at 0) 1) (getD cells (at + 1) 0) p → PartShows cells at line p r
     part-yes y r e z f c behind names n x v d h o =
-        let q : any (same (c .text)) (cellNames x) ≡ true = sym (same-named c behind names n x v d h o) ∙ sym e ∙ z in
+        let q : any (same (c .text)) (fieldNames x) ≡ true = sym (same-named c behind names n x v d h o) ∙ sym e ∙ z in
         f
         ∙ ap (λ (b : Bool). isPlacedBy b (getD cells (at + 1) 0) p) (slot-long cells at c behind d)
         ∙ ap (λ (k : ℕ). isPlacedBy (c .long) k p) (slot-bits cells at c behind d)

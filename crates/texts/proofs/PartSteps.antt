@@ -1,28 +1,28 @@
 -- The parts of a field line with their expressions in stored form, against the reader of the line.
-use mathlib.Core.Path.{_≡_, refl, ap, sym, _∙_}
-use mathlib.Core.Bool.{true, false}
+use mathlib.Core.Path.{_≡_, refl, ap, _∙_}
+use mathlib.Core.Bool.{Bool, true, false, cond}
 use mathlib.Core.List.{List, []}
 use mathlib.Core.Option.{Option, none, some}
 use Prim.Native.Nat.{ℕ, _+_, _-_, _≤_, _<_}
 use native.Mathlib.Omega.{arith}
-use lib.Dec.{ltb}
-use lib.ListN.{length, take, drop, getD, set, length-set}
+use lib.Dec.{eqb, ltb}
+use lib.ListN.{length, take, drop, getD, length-set}
 use lib.Seq.{getD-set-same, getD-set-other}
-use borrow.Author.Tests.{eq-eqb, ne-eqb}
 use Rattle.base.specs.Bytes.{bytes}
 use Rattle.rules.specs.Limits.{shortMost}
 use Rattle.rules.specs.Trees.{Tree, storedTree}
-use Rattle.rules.specs.Fields.{Width, fixed, measured, rest}
+use Rattle.rules.specs.Fields.{Width, fixed, measured, rest, Form, isFixed}
 use Rattle.rules.specs.Stored.{storedName}
-use Rattle.names.specs.Repeats.{padTo, sameName}
+use Rattle.names.specs.Repeats.{padTo, heldWord}
 use Rattle.names.proofs.RepeatLaws.{search-same}
 use Rattle.text_laws.specs.LineReader.{begins, readLabel, readShort, readWidth, formOf, readForm}
+use Rattle.texts.specs.HeldNames.{Names, NamesRoom, HeldAs, Kept, OwnPut}
 use Rattle.texts.specs.FieldPlaces.{SameLabel, SameShort}
 use Rattle.texts.specs.PartPlaces.{spanOf, spanIn, ShortIs}
 use Rattle.texts.specs.PartPlaces.{readBehind}
-use Rattle.texts.specs.HeldParts.{WidthHeld, MeasureAs, MeasureFor, EndsFor, LineBytes, ownIn, Kept, PartsFor}
+use Rattle.texts.specs.HeldParts.{WidthHeld, MeasureAs, MeasureFor, EndsFor, LineBytes, PartsFor}
 use Rattle.texts.specs.HeldParts.{BehindFor}
-use Rattle.texts.specs.StoredTrees.{isHeld, lookUp, typeOf, TreeBytes, held, StoredIs}
+use Rattle.texts.specs.StoredTrees.{readsAs, isHeld, lookUp, typeOf, TreeBytes, held, StoredIs}
 use Rattle.writing.specs.declared.spans.Span.{Span}
 use Rattle.texts.specs.declared.clause_trees.Ends.{Ends}
 use Rattle.texts.specs.declared.width_trees.Measure.{Measure}
@@ -32,7 +32,6 @@ use Rattle.texts.specs.declared.labels.Label.the-variants as label
 use Rattle.texts.specs.declared.labels.Short.{Short}
 use Rattle.texts.specs.declared.labels.Short.the-variants as short
 use Rattle.texts.proofs.LineRules.{fixed-kind}
-use Rattle.texts.proofs.LineSearches.{part-text}
 use Rattle.texts.proofs.FieldNames.{literal-at, literal-none}
 use Rattle.texts.proofs.FieldParts.{
   behind-miss,
@@ -48,28 +47,64 @@ use Rattle.texts.proofs.FieldParts.{
   ShortAs,
 }
 
--- ── its own name ──
-
-module _ (s : List ℕ) (name : Span) (kind : ℕ) {r : List ℕ} where
-  pub own-fixed : kind ≡ 2 → r ≡ padTo shortMost (take (name .at + name .len - name .at) (drop (name .at) s))
-      → r ≡ ownIn s name kind
-  own-fixed e h = h ∙ rw (part-text s (name .at) (name .len), eq-eqb kind 2 e) refl
-
-  pub own-other : (kind ≡ 2 → ⊥) → r ≡ padTo shortMost [] → r ≡ ownIn s name kind
-  own-other e h = h ∙ rw (ne-eqb kind 2 e) refl
+-- ── its own names ──
 
 pub short-text : (s : List ℕ) (o : Option (List ℕ)) (p : Span) → ShortIs s o p → spanIn s p ≡ storedName o
 short-text s none p h = rw h refl
 short-text s (some w) p h = h
 
--- ── names that are held in two arrays alike ──
+-- those that are put at the index n
+module _ (a : Names) (n : ℕ) (s : List ℕ) (label : ℕ) (name : Span) (kind : ℕ) (b : Names)
+    (put : OwnPut a n s label name kind b) where
+  long : (length (b .shorts) ≡ length (a .shorts)) × (length (b .words) ≡ length (a .words))
+      × (length (b .marks) ≡ length (a .marks))
+  long = (
+    ap length (put .shorts) ∙ length-set (a .shorts) n _,
+    ap length (put .words) ∙ length-set (a .words) n _,
+    ap length (put .marks) ∙ length-set (a .marks) n _,
+  )
 
-module _ (a b : List (List ℕ)) (n : ℕ) (alike : (i : ℕ) → i < n → getD b i [] ≡ getD a i []) where
+  pub own-kept : Kept a n b
+  own-kept = record {
+    room = λ m h. (omega (arith, long .0, h .0), omega (arith, long .1, h .1), omega (arith, long .2, h .2));
+    shorts = λ i lt. ap (λ (l : List (List ℕ)). getD l i []) (put .shorts)
+        ∙ getD-set-other (a .shorts) n i _ [] (λ z. absurd (omega arith));
+    words = λ i lt. ap (λ (l : List (List ℕ)). getD l i []) (put .words)
+        ∙ getD-set-other (a .words) n i _ [] (λ z. absurd (omega arith));
+    marks = λ i lt. ap (λ (l : List ℕ). getD l i 0) (put .marks)
+        ∙ getD-set-other (a .marks) n i _ 0 (λ z. absurd (omega arith));
+  }
+
+  own-held : (x : Form) → NamesRoom (n + 1) b → take label s ≡ x .label → ShortIs s (x .short) name
+      → eqb kind 2 ≡ isFixed x → HeldAs b n x
+  own-held x h p q e = record {
+    short = ap (λ (l : List (List ℕ)). getD l n []) (put .shorts)
+        ∙ getD-set-same (a .shorts) n _ [] (omega (arith, long .0, h .0))
+        ∙ ap (padTo shortMost) (short-text s (x .short) name q);
+    word = ap (λ (l : List (List ℕ)). getD l n []) (put .words)
+        ∙ getD-set-same (a .words) n _ [] (omega (arith, long .1, h .1)) ∙ ap heldWord p;
+    mark = ap (λ (l : List ℕ). getD l n 0) (put .marks)
+        ∙ getD-set-same (a .marks) n _ 0 (omega (arith, long .2, h .2)) ∙ ap (λ (b : Bool). cond b 1 0) e;
+  }
+
+-- ── names that are held alike ──
+
+pub kept-all : (names : Names) (n : ℕ) → Kept names n names
+kept-all names n = record {
+  room = λ m h. h;
+  shorts = λ i lt. refl;
+  words = λ i lt. refl;
+  marks = λ i lt. refl;
+}
+
+module _ (a b : Names) (n : ℕ) (kept : Kept a n b) where
+  reads-same : (w : List ℕ) (k : ℕ) → k < n → isHeld a w k ≡ isHeld b w k
+  unfolding readsAs
+  reads-same w k lt = rw (kept .marks k lt, kept .shorts k lt, kept .words k lt) refl
+
   look-same : (w : List ℕ) → lookUp a n w ≡ lookUp b n w
   unfolding lookUp
-  look-same w =
-      search-same (isHeld a w) (isHeld b w) 0 n
-      (λ k p q. ap (λ (m : List ℕ). sameName (padTo shortMost w) m) (sym (alike k (omega arith))))
+  look-same w = search-same (isHeld a w) (isHeld b w) 0 n (λ k p q. reads-same w k (omega arith))
 
   look-is : lookUp a n ≡ lookUp b n
   look-is = λ i w. look-same w i
@@ -88,18 +123,9 @@ module _ (a b : List (List ℕ)) (n : ℕ) (alike : (i : ℕ) → i < n → getD
   width-moved (measured u v) kind bits t h = (h .0, h .1, stored-moved v t (h .2))
   width-moved rest kind bits t h = h
 
-pub kept-all : (names : List (List ℕ)) (n : ℕ) → Kept names n names
-kept-all names n = record { long = refl; names = λ i lt. refl }
-
-pub kept-set : (names : List (List ℕ)) (n : ℕ) (x : List ℕ) → Kept names n (set names n x)
-kept-set names n x = record {
-  long = length-set names n x;
-  names = λ i lt. getD-set-other names n i x [] (λ z. absurd (omega arith));
-}
-
 -- ── behind the names ──
 
-module _ (names : List (List ℕ)) (n : ℕ) (s : List ℕ) (label : ℕ) (name : Span) (at : ℕ) (b : LineBytes)
+module _ (names : Names) (n : ℕ) (s : List ℕ) (label : ℕ) (name : Span) (at : ℕ) (b : LineBytes)
   where
     refused : (r : Parts) → r .kind ≡ 0
         → ((w : List ℕ) (h : Option (List ℕ)) → formOf (readBehind w h (drop at s)) ≡ none)
@@ -107,11 +133,11 @@ module _ (names : List (List ℕ)) (n : ℕ) (s : List ℕ) (label : ℕ) (name 
     unfolding BehindFor
     refused r e k = λ w h i j. rw (k w h) e
 
-    pub behind-none : (r : Parts) (a : List (List ℕ)) (m : Measure) → r .kind ≡ 0
+    pub behind-none : (r : Parts) (a : Names) (m : Measure) → r .kind ≡ 0
         → MeasureFor a n s (readWidth (drop at s)) (b .width) m → m .kind ≡ 0 → BehindFor names n s label name at b r
     behind-none r a m e x k = refused r e (λ w h. behind-miss w h (drop at s) (x .wrong k))
 
-    module _ (a : List (List ℕ)) (m : Measure) (x : MeasureAs a n s (readWidth (drop at s)) (b .width) m) (e : Ends)
+    module _ (a : Names) (m : Measure) (x : MeasureAs a n s (readWidth (drop at s)) (b .width) m) (e : Ends)
         (y : EndsFor names n s (m .next) (b .constraint) (b .condition) e) where
       pub behind-width : (r : Parts) → r .kind ≡ 0 → e .right ≡ false → BehindFor names n s label name at b r
       behind-width r z k =
@@ -119,8 +145,7 @@ module _ (names : List (List ℕ)) (n : ℕ) (s : List ℕ) (label : ℕ) (name 
           ∙ y .wrong k (ending w h (x .width)))
 
       pub behind-whole : e .right ≡ true → label ≤ length s → name .at + name .len ≤ length s
-          → (o : List ℕ) → names ≡ set a n o → o ≡ ownIn s name (m .kind) → BehindFor names n s label name at b
-          (record {
+          → OwnPut a n s label name (m .kind) names → BehindFor names n s label name at b (record {
             kind = m .kind;
             label = label;
             short = name;
@@ -130,9 +155,9 @@ module _ (names : List (List ℕ)) (n : ℕ) (s : List ℕ) (label : ℕ) (name 
             condition = e .condition;
           })
       unfolding BehindFor
-      behind-whole k i j o set-is own = λ w h p q.
+      behind-whole k i j put = λ w h p q.
           let z = y .there k in
-          let kept : Kept a n names = rw set-is (kept-set a n o) in
+          let kept = own-kept a n s label name (m .kind) names put in
           let f : formOf (readBehind w h (drop at s))
           ≡ some (ending w h (x .width) (z .constraint) (z .condition)) =
           behind-is w h (drop at s) (drop (m .next) s) (x .width) (x .isRead) ∙ z .isRead (ending w h (x .width)) in
@@ -141,20 +166,18 @@ module _ (names : List (List ℕ)) (n : ℕ) (s : List ℕ) (label : ℕ) (name 
             shortFits = j;
             label = p;
             short = q;
-            width = width-moved a names n (kept .names) (x .width) (m .kind) (m .bits) (held (m .tree) (b .width)) (x
+            width = width-moved a names n kept (x .width) (m .kind) (m .bits) (held (m .tree) (b .width)) (x
                 .stored);
             constraint = z .first;
             condition = z .second;
-            own = λ lt. (let l : n < length a = omega (arith, lt, kept .long) in
-                ap (λ (l : List (List ℕ)). getD l n []) set-is ∙ getD-set-same a n o [] l ∙ own ∙ rw (
-                  fixed-kind a n (x .width) (m .kind) (m .bits) (held (m .tree) (b .width)) (x .stored),
-                  short-text s h name q,
-                ) refl);
+            own = λ room. own-held a n s label name (m .kind) names put
+                (ending w h (x .width) (z .constraint) (z .condition)) room p q
+                (fixed-kind a n (x .width) (m .kind) (m .bits) (held (m .tree) (b .width)) (x .stored));
           })
 
 -- ── the line ──
 
-module _ (names : List (List ℕ)) (n : ℕ) (s : List ℕ) (v : LineBytes) where
+module _ (names : Names) (n : ℕ) (s : List ℕ) (v : LineBytes) where
   formless : (r : Parts) → r .kind ≡ 0 → readForm s ≡ none → PartsFor names n s (readForm s) v r
   formless r e k = rw k e
 

@@ -22,6 +22,7 @@ use Rattle.text_laws.specs.FrameReader.{readRow}
 use Rattle.text_laws.specs.Fold as fold
 use Rattle.text_laws.proofs.Bounds.{row-labels}
 use Rattle.text_laws.proofs.RowReader.{Reads, row-sound}
+use Rattle.texts.specs.HeldNames.{Names}
 use Rattle.texts.specs.Noted.{noteOf}
 use Rattle.texts.specs.Slots.{storedSlot, RowedAs}
 use Rattle.texts.specs.declared.slots.Rowed.{Rowed}
@@ -105,8 +106,8 @@ writes-front {before} {after} {at} {next} {w} le k =
     sym (take-take at next after e) ∙ ap (take at) (k .text)
     ∙ ap (λ (m : ℕ). take m (take at before ++ w)) (sym n) ∙ take-append-seam (take at before) w
 
-module _ (f : fold.Found) (r : Reading) {cells table after : List ℕ} {labels shorts names : List (List ℕ)} {next : ℕ}
-    (h : Holds f r cells table labels shorts names) (none-yet : f .judged .fields ≡ []) (row : Row)
+module _ (f : fold.Found) (r : Reading) {cells table after : List ℕ} {labels : List (List ℕ)} {names : Names} {next : ℕ}
+    (h : Holds f r cells table labels names) (none-yet : f .judged .fields ≡ []) (row : Row)
     (writes : Writes cells (r .slots) (joined storedSlot (slotsIn row)) after next) where
   -- the cell of the first field stands at the start
   first-cell : (cs : List Slot) → r .cell ≡ length (joined storedSlot (take (length (f .judged .fields)) cs))
@@ -119,7 +120,7 @@ module _ (f : fold.Found) (r : Reading) {cells table after : List ℕ} {labels s
   pub holds-few : (count : ℕ) → count ≡ length (slotsIn row) → length (f .cells) + length (slotsIn row) ≤ fieldsMost
       → Holds (fold.withRow f (some row))
       (changed (withHead r (r .width) (r .name) (r .end) (r .cells + count) next) (r .lines + 1)
-      at.RowBorder (r .note)) after table labels shorts names
+      at.RowBorder (r .note)) after table labels names
   holds-few count is few =
       let n : length (f .cells ++ slotsIn row) ≡ length (f .cells) + length (slotsIn row) =
       length-append (f .cells) (slotsIn row) in
@@ -156,7 +157,7 @@ module _ (f : fold.Found) (r : Reading) {cells table after : List ℕ} {labels s
 
   -- 4
   pub holds-over : fieldsMost < length (f .cells) + length (slotsIn row) → r .slots ≤ length cells
-      → Holds (fold.withRow f (some row)) (changed r (r .lines + 1) at.RowBorder (note 4 0)) after table labels shorts
+      → Holds (fold.withRow f (some row)) (changed r (r .lines + 1) at.RowBorder (note 4 0)) after table labels
       names
   unfolding noteOf
   holds-over over le =

@@ -11,6 +11,7 @@ use lib.ListN.{length}
 use Rattle.base.specs.Lists.{same, isEmpty}
 use Rattle.rules.specs.Answers.{refused}
 use Rattle.text_laws.specs.Fold as fold
+use Rattle.texts.specs.HeldNames.{Names}
 use Rattle.texts.specs.Noted.{noteOf}
 use Rattle.texts.specs.States.{note, changed, madeWrong, expected, isTold, Room, Taken}
 use Rattle.texts.specs.States.{stageOf, Holds}
@@ -65,14 +66,14 @@ taken-expect false r s h = taken-wrong r h
 
 -- ── what is held ──
 
-module _ (f : fold.Found) (r : Reading) {cells table : List ℕ} {labels shorts names : List (List ℕ)}
-    (h : Holds f r cells table labels shorts names) where
+module _ (f : fold.Found) (r : Reading) {cells table : List ℕ} {labels : List (List ℕ)} {names : Names}
+    (h : Holds f r cells table labels names) where
   pub next-line : r .lines + 1 ≡ suc (f .lines)
   next-line = let e = h .counts .lines in omega (arith, e)
 
   -- a right line, with nothing to keep of it
   pub holds-onward : (s : Stage)
-      → Holds (fold.onward (stageOf s) f) (changed r (r .lines + 1) s (r .note)) cells table labels shorts names
+      → Holds (fold.onward (stageOf s) f) (changed r (r .lines + 1) s (r .note)) cells table labels names
   holds-onward s = record {
     counts = record {
       lines = next-line;
@@ -96,7 +97,7 @@ module _ (f : fold.Found) (r : Reading) {cells table : List ℕ} {labels shorts 
   }
 
   -- 3
-  pub holds-wrong : Holds (fold.wrong f) (madeWrong r) cells table labels shorts names
+  pub holds-wrong : Holds (fold.wrong f) (madeWrong r) cells table labels names
   unfolding noteOf
   holds-wrong = record {
     counts = record {
@@ -125,17 +126,17 @@ module _ (f : fold.Found) (r : Reading) {cells table : List ℕ} {labels shorts 
 
   -- the line that must be this one
   pub holds-expect : (w l : List ℕ) (s : Stage) (right : Bool) → right ≡ same l w
-      → Holds (fold.expect w (stageOf s) f l) (expected right r s) cells table labels shorts names
+      → Holds (fold.expect w (stageOf s) f l) (expected right r s) cells table labels names
   holds-expect w l s right e = rw (← e) (go right)
     where
       go : (b : Bool) → Holds (cond b (fold.onward (stageOf s) f) (fold.wrong f))
-          (cond b (changed r (r .lines + 1) s (r .note)) (madeWrong r)) cells table labels shorts names
+          (cond b (changed r (r .lines + 1) s (r .note)) (madeWrong r)) cells table labels names
       go true = holds-onward s
       go false = holds-wrong
 
 -- the line of the stage
 pub line-at : (f : fold.Found) (l : List ℕ) (s : fold.Stage) {q : Reading} {cells table : List ℕ}
-    {labels shorts names : List (List ℕ)} → f .stage ≡ s → Holds (fold.linedAt s f l) q cells table labels shorts names
-    → Holds (fold.lined f l) q cells table labels shorts names
-line-at f l s {q} {cells} {table} {labels} {shorts} {names} e h =
-    subst (λ (z : fold.Stage). Holds (fold.linedAt z f l) q cells table labels shorts names) (sym e) h
+    {labels : List (List ℕ)} {names : Names} → f .stage ≡ s → Holds (fold.linedAt s f l) q cells table labels names
+    → Holds (fold.lined f l) q cells table labels names
+line-at f l s {q} {cells} {table} {labels} {names} e h =
+    subst (λ (z : fold.Stage). Holds (fold.linedAt z f l) q cells table labels names) (sym e) h

@@ -16,6 +16,7 @@ use Rattle.rules.specs.Limits.{openMost}
 use Rattle.text_laws.specs.Reader.{Out, fail, got, operatorAt, close, inside, atom, step, andThen, expr, more}
 use Rattle.operators.specs.declared.rows.Row.{Row}
 use Rattle.operators.specs.Rows.{rowOf}
+use Rattle.texts.specs.HeldNames.{Names}
 use Rattle.texts.specs.ExprPlaces.{SameSign}
 use Rattle.text_laws.specs.LineReader.{ofOut, readTree}
 use Rattle.texts.specs.StoredTrees.{TreeBytes, held, StoredIs, SameStored, StoredFor}
@@ -30,7 +31,7 @@ use Rattle.texts.proofs.ExprSteps.{more-at, in-rest, in-other, row-stop
 use Rattle.texts.proofs.StoredBytes.{Joined}
 use Rattle.texts.proofs.StoredSteps.{is-two, stored-fail, stored-got, same-none, same-here, here-within}
 
-module _ (names : List (List ℕ)) (n : ℕ) (s : List ℕ) where
+module _ (names : Names) (n : ℕ) (s : List ℕ) where
   -- ── expr ──
 
   module _ (at k b : ℕ) (a : TreeBytes) (A : AtomStored names n s at b a) where

@@ -15,6 +15,7 @@ use Rattle.rules.specs.Names.{isShort}
 use Rattle.rules.specs.Trees.{Tree, num, read, two, negation, depth, storedTree, storedLength, le4}
 use Rattle.text_laws.specs.Reader.{Out, fail, got, word, behind, wordValue, isNumeral, isNumberWord, leaf}
 use Rattle.text_laws.specs.Reader.{close}
+use Rattle.texts.specs.HeldNames.{Names}
 use Rattle.texts.specs.StoredTrees.{lookUp, typeOf, TreeBytes, held, StoredIs, SameStored}
 use Rattle.texts.specs.StoredPlaces.{Made, NotMade, TwoMade, WithinStored, wrapOf, LeafStored}
 use Rattle.texts.specs.StoredPlaces.{ClosedStored}
@@ -32,7 +33,7 @@ some-length (read w) = omega arith
 some-length (two o a b) = omega arith
 some-length (negation a) = omega arith
 
-module _ (names : List (List ℕ)) (n : ℕ) where
+module _ (names : Names) (n : ℕ) where
   pub is-name : (w : List ℕ) (at : ℕ) (r : TreeBytes)
       → Made at (cond (ltb (lookUp names n w) n) 1 0) 1 2 (fieldCode ∷ lookUp names n w ∷ []) r
       → StoredIs names n (read w) r
@@ -157,7 +158,7 @@ got-within s lo at z r e w = let h : 0 < r .len = omega (arith, e) in (w .low h,
 
 -- ── a leaf ──
 
-module _ (names : List (List ℕ)) (n : ℕ) (s : List ℕ) (at end : ℕ) (lo : at ≤ end) (hi : end ≤ length s)
+module _ (names : Names) (n : ℕ) (s : List ℕ) (at end : ℕ) (lo : at ≤ end) (hi : end ≤ length s)
     (e : drop end s ≡ behind (drop at s)) where
   part-is : take (end - at) (drop at s) ≡ word (drop at s)
   part-is = word-part s at end lo hi e
@@ -229,7 +230,7 @@ module _ (s : List ℕ) (p r : StoredTree) (neg : Bool) (before after : List ℕ
   )
 
   -- what stands behind the parenthesis
-  close-yes : (names : List (List ℕ)) (n : ℕ) (t : Tree (List ℕ)) → p .next < length s → getD s (p .next) 0 ≡ 41
+  close-yes : (names : Names) (n : ℕ) (t : Tree (List ℕ)) → p .next < length s → getD s (p .next) 0 ≡ 41
       → r .next ≡ p .next + 1 → StoredIs names n (wrapOf neg t) (held r after)
       → SameStored names n s (close (wrapOf neg) (got t (drop (p .next) s))) (held r after)
   unfolding close

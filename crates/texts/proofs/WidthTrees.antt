@@ -15,6 +15,7 @@ use Rattle.rules.specs.Trees.{Tree, num, read, two, negation, isNumber}
 use Rattle.rules.specs.Fields.{fixed, measured, rest}
 use Rattle.rules.specs.Within.{isWidth}
 use Rattle.text_laws.specs.LineReader.{miss, hit, keep, begins, readTree, readMeasure, readWidth}
+use Rattle.texts.specs.HeldNames.{Names, namesOf}
 use Rattle.texts.specs.PartPlaces.{spacedUnit, isUnit}
 use Rattle.texts.specs.HeldParts.{FixedFor, MeasureWithin, MeasureFor, SizedFor}
 use Rattle.texts.specs.StoredTrees.{held, StoredIs, StoredFor}
@@ -73,7 +74,7 @@ module _ (s : List ℕ) (at : ℕ) (t : StoredTree) (u next : ℕ) (lo : at ≤ 
       → ((k : ℕ) (q : List ℕ) → readTree (drop at s) ≡ hit (num k) q → m ≡ k) → bits ≡ u * m → FixedFor bits next r
       → MeasureWithin s at r × SizedFor s at t u next r
   sized-single m bits r y f b x = (
-    λ e. (let p = x [] 0 s [] .1 e in (omega (arith, p, lo), omega (arith, p, hi))),
+    λ e. (let p = x (namesOf [] [] []) 0 s [] .1 e in (omega (arith, p, lo), omega (arith, p, hi))),
     same,
   )
     where
@@ -86,7 +87,7 @@ module _ (s : List ℕ) (at : ℕ) (t : StoredTree) (u next : ℕ) (lo : at ≤ 
           let g : bits ≡ u * w .value = b ∙ ap (λ (a : ℕ). u * a) k in
           rw (w .isNum, ← g) (x names n s c .0)
 
-  measured-as : (names : List (List ℕ)) (n : ℕ) (b : List ℕ) (v : Tree (List ℕ)) → isUnit u ≡ true
+  measured-as : (names : Names) (n : ℕ) (b : List ℕ) (v : Tree (List ℕ)) → isUnit u ≡ true
       → StoredIs names n v (held t b) → isNumber v ≡ false
       → MeasureFor names n s (keep (isWidth (measured u v)) (measured u v) (drop next s)) b
       (record { kind = 3; bits = u; next = next; tree = t })
@@ -110,7 +111,7 @@ module _ (s : List ℕ) (at : ℕ) (t : StoredTree) (u next : ℕ) (lo : at ≤ 
 
 -- ── measures ──
 
-module _ (names : List (List ℕ)) (n : ℕ) (s : List ℕ) (at : ℕ) (t : StoredTree) (b : List ℕ)
+module _ (names : Names) (n : ℕ) (s : List ℕ) (at : ℕ) (t : StoredTree) (b : List ℕ)
     (x : StoredFor names n s (readTree (drop at s)) (held t b)) where
   abbrev pub MeasureAt : Measure → Type 0
   MeasureAt r = MeasureWithin s at r × MeasureFor names n s (readMeasure (drop at s)) b r
@@ -138,7 +139,7 @@ module _ (names : List (List ℕ)) (n : ℕ) (s : List ℕ) (at : ℕ) (t : Stor
 
 -- ── widths ──
 
-module _ (names : List (List ℕ)) (n : ℕ) (s : List ℕ) (at : ℕ) (le : at ≤ length s) (r : Measure) (b : List ℕ)
+module _ (names : Names) (n : ℕ) (s : List ℕ) (at : ℕ) (le : at ≤ length s) (r : Measure) (b : List ℕ)
   where
     pub width-rest : begins (bytes "variable") (drop at s) ≡ true → Plain 4 0 (at + 8) r
         → MeasureWithin s at r × MeasureFor names n s (readWidth (drop at s)) b r

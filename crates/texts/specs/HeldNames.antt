@@ -1,23 +1,61 @@
 -- The names of fields as the code holds them, by value: mirrors the code, no public promise rests on it.
+use mathlib.Core.Path.{_≡_}
 use mathlib.Core.Bool.{Bool, cond, _||_}
 use mathlib.Core.List.{List, []}
-use Prim.Native.Nat.{ℕ}
-use lib.Dec.{ltb}
-use lib.ListN.{getD}
+use Prim.Native.Nat.{ℕ, _≤_, _<_}
+use lib.Dec.{eqb, ltb}
+use lib.ListN.{length, take, getD, set}
 use Rattle.base.specs.Lists.{same}
 use Rattle.rules.specs.Limits.{shortMost}
-use Rattle.rules.specs.Fields.{Field, isFixed}
+use Rattle.rules.specs.Fields.{Form, isFixed}
 use Rattle.rules.specs.Stored.{storedName}
-use Rattle.names.specs.Repeats.{firstFrom, padTo, sameName}
+use Rattle.names.specs.Repeats.{firstFrom, padTo, heldWord, namesMeet}
+use Rattle.texts.specs.PartPlaces.{spanIn}
+use Rattle.writing.specs.declared.spans.Span.{Span}
 
--- a short name as it is held for reading: none for a field that is not fixed
-abbrev pub heldName : {N : Type 0} → Field N → List ℕ
-heldName x = padTo shortMost (cond (isFixed x) (storedName (x .short)) [])
+-- ── names that are held ──
 
--- the field of an index has the label or the short name
-abbrev pub clashHeld : List (List ℕ) → List (List ℕ) → List ℕ → List ℕ → ℕ → Bool
-clashHeld labels shorts label short i = same label (getD labels i []) || sameName short (getD shorts i [])
+-- short names, labels that may be read, and 1 where a field is fixed
+pub record Names : Type 0 where
+  pub shorts : List (List ℕ)
+  pub words : List (List ℕ)
+  pub marks : List ℕ
 
--- one of the first n has
-unfoldable pub anyClash : List (List ℕ) → List (List ℕ) → ℕ → List ℕ → List ℕ → Bool
-anyClash labels shorts n label short = ltb (firstFrom (clashHeld labels shorts label short) 0 n) n
+abbrev pub namesOf : List (List ℕ) → List (List ℕ) → List ℕ → Names
+namesOf shorts words marks = record { shorts = shorts; words = words; marks = marks }
+
+-- each list has at least n entries
+abbrev pub NamesRoom : ℕ → Names → Type 0
+NamesRoom n names = (n ≤ length (names .shorts)) × (n ≤ length (names .words)) × (n ≤ length (names .marks))
+
+-- those of x are held at the index i
+pub record HeldAs (names : Names) (i : ℕ) (x : Form) : Type 0 where
+  pub short : getD (names .shorts) i [] ≡ padTo shortMost (storedName (x .short))
+  pub word : getD (names .words) i [] ≡ heldWord (x .label)
+  pub mark : getD (names .marks) i 0 ≡ cond (isFixed x) 1 0
+
+-- the first n are as they were
+pub record Kept (before : Names) (n : ℕ) (after : Names) : Type 0 where
+  pub room : (m : ℕ) → NamesRoom m before → NamesRoom m after
+  pub shorts : (i : ℕ) → i < n → getD (after .shorts) i [] ≡ getD (before .shorts) i []
+  pub words : (i : ℕ) → i < n → getD (after .words) i [] ≡ getD (before .words) i []
+  pub marks : (i : ℕ) → i < n → getD (after .marks) i 0 ≡ getD (before .marks) i 0
+
+-- those of the line s are put at the index n: its label, its short name, and the mark by its kind
+pub record OwnPut (before : Names) (n : ℕ) (s : List ℕ) (label : ℕ) (short : Span) (kind : ℕ) (after : Names) : Type 0
+  where
+    pub shorts : after .shorts ≡ set (before .shorts) n (padTo shortMost (spanIn s short))
+    pub words : after .words ≡ set (before .words) n (heldWord (take label s))
+    pub marks : after .marks ≡ set (before .marks) n (cond (eqb kind 2) 1 0)
+
+-- ── names that clash ──
+
+-- the fields of indexes n and i share a name
+unfoldable pub clashHeld : List (List ℕ) → List (List ℕ) → List (List ℕ) → ℕ → ℕ → Bool
+clashHeld labels shorts words n i =
+    same (getD labels n []) (getD labels i [])
+    || namesMeet (getD shorts n []) (getD words n []) (getD shorts i []) (getD words i [])
+
+-- the field of index n and one before it do
+unfoldable pub anyClash : List (List ℕ) → List (List ℕ) → List (List ℕ) → ℕ → Bool
+anyClash labels shorts words n = ltb (firstFrom (clashHeld labels shorts words n) 0 n) n

@@ -16,6 +16,7 @@ use Rattle.rules.specs.Spelling.{shows}
 use Rattle.rules.specs.Stored.{counted}
 use Rattle.texts.specs.PartPlaces.{spanIn}
 use Rattle.texts.specs.Slots.{storedSlot}
+use Rattle.texts.specs.HeldNames.{Names}
 use Rattle.texts.specs.HeldParts.{LineBytes, PartsHeld}
 use Rattle.texts.specs.declared.line_parts.Parts.{Parts}
 
@@ -30,8 +31,8 @@ abbrev pub isTypeAs : ℕ → ℕ → ℕ → Bool
 isTypeAs z gives wanted = eqb z 0 || eqb gives wanted
 
 -- a test of each form that the parts are of
-abbrev pub TestsForm : Parts → (List (List ℕ) → ℕ → Form → Bool) → Bool → Type 0
-TestsForm p test r = (names : List (List ℕ)) (n : ℕ) (s : List ℕ) (x : Form) (b : LineBytes)
+abbrev pub TestsForm : Parts → (Names → ℕ → Form → Bool) → Bool → Type 0
+TestsForm p test r = (names : Names) (n : ℕ) (s : List ℕ) (x : Form) (b : LineBytes)
     → PartsHeld names n s x b p → r ≡ test names n x
 
 -- ── the record ──
@@ -88,5 +89,5 @@ isPlacedBy long bits p = cond (eqb (p .kind) 2) (not long && eqb bits (p .bits))
 
 -- whether the cell that is kept at a place is one for the field of the line
 abbrev pub PartShows : List ℕ → ℕ → List ℕ → Parts → Bool → Type 0
-PartShows cells at line p r = (c : Slot) (behind : List ℕ) (names : List (List ℕ)) (n : ℕ) (x : Form) (b : LineBytes)
+PartShows cells at line p r = (c : Slot) (behind : List ℕ) (names : Names) (n : ℕ) (x : Form) (b : LineBytes)
     → drop at cells ≡ storedSlot c ++ behind → isLabel (c .text) ≡ true → PartsHeld names n line x b p → r ≡ shows c x

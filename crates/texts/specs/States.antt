@@ -10,10 +10,10 @@ use Rattle.base.specs.Lists.{all, any, joined, between, isEmpty}
 use Rattle.writing.specs.Writes.{Writes}
 use Rattle.rules.specs.declared.TextAnswer.{TextAnswer}
 use Rattle.rules.specs.Answers.{Answer, ofText}
-use Rattle.rules.specs.Limits.{textMost, fieldsMost, labelMost, shortMost}
+use Rattle.rules.specs.Limits.{textMost, fieldsMost, labelMost}
 use Rattle.rules.specs.Fields.{Field, Form, isRest, trees}
 use Rattle.rules.specs.Trees.{le2, isSmall}
-use Rattle.rules.specs.Stored.{counted, recordOf, storedName, storedField}
+use Rattle.rules.specs.Stored.{counted, recordOf, storedField}
 use Rattle.rules.specs.Promises.{leaves}
 use Rattle.names.specs.Repeats.{padTo}
 use Rattle.rules.specs.Frames.{Slot}
@@ -23,7 +23,7 @@ use Rattle.text_laws.specs.Judging.{faces, showsCell, isFull}
 use Rattle.text_laws.specs.Fold as fold
 use Rattle.text_laws.specs.Steady.{StandIn, isHead, Steady}
 use Rattle.text_laws.specs.LineReader.{readForm}
-use Rattle.texts.specs.HeldNames.{heldName}
+use Rattle.texts.specs.HeldNames.{Names, namesOf, NamesRoom, HeldAs}
 use Rattle.texts.specs.HeldParts.{LineBytes, PartsHeld}
 use Rattle.texts.specs.HeldRecords.{fieldSize, Writable, BytesRoom}
 use Rattle.texts.specs.Noted.{noteOf}
@@ -198,25 +198,23 @@ pub record Records (f : fold.Found) (r : Reading) (table : List ℕ) : Type 0 wh
   pub end : r .end ≡ length (f .name ++ joined storedField fields)
 
 -- the names of fields, by value
-pub record Named (forms : List Form) (labels shorts names : List (List ℕ)) : Type 0 where
+pub record Named (forms : List Form) (labels : List (List ℕ)) (names : Names) : Type 0 where
   pub label : (i : ℕ) (y : Form) → getElem? forms i ≡ some y → getD labels i [] ≡ padTo labelMost (y .label)
-  pub short : (i : ℕ) (y : Form) → getElem? forms i ≡ some y
-      → getD shorts i [] ≡ padTo shortMost (storedName (y .short))
-  pub name : (i : ℕ) (y : Form) → getElem? forms i ≡ some y → getD names i [] ≡ heldName y
-  pub room : (fieldsMost ≤ length labels) × (fieldsMost ≤ length shorts) × (fieldsMost ≤ length names)
+  pub name : (i : ℕ) (y : Form) → getElem? forms i ≡ some y → HeldAs names i y
+  pub room : (fieldsMost ≤ length labels) × NamesRoom fieldsMost names
 
-pub record Holds (f : fold.Found) (r : Reading) (cells table : List ℕ) (labels shorts names : List (List ℕ)) : Type 0
-  where
-    pub counts : Counts f r
-    pub slots : Slots f r cells
-    pub records : Records f r table
-    pub named : Named (faces (f .judged .fields)) labels shorts names
+pub record Holds (f : fold.Found) (r : Reading) (cells table : List ℕ) (labels : List (List ℕ)) (names : Names)
+    : Type 0 where
+  pub counts : Counts f r
+  pub slots : Slots f r cells
+  pub records : Records f r table
+  pub named : Named (faces (f .judged .fields)) labels names
 
 -- one line of the head, with the buffers of cells and of records before and behind it
 abbrev pub HeadStep : (fold.Found → fold.Found) → Reading → Reading → List ℕ → List ℕ → List ℕ → List ℕ → Type 0
 HeadStep step r q cells cells′ table table′ =
-    (f : fold.Found) (labels shorts names : List (List ℕ)) → Steady f → isHead (f .stage) ≡ true
-    → Holds f r cells table labels shorts names → Holds (step f) q cells′ table′ labels shorts names
+    (f : fold.Found) (labels : List (List ℕ)) (names : Names) → Steady f → isHead (f .stage) ≡ true
+    → Holds f r cells table labels names → Holds (step f) q cells′ table′ labels names
 
 -- ── a field line ──
 
@@ -243,8 +241,8 @@ abbrev pub laterNote : fold.Found → Form → Option Answer
 laterNote f x = broken 7 (suc (f .lines)) (laterRules (f .cells)) (faces (f .judged .fields)) x
 
 -- the names of x too are held behind those of the fields
-abbrev pub NamedWith : fold.Found → Form → List (List ℕ) → List (List ℕ) → List (List ℕ) → Type 0
-NamedWith f x labels shorts names = Named (faces (f .judged .fields) ++ (x ∷ [])) labels shorts names
+abbrev pub NamedWith : fold.Found → Form → List (List ℕ) → Names → Type 0
+NamedWith f x labels names = Named (faces (f .judged .fields) ++ (x ∷ [])) labels names
 
 -- the place of the cell behind that of the next field
 abbrev pub NextCell : Reading → List ℕ → ℕ → Type 0
@@ -264,22 +262,23 @@ abbrev pub PartsRoom : List ℕ → LineBytes → Parts → Type 0
 PartsRoom line b p = Writable (length line) p × (fieldSize p ≤ recordMost) × BytesRoom b
 
 -- behind a field line
-abbrev pub FieldStep : List ℕ → Reading → Reading → List ℕ → List ℕ → List ℕ → List (List ℕ) → List (List ℕ)
-    → List (List ℕ) → List (List ℕ) → List (List ℕ) → List (List ℕ) → Type 0
-FieldStep line r q cells table table′ labels labels′ shorts shorts′ names names′ =
+abbrev pub FieldStep : List ℕ → Reading → Reading → List ℕ → List ℕ → List ℕ → List (List ℕ) → List (List ℕ) → Names
+    → Names → Type 0
+FieldStep line r q cells table table′ labels labels′ names names′ =
     (length table′ ≡ length table)
-    × ((f : fold.Found) → Steady f → Holds f r cells table labels shorts names
-    → Holds (fold.withField f line) q cells table′ labels′ shorts′ names′)
+    × ((f : fold.Found) → Steady f → Holds f r cells table labels names
+    → Holds (fold.withField f line) q cells table′ labels′ names′)
 
--- the same for a line of small expressions with the parts p, where not too many lines have come
-abbrev pub FormStep : List ℕ → LineBytes → Parts → Reading → Reading → List ℕ → List ℕ → List ℕ → List (List ℕ) →
-    List (List ℕ)
-    → List (List ℕ) → List (List ℕ) → Type 0
-FormStep line b p r q cells table table′ labels labels′ shorts shorts′ =
+-- the same for a line of small expressions with the parts p, whose own names are held, where not too many lines have
+-- come
+abbrev pub FormStep : List ℕ → LineBytes → Parts → Reading → Reading → List ℕ → List ℕ → List ℕ → List (List ℕ)
+    → List (List ℕ) → List (List ℕ) → List (List ℕ) → Type 0
+FormStep line b p r q cells table table′ labels labels′ shorts words =
     (length table′ ≡ length table)
-    × ((f : fold.Found) (x : Form) (names : List (List ℕ)) → Steady f → isFull (f .judged) ≡ false
-    → Holds f r cells table labels shorts names → readForm line ≡ some x → all isSmall (trees x) ≡ true
-    → PartsHeld names (r .fields) line x b p → Holds (fold.withField f line) q cells table′ labels′ shorts′ names)
+    × ((f : fold.Found) (x : Form) (marks : List ℕ) → Steady f → isFull (f .judged) ≡ false
+    → Holds f r cells table labels (namesOf shorts words marks) → readForm line ≡ some x
+    → all isSmall (trees x) ≡ true → PartsHeld (namesOf shorts words marks) (r .fields) line x b p
+    → Holds (fold.withField f line) q cells table′ labels′ (namesOf shorts words marks))
 
 -- ── the end ──
 
@@ -315,18 +314,17 @@ TableStep r table out out′ n =
 -- the answer at the end
 abbrev pub EndStep : Reading → Bool → List ℕ → List ℕ → List ℕ → TextAnswer → Type 0
 EndStep r whole table out out′ a =
-    (k : fold.Kept) (cells : List ℕ) (labels shorts names : List (List ℕ)) → isEmpty (k .line) ≡ whole
-    → Holds (k .found) r cells table labels shorts names → leaves (ofText a) out′ ≡ fold.finish k out
+    (k : fold.Kept) (cells : List ℕ) (labels : List (List ℕ)) (names : Names) → isEmpty (k .line) ≡ whole
+    → Holds (k .found) r cells table labels names → leaves (ofText a) out′ ≡ fold.finish k out
 
 -- behind a line
 abbrev pub LineStep : List ℕ → Reading → Reading → List ℕ → List ℕ → List ℕ → List ℕ → List (List ℕ) → List (List ℕ)
-    → List (List ℕ) → List (List ℕ) → List (List ℕ) → List (List ℕ) → Type 0
-LineStep line r q cells cells′ table table′ labels labels′ shorts shorts′ names names′ =
+    → Names → Names → Type 0
+LineStep line r q cells cells′ table table′ labels labels′ names names′ =
     (length cells′ ≡ length cells) × (length table′ ≡ length table)
-    × ((f : fold.Found) → Steady f → Holds f r cells table labels shorts names
-    → Holds (fold.lined f line) q cells′ table′ labels′ shorts′ names′)
+    × ((f : fold.Found) → Steady f → Holds f r cells table labels names
+    → Holds (fold.lined f line) q cells′ table′ labels′ names′)
 
 -- arrays for the names of all fields
-abbrev pub Begun : List (List ℕ) → List (List ℕ) → List (List ℕ) → Type 0
-Begun labels shorts names =
-    (fieldsMost ≤ length labels) × (fieldsMost ≤ length shorts) × (fieldsMost ≤ length names)
+abbrev pub Begun : List (List ℕ) → Names → Type 0
+Begun labels names = (fieldsMost ≤ length labels) × NamesRoom fieldsMost names

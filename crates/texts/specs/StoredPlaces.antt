@@ -11,6 +11,7 @@ use Rattle.rules.specs.Operators.{code, takes, gives, notCode}
 use Rattle.rules.specs.Trees.{Tree, negation}
 use Rattle.text_laws.specs.Reader.{got, word, behind, leaf, close, inside, atom, expr}
 use Rattle.text_laws.specs.Reader.{more}
+use Rattle.texts.specs.HeldNames.{Names}
 use Rattle.texts.specs.StoredTrees.{typeCode, TreeBytes, held, StoredIs, SameStored}
 use Rattle.texts.specs.declared.stored_trees.StoredTree.{StoredTree}
 use Rattle.texts.specs.declared.stored_trees.Step.{Step}
@@ -56,35 +57,35 @@ pub record WithinStored (s : List ℕ) (lo at z : ℕ) (r : StoredTree) : Type 0
 abbrev pub wrapOf : Bool → Tree (List ℕ) → Tree (List ℕ)
 wrapOf neg = cond neg negation (λ t. t)
 
-abbrev pub LeafStored : List (List ℕ) → ℕ → List ℕ → ℕ → TreeBytes → Type 0
+abbrev pub LeafStored : Names → ℕ → List ℕ → ℕ → TreeBytes → Type 0
 LeafStored names n s at r = SameStored names n s (leaf (word (drop at s)) (behind (drop at s))) r
 
-abbrev pub ExprStored : List (List ℕ) → ℕ → List ℕ → ℕ → ℕ → ℕ → TreeBytes → Type 0
+abbrev pub ExprStored : Names → ℕ → List ℕ → ℕ → ℕ → ℕ → TreeBytes → Type 0
 ExprStored names n s at k b r =
     (f : ℕ) → length (drop at s) < f → SameStored names n s (expr f k b (drop at s)) r
 
-abbrev pub AtomStored : List (List ℕ) → ℕ → List ℕ → ℕ → ℕ → TreeBytes → Type 0
+abbrev pub AtomStored : Names → ℕ → List ℕ → ℕ → ℕ → TreeBytes → Type 0
 AtomStored names n s at b r =
     (f : ℕ) → length (drop at s) < suc f → SameStored names n s (atom (expr f 0) b (drop at s)) r
 
-abbrev pub InsideStored : List (List ℕ) → ℕ → List ℕ → ℕ → ℕ → Bool → TreeBytes → Type 0
+abbrev pub InsideStored : Names → ℕ → List ℕ → ℕ → ℕ → Bool → TreeBytes → Type 0
 InsideStored names n s at b neg r =
     (f : ℕ) → length (drop at s) < suc f → SameStored names n s (inside (expr f 0) b (wrapOf neg) (drop at s)) r
 
 -- the closing parenthesis behind the expression p
 abbrev pub ClosedStored : List ℕ → Bool → TreeBytes → TreeBytes → Type 0
 ClosedStored s neg p r =
-    (names : List (List ℕ)) (n : ℕ) (t : Tree (List ℕ)) → StoredIs names n t p
+    (names : Names) (n : ℕ) (t : Tree (List ℕ)) → StoredIs names n t p
     → SameStored names n s (close (wrapOf neg) (got t (drop (p .next) s))) r
 
 -- what goes on behind the expression p of level h
-abbrev pub MoreStored : List (List ℕ) → ℕ → List ℕ → ℕ → ℕ → ℕ → ℕ → TreeBytes → TreeBytes → Type 0
+abbrev pub MoreStored : Names → ℕ → List ℕ → ℕ → ℕ → ℕ → ℕ → TreeBytes → TreeBytes → Type 0
 MoreStored names n s at k h b p r =
     (t : Tree (List ℕ)) (f : ℕ) → StoredIs names n t p → length (drop at s) < f
     → SameStored names n s (more f k h b t (drop at s)) r
 
 -- one operator behind the expression p: it goes on with the whole, or ends
-pub record StepStored (names : List (List ℕ)) (n : ℕ) (s : List ℕ) (at k h b : ℕ) (p : TreeBytes) (bytes : List ℕ)
+pub record StepStored (names : Names) (n : ℕ) (s : List ℕ) (at k h b : ℕ) (p : TreeBytes) (bytes : List ℕ)
     (r : Step) : Type 0 where
   pub ends : r .on ≡ false → MoreStored names n s at k h b p (held (r .tree) bytes)
   pub goes : r .on ≡ true → (q : TreeBytes) → MoreStored names n s (r .tree .next) k (r .level) b (held (r .tree)

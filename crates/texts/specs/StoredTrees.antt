@@ -1,7 +1,7 @@
 -- An expression in its stored form, with its type, as the code makes it: mirrors the code, no public promise rests on
 -- it.
 use mathlib.Core.Path.{_≡_}
-use mathlib.Core.Bool.{Bool, cond, _&&_}
+use mathlib.Core.Bool.{Bool, cond, _&&_, _||_}
 use mathlib.Core.List.{List, []}
 use Prim.Native.Nat.{ℕ, _≤_}
 use lib.Dec.{eqb, ltb}
@@ -14,19 +14,26 @@ use Rattle.rules.specs.Trees.{Tree, num, read, two, negation, depth, storedTree
 use Rattle.text_laws.specs.Reader.{Out, fail, got}
 use Rattle.names.specs.Repeats.{firstFrom, padTo, sameName}
 use Rattle.text_laws.specs.LineReader.{Got, miss, hit}
+use Rattle.texts.specs.HeldNames.{Names}
 use Rattle.texts.specs.declared.stored_trees.StoredTree.{StoredTree}
 
 -- ── names that may be read, held by value ──
 
--- the held name of an index is w
-abbrev pub isHeld : List (List ℕ) → List ℕ → ℕ → Bool
-isHeld names w i = sameName (padTo shortMost w) (getD names i [])
+-- the field of an index is fixed and has the held name v
+unfoldable pub readsAs : Names → List ℕ → ℕ → Bool
+readsAs names v i =
+    eqb (getD (names .marks) i 0) 1
+    && (sameName v (getD (names .shorts) i []) || sameName v (getD (names .words) i []))
 
--- the index of the name among the first n held names, else n
-unfoldable pub lookUp : List (List ℕ) → ℕ → List ℕ → ℕ
+-- it may be read by the name w
+abbrev pub isHeld : Names → List ℕ → ℕ → Bool
+isHeld names w = readsAs names (padTo shortMost w)
+
+-- the index of the first of n fields that may be read by the name, else n
+unfoldable pub lookUp : Names → ℕ → List ℕ → ℕ
 lookUp names n w = firstFrom (isHeld names w) 0 n
 
-abbrev pub mayRead : List (List ℕ) → ℕ → List ℕ → Bool
+abbrev pub mayRead : Names → ℕ → List ℕ → Bool
 mayRead names n w = ltb (lookUp names n w) n
 
 -- ── types ──
@@ -56,19 +63,19 @@ pub record TreeBytes : Type 0 where
 abbrev pub held : StoredTree → List ℕ → TreeBytes
 held r bytes = record { next = r .next; gives = r .gives; depth = r .depth; len = r .len; bytes = bytes }
 
--- r holds the tree t, whose names are those of the first n held ones; its bytes, if there is room for them
-pub record StoredIs (names : List (List ℕ)) (n : ℕ) (t : Tree (List ℕ)) (r : TreeBytes) : Type 0 where
+-- r holds the tree t, whose names are those of the first n fields; its bytes, if there is room for them
+pub record StoredIs (names : Names) (n : ℕ) (t : Tree (List ℕ)) (r : TreeBytes) : Type 0 where
   pub len : r .len ≡ storedLength t
   pub gives : r .gives ≡ typeOf (mayRead names n) t
   pub deep : r .depth ≡ depth t
   pub bytes : storedLength t ≤ length (r .bytes) → take (r .len) (r .bytes) ≡ storedTree (lookUp names n) t
 
 -- the code's answer r is that of the reader in the text s; the length 0 stands for none
-unfoldable pub SameStored : List (List ℕ) → ℕ → List ℕ → Out → TreeBytes → Type 0
+unfoldable pub SameStored : Names → ℕ → List ℕ → Out → TreeBytes → Type 0
 SameStored names n s fail r = r .len ≡ 0
 SameStored names n s (got t q) r = StoredIs names n t r × (drop (r .next) s ≡ q)
 
 -- the same for a whole expression
-unfoldable pub StoredFor : List (List ℕ) → ℕ → List ℕ → Got (Tree (List ℕ)) → TreeBytes → Type 0
+unfoldable pub StoredFor : Names → ℕ → List ℕ → Got (Tree (List ℕ)) → TreeBytes → Type 0
 StoredFor names n s miss r = r .len ≡ 0
 StoredFor names n s (hit t q) r = StoredIs names n t r × (drop (r .next) s ≡ q)

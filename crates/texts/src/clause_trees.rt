@@ -13,6 +13,7 @@ ghost use lib.ListN.{length, drop};
 ghost use Rattle.rules.specs.Limits.{textMost, fieldsMost};
 ghost use Rattle.names.specs.Classes.{classTable};
 ghost use Rattle.text_laws.specs.LineReader.{readConstraint, readCondition};
+ghost use Rattle.texts.specs.HeldNames.{namesOf};
 ghost use Rattle.texts.specs.FieldPlaces.{treeClause};
 ghost use Rattle.texts.specs.HeldParts.{ClauseWithin, ClauseFor, EndsFor};
 
@@ -48,17 +49,19 @@ fn tree_at(
     classes: &[u8; 256],
     s: &[u8],
     at: usize,
-    names: &[[u8; SHORT_MOST]; FIELDS_MOST],
+    shorts: &[[u8; SHORT_MOST]; FIELDS_MOST],
+    words: &[[u8; SHORT_MOST]; FIELDS_MOST],
+    marks: &[u8; FIELDS_MOST],
     n: usize,
     out: &mut [u8],
 ) -> Clause
     requires { ⌜ (at ≤ length (now s)) × (length (now s) ≤ textMost) × (n ≤ fieldsMost)
         × (now classes ≡ classTable) ⌝ }
     ensures place { λ r. ⌜ ClauseWithin (now (s .entry)) at r ⌝ }
-    ensures same { λ r. ⌜ ClauseFor (now (names .entry)) n (now (s .entry))
-        (treeClause (drop at (now (s .entry)))) (now (out .exit)) r ⌝ }
+    ensures same { λ r. ⌜ ClauseFor (namesOf (now (shorts .entry)) (now (words .entry)) (now (marks .entry)))
+        n (now (s .entry)) (treeClause (drop at (now (s .entry)))) (now (out .exit)) r ⌝ }
 {
-    let tree = stored_tree(classes, s, at, names, n, out);
+    let tree = stored_tree(classes, s, at, shorts, words, marks, n, out);
     Clause {
         right: tree.len != 0,
         tree: tree,
@@ -69,21 +72,23 @@ fn constraint_at(
     classes: &[u8; 256],
     s: &[u8],
     at: usize,
-    names: &[[u8; SHORT_MOST]; FIELDS_MOST],
+    shorts: &[[u8; SHORT_MOST]; FIELDS_MOST],
+    words: &[[u8; SHORT_MOST]; FIELDS_MOST],
+    marks: &[u8; FIELDS_MOST],
     n: usize,
     out: &mut [u8],
 ) -> Clause
     requires { ⌜ (at ≤ length (now s)) × (length (now s) ≤ textMost) × (n ≤ fieldsMost)
         × (now classes ≡ classTable) ⌝ }
     ensures place { λ r. ⌜ ClauseWithin (now (s .entry)) at r ⌝ }
-    ensures same { λ r. ⌜ ClauseFor (now (names .entry)) n (now (s .entry))
-        (readConstraint (drop at (now (s .entry)))) (now (out .exit)) r ⌝ }
+    ensures same { λ r. ⌜ ClauseFor (namesOf (now (shorts .entry)) (now (words .entry)) (now (marks .entry)))
+        n (now (s .entry)) (readConstraint (drop at (now (s .entry)))) (now (out .exit)) r ⌝ }
 {
     if starts_at(s, at, b"; present only when ") {
         return no_clause(at);
     }
     if starts_at(s, at, b"; ") {
-        return tree_at(classes, s, at + 2, names, n, out);
+        return tree_at(classes, s, at + 2, shorts, words, marks, n, out);
     }
     no_clause(at)
 }
@@ -92,18 +97,20 @@ fn condition_at(
     classes: &[u8; 256],
     s: &[u8],
     at: usize,
-    names: &[[u8; SHORT_MOST]; FIELDS_MOST],
+    shorts: &[[u8; SHORT_MOST]; FIELDS_MOST],
+    words: &[[u8; SHORT_MOST]; FIELDS_MOST],
+    marks: &[u8; FIELDS_MOST],
     n: usize,
     out: &mut [u8],
 ) -> Clause
     requires { ⌜ (at ≤ length (now s)) × (length (now s) ≤ textMost) × (n ≤ fieldsMost)
         × (now classes ≡ classTable) ⌝ }
     ensures place { λ r. ⌜ ClauseWithin (now (s .entry)) at r ⌝ }
-    ensures same { λ r. ⌜ ClauseFor (now (names .entry)) n (now (s .entry))
-        (readCondition (drop at (now (s .entry)))) (now (out .exit)) r ⌝ }
+    ensures same { λ r. ⌜ ClauseFor (namesOf (now (shorts .entry)) (now (words .entry)) (now (marks .entry)))
+        n (now (s .entry)) (readCondition (drop at (now (s .entry)))) (now (out .exit)) r ⌝ }
 {
     if starts_at(s, at, b"; present only when ") {
-        return tree_at(classes, s, at + 20, names, n, out);
+        return tree_at(classes, s, at + 20, shorts, words, marks, n, out);
     }
     no_clause(at)
 }
@@ -119,26 +126,29 @@ fn wrong_ends() -> Ends
     }
 }
 
-// Up to the end of the line; the constraint may read its own field, the held name of index n.
+// Up to the end of the line; the constraint may read its own field, whose names are held at index n.
 pub(crate) fn ends_at(
     classes: &[u8; 256],
     s: &[u8],
     at: usize,
-    names: &[[u8; SHORT_MOST]; FIELDS_MOST],
+    shorts: &[[u8; SHORT_MOST]; FIELDS_MOST],
+    words: &[[u8; SHORT_MOST]; FIELDS_MOST],
+    marks: &[u8; FIELDS_MOST],
     n: usize,
     first: &mut [u8],
     second: &mut [u8],
 ) -> Ends
     requires { ⌜ (at ≤ length (now s)) × (length (now s) ≤ textMost) × (n < fieldsMost)
         × (now classes ≡ classTable) ⌝ }
-    ensures { λ r. ⌜ EndsFor (now (names .entry)) n (now (s .entry)) at (now (first .exit)) (now (second .exit)) r ⌝ }
+    ensures { λ r. ⌜ EndsFor (namesOf (now (shorts .entry)) (now (words .entry)) (now (marks .entry)))
+        n (now (s .entry)) at (now (first .exit)) (now (second .exit)) r ⌝ }
 {
-    let c = constraint_at(classes, s, at, names, n + 1, first);
+    let c = constraint_at(classes, s, at, shorts, words, marks, n + 1, first);
     let constraint = c.tree;
     if !c.right {
         return wrong_ends();
     }
-    let d = condition_at(classes, s, constraint.next, names, n, second);
+    let d = condition_at(classes, s, constraint.next, shorts, words, marks, n, second);
     let condition = d.tree;
     if !d.right {
         return wrong_ends();

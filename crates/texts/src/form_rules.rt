@@ -21,6 +21,7 @@ ghost use Rattle.text_laws.specs.LineReader.{readForm};
 ghost use Rattle.text_laws.specs.Judging.{faces, showsCell};
 ghost use Rattle.text_laws.specs.Fold.{Found};
 ghost use Rattle.text_laws.specs.Steady.{Steady};
+ghost use Rattle.texts.specs.HeldNames.{Names, namesOf};
 ghost use Rattle.texts.specs.HeldParts.{LineBytes, PartsHeld};
 ghost use Rattle.texts.specs.Noted.{noteOf};
 ghost use Rattle.texts.specs.PartPlaces.{NamesFit};
@@ -29,7 +30,7 @@ ghost use Rattle.texts.specs.States.{slotsMost, Room, Counts, Slots, isT
 // There is a cell for the field, and it is one for the line.
 fn shows_cell(r: Reading, line: &[u8], p: Parts, cells: &[u8]) -> bool
     requires { ⌜ Room r × NamesFit (length (now line)) (p .label) (p .short) × (slotsMost ≤ length (now cells)) ⌝ }
-    ensures { λ b. ⌜ ((f : Found) (x : Form) (names : List (List ℕ)) (v : LineBytes) → Steady f → Counts f r
+    ensures { λ b. ⌜ ((f : Found) (x : Form) (names : Names) (v : LineBytes) → Steady f → Counts f r
         → Slots f r (now (cells .entry)) → PartsHeld names (r .fields) (now (line .entry)) x v p
         → b ≡ showsCell (f .cells) (faces (f .judged .fields)) x) ⌝ }
 {
@@ -48,13 +49,16 @@ pub(crate) fn later_rule(
     cells: &[u8],
     labels: &[[u8; LABEL_MOST]; FIELDS_MOST],
     shorts: &[[u8; SHORT_MOST]; FIELDS_MOST],
+    words: &[[u8; SHORT_MOST]; FIELDS_MOST],
 ) -> Note
     requires { ⌜ Room r × (r .lines ≤ textMost) × (r .fields < fieldsMost)
         × NamesFit (length (now line)) (p .label) (p .short) × (slotsMost ≤ length (now cells)) ⌝ }
     ensures told { λ a. ⌜ isTold (noteOf a) ≡ true ⌝ }
-    ensures rule { λ a. ⌜ ((f : Found) (x : Form) (names : List (List ℕ)) (v : LineBytes) → Steady f → Counts f r
-        → Slots f r (now (cells .entry)) → NamedWith f x (now (labels .entry)) (now (shorts .entry)) names
-        → readForm (now (line .entry)) ≡ some x → PartsHeld names (r .fields) (now (line .entry)) x v p
+    ensures rule { λ a. ⌜ ((f : Found) (x : Form) (marks : List ℕ) (v : LineBytes) → Steady f → Counts f r
+        → Slots f r (now (cells .entry))
+        → NamedWith f x (now (labels .entry)) (namesOf (now (shorts .entry)) (now (words .entry)) marks)
+        → readForm (now (line .entry)) ≡ some x
+        → PartsHeld (namesOf (now (shorts .entry)) (now (words .entry)) marks) (r .fields) (now (line .entry)) x v p
         → noteOf a ≡ laterNote f x) ⌝ }
 {
     let n = r.fields;
@@ -65,7 +69,7 @@ pub(crate) fn later_rule(
             place: place,
         };
     }
-    if clashes(labels, shorts, n) {
+    if clashes(labels, shorts, words, n) {
         return Note {
             number: 8,
             place: place,

@@ -1,5 +1,4 @@
 // The lines of a text's head of which something is kept: NAME, W and the cells of rows.
-use crate::notes::Note;
 use crate::openings::article;
 use crate::openings::is_named;
 use crate::rulers::ruler_width;
@@ -9,6 +8,7 @@ use crate::states::Reading;
 use crate::states::Stage;
 use crate::states::expect;
 use crate::states::onward;
+use crate::states::too_many;
 use crate::states::wrong;
 use names::classes::class_table;
 use rules::FIELDS_MOST;
@@ -75,14 +75,7 @@ pub(crate) fn take_row(mut r: Reading, line: &[u8], cells: &mut [u8]) -> Reading
     };
     let most = FIELDS_MOST - r.cells;
     if most < n {
-        return onward(
-            r,
-            Stage::RowBorder,
-            Note {
-                number: 4,
-                place: 0,
-            },
-        );
+        return too_many(r, Stage::RowBorder);
     }
     r.cells += n;
     r.slots = next;

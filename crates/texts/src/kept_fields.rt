@@ -12,26 +12,24 @@ use crate::shown_slots::slot_end;
 use crate::states::Reading;
 use crate::states::Stage;
 use crate::states::onward;
+use crate::states::too_many;
 use names::classes::class_table;
-use names::repeats::held_name;
 use rules::FIELDS_MOST;
 use rules::LABEL_MOST;
 use rules::SHORT_MOST;
 use rules::STORED_MOST;
-use writing::spans::Span;
 ghost use mathlib.Core.Option.{some};
 ghost use mathlib.Core.Path.{_≡_};
 ghost use Prim.Native.Nat.{_+_, _≤_, _<_};
 ghost use lib.ListN.{length, take, set};
 ghost use Rattle.rules.specs.Answers.{refused};
-ghost use Rattle.rules.specs.Limits.{textMost, fieldsMost, labelMost, shortMost};
+ghost use Rattle.rules.specs.Limits.{textMost, fieldsMost, labelMost};
 ghost use Rattle.names.specs.Repeats.{padTo};
 ghost use Rattle.text_laws.specs.Lowest.{lower};
 ghost use Rattle.text_laws.specs.Judging.{isOpen};
-ghost use Rattle.texts.specs.PartPlaces.{spanIn};
+ghost use Rattle.texts.specs.HeldNames.{namesOf};
 ghost use Rattle.texts.specs.HeldParts.{bytesOf};
 ghost use Rattle.texts.specs.Noted.{noteOf};
-ghost use Rattle.texts.specs.PartPlaces.{NamesFit};
 ghost use Rattle.texts.specs.States.{
   slotsMost,
   Room,
@@ -82,25 +80,13 @@ fn refuse_line(mut r: Reading, number: usize) -> Reading
     onward(r, Stage::FieldLine, a)
 }
 
-// Label and short name of a line, held as those of index n.
-fn hold_names(
-    line: &[u8],
-    label: usize,
-    short: Span,
-    n: usize,
-    labels: &mut [[u8; LABEL_MOST]; FIELDS_MOST],
-    shorts: &mut [[u8; SHORT_MOST]; FIELDS_MOST],
-)
-    requires { ⌜ NamesFit (length (now line)) label short × (n < fieldsMost) ⌝ }
-    ensures label { λ r. ⌜ now (labels .exit) ≡ set (now (labels .entry)) n (padTo labelMost
+// The label of a line, held as that of index n.
+fn hold_label(line: &[u8], label: usize, n: usize, labels: &mut [[u8; LABEL_MOST]; FIELDS_MOST])
+    requires { ⌜ (label ≤ length (now line)) × (n < fieldsMost) ⌝ }
+    ensures { λ r. ⌜ now (labels .exit) ≡ set (now (labels .entry)) n (padTo labelMost
         (take label (now (line .entry)))) ⌝ }
-    ensures short { λ r. ⌜ now (shorts .exit) ≡ set (now (shorts .entry)) n (padTo shortMost
-        (spanIn (now (line .entry)) short)) ⌝ }
 {
-    let from = short.at;
-    let to = from + short.len;
     labels[n] = held_label(&line[0..label]);
-    shorts[n] = held_name(&line[from..to]);
 }
 
 // Where the cell of the field behind the next one stands.
@@ -130,7 +116,8 @@ fn take_form(
     cells: &[u8],
     table: &mut [u8],
     labels: &mut [[u8; LABEL_MOST]; FIELDS_MOST],
-    shorts: &mut [[u8; SHORT_MOST]; FIELDS_MOST],
+    shorts: &[[u8; SHORT_MOST]; FIELDS_MOST],
+    words: &[[u8; SHORT_MOST]; FIELDS_MOST],
 ) -> Reading
     requires { ⌜ LineRoom r (now line) (now cells) (now table) × (r .count < fieldsMost)
         × PartsRoom (now line) (bytesOf (now wide) (now first) (now second)) p ⌝ }
@@ -138,11 +125,11 @@ fn take_form(
     ensures step { λ q. ⌜ FormStep (now (line .entry))
         (bytesOf (now (wide .entry)) (now (first .entry)) (now (second .entry))) p r q (now (cells .entry))
         (now (table .entry)) (now (table .exit)) (now (labels .entry)) (now (labels .exit)) (now (shorts .entry))
-        (now (shorts .exit)) ⌝ }
+        (now (words .entry)) ⌝ }
 {
     let n = r.fields;
-    hold_names(line, p.label, p.short, n, labels, shorts);
-    let b = later_rule(r, line, p, cells, labels, shorts);
+    hold_label(line, p.label, n, labels);
+    let b = later_rule(r, line, p, cells, labels, shorts, words);
     let a = lower(r.note, b);
     if is_open(a) {
         let at = r.end;
@@ -168,24 +155,18 @@ pub(crate) fn take_field(
     table: &mut [u8],
     labels: &mut [[u8; LABEL_MOST]; FIELDS_MOST],
     shorts: &mut [[u8; SHORT_MOST]; FIELDS_MOST],
-    names: &mut [[u8; SHORT_MOST]; FIELDS_MOST],
+    words: &mut [[u8; SHORT_MOST]; FIELDS_MOST],
+    marks: &mut [u8; FIELDS_MOST],
 ) -> Reading
     requires { ⌜ LineRoom r (now line) (now cells) (now table) ⌝ }
     ensures room { λ q. ⌜ Taken r q ⌝ }
-    ensures step { λ q. ⌜ FieldStep (now (line .entry)) r q (now (cells .entry)) (now (table .entry)) (now
-        (table .exit))
-        (now (labels .entry)) (now (labels .exit)) (now (shorts .entry)) (now (shorts .exit)) (now (names .entry))
-        (now (names .exit)) ⌝ }
+    ensures step { λ q. ⌜ FieldStep (now (line .entry)) r q (now (cells .entry)) (now (table .entry))
+        (now (table .exit)) (now (labels .entry)) (now (labels .exit))
+        (namesOf (now (shorts .entry)) (now (words .entry)) (now (marks .entry)))
+        (namesOf (now (shorts .exit)) (now (words .exit)) (now (marks .exit))) ⌝ }
 {
     if is_full(r) {
-        return onward(
-            r,
-            Stage::FieldLine,
-            Note {
-                number: 4,
-                place: 0,
-            },
-        );
+        return too_many(r, Stage::FieldLine);
     }
     let classes = class_table();
     let mut wide = [0u8; STORED_MOST];
@@ -194,7 +175,9 @@ pub(crate) fn take_field(
     let p = parts_of(
         &classes,
         line,
-        names,
+        shorts,
+        words,
+        marks,
         r.fields,
         &mut wide,
         &mut first,
@@ -215,6 +198,7 @@ pub(crate) fn take_field(
             table,
             labels,
             shorts,
+            words,
         );
     }
     refuse_line(r, 6)

@@ -1,4 +1,4 @@
-// Words of letters and digits at a place of a text: short names and numbers. The table of the classes is lent.
+// Words of letters and digits at a place of a text: names and numbers. The table of the classes is lent.
 use names::classes::is_digit_in;
 use names::classes::is_word_in;
 use rules::NUMBER_MOST;

@@ -1,5 +1,6 @@
 // The parts of a field line, and its expressions in their stored form.
 use crate::clause_trees::ends_at;
+use crate::held_names::hold_own;
 use crate::labels::Label;
 use crate::labels::Short;
 use crate::labels::label_at;
@@ -8,7 +9,6 @@ use crate::phrases::starts_at;
 use crate::stored_nodes::no_tree;
 use crate::stored_trees::StoredTree;
 use crate::width_trees::width_at;
-use names::repeats::held_name;
 use rules::FIELDS_MOST;
 use rules::SHORT_MOST;
 use writing::spans::Span;
@@ -18,8 +18,9 @@ ghost use lib.ListN.{length};
 ghost use Rattle.rules.specs.Limits.{textMost, fieldsMost};
 ghost use Rattle.names.specs.Classes.{classTable};
 ghost use Rattle.text_laws.specs.LineReader.{readForm};
+ghost use Rattle.texts.specs.HeldNames.{namesOf, Kept};
 ghost use Rattle.texts.specs.PartPlaces.{NamesFit};
-ghost use Rattle.texts.specs.HeldParts.{bytesOf, ownIn, Kept, PartsFor, BehindFor};
+ghost use Rattle.texts.specs.HeldParts.{bytesOf, PartsFor, BehindFor};
 
 // The kind as in a table (0: the line has no form), the length of the label, the short name in the line, the bits of a
 // fixed width or of the unit, and what is known of the expressions, of the length 0 where there is none.
@@ -49,19 +50,6 @@ fn no_parts() -> Parts
     }
 }
 
-// The name by which the field may be read; none where it is not fixed.
-fn own_name(s: &[u8], short: Span, kind: usize) -> [u8; SHORT_MOST]
-    requires { ⌜ short .at + short .len ≤ length (now s) ⌝ }
-    ensures { λ r. ⌜ r ≡ ownIn (now (s .entry)) short kind ⌝ }
-{
-    if kind == 2 {
-        let from = short.at;
-        let to = from + short.len;
-        return held_name(&s[from..to]);
-    }
-    held_name(b"")
-}
-
 // Behind a label and a short name.
 fn behind_names(
     classes: &[u8; 256],
@@ -69,7 +57,9 @@ fn behind_names(
     label: usize,
     short: Span,
     at: usize,
-    names: &mut [[u8; SHORT_MOST]; FIELDS_MOST],
+    shorts: &mut [[u8; SHORT_MOST]; FIELDS_MOST],
+    words: &mut [[u8; SHORT_MOST]; FIELDS_MOST],
+    marks: &mut [u8; FIELDS_MOST],
     n: usize,
     wide: &mut [u8],
     first: &mut [u8],
@@ -77,17 +67,19 @@ fn behind_names(
 ) -> Parts
     requires { ⌜ (at ≤ length (now s)) × (length (now s) ≤ textMost) × (n < fieldsMost)
         × NamesFit (length (now s)) label short × (now classes ≡ classTable) ⌝ }
-    ensures kept { λ r. ⌜ Kept (now (names .entry)) n (now (names .exit)) ⌝ }
-    ensures same { λ r. ⌜ BehindFor (now (names .exit)) n (now (s .entry)) label short at
+    ensures kept { λ r. ⌜ Kept (namesOf (now (shorts .entry)) (now (words .entry)) (now (marks .entry)))
+        n (namesOf (now (shorts .exit)) (now (words .exit)) (now (marks .exit))) ⌝ }
+    ensures same { λ r. ⌜ BehindFor (namesOf (now (shorts .exit)) (now (words .exit)) (now (marks .exit)))
+        n (now (s .entry)) label short at
         (bytesOf (now (wide .exit)) (now (first .exit)) (now (second .exit))) r ⌝ }
 {
-    let w = width_at(classes, s, at, names, n, wide);
+    let w = width_at(classes, s, at, shorts, words, marks, n, wide);
     if w.kind == 0 {
         return no_parts();
     }
-    names[n] = own_name(s, short, w.kind);
+    hold_own(classes, s, label, short, w.kind, n, shorts, words, marks);
     let width = w.tree;
-    let e = ends_at(classes, s, w.next, names, n, first, second);
+    let e = ends_at(classes, s, w.next, shorts, words, marks, n, first, second);
     let constraint = e.constraint;
     let condition = e.condition;
     if e.right {
@@ -104,20 +96,24 @@ fn behind_names(
     no_parts()
 }
 
-// The parts of a line. Its names are those of the first n held ones, in its constraint also its own, which is put
+// The parts of a line. The names in it are those of the first n fields, in its constraint also its own, which are put
 // behind them. The stored forms of its expressions are put into three outputs.
 pub(crate) fn parts_of(
     classes: &[u8; 256],
     s: &[u8],
-    names: &mut [[u8; SHORT_MOST]; FIELDS_MOST],
+    shorts: &mut [[u8; SHORT_MOST]; FIELDS_MOST],
+    words: &mut [[u8; SHORT_MOST]; FIELDS_MOST],
+    marks: &mut [u8; FIELDS_MOST],
     n: usize,
     wide: &mut [u8],
     first: &mut [u8],
     second: &mut [u8],
 ) -> Parts
     requires { ⌜ (length (now s) ≤ textMost) × (n < fieldsMost) × (now classes ≡ classTable) ⌝ }
-    ensures kept { λ r. ⌜ Kept (now (names .entry)) n (now (names .exit)) ⌝ }
-    ensures same { λ r. ⌜ PartsFor (now (names .exit)) n (now (s .entry)) (readForm (now (s .entry)))
+    ensures kept { λ r. ⌜ Kept (namesOf (now (shorts .entry)) (now (words .entry)) (now (marks .entry)))
+        n (namesOf (now (shorts .exit)) (now (words .exit)) (now (marks .exit))) ⌝ }
+    ensures same { λ r. ⌜ PartsFor (namesOf (now (shorts .exit)) (now (words .exit)) (now (marks .exit)))
+        n (now (s .entry)) (readForm (now (s .entry)))
         (bytesOf (now (wide .exit)) (now (first .exit)) (now (second .exit))) r ⌝ }
 {
     let l = label_at(classes, s, 0);
@@ -136,7 +132,9 @@ pub(crate) fn parts_of(
             label,
             short,
             next + 2,
-            names,
+            shorts,
+            words,
+            marks,
             n,
             wide,
             first,

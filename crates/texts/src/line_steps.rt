@@ -13,6 +13,7 @@ use names::words::same_words;
 use rules::FIELDS_MOST;
 use rules::LABEL_MOST;
 use rules::SHORT_MOST;
+ghost use Rattle.texts.specs.HeldNames.{namesOf};
 ghost use Rattle.texts.specs.States.{LineRoom, Taken, LineStep};
 
 // What is kept behind one more line.
@@ -23,13 +24,15 @@ pub(crate) fn take_line(
     table: &mut [u8],
     labels: &mut [[u8; LABEL_MOST]; FIELDS_MOST],
     shorts: &mut [[u8; SHORT_MOST]; FIELDS_MOST],
-    names: &mut [[u8; SHORT_MOST]; FIELDS_MOST],
+    words: &mut [[u8; SHORT_MOST]; FIELDS_MOST],
+    marks: &mut [u8; FIELDS_MOST],
 ) -> Reading
     requires { ⌜ LineRoom r (now line) (now cells) (now table) ⌝ }
     ensures room { λ q. ⌜ Taken r q ⌝ }
     ensures step { λ q. ⌜ LineStep (now (line .entry)) r q (now (cells .entry)) (now (cells .exit))
-        (now (table .entry)) (now (table .exit)) (now (labels .entry)) (now (labels .exit)) (now (shorts .entry))
-        (now (shorts .exit)) (now (names .entry)) (now (names .exit)) ⌝ }
+        (now (table .entry)) (now (table .exit)) (now (labels .entry)) (now (labels .exit))
+        (namesOf (now (shorts .entry)) (now (words .entry)) (now (marks .entry)))
+        (namesOf (now (shorts .exit)) (now (words .exit)) (now (marks .exit))) ⌝ }
 {
     let w = r.width;
     let stage = r.stage;
@@ -44,8 +47,8 @@ pub(crate) fn take_line(
         Stage::RowOrBlank => { take_row_or_blank(r, line, cells) }
         Stage::WhereLine => { expect(r, same_words(line, b"where:"), Stage::LastBlank) }
         Stage::LastBlank => { expect(r, line.len() == 0, Stage::FirstField) }
-        Stage::FirstField => { take_field(r, line, cells, table, labels, shorts, names) }
-        Stage::FieldLine => { take_field(r, line, cells, table, labels, shorts, names) }
+        Stage::FirstField => { take_field(r, line, cells, table, labels, shorts, words, marks) }
+        Stage::FieldLine => { take_field(r, line, cells, table, labels, shorts, words, marks) }
         Stage::Lost => { r }
     }
 }

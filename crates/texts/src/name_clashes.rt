@@ -1,5 +1,5 @@
 // A field's names held against those of earlier fields.
-use names::repeats::same_name;
+use names::repeats::names_meet;
 use names::words::byte_of;
 use names::words::same_words;
 use rules::FIELDS_MOST;
@@ -35,15 +35,15 @@ fn same_label(labels: &[[u8; LABEL_MOST]; FIELDS_MOST], i: usize, n: usize) -> b
     same_words(&labels[n], &labels[i])
 }
 
-// One of the first n fields has the label or the short name of index n.
+// One of the first n fields shares a name with the field of index n.
 pub(crate) fn clashes(
     labels: &[[u8; LABEL_MOST]; FIELDS_MOST],
     shorts: &[[u8; SHORT_MOST]; FIELDS_MOST],
+    words: &[[u8; SHORT_MOST]; FIELDS_MOST],
     n: usize,
 ) -> bool
     requires { ⌜ n < fieldsMost ⌝ }
-    ensures { λ r. ⌜ r ≡ anyClash (now (labels .entry)) (now (shorts .entry)) n (getD (now (labels .entry)) n [])
-        (getD (now (shorts .entry)) n []) ⌝ }
+    ensures { λ r. ⌜ r ≡ anyClash (now (labels .entry)) (now (shorts .entry)) (now (words .entry)) n ⌝ }
 {
     let mut i = 0;
     'earlier: loop {
@@ -53,7 +53,7 @@ pub(crate) fn clashes(
         if same_label(labels, i, n) {
             break 'earlier true;
         }
-        if same_name(shorts[n], shorts[i]) {
+        if names_meet(shorts[n], words[n], shorts[i], words[i]) {
             break 'earlier true;
         }
         i += 1;

@@ -13,6 +13,7 @@ ghost use lib.ListN.{length};
 ghost use Rattle.rules.specs.Answers.{ofText};
 ghost use Rattle.rules.specs.Limits.{textMost};
 ghost use Rattle.rules.specs.Promises.{ReadsText, leaves};
+ghost use Rattle.texts.specs.HeldNames.{namesOf};
 ghost use Rattle.texts.specs.States.{slotsMost, recordsMost, Begun};
 
 // Room for the cells of all fields and of one row more, and for NAME and the records of all fields.
@@ -28,10 +29,11 @@ fn read_lines(
     table: &mut [u8],
     labels: &mut [[u8; LABEL_MOST]; FIELDS_MOST],
     shorts: &mut [[u8; SHORT_MOST]; FIELDS_MOST],
-    names: &mut [[u8; SHORT_MOST]; FIELDS_MOST],
+    words: &mut [[u8; SHORT_MOST]; FIELDS_MOST],
+    marks: &mut [u8; FIELDS_MOST],
 ) -> TextAnswer
     requires { ⌜ (length (now text) ≤ textMost) × (slotsMost ≤ length (now cells))
-        × (recordsMost ≤ length (now table)) × Begun (now labels) (now shorts) (now names) ⌝ }
+        × (recordsMost ≤ length (now table)) × Begun (now labels) (namesOf (now shorts) (now words) (now marks)) ⌝ }
     ensures { λ r. ⌜ ReadsText (now (text .entry)) (now (out .entry)) (leaves (ofText r) (now (out .exit))) ⌝ }
 {
     let mut r = begin();
@@ -44,7 +46,7 @@ fn read_lines(
         if text[e] != b'\n' {
             return TextAnswer::BadByte;
         }
-        r = take_line(r, &text[at..e], cells, table, labels, shorts, names);
+        r = take_line(r, &text[at..e], cells, table, labels, shorts, words, marks);
         at = e + 1;
     }
 }
@@ -58,7 +60,8 @@ fn read_short(text: &[u8], out: &mut [u8]) -> TextAnswer
     let mut table = [0u8; RECORDS_ROOM];
     let mut labels = [[0u8; LABEL_MOST]; FIELDS_MOST];
     let mut shorts = [[0u8; SHORT_MOST]; FIELDS_MOST];
-    let mut names = [[0u8; SHORT_MOST]; FIELDS_MOST];
+    let mut words = [[0u8; SHORT_MOST]; FIELDS_MOST];
+    let mut marks = [0u8; FIELDS_MOST];
     read_lines(
         text,
         out,
@@ -66,7 +69,8 @@ fn read_short(text: &[u8], out: &mut [u8]) -> TextAnswer
         &mut table,
         &mut labels,
         &mut shorts,
-        &mut names,
+        &mut words,
+        &mut marks,
     )
 }
 

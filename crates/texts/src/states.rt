@@ -3,7 +3,7 @@ use crate::notes::Note;
 ghost use mathlib.Core.Path.{_≡_};
 ghost use Prim.Native.Nat.{_+_, _≤_};
 ghost use Rattle.rules.specs.Limits.{textMost};
-ghost use Rattle.texts.specs.States.{begunWith, changed, madeWrong, expected};
+ghost use Rattle.texts.specs.States.{note, begunWith, changed, madeWrong, expected};
 
 // The line that must come next; none where a line was wrong.
 pub(crate) enum Stage {
@@ -90,6 +90,18 @@ pub(crate) fn onward(mut r: Reading, s: Stage, n: Note) -> Reading
 {
     r.lines += 1;
     staged(r, s, n)
+}
+
+// 4: too many cells or field lines.
+pub(crate) fn too_many(r: Reading, s: Stage) -> Reading
+    requires { ⌜ r .lines ≤ textMost ⌝ }
+    ensures { λ q. ⌜ q ≡ changed r (r .lines + 1) s (note 4 0) ⌝ }
+{
+    let n = Note {
+        number: 4,
+        place: 0,
+    };
+    onward(r, s, n)
 }
 
 // 3 at this line.

@@ -23,6 +23,7 @@ ghost use lib.ListN.{length, drop};
 ghost use Rattle.rules.specs.Limits.{textMost, fieldsMost};
 ghost use Rattle.text_laws.specs.LineReader.{readTree};
 ghost use Rattle.names.specs.Classes.{classTable};
+ghost use Rattle.texts.specs.HeldNames.{namesOf};
 ghost use Rattle.texts.specs.StoredTrees.{StoredFor, held};
 ghost use Rattle.texts.specs.StoredPlaces.{
   WithinStored,
@@ -62,22 +63,25 @@ fn ending(tree: StoredTree) -> Step
     }
 }
 
-// The short name or number at `at`.
+// The name or number at `at`.
 fn tree_leaf(
     classes: &[u8; 256],
     s: &[u8],
     at: usize,
-    names: &[[u8; SHORT_MOST]; FIELDS_MOST],
+    shorts: &[[u8; SHORT_MOST]; FIELDS_MOST],
+    words: &[[u8; SHORT_MOST]; FIELDS_MOST],
+    marks: &[u8; FIELDS_MOST],
     n: usize,
     out: &mut [u8],
 ) -> StoredTree
     requires { ⌜ (at ≤ length (now s)) × (n ≤ fieldsMost) × (now classes ≡ classTable) ⌝ }
     ensures place { λ r. ⌜ WithinStored (now (s .entry)) (at + 1) at 0 r ⌝ }
-    ensures same { λ r. ⌜ LeafStored (now (names .entry)) n (now (s .entry)) at (held r (now (out .exit))) ⌝ }
+    ensures same { λ r. ⌜ LeafStored (namesOf (now (shorts .entry)) (now (words .entry)) (now (marks .entry)))
+        n (now (s .entry)) at (held r (now (out .exit))) ⌝ }
 {
     let end = word_end(classes, s, at);
     if is_short_in(classes, &s[at..end]) {
-        let i = look_up(names, n, &s[at..end]);
+        let i = look_up(shorts, words, marks, n, &s[at..end]);
         return field_node(i, n, end, out);
     }
     if is_number(classes, &s[at..end]) {
@@ -119,22 +123,37 @@ fn tree_expr(
     at: usize,
     k: u8,
     b: u8,
-    names: &[[u8; SHORT_MOST]; FIELDS_MOST],
+    shorts: &[[u8; SHORT_MOST]; FIELDS_MOST],
+    words: &[[u8; SHORT_MOST]; FIELDS_MOST],
+    marks: &[u8; FIELDS_MOST],
     n: usize,
     out: &mut [u8],
 ) -> StoredTree
     requires { ⌜ (at ≤ length (now s)) × (length (now s) ≤ textMost) × (n ≤ fieldsMost)
         × (now classes ≡ classTable) ⌝ }
     ensures place { λ r. ⌜ WithinStored (now (s .entry)) (at + 1) at 0 r ⌝ }
-    ensures same { λ r. ⌜ ExprStored (now (names .entry)) n (now (s .entry)) at k b
-        (held r (now (out .exit))) ⌝ }
+    ensures same { λ r. ⌜ ExprStored (namesOf (now (shorts .entry)) (now (words .entry)) (now (marks .entry)))
+        n (now (s .entry)) at k b (held r (now (out .exit))) ⌝ }
 {
-    let a = tree_atom(classes, s, at, b, names, n, out);
+    let a = tree_atom(classes, s, at, b, shorts, words, marks, n, out);
     let next = a.next;
     if a.len == 0 {
         return a;
     }
-    tree_more(classes, s, next, k, ATOM_LEVEL, b, a, names, n, out)
+    tree_more(
+        classes,
+        s,
+        next,
+        k,
+        ATOM_LEVEL,
+        b,
+        a,
+        shorts,
+        words,
+        marks,
+        n,
+        out,
+    )
 }
 
 // `!(`, `(` or a word.
@@ -143,26 +162,29 @@ fn tree_atom(
     s: &[u8],
     at: usize,
     b: u8,
-    names: &[[u8; SHORT_MOST]; FIELDS_MOST],
+    shorts: &[[u8; SHORT_MOST]; FIELDS_MOST],
+    words: &[[u8; SHORT_MOST]; FIELDS_MOST],
+    marks: &[u8; FIELDS_MOST],
     n: usize,
     out: &mut [u8],
 ) -> StoredTree
     requires { ⌜ (at ≤ length (now s)) × (length (now s) ≤ textMost) × (n ≤ fieldsMost)
         × (now classes ≡ classTable) ⌝ }
     ensures place { λ r. ⌜ WithinStored (now (s .entry)) (at + 1) at 0 r ⌝ }
-    ensures same { λ r. ⌜ AtomStored (now (names .entry)) n (now (s .entry)) at b (held r (now (out .exit))) ⌝ }
+    ensures same { λ r. ⌜ AtomStored (namesOf (now (shorts .entry)) (now (words .entry)) (now (marks .entry)))
+        n (now (s .entry)) at b (held r (now (out .exit))) ⌝ }
 {
     if at == s.len() {
         return no_tree();
     }
     let c = s[at];
     if c == b'!' {
-        return tree_inside(classes, s, at + 1, b, true, names, n, out);
+        return tree_inside(classes, s, at + 1, b, true, shorts, words, marks, n, out);
     }
     if c == b'(' {
-        return tree_inside(classes, s, at, b, false, names, n, out);
+        return tree_inside(classes, s, at, b, false, shorts, words, marks, n, out);
     }
-    tree_leaf(classes, s, at, names, n, out)
+    tree_leaf(classes, s, at, shorts, words, marks, n, out)
 }
 
 // An expression in parentheses, or its negation.
@@ -172,15 +194,17 @@ fn tree_inside(
     at: usize,
     b: u8,
     neg: bool,
-    names: &[[u8; SHORT_MOST]; FIELDS_MOST],
+    shorts: &[[u8; SHORT_MOST]; FIELDS_MOST],
+    words: &[[u8; SHORT_MOST]; FIELDS_MOST],
+    marks: &[u8; FIELDS_MOST],
     n: usize,
     out: &mut [u8],
 ) -> StoredTree
     requires { ⌜ (at ≤ length (now s)) × (length (now s) ≤ textMost) × (n ≤ fieldsMost)
         × (now classes ≡ classTable) ⌝ }
     ensures place { λ r. ⌜ WithinStored (now (s .entry)) (at + 1) at 0 r ⌝ }
-    ensures same { λ r. ⌜ InsideStored (now (names .entry)) n (now (s .entry)) at b neg
-        (held r (now (out .exit))) ⌝ }
+    ensures same { λ r. ⌜ InsideStored (namesOf (now (shorts .entry)) (now (words .entry)) (now (marks .entry)))
+        n (now (s .entry)) at b neg (held r (now (out .exit))) ⌝ }
 {
     if at == s.len() {
         return no_tree();
@@ -191,7 +215,7 @@ fn tree_inside(
     if s[at] != b'(' {
         return no_tree();
     }
-    let e = tree_expr(classes, s, at + 1, 0, b - 1, names, n, out);
+    let e = tree_expr(classes, s, at + 1, 0, b - 1, shorts, words, marks, n, out);
     if e.len == 0 {
         return e;
     }
@@ -215,15 +239,17 @@ fn tree_step(
     h: u8,
     b: u8,
     left: StoredTree,
-    names: &[[u8; SHORT_MOST]; FIELDS_MOST],
+    shorts: &[[u8; SHORT_MOST]; FIELDS_MOST],
+    words: &[[u8; SHORT_MOST]; FIELDS_MOST],
+    marks: &[u8; FIELDS_MOST],
     n: usize,
     out: &mut [u8],
 ) -> Step
     requires { ⌜ (at ≤ length (now s)) × (length (now s) ≤ textMost) × (n ≤ fieldsMost) × (left .next ≡ at)
         × (left .len ≤ 5 * at) × (left .depth ≤ left .len) × (now classes ≡ classTable) ⌝ }
     ensures place { λ r. ⌜ WithinStep (now (s .entry)) at (left .len) r ⌝ }
-    ensures same { λ r. ⌜ StepStored (now (names .entry)) n (now (s .entry)) at k h b
-        (held left (now (out .entry))) (now (out .exit)) r ⌝ }
+    ensures same { λ r. ⌜ StepStored (namesOf (now (shorts .entry)) (now (words .entry)) (now (marks .entry)))
+        n (now (s .entry)) at k h b (held left (now (out .entry))) (now (out .exit)) r ⌝ }
 {
     let g = operator_at(classes, s, at);
     match g {
@@ -238,7 +264,18 @@ fn tree_step(
                 return ending(left);
             }
             let from = place_in(left.len, out.len());
-            let y = tree_expr(classes, s, end, row.right, b, names, n, &mut out[from..]);
+            let y = tree_expr(
+                classes,
+                s,
+                end,
+                row.right,
+                b,
+                shorts,
+                words,
+                marks,
+                n,
+                &mut out[from..],
+            );
             if y.len == 0 {
                 return ending(y);
             }
@@ -261,20 +298,35 @@ fn tree_more(
     h: u8,
     b: u8,
     left: StoredTree,
-    names: &[[u8; SHORT_MOST]; FIELDS_MOST],
+    shorts: &[[u8; SHORT_MOST]; FIELDS_MOST],
+    words: &[[u8; SHORT_MOST]; FIELDS_MOST],
+    marks: &[u8; FIELDS_MOST],
     n: usize,
     out: &mut [u8],
 ) -> StoredTree
     requires { ⌜ (at ≤ length (now s)) × (length (now s) ≤ textMost) × (n ≤ fieldsMost) × (left .next ≡ at)
         × (left .len ≤ 5 * at) × (left .depth ≤ left .len) × (now classes ≡ classTable) ⌝ }
     ensures place { λ r. ⌜ WithinStored (now (s .entry)) at at (left .len) r ⌝ }
-    ensures same { λ r. ⌜ MoreStored (now (names .entry)) n (now (s .entry)) at k h b
-        (held left (now (out .entry))) (held r (now (out .exit))) ⌝ }
+    ensures same { λ r. ⌜ MoreStored (namesOf (now (shorts .entry)) (now (words .entry)) (now (marks .entry)))
+        n (now (s .entry)) at k h b (held left (now (out .entry))) (held r (now (out .exit))) ⌝ }
 {
     let mut p = left;
     let mut level = h;
     loop {
-        let q = tree_step(classes, s, p.next, k, level, b, p, names, n, out);
+        let q = tree_step(
+            classes,
+            s,
+            p.next,
+            k,
+            level,
+            b,
+            p,
+            shorts,
+            words,
+            marks,
+            n,
+            out,
+        );
         let t = q.tree;
         if !q.on {
             return t;
@@ -284,20 +336,22 @@ fn tree_more(
     }
 }
 
-// The expression at a place, whose names are those of the first n held ones.
+// The expression at a place, whose names are those of the first n fields.
 pub(crate) fn stored_tree(
     classes: &[u8; 256],
     s: &[u8],
     at: usize,
-    names: &[[u8; SHORT_MOST]; FIELDS_MOST],
+    shorts: &[[u8; SHORT_MOST]; FIELDS_MOST],
+    words: &[[u8; SHORT_MOST]; FIELDS_MOST],
+    marks: &[u8; FIELDS_MOST],
     n: usize,
     out: &mut [u8],
 ) -> StoredTree
     requires { ⌜ (at ≤ length (now s)) × (length (now s) ≤ textMost) × (n ≤ fieldsMost)
         × (now classes ≡ classTable) ⌝ }
     ensures place { λ r. ⌜ WithinStored (now (s .entry)) (at + 1) at 0 r ⌝ }
-    ensures same { λ r. ⌜ StoredFor (now (names .entry)) n (now (s .entry)) (readTree (drop at (now (s .entry))))
-        (held r (now (out .exit))) ⌝ }
+    ensures same { λ r. ⌜ StoredFor (namesOf (now (shorts .entry)) (now (words .entry)) (now (marks .entry)))
+        n (now (s .entry)) (readTree (drop at (now (s .entry)))) (held r (now (out .exit))) ⌝ }
 {
-    tree_expr(classes, s, at, 0, OPEN_MOST, names, n, out)
+    tree_expr(classes, s, at, 0, OPEN_MOST, shorts, words, marks, n, out)
 }

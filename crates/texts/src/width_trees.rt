@@ -18,6 +18,7 @@ ghost use lib.ListN.{length, drop};
 ghost use Rattle.rules.specs.Limits.{textMost, fieldsMost};
 ghost use Rattle.names.specs.Classes.{classTable};
 ghost use Rattle.text_laws.specs.LineReader.{readMeasure, readWidth};
+ghost use Rattle.texts.specs.HeldNames.{namesOf};
 ghost use Rattle.texts.specs.PartPlaces.{isUnit};
 ghost use Rattle.texts.specs.HeldParts.{FixedFor, MeasureWithin, MeasureFor, SizedFor};
 
@@ -78,17 +79,19 @@ fn measure_at(
     classes: &[u8; 256],
     s: &[u8],
     at: usize,
-    names: &[[u8; SHORT_MOST]; FIELDS_MOST],
+    shorts: &[[u8; SHORT_MOST]; FIELDS_MOST],
+    words: &[[u8; SHORT_MOST]; FIELDS_MOST],
+    marks: &[u8; FIELDS_MOST],
     n: usize,
     out: &mut [u8],
 ) -> Measure
     requires { ⌜ (at ≤ length (now s)) × (length (now s) ≤ textMost) × (n ≤ fieldsMost)
         × (now classes ≡ classTable) ⌝ }
     ensures place { λ r. ⌜ MeasureWithin (now (s .entry)) at r ⌝ }
-    ensures same { λ r. ⌜ MeasureFor (now (names .entry)) n (now (s .entry))
-        (readMeasure (drop at (now (s .entry)))) (now (out .exit)) r ⌝ }
+    ensures same { λ r. ⌜ MeasureFor (namesOf (now (shorts .entry)) (now (words .entry)) (now (marks .entry)))
+        n (now (s .entry)) (readMeasure (drop at (now (s .entry)))) (now (out .exit)) r ⌝ }
 {
-    let t = stored_tree(classes, s, at, names, n, out);
+    let t = stored_tree(classes, s, at, shorts, words, marks, n, out);
     if t.len == 0 {
         return plain(0, 0, 0);
     }
@@ -103,18 +106,20 @@ pub(crate) fn width_at(
     classes: &[u8; 256],
     s: &[u8],
     at: usize,
-    names: &[[u8; SHORT_MOST]; FIELDS_MOST],
+    shorts: &[[u8; SHORT_MOST]; FIELDS_MOST],
+    words: &[[u8; SHORT_MOST]; FIELDS_MOST],
+    marks: &[u8; FIELDS_MOST],
     n: usize,
     out: &mut [u8],
 ) -> Measure
     requires { ⌜ (at ≤ length (now s)) × (length (now s) ≤ textMost) × (n ≤ fieldsMost)
         × (now classes ≡ classTable) ⌝ }
     ensures place { λ r. ⌜ MeasureWithin (now (s .entry)) at r ⌝ }
-    ensures same { λ r. ⌜ MeasureFor (now (names .entry)) n (now (s .entry))
-        (readWidth (drop at (now (s .entry)))) (now (out .exit)) r ⌝ }
+    ensures same { λ r. ⌜ MeasureFor (namesOf (now (shorts .entry)) (now (words .entry)) (now (marks .entry)))
+        n (now (s .entry)) (readWidth (drop at (now (s .entry)))) (now (out .exit)) r ⌝ }
 {
     if starts_at(s, at, b"variable") {
         return plain(4, 0, at + 8);
     }
-    measure_at(classes, s, at, names, n, out)
+    measure_at(classes, s, at, shorts, words, marks, n, out)
 }

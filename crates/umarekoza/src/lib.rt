@@ -105,7 +105,7 @@ pub extern "C" fn umarekoza_list_packet(table: &[u8], packet: &[u8], out: &mut [
     listing_reply(list_packet(table, packet, out))
 }
 
-// The first field that has the name as its label or short name: the length is its index.
+// The field that has the name as its label or short name: the length is its index.
 #[no_mangle]
 pub extern "C" fn umarekoza_find_field(table: &[u8], name: &[u8]) -> Reply
     ensures { λ r. ⌜ FindsField (now (table .entry)) (now (name .entry)) (replyAnswer r) ⌝ }

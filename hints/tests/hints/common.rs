@@ -1,5 +1,5 @@
-//! The blade report, changed, and what is told of it, which `crate::told_of` answers. The tests of the command have these
-//! cases too.
+//! The blade report, changed, and what is told of it, which `crate::told_of` answers. The tests of the command have
+//! these cases too.
 
 pub const BLADE: &str = "\
 A Blade Report is formatted as follows:

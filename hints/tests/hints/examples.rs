@@ -16,8 +16,8 @@ pub fn pages() -> Vec<(String, u32, u32)> {
         page("V == 1", "V = 1", 5, 17),
         page("(L): 1 bit.", "(L): 1 bit; 1+1+1+1+1+1+1+1+1+1+1+1 == L.", 6, 18),
         page("(N): 5", "(N): 6", 7, 19),
-        page("(Bor)", "(L)", 8, 21),
-        page("Readings: N", "Readings: Blade", 9, 22),
+        page("(Bor)", "(Cells)", 8, 21),
+        page("Readings: N", "Readings: Sum", 9, 22),
         (with(&[rest, ("Sum: 2 bytes", "Sum: 2 bytes; present only when L == 1")]), 10, 23),
     ]
 }

@@ -67,7 +67,7 @@ fn wrong_numbers() {
     form_told(
         VERSION,
         "Version (V): 2 bits; V > -1.",
-        "expected a number, a short name or `(`, found `-`",
+        "expected a number, a name or `(`, found `-`",
         "                         ^ expected an operand",
         &["there are no negative numbers"],
     );
@@ -137,7 +137,7 @@ fn parentheses() {
     form_told(
         VERSION,
         "Version (V): 2 bits; !V == 1.",
-        "expected a number, a short name or `(`, found `!`",
+        "expected a number, a name or `(`, found `!`",
         "                     ^ expected an operand",
         &["`!` has its operand in parentheses: `!(..)`"],
     );

@@ -140,13 +140,6 @@ fn wrong_names() {
         &[SHORTS],
     );
     form_told(
-        READINGS,
-        "Readings: NumberOfCells bytes.",
-        "`NumberOfCells` is no short name: 13 characters, at most 8",
-        "          ^^^^^^^^^^^^^ 13 characters, at most 8",
-        &[SHORTS],
-    );
-    form_told(
         ON_LOAN,
         "On_Loan (L): 1 bit.",
         "`_` is not allowed in a label",
@@ -212,7 +205,7 @@ error[5]: `=` is no operator
    |
    = note: did you mean `==`?
 also: page.txt:20:10: error[5]: expected `bit`, `bits`, `byte` or `bytes`, found `octet`
-also: page.txt:22:1: error[8]: the label `Cells` stands on line 19 already
+also: page.txt:22:1: error[8]: the label `Cells` is the label of line 19 already
 also: page.txt:23:13: error[5]: expected `.`, found the end of the line
 ";
     told(page, 5, 17, due);

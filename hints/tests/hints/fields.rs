@@ -1,4 +1,4 @@
-//! Numbers 6 to 10: field lines of right form against their limits, their cells and each other.
+//! Numbers 6, 7, 9 and 10: field lines of right form against their limits, their cells and types, and each other.
 
 use crate::common::{
     due_at, line_told, told, with, BLADE_LINE, BORROWER, CELLS, ON_LOAN, READINGS, SUM, VERSION,
@@ -61,7 +61,7 @@ fn a_width_unlike_its_cell() {
         "     ^^^^^^^^^ not fixed",
         &[
             "a calculated width is never fixed: its field has a row of its own between `:`",
-            "`two` is taken for a short name; a fixed width is a number",
+            "`two` is taken for a name; a fixed width is a number",
         ],
     );
     line_told(7, &[(SUM, "Sum: two bytes.")], "Sum: two bytes.", due);
@@ -120,89 +120,6 @@ fn a_line_or_a_cell_too_many() {
         ],
     );
     line_told(7, &[("Blade: 1 byte.\n", "")], BORROWER, due);
-}
-
-#[test]
-fn repeated_names() {
-    let row = ("|             Sum               |", "|             Blade             |");
-    let due: (_, _, &[_]) = (
-        "the label `Blade` stands on line 20 already",
-        "^^^^^ first on line 20",
-        &["choose another label; large and small letters count"],
-    );
-    line_told(8, &[row, (SUM, "Blade: 2 bytes.")], "Blade: 2 bytes.", due);
-    let line = "Borrower (L): 2 bytes; present only when L == 1.";
-    let due: (_, _, &[_]) = (
-        "the short name `L` stands on line 18 already",
-        "          ^ first on line 18",
-        &["choose another short name; large and small letters count"],
-    );
-    line_told(8, &[(BORROWER, line)], line, due);
-}
-
-#[test]
-fn unknown_names() {
-    let readable = "may be read here: `V`, `L`, `N` and `Bor`";
-    let due: (_, _, &[_]) = ("no field has the short name `M`", "          ^ no short name", &[readable]);
-    line_told(9, &[(READINGS, "Readings: M bytes.")], "Readings: M bytes.", due);
-    let due: (_, _, &[_]) = (
-        "no field has the short name `Bro`",
-        "          ^^^ no short name",
-        &["did you mean `Bor`?", readable],
-    );
-    line_told(9, &[(READINGS, "Readings: Bro bytes.")], "Readings: Bro bytes.", due);
-    let due: (_, _, &[_]) =
-        ("no field has the short name `n`", "          ^ no short name", &["did you mean `N`?", readable]);
-    line_told(9, &[(READINGS, "Readings: n bytes.")], "Readings: n bytes.", due);
-    let line = "Version (V): 2 bits; present only when X == 1.";
-    let due: (_, _, &[_]) = (
-        "no field has the short name `X`",
-        "                                       ^ no short name",
-        &["no short name may be read here: none of an earlier field of fixed width is there"],
-    );
-    line_told(9, &[(VERSION, line)], line, due);
-}
-
-#[test]
-fn labels_that_are_no_short_names() {
-    let readable = "may be read here: `V`, `L`, `N` and `Bor`";
-    let due: (_, _, &[_]) = (
-        "`Blade` is the label of line 20, which has no short name",
-        "          ^^^^^ no short name",
-        &["write `Blade (Blade)` on line 20", readable],
-    );
-    line_told(9, &[(READINGS, "Readings: Blade bytes.")], "Readings: Blade bytes.", due);
-    let due: (_, _, &[_]) = (
-        "`Cells` is the label of line 19: a field is read by its short name",
-        "          ^^^^^ no short name",
-        &["did you mean `N`?", readable],
-    );
-    line_told(9, &[(READINGS, "Readings: Cells bytes.")], "Readings: Cells bytes.", due);
-}
-
-#[test]
-fn fields_that_cannot_be_read() {
-    let line = "On Loan (L): 1 bit; present only when N > 0.";
-    let due: (_, _, &[_]) = (
-        "`N` comes later, on line 19: only earlier fields may be read",
-        "                                      ^ cannot be read here",
-        &["may be read here: `V`"],
-    );
-    line_told(9, &[(ON_LOAN, line)], line, due);
-    let line = "On Loan (L): 1 bit; present only when L > 0.";
-    let due: (_, _, &[_]) = (
-        "`L` is this line's own field: only its constraint may read it",
-        "                                      ^ cannot be read here",
-        &["may be read here: `V`"],
-    );
-    line_told(9, &[(ON_LOAN, line)], line, due);
-    let readable: &[_] = &["may be read here: `V`, `L`, `N` and `Bor`"];
-    let line = "Sum: 2 bytes; R == 0.";
-    let caret = "              ^ cannot be read here";
-    let measured = "`R` (line 22) has a measured width: it has no value to read";
-    line_told(9, &[(READINGS, "Readings (R): N bytes."), (SUM, line)], line, (measured, caret, readable));
-    let rest = "`R` (line 22) is `variable`: it has no value to read";
-    line_told(9, &[(READINGS, "Readings (R): variable."), (SUM, line)], line, (rest, caret, readable));
 }
 
 #[test]

@@ -8,6 +8,7 @@ mod expressions;
 mod field_lines;
 mod fields;
 mod frames;
+mod names;
 mod packets;
 mod ranges;
 

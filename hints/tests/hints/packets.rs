@@ -154,6 +154,20 @@ error[25]: the constraint of `Cells` does not hold: `N <= 20`
     told(&blade(), &[0x55, 0x07], &[[1, 0, 2, 1], [1, 2, 1, 0]], (25, 3), due);
 }
 
+/// Fields without a short name are told by their labels alone.
+#[test]
+fn a_constraint_that_reads_by_labels() {
+    let is_zero = |index: u8| [0x20, 2, index, 1, 0, 0, 0, 0];
+    let rule = [&[8, 0, 17, 0, 0x31][..], &is_zero(1), &is_zero(0), &[0, 0]].concat();
+    let table = table(&[(2, "SYN", "", &[8, 0, 0, 0, 0, 0]), (2, "FIN", "", &rule)]);
+    let due = "\
+error[25]: the constraint of `FIN` does not hold: `FIN == 0 || SYN == 0`
+ --> packet.bin, field 2: FIN
+ = note: `FIN` is 1, `SYN` is 1
+";
+    told(&table, &[1, 1], &[[1, 0, 8, 1]], (25, 2), due);
+}
+
 /// A flag, a number that is there if the flag is set, and a field of this kind and rest.
 fn flagged(kind: u8, rest: &[u8]) -> Vec<u8> {
     table(&[

@@ -3,10 +3,15 @@
 use super::growth::Growth;
 use super::Rng;
 use crate::descriptions::{Description, Field, Width};
+use crate::names::is_short_name;
+use crate::naming::read_names;
 use crate::trees::{Kind, Node, Op, Tree};
 
 const ODD_LABELS: [&[u8]; 6] =
     [b"A label that is longer than it may be 123", b"", b"-a", b"a ", b"a  b", b"a_b"];
+/// Labels by which no field may be read.
+const UNREADABLE: [&[u8]; 9] =
+    [b"On Loan", b"x y", b"a-b", b"7a", b"bit", b"byte", b"present", b"Abcdefghi", b"a2345678Z"];
 const ODD_SHORTS: [&[u8]; 7] = [b"abcdefghi", b"bytes", b"present", b"1a", b"a-b", b"a b", b"variable"];
 
 /// Changes a description in one way, most often so that it breaks a rule.
@@ -15,28 +20,70 @@ pub fn bend(rng: &mut Rng, description: &mut Description) {
     let (index, other) = (rng.below(count), rng.below(count));
     let fields = &mut description.fields;
     let Some(field) = fields.get_mut(index) else { return };
-    match rng.below(16) {
-        0 | 1 => fields[index].label = fields[other].label,
-        2 => fields[index].short = fields[other].short,
-        3 => field.label = rng.pick(ODD_LABELS),
-        4 => field.short = Some(rng.pick(ODD_SHORTS)).filter(|_| rng.one_in(2)),
-        5 | 6 => misread(rng, field, count),
-        7 => mistype(rng, field),
-        8 | 9 => rest_and_after(rng, fields, index, other),
-        10 => field.constraint = Some(Growth::new(&[]).chain(rng, Kind::Truth, 13)),
-        11 => field.constraint = Some(Growth::new(&[]).balanced(rng, Kind::Truth, 21)),
-        12 => rewiden(rng, field),
-        13 => description.row_bits = rng.pick([8, 16, 32, 24, 0]),
-        14 => description.name = rng.pick(ODD_LABELS),
+    match rng.below(20) {
+        0..=2 => rename(rng, fields, index, other),
+        3 | 4 => unname(rng, fields, index),
+        5 => field.label = rng.pick(ODD_LABELS),
+        6 => field.short = Some(rng.pick(ODD_SHORTS)).filter(|_| rng.one_in(2)),
+        7..=10 => misread(rng, fields, index),
+        11 => mistype(rng, field),
+        12 | 13 => rest_and_after(rng, fields, index, other),
+        14 => field.constraint = Some(Growth::new(&[]).chain(rng, Kind::Truth, 13)),
+        15 => field.constraint = Some(Growth::new(&[]).balanced(rng, Kind::Truth, 21)),
+        16 => rewiden(rng, field),
+        17 => description.row_bits = rng.pick([8, 16, 32, 24, 0]),
+        18 => description.name = rng.pick(ODD_LABELS),
         _ => {
             fields.remove(index);
         }
     }
 }
 
-/// A tree that reads a field that it may not read, perhaps.
-fn misread(rng: &mut Rng, field: &mut Field<usize>, count: usize) {
-    let read = rng.between(0, count);
+/// A field gets a name of another one, or of its own, as its label or its short name.
+fn rename<'a>(rng: &mut Rng, fields: &mut [Field<'a, usize>], index: usize, other: usize) {
+    let names: Vec<&'a [u8]> = fields[other].names().collect();
+    let name = names[rng.below(names.len())];
+    if is_short_name(name) && rng.one_in(2) {
+        fields[index].short = Some(name);
+    } else {
+        fields[index].label = name;
+    }
+}
+
+/// A field gets a label that cannot be read and no short name, and a later field, if there is one, reads it.
+fn unname(rng: &mut Rng, fields: &mut [Field<usize>], index: usize) {
+    let label = rng.pick(UNREADABLE);
+    if fields.iter().any(|field| field.is_called(label)) {
+        return;
+    }
+    fields[index].label = label;
+    fields[index].short = None;
+    if index + 1 < fields.len() {
+        let reader = rng.between(index + 1, fields.len() - 1);
+        read(rng, &mut fields[reader], index);
+    }
+}
+
+/// A field reads one that it may not read, perhaps: any at all, or an earlier one that is not fixed or has no name to
+/// be read by. One with a label to be read by may lose its short name.
+fn misread(rng: &mut Rng, fields: &mut [Field<usize>], index: usize) {
+    let is_long = |field: &Field<usize>| field.fixed_bits().is_none();
+    let is_nameless = |field: &Field<usize>| !is_long(field) && read_names(field).next().is_none();
+    let earlier = match rng.below(4) {
+        0 => fields[..index].iter().rposition(is_long),
+        1 => fields[..index].iter().rposition(|field| is_long(field) && is_short_name(field.label)),
+        2 => fields[..index].iter().rposition(is_nameless),
+        _ => None,
+    };
+    let chosen = earlier.unwrap_or(rng.between(0, fields.len()));
+    if let Some(field) = fields.get_mut(chosen).filter(|field| is_short_name(field.label)) {
+        field.short = field.short.filter(|_| rng.one_in(2));
+    }
+    read(rng, &mut fields[index], chosen);
+}
+
+/// One of a field's trees reads the field of this index.
+fn read(rng: &mut Rng, field: &mut Field<usize>, read: usize) {
     let reader = Tree { nodes: vec![Node::Name(read), Node::Number(1), Node::Two(Op::Ge, 0, 1)] };
     match rng.below(3) {
         0 => field.condition = Some(reader),

@@ -5,6 +5,7 @@ use super::layouts::{Layout, Slot};
 use super::words::Names;
 use super::Rng;
 use crate::descriptions::{Description, Field, Width};
+use crate::names::is_short_name;
 use crate::trees::Tree;
 
 pub fn description<'a>(rng: &mut Rng, layout: &Layout, names: &'a Names) -> Description<'a> {
@@ -20,13 +21,13 @@ pub fn description<'a>(rng: &mut Rng, layout: &Layout, names: &'a Names) -> Desc
             Slot::Measured => chooser.measured(&readable),
             Slot::Rest => Width::Rest,
         };
-        let short = names.shorts[index].as_deref();
-        let own = short.is_some() && !(chooser.tame && condition.is_some());
+        let (label, short) = (&names.labels[index][..], names.shorts[index].as_deref());
+        let own = (short.is_some() || is_short_name(label)) && !(chooser.tame && condition.is_some());
         if let (Slot::Fixed(bits), true) = (slot, own) {
             readable.push((index, *bits));
         }
         let constraint = chooser.clause(&readable, own);
-        fields.push(Field { label: &names.labels[index], short, width, constraint, condition });
+        fields.push(Field { label, short, width, constraint, condition });
     }
     Description { name: &names.name, row_bits: layout.row_bits, fields }
 }

@@ -4,6 +4,7 @@ use super::Rng;
 use crate::descriptions::{Description, Field, Width};
 use crate::field_lines::{PRESENT, VARIABLE};
 use crate::frames::{border, tens_ruler, units_ruler, FORMATTED, WHERE};
+use crate::naming::read_names;
 use crate::trees::{Node, Tree, ATOM, COMPARISON};
 
 const MOST_OPEN: usize = 12;
@@ -198,10 +199,7 @@ impl Speller<'_> {
     fn node(&mut self, tree: &Tree<usize>, needs: &[usize], node: usize, open: usize) {
         match tree.nodes[node] {
             Node::Number(number) => self.number(number),
-            Node::Name(index) => {
-                let name = self.fields.get(index).and_then(|field| field.short).unwrap_or(UNKNOWN);
-                self.put(name);
-            }
+            Node::Name(index) => self.name(index),
             Node::Not(operand) => {
                 self.put(b"!(");
                 self.operand(tree, needs, operand, open + 1, false);
@@ -216,6 +214,17 @@ impl Speller<'_> {
                 self.operand(tree, needs, right, open, wrap_right);
             }
         }
+    }
+
+    /// A name by which a field may be read; where there is none, what is no such name.
+    fn name(&mut self, index: usize) {
+        let Some(field) = self.fields.get(index) else { return self.put(UNKNOWN) };
+        let names: Vec<&[u8]> = read_names(field).collect();
+        let name = match names[..] {
+            [] => self.rng.pick([field.label, UNKNOWN]),
+            _ => names[self.rng.below(names.len())],
+        };
+        self.put(name);
     }
 
     fn number(&mut self, number: u32) {

@@ -4,16 +4,21 @@ use super::layouts::{Layout, Slot};
 use super::Rng;
 use crate::names::{is_label, is_short_name, LONGEST_LABEL, LONGEST_SHORT_NAME};
 
-const WORDS: [&[u8]; 18] = [
+const WORDS: [&[u8]; 23] = [
     b"Version",
     b"Length",
     b"On",
     b"Loan",
     b"Sum",
+    b"bit",
     b"bits",
     b"byte",
+    b"bytes",
     b"variable",
     b"present",
+    b"Bits",
+    b"BYTE",
+    b"Present",
     b"only",
     b"when",
     b"where",
@@ -25,6 +30,8 @@ const WORDS: [&[u8]; 18] = [
     b"x",
 ];
 const TRIES: usize = 400;
+/// With more fields than these, names of one letter are left to the cells of one bit.
+const FEW_FIELDS: usize = 24;
 
 pub struct Names {
     pub name: Vec<u8>,
@@ -33,8 +40,8 @@ pub struct Names {
 }
 
 impl Names {
-    /// Names for a layout, no two labels and no two short names alike; with `shown`, the label or the short name
-    /// of a field fits in its cell.
+    /// Names for a layout, no name that of two fields; with `shown`, the label or the short name of a field fits in
+    /// its cell.
     pub fn random(rng: &mut Rng, layout: &Layout, shown: bool) -> Names {
         let mut names = Names { name: label(rng, LONGEST_LABEL), labels: Vec::new(), shorts: Vec::new() };
         for slot in &layout.slots {
@@ -43,7 +50,8 @@ impl Names {
                 _ => layout.row_bits,
             };
             let room = if shown { 2 * bits as usize - 1 } else { LONGEST_LABEL };
-            names.add(rng, room);
+            let single = if layout.slots.len() <= FEW_FIELDS { 2 } else { usize::from(room == 1) };
+            names.add(rng, room, single);
         }
         names
     }
@@ -53,7 +61,7 @@ impl Names {
         let mut names = Names { name: longest_label(rng), labels: Vec::new(), shorts: Vec::new() };
         while names.labels.len() < count {
             let (label, short) = (longest_label(rng), Some(longest_short_name(rng)));
-            if names.is_new(&label, &short) {
+            if names.is_new(&label, short.as_deref()) {
                 names.labels.push(label);
                 names.shorts.push(short);
             }
@@ -61,17 +69,23 @@ impl Names {
         names
     }
 
-    /// Adds a new label and a new short name or none, one of which fits in `room`.
-    fn add(&mut self, rng: &mut Rng, room: usize) {
+    /// Adds a new label and a new short name or none, one of which fits in `room`. At most so many of them are of a
+    /// `single` letter.
+    fn add(&mut self, rng: &mut Rng, room: usize, single: usize) {
         let mut chosen = (label(rng, room), None);
         for _ in 0..TRIES {
             let by_label = rng.one_in(2);
             let label = label(rng, if by_label { room } else { LONGEST_LABEL });
-            let wants_short = !by_label || rng.one_in(2);
             let longest = if by_label { LONGEST_SHORT_NAME } else { room.min(LONGEST_SHORT_NAME) };
-            let short = wants_short.then(|| short_name(rng, longest));
+            let short = match rng.below(6) {
+                0 if is_short_name(&label) && label.len() <= longest => Some(label.clone()),
+                1..=3 if by_label => None,
+                _ => Some(short_name(rng, longest)),
+            };
+            let letters = usize::from(label.len() == 1)
+                + usize::from(short.as_ref().is_some_and(|short| short.len() == 1 && *short != label));
             chosen = (label, short);
-            if self.is_new(&chosen.0, &chosen.1) {
+            if letters <= single && self.is_new(&chosen.0, chosen.1.as_deref()) {
                 break;
             }
         }
@@ -79,8 +93,13 @@ impl Names {
         self.shorts.push(chosen.1);
     }
 
-    fn is_new(&self, label: &Vec<u8>, short: &Option<Vec<u8>>) -> bool {
-        !self.labels.contains(label) && (short.is_none() || !self.shorts.contains(short))
+    /// Whether no field so far has either name.
+    fn is_new(&self, label: &[u8], short: Option<&[u8]>) -> bool {
+        let taken = |name: &[u8]| {
+            self.labels.iter().any(|label| label == name)
+                || self.shorts.iter().any(|short| short.as_deref() == Some(name))
+        };
+        !taken(label) && !short.is_some_and(taken)
     }
 }
 
@@ -89,7 +108,11 @@ fn label(rng: &mut Rng, most: usize) -> Vec<u8> {
     let most = most.min(LONGEST_LABEL);
     loop {
         let length = if rng.one_in(15) { most } else { rng.between(1, most.min(14)) };
-        let label = if rng.one_in(2) { letters(rng, length) } else { words(rng, most) };
+        let label = match rng.below(6) {
+            0 | 1 => letters(rng, length),
+            2 | 3 => short_name(rng, most.min(LONGEST_SHORT_NAME)),
+            _ => words(rng, most),
+        };
         if is_label(&label) && label.len() <= most {
             return label;
         }

@@ -30,8 +30,8 @@ returns-2 c =
     let a = c .before .before .before .before .args in
     let if1 = c .before .before .before .if1 in
     let name-key = c .before .before .name-key in
-    let apart = keys-apart wordKey (a .t1) (a .t2) (λ e. c .if2 .taken (name-key .ensures ∙ e ∙ sym
-    (c .before .name-key2 .ensures))) in
+    let apart = keys-apart wordKey (a .t1) (a .t2) (λ e. c .if2 .taken (name-key .ensures .0 ∙ e ∙ sym
+    (c .before .name-key2 .ensures .0))) in
     rw (ne-eqb _ _ (if1 .left), apart)
 
 slice-aggregate-same-words : tie.Need-slice-aggregate-same-words

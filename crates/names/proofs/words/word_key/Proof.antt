@@ -49,8 +49,10 @@ loop-again c =
 
 returns : tie.Need-returns Inv-loop μ-loop
 returns c =
-    let a = c .before .before .before .args in
-    sym (c .before .loop .inv .1 ∙ key-end (now (a .w)) (c .before .loop .key) (c .before .loop .i) (omega arith))
+    let a = c .before .before .before .args in (
+      sym (c .before .loop .inv .1 ∙ key-end (now (a .w)) (c .before .loop .key) (c .before .loop .i) (omega arith)),
+      λ i. omega (arith, c .before .before .shared-slice-known .given i),
+    )
 
 pub word-key-spec : {M : Type 1} → statement M
 word-key-spec =

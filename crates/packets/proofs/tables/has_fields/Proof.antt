@@ -13,6 +13,7 @@ use Rattle.packets.proofs.tables.has_fields.Statement.{statement}
 use Rattle.packets.proofs.tables.has_fields.Tie as tie
 use Rattle.packets.proofs.tables.has_fields.Reads as reads
 use Rattle.packets.proofs.tables.has_fields.Lts as lts
+use Rattle.names.proofs.classes.class_table.Reads as class-table-reads
 use Rattle.packets.proofs.records.two_at.Reads as two-at-reads
 use Rattle.packets.proofs.tables.is_last.Reads as is-last-reads
 use Rattle.packets.proofs.tables.walk.Reads as walk-reads
@@ -30,21 +31,35 @@ two-at-requires-3 c κs = search needs
 add-from : tie.Need-add-from
 add-from c = search needs
 
+class-table-requires : tie.Need-class-table-requires
+class-table-requires c κs = search needs
+
 walk-requires : tie.Need-walk-requires
 walk-requires c κs =
-    let p = c .before .before .before .before .before .before .before .before .before .before .before .pre in
-    let s = now (c .before .before .before .before .before .before .before .before .before .before .before .args
-    .table) in
+    let c₈ = c .before .before .before .before .before .before .before .before in
+    let p = c₈ .before .before .before .before .before .before .pre in
+    let s = now (c₈ .before .before .before .before .before .before .args .table) in
     let h = head-is s (p .0 .1) in
-    let count-is = c .before .before .before .before .before .two-at2 .ensures .0 in
-    let row : 0 < c .before .before .before .before .before .before .two-at .result = rw (c .before .before .before
-    .before .before .before .two-at .ensures .0) (row-positive _ (h .row)) in
-    let count : c .before .before .before .before .before .two-at2 .result ≤ fieldsMost = rw count-is (count-most _
-    (h .count)) in
-    let end : 10 + c .before .before .before .before .two-at3 .result ≤ length s = rw (c .before .before .before
-    .before .two-at3 .ensures .0) (h .end) in (
-      (row, count, omega (arith, count-is, p .1 .0), p .0 .0, end),
-      (omega (arith, count-is, p .1 .1), omega (arith, count-is, p .1 .2), omega (arith, count)),
+    let count-is = c₈ .two-at2 .ensures .0 in
+    let row : 0 < c₈ .before .two-at .result = rw (c₈ .before .two-at .ensures .0) (row-positive _ (h .row)) in
+    let count : c₈ .two-at2 .result ≤ fieldsMost = rw count-is (count-most _ (h .count)) in
+    let end : 10 + c .before .before .before .before .before .before .before .two-at3 .result ≤ length s = rw (c
+    .before .before .before .before .before .before .before .two-at3 .ensures .0) (h .end) in (
+      (
+        row,
+        count,
+        omega (arith, count-is, p .1 .0),
+        p .0 .0,
+        end,
+        c .before .before .before .before .before .before
+            .class-table .ensures,
+      ),
+      (
+        omega (arith, count-is, p .1 .1),
+        omega (arith, count-is, p .1 .2),
+        omega (arith, count),
+        omega (arith, count),
+      ),
     )
 
 enum-known-walked : tie.Need-enum-known-walked
@@ -64,31 +79,26 @@ same-length-3 c = search needs
 
 returns : tie.Need-returns
 returns c =
-    let s = now (c .before .before .before .before .before .before .before .before .before .before .before .before
-    .before .before .before .before .before .before .before .before .args .table) in
-    let count-is = c .before .before .before .before .before .before .before .before .before .before .before .before
-    .before .before .two-at2 .ensures .0 in
-    let from-is = c .before .before .before .before .before .before .before .before .before .before .before .before
-    .before .two-at3 .ensures .0 in
-    let is = walk-of s (c .before .before .before .before .before .before .before .before .before .before .before
-    .before .before .before .before .two-at .ensures .0) count-is from-is (c .before .before .before .before .before
-    .before .before .before .walk .ensures .0) (c .enum-told .given .1) in
+    let c₈ = c .before .before .before .before .before .before .before .before in
+    let c₁₆ = c₈ .before .before .before .before .before .before .before .before in
+    let s = now (c₁₆ .before .before .before .before .before .before .before .args .table) in
+    let count-is = c₁₆ .before .two-at2 .ensures .0 in
+    let from-is = c₁₆ .two-at3 .ensures .0 in
+    let is = walk-of s (c₁₆ .before .before .two-at .ensures .0) count-is from-is (c₈ .walk .ensures .0) (c .enum-told
+    .given .1) in
     rw is
 
 is-last-requires : tie.Need-is-last-requires
 is-last-requires c κs =
-    let p = c .before .before .before .before .before .before .before .before .before .before .before .before .before
-    .before .before .before .before .before .before .before .before .pre in
-    let s = now (c .before .before .before .before .before .before .before .before .before .before .before .before
-    .before .before .before .before .before .before .before .before .before .args .table) in
+    let c₈ = c .before .before .before .before .before .before .before .before in
+    let c₁₆ = c₈ .before .before .before .before .before .before .before .before in
+    let c₂₄ = c₁₆ .before .before .before .before .before .before .before .before in
+    let p = c₂₄ .pre in
+    let s = now (c₂₄ .args .table) in
     let h = head-is s (p .0 .1) in
-    let count-is = c .before .before .before .before .before .before .before .before .before .before .before .before
-    .before .before .before .two-at2 .ensures .0 in
-    let from-is = c .before .before .before .before .before .before .before .before .before .before .before .before
-    .before .before .two-at3 .ensures .0 in
-    let is = walk-of s (c .before .before .before .before .before .before .before .before .before .before .before
-    .before .before .before .before .before .two-at .ensures .0) count-is from-is (c .before .before .before .before
-    .before .before .before .before .before .walk .ensures .0) (c .before .walked .given .1) in
+    let is = walk-of s (c₁₆ .before .before .before .two-at .ensures .0) (c₁₆ .before .before .two-at2 .ensures .0)
+    (c₁₆ .before .two-at3 .ensures .0) (c₈ .before .walk .ensures .0)
+    (c .before .walked .given .1) in
     let past = walk-past _ _ _ _ _ _ _ _ (h .end) is in
     omega (arith, past, p .0 .0)
 
@@ -103,57 +113,40 @@ same-length-6 c = search needs
 
 returns-2 : tie.Need-returns-2
 returns-2 c =
-    let s = now (c .before .before .before .before .before .before .before .before .before .before .before .before
-    .before .before .before .before .before .before .before .before .before .before .before .args .table) in
-    let count-is = c .before .before .before .before .before .before .before .before .before .before .before .before
-    .before .before .before .before .before .two-at2 .ensures .0 in
-    let from-is = c .before .before .before .before .before .before .before .before .before .before .before .before
-    .before .before .before .before .two-at3 .ensures .0 in
-    let is = walk-of s (c .before .before .before .before .before .before .before .before .before .before .before
-    .before .before .before .before .before .before .before .two-at .ensures .0) count-is from-is (c .before .before
-    .before .before .before .before .before .before .before .before .before .walk .ensures .0) (c .before .before
-    .before .walked .given .1) in
+    let c₈ = c .before .before .before .before .before .before .before .before in
+    let c₁₆ = c₈ .before .before .before .before .before .before .before .before in
+    let c₂₄ = c₁₆ .before .before .before .before .before .before .before .before in
+    let s = now (c₂₄ .before .before .args .table) in
+    let count-is = c₁₆ .before .before .before .before .two-at2 .ensures .0 in
+    let from-is = c₁₆ .before .before .before .two-at3 .ensures .0 in
+    let is = walk-of s (c₁₆ .before .before .before .before .before .two-at .ensures .0) count-is from-is (c₈ .before
+    .before .before .walk .ensures .0) (c .before .before .before .walked .given .1) in
     let no-last = sym (c .before .is-last .ensures) ∙ not-true (c .before .is-last .result) (c .if1 .taken) in
     rw (is, no-last)
 
 has-unique-names-requires : tie.Need-has-unique-names-requires
 has-unique-names-requires c κs =
-    let p = c .before .before .before .before .before .before .before .before .before .before .before .before .before
-    .before .before .before .before .before .before .before .before .before .before .before .before .before .pre in
-    let s = now (c .before .before .before .before .before .before .before .before .before .before .before .before
-    .before .before .before .before .before .before .before .before .before .before .before .before .before .before
-    .args .table) in
+    let c₈ = c .before .before .before .before .before .before .before .before in
+    let c₁₆ = c₈ .before .before .before .before .before .before .before .before in
+    let c₂₄ = c₁₆ .before .before .before .before .before .before .before .before in
+    let p = c₂₄ .before .before .before .before .before .before .pre in
+    let s = now (c₂₄ .before .before .before .before .before .before .args .table) in
     let h = head-is s (p .0 .1) in
-    let count-is = c .before .before .before .before .before .before .before .before .before .before .before .before
-    .before .before .before .before .before .before .before .before .two-at2 .ensures .0 in
-    let from-is = c .before .before .before .before .before .before .before .before .before .before .before .before
-    .before .before .before .before .before .before .before .two-at3 .ensures .0 in
-    let is = walk-of s (c .before .before .before .before .before .before .before .before .before .before .before
-    .before .before .before .before .before .before .before .before .before .before .two-at .ensures .0) count-is
-    from-is (c .before .before .before .before .before .before .before .before .before .before .before .before
-    .before .before .walk .ensures .0) (c .before .before .before .before .before .before .walked .given .1) in
-    let g = gathered-past (c .before .before .before .before .before .before .walked .given .1) (c .before .before
-    .before .before .before .before .before .before .before .before .before .before .before .before .walk .ensures
-    .1) in
+    let count-is = c₂₄ .two-at2 .ensures .0 in
+    let from-is = c₁₆ .before .before .before .before .before .before .before .two-at3 .ensures .0 in
+    let is = walk-of s (c₂₄ .before .two-at .ensures .0) count-is from-is (c₈ .before .before .before .before .before
+    .before .before .walk .ensures .0) (c .before .before .before .before .before .before .before .walked .given .1)
+    in
+    let g = gathered-past (c .before .before .before .before .before .before .before .walked .given .1) (c₈ .before
+    .before .before .before .before .before .before .walk .ensures .1) in
+    let kept = c₈ .before .before .before .before .before .before .before .walk .kept in
     let places = walk-places _ _ _ _ _ _ _ _ (p .0 .0) (h .end) is in (
       rw count-is (count-most _ (h .count)),
       p .0 .0,
       all-places _ _ _ _ (g .placed) (rw (count-is, from-is) places),
-      gathered-keys _ _ _ _ _ _ g,
-      omega (
-        arith,
-        count-is,
-        p .1 .1,
-        c .before .before .before .before .before .before .before .before .before
-            .before .before .before .before .before .walk .kept,
-      ),
-      omega (
-        arith,
-        count-is,
-        p .1 .2,
-        c .before .before .before .before .before .before .before .before .before
-            .before .before .before .before .before .walk .kept,
-      ),
+      gathered-keys _ _ _ _ _ _ _ g,
+      omega (arith, count-is, p .1 .1, kept),
+      omega (arith, count-is, p .1 .2, kept),
     )
 
 same-length-7 : tie.Need-same-length-7
@@ -167,25 +160,20 @@ same-length-9 c = search needs
 
 returns-3 : tie.Need-returns-3
 returns-3 c =
-    let s = now (c .before .before .before .before .before .before .before .before .before .before .before .before
-    .before .before .before .before .before .before .before .before .before .before .before .before .before .before
-    .before .args .table) in
-    let count-is = c .before .before .before .before .before .before .before .before .before .before .before .before
-    .before .before .before .before .before .before .before .before .before .two-at2 .ensures .0 in
-    let from-is = c .before .before .before .before .before .before .before .before .before .before .before .before
-    .before .before .before .before .before .before .before .before .two-at3 .ensures .0 in
-    let is = walk-of s (c .before .before .before .before .before .before .before .before .before .before .before
-    .before .before .before .before .before .before .before .before .before .before .before .two-at .ensures .0)
-    count-is from-is (c .before .before .before .before .before .before .before .before .before .before .before
-    .before .before .before .before .walk .ensures .0) (c .before .before .before .before .before .before .before
-    .walked .given .1) in
-    let g = gathered-past (c .before .before .before .before .before .before .before .walked .given .1) (c .before
-    .before .before .before .before .before .before .before .before .before .before .before .before .before .before
-    .walk .ensures .1) in
-    let last = sym (c .before .before .before .before .before .is-last .ensures) ∙ not-false (c .before .before
-    .before .before .before .is-last .result) (c .before .before .before .before .if1 .left) in
+    let c₈ = c .before .before .before .before .before .before .before .before in
+    let c₁₆ = c₈ .before .before .before .before .before .before .before .before in
+    let c₂₄ = c₁₆ .before .before .before .before .before .before .before .before in
+    let s = now (c₂₄ .before .before .before .before .before .before .before .args .table) in
+    let count-is = c₂₄ .before .two-at2 .ensures .0 in
+    let from-is = c₂₄ .two-at3 .ensures .0 in
+    let is = walk-of s (c₂₄ .before .before .two-at .ensures .0) count-is from-is (c₁₆ .walk .ensures .0) (c₈ .walked
+    .given .1) in
+    let g = gathered-past (c₈ .walked .given .1) (c₁₆ .walk .ensures .1) in
+    let last = sym (c .before .before .before .before .before .before .is-last .ensures) ∙ not-false (c .before
+    .before .before .before .before .before .is-last .result) (c .before .before .before .before .before .if1 .left)
+    in
     rw (is, last, ← count-is, ← from-is)
-    (c .has-unique-names .ensures ∙ gathered-unique _ _ _ _ _ _ g)
+    (c .has-unique-names .ensures ∙ gathered-unique _ _ _ _ _ _ _ g)
 
 pub has-fields-spec : {M : Type 1} → statement M
 has-fields-spec =
@@ -195,6 +183,7 @@ has-fields-spec =
     two-at-requires-2
     two-at-requires-3
     add-from
+    class-table-requires
     walk-requires
     enum-known-walked
     enum-told

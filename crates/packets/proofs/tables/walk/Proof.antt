@@ -12,7 +12,15 @@ use Rattle.rules.specs.Limits.{fixedMost}
 use Rattle.packets.specs.TableTest.{walkAt}
 use Rattle.packets.specs.Parts.{partsAt}
 use Rattle.packets.proofs.FieldSteps.{parts-inside, field-next, bits-small}
-use Rattle.packets.proofs.WalkSteps.{take-own, walk-field, walk-trees, walk-on, walk-end, own-trees}
+use Rattle.packets.proofs.WalkSteps.{
+  take-own,
+  walk-field,
+  walk-trees,
+  walk-on,
+  walk-end,
+  own-trees,
+  mark-word,
+}
 use Rattle.packets.proofs.NameSteps.{Gathering, gather-start, gather-again, gather-done}
 use borrow.Author.Needs.{needs}
 use Rattle.packets.proofs.tables.walk.Statement.{statement}
@@ -23,24 +31,30 @@ use Rattle.packets.proofs.fields.bits_of.Reads as bits-of-reads
 use Rattle.packets.proofs.fields.ends_with.Reads as ends-with-reads
 use Rattle.packets.proofs.fields.has_trees.Reads as has-trees-reads
 use Rattle.packets.proofs.fields.is_field.Reads as is-field-reads
+use Rattle.packets.proofs.fields.is_word.Reads as is-word-reads
 use Rattle.packets.proofs.fields.mark_of.Reads as mark-of-reads
 use Rattle.packets.proofs.records.parts_at.Reads as parts-at-reads
 use Rattle.packets.proofs.unique.gather.Reads as gather-reads
 
 abbrev Inv-loop : tie.InvT-loop
-Inv-loop s w count from marks₀ places₀ keys₀ names₀ at₀ place₀ ended₀ i₀ marks places keys names at place ended i =
+Inv-loop classes s w count from marks₀ places₀ keys₀ shorts₀ words₀ at₀ place₀ ended₀ i₀ marks places keys shorts
+    words at place ended
+    i =
     (i ≤ count)
     × (length marks ≡ length marks₀)
     × (place ≤ fixedMost * i)
     × (at ≤ length s)
     × (walkAt w count [] 0 false s from ≡ walkAt w (count - i) (take i marks) place ended s at)
-    × Gathering s count from i at places keys names
+    × Gathering s count from i at places keys shorts words
     × (length places ≡ length places₀)
     × (length keys ≡ length keys₀)
-    × (length names ≡ length names₀)
+    × (length shorts ≡ length shorts₀)
+    × (length words ≡ length words₀)
 
 abbrev μ-loop : tie.MeasureT-loop
-μ-loop s w count from marks₀ places₀ keys₀ names₀ at₀ place₀ ended₀ i₀ marks places keys names at place ended i =
+μ-loop classes s w count from marks₀ places₀ keys₀ shorts₀ words₀ at₀ place₀ ended₀ i₀ marks places keys shorts words
+    at place ended
+    i =
     count - i
 
 loop-holds : tie.Need-loop-holds Inv-loop μ-loop
@@ -51,7 +65,8 @@ loop-holds c =
       omega arith,
       search needs,
       rw sub-zero,
-      gather-start (now (a .s)) (a .count) (a .from) _ _ _,
+      gather-start (now (a .s)) (a .count) (a .from) _ _ _ _,
+      refl,
       refl,
       refl,
       refl,
@@ -64,9 +79,11 @@ is-field-requires : tie.Need-is-field-requires Inv-loop μ-loop
 is-field-requires c κs = (
   c .before .before .before .before .before .before .before .pre .0 .0,
   omega arith,
-  c .before .before .before
-      .before .before .before .before .pre .0 .3,
+  c .before
+      .before .before .before .before .before .before .pre .0 .3,
   c .parts-at .ensures,
+  c .before .before .before
+      .before .before .before .before .pre .0 .5,
 )
 
 same-length : tie.Need-same-length Inv-loop μ-loop
@@ -80,7 +97,8 @@ same-length-3 c = search needs
 
 returns : tie.Need-returns Inv-loop μ-loop
 returns c =
-    let a = c .before .before .before .before .before .before .before .before .before .args in
+    let c₈ = c .before .before .before .before .before .before .before .before in
+    let a = c₈ .before .args in
     let l = c .before .before .before .before .loop in
     let s = now (a .s) in
     let before = take (l .i) (l .marks) in
@@ -91,6 +109,14 @@ returns c =
       tt,
     )
 
+is-word-requires : tie.Need-is-word-requires Inv-loop μ-loop
+is-word-requires c κs =
+    let c₈ = c .before .before .before .before .before .before .before .before in
+    let parts = c .before .before .parts-at .ensures in
+    let field = sym (c .before .is-field .ensures) ∙ not-false (c .before .is-field .result) (c .if1 .left) in
+    let inside = parts-inside _ _ (field-next _ _ _ _ _ _ (rw parts at field)) in
+    (rw parts (inside .label), c₈ .before .pre .0 .3, c₈ .before .pre .0 .5)
+
 mark-of-requires : tie.Need-mark-of-requires Inv-loop μ-loop
 mark-of-requires c κs = search needs
 
@@ -100,18 +126,15 @@ slice-write-marks c = search needs
 has-trees-requires : tie.Need-has-trees-requires Inv-loop μ-loop
 has-trees-requires c κs =
     let c₈ = c .before .before .before .before .before .before .before .before in
-    let a = c₈ .before .before .before .args in
-    let l = c .before .before .before .before .before .before .loop in
-    let s = now (a .s) in
-    let before = take (l .i) (l .marks) in
-    let parts = c .before .before .before .before .parts-at .ensures in
-    let field = sym (c .before .before .before .is-field .ensures) ∙ not-false (c .before .before .before .is-field
-    .result) (c .before .before .if1 .left) in
+    let l = c .before .before .before .before .before .before .before .loop in
+    let parts = c .before .before .before .before .before .parts-at .ensures in
+    let field = sym (c .before .before .before .before .is-field .ensures) ∙ not-false (c .before .before .before
+    .before .is-field .result) (c .before .before .before .if1 .left) in
     let next = field-next _ _ _ _ _ _ (rw parts at field) in (
       lt-length-set (l .marks) (l .i) _ (omega arith),
-      c₈ .before .before .before .pre .0 .3,
-      rw parts (parts-inside _
-          _ next),
+      c₈ .before .before .before .before .pre .0 .3,
+      rw parts
+          (parts-inside _ _ next),
     )
 
 same-length-4 : tie.Need-same-length-4 Inv-loop μ-loop
@@ -126,16 +149,19 @@ same-length-6 c = search needs
 returns-2 : tie.Need-returns-2 Inv-loop μ-loop
 returns-2 c =
     let c₈ = c .before .before .before .before .before .before .before .before in
-    let a = c₈ .before .before .before .before .before .args in
-    let l = c₈ .loop in
+    let a = c₈ .before .before .before .before .before .before .args in
+    let l = c₈ .before .loop in
+    let space = c₈ .before .before .before .before .before .before .pre .0 .2 in
     let s = now (a .s) in
     let before = take (l .i) (l .marks) in
-    let parts = c .before .before .before .before .before .before .parts-at .ensures in
-    let field = sym (c .before .before .before .before .before .is-field .ensures) ∙ not-false (c .before .before
-    .before .before .before .is-field .result) (c .before .before .before .before .if1 .left) in
+    let parts = c .before .before .before .before .before .before .before .parts-at .ensures in
+    let field = sym (c .before .before .before .before .before .before .is-field .ensures) ∙ not-false (c .before
+    .before .before .before .before .before .is-field .result) (c .before .before .before .before .before .if1 .left)
+    in
     let none = sym (c .before .has-trees .ensures) ∙ not-true (c .before .has-trees .result) (c .if2 .taken) in
-    let own = own-trees (l .marks) (l .i) _ s _ (partsAt s (l .at)) parts (c .before .before .before .mark-of
-    .ensures) (omega arith) none in (
+    let marked = mark-word s _ (c .before .before .before .before .is-word .ensures) (c .before .before .before
+    .mark-of .ensures) in
+    let own = own-trees (l .marks) (l .i) _ s _ (partsAt s (l .at)) parts marked (omega arith) none in (
       sym (l .inv .4 ∙ walk-trees (a .w) (a .count) (l .i) before (l .place) (l .ended) s (l .at) (omega arith)
           (rw parts at field) own),
       tt,
@@ -145,18 +171,17 @@ gather-requires : tie.Need-gather-requires Inv-loop μ-loop
 gather-requires c κs =
     let c₈ = c .before .before .before .before .before .before .before .before in
     let c₁₆ = c₈ .before .before .before .before .before .before .before .before in
-    let a = c₁₆ .args in
-    let l = c₈ .before .before .before .loop in
-    let s = now (a .s) in
-    let before = take (l .i) (l .marks) in
-    let parts = c₈ .before .parts-at .ensures in
-    let field = sym (c₈ .is-field .ensures) ∙ not-false (c₈ .is-field .result) (c .before .before .before .before
-    .before .before .before .if1 .left) in
-    let lt = c₈ .before .before .loop-test .taken in
-    let few = c₁₆ .pre .0 .1 in
-    let room = c₁₆ .pre .1 in
-    let next = field-next _ _ _ _ _ _ (rw parts at field) in
-    ((c₁₆ .pre .0 .3, parts, rw parts (parts-inside _ _ next)), (omega arith, omega arith, omega arith, omega arith))
+    let parts = c₈ .before .before .before .parts-at .ensures in
+    let field = sym (c₈ .before .before .is-field .ensures) ∙ not-false (c₈ .before .before .is-field .result) (c₈
+    .before .if1 .left) in
+    let l = c₈ .before .before .before .before .before .loop in
+    let lt = c₈ .before .before .before .before .loop-test .taken in
+    let few = c₁₆ .before .before .pre .0 .1 in
+    let room = c₁₆ .before .before .pre .1 in
+    let next = field-next _ _ _ _ _ _ (rw parts at field) in (
+      (c₁₆ .before .before .pre .0 .3, parts, rw parts (parts-inside _ _ next), c₈ .is-word .ensures),
+      (omega arith, omega arith, omega arith),
+    )
 
 bits-of-requires : tie.Need-bits-of-requires Inv-loop μ-loop
 bits-of-requires c κs = search needs
@@ -165,12 +190,12 @@ add-place : tie.Need-add-place Inv-loop μ-loop
 add-place c =
     let c₈ = c .before .before .before .before .before .before .before .before in
     let c₁₆ = c₈ .before .before .before .before .before .before .before .before in
-    let field = sym (c₈ .before .before .before .before .before .before .is-field .ensures) ∙ not-false (c₈ .before
-    .before .before .before .before .before .is-field .result) (c₈ .before .before .before .before .before .if1
-    .left) in
-    let lt = c₁₆ .loop-test .taken in
-    let few = c₁₆ .before .before .before .before .before .before .pre .0 .1 in
-    let inv = c₁₆ .before .loop .inv in
+    let c₂₄ = c₁₆ .before .before .before .before .before .before .before .before in
+    let field = sym (c₁₆ .is-field .ensures) ∙ not-false (c₁₆ .is-field .result) (c₈ .before .before .before .before
+    .before .before .before .if1 .left) in
+    let lt = c₁₆ .before .before .loop-test .taken in
+    let few = c₂₄ .pre .0 .1 in
+    let inv = c₁₆ .before .before .before .loop .inv in
     let small = bits-small _ _ _ _ _ _ field in
     let bits = c .bits-of .ensures in
     omega arith
@@ -182,8 +207,9 @@ add-i : tie.Need-add-i Inv-loop μ-loop
 add-i c =
     let c₈ = c .before .before .before .before .before .before .before .before in
     let c₁₆ = c₈ .before .before .before .before .before .before .before .before in
-    let lt = c₁₆ .before .loop-test .taken in
-    let few = c₁₆ .before .before .before .before .before .before .before .pre .0 .1 in
+    let c₂₄ = c₁₆ .before .before .before .before .before .before .before .before in
+    let lt = c₁₆ .before .before .before .loop-test .taken in
+    let few = c₂₄ .before .pre .0 .1 in
     omega arith
 
 loop-less : tie.Need-loop-less Inv-loop μ-loop
@@ -193,46 +219,41 @@ loop-again : tie.Need-loop-again Inv-loop μ-loop
 loop-again c =
     let c₈ = c .before .before .before .before .before .before .before .before in
     let c₁₆ = c₈ .before .before .before .before .before .before .before .before in
-    let a = c₁₆ .before .before .before .before .before .before .before .args in
-    let l = c₁₆ .before .before .loop in
+    let c₂₄ = c₁₆ .before .before .before .before .before .before .before .before in
+    let a = c₂₄ .before .args in
+    let l = c₁₆ .before .before .before .before .loop in
     let s = now (a .s) in
     let before = take (l .i) (l .marks) in
-    let parts = c₁₆ .parts-at .ensures in
-    let field = sym (c₈ .before .before .before .before .before .before .before .is-field .ensures) ∙ not-false
-    (c₈ .before .before .before .before .before .before .before .is-field .result) (c₈ .before .before .before .before
-    .before .before .if1 .left) in
-    let lt = c₁₆ .before .loop-test .taken in
-    let space = c₁₆ .before .before .before .before .before .before .before .pre .0 .2 in
-    let trees = sym (c₈ .before .before .before .has-trees .ensures) ∙ not-false (c₈ .before .before .before
-    .has-trees .result) (c₈ .before .before .if2 .left) in
-    let own = own-trees (l .marks) (l .i) _ s _ (partsAt s (l .at)) parts (c₈ .before .before .before .before .before
-    .mark-of .ensures) (omega arith) trees in
-    let room = c₁₆ .before .before .before .before .before .before .before .pre .1 in
+    let parts = c₁₆ .before .before .parts-at .ensures in
+    let field = sym (c₁₆ .before .is-field .ensures) ∙ not-false (c₁₆ .before .is-field .result) (c₁₆ .if1 .left) in
+    let lt = c₁₆ .before .before .before .loop-test .taken in
+    let space = c₂₄ .before .pre .0 .2 in
+    let few = c₂₄ .before .pre .0 .1 in
+    let trees = sym (c₈ .before .before .before .before .has-trees .ensures) ∙ not-false (c₈ .before .before .before
+    .before .has-trees .result) (c₈ .before .before .before .if2 .left) in
+    let marked = mark-word s _ (c₈ .before .before .before .before .before .before .before .is-word .ensures) (c₈
+    .before .before .before .before .before .before .mark-of .ensures) in
+    let own = own-trees (l .marks) (l .i) _ s _ (partsAt s (l .at)) parts marked (omega arith) trees in
+    let room = c₂₄ .before .pre .1 in
     let small = bits-small _ _ _ _ _ _ field in
     let bits = c .before .bits-of .ensures in
     let step = walk-on (a .w) (a .count) (l .i) before (l .place) (l .ended) s (l .at) (omega arith)
     (rw parts at field) own in
-    let marks = take-own (l .marks) (l .i) (c₈ .before .before .before .before .before .mark-of .result)
+    let marks = take-own (l .marks) (l .i) (c₈ .before .before .before .before .before .before .mark-of .result)
     (omega arith) in
-    let more = gather-again s (a .count) (a .from) (l .i) (l .at) (l .places) (l .keys) (l .names) (l .inv .5)
-    (omega arith) (omega arith) (omega arith) (omega arith) in
+    let more = gather-again s (a .count) (a .from) (l .i) (l .at) (l .places) (l .keys) (l .shorts) (l .words)
+    (l .inv .5) (omega arith) (omega arith) (omega arith) (omega arith) (omega arith) in
     let got = c .before .before .before .before .before .before .gather .ensures in (
       omega arith,
       search needs,
       omega arith,
       field-next _ _ _ _ _ _ field,
-      l .inv .4 ∙ step ∙ rw (
-        marks,
-        c .ends-with .ensures,
-        bits,
-        c₈ .before .before .before .before .before .mark-of
-            .ensures,
-        parts,
-      ),
-      rw (got .0, got .1 .0, got .1 .1, parts) more,
+      l .inv .4 ∙ step ∙ rw (marks, c .ends-with .ensures, bits, marked, parts),
+      rw (got .0, got .1 .0, got .1 .1 .0, got .1 .1 .1, parts) more,
       rw (got .0, length-set) (l .inv .6),
       rw (got .1 .0, length-set) (l .inv .7),
-      rw (got .1 .1, length-set) (l .inv .8),
+      rw (got .1 .1 .0, length-set) (l .inv .8),
+      rw (got .1 .1 .1, length-set) (l .inv .9),
     )
 
 rem-if3 : tie.Need-rem-if3 Inv-loop μ-loop
@@ -254,7 +275,7 @@ returns-3 c =
     let before = take (l .i) (l .marks) in
     let e = walk-end (a .w) (a .count) (l .i) before (l .place) (l .ended) (now (a .s)) (l .at) (omega arith) in (
       sym (l .inv .4 ∙ e ∙ rw (eq-eqb _ _ (c .if3 .taken))),
-      gather-done (now (a .s)) (a .count) (a .from) (l .i) (l .at) _ _ _ (l .inv .5) (omega arith),
+      gather-done (now (a .s)) (a .count) (a .from) (l .i) (l .at) _ _ _ _ (l .inv .5) (omega arith),
     )
 
 same-length-10 : tie.Need-same-length-10 Inv-loop μ-loop
@@ -287,6 +308,7 @@ walk-spec =
     same-length-2
     same-length-3
     returns
+    is-word-requires
     mark-of-requires
     slice-write-marks
     has-trees-requires

@@ -5,7 +5,8 @@ use Rattle.packets.proofs.unique.gather.Statement.{statement}
 use Rattle.packets.proofs.unique.gather.Tie as tie
 use Rattle.packets.proofs.unique.gather.Reads as reads
 use Rattle.packets.proofs.unique.gather.Lts as lts
-use Rattle.packets.proofs.unique.held_short.Reads as held-short-reads
+use Rattle.packets.proofs.unique.held_label.Reads as held-label-reads
+use Rattle.packets.proofs.unique.held_part.Reads as held-part-reads
 use Rattle.packets.proofs.unique.label_key.Reads as label-key-reads
 
 mul-places : tie.Need-mul-places
@@ -23,14 +24,23 @@ mul-keys c = search needs
 slice-write-keys : tie.Need-slice-write-keys
 slice-write-keys c = search needs
 
-held-short-requires : tie.Need-held-short-requires
-held-short-requires c κs = search needs
+held-part-requires : tie.Need-held-part-requires
+held-part-requires c κs = search needs
 
-mul-t8 : tie.Need-mul-t8
-mul-t8 c = search needs
+mul-words : tie.Need-mul-words
+mul-words c = search needs
 
-element-set-from-names : tie.Need-element-set-from-names
-element-set-from-names c = search needs
+element-set-from-words : tie.Need-element-set-from-words
+element-set-from-words c = search needs
+
+held-label-requires : tie.Need-held-label-requires
+held-label-requires c κs = search needs
+
+mul-t12 : tie.Need-mul-t12
+mul-t12 c = search needs
+
+element-set-from-words-2 : tie.Need-element-set-from-words-2
+element-set-from-words-2 c = search needs
 
 same-length : tie.Need-same-length
 same-length c = search needs
@@ -41,8 +51,20 @@ same-length-2 c = search needs
 returns : tie.Need-returns
 unfolding labelAt labelKey
 returns c =
-    let e = c .before .before .before .before .before .pre .0 .1 in
-    (refl, (rw (c .before .label-key .ensures, e), rw (c .held-short .ensures, e)))
+    let e = c .before .before .before .before .before .before .pre .0 .1 in (
+      refl,
+      (
+        rw (c .before .before .label-key .ensures, e),
+        (
+          rw (c .before .held-part .ensures, e),
+          rw (
+            c .held-label
+                .ensures,
+            e,
+          ),
+        ),
+      ),
+    )
 
 pub gather-spec : {M : Type 1} → statement M
 gather-spec =
@@ -53,9 +75,12 @@ gather-spec =
     label-key-requires
     mul-keys
     slice-write-keys
-    held-short-requires
-    mul-t8
-    element-set-from-names
+    held-part-requires
+    mul-words
+    element-set-from-words
+    held-label-requires
+    mul-t12
+    element-set-from-words-2
     same-length
     same-length-2
     returns)

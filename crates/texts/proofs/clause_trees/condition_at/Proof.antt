@@ -43,7 +43,7 @@ returns : tie.Need-returns
 returns c =
     let a = c .before .before .before .before .before .before .before .before .before .args in
     let t = c .before .before .tree-at in
-    condition-yes (a .names .now) (a .n) (a .s .now) (a .at) (c .before .before .before .before .before .before
+    condition-yes _ (a .n) (a .s .now) (a .at) (c .before .before .before .before .before .before
     .before .before .before .pre .0) (t .result) _ (sym (c .before .before .before .before .before .starts-at
     .ensures) ∙ c .before .before .before .before .if1 .taken) (t .ensures .0)
     (t .ensures .1)
@@ -54,7 +54,7 @@ no-clause-requires c κs = search needs
 returns-2 : tie.Need-returns-2
 returns-2 c =
     let a = c .before .before .before .before .before .before .args in
-    condition-no (a .names .now) (a .n) (a .s .now) (a .at) (c .before .before .before .before .before .before .pre
+    condition-no _ (a .n) (a .s .now) (a .at) (c .before .before .before .before .before .before .pre
     .0) _ _ (sym (c .before .before .starts-at .ensures) ∙ c .before .if1 .left) (c .no-clause .ensures)
 
 pub condition-at-spec : {M : Type 1} → statement M

@@ -25,7 +25,7 @@ no-clause-requires c κs = search needs
 returns : tie.Need-returns
 returns c =
     let a = c .before .before .before .before .before .before .args in
-    constraint-not-yet (a .names .now) (a .n) (a .s .now) (a .at) (c .before .before .before .before .before .before
+    constraint-not-yet _ (a .n) (a .s .now) (a .at) (c .before .before .before .before .before .before
     .pre .0) _ _ (sym (c .before .before .starts-at .ensures) ∙ c .before .if1 .taken) (c .no-clause .ensures)
 
 slice-aggregate-starts-at-2 : tie.Need-slice-aggregate-starts-at-2
@@ -58,7 +58,7 @@ returns-2 : tie.Need-returns-2
 returns-2 c =
     let a = c .before .before .before .before .before .before .before .before .before .before .before .before .args in
     let t = c .before .before .tree-at in
-    constraint-yes (a .names .now) (a .n) (a .s .now) (a .at) (c .before .before .before .before .before .before
+    constraint-yes _ (a .n) (a .s .now) (a .at) (c .before .before .before .before .before .before
     .before .before .before .before .before .before .pre .0) (t .result) _ (sym (c .before .before .before .before
     .before .before .before .before .starts-at .ensures) ∙ c .before .before .before .before .before .before .before
     .if1 .left)
@@ -71,7 +71,7 @@ no-clause-requires-2 c κs = search needs
 returns-3 : tie.Need-returns-3
 returns-3 c =
     let a = c .before .before .before .before .before .before .before .before .before .args in
-    constraint-no (a .names .now) (a .n) (a .s .now) (a .at) (c .before .before .before .before .before .before
+    constraint-no _ (a .n) (a .s .now) (a .at) (c .before .before .before .before .before .before
     .before .before .before .pre .0) _ _ (sym (c .before .before .starts-at2 .ensures) ∙ c .before .if2 .left) (c
     .no-clause2 .ensures)
 

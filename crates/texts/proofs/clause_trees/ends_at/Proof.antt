@@ -38,7 +38,7 @@ returns : tie.Need-returns
 returns c =
     let a = c .before .before .before .before .before .before .before .before .before .before .before .args in
     let x = c .before .before .before .before .before .before .constraint-at in
-    ends-none (a .names .now) (a .n) (a .s .now) (a .at) (x .result) _ _ (x .ensures .1) _ (c .wrong-ends .ensures)
+    ends-none _ (a .n) (a .s .now) (a .at) (x .result) _ _ (x .ensures .1) _ (c .wrong-ends .ensures)
     (not-true (x .result .right) (c .before .if1 .taken))
 
 condition-at-requires : tie.Need-condition-at-requires
@@ -71,7 +71,7 @@ returns-2 c =
     let y = c .before .before .before .before .before .before .condition-at in
     let first = not-false (x .result .right) (c .before .before .before .before .before .before .before .before .if1
     .left) in
-    ends-later (a .names .now) (a .n) (a .s .now) (a .at) (x .result) _ _ (x .ensures .1) first (y .result) (y
+    ends-later _ (a .n) (a .s .now) (a .at) (x .result) _ _ (x .ensures .1) first (y .result) (y
     .ensures .1) _ (c .wrong-ends2 .ensures)
     (not-true (y .result .right) (c .before .if2 .taken))
 
@@ -119,7 +119,7 @@ returns-3 c =
     .before .before .before .before .if1 .left) in
     let second = not-false (y .result .right) (c .before .before .before .before .before .if2 .left) in
     let w = y .ensures .0 second in
-    ends-whole (a .names .now) (a .n) (a .s .now) (a .at) (x .result) _ _ (x .ensures .1) first (y .result) (y
+    ends-whole _ (a .n) (a .s .now) (a .at) (x .result) _ _ (x .ensures .1) first (y .result) (y
     .ensures .1) second (w .1)
     (sym (c .before .before .before .starts-at .ensures) ∙ c .before .before .if3 .taken) (sym (c .before .remark-ok
     .ensures) ∙ c .if4 .taken)
@@ -144,7 +144,7 @@ returns-4 c =
     .before .before .before .before .before .if1 .left) in
     let second = not-false (y .result .right) (c .before .before .before .before .before .before .if2 .left) in
     let w = y .ensures .0 second in
-    ends-remark (a .names .now) (a .n) (a .s .now) (a .at) (x .result) _ _ (x .ensures .1) first (y .result) (y
+    ends-remark _ (a .n) (a .s .now) (a .at) (x .result) _ _ (x .ensures .1) first (y .result) (y
     .ensures .1) second (w .1) _
     (c .wrong-ends3 .ensures) (sym (c .before .before .before .before .starts-at .ensures) ∙ c .before .before
     .before .if3 .taken) (sym (c .before .before .remark-ok .ensures) ∙ c .before .if4 .left)
@@ -169,7 +169,7 @@ returns-5 c =
     .before .before .before .if1 .left) in
     let second = not-false (y .result .right) (c .before .before .before .before .if2 .left) in
     let w = y .ensures .0 second in
-    ends-unstopped (a .names .now) (a .n) (a .s .now) (a .at) (x .result) _ _ (x .ensures .1) first (y .result) (y
+    ends-unstopped _ (a .n) (a .s .now) (a .at) (x .result) _ _ (x .ensures .1) first (y .result) (y
     .ensures .1) second (w .1) _
     (c .wrong-ends4 .ensures) (sym (c .before .before .starts-at .ensures) ∙ c .before .if3 .left)
 

@@ -16,7 +16,7 @@ returns : tie.Need-returns
 returns c =
     let a = c .before .before .before .before .before .before .before .args in
     let t = c .before .before .before .stored-tree in
-    clause-tree (a .names .now) (a .n) (a .s .now) (a .at) (t .result) _ (t .ensures .0) (t .ensures .1)
+    clause-tree _ (a .n) (a .s .now) (a .at) (t .result) _ (t .ensures .0) (t .ensures .1)
 
 pub tree-at-spec : {M : Type 1} → statement M
 tree-at-spec = tie.close (tie.spec stored-tree-requires same-length returns)

@@ -30,9 +30,9 @@ unfolding noteOf
 returns c =
     let a = c .before .before .before .before .before .args in (
       refl,
-      (λ f x names v k n s nw e p.
+      (λ f x marks v k n s nw e p.
           let shown : showsCell (f .cells) (faces (f .judged .fields)) x
-          ≡ false = sym (c .before .shows-cell .ensures f x names v k n s p)
+          ≡ false = sym (c .before .shows-cell .ensures f x _ v k n s p)
           ∙ not-true (c .before .shows-cell .result) (c .if1 .taken) in
           sym (later-is f (a .r) x n false _ _ _ shown refl refl refl)),
     )
@@ -45,9 +45,9 @@ unfolding noteOf
 returns-2 c =
     let a = c .before .before .before .before .before .before .before .args in (
       refl,
-      (λ f x names v k n s nw e p.
+      (λ f x marks v k n s nw e p.
           let shown : showsCell (f .cells) (faces (f .judged .fields)) x
-          ≡ true = sym (c .before .before .before .shows-cell .ensures f x names v k n s p)
+          ≡ true = sym (c .before .before .before .shows-cell .ensures f x _ v k n s p)
           ∙ not-false (c .before .before .before .shows-cell .result)
           (c .before .before .if1 .left) in
           let unique : keepsNames (faces (f .judged .fields)) x ≡ false =
@@ -64,9 +64,9 @@ unfolding noteOf
 returns-3 c =
     let a = c .before .before .before .before .before .before .before .before .before .args in (
       refl,
-      (λ f x names v k n s nw e p.
+      (λ f x marks v k n s nw e p.
           let shown : showsCell (f .cells) (faces (f .judged .fields)) x
-          ≡ true = sym (c .before .before .before .before .before .shows-cell .ensures f x names v k n
+          ≡ true = sym (c .before .before .before .before .before .shows-cell .ensures f x _ v k n
           s p)
           ∙ not-false (c .before .before .before .before .before .shows-cell .result)
           (c .before .before .before .before .if1 .left) in
@@ -74,7 +74,7 @@ returns-3 c =
           ap not (sym (names-here f k (now (a .line)) x e (a .r) n nw)
           ∙ sym (c .before .before .before .clashes .ensures) ∙ c .before .before .if2 .left) in
           let typed : keepsTypes nameReadable (faces (f .judged .fields)) x ≡ false =
-          sym (types-are f k (now (a .line)) x e (a .r) n nw) ∙ sym (c .before .types-kept .ensures names
+          sym (types-are f k (now (a .line)) x e (a .r) n nw) ∙ sym (c .before .types-kept .ensures _
           (a .r .fields) (now (a .line)) x v p)
           ∙ not-true (c .before .types-kept .result) (c .if3 .taken) in
           sym (later-is f (a .r) x n true true false _ shown unique typed refl)),
@@ -88,10 +88,10 @@ unfolding noteOf
 returns-4 c =
     let a = c .before .before .before .before .before .before .before .before .before .before .before .args in (
       refl,
-      (λ f x names v k n s nw e p.
+      (λ f x marks v k n s nw e p.
           let shown : showsCell (f .cells) (faces (f .judged .fields)) x
           ≡ true = sym (c .before .before .before .before .before .before .before .shows-cell
-          .ensures f x names v k n s p) ∙ not-false
+          .ensures f x _ v k n s p) ∙ not-false
           (c .before .before .before .before .before .before .before .shows-cell .result)
           (c .before .before .before .before .before .before .if1 .left) in
           let unique : keepsNames (faces (f .judged .fields)) x ≡ true =
@@ -100,10 +100,10 @@ returns-4 c =
           ∙ c .before .before .before .before .if2 .left) in
           let typed : keepsTypes nameReadable (faces (f .judged .fields)) x ≡ true =
           sym (types-are f k (now (a .line)) x e (a .r) n nw)
-          ∙ sym (c .before .before .before .types-kept .ensures names (a .r .fields) (now (a .line)) x v p)
+          ∙ sym (c .before .before .before .types-kept .ensures _ (a .r .fields) (now (a .line)) x v p)
           ∙ not-false (c .before .before .before .types-kept .result) (c .before .before .if3 .left) in
           let rested : keepsRest (faces (f .judged .fields)) x ≡ false =
-          not-flip (keepsRest (faces (f .judged .fields)) x) (sym (rest-is f k (now (a .line)) x e names
+          not-flip (keepsRest (faces (f .judged .fields)) x) (sym (rest-is f k (now (a .line)) x e _
           (a .r .fields) v (a .p) p)
           ∙ ap (λ (b : Bool). b && not (eqb (a .p .kind) 2 && eqb (a .p .condition .len) 0)) (sym (n .rested))
           ∙ sym (c .before .misplaced .ensures) ∙ c .if4 .taken) in
@@ -115,10 +115,10 @@ unfolding noteOf
 returns-5 c =
     let a = c .before .before .before .before .before .before .before .before .before .before .before .args in (
       refl,
-      (λ f x names v k n s nw e p.
+      (λ f x marks v k n s nw e p.
           let shown : showsCell (f .cells) (faces (f .judged .fields)) x
           ≡ true = sym (c .before .before .before .before .before .before .before .shows-cell
-          .ensures f x names v k n s p) ∙ not-false
+          .ensures f x _ v k n s p) ∙ not-false
           (c .before .before .before .before .before .before .before .shows-cell .result)
           (c .before .before .before .before .before .before .if1 .left) in
           let unique : keepsNames (faces (f .judged .fields)) x ≡ true =
@@ -127,10 +127,10 @@ returns-5 c =
           ∙ c .before .before .before .before .if2 .left) in
           let typed : keepsTypes nameReadable (faces (f .judged .fields)) x ≡ true =
           sym (types-are f k (now (a .line)) x e (a .r) n nw)
-          ∙ sym (c .before .before .before .types-kept .ensures names (a .r .fields) (now (a .line)) x v p)
+          ∙ sym (c .before .before .before .types-kept .ensures _ (a .r .fields) (now (a .line)) x v p)
           ∙ not-false (c .before .before .before .types-kept .result) (c .before .before .if3 .left) in
           let rested : keepsRest (faces (f .judged .fields)) x ≡ true =
-          not-flip (keepsRest (faces (f .judged .fields)) x) (sym (rest-is f k (now (a .line)) x e names
+          not-flip (keepsRest (faces (f .judged .fields)) x) (sym (rest-is f k (now (a .line)) x e _
           (a .r .fields) v (a .p) p)
           ∙ ap (λ (b : Bool). b && not (eqb (a .p .kind) 2 && eqb (a .p .condition .len) 0)) (sym (n .rested))
           ∙ sym (c .before .misplaced .ensures) ∙ c .if4 .left) in

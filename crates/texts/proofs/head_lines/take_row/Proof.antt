@@ -19,6 +19,7 @@ use Rattle.texts.proofs.head_lines.take_row.Lts as lts
 use Rattle.names.proofs.classes.class_table.Reads as class-table-reads
 use Rattle.texts.proofs.slots.put_row.Reads as put-row-reads
 use Rattle.texts.proofs.states.onward.Reads as onward-reads
+use Rattle.texts.proofs.states.too_many.Reads as too-many-reads
 use Rattle.texts.proofs.states.wrong.Reads as wrong-reads
 
 class-table-requires : tie.Need-class-table-requires
@@ -55,7 +56,7 @@ returns c =
     rw (c .wrong .ensures) (
       taken-wrong r (c .before .before .before .before .before .before .before .before .before .before .before .pre
           .0),
-      (λ table f labels shorts names k b h.
+      (λ table f labels names k b h.
           let e : readRow (f .width) l ≡ none = subst (λ (w : ℕ). readRow w l ≡ none) (h .counts .width) (q .0) in
           rw (e, q .1) (holds-wrong f r h)),
     )
@@ -65,8 +66,8 @@ sub-most c = let q = c .before .before .before .before .before .before .before .
     .pre .0 .cells
     in search (needs, q)
 
-onward-requires : tie.Need-onward-requires
-onward-requires c κs = c .before .before .before .before .before .before .before .before .before .before .before
+too-many-requires : tie.Need-too-many-requires
+too-many-requires c κs = c .before .before .before .before .before .before .before .before .before .before .before
     .before .before .pre .1
 
 same-length-2 : tie.Need-same-length-2
@@ -88,9 +89,9 @@ returns-2 c =
     (c .before .before .before .before .row .given .1) in
     let e : (f : Found) → r .width ≡ f .width → readRow (f .width) l ≡ some (p .row) =
     λ f w. subst (λ (v : ℕ). readRow v l ≡ some (p .row)) w (p .isRead) in
-    rw (c .onward .ensures) (
+    rw (c .too-many .ensures) (
       taken-onward r at.RowBorder (note 4 0) refl room,
-      (λ table f labels shorts names k b h. rw (e f (h .counts .width)) (holds-over f r h (k .head b) (p .row)
+      (λ table f labels names k b h. rw (e f (h .counts .width)) (holds-over f r h (k .head b) (p .row)
           (p .writes)
           (omega (arith, c .before .if1 .taken, p .count, h .counts .cells)) (omega (
             arith,
@@ -105,8 +106,8 @@ add-r : tie.Need-add-r
 add-r c = let q = c .before .before .before .before .before .before .before .before .before .before .before .before
     .before .before .pre .0 .cells in let k = c .before .if1 .left in omega (arith, q, k)
 
-onward-requires-2 : tie.Need-onward-requires-2
-onward-requires-2 c κs = c .before .before .before .before .before .before .before .before .before .before .before
+onward-requires : tie.Need-onward-requires
+onward-requires c κs = c .before .before .before .before .before .before .before .before .before .before .before
     .before .before .before .before .pre .1
 
 same-length-3 : tie.Need-same-length-3
@@ -126,7 +127,7 @@ returns-3 c =
     let e : (f : Found) → r .width ≡ f .width → readRow (f .width) l ≡ some (p .row) =
     λ f w. subst (λ (v : ℕ). readRow v l ≡ some (p .row)) w (p .isRead) in
     let n = row-length (r .width) l (p .row) (p .isRead) in
-    rw (c .onward2 .ensures) (
+    rw (c .onward .ensures) (
       (
         room-row r _ _ room (omega (arith, c .before .before .before .if1 .left, room .cells)) (omega (
           arith,
@@ -138,7 +139,7 @@ returns-3 c =
         )) (omega (arith, p .writes .end)),
         omega arith,
       ),
-      (λ table f labels shorts names k b h. rw (e f (h .counts .width)) (holds-few f r h (k .head b) (p .row)
+      (λ table f labels names k b h. rw (e f (h .counts .width)) (holds-few f r h (k .head b) (p .row)
           (p .writes) _ (p .count) (omega
           (arith, c .before .before .before .if1 .left, room .cells, p .count, h .counts .cells)))),
     )
@@ -155,10 +156,10 @@ take-row-spec =
     same-length
     returns
     sub-most
-    onward-requires
+    too-many-requires
     same-length-2
     returns-2
     add-r
-    onward-requires-2
+    onward-requires
     same-length-3
     returns-3)

@@ -21,7 +21,7 @@ returns c =
     let l = now (c .before .before .before .before .args .line) in
     rw (c .expect .ensures) (
       taken-expect true r at.WhereLine (c .before .before .before .before .pre .0),
-      (λ table f labels shorts names k b h. rw (empty-nil l (c .before .if1 .taken)) (holds-onward f r h at.WhereLine)),
+      (λ table f labels names k b h. rw (empty-nil l (c .before .if1 .taken)) (holds-onward f r h at.WhereLine)),
     )
 
 take-row-requires : tie.Need-take-row-requires
@@ -35,10 +35,9 @@ unfolding linedAt
 returns-2 c =
     let q = c .before .before .take-row .ensures in (
       q .0,
-      (λ table f labels shorts names k b h. rw (filled-nil (now
+      (λ table f labels names k b h. rw (filled-nil (now
           (c .before .before .before .before .before .before .before .args .line))
-          (c .before .before .before .before .if1 .left)) (q .1 table f labels shorts
-          names k b h)),
+          (c .before .before .before .before .if1 .left)) (q .1 table f labels names k b h)),
     )
 
 pub take-row-or-blank-spec : {M : Type 1} → statement M

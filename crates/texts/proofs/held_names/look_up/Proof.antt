@@ -5,6 +5,7 @@ use native.Mathlib.Omega.{arith}
 use native.Mathlib.Nat.{sub-zero}
 use denote.Ref.{now}
 use Rattle.names.specs.Repeats.{firstFrom, padTo}
+use Rattle.texts.specs.HeldNames.{namesOf}
 use Rattle.texts.specs.StoredTrees.{isHeld, lookUp}
 use Rattle.texts.proofs.LineSearches.{search-found, search-next, search-none}
 use borrow.Author.Needs.{needs}
@@ -13,14 +14,16 @@ use Rattle.texts.proofs.held_names.look_up.Tie as tie
 use Rattle.texts.proofs.held_names.look_up.Reads as reads
 use Rattle.texts.proofs.held_names.look_up.Lts as lts
 use Rattle.names.proofs.repeats.held_name.Reads as held-name-reads
-use Rattle.names.proofs.repeats.same_name.Reads as same-name-reads
+use Rattle.texts.proofs.held_names.is_held.Reads as is-held-reads
 
 abbrev Inv-loop : tie.InvT-loop
-Inv-loop names n w held i₀ i =
-    (i ≤ n) × (held ≡ padTo shortMost w) × (firstFrom (isHeld names w) 0 n ≡ firstFrom (isHeld names w) i (n - i))
+Inv-loop shorts words marks n w held i₀ i =
+    (i ≤ n) × (held ≡ padTo shortMost w)
+    × (firstFrom (isHeld (namesOf shorts words marks) w) 0 n
+    ≡ firstFrom (isHeld (namesOf shorts words marks) w) i (n - i))
 
 abbrev μ-loop : tie.MeasureT-loop
-μ-loop names n w held i₀ i = n - i
+μ-loop shorts words marks n w held i₀ i = n - i
 
 held-name-requires : tie.Need-held-name-requires Inv-loop μ-loop
 held-name-requires c κs = search needs
@@ -28,22 +31,17 @@ held-name-requires c κs = search needs
 loop-holds : tie.Need-loop-holds Inv-loop μ-loop
 loop-holds c = (omega arith, c .held-name .ensures, rw sub-zero)
 
-mul-same-name : tie.Need-mul-same-name Inv-loop μ-loop
-mul-same-name c = search needs
-
-element-copy-out-same-name : tie.Need-element-copy-out-same-name Inv-loop μ-loop
-element-copy-out-same-name c = search needs
-
-same-name-requires : tie.Need-same-name-requires Inv-loop μ-loop
-same-name-requires c κs = search needs
+is-held-requires : tie.Need-is-held-requires Inv-loop μ-loop
+is-held-requires c κs = search needs
 
 returns : tie.Need-returns Inv-loop μ-loop
 unfolding lookUp
 returns c =
-    let a = c .before .before .before .before .before .before .before .args in
-    let l = c .before .before .before .before .loop in
-    let e = rw (l .inv .1) at (sym (c .before .same-name .ensures) ∙ c .if1 .taken) in
-    (omega arith, search-found (isHeld (now (a .names)) (now (a .w))) (a .n) (l .i) (omega arith) (l .inv .2) e)
+    let a = c .before .before .before .before .before .before .args in
+    let l = c .before .before .before .loop in
+    let e = rw (l .inv .1) at (sym (c .before .is-held .ensures) ∙ c .if1 .taken) in
+    let test = isHeld (namesOf (now (a .shorts)) (now (a .words)) (now (a .marks))) (now (a .w)) in
+    (omega arith, search-found test (a .n) (l .i) (omega arith) (l .inv .2) e)
 
 add-i : tie.Need-add-i Inv-loop μ-loop
 add-i c = search needs
@@ -53,24 +51,19 @@ loop-less c = omega arith
 
 loop-again : tie.Need-loop-again Inv-loop μ-loop
 loop-again c =
-    let a = c .before .before .before .before .before .before .before .args in
-    let l = c .before .before .before .before .loop in
-    let e = rw (l .inv .1) at (sym (c .before .same-name .ensures) ∙ c .if1 .left) in (
-      omega arith,
-      l .inv .1,
-      search-next (isHeld (now (a .names)) (now (a .w))) (a .n) (l .i) (omega arith) (l .inv
-          .2) e,
-    )
+    let a = c .before .before .before .before .before .before .args in
+    let l = c .before .before .before .loop in
+    let e = rw (l .inv .1) at (sym (c .before .is-held .ensures) ∙ c .if1 .left) in
+    let test = isHeld (namesOf (now (a .shorts)) (now (a .words)) (now (a .marks))) (now (a .w)) in
+    (omega arith, l .inv .1, search-next test (a .n) (l .i) (omega arith) (l .inv .2) e)
 
 returns-2 : tie.Need-returns-2 Inv-loop μ-loop
 unfolding lookUp
 returns-2 c =
     let a = c .before .before .before .before .args in
-    let l = c .before .loop in (
-      omega arith,
-      search-none (isHeld (now (a .names)) (now (a .w))) (a .n) (l .i) (omega arith) (omega arith) (l
-          .inv .2),
-    )
+    let l = c .before .loop in
+    let test = isHeld (namesOf (now (a .shorts)) (now (a .words)) (now (a .marks))) (now (a .w)) in
+    (omega arith, search-none test (a .n) (l .i) (omega arith) (omega arith) (l .inv .2))
 
 pub look-up-spec : {M : Type 1} → statement M
 look-up-spec =
@@ -80,9 +73,7 @@ look-up-spec =
     μ-loop
     held-name-requires
     loop-holds
-    mul-same-name
-    element-copy-out-same-name
-    same-name-requires
+    is-held-requires
     returns
     add-i
     loop-less

@@ -26,19 +26,19 @@ use Rattle.texts.proofs.kept_fields.refuse_line.Reads as refuse-line-re
 use Rattle.texts.proofs.kept_fields.take_form.Reads as take-form-reads
 use Rattle.texts.proofs.line_parts.parts_of.Reads as parts-of-reads
 use Rattle.texts.proofs.part_tests.sizes_kept.Reads as sizes-kept-reads
-use Rattle.texts.proofs.states.onward.Reads as onward-reads
+use Rattle.texts.proofs.states.too_many.Reads as too-many-reads
 
 is-full-requires : tie.Need-is-full-requires
 is-full-requires c κs = search needs
 
-onward-requires : tie.Need-onward-requires
-onward-requires c κs = c .before .before .before .before .before .pre .1
+too-many-requires : tie.Need-too-many-requires
+too-many-requires c κs = c .before .before .before .before .before .pre .1
 
 returns : tie.Need-returns
 unfolding noteOf
 returns c =
     let r = c .before .before .before .before .before .before .args .r in
-    rw (c .onward .ensures) (
+    rw (c .too-many .ensures) (
       taken-onward r at.FieldLine (note 4 0) refl (c .before .before .before .before .before .before .pre .0),
       (
         refl,
@@ -61,50 +61,45 @@ slice-aggregate-parts-of-3 c = search needs
 
 parts-of-requires : tie.Need-parts-of-requires
 parts-of-requires c κs =
-    let few = full-room (c .before .before .before .before .before .before .before .before .before .before .before
-    .args .r) (sym (c .before .before .before .before .before .before .before .is-full .ensures) ∙ c .before .before
-    .before .before .before .before .if1 .left) in (
-      c .before .before .before .before .before .before .before .before .before .before .before .pre .2,
+    let c1 = c .before .before .before .before .before .before .before in
+    let c2 = c1 .before .before .before .before .before .before in
+    let few = full-room (c2 .args .r) (sym (c1 .before .before .is-full .ensures) ∙ c1 .before .if1 .left) in (
+      c2 .pre .2,
       omega (
         arith,
         few,
-        c .before .before .before .before .before .before .before .before .before .before .before .pre .0 .fields,
+        c2 .pre .0 .fields,
       ),
-      c .before .before .before .before .before .class-table .ensures,
+      c1 .class-table .ensures,
     )
 
 refuse-line-requires : tie.Need-refuse-line-requires
-refuse-line-requires c κs = (
-  c .before .before .before .before .before .before .before .before .before .before .before .before .before .before
-      .before .before .before .pre .0,
-  c .before .before .before .before .before .before .before .before .before .before .before .before .before .before
-      .before .before .before .pre .1,
-  full-room (c .before .before .before .before .before .before .before .before .before .before .before .before
-      .before .before .before .before .before .args .r) (sym (c .before .before .before .before .before .before
-      .before .before .before .before .before .before .before .is-full .ensures) ∙ c .before .before .before .before
-      .before .before .before .before .before .before .before .before .if1 .left),
-  omega arith,
-  omega arith,
-)
+refuse-line-requires c κs =
+    let c1 = c .before .before .before .before .before .before .before .before .before .before .before .before
+    .before .before in (
+      c1 .before .before .before .before .before .pre .0,
+      c1 .before .before .before .before .before .pre .1,
+      full-room (c1 .before .before .before .before .before .args .r) (sym (c1 .before .is-full .ensures) ∙ c1 .if1
+          .left),
+      omega arith,
+      omega arith,
+    )
 
 returns-2 : tie.Need-returns-2
 returns-2 c =
-    let r = c .before .before .before .before .before .before .before .before .before .before .before .before .before
-    .before .before .before .before .before .args .r in
-    let l = now (c .before .before .before .before .before .before .before .before .before .before .before .before
-    .before .before .before .before .before .before .args .line) in
-    let p = c .before .before .before .before .before .before .parts-of .result in
-    let o = c .before .before .before .before .before .before .parts-of .ensures in
+    let c1 = c .before .before .before .before .before .before in
+    let c2 = c1 .before .before .before .before .before .before .before .before .before in
+    let r = c2 .before .before .before .before .before .args .r in
+    let l = now (c2 .before .before .before .before .before .args .line) in
+    let p = c1 .parts-of .result in
+    let o = c1 .parts-of .ensures in
     let e = form-none _ (r .fields) l (readForm l) _ p (o .1) (c .before .if2 .taken) in
     let q = c .refuse-line .ensures in (
       q .0,
       (
         refl,
         (λ f k h. rw (q .1 .0) (holds-formless f r (holds-kept f r h (o .0)) l (c .refuse-line .result .note)
-            (sym (full-same f r (h .counts)) ∙ sym (c .before .before .before .before .before .before .before .before
-            .before .before .before .before .before .before .is-full .ensures) ∙ c .before .before .before
-            .before .before .before .before .before .before .before .before .before .before .if1 .left) e (q .1
-            .1))),
+            (sym (full-same f r (h .counts)) ∙ sym (c2 .before .is-full .ensures) ∙ c2 .if1 .left) e (q .1 .1))),
       ),
     )
 
@@ -122,34 +117,24 @@ slice-aggregate-take-form-3 c = search needs
 
 take-form-requires : tie.Need-take-form-requires
 take-form-requires c κs =
-    let r = c .before .before .before .before .before .before .before .before .before .before .before .before .before
-    .before .before .before .before .before .before .before .before .before .before .before .before .args .r in
-    let l = now (c .before .before .before .before .before .before .before .before .before .before .before .before
-    .before .before .before .before .before .before .before .before .before .before .before .before .before .args
-    .line) in
-    let p = c .before .before .before .before .before .before .before .before .before .before .before .before .before
-    .parts-of .result in
-    let x = form-some _ (r .fields) l (readForm l) _ p (c .before .before .before .before .before .before .before
-    .before .before .before .before .before .before .parts-of .ensures .1) (c .before .before .before .before .before
-    .before .before .before .if2 .left) in
-    let small = sym (c .before .before .before .before .before .before .before .sizes-kept .ensures _ (r .fields) l
-    (x .0) _ (x .2)) ∙ c .before .before .before .before .before .before .if3 .taken in (
-      c .before .before .before .before .before .before .before .before .before .before .before .before .before
-          .before .before .before .before .before .before .before .before .before .before .before .before .pre,
-      full-room r (sym (c .before .before .before .before .before .before .before .before .before .before .before
-          .before .before .before .before .before .before .before .before .before .before .is-full .ensures) ∙ c
-          .before .before .before .before .before .before .before .before .before .before .before .before .before
-          .before .before .before .before .before .before .before .if1 .left),
+    let c1 = c .before .before .before .before .before .before .before in
+    let c2 = c1 .before .before .before .before .before .before .before in
+    let c3 = c2 .before .before .before .before .before .before .before .before .before in
+    let r = c3 .before .before .before .before .before .args .r in
+    let l = now (c3 .before .before .before .before .before .args .line) in
+    let p = c2 .parts-of .result in
+    let x = form-some _ (r .fields) l (readForm l) _ p (c2 .parts-of .ensures .1) (c1 .before .before .if2 .left) in
+    let small = sym (c1 .before .sizes-kept .ensures _ (r .fields) l
+    (x .0) _ (x .2)) ∙ c1 .if3 .taken in (
+      c3 .before .before .before .before .before .pre,
+      full-room r (sym (c3 .before .is-full .ensures) ∙ c3 .if1 .left),
       (
         parts-writable _ (r .fields) l (x .0) _ p (x .2) small,
         field-most _ (r .fields) l (x .0) _ p (x .2) small (line-formed l (x .0) (x .1)),
         record {
-          width = (let k = c .before .before .before .before .before .before .before .before .before .before .before
-              .before .before .parts-of .kept .1 .1 .1 .1 .0 in omega (arith, k));
-          constraint = (let k = c .before .before .before .before .before .before .before .before .before .before
-              .before .before .before .parts-of .kept .1 .1 .1 .1 .1 .0 in omega (arith, k));
-          condition = (let k = c .before .before .before .before .before .before .before .before .before .before
-              .before .before .before .parts-of .kept .1 .1 .1 .1 .1 .1 .0 in omega (arith, k));
+          width = (let k = c2 .parts-of .kept .1 .1 .1 .1 .1 .1 .0 in omega (arith, k));
+          constraint = (let k = c2 .parts-of .kept .1 .1 .1 .1 .1 .1 .1 .0 in omega (arith, k));
+          condition = (let k = c2 .parts-of .kept .1 .1 .1 .1 .1 .1 .1 .1 .0 in omega (arith, k));
         },
       ),
     )
@@ -159,58 +144,45 @@ same-length c = search needs
 
 returns-3 : tie.Need-returns-3
 returns-3 c =
-    let r = c .before .before .before .before .before .before .before .before .before .before .before .before .before
-    .before .before .before .before .before .before .before .before .before .before .before .before .before .before
-    .before .args .r in
-    let l = now (c .before .before .before .before .before .before .before .before .before .before .before .before
-    .before .before .before .before .before .before .before .before .before .before .before .before .before .before
-    .before .before .args .line) in
-    let p = c .before .before .before .before .before .before .before .before .before .before .before .before .before
-    .before .before .before .parts-of .result in
-    let o = c .before .before .before .before .before .before .before .before .before .before .before .before .before
-    .before .before .before .parts-of .ensures in
-    let x = form-some _ (r .fields) l (readForm l) _ p (o .1) (c .before .before .before .before .before .before
-    .before .before .before .before .before .if2 .left) in
-    let small = sym (c .before .before .before .before .before .before .before .before .before .before .sizes-kept
-    .ensures _ (r .fields) l (x .0) _ (x .2)) ∙ c .before .before .before .before .before .before .before .before
-    .before .if3 .taken in
+    let c1 = c .before .before .before .before .before .before .before .before .before .before in
+    let c2 = c1 .before .before .before .before .before .before .before in
+    let c3 = c2 .before .before .before .before .before .before .before .before .before in
+    let r = c3 .before .before .before .before .before .args .r in
+    let l = now (c3 .before .before .before .before .before .args .line) in
+    let p = c2 .parts-of .result in
+    let o = c2 .parts-of .ensures in
+    let x = form-some _ (r .fields) l (readForm l) _ p (o .1) (c1 .before .before .if2 .left) in
+    let small = sym (c1 .before .sizes-kept .ensures _ (r .fields) l (x .0) _ (x .2)) ∙ c1 .if3 .taken in
     let q = c .before .before .take-form .ensures in (
       q .0,
       (
         q .1 .0,
         (λ f k h. q .1 .1 f (x .0) _ k
-            (sym (full-same f r (h .counts)) ∙ sym (c .before .before .before .before .before .before .before .before
-            .before .before .before .before .before .before .before .before .before .before .before .before
-            .before .before .before .before .is-full .ensures) ∙ c .before .before .before .before .before
-            .before .before .before .before .before .before .before .before .before .before .before .before
-            .before .before .before .before .before .before .if1 .left)
+            (sym (full-same f r (h .counts)) ∙ sym (c3 .before .is-full .ensures) ∙ c3 .if1 .left)
             (holds-kept f r h (o .0)) (x .1) small (x .2)),
       ),
     )
 
 refuse-line-requires-2 : tie.Need-refuse-line-requires-2
-refuse-line-requires-2 c κs = (
-  c .before .before .before .before .before .before .before .before .before .before .before .before .before .before
-      .before .before .before .before .before .pre .0,
-  c .before .before .before .before .before .before .before .before .before .before .before .before .before .before
-      .before .before .before .before .before .pre .1,
-  full-room (c .before .before .before .before .before .before .before .before .before .before .before .before
-      .before .before .before .before .before .before .before .args .r) (sym (c .before .before .before .before
-      .before .before .before .before .before .before .before .before .before .before .before .is-full .ensures) ∙ c
-      .before .before .before .before .before .before .before .before .before .before .before .before .before .before
-      .if1 .left),
-  omega arith,
-  omega arith,
-)
+refuse-line-requires-2 c κs =
+    let c1 = c .before .before .before .before .before .before .before .before .before .before .before .before
+    .before .before .before .before in (
+      c1 .before .before .before .before .before .pre .0,
+      c1 .before .before .before .before .before .pre .1,
+      full-room (c1 .before .before .before .before .before .args .r) (sym (c1 .before .is-full .ensures) ∙ c1 .if1
+          .left),
+      omega arith,
+      omega arith,
+    )
 
 returns-4 : tie.Need-returns-4
 returns-4 c =
-    let r = c .before .before .before .before .before .before .before .before .before .before .before .before .before
-    .before .before .before .before .before .before .before .args .r in
-    let l = now (c .before .before .before .before .before .before .before .before .before .before .before .before
-    .before .before .before .before .before .before .before .before .args .line) in
-    let p = c .before .before .before .before .before .before .before .before .parts-of .result in
-    let o = c .before .before .before .before .before .before .before .before .parts-of .ensures in
+    let c1 = c .before .before .before .before .before .before .before .before in
+    let c2 = c1 .before .before .before .before .before .before .before .before .before in
+    let r = c2 .before .before .before .before .before .args .r in
+    let l = now (c2 .before .before .before .before .before .args .line) in
+    let p = c1 .parts-of .result in
+    let o = c1 .parts-of .ensures in
     let x = form-some _ (r .fields) l (readForm l) _ p (o .1) (c .before .before .before .if2 .left) in
     let q = c .refuse-line2 .ensures in
     let large : all isSmall (trees (x .0)) ≡ false =
@@ -219,10 +191,7 @@ returns-4 c =
       (
         refl,
         (λ f k h. rw (q .1 .0) (holds-closed f r (holds-kept f r h (o .0)) l (x .0) (c .refuse-line2 .result .note)
-            (sym (full-same f r (h .counts)) ∙ sym (c .before .before .before .before .before .before .before .before
-            .before .before .before .before .before .before .before .before .is-full .ensures) ∙ c .before
-            .before .before .before .before .before .before .before .before .before .before .before .before
-            .before .before .if1 .left) (x .1)
+            (sym (full-same f r (h .counts)) ∙ sym (c2 .before .is-full .ensures) ∙ c2 .if1 .left) (x .1)
             (q .1 .1 ∙ large-note f r (x .0) (h .counts) large)
             (ap isOpen (q .1 .1) ∙ shut-six (noteOf (r .note)) (r .lines + 1)))),
       ),
@@ -233,7 +202,7 @@ take-field-spec =
     tie.close
     (tie.spec
     is-full-requires
-    onward-requires
+    too-many-requires
     returns
     class-table-requires
     slice-aggregate-parts-of

@@ -1,5 +1,5 @@
-use mathlib.Core.Path.{_≡_, refl, ap, sym, _∙_}
-use mathlib.Core.Bool.{true, false}
+use mathlib.Core.Path.{_≡_, refl, sym, _∙_}
+use mathlib.Core.Bool.{false}
 use Prim.Native.Nat.{_<_}
 use native.Mathlib.Omega.{arith}
 use denote.Ref.{now}
@@ -7,7 +7,6 @@ use Rattle.rules.specs.Limits.{fieldsMost}
 use Rattle.text_laws.specs.Judging.{isOpen}
 use Rattle.texts.specs.HeldParts.{bytesOf}
 use Rattle.texts.specs.Noted.{noteOf}
-use Rattle.texts.specs.States.{isTold}
 use Rattle.texts.proofs.FormRules.{form-short, all-formed}
 use Rattle.texts.proofs.FieldSteps.{holds-open, holds-closed, holds-named}
 use Rattle.texts.proofs.LineForms.{named-with, told-after, room-kept, room-refused}
@@ -19,7 +18,7 @@ use Rattle.texts.proofs.kept_fields.take_form.Tie as tie
 use Rattle.texts.proofs.kept_fields.take_form.Reads as reads
 use Rattle.texts.proofs.kept_fields.take_form.Lts as lts
 use Rattle.texts.proofs.form_rules.later_rule.Reads as later-rule-reads
-use Rattle.texts.proofs.kept_fields.hold_names.Reads as hold-names-reads
+use Rattle.texts.proofs.kept_fields.hold_label.Reads as hold-label-reads
 use Rattle.texts.proofs.kept_fields.is_open.Reads as is-open-reads
 use Rattle.texts.proofs.kept_fields.next_cell.Reads as next-cell-reads
 use Rattle.texts.proofs.line_rules.rests.Reads as rests-reads
@@ -27,18 +26,19 @@ use Rattle.texts.proofs.notes.lower.Reads as lower-reads
 use Rattle.texts.proofs.part_records.put_field.Reads as put-field-reads
 use Rattle.texts.proofs.states.onward.Reads as onward-reads
 
-hold-names-requires : tie.Need-hold-names-requires
-hold-names-requires c κs =
-    let a = c .before .before .before .before .before .before .before .before .args in
-    let q = c .before .before .before .before .before .before .before .before .pre in
+hold-label-requires : tie.Need-hold-label-requires
+hold-label-requires c κs =
+    let a = c .before .before .before .before .before .before .before .args in
+    let q = c .before .before .before .before .before .before .before .pre in
     let w = q .2 .0 in
     let few : a .r .fields < fieldsMost = omega (arith, q .0 .0 .fields, q .1) in
-    ((w .label, w .short), few)
+    (w .label, few)
 
 later-rule-requires : tie.Need-later-rule-requires
 later-rule-requires c κs =
-    let a = c .before .before .before .before .before .before .before .before .before .before .before .args in
-    let q = c .before .before .before .before .before .before .before .before .before .before .before .pre in
+    let c1 = c .before .before .before .before .before .before .before .before .before in
+    let a = c1 .args in
+    let q = c1 .pre in
     let w = q .2 .0 in
     let few : a .r .fields < fieldsMost = omega (arith, q .0 .0 .fields, q .1) in
     (q .0 .0, q .0 .1, few, (w .label, w .short), q .0 .3)
@@ -51,17 +51,17 @@ is-open-requires c κs = search needs
 
 put-field-requires : tie.Need-put-field-requires
 put-field-requires c κs =
-    let a = c .before .before .before .before .before .before .before .before .before .before .before .before .before
-    .before .before .before .args in
-    let q = c .before .before .before .before .before .before .before .before .before .before .before .before .before
-    .before .before .before .pre in
+    let c1 = c .before .before .before .before .before .before .before .before .before .before .before .before
+    .before .before in
+    let a = c1 .args in
+    let q = c1 .pre in
     let few : a .r .fields < fieldsMost = omega (arith, q .0 .0 .fields, q .1) in
     (q .2 .0, q .0 .2, omega (arith, q .2 .1, q .0 .0 .end, few, q .0 .4), q .2 .2)
 
 next-cell-requires : tie.Need-next-cell-requires
 next-cell-requires c κs =
     let q = c .before .before .before .before .before .before .before .before .before .before .before .before .before
-    .before .before .before .before .before .before .pre in
+    .before .before .before .before .pre in
     (q .0 .0, q .0 .3)
 
 rests-requires : tie.Need-rests-requires
@@ -70,7 +70,7 @@ rests-requires c κs = search needs
 add-r : tie.Need-add-r
 add-r c =
     let p = c .before .before .before .before .before .before .before .before .before .before .before .before .before
-    .before .before .before .before .before .before .before .before .before .pre in
+    .before .before .before .before .before .before .before .pre in
     let q = p .1 in
     let k = p .0 .0 .fields in
     search (needs, q, k)
@@ -78,36 +78,37 @@ add-r c =
 add-r-2 : tie.Need-add-r-2
 add-r-2 c =
     let p = c .before .before .before .before .before .before .before .before .before .before .before .before .before
-    .before .before .before .before .before .before .before .before .before .before .pre in
+    .before .before .before .before .before .before .before .before .pre in
     let q = p .1 in
     let k = p .0 .0 .fields in
     search (needs, q, k)
 
 onward-requires : tie.Need-onward-requires
-onward-requires c κs = c .before .before .before .before .before .before .before .before .before .before .before
-    .before .before .before .before .before .before .before .before .before .before .before .before .pre .0 .1
+onward-requires c κs =
+    c .before .before .before .before .before .before .before .before .before .before .before .before .before .before
+    .before .before .before .before .before .before .before .pre .0 .1
 
 same-length : tie.Need-same-length
 same-length c = search needs
 
 returns : tie.Need-returns
 returns c =
-    let c7 = c .before .before .before .before .before .before .before in
-    let c11 = c7 .before .before .before .before in
-    let c15 = c11 .before .before .before .before in
-    let c24 = c15 .before .before .before .before .before .before .before .before .before in
-    let a = c24 .args in
-    let q = c24 .pre in
-    let rule = c11 .before .later-rule in
-    let lowest = c11 .lower in
-    let put = c7 .put-field in
+    let c1 = c .before .before .before .before .before .before .before in
+    let c2 = c1 .before .before .before .before .before .before .before in
+    let c3 = c2 .before .before .before .before .before .before .before .before in
+    let a = c3 .args in
+    let q = c3 .pre in
+    let rule = c1 .before .before .before .before .before .later-rule in
+    let lowest = c1 .before .before .before .before .lower in
+    let put = c1 .put-field in
     let cell = c .before .before .before .before .next-cell in
     let r = a .r in
     let l = now (a .line) in
     let v = bytesOf (now (a .wide)) (now (a .first)) (now (a .second)) in
     let few : r .fields < fieldsMost = omega (arith, q .0 .0 .fields, q .1) in
-    let told = told-after (noteOf (r .note)) _ (lowest .result) (lowest .ensures) (q .0 .0 .told) (rule .ensures .0) in
-    let kept = sym (c7 .before .before .before .is-open .ensures) ∙ c7 .before .before .if1 .taken in
+    let told = told-after (noteOf (r .note)) _ (lowest .result) (lowest .ensures) (q .0 .0 .told) (rule .ensures .0)
+    in
+    let kept = sym (c1 .before .before .before .is-open .ensures) ∙ c1 .before .before .if1 .taken in
     rw (c .onward .ensures) (
       (
         room-kept r (cell .result) (put .result) (c .before .before .before .rests .result) (lowest .result) (q .0 .0)
@@ -116,14 +117,13 @@ returns c =
       ),
       (
         put .ensures .1 .kept,
-        (λ f x names k full h isForm small is.
-            let nw = named-with l x (a .p) is f r (h .counts) few refl (h .named) (c15 .hold-names .ensures .0) (c15
-            .hold-names .ensures .1) in
+        (λ f x marks k full h isForm small is.
+            let nw = named-with l x (a .p) is f r (h .counts) few refl (h .named) (c2 .hold-label .ensures) in
             let low = lowest .ensures ∙ form-note f r x (h .counts) small
-            (rule .ensures .1 f x names v k (h .counts) (h .slots) nw isForm is) in
+            (rule .ensures .1 f x marks v k (h .counts) (h .slots) nw isForm is) in
             holds-open f r h x (record {
               cell = cell .ensures .1 f (h .counts) (h .slots);
-              writes = rw (record-bytes names (r .fields) l x v (a .p) is (q .2 .0) (q .2 .2)) at (put .ensures .1);
+              writes = rw (record-bytes _ (r .fields) l x v (a .p) is (q .2 .0) (q .2 .2)) at (put .ensures .1);
               rested = c .before .before .before .rests .ensures ∙ rests-here f r x (h .counts) (a .p) is;
               named = nw;
             }) k (form-short f k l x isForm) (all-formed f k l x isForm) l (lowest .result) full isForm low kept),
@@ -133,22 +133,22 @@ returns c =
 add-r-3 : tie.Need-add-r-3
 add-r-3 c =
     let p = c .before .before .before .before .before .before .before .before .before .before .before .before .before
-    .before .before .before .pre in
+    .before .pre in
     let q = p .1 in
     let k = p .0 .0 .fields in
     search (needs, q, k)
 
 onward-requires-2 : tie.Need-onward-requires-2
 onward-requires-2 c κs = c .before .before .before .before .before .before .before .before .before .before .before
-    .before .before .before .before .before .pre .0 .1
+    .before .before .before .pre .0 .1
 
 returns-2 : tie.Need-returns-2
 returns-2 c =
-    let a = c .before .before .before .before .before .before .before .before .before .before .before .before .before
-    .before .before .before .before .args in
-    let q = c .before .before .before .before .before .before .before .before .before .before .before .before .before
-    .before .before .before .before .pre in
-    let held = c .before .before .before .before .before .before .before .before .hold-names .ensures in
+    let c1 = c .before .before .before .before .before .before .before in
+    let c2 = c1 .before .before .before .before .before .before .before .before in
+    let a = c2 .args in
+    let q = c2 .pre in
+    let held = c1 .hold-label .ensures in
     let rule = c .before .before .before .before .before .later-rule in
     let lowest = c .before .before .before .before .lower in
     let r = a .r in
@@ -163,10 +163,10 @@ returns-2 c =
       (room-refused r (lowest .result) room (q .1) told, omega arith),
       (
         refl,
-        (λ f x names k full h isForm small is.
-            let nw = named-with l x (a .p) is f r (h .counts) few refl (h .named) (held .0) (held .1) in
+        (λ f x marks k full h isForm small is.
+            let nw = named-with l x (a .p) is f r (h .counts) few refl (h .named) held in
             let low = lowest .ensures ∙ form-note f r x (h .counts) small
-            (rule .ensures .1 f x names v k (h .counts) (h .slots) nw isForm is) in
+            (rule .ensures .1 f x marks v k (h .counts) (h .slots) nw isForm is) in
             holds-closed f r (holds-named f r x h nw) l x (lowest .result) full isForm low shut),
       ),
     )
@@ -175,7 +175,7 @@ pub take-form-spec : {M : Type 1} → statement M
 take-form-spec =
     tie.close
     (tie.spec
-    hold-names-requires
+    hold-label-requires
     later-rule-requires
     lower-requires
     is-open-requires

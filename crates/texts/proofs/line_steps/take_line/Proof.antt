@@ -35,8 +35,7 @@ enum-told c = search needs
 take-opening-requires : tie.Need-take-opening-requires
 take-opening-requires c κs = (
   c .before .before .before .before .before .before .pre .0,
-  c .before .before .before .before .before .before
-      .pre .1,
+  c .before .before .before .before .before .before .pre .1,
   omega (arith, c .before .before .before .before .before .before .pre .4),
 )
 
@@ -77,8 +76,7 @@ enum-told-6 c = search needs
 take-row-requires : tie.Need-take-row-requires
 take-row-requires c κs = (
   c .before .before .before .before .before .before .pre .0,
-  c .before .before .before .before .before .before
-      .pre .1,
+  c .before .before .before .before .before .before .pre .1,
   c .before .before .before .before .before .before .pre .3,
 )
 
@@ -97,8 +95,7 @@ enum-told-8 c = search needs
 take-row-or-blank-requires : tie.Need-take-row-or-blank-requires
 take-row-or-blank-requires c κs = (
   c .before .before .before .before .before .before .pre .0,
-  c .before .before .before .before .before .before
-      .pre .1,
+  c .before .before .before .before .before .before .pre .1,
   c .before .before .before .before .before .before .pre .3,
 )
 
@@ -124,13 +121,15 @@ enum-told-11 : tie.Need-enum-told-11
 enum-told-11 c = search needs
 
 take-field-requires : tie.Need-take-field-requires
-take-field-requires c κs = c .before .before .before .before .before .before .before .before .before .before .pre
+take-field-requires c κs = c .before .before .before .before .before .before .before .before .before .before .before
+    .pre
 
 enum-told-12 : tie.Need-enum-told-12
 enum-told-12 c = search needs
 
 take-field-requires-2 : tie.Need-take-field-requires-2
-take-field-requires-2 c κs = c .before .before .before .before .before .before .before .before .before .before .pre
+take-field-requires-2 c κs = c .before .before .before .before .before .before .before .before .before .before
+    .before .pre
 
 enum-told-13 : tie.Need-enum-told-13
 enum-told-13 c = search needs
@@ -141,8 +140,9 @@ same-length c = search needs
 returns : tie.Need-returns
 unfolding fold.linedAt
 returns c =
-    let r = c .before .before .before .before .before .before .before .before .before .args .r in
-    let l = now (c .before .before .before .before .before .before .before .before .before .args .line) in
+    let c1 = c .before .before .before .before .before .before .before .before .before in
+    let r = c1 .args .r in
+    let l = now (c1 .args .line) in
     let told : (f : Found) → stageOf (r .stage) ≡ f .stage → f .stage ≡ fold.opening =
     λ f e. sym e ∙ ap stageOf (c .before .before .before .before .enum-told .given .1) in
     let q = c .before .before .take-opening .ensures in (
@@ -152,7 +152,7 @@ returns c =
         search needs,
         (λ f k h.
             let e = told f (h .counts .stage) in
-            line-at f l fold.opening e (q .1 _ f _ _ _ k (ap isHead e) h)),
+            line-at f l fold.opening e (q .1 _ f _ _ k (ap isHead e) h)),
       ),
     )
 
@@ -187,7 +187,7 @@ returns-3 c =
         refl,
         (λ f k h.
             let e = told f (h .counts .stage) in
-            line-at f l fold.tensRuler e (q .1 _ _ f _ _ _ k (ap isHead e) h)),
+            line-at f l fold.tensRuler e (q .1 _ _ f _ _ k (ap isHead e) h)),
       ),
     )
 
@@ -235,8 +235,9 @@ same-length-2 c = search needs
 returns-6 : tie.Need-returns-6
 unfolding fold.linedAt
 returns-6 c =
-    let r = c .before .before .before .before .before .before .before .before .before .args .r in
-    let l = now (c .before .before .before .before .before .before .before .before .before .args .line) in
+    let c1 = c .before .before .before .before .before .before .before .before .before in
+    let r = c1 .args .r in
+    let l = now (c1 .args .line) in
     let told : (f : Found) → stageOf (r .stage) ≡ f .stage → f .stage ≡ fold.firstRow =
     λ f e. sym e ∙ ap stageOf (c .before .before .before .before .enum-told6 .given .1) in
     let q = c .before .before .take-row .ensures in (
@@ -246,7 +247,7 @@ returns-6 c =
         refl,
         (λ f k h.
             let e = told f (h .counts .stage) in
-            line-at f l fold.firstRow e (q .1 _ f _ _ _ k (ap isHead e) h)),
+            line-at f l fold.firstRow e (q .1 _ f _ _ k (ap isHead e) h)),
       ),
     )
 
@@ -275,8 +276,9 @@ same-length-3 c = search needs
 returns-8 : tie.Need-returns-8
 unfolding fold.linedAt
 returns-8 c =
-    let r = c .before .before .before .before .before .before .before .before .before .args .r in
-    let l = now (c .before .before .before .before .before .before .before .before .before .args .line) in
+    let c1 = c .before .before .before .before .before .before .before .before .before in
+    let r = c1 .args .r in
+    let l = now (c1 .args .line) in
     let told : (f : Found) → stageOf (r .stage) ≡ f .stage → f .stage ≡ fold.rowOrBlank =
     λ f e. sym e ∙ ap stageOf (c .before .before .before .before .enum-told8 .given .1) in
     let q = c .before .before .take-row-or-blank .ensures in (
@@ -286,20 +288,21 @@ returns-8 c =
         refl,
         (λ f k h.
             let e = told f (h .counts .stage) in
-            line-at f l fold.rowOrBlank e (q .1 _ f _ _ _ k (ap isHead e) h)),
+            line-at f l fold.rowOrBlank e (q .1 _ f _ _ k (ap isHead e) h)),
       ),
     )
 
 returns-9 : tie.Need-returns-9
 unfolding fold.linedAt
 returns-9 c =
-    let r = c .before .before .before .before .before .before .before .before .args .r in
-    let l = now (c .before .before .before .before .before .before .before .before .args .line) in
+    let c1 = c .before .before .before .before .before .before .before .before in
+    let r = c1 .args .r in
+    let l = now (c1 .args .line) in
     let told : (f : Found) → stageOf (r .stage) ≡ f .stage → f .stage ≡ fold.whereLine =
     λ f e. sym e ∙ ap stageOf (c .before .before .before .enum-told9 .given .1) in
     rw (c .expect5 .ensures) (
       taken-expect (c .before .same-words .result) r at.LastBlank
-          (c .before .before .before .before .before .before .before .before .pre .0),
+          (c1 .pre .0),
       (
         refl,
         refl,
@@ -334,13 +337,12 @@ same-length-5 c = search needs
 returns-11 : tie.Need-returns-11
 unfolding fold.linedAt
 returns-11 c =
-    let r = c .before .before .before .before .before .before .before .before .before .before .before .before .before
-    .args .r in
-    let l = now (c .before .before .before .before .before .before .before .before .before .before .before .before
-    .before .args .line) in
+    let c1 = c .before .before .before .before .before .before .before .before .before in
+    let r = c1 .before .before .before .before .before .args .r in
+    let l = now (c1 .before .before .before .before .before .args .line) in
     let told : (f : Found) → stageOf (r .stage) ≡ f .stage → f .stage ≡ fold.firstField =
     λ f e. sym e ∙ ap stageOf
-    (c .before .before .before .before .before .before .before .before .enum-told11 .given .1) in
+    (c1 .enum-told11 .given .1) in
     let q = c .before .before .take-field .ensures in (
       q .0,
       (
@@ -361,13 +363,12 @@ same-length-7 c = search needs
 returns-12 : tie.Need-returns-12
 unfolding fold.linedAt
 returns-12 c =
-    let r = c .before .before .before .before .before .before .before .before .before .before .before .before .before
-    .args .r in
-    let l = now (c .before .before .before .before .before .before .before .before .before .before .before .before
-    .before .args .line) in
+    let c1 = c .before .before .before .before .before .before .before .before .before in
+    let r = c1 .before .before .before .before .before .args .r in
+    let l = now (c1 .before .before .before .before .before .args .line) in
     let told : (f : Found) → stageOf (r .stage) ≡ f .stage → f .stage ≡ fold.fieldLine =
     λ f e. sym e ∙ ap stageOf
-    (c .before .before .before .before .before .before .before .before .enum-told12 .given .1) in
+    (c1 .enum-told12 .given .1) in
     let q = c .before .before .take-field2 .ensures in (
       q .0,
       (

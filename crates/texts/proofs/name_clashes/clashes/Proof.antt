@@ -1,9 +1,7 @@
 use mathlib.Core.Bool.{true, false}
-use mathlib.Core.List.{[]}
 use mathlib.Core.Path.{sym, _∙_}
 use Prim.Native.Nat.{_-_}
 use native.Mathlib.Omega.{arith}
-use lib.ListN.{getD}
 use Rattle.texts.proofs.HeldClashes.{
   Left,
   clash-start,
@@ -11,44 +9,56 @@ use Rattle.texts.proofs.HeldClashes.{
   clash-none,
   clash-here,
   label-here,
-  short-here,
+  meet-here,
 }
 use borrow.Author.Needs.{needs}
 use Rattle.texts.proofs.name_clashes.clashes.Statement.{statement}
 use Rattle.texts.proofs.name_clashes.clashes.Tie as tie
 use Rattle.texts.proofs.name_clashes.clashes.Reads as reads
 use Rattle.texts.proofs.name_clashes.clashes.Lts as lts
-use Rattle.names.proofs.repeats.same_name.Reads as same-name-reads
+use Rattle.names.proofs.repeats.names_meet.Reads as names-meet-reads
 use Rattle.texts.proofs.name_clashes.same_label.Reads as same-label-reads
 
 abbrev Inv-earlier : tie.InvT-earlier
-Inv-earlier labels shorts n i₀ i = Left labels shorts (getD labels n []) (getD shorts n []) n i
+Inv-earlier labels shorts words n i₀ i = Left labels shorts words n i
 
 abbrev μ-earlier : tie.MeasureT-earlier
-μ-earlier labels shorts n i₀ i = n - i
+μ-earlier labels shorts words n i₀ i = n - i
 
 earlier-holds : tie.Need-earlier-holds Inv-earlier μ-earlier
 earlier-holds c =
-    let a = c .args in let label = getD (a .labels .now) (a .n) [] in let short = getD (a .shorts .now) (a .n) [] in
-    clash-start (a .labels .now) (a .shorts .now) label short (a .n)
+    let a = c .args in
+    clash-start (a .labels .now) (a .shorts .now) (a .words .now) (a .n)
 
 same-label-requires : tie.Need-same-label-requires Inv-earlier μ-earlier
 same-label-requires c κs = search needs
 
-mul-same-name : tie.Need-mul-same-name Inv-earlier μ-earlier
-mul-same-name c = search needs
+mul-names-meet : tie.Need-mul-names-meet Inv-earlier μ-earlier
+mul-names-meet c = search needs
 
-element-copy-out-same-name : tie.Need-element-copy-out-same-name Inv-earlier μ-earlier
-element-copy-out-same-name c = search needs
+element-copy-out-names-meet : tie.Need-element-copy-out-names-meet Inv-earlier μ-earlier
+element-copy-out-names-meet c = search needs
 
-mul-same-name-2 : tie.Need-mul-same-name-2 Inv-earlier μ-earlier
-mul-same-name-2 c = search needs
+mul-names-meet-2 : tie.Need-mul-names-meet-2 Inv-earlier μ-earlier
+mul-names-meet-2 c = search needs
 
-element-copy-out-same-name-2 : tie.Need-element-copy-out-same-name-2 Inv-earlier μ-earlier
-element-copy-out-same-name-2 c = search needs
+element-copy-out-names-meet-2 : tie.Need-element-copy-out-names-meet-2 Inv-earlier μ-earlier
+element-copy-out-names-meet-2 c = search needs
 
-same-name-requires : tie.Need-same-name-requires Inv-earlier μ-earlier
-same-name-requires c κs = search needs
+mul-names-meet-3 : tie.Need-mul-names-meet-3 Inv-earlier μ-earlier
+mul-names-meet-3 c = search needs
+
+element-copy-out-names-meet-3 : tie.Need-element-copy-out-names-meet-3 Inv-earlier μ-earlier
+element-copy-out-names-meet-3 c = search needs
+
+mul-names-meet-4 : tie.Need-mul-names-meet-4 Inv-earlier μ-earlier
+mul-names-meet-4 c = search needs
+
+element-copy-out-names-meet-4 : tie.Need-element-copy-out-names-meet-4 Inv-earlier μ-earlier
+element-copy-out-names-meet-4 c = search needs
+
+names-meet-requires : tie.Need-names-meet-requires Inv-earlier μ-earlier
+names-meet-requires c κs = search needs
 
 add-i : tie.Need-add-i Inv-earlier μ-earlier
 add-i c = search needs
@@ -58,45 +68,37 @@ earlier-less c = search needs
 
 earlier-again : tie.Need-earlier-again Inv-earlier μ-earlier
 earlier-again c =
-    let a = c .before .before .before .before .before .before .before .before .args in
-    let e = c .before .before .before .before .before .before .before .earlier in
-    let label = getD (a .labels .now) (a .n) [] in
-    let short = getD (a .shorts .now) (a .n) [] in
-    clash-next (a .labels .now) (a .shorts .now) label short (a .n) (e .i) (omega arith) (e .inv)
-    (short-here (a .labels .now) (a .shorts .now) label short (a .n) (e .i)
-    (sym (c .before .before .before .before .before .same-label .ensures)
-    ∙ c .before .before .before .before .if2 .left) false
-    (sym (c .before .same-name .ensures) ∙ c .if3 .left))
+    let c1 = c .before .before .before .before .before .before in
+    let a = c1 .before .before .before .before .args in
+    let e = c1 .before .before .before .earlier in
+    clash-next (a .labels .now) (a .shorts .now) (a .words .now) (a .n) (e .i) (omega arith) (e .inv)
+    (meet-here (a .labels .now) (a .shorts .now) (a .words .now) (a .n) (e .i)
+    (sym (c1 .before .same-label .ensures) ∙ c1 .if2 .left) false (sym (c .before .names-meet .ensures) ∙ c .if3
+    .left))
 
 returns : tie.Need-returns Inv-earlier μ-earlier
 returns c =
     let a = c .before .before .args in
     let e = c .before .earlier in
-    let label = getD (a .labels .now) (a .n) [] in
-    let short = getD (a .shorts .now) (a .n) [] in
-    clash-none (a .labels .now) (a .shorts .now) label short (a .n) (e .i) (omega arith) (e .inv)
+    clash-none (a .labels .now) (a .shorts .now) (a .words .now) (a .n) (e .i) (omega arith) (e .inv)
 
 returns-2 : tie.Need-returns-2 Inv-earlier μ-earlier
 returns-2 c =
     let a = c .before .before .before .before .args in
     let e = c .before .before .before .earlier in
-    let label = getD (a .labels .now) (a .n) [] in
-    let short = getD (a .shorts .now) (a .n) [] in
-    clash-here (a .labels .now) (a .shorts .now) label short (a .n) (e .i) (omega arith) (e .inv)
-    (label-here (a .labels .now) (a .shorts .now) label short (a .n) (e .i)
-    (sym (c .before .same-label .ensures) ∙ c .if2 .taken))
+    clash-here (a .labels .now) (a .shorts .now) (a .words .now) (a .n) (e .i) (omega arith) (e .inv)
+    (label-here (a .labels .now) (a .shorts .now) (a .words .now) (a .n) (e .i) (sym (c .before .same-label .ensures)
+    ∙ c .if2 .taken))
 
 returns-3 : tie.Need-returns-3 Inv-earlier μ-earlier
 returns-3 c =
-    let a = c .before .before .before .before .before .before .before .before .args in
-    let e = c .before .before .before .before .before .before .before .earlier in
-    let label = getD (a .labels .now) (a .n) [] in
-    let short = getD (a .shorts .now) (a .n) [] in
-    clash-here (a .labels .now) (a .shorts .now) label short (a .n) (e .i) (omega arith) (e .inv)
-    (short-here (a .labels .now) (a .shorts .now) label short (a .n) (e .i)
-    (sym (c .before .before .before .before .before .same-label .ensures)
-    ∙ c .before .before .before .before .if2 .left) true
-    (sym (c .before .same-name .ensures) ∙ c .if3 .taken))
+    let c1 = c .before .before .before .before .before .before in
+    let a = c1 .before .before .before .before .args in
+    let e = c1 .before .before .before .earlier in
+    clash-here (a .labels .now) (a .shorts .now) (a .words .now) (a .n) (e .i) (omega arith) (e .inv)
+    (meet-here (a .labels .now) (a .shorts .now) (a .words .now) (a .n) (e .i)
+    (sym (c1 .before .same-label .ensures) ∙ c1 .if2 .left) true (sym (c .before .names-meet .ensures) ∙ c .if3
+    .taken))
 
 pub clashes-spec : {M : Type 1} → statement M
 clashes-spec =
@@ -106,11 +108,15 @@ clashes-spec =
     μ-earlier
     earlier-holds
     same-label-requires
-    mul-same-name
-    element-copy-out-same-name
-    mul-same-name-2
-    element-copy-out-same-name-2
-    same-name-requires
+    mul-names-meet
+    element-copy-out-names-meet
+    mul-names-meet-2
+    element-copy-out-names-meet-2
+    mul-names-meet-3
+    element-copy-out-names-meet-3
+    mul-names-meet-4
+    element-copy-out-names-meet-4
+    names-meet-requires
     add-i
     earlier-less
     earlier-again

@@ -13,10 +13,10 @@ slice-aggregate-read-lines-2 c = search needs
 
 read-lines-requires : tie.Need-read-lines-requires
 read-lines-requires c κs = (
-  c .before .before .before .before .before .before .before .before .pre,
+  c .before .before .before .before .before .before .before .before .before .pre,
   search needs,
   search needs,
-  (search needs, search needs, search needs),
+  (search needs, (search needs, search needs, search needs)),
 )
 
 same-length : tie.Need-same-length

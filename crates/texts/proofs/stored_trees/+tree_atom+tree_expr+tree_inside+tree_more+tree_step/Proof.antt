@@ -3,6 +3,7 @@ use mathlib.Core.Path.{_≡_, refl, _∙_}
 use native.Mathlib.Omega.{arith}
 use lib.ListN.{length}
 use borrow.Author.Tests.{not-true, not-false}
+use Rattle.texts.specs.HeldNames.{namesOf}
 use Rattle.texts.specs.StoredTrees.{TreeBytes, held}
 use Rattle.texts.specs.StoredPlaces.{MoreStored}
 use Rattle.texts.proofs.ExprSigns.{sign-within}
@@ -42,50 +43,50 @@ use Rattle.texts.proofs.stored_trees.tree_leaf.Reads as leaf
 use Rattle.texts.proofs.stored_trees.+tree_atom+tree_expr+tree_inside+tree_more+tree_step.{statement}
 use Rattle.texts.proofs.stored_trees.+tree_atom+tree_expr+tree_inside+tree_more+tree_step.Tie.{close}
 
-abbrev μ-atom : Measures 4 atom-kinds.ps ℕ
+abbrev μ-atom : Measures 6 atom-kinds.ps ℕ
 μ-atom κs a = 5 * (length (a .1 .0 .now) - a .1 .1 .0) + 1
 
-abbrev μ-expr : Measures 4 expr-kinds.ps ℕ
+abbrev μ-expr : Measures 6 expr-kinds.ps ℕ
 μ-expr κs a = 5 * (length (a .1 .0 .now) - a .1 .1 .0) + 2
 
-abbrev μ-inside : Measures 4 inside-kinds.ps ℕ
+abbrev μ-inside : Measures 6 inside-kinds.ps ℕ
 μ-inside κs a = 5 * (length (a .1 .0 .now) - a .1 .1 .0) + 0
 
-abbrev μ-more : Measures 4 more-kinds.ps ℕ
+abbrev μ-more : Measures 6 more-kinds.ps ℕ
 μ-more κs a = 5 * (length (a .1 .0 .now) - a .1 .1 .0) + 4
 
-abbrev μ-step : Measures 4 step-kinds.ps ℕ
+abbrev μ-step : Measures 6 step-kinds.ps ℕ
 μ-step κs a = 5 * (length (a .1 .0 .now) - a .1 .1 .0) + 3
 
-abbrev atom-at : ℕ → In 4 atom-kinds.ps
-atom-at t = and 4 atom-kinds.ps (is 4 atom-kinds.ps μ-atom t) atom.Pre
+abbrev atom-at : ℕ → In 6 atom-kinds.ps
+atom-at t = and 6 atom-kinds.ps (is 6 atom-kinds.ps μ-atom t) atom.Pre
 
-abbrev atom-below : ℕ → In 4 atom-kinds.ps
-atom-below t = and 4 atom-kinds.ps (falls 4 atom-kinds.ps _<_ μ-atom t) atom.Pre
+abbrev atom-below : ℕ → In 6 atom-kinds.ps
+atom-below t = and 6 atom-kinds.ps (falls 6 atom-kinds.ps _<_ μ-atom t) atom.Pre
 
-abbrev expr-at : ℕ → In 4 expr-kinds.ps
-expr-at t = and 4 expr-kinds.ps (is 4 expr-kinds.ps μ-expr t) expr.Pre
+abbrev expr-at : ℕ → In 6 expr-kinds.ps
+expr-at t = and 6 expr-kinds.ps (is 6 expr-kinds.ps μ-expr t) expr.Pre
 
-abbrev expr-below : ℕ → In 4 expr-kinds.ps
-expr-below t = and 4 expr-kinds.ps (falls 4 expr-kinds.ps _<_ μ-expr t) expr.Pre
+abbrev expr-below : ℕ → In 6 expr-kinds.ps
+expr-below t = and 6 expr-kinds.ps (falls 6 expr-kinds.ps _<_ μ-expr t) expr.Pre
 
-abbrev inside-at : ℕ → In 4 inside-kinds.ps
-inside-at t = and 4 inside-kinds.ps (is 4 inside-kinds.ps μ-inside t) inside.Pre
+abbrev inside-at : ℕ → In 6 inside-kinds.ps
+inside-at t = and 6 inside-kinds.ps (is 6 inside-kinds.ps μ-inside t) inside.Pre
 
-abbrev inside-below : ℕ → In 4 inside-kinds.ps
-inside-below t = and 4 inside-kinds.ps (falls 4 inside-kinds.ps _<_ μ-inside t) inside.Pre
+abbrev inside-below : ℕ → In 6 inside-kinds.ps
+inside-below t = and 6 inside-kinds.ps (falls 6 inside-kinds.ps _<_ μ-inside t) inside.Pre
 
-abbrev more-at : ℕ → In 4 more-kinds.ps
-more-at t = and 4 more-kinds.ps (is 4 more-kinds.ps μ-more t) more.Pre
+abbrev more-at : ℕ → In 6 more-kinds.ps
+more-at t = and 6 more-kinds.ps (is 6 more-kinds.ps μ-more t) more.Pre
 
-abbrev more-below : ℕ → In 4 more-kinds.ps
-more-below t = and 4 more-kinds.ps (falls 4 more-kinds.ps _<_ μ-more t) more.Pre
+abbrev more-below : ℕ → In 6 more-kinds.ps
+more-below t = and 6 more-kinds.ps (falls 6 more-kinds.ps _<_ μ-more t) more.Pre
 
-abbrev step-at : ℕ → In 4 step-kinds.ps
-step-at t = and 4 step-kinds.ps (is 4 step-kinds.ps μ-step t) step.Pre
+abbrev step-at : ℕ → In 6 step-kinds.ps
+step-at t = and 6 step-kinds.ps (is 6 step-kinds.ps μ-step t) step.Pre
 
-abbrev step-below : ℕ → In 4 step-kinds.ps
-step-below t = and 4 step-kinds.ps (falls 4 step-kinds.ps _<_ μ-step t) step.Pre
+abbrev step-below : ℕ → In 6 step-kinds.ps
+step-below t = and 6 step-kinds.ps (falls 6 step-kinds.ps _<_ μ-step t) step.Pre
 
 abbrev atom-calls : ℕ → atom-lts.Claims
 atom-calls t = (none.Asked, none.Learnt, inside-below t, inside.Post, leaf.Asked, leaf.Learnt)
@@ -119,8 +120,7 @@ atom-returns : (t : ℕ) → atom-lts.Need-returns (atom-calls t) (atom-at t) at
 atom-returns t c =
     let a = c .before .before .before .before .args in (
       none-within _ _ _ _ _ (c .no-tree .ensures),
-      atom-end (a .names .now) (a .n) (a .s .now) (a .at) (a .b) _ (c
-          .before .if1 .taken) (c .no-tree .ensures),
+      atom-end _ (a .n) (a .s .now) (a .at) (a .b) _ (c .before .if1 .taken) (c .no-tree .ensures),
     )
 
 atom-tree-inside-requires : (t : ℕ) → atom-lts.Need-tree-inside-requires (atom-calls t) (atom-at t) atom.Post
@@ -133,8 +133,8 @@ atom-returns-2 t c =
     let a = c .before .before .before .before .before .before .before .before .before .args in (
       up-within (a .s .now) (a .at + 1 + 1) (a .at + 1) 0 (a .at + 1) (a .at) 0 _ (omega arith) (omega arith)
           (c .before .before .tree-inside .ensures .0),
-      atom-bang (a .names .now) (a .n) (a .s .now) (a .at) (a .b) _ (omega arith) (c .before .before .before .before
-          .if2 .taken) (c .before .before .tree-inside .ensures .1),
+      atom-bang _ (a .n) (a .s .now) (a .at) (a .b) _ (omega arith) (c .before .before .before .before .if2 .taken)
+          (c .before .before .tree-inside .ensures .1),
     )
 
 atom-tree-inside-requires-2 : (t : ℕ) → atom-lts.Need-tree-inside-requires-2 (atom-calls t) (atom-at t) atom.Post
@@ -147,8 +147,8 @@ atom-returns-3 t c =
     let c1 = c .before .before .before .before .before .before .before .before .before .before in
     let a = c1 .args in (
       c .before .before .tree-inside2 .ensures .0,
-      atom-paren (a .names .now) (a .n) (a .s .now) (a .at) (a .b) _ (omega arith) (c .before .before .before .before
-          .if3 .taken) (c .before .before .tree-inside2 .ensures .1),
+      atom-paren _ (a .n) (a .s .now) (a .at) (a .b) _ (omega arith) (c .before .before .before .before .if3 .taken)
+          (c .before .before .tree-inside2 .ensures .1),
     )
 
 atom-tree-leaf-requires : (t : ℕ) → atom-lts.Need-tree-leaf-requires (atom-calls t) (atom-at t) atom.Post
@@ -161,8 +161,8 @@ atom-returns-4 t c =
     let c1 = c .before .before .before .before .before .before .before .before .before .before in
     let a = c1 .args in (
       c .before .before .tree-leaf .ensures .0,
-      atom-word (a .names .now) (a .n) (a .s .now) (a .at) (a .b) _ (omega arith) (c .before .before .before .before
-          .before .if2 .left) (c .before .before .before .before .if3 .left) (c .before .before .tree-leaf .ensures .1),
+      atom-word _ (a .n) (a .s .now) (a .at) (a .b) _ (omega arith) (c .before .before .before .before .before .if2
+          .left) (c .before .before .before .before .if3 .left) (c .before .before .tree-leaf .ensures .1),
     )
 
 expr-tree-atom-requires : (t : ℕ) → expr-lts.Need-tree-atom-requires (expr-calls t) (expr-at t) expr.Post
@@ -173,7 +173,7 @@ expr-returns t c =
     let a = c .before .before .before .before .before .before .before .before .args in
     let p = c .before .before .before .before .tree-atom in (
       p .ensures .0,
-      expr-fail (a .names .now) (a .n) (a .s .now) (a .at) (a .k) (a .b) _ (p .ensures .1) (c .if1 .taken),
+      expr-fail _ (a .n) (a .s .now) (a .at) (a .k) (a .b) _ (p .ensures .1) (c .if1 .taken),
     )
 
 expr-tree-more-requires : (t : ℕ) → expr-lts.Need-tree-more-requires (expr-calls t) (expr-at t) expr.Post
@@ -193,8 +193,7 @@ expr-returns-2 t c =
     let w = got-within (a .s .now) (a .at + 1) (a .at) 0 r (c1 .if1 .left) (p .ensures .0) in (
       up-within (a .s .now) (r .next) (r .next) (r .len) (a .at + 1) (a .at) 0 _ (w .0) (omega arith)
           (c .before .before .tree-more .ensures .0),
-      expr-go (a .names .now) (a .n) (a .s .now) (a .at) (a .k) (a .b) _ (p .ensures .1) (c1 .if1 .left) (omega
-          arith) (w .1) _
+      expr-go _ (a .n) (a .s .now) (a .at) (a .k) (a .b) _ (p .ensures .1) (c1 .if1 .left) (omega arith) (w .1) _
           (c .before .before .tree-more .ensures .1),
     )
 
@@ -202,24 +201,23 @@ inside-returns : (t : ℕ) → inside-lts.Need-returns (inside-calls t) (inside-
 inside-returns t c =
     let a = c .before .before .before .before .args in (
       none-within _ _ _ _ _ (c .no-tree .ensures),
-      in-end (a .names .now) (a .n) (a .s .now) (a .at) (a .b) (a .neg) _
-          (c .before .if1 .taken) (c .no-tree .ensures),
+      in-end _ (a .n) (a .s .now) (a .at) (a .b) (a .neg) _ (c .before .if1 .taken) (c .no-tree .ensures),
     )
 
 inside-returns-2 : (t : ℕ) → inside-lts.Need-returns-2 (inside-calls t) (inside-at t) inside.Post
 inside-returns-2 t c =
     let a = c .before .before .before .before .before .args in (
       none-within _ _ _ _ _ (c .no-tree2 .ensures),
-      in-zero (a .names .now) (a .n) (a .s .now) (a .at) (a .b) (a .neg) _ (omega arith) (c .before .if2 .taken) (c
-          .no-tree2 .ensures),
+      in-zero _ (a .n) (a .s .now) (a .at) (a .b) (a .neg) _ (omega arith) (c .before .if2 .taken)
+          (c .no-tree2 .ensures),
     )
 
 inside-returns-3 : (t : ℕ) → inside-lts.Need-returns-3 (inside-calls t) (inside-at t) inside.Post
 inside-returns-3 t c =
     let a = c .before .before .before .before .before .before .before .args in (
       none-within _ _ _ _ _ (c .no-tree3 .ensures),
-      in-wrong (a .names .now) (a .n) (a .s .now) (a .at) (a .b) (a .neg) _ (omega arith) (c .before .if3 .taken) (c
-          .no-tree3 .ensures),
+      in-wrong _ (a .n) (a .s .now) (a .at) (a .b) (a .neg) _ (omega arith) (c .before .if3 .taken)
+          (c .no-tree3 .ensures),
     )
 
 inside-tree-expr-requires : (t : ℕ) → inside-lts.Need-tree-expr-requires (inside-calls t) (inside-at t) inside.Post
@@ -235,8 +233,8 @@ inside-returns-4 t c =
     let lt : a .at < length (a .s .now) = omega (arith, c1 .pre .1 .0, z) in
     let y = c .before .before .before .before .tree-expr in (
       none-within _ _ _ _ _ (c .if4 .taken),
-      in-fail (a .names .now) (a .n) (a .s .now) (a .at) (a .b) (a .neg) lt (c .before .before .before .before
-          .before .before .before .before .if2 .left) (c .before .before .before .before .before .before .if3 .left)
+      in-fail _ (a .n) (a .s .now) (a .at) (a .b) (a .neg) lt (c .before .before .before .before .before .before .before
+          .before .if2 .left) (c .before .before .before .before .before .before .if3 .left)
           _ (y .ensures .1) (c .if4 .taken),
     )
 
@@ -259,29 +257,29 @@ inside-returns-5 t c =
     let w = got-within (a .s .now) (a .at + 1 + 1) (a .at + 1) 0 r (c1 .if4 .left) (y .ensures .0) in (
       up-within (a .s .now) (r .next + 1) (r .next) (r .len) (a .at + 1) (a .at) 0 _ (omega arith) (omega arith)
           (c .before .before .tree-closed .ensures .0),
-      in-go (a .names .now) (a .n) (a .s .now) (a .at) (a .b) (a .neg) lt (c3 .if2 .left) (c2 .if3 .left) _ (y
-          .ensures .1) (c1 .if4 .left) _
+      in-go _ (a .n) (a .s .now) (a .at) (a .b) (a .neg) lt (c3 .if2 .left) (c2 .if3 .left) _ (y .ensures .1)
+          (c1 .if4 .left) _
           (c .before .before .tree-closed .ensures .1),
     )
 
 abbrev more-Inv-loop : more-lts.InvT-loop
-more-Inv-loop classes s at k h b names n out₀ p₀ level₀ out p level =
+more-Inv-loop classes s at k h b shorts words marks n out₀ p₀ level₀ out p level =
     (at ≤ p .next) ×
     (p .next ≤ length s) ×
     (p .len + 5 * at ≤ p₀ .len + 5 * p .next) ×
     (p .depth ≤ p .len) ×
     (length out ≡ length out₀) ×
-    ((q : TreeBytes) → MoreStored names n s (p .next) k level b (held p out) q
-    → MoreStored names n s at k h b (held p₀ out₀) q)
+    ((q : TreeBytes) → MoreStored (namesOf shorts words marks) n s (p .next) k level b (held p out) q
+    → MoreStored (namesOf shorts words marks) n s at k h b (held p₀ out₀) q)
 
 abbrev more-μ-loop : more-lts.MeasureT-loop
-more-μ-loop classes s at k h b names n out₀ p₀ level₀ out p level = length s - p .next
+more-μ-loop classes s at k h b shorts words marks n out₀ p₀ level₀ out p level = length s - p .next
 
 more-loop-holds : (t : ℕ) → more-lts.Need-loop-holds (more-calls t) (more-at t) more.Post more-Inv-loop more-μ-loop
 more-loop-holds t c =
     let p = c .before .before .pre .1 in
     let a = c .before .before .args in
-    let m = more-next (a .names .now) (a .n) (a .s .now) (a .at) (a .k) (a .h) (a .b) _ _ (p .3) in
+    let m = more-next _ (a .n) (a .s .now) (a .at) (a .k) (a .h) (a .b) _ _ (p .3) in
     (omega (arith, p .3), omega (arith, p .0, p .3), omega (arith, p .3), p .5, refl, m)
 
 more-tree-step-requires : (t : ℕ) → more-lts.Need-tree-step-requires (more-calls t) (more-at t) more.Post
@@ -319,7 +317,7 @@ more-loop-again t c =
       g .1,
       omega (arith, l .inv .2, g .2),
       g .3,
-      q .kept .1 .1 .1 .1 .1 .1 .1 .1 .1 .0 ∙ l .inv .4,
+      q .kept .1 .1 .1 .1 .1 .1 .1 .1 .1 .1 .1 .0 ∙ l .inv .4,
       λ r w. l .inv .5 r (q .ensures .1 .goes e r w),
     )
 
@@ -333,10 +331,10 @@ step-returns t c =
     let a = c2 .args in
     let v = c1 .g .given .0 in
     let p = c2 .pre .1 in
-    step-stop (a .names .now) (a .n) (a .s .now) (a .at) (a .k) (a .h) (a .b) (a .left) (a .out .now) _
-    (c .ending2 .ensures) (p .0) (p .3) (p .5)
-    (more-stop (a .names .now) (a .n) (a .s .now) (a .at) (a .k) (a .h) (a .b) _ _ (c1 .before .before
-    .operator-at .ensures .1) (v .0) (v .1 .0) (c1 .g .given .1) (c .before .before .operator .result)
+    step-stop _ (a .n) (a .s .now) (a .at) (a .k) (a .h) (a .b) (a .left) (a .out .now) _ (c .ending2 .ensures) (p .0)
+    (p .3) (p .5)
+    (more-stop _ (a .n) (a .s .now) (a .at) (a .k) (a .h) (a .b) _ _ (c1 .before .before .operator-at .ensures .1)
+    (v .0) (v .1 .0) (c1 .g .given .1) (c .before .before .operator .result)
     (c .before .before .operator .ensures) (inl (omega (arith, c .before .if1 .taken))) (p .3))
 
 step-returns-2 : (t : ℕ) → step-lts.Need-returns-2 (step-calls t) (step-at t) step.Post
@@ -347,10 +345,10 @@ step-returns-2 t c =
     let a = c3 .args in
     let v = c2 .g .given .0 in
     let p = c3 .pre .1 in
-    step-stop (a .names .now) (a .n) (a .s .now) (a .at) (a .k) (a .h) (a .b) (a .left) (a .out .now) _
-    (c .ending3 .ensures) (p .0) (p .3) (p .5)
-    (more-stop (a .names .now) (a .n) (a .s .now) (a .at) (a .k) (a .h) (a .b) _ _ (c2 .before .before
-    .operator-at .ensures .1) (v .0) (v .1 .0) (c2 .g .given .1) (c1 .operator .result)
+    step-stop _ (a .n) (a .s .now) (a .at) (a .k) (a .h) (a .b) (a .left) (a .out .now) _ (c .ending3 .ensures) (p .0)
+    (p .3) (p .5)
+    (more-stop _ (a .n) (a .s .now) (a .at) (a .k) (a .h) (a .b) _ _ (c2 .before .before .operator-at .ensures .1)
+    (v .0) (v .1 .0) (c2 .g .given .1) (c1 .operator .result)
     (c1 .operator .ensures) (inr (omega (arith, c .before .if2 .taken))) (p .3))
 
 step-tree-expr-requires : (t : ℕ) → step-lts.Need-tree-expr-requires (step-calls t) (step-at t) step.Post
@@ -359,8 +357,8 @@ step-tree-expr-requires t c κs =
     let c2 = c1 .before .before .before .before .before in
     let a = c2 .args in
     let v = c1 .g .given .0 in
-    let u = sign-within (a .s .now) (a .at) _ (v .0) (v .1 .0) (c1 .g .given .1) (c1 .before .before .operator-at
-    .ensures .0) in
+    let u = sign-within (a .s .now) (a .at) _ (v .0) (v .1 .0) (c1 .g .given .1)
+    (c1 .before .before .operator-at .ensures .0) in
     (omega arith, (u .1, c2 .pre .1 .1, c2 .pre .1 .2, c2 .pre .1 .6))
 
 step-returns-3 : (t : ℕ) → step-lts.Need-returns-3 (step-calls t) (step-at t) step.Post
@@ -374,10 +372,10 @@ step-returns-3 t c =
     let u = sign-within (a .s .now) (a .at) _ (v .0) (v .1 .0) (c3 .g .given .1) (c4 .operator-at .ensures .0) in
     let y = c .before .before .before .before .before .tree-expr in
     let e = c .ending4 .ensures in
-    step-ends (a .names .now) (a .n) (a .s .now) (a .at) (a .k) (a .h) (a .b) (a .left .len) (held (a .left) (a .out
-    .now)) _ _ (e .0) (rw (e .1) (none-within _ _ _ _ _ (c .before .if3 .taken)))
-    (rw (e .1) (more-fail (a .names .now) (a .n) (a .s .now) (a .at) (a .k) (a .h) (a .b) _ _ (c4 .operator-at
-    .ensures .1) (v .0) (v .1 .0) (c3 .g .given .1) (c2 .operator .result)
+    step-ends _ (a .n) (a .s .now) (a .at) (a .k) (a .h) (a .b) (a .left .len) (held (a .left) (a .out .now)) _ _ (e .0)
+    (rw (e .1) (none-within _ _ _ _ _ (c .before .if3 .taken)))
+    (rw (e .1) (more-fail _ (a .n) (a .s .now) (a .at) (a .k) (a .h) (a .b) _ _ (c4 .operator-at .ensures .1) (v .0)
+    (v .1 .0) (c3 .g .given .1) (c2 .operator .result)
     (c2 .operator .ensures) (c1 .if1 .left) (c .before .before .before .before .before .before .before .before .if2
     .left) (u .0) (u .1) _ (y .ensures .1) (c .before .if3 .taken) _ (c .before .if3 .taken)))
 
@@ -400,10 +398,10 @@ step-returns-4 t c =
     let c1 = c .before .before .before .before .before .before in
     let a = c1 .args in
     let p = c1 .pre .1 in
-    step-stop (a .names .now) (a .n) (a .s .now) (a .at) (a .k) (a .h) (a .b) (a .left) (a .out .now) _
-    (c .ending .ensures) (p .0) (p .3) (p .5)
-    (more-none (a .names .now) (a .n) (a .s .now) (a .at) (a .k) (a .h) (a .b) _ _ (c .before .before
-    .before .operator-at .ensures .1) (c .before .enum-told .given .1) (p .3))
+    step-stop _ (a .n) (a .s .now) (a .at) (a .k) (a .h) (a .b) (a .left) (a .out .now) _ (c .ending .ensures) (p .0)
+    (p .3) (p .5)
+    (more-none _ (a .n) (a .s .now) (a .at) (a .k) (a .h) (a .b) _ _ (c .before .before .before .operator-at .ensures
+    .1) (c .before .enum-told .given .1) (p .3))
 
 step-returns-5 : (t : ℕ) → step-lts.Need-returns-5 (step-calls t) (step-at t) step.Post
 step-returns-5 t c =
@@ -420,16 +418,16 @@ step-returns-5 t c =
     let t = c .before .before .two-node in
     let m = t .ensures in
     let j = joined-part (a .left .len) (c1 .place-in .result) (a .out .now) _ (c1 .place-in .ensures .0)
-    (c1 .place-in .ensures .1) (y .kept .1 .1 .1 .1 .1 .1 .1 .0) in
+    (c1 .place-in .ensures .1) (y .kept .1 .1 .1 .1 .1 .1 .1 .1 .1 .0) in
     let p = c4 .before .before .before .pre .1 in
-    step-goes (a .names .now) (a .n) (a .s .now) (a .at) (a .k) (a .h) (a .b) (a .left .len) (held (a .left) (a .out
-    .now)) _ _ refl (omega (arith, m .next, u .0, w .0))
+    step-goes _ (a .n) (a .s .now) (a .at) (a .k) (a .h) (a .b) (a .left .len) (held (a .left) (a .out .now)) _ _ refl
+    (omega (arith, m .next, u .0, w .0))
     (omega (arith, m .next, w .1)) (omega (arith, m .next, m .len, p .3, u .0, w .0, w .2))
     (omega (arith, m .len, m .deep, p .5, w .3))
-    (λ q n. more-go (a .names .now) (a .n) (a .s .now) (a .at) (a .k) (a .h) (a .b) (held (a .left) (a .out .now)) _
+    (λ q n. more-go _ (a .n) (a .s .now) (a .at) (a .k) (a .h) (a .b) (held (a .left) (a .out .now)) _
     (c4 .operator-at .ensures .1) (v .0) (v .1 .0) (c3 .g .given .1)
-    (c2 .operator .result) (c2 .operator .ensures) (c1 .before .before .before .if1 .left) (c1 .before .if2 .left) (u
-    .0) (u .1) _ (y .ensures .1) (a .left)
+    (c2 .operator .result) (c2 .operator .ensures) (c1 .before .before .before .if1 .left) (c1 .before .if2 .left)
+    (u .0) (u .1) _ (y .ensures .1) (a .left)
     (y .result) (a .out .now) _ _ refl refl some (omega (arith, w .0)) (w .1) j _
     (t .kept .1 .1 .1 .0 ∙ j .long) m q n)
 

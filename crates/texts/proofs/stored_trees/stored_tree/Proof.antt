@@ -16,7 +16,7 @@ returns : tie.Need-returns
 returns c =
     let a = c .before .before .before .before .before .before .args in (
       c .before .before .tree-expr .ensures .0,
-      whole-stored (a .names .now) (a .n) (a .s .now) (a .at) _ (c .before
+      whole-stored _ (a .n) (a .s .now) (a .at) _ (c .before
           .before .tree-expr .ensures .1),
     )
 

@@ -65,7 +65,7 @@ returns c =
     sym (short-in (now (a .classes)) (c .before .before .before .before .before .before .before .before .before
     .before .before .before .pre .2) word) ∙ sym (c .before .before .before .before .before .before .before
     .is-short-in .ensures) ∙ c .before .before .before .before .before .before .if1 .taken in
-    leaf-name (now (a .names)) (a .n) s (a .at) end (w .0 .0) (w .0 .1) (w .1) _ _ _ y (c .before .before .before
+    leaf-name _ (a .n) s (a .at) end (w .0 .0) (w .0 .1) (w .1) _ _ _ y (c .before .before .before
     .before .look-up .ensures .1)
     (c .before .before .field-node .ensures)
 
@@ -116,7 +116,7 @@ returns-2 c =
     .before .before .before .before .if1 .left in
     let y : isNumberWord word ≡ true = sym (c .before .before .before .before .before .before .before .is-number
     .ensures) ∙ c .before .before .before .before .before .before .if2 .taken in
-    leaf-number (now (a .names)) (a .n) s (a .at) end (w .0 .0) (w .0 .1) (w .1) _ _ _ k y
+    leaf-number _ (a .n) s (a .at) end (w .0 .0) (w .0 .1) (w .1) _ _ _ k y
     (c .before .before .before .before .word-value .ensures .1) (c .before .before .number-node .ensures)
 
 no-tree-requires : tie.Need-no-tree-requires
@@ -134,7 +134,7 @@ returns-3 c =
     .before .pre .2) word) ∙ sym (c .before .before .before .before .before .is-short-in .ensures) ∙ c .before
     .before .before .before .if1 .left in
     let y : isNumberWord word ≡ false = sym (c .before .before .is-number .ensures) ∙ c .before .if2 .left in
-    leaf-none (now (a .names)) (a .n) s (a .at) end (w .0 .0) (w .0 .1) (w .1) _ _ k y (c .no-tree .ensures)
+    leaf-none _ (a .n) s (a .at) end (w .0 .0) (w .0 .1) (w .1) _ _ k y (c .no-tree .ensures)
 
 pub tree-leaf-spec : {M : Type 1} → statement M
 tree-leaf-spec =

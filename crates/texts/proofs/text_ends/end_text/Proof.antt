@@ -30,7 +30,7 @@ returns : tie.Need-returns
 returns c =
     let r = c .before .before .before .before .before .before .args .r in
     let l = c .before .before .before .last-note .result in
-    λ k cells labels shorts names e h.
+    λ k cells labels names e h.
     let low = sym (last-is (k .found) r (h .counts) (k .line)
     (c .before .before .before .before .before .before .args .whole) e)
     ∙ sym (c .before .before .before .last-note .ensures)
@@ -47,7 +47,7 @@ returns-2 : tie.Need-returns-2
 unfolding ofText
 returns-2 c =
     let r = c .before .before .before .before .before .before .before .args .r in
-    λ k cells labels shorts names e h.
+    λ k cells labels names e h.
     let low = sym (last-is (k .found) r (h .counts) (k .line)
     (c .before .before .before .before .before .before .before .args .whole) e)
     ∙ sym (c .before .before .before .before .last-note .ensures)
@@ -69,7 +69,7 @@ returns-3 : tie.Need-returns-3
 unfolding ofText
 returns-3 c =
     let r = c .before .before .before .before .before .before .before .before .before .before .before .args .r in
-    λ k cells labels shorts names e h.
+    λ k cells labels names e h.
     let low = sym (last-is (k .found) r (h .counts) (k .line)
     (c .before .before .before .before .before .before .before .before .before .before .before .args .whole) e)
     ∙ sym (c .before .before .before .before .before .before .before .before .last-note .ensures)

@@ -25,7 +25,7 @@ returns : tie.Need-returns
 returns c =
     let a = c .before .before .before .before .before .before .before .before .before .args in
     let t = c .before .before .before .before .before .stored-tree in
-    measure-fail (a .names .now) (a .n) (a .s .now) (a .at) (t .result) _ (t .ensures .1) _ (c .plain .ensures) (c
+    measure-fail _ (a .n) (a .s .now) (a .at) (t .result) _ (t .ensures .1) _ (c .plain .ensures) (c
     .before .if1 .taken)
 
 unit-behind-requires : tie.Need-unit-behind-requires
@@ -69,7 +69,7 @@ returns-2 c =
     let t = c .before .before .before .before .before .before .before .before .stored-tree in
     let h = c .before .before .before .unit-behind .ensures in
     let m = bits-none (a .s .now) (t .result .next) _ (h .1) (c .before .enum-told .given .1) in
-    measure-bare (a .names .now) (a .n) (a .s .now) (a .at) (t .result) _ (t .ensures .1) _ (c .plain2 .ensures) (c
+    measure-bare _ (a .n) (a .s .now) (a .at) (t .result) _ (t .ensures .1) _ (c .plain2 .ensures) (c
     .before .before .before .before .if1 .left) m
 
 same-length-3 : tie.Need-same-length-3
@@ -84,7 +84,7 @@ returns-3 c =
     let h = c .before .before .before .before .unit-behind .ensures in
     let k = c .sized in
     let m = bits-some (a .s .now) (t .result .next) _ (h .1) (p .1) in
-    measure-sized (a .names .now) (a .n) (a .s .now) (a .at) (t .result) _ (t .ensures .1) (p .0 .0) (p .0 .1 .0) (k
+    measure-sized _ (a .n) (a .s .now) (a .at) (t .result) _ (t .ensures .1) (p .0 .0) (p .0 .1 .0) (k
     .result) (c .before .before .before .before .before .if1 .left) m (k .ensures .0)
     (k .ensures .1)
 

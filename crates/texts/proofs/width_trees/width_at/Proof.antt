@@ -24,7 +24,7 @@ plain-requires c κs = search needs
 returns : tie.Need-returns
 returns c =
     let a = c .before .before .before .before .before .before .args in
-    width-rest (a .names .now) (a .n) (a .s .now) (a .at) (c .before .before .before .before .before .before .pre .0)
+    width-rest _ (a .n) (a .s .now) (a .at) (c .before .before .before .before .before .before .pre .0)
     _ _ (sym (c .before .before .starts-at .ensures) ∙ c .before .if1 .taken) (c .plain .ensures)
 
 measure-at-requires : tie.Need-measure-at-requires
@@ -40,7 +40,7 @@ returns-2 c =
     let n = sym (c .before .before .before .before .before .starts-at .ensures) ∙ c .before .before .before .before
     .if1 .left in (
       m .ensures .0,
-      width-measure (a .names .now) (a .n) (a .s .now) (a .at) (c .before .before .before .before
+      width-measure _ (a .n) (a .s .now) (a .at) (c .before .before .before .before
           .before .before .before .before .before .pre .0) _ _ n (m .ensures .1),
     )
 

@@ -2,15 +2,14 @@ use denote.Ref.{now}
 use Rattle.packets.specs.NamesTest.{heldIn}
 use Rattle.packets.proofs.NameSteps.{short-none}
 use borrow.Author.Needs.{needs}
-use Rattle.packets.proofs.unique.held_short.Statement.{statement}
-use Rattle.packets.proofs.unique.held_short.Tie as tie
-use Rattle.packets.proofs.unique.held_short.Reads as reads
-use Rattle.packets.proofs.unique.held_short.Lts as lts
+use Rattle.packets.proofs.unique.held_part.Statement.{statement}
+use Rattle.packets.proofs.unique.held_part.Tie as tie
+use Rattle.packets.proofs.unique.held_part.Reads as reads
+use Rattle.packets.proofs.unique.held_part.Lts as lts
 use Rattle.names.proofs.repeats.held_name.Reads as held-name-reads
 
 returns : tie.Need-returns
-returns c =
-    short-none (now (c .before .before .before .args .s)) (c .before .before .before .args .short) (c .if1 .taken)
+returns c = short-none (now (c .before .before .before .args .s)) (c .before .before .before .args .p) (c .if1 .taken)
 
 add-end : tie.Need-add-end
 add-end c = search needs
@@ -31,8 +30,8 @@ returns-2 : tie.Need-returns-2
 unfolding heldIn
 returns-2 c = c .held-name .ensures
 
-pub held-short-spec : {M : Type 1} → statement M
-held-short-spec =
+pub held-part-spec : {M : Type 1} → statement M
+held-part-spec =
     tie.close
     (tie.spec
     returns
