@@ -39,7 +39,8 @@ pub fn read_packet(table: &[u8], packet: &[u8], run: &mut [u32]) -> Result<u64, 
 }
 
 /// Reads a packet by a table as far as it goes. Answers what [`read_packet`] answers, and how many fields' numbers are
-/// at the start of `run`: those before the first refused one, or all where bits are left over or the packet is accepted.
+/// at the start of `run`: those before the first refused one, or all where bits are left over or the packet is
+/// accepted.
 ///
 /// 21, 22 and 23 leave `run` as it was; numbers beyond those of the fields stay too.
 ///

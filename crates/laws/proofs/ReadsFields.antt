@@ -1,6 +1,6 @@
 -- What the record of a field stores is read again.
 use mathlib.Core.Path.{_≡_, refl, _∙_, ap}
-use mathlib.Core.Bool.{Bool, true, _&&_, _||_, not}
+use mathlib.Core.Bool.{true, _&&_, _||_, not}
 use mathlib.Core.List.{List, [], _∷_, _++_, append-assoc}
 use mathlib.Core.Option.{Option, none, some}
 use Prim.Native.Nat.{ℕ, _+_, _<_, _≤_}
@@ -125,6 +125,11 @@ formed-parts f h =
     let s = and-true (ifAny isShort (f .short)) (isWidth (f .width) && numbers) (e .1) in
     let w = and-true (isWidth (f .width)) numbers (s .1) in
     (e .0, s .0, w .0, w .1)
+
+-- of which the names
+pub formed-names : {N : Type 0} (f : Field N) → isFormed f ≡ true
+    → (isLabel (f .label) ≡ true) × (ifAny isShort (f .short) ≡ true)
+formed-names f h = let e = formed-parts f h in (e .0, e .1)
 
 pub readField-stored : (e : Edition) (f : Field ℕ) → isFormed f ≡ true → all isSmall (trees f) ≡ true → (r : List ℕ)
     → readField (e .fixedKind) (storedFieldIn e f ++ r) ≡ (f, r)

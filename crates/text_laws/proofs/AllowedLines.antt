@@ -47,7 +47,7 @@ use Rattle.rules.specs.Lines.{
 }
 use Rattle.text_laws.proofs.OperatorTable.{each}
 use Rattle.text_laws.proofs.ReaderWords.{number-bytes, short-bytes}
-use Rattle.text_laws.proofs.NamedFields.{formed-names}
+use Rattle.laws.proofs.ReadsFields.{formed-names}
 
 -- each byte may stand in a line
 abbrev pub printable : List ℕ → Bool

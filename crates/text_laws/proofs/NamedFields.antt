@@ -1,17 +1,15 @@
 -- Fields and the forms of their lines: the same spellings, and the same names, widths and sizes.
 use mathlib.Core.Path.{_≡_, refl, ap, ap₂, sym, _∙_, subst}
-use mathlib.Core.Bool.{Bool, true, _&&_}
+use mathlib.Core.Bool.{Bool, true}
 use mathlib.Core.Logic.{_↔_}
 use mathlib.Core.List.{List, [], _∷_, _++_}
 use mathlib.Core.Option.{Option, none, some}
 use Prim.Native.Nat.{ℕ}
 use Rattle.base.specs.Lists.{all, Each, ifAny, isNone, listOf}
 use Rattle.base.specs.Bytes.{bytes}
-use Rattle.base.proofs.Lists.{and-left}
-use Rattle.base.proofs.Breaks.{and-true}
 use Rattle.base.proofs.Lookups.{all-joined}
 use Rattle.rules.specs.declared.ValueType.{ValueType}
-use Rattle.rules.specs.Names.{isLabel, isShort}
+use Rattle.rules.specs.Names.{isShort}
 use Rattle.rules.specs.Trees.{Tree, num, isSmall, isInRange}
 use Rattle.rules.specs.Fields.{
   Width,
@@ -59,14 +57,6 @@ pub record NamedField {N : Type 0} (R : N → List ℕ → Type 0) (f : Field N)
   pub width : NamedWidth R (f .width) (x .width)
   pub constraint : NamedMaybe R (f .constraint) (x .constraint)
   pub condition : NamedMaybe R (f .condition) (x .condition)
-
--- the names of a field that has its form
-pub formed-names : {N : Type 0} (x : Field N) → isFormed x ≡ true
-    → (isLabel (x .label) ≡ true) × (ifAny isShort (x .short) ≡ true)
-formed-names x h =
-    let behind = isWidth (x .width) && all isInRange (trees x) in
-    let p = and-true (isLabel (x .label)) (ifAny isShort (x .short) && behind) h in
-    (p .0, and-left (ifAny isShort (x .short)) behind (p .1))
 
 module _ {N : Type 0} {R : N → List ℕ → Type 0} where
   -- ── spellings of widths and expressions ──

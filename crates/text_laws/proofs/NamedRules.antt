@@ -9,12 +9,12 @@ use Rattle.base.proofs.Lookups.{each-any, each-breaks, kept-at, element-parts}
 use Rattle.rules.specs.Names.{isShort}
 use Rattle.rules.specs.Fields.{Field, Form, isRest}
 use Rattle.rules.specs.Within.{keepsForm, keepsSize, clash, keepsNames, keepsRest}
+use Rattle.laws.proofs.ReadsFields.{formed-names}
 use Rattle.laws.proofs.NameLaws.{NameIn, read-short}
 use Rattle.rules.specs.Frames.{Slot}
 use Rattle.rules.specs.Spelling.{shows, mismatch}
 use Rattle.text_laws.proofs.NamedFields.{
   NamedField,
-  formed-names,
   same-small,
   same-shows,
   same-fixed-width,

@@ -10,7 +10,7 @@ use lib.ListN.{length, getElem?, length-map}
 use Rattle.base.specs.Lists.{all, any, ifAny, isNone}
 use Rattle.base.proofs.Lists.{and-left, and-right}
 use Rattle.rules.specs.Answers.{refused}
-use Rattle.rules.specs.Names.{isLabel, isShort}
+use Rattle.rules.specs.Names.{isShort}
 use Rattle.rules.specs.Fields.{Field, Form, isFixed, isRest}
 use Rattle.rules.specs.Within.{isFormed, clash, keepsNames, keepsTypes, keepsRest, nameReadable}
 use Rattle.text_laws.specs.LineReader.{readForm}
@@ -28,19 +28,13 @@ use Rattle.texts.specs.States.{laterNote, NamedWith, Counts}
 use Rattle.texts.specs.declared.line_parts.Parts.{Parts}
 use Rattle.texts.specs.declared.states.Reading.{Reading}
 use Rattle.texts.proofs.HeldArrays.{snoc-each, element-last, named-front}
+use Rattle.laws.proofs.ReadsFields.{formed-names}
 use Rattle.texts.proofs.HeldClashes.{NamesFormed, clash-any}
 use Rattle.texts.proofs.HeldNames.{types-here}
 use Rattle.texts.proofs.LineRules.{fixed-kind, none-length}
 use Rattle.texts.proofs.LineTypes.{ShortNames, spelled-short}
 
 -- ── names that have their form ──
-
-pub formed-names : {N : Type 0} (x : Field N) → isFormed x ≡ true
-    → (isLabel (x .label) ≡ true) × (ifAny isShort (x .short) ≡ true)
-formed-names x h = (
-  and-left (isLabel (x .label)) _ h,
-  and-left (ifAny isShort (x .short)) _ (and-right (isLabel (x .label)) _ h),
-)
 
 kept-formed : (l : List (Field ℕ)) → all isKept l ≡ true → (i : ℕ) (y : Form) → getElem? (faces l) i ≡ some y
     → NamesFormed y

@@ -7,6 +7,7 @@ use Prim.Native.Nat.{ℕ, zero, suc, _<_}
 use native.Mathlib.Omega.{arith}
 use lib.ListN.{length, getD, set, getElem?}
 use lib.Seq.{getD-set-same, getD-set-other}
+use Rattle.base.proofs.Lookups.{element-front}
 use Rattle.rules.specs.Limits.{labelMost}
 use Rattle.rules.specs.Fields.{Width, fixed, measured, rest, Form, isFixedWidth}
 use Rattle.names.specs.Repeats.{padTo}
@@ -24,11 +25,6 @@ module _ {A : Type 0} where
   snoc-each Q (x ∷ l) a h q zero y e = h 0 y e
   snoc-each Q (x ∷ l) a h q (suc i) y e =
       snoc-each (λ j b. Q (suc j) b) l a (λ j b k. h (suc j) b k) q i y e
-
-  pub element-front : (l m : List A) (i : ℕ) (y : A) → getElem? l i ≡ some y → getElem? (l ++ m) i ≡ some y
-  element-front [] m i y e = absurd (let z : _≡_ {A = ℕ} 0 1 = cc in omega arith)
-  element-front (x ∷ l) m zero y e = e
-  element-front (x ∷ l) m (suc i) y e = element-front l m i y e
 
   pub element-last : (l : List A) (a : A) → getElem? (l ++ (a ∷ [])) (length l) ≡ some a
   element-last [] a = refl

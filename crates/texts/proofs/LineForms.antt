@@ -33,7 +33,7 @@ use Rattle.texts.specs.declared.notes.Note.{Note}
 use Rattle.texts.specs.StoredTrees.{TreeBytes, held}
 use Rattle.texts.specs.declared.line_parts.Parts.{Parts}
 use Rattle.texts.specs.declared.states.Reading.{Reading}
-use Rattle.texts.proofs.FormRules.{formed-names}
+use Rattle.laws.proofs.ReadsFields.{formed-names}
 use Rattle.texts.proofs.HeldClashes.{NamesFormed}
 use Rattle.texts.proofs.HeldArrays.{snoc-each, held-more}
 use Rattle.texts.proofs.LineRules.{rest-kind, element-in}
