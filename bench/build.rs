@@ -1,11 +1,13 @@
-//! Compiles the plain C reader and the clock with gcc -O2. Where UMAREKOZA_BEFORE_DIR names the folder of another
-//! libumarekoza.a, three of its functions are linked too, as `before_..`, so that both are timed in one run.
+//! Compiles the plain C reader and the clocks with gcc -O2. Where UMAREKOZA_BEFORE_DIR names the folder of
+//! another libumarekoza.a, the functions of it that are timed are linked too, as `before_..`, so that both
+//! are timed in one run.
 
 use std::env;
 use std::path::{Path, PathBuf};
 use std::process::{exit, Command};
 
 const SETTING: &str = "UMAREKOZA_BEFORE_DIR";
+const TIMED: [&str; 4] = ["check_table", "read_packet", "write_table", "find_field"];
 
 fn main() {
     let folder = PathBuf::from(env::var_os("OUT_DIR").unwrap_or_default());
@@ -28,12 +30,12 @@ fn main() {
     }
 }
 
-/// The library under other names: its three functions as `before_..`, the others kept to itself.
+/// The library under other names: the functions that are timed as `before_..`, the others kept to itself.
 fn rename(library: &Path, folder: &Path) {
     println!("cargo:rerun-if-changed={}", library.display());
     let (named, kept) = (folder.join("named.a"), folder.join("libbefore.a"));
     let (mut naming, mut keeping) = (Command::new("objcopy"), Command::new("objcopy"));
-    for name in ["check_table", "read_packet", "write_table"] {
+    for name in TIMED {
         naming.arg(format!("--redefine-sym=umarekoza_{name}=before_{name}"));
         keeping.arg(format!("--keep-global-symbol=before_{name}"));
     }

@@ -18,6 +18,7 @@ extern "C" {
         run_len: usize,
     ) -> Answer;
     fn before_write_table(text: *const u8, text_len: usize, out: *mut u8, out_len: usize) -> Answer;
+    fn before_find_field(table: *const u8, table_len: usize, name: *const u8, name_len: usize) -> Answer;
 }
 
 impl Answer {
@@ -43,4 +44,9 @@ pub fn write_table(text: &[u8], out: &mut [u8]) -> Option<u64> {
     let (out, bytes) = (out.as_mut_ptr(), out.len());
     // SAFETY: each pointer is valid for its length; the output is lent to this call alone.
     unsafe { before_write_table(text.as_ptr(), text.len(), out, bytes) }.accepted()
+}
+
+pub fn find_field(table: &[u8], name: &[u8]) -> Option<u64> {
+    // SAFETY: both pointers are valid for their lengths, and the library reads no further.
+    unsafe { before_find_field(table.as_ptr(), table.len(), name.as_ptr(), name.len()) }.accepted()
 }

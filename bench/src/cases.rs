@@ -12,7 +12,7 @@ pub struct Case {
 }
 
 impl Case {
-    fn new(name: &str, page: String, packet: Vec<u8>) -> Self {
+    pub fn new(name: &str, page: String, packet: Vec<u8>) -> Self {
         let table = write_table(page.as_bytes(), usize::MAX).expect("a page of the bench is right");
         Case { name: name.to_string(), page: page.into_bytes(), table, packet }
     }
@@ -61,7 +61,7 @@ fn constrained_page(fields: usize, remark: usize) -> String {
 }
 
 /// A bit row of 32 bits.
-fn row(cells: &[(&str, usize)]) -> String {
+pub fn row(cells: &[(&str, usize)]) -> String {
     let cells: Vec<String> =
         cells.iter().map(|(name, bits)| format!("{name:^width$}", width = 2 * bits - 1)).collect();
     format!("|{}|", cells.join("|"))
@@ -72,7 +72,7 @@ fn row_of(name: &str) -> String {
     format!(":{name:^63}:")
 }
 
-fn page(rows: &[String], lines: &str) -> String {
+pub fn page(rows: &[String], lines: &str) -> String {
     let border = format!("+{}", "-+".repeat(32));
     let tens: String =
         (0..32).map(|bit| if bit % 10 == 0 { format!("{} ", bit / 10) } else { "  ".into() }).collect();

@@ -11,6 +11,7 @@ use borrow.Author.Tests.{eqb-true, eqb-false, eq-eqb, ne-eqb}
 use Rattle.base.specs.Lists.{same}
 use Rattle.base.proofs.Lists.{fails, same-true, same-self}
 use Rattle.rules.specs.Limits.{shortMost}
+use Rattle.names.specs.Repeats.{numberFrom, nameNumber}
 use Rattle.names.specs.Keys.{keyPart, keyFrom, wordKey, IsHeld}
 
 -- the numbers of m bytes are below it
@@ -51,6 +52,22 @@ keys-exact (x ∷ w) (y ∷ v) m k j size long p q below under e =
     let same-front : k ≡ j = omega (arith, next .0) in
     let same-byte : x ≡ y = omega (arith, next .0) in
     (same-front, ap₂ {C = List ℕ} _∷_ same-byte (next .1))
+
+-- no byte of 8 is lost
+key-whole : (w : List ℕ) (m k : ℕ) → m + length w ≡ shortMost → ((i : ℕ) → getD w i 0 < 256) → k < bound m
+    → keyFrom k w ≡ numberFrom k w
+unfolding keyFrom numberFrom bound
+key-whole [] m k size p below = refl
+key-whole (x ∷ w) m k size p below =
+    let most = bound-most m (omega arith) in
+    let a : k % keyPart ≡ k = mod-eq-of-lt (omega (arith, most)) in
+    let s : x < 256 = p 0 in
+    let u : k * 256 + x < 256 * bound m = omega arith in
+    rw a (key-whole w (suc m) (k * 256 + x) (omega arith) (λ i. p (suc i)) u)
+
+pub key-number : (name : List ℕ) → IsHeld name → wordKey name ≡ nameNumber name
+unfolding bound
+key-number name p = key-whole name 0 0 (omega (arith, p .0)) (p .1) (omega arith)
 
 pub key-same : (a b : List ℕ) → IsHeld a → IsHeld b → eqb (wordKey a) (wordKey b) ≡ same a b
 unfolding bound

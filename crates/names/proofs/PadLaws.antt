@@ -8,7 +8,7 @@ use native.Mathlib.Omega.{arith}
 use lib.Dec.{leb, eqb}
 use lib.ListN.{length, take, getD, set}
 use lib.Seq.{take-all, take-suc-set}
-use borrow.Author.Tests.{eq-eqb, ne-eqb, eqb-true, leb-true}
+use borrow.Author.Tests.{ne-eqb, eqb-true, leb-true}
 use Rattle.base.specs.Lists.{all, same, headIs, between}
 use Rattle.base.proofs.Lists.{not-both, same-self, between-true}
 use Rattle.base.proofs.Breaks.{and-true, or-true, all-cons}
@@ -43,7 +43,7 @@ pad-whole most name w i e l h =
 
 -- ── bytes of a short name are not 0 ──
 
-word-byte : (b : ℕ) → isWordByte b ≡ true → 0 < b
+pub word-byte : (b : ℕ) → isWordByte b ≡ true → 0 < b
 unfolding isWordByte isLetter isDigit
 word-byte b h =
     or-true (between 65 b 90 || between 97 b 122) (between 48 b 57)
@@ -115,11 +115,6 @@ label-same a b h k =
     let p = label-held a h in
     let q = label-held b k in
     pad-same isLabelByte label-byte labelMost a b (p .0) (q .0) (p .1) (q .1)
-
--- a held name whose first byte is 0 is like none
-pub none-like : (a b : List ℕ) → getD a 0 0 ≡ 0 → false ≡ sameName a b
-unfolding sameName
-none-like a b e = rw (eq-eqb _ _ e)
 
 pub none-first : (b : List ℕ) → sameName (padTo shortMost []) b ≡ false
 unfolding sameName padTo

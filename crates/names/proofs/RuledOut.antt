@@ -15,6 +15,8 @@ use Rattle.names.specs.LentNames.{noTwo, isLabelIn, isShortIn}
 use Rattle.names.specs.Repeats.{
   firstFrom,
   padTo,
+  numberFrom,
+  nameNumber,
   sameName,
   namesMeet,
   namesAlike,
@@ -36,7 +38,7 @@ use Rattle.names.specs.Wrong.{
   saysSame,
   answersByte,
   holds,
-  saysAlike,
+  makesKey,
   saysMeet,
   begins,
   repeatsAt,
@@ -68,7 +70,7 @@ claimed (saysReserved w r) = bit r
 claimed (saysSame a b r) = bit r
 claimed (answersByte w i r) = single r
 claimed (holds w r) = r
-claimed (saysAlike a b r) = bit r
+claimed (makesKey name r) = single r
 claimed (saysMeet a v b w r) = bit r
 claimed (begins seen key j r) = single r
 claimed (repeatsAt shorts words n r) = single r
@@ -86,7 +88,7 @@ given (saysReserved w r) = bit (isReserved w)
 given (saysSame a b r) = bit (same a b)
 given (answersByte w i r) = single (getD w i 0)
 given (holds w r) = padTo shortMost w
-given (saysAlike a b r) = bit (sameName a b)
+given (makesKey name r) = single (nameNumber name)
 given (saysMeet a v b w r) = bit (namesMeet a v b w)
 given (begins seen key j r) = single (startOf seen key j)
 given (repeatsAt shorts words n r) = single (firstRepeat (namesAlike shorts words) (atMost fieldsMost n))
@@ -104,7 +106,7 @@ claim-only (saysReserved w r) p = ap bit p
 claim-only (saysSame a b r) p = ap bit p
 claim-only (answersByte w i r) p = ap single p
 claim-only (holds w r) p = p
-claim-only (saysAlike a b r) p = ap bit p
+claim-only (makesKey name r) p = ap single p
 claim-only (saysMeet a v b w r) p = ap bit p
 claim-only (begins seen key j r) p = ap single p
 claim-only (repeatsAt shorts words n r) p = ap single p
@@ -127,5 +129,5 @@ each-false (c ∷ cs) h =
 pub ruled-out : AllFalse wrong
 unfolding all any same lastIs tabulate operator operators isLetter isDigit isOperator isSpace classOf isWordByte
     isLabelByte noTwoSpaces isLabel isShort reserved isReserved classTable hasClass noTwo isLabelIn isShortIn
-    firstFrom padTo sameName namesMeet startOf
+    firstFrom padTo sameName namesMeet startOf numberFrom
 ruled-out = each-false wrong refl

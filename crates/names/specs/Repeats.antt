@@ -2,7 +2,7 @@
 -- [01, The form for each place]
 use mathlib.Core.Bool.{Bool, cond, _&&_, _||_, not}
 use mathlib.Core.List.{List, [], _∷_}
-use Prim.Native.Nat.{ℕ, zero, suc, _%_}
+use Prim.Native.Nat.{ℕ, zero, suc, _+_, _*_, _%_}
 use lib.Dec.{ltb, eqb}
 use lib.ListN.{getD}
 use Rattle.base.specs.Lists.{same}
@@ -35,6 +35,15 @@ unfoldable pub padTo : ℕ → List ℕ → List ℕ
 padTo zero w = []
 padTo (suc n) [] = 0 ∷ padTo n []
 padTo (suc n) (x ∷ w) = x ∷ padTo n w
+
+-- the number that bytes make behind others of the number k, the first of them the most significant
+unfoldable pub numberFrom : ℕ → List ℕ → ℕ
+numberFrom k [] = k
+numberFrom k (b ∷ w) = numberFrom (k * 256 + b) w
+
+-- the number that the bytes of a held name make
+abbrev pub nameNumber : List ℕ → ℕ
+nameNumber name = numberFrom 0 name
 
 -- both are the same name; a held name is none where its first byte is 0
 unfoldable pub sameName : List ℕ → List ℕ → Bool

@@ -3,7 +3,7 @@
 use mathlib.Core.Path.{_≡_}
 use mathlib.Core.Bool.{Bool, true, false}
 use mathlib.Core.List.{List, [], _∷_, _++_}
-use Prim.Native.Nat.{ℕ}
+use Prim.Native.Nat.{ℕ, _+_, _*_}
 use Prim.Native.String.{String}
 use lib.ListN.{getD, replicate, set}
 use Rattle.base.specs.Bytes.{bytes}
@@ -14,7 +14,7 @@ use Rattle.names.specs.Classes.{digitClass, operatorClass, spaceClass, c
 use Rattle.names.specs.LentNames.{isLabelIn, isShortIn}
 use Rattle.names.specs.Repeats.{
   padTo,
-  sameName,
+  nameNumber,
   namesMeet,
   namesAlike,
   firstRepeat,
@@ -40,9 +40,9 @@ pub data Claim : Type 0 where
   saysSame : List ℕ → List ℕ → Bool → Claim
   -- the byte of an index
   answersByte : List ℕ → ℕ → ℕ → Claim
-  -- a name as it is held, and whether two held ones are the same
+  -- a name as it is held, and the key of a held one
   holds : List ℕ → List ℕ → Claim
-  saysAlike : List ℕ → List ℕ → Bool → Claim
+  makesKey : List ℕ → ℕ → Claim
   -- whether the names of two fields meet: short name and label of one, then of the other
   saysMeet : List ℕ → List ℕ → List ℕ → List ℕ → Bool → Claim
   -- where the names that may be like the one of an index begin; by short names and labels, the first of n fields
@@ -63,7 +63,7 @@ Claimed (saysReserved w r) = r ≡ isReserved w
 Claimed (saysSame a b r) = r ≡ same a b
 Claimed (answersByte w i r) = r ≡ getD w i 0
 Claimed (holds w r) = r ≡ padTo shortMost w
-Claimed (saysAlike a b r) = r ≡ sameName a b
+Claimed (makesKey name r) = r ≡ nameNumber name
 Claimed (saysMeet a v b w r) = r ≡ namesMeet a v b w
 Claimed (begins seen key j r) = r ≡ startOf seen key j
 Claimed (repeatsAt shorts words n r) = r ≡ firstRepeat (namesAlike shorts words) (atMost fieldsMost n)
@@ -167,10 +167,10 @@ wrongHeld =
     holds (bytes "ABCDEFGH") (padTo shortMost (bytes "ABCDEFG"))
     ∷ holds (bytes "AB") (replicate shortMost 65)
     ∷ holds (bytes "AB") (bytes "AB      ")
-    -- two fields without a short name repeat each other; names that begin alike; no name like itself
-    ∷ saysAlike no no true
-    ∷ saysAlike (heldAs "A") (heldAs "AB") true
-    ∷ saysAlike (heldAs "A") (heldAs "A") false
+    -- the last byte the most significant; the first byte alone; one key for all names [02, R-3]
+    ∷ makesKey (heldAs "AB") (65 + 256 * 66)
+    ∷ makesKey (heldAs "AB") 65
+    ∷ makesKey (heldAs "AB") (nameNumber (heldAs "A"))
     -- the label of one and the short name of the other left out, both ways; one word as both names of a field; two
     -- fields without names; labels that are compared elsewhere [02, R-2]
     ∷ saysMeet (heldAs "A") no no (heldAs "A") false

@@ -1,7 +1,6 @@
 // Short names and labels held by value, and the first field whose short name is a name of an earlier field, or whose
 // label is an earlier short name.
 use crate::words::byte_of;
-use crate::words::same_words;
 use crate::words::word_key;
 use rules::FIELDS_MOST;
 use rules::SHORT_MOST;
@@ -11,7 +10,7 @@ ghost use Rattle.rules.specs.Limits.{fieldsMost, shortMost};
 ghost use Rattle.names.specs.Keys.{wordKey, IsHeld, isNew, startOfBoth};
 ghost use Rattle.names.specs.Repeats.{
   padTo,
-  sameName,
+  nameNumber,
   namesMeet,
   namesAlike,
   firstRepeat,
@@ -42,17 +41,11 @@ fn name_key(name: [u8; SHORT_MOST]) -> usize
     word_key(&name)
 }
 
-// Both are the same name; one whose first byte is 0 is none.
-pub fn same_name(a: [u8; SHORT_MOST], b: [u8; SHORT_MOST]) -> bool
-    ensures { λ r. ⌜ r ≡ sameName a b ⌝ }
+// The number that the bytes of a held name make.
+pub fn key_of(name: [u8; SHORT_MOST]) -> usize
+    ensures { λ r. ⌜ r ≡ nameNumber name ⌝ }
 {
-    if a[0] == 0 {
-        return false;
-    }
-    if name_key(a) != name_key(b) {
-        return false;
-    }
-    same_words(&a, &b)
+    name_key(name)
 }
 
 // Where the earlier ones begin that can be like the one of index j: at j itself if none of them has such a key. What

@@ -50,12 +50,16 @@ fn place_behind(table: &[u8], n: usize) -> usize
     place
 }
 
-// A part of the table is there, is not empty and is the name.
+// A part of the table is there, is not empty and is the name. Lengths are compared first, then bytes up to the first
+// that differs.
 fn is_named(table: &[u8], span: Span, name: &[u8]) -> bool
     ensures { λ r. ⌜ r ≡ isNamedIn (now (table .entry)) span (now (name .entry)) ⌝ }
 {
     let start = span.at;
     let len = span.len;
+    if name.len() != len {
+        return false;
+    }
     if len == 0 {
         return false;
     }

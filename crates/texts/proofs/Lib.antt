@@ -1,6 +1,7 @@
 -- OperatorRows             the columns of an operator's row, and a byte of no operator
 -- FirstSymbol              the first operator in front of a text, by its first two bytes
 -- ExprSigns, ExprLeaves    operators and words at a place of a text, as the code reads them
+-- ShortWords               words of letters and digits that are short names
 -- ExprSteps                expressions at a place of a text
 -- StoredBytes, StoredSteps, StoredExprs   expressions in their stored form, as the code makes them
 -- FieldWords, FieldNames   phrases, units, labels and short names at a place of a text
@@ -11,6 +12,8 @@
 -- NoteLaws                 the lower of two notes
 -- HeldClashes              a field's names held against those of earlier fields
 -- LineSearches             searches over the field lines that the code holds
+-- NameLengths              the lengths of held names
+-- StartLaws                where a walk over the held names begins
 -- FirstBreaks              the first line that breaks a rule, by a search over indexes
 -- LineRules                what the code tests of the lines says which rule their forms break
 -- LineTypes                the types that the code tests are those that rule 9 asks of the forms
@@ -51,6 +54,7 @@ pub mod OperatorRows
 pub mod FirstSymbol
 pub mod ExprSigns
 pub mod ExprLeaves
+pub mod ShortWords
 pub mod ExprSteps
 pub mod StoredBytes
 pub mod StoredSteps
@@ -63,6 +67,8 @@ pub mod RowLeaves
 pub mod TreeTypes
 pub mod NoteLaws
 pub mod LineSearches
+pub mod NameLengths
+pub mod StartLaws
 pub mod FirstBreaks
 pub mod LineRules
 pub mod HeldClashes

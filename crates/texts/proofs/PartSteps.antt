@@ -20,7 +20,7 @@ use Rattle.texts.specs.HeldNames.{Names, NamesRoom, HeldAs, Kept, OwnPut
 use Rattle.texts.specs.FieldPlaces.{SameLabel, SameShort}
 use Rattle.texts.specs.PartPlaces.{spanOf, spanIn, ShortIs}
 use Rattle.texts.specs.PartPlaces.{readBehind}
-use Rattle.texts.specs.HeldParts.{WidthHeld, MeasureAs, MeasureFor, EndsFor, LineBytes, PartsFor}
+use Rattle.texts.specs.HeldParts.{wholeParts, WidthHeld, MeasureAs, MeasureFor, EndsFor, LineBytes, PartsFor}
 use Rattle.texts.specs.HeldParts.{BehindFor}
 use Rattle.texts.specs.StoredTrees.{readsAs, isHeld, lookUp, typeOf, TreeBytes, held, StoredIs}
 use Rattle.writing.specs.declared.spans.Span.{Span}
@@ -145,15 +145,7 @@ module _ (names : Names) (n : ℕ) (s : List ℕ) (label : ℕ) (name : Span) (a
           ∙ y .wrong k (ending w h (x .width)))
 
       pub behind-whole : e .right ≡ true → label ≤ length s → name .at + name .len ≤ length s
-          → OwnPut a n s label name (m .kind) names → BehindFor names n s label name at b (record {
-            kind = m .kind;
-            label = label;
-            short = name;
-            bits = m .bits;
-            width = m .tree;
-            constraint = e .constraint;
-            condition = e .condition;
-          })
+          → OwnPut a n s label name (m .kind) names → BehindFor names n s label name at b (wholeParts label name m e)
       unfolding BehindFor
       behind-whole k i j put = λ w h p q.
           let z = y .there k in

@@ -1,5 +1,5 @@
 -- What the code keeps behind a right line of which it keeps nothing, and behind a wrong line.
-use mathlib.Core.Path.{_≡_, refl, ap, sym, subst}
+use mathlib.Core.Path.{_≡_, refl, ap, sym, subst, _∙_}
 use mathlib.Core.Bool.{Bool, true, false, cond}
 use mathlib.Core.List.{List, [], _∷_}
 use mathlib.Core.Option.{some, Option·none-ne-some}
@@ -133,6 +133,10 @@ module _ (f : fold.Found) (r : Reading) {cells table : List ℕ} {labels : List 
           (cond b (changed r (r .lines + 1) s (r .note)) (madeWrong r)) cells table labels names
       go true = holds-onward s
       go false = holds-wrong
+
+-- the stage that the code is told to be at
+pub told-stage : {a b : Stage} → a ≡ b → (f : fold.Found) → stageOf a ≡ f .stage → f .stage ≡ stageOf b
+told-stage e f h = sym h ∙ ap stageOf e
 
 -- the line of the stage
 pub line-at : (f : fold.Found) (l : List ℕ) (s : fold.Stage) {q : Reading} {cells table : List ℕ}

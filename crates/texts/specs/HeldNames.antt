@@ -1,8 +1,8 @@
 -- The names of fields as the code holds them, by value: mirrors the code, no public promise rests on it.
 use mathlib.Core.Path.{_≡_}
-use mathlib.Core.Bool.{Bool, cond, _||_}
+use mathlib.Core.Bool.{Bool, true, cond, _&&_, _||_, not}
 use mathlib.Core.List.{List, []}
-use Prim.Native.Nat.{ℕ, _≤_, _<_}
+use Prim.Native.Nat.{ℕ, _-_, _≤_, _<_}
 use lib.Dec.{eqb, ltb}
 use lib.ListN.{length, take, getD, set}
 use Rattle.base.specs.Lists.{same}
@@ -27,6 +27,17 @@ namesOf shorts words marks = record { shorts = shorts; words = words; marks = ma
 -- each list has at least n entries
 abbrev pub NamesRoom : ℕ → Names → Type 0
 NamesRoom n names = (n ≤ length (names .shorts)) × (n ≤ length (names .words)) × (n ≤ length (names .marks))
+
+-- a held name has a byte in the last of len places, and none behind it
+unfoldable pub hasLength : List ℕ → ℕ → Bool
+hasLength name len = not (eqb (getD name (len - 1) 0) 0) && (eqb len shortMost || eqb (getD name len 0) 0)
+
+-- a held name that is not none has so many bytes [02, R-3]
+pub record HeldLength (name : List ℕ) (len : ℕ) : Type 0 where
+  pub some : 0 < len
+  pub most : len ≤ shortMost
+  pub first : getD name 0 0 ≡ 0 → ⊥
+  pub ends : hasLength name len ≡ true
 
 -- those of x are held at the index i
 pub record HeldAs (names : Names) (i : ℕ) (x : Form) : Type 0 where

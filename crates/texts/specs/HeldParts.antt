@@ -23,6 +23,18 @@ use Rattle.texts.specs.declared.clause_trees.Ends.{Ends}
 use Rattle.texts.specs.declared.width_trees.Measure.{Measure}
 use Rattle.texts.specs.declared.line_parts.Parts.{Parts}
 
+-- a width and what stands behind it, with the names of the line
+abbrev pub wholeParts : ℕ → Span → Measure → Ends → Parts
+wholeParts label short w e = record {
+  kind = w .kind;
+  label = label;
+  short = short;
+  bits = w .bits;
+  width = w .tree;
+  constraint = e .constraint;
+  condition = e .condition;
+}
+
 -- ── constraint and condition ──
 
 -- the length 0 stands for none

@@ -4,6 +4,7 @@
 -- LineEnds  where a line ends
 -- PartPlaces  widths and what stands behind them, at places of a text
 -- HeldNames  the names of fields as the code holds them
+-- NameStarts  where the walk over the held names begins
 -- Noted  a refusal as the code notes it
 -- Slots  the cells of rows as the code keeps them
 -- StoredTrees  expressions in their stored form, with their types, as the code makes them
@@ -18,6 +19,7 @@ pub mod FramePlaces
 pub mod LineEnds
 pub mod PartPlaces
 pub mod HeldNames
+pub mod NameStarts
 pub mod Noted
 pub mod Slots
 pub mod StoredTrees

@@ -1,4 +1,5 @@
 // The constraint and the condition of a field line, in their stored form.
+use crate::name_starts::BUCKETS;
 use crate::phrases::remark_ok;
 use crate::phrases::starts_at;
 use crate::stored_nodes::no_tree;
@@ -11,11 +12,11 @@ ghost use mathlib.Core.Path.{_≡_};
 ghost use Prim.Native.Nat.{_+_, _≤_, _<_};
 ghost use lib.ListN.{length, drop};
 ghost use Rattle.rules.specs.Limits.{textMost, fieldsMost};
-ghost use Rattle.names.specs.Classes.{classTable};
 ghost use Rattle.text_laws.specs.LineReader.{readConstraint, readCondition};
 ghost use Rattle.texts.specs.HeldNames.{namesOf};
 ghost use Rattle.texts.specs.FieldPlaces.{treeClause};
 ghost use Rattle.texts.specs.HeldParts.{ClauseWithin, ClauseFor, EndsFor};
+ghost use Rattle.texts.specs.NameStarts.{Ready};
 
 // An expression behind its phrase, or none, which ends where the phrase would begin; not right where an expression is
 // missing.
@@ -52,16 +53,17 @@ fn tree_at(
     shorts: &[[u8; SHORT_MOST]; FIELDS_MOST],
     words: &[[u8; SHORT_MOST]; FIELDS_MOST],
     marks: &[u8; FIELDS_MOST],
+    starts: &[u8; BUCKETS],
     n: usize,
     out: &mut [u8],
 ) -> Clause
     requires { ⌜ (at ≤ length (now s)) × (length (now s) ≤ textMost) × (n ≤ fieldsMost)
-        × (now classes ≡ classTable) ⌝ }
+        × Ready (now classes) (now starts) (now shorts) (now words) ⌝ }
     ensures place { λ r. ⌜ ClauseWithin (now (s .entry)) at r ⌝ }
     ensures same { λ r. ⌜ ClauseFor (namesOf (now (shorts .entry)) (now (words .entry)) (now (marks .entry)))
         n (now (s .entry)) (treeClause (drop at (now (s .entry)))) (now (out .exit)) r ⌝ }
 {
-    let tree = stored_tree(classes, s, at, shorts, words, marks, n, out);
+    let tree = stored_tree(classes, s, at, shorts, words, marks, starts, n, out);
     Clause {
         right: tree.len != 0,
         tree: tree,
@@ -75,11 +77,12 @@ fn constraint_at(
     shorts: &[[u8; SHORT_MOST]; FIELDS_MOST],
     words: &[[u8; SHORT_MOST]; FIELDS_MOST],
     marks: &[u8; FIELDS_MOST],
+    starts: &[u8; BUCKETS],
     n: usize,
     out: &mut [u8],
 ) -> Clause
     requires { ⌜ (at ≤ length (now s)) × (length (now s) ≤ textMost) × (n ≤ fieldsMost)
-        × (now classes ≡ classTable) ⌝ }
+        × Ready (now classes) (now starts) (now shorts) (now words) ⌝ }
     ensures place { λ r. ⌜ ClauseWithin (now (s .entry)) at r ⌝ }
     ensures same { λ r. ⌜ ClauseFor (namesOf (now (shorts .entry)) (now (words .entry)) (now (marks .entry)))
         n (now (s .entry)) (readConstraint (drop at (now (s .entry)))) (now (out .exit)) r ⌝ }
@@ -88,7 +91,7 @@ fn constraint_at(
         return no_clause(at);
     }
     if starts_at(s, at, b"; ") {
-        return tree_at(classes, s, at + 2, shorts, words, marks, n, out);
+        return tree_at(classes, s, at + 2, shorts, words, marks, starts, n, out);
     }
     no_clause(at)
 }
@@ -100,17 +103,18 @@ fn condition_at(
     shorts: &[[u8; SHORT_MOST]; FIELDS_MOST],
     words: &[[u8; SHORT_MOST]; FIELDS_MOST],
     marks: &[u8; FIELDS_MOST],
+    starts: &[u8; BUCKETS],
     n: usize,
     out: &mut [u8],
 ) -> Clause
     requires { ⌜ (at ≤ length (now s)) × (length (now s) ≤ textMost) × (n ≤ fieldsMost)
-        × (now classes ≡ classTable) ⌝ }
+        × Ready (now classes) (now starts) (now shorts) (now words) ⌝ }
     ensures place { λ r. ⌜ ClauseWithin (now (s .entry)) at r ⌝ }
     ensures same { λ r. ⌜ ClauseFor (namesOf (now (shorts .entry)) (now (words .entry)) (now (marks .entry)))
         n (now (s .entry)) (readCondition (drop at (now (s .entry)))) (now (out .exit)) r ⌝ }
 {
     if starts_at(s, at, b"; present only when ") {
-        return tree_at(classes, s, at + 20, shorts, words, marks, n, out);
+        return tree_at(classes, s, at + 20, shorts, words, marks, starts, n, out);
     }
     no_clause(at)
 }
@@ -134,21 +138,32 @@ pub(crate) fn ends_at(
     shorts: &[[u8; SHORT_MOST]; FIELDS_MOST],
     words: &[[u8; SHORT_MOST]; FIELDS_MOST],
     marks: &[u8; FIELDS_MOST],
+    starts: &[u8; BUCKETS],
     n: usize,
     first: &mut [u8],
     second: &mut [u8],
 ) -> Ends
     requires { ⌜ (at ≤ length (now s)) × (length (now s) ≤ textMost) × (n < fieldsMost)
-        × (now classes ≡ classTable) ⌝ }
+        × Ready (now classes) (now starts) (now shorts) (now words) ⌝ }
     ensures { λ r. ⌜ EndsFor (namesOf (now (shorts .entry)) (now (words .entry)) (now (marks .entry)))
         n (now (s .entry)) at (now (first .exit)) (now (second .exit)) r ⌝ }
 {
-    let c = constraint_at(classes, s, at, shorts, words, marks, n + 1, first);
+    let c = constraint_at(classes, s, at, shorts, words, marks, starts, n + 1, first);
     let constraint = c.tree;
     if !c.right {
         return wrong_ends();
     }
-    let d = condition_at(classes, s, constraint.next, shorts, words, marks, n, second);
+    let d = condition_at(
+        classes,
+        s,
+        constraint.next,
+        shorts,
+        words,
+        marks,
+        starts,
+        n,
+        second,
+    );
     let condition = d.tree;
     if !d.right {
         return wrong_ends();

@@ -4,6 +4,7 @@ use crate::line_parts::Parts;
 use crate::line_parts::parts_of;
 use crate::line_rules::rests;
 use crate::name_clashes::held_label;
+use crate::name_starts::BUCKETS;
 use crate::notes::Note;
 use crate::notes::lower;
 use crate::part_records::put_field;
@@ -29,6 +30,7 @@ ghost use Rattle.text_laws.specs.Lowest.{lower};
 ghost use Rattle.text_laws.specs.Judging.{isOpen};
 ghost use Rattle.texts.specs.HeldNames.{namesOf};
 ghost use Rattle.texts.specs.HeldParts.{bytesOf};
+ghost use Rattle.texts.specs.NameStarts.{Starts};
 ghost use Rattle.texts.specs.Noted.{noteOf};
 ghost use Rattle.texts.specs.States.{
   slotsMost,
@@ -157,13 +159,15 @@ pub(crate) fn take_field(
     shorts: &mut [[u8; SHORT_MOST]; FIELDS_MOST],
     words: &mut [[u8; SHORT_MOST]; FIELDS_MOST],
     marks: &mut [u8; FIELDS_MOST],
+    starts: &mut [u8; BUCKETS],
 ) -> Reading
-    requires { ⌜ LineRoom r (now line) (now cells) (now table) ⌝ }
+    requires { ⌜ LineRoom r (now line) (now cells) (now table) × Starts (now starts) (now shorts) (now words) ⌝ }
     ensures room { λ q. ⌜ Taken r q ⌝ }
     ensures step { λ q. ⌜ FieldStep (now (line .entry)) r q (now (cells .entry)) (now (table .entry))
         (now (table .exit)) (now (labels .entry)) (now (labels .exit))
         (namesOf (now (shorts .entry)) (now (words .entry)) (now (marks .entry)))
         (namesOf (now (shorts .exit)) (now (words .exit)) (now (marks .exit))) ⌝ }
+    ensures starts { λ q. ⌜ Starts (now (starts .exit)) (now (shorts .exit)) (now (words .exit)) ⌝ }
 {
     if is_full(r) {
         return too_many(r, Stage::FieldLine);
@@ -178,6 +182,7 @@ pub(crate) fn take_field(
         shorts,
         words,
         marks,
+        starts,
         r.fields,
         &mut wide,
         &mut first,

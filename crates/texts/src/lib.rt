@@ -3,7 +3,7 @@
 // the frame         openings, rulers, rows, slots, shown_slots, head_lines
 // field lines       labels, units, widths, width_trees, clause_trees, line_parts
 // expressions       leaves, numbers, signs, stored_nodes, stored_trees
-// names             held_names, name_clashes
+// names             held_names, name_starts, name_clashes
 // rules, records    part_tests, part_slots, line_rules, form_rules, part_records, kept_fields
 // what is kept      states, notes
 // specs/ holds definitions that mirror what the code does, proofs/ the theorems on them.
@@ -18,6 +18,7 @@ mod line_parts;
 mod line_rules;
 mod line_steps;
 mod name_clashes;
+mod name_starts;
 mod notes;
 mod numbers;
 mod openings;

@@ -1,13 +1,16 @@
 // The parts of a field line, and its expressions in their stored form.
+use crate::clause_trees::Ends;
 use crate::clause_trees::ends_at;
 use crate::held_names::hold_own;
 use crate::labels::Label;
 use crate::labels::Short;
 use crate::labels::label_at;
 use crate::labels::short_at;
+use crate::name_starts::BUCKETS;
 use crate::phrases::starts_at;
 use crate::stored_nodes::no_tree;
 use crate::stored_trees::StoredTree;
+use crate::width_trees::Measure;
 use crate::width_trees::width_at;
 use rules::FIELDS_MOST;
 use rules::SHORT_MOST;
@@ -16,11 +19,11 @@ ghost use mathlib.Core.Path.{_≡_};
 ghost use Prim.Native.Nat.{_+_, _≤_, _<_};
 ghost use lib.ListN.{length};
 ghost use Rattle.rules.specs.Limits.{textMost, fieldsMost};
-ghost use Rattle.names.specs.Classes.{classTable};
 ghost use Rattle.text_laws.specs.LineReader.{readForm};
 ghost use Rattle.texts.specs.HeldNames.{namesOf, Kept};
+ghost use Rattle.texts.specs.NameStarts.{Starts, Ready};
 ghost use Rattle.texts.specs.PartPlaces.{NamesFit};
-ghost use Rattle.texts.specs.HeldParts.{bytesOf, PartsFor, BehindFor};
+ghost use Rattle.texts.specs.HeldParts.{wholeParts, bytesOf, PartsFor, BehindFor};
 
 // The kind as in a table (0: the line has no form), the length of the label, the short name in the line, the bits of a
 // fixed width or of the unit, and what is known of the expressions, of the length 0 where there is none.
@@ -50,6 +53,24 @@ fn no_parts() -> Parts
     }
 }
 
+// Those of a line whose parts all are right.
+fn whole_parts(label: usize, short: Span, w: Measure, e: Ends) -> Parts
+    ensures { λ r. ⌜ r ≡ wholeParts label short w e ⌝ }
+{
+    let width = w.tree;
+    let constraint = e.constraint;
+    let condition = e.condition;
+    Parts {
+        kind: w.kind,
+        label: label,
+        short: short,
+        bits: w.bits,
+        width: width,
+        constraint: constraint,
+        condition: condition,
+    }
+}
+
 // Behind a label and a short name.
 fn behind_names(
     classes: &[u8; 256],
@@ -60,38 +81,51 @@ fn behind_names(
     shorts: &mut [[u8; SHORT_MOST]; FIELDS_MOST],
     words: &mut [[u8; SHORT_MOST]; FIELDS_MOST],
     marks: &mut [u8; FIELDS_MOST],
+    starts: &mut [u8; BUCKETS],
     n: usize,
     wide: &mut [u8],
     first: &mut [u8],
     second: &mut [u8],
 ) -> Parts
     requires { ⌜ (at ≤ length (now s)) × (length (now s) ≤ textMost) × (n < fieldsMost)
-        × NamesFit (length (now s)) label short × (now classes ≡ classTable) ⌝ }
+        × NamesFit (length (now s)) label short × Ready (now classes) (now starts) (now shorts) (now words) ⌝ }
     ensures kept { λ r. ⌜ Kept (namesOf (now (shorts .entry)) (now (words .entry)) (now (marks .entry)))
         n (namesOf (now (shorts .exit)) (now (words .exit)) (now (marks .exit))) ⌝ }
     ensures same { λ r. ⌜ BehindFor (namesOf (now (shorts .exit)) (now (words .exit)) (now (marks .exit)))
         n (now (s .entry)) label short at
         (bytesOf (now (wide .exit)) (now (first .exit)) (now (second .exit))) r ⌝ }
+    ensures starts { λ r. ⌜ Starts (now (starts .exit)) (now (shorts .exit)) (now (words .exit)) ⌝ }
 {
-    let w = width_at(classes, s, at, shorts, words, marks, n, wide);
+    let w = width_at(classes, s, at, shorts, words, marks, starts, n, wide);
     if w.kind == 0 {
         return no_parts();
     }
-    hold_own(classes, s, label, short, w.kind, n, shorts, words, marks);
-    let width = w.tree;
-    let e = ends_at(classes, s, w.next, shorts, words, marks, n, first, second);
-    let constraint = e.constraint;
-    let condition = e.condition;
+    hold_own(
+        classes,
+        s,
+        label,
+        short,
+        w.kind,
+        n,
+        shorts,
+        words,
+        marks,
+        starts,
+    );
+    let e = ends_at(
+        classes,
+        s,
+        w.next,
+        shorts,
+        words,
+        marks,
+        starts,
+        n,
+        first,
+        second,
+    );
     if e.right {
-        return Parts {
-            kind: w.kind,
-            label: label,
-            short: short,
-            bits: w.bits,
-            width: width,
-            constraint: constraint,
-            condition: condition,
-        };
+        return whole_parts(label, short, w, e);
     }
     no_parts()
 }
@@ -104,17 +138,20 @@ pub(crate) fn parts_of(
     shorts: &mut [[u8; SHORT_MOST]; FIELDS_MOST],
     words: &mut [[u8; SHORT_MOST]; FIELDS_MOST],
     marks: &mut [u8; FIELDS_MOST],
+    starts: &mut [u8; BUCKETS],
     n: usize,
     wide: &mut [u8],
     first: &mut [u8],
     second: &mut [u8],
 ) -> Parts
-    requires { ⌜ (length (now s) ≤ textMost) × (n < fieldsMost) × (now classes ≡ classTable) ⌝ }
+    requires { ⌜ (length (now s) ≤ textMost) × (n < fieldsMost)
+        × Ready (now classes) (now starts) (now shorts) (now words) ⌝ }
     ensures kept { λ r. ⌜ Kept (namesOf (now (shorts .entry)) (now (words .entry)) (now (marks .entry)))
         n (namesOf (now (shorts .exit)) (now (words .exit)) (now (marks .exit))) ⌝ }
     ensures same { λ r. ⌜ PartsFor (namesOf (now (shorts .exit)) (now (words .exit)) (now (marks .exit)))
         n (now (s .entry)) (readForm (now (s .entry)))
         (bytesOf (now (wide .exit)) (now (first .exit)) (now (second .exit))) r ⌝ }
+    ensures starts { λ r. ⌜ Starts (now (starts .exit)) (now (shorts .exit)) (now (words .exit)) ⌝ }
 {
     let l = label_at(classes, s, 0);
     let Label::At(label) = l else {
@@ -135,6 +172,7 @@ pub(crate) fn parts_of(
             shorts,
             words,
             marks,
+            starts,
             n,
             wide,
             first,

@@ -4,6 +4,7 @@ use crate::head_lines::take_row;
 use crate::head_lines::take_row_or_blank;
 use crate::head_lines::take_ruler;
 use crate::kept_fields::take_field;
+use crate::name_starts::BUCKETS;
 use crate::rulers::is_border;
 use crate::rulers::is_units;
 use crate::states::Reading;
@@ -14,6 +15,7 @@ use rules::FIELDS_MOST;
 use rules::LABEL_MOST;
 use rules::SHORT_MOST;
 ghost use Rattle.texts.specs.HeldNames.{namesOf};
+ghost use Rattle.texts.specs.NameStarts.{Starts};
 ghost use Rattle.texts.specs.States.{LineRoom, Taken, LineStep};
 
 // What is kept behind one more line.
@@ -26,13 +28,15 @@ pub(crate) fn take_line(
     shorts: &mut [[u8; SHORT_MOST]; FIELDS_MOST],
     words: &mut [[u8; SHORT_MOST]; FIELDS_MOST],
     marks: &mut [u8; FIELDS_MOST],
+    starts: &mut [u8; BUCKETS],
 ) -> Reading
-    requires { ⌜ LineRoom r (now line) (now cells) (now table) ⌝ }
+    requires { ⌜ LineRoom r (now line) (now cells) (now table) × Starts (now starts) (now shorts) (now words) ⌝ }
     ensures room { λ q. ⌜ Taken r q ⌝ }
     ensures step { λ q. ⌜ LineStep (now (line .entry)) r q (now (cells .entry)) (now (cells .exit))
         (now (table .entry)) (now (table .exit)) (now (labels .entry)) (now (labels .exit))
         (namesOf (now (shorts .entry)) (now (words .entry)) (now (marks .entry)))
         (namesOf (now (shorts .exit)) (now (words .exit)) (now (marks .exit))) ⌝ }
+    ensures starts { λ q. ⌜ Starts (now (starts .exit)) (now (shorts .exit)) (now (words .exit)) ⌝ }
 {
     let w = r.width;
     let stage = r.stage;
@@ -47,8 +51,12 @@ pub(crate) fn take_line(
         Stage::RowOrBlank => { take_row_or_blank(r, line, cells) }
         Stage::WhereLine => { expect(r, same_words(line, b"where:"), Stage::LastBlank) }
         Stage::LastBlank => { expect(r, line.len() == 0, Stage::FirstField) }
-        Stage::FirstField => { take_field(r, line, cells, table, labels, shorts, words, marks) }
-        Stage::FieldLine => { take_field(r, line, cells, table, labels, shorts, words, marks) }
+        Stage::FirstField => {
+            take_field(r, line, cells, table, labels, shorts, words, marks, starts)
+        }
+        Stage::FieldLine => {
+            take_field(r, line, cells, table, labels, shorts, words, marks, starts)
+        }
         Stage::Lost => { r }
     }
 }

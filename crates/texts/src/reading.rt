@@ -1,5 +1,7 @@
 // A description text is read in one pass, line by line, and its table is written.
 use crate::line_steps::take_line;
+use crate::name_starts::BUCKETS;
+use crate::name_starts::NO_START;
 use crate::states::begin;
 use crate::text_bytes::line_end;
 use crate::text_ends::end_text;
@@ -14,6 +16,7 @@ ghost use Rattle.rules.specs.Answers.{ofText};
 ghost use Rattle.rules.specs.Limits.{textMost};
 ghost use Rattle.rules.specs.Promises.{ReadsText, leaves};
 ghost use Rattle.texts.specs.HeldNames.{namesOf};
+ghost use Rattle.texts.specs.NameStarts.{Starts};
 ghost use Rattle.texts.specs.States.{slotsMost, recordsMost, Begun};
 
 // Room for the cells of all fields and of one row more, and for NAME and the records of all fields.
@@ -31,9 +34,11 @@ fn read_lines(
     shorts: &mut [[u8; SHORT_MOST]; FIELDS_MOST],
     words: &mut [[u8; SHORT_MOST]; FIELDS_MOST],
     marks: &mut [u8; FIELDS_MOST],
+    starts: &mut [u8; BUCKETS],
 ) -> TextAnswer
     requires { ⌜ (length (now text) ≤ textMost) × (slotsMost ≤ length (now cells))
-        × (recordsMost ≤ length (now table)) × Begun (now labels) (namesOf (now shorts) (now words) (now marks)) ⌝ }
+        × (recordsMost ≤ length (now table)) × Begun (now labels) (namesOf (now shorts) (now words) (now marks))
+        × Starts (now starts) (now shorts) (now words) ⌝ }
     ensures { λ r. ⌜ ReadsText (now (text .entry)) (now (out .entry)) (leaves (ofText r) (now (out .exit))) ⌝ }
 {
     let mut r = begin();
@@ -46,7 +51,17 @@ fn read_lines(
         if text[e] != b'\n' {
             return TextAnswer::BadByte;
         }
-        r = take_line(r, &text[at..e], cells, table, labels, shorts, words, marks);
+        r = take_line(
+            r,
+            &text[at..e],
+            cells,
+            table,
+            labels,
+            shorts,
+            words,
+            marks,
+            starts,
+        );
         at = e + 1;
     }
 }
@@ -62,6 +77,7 @@ fn read_short(text: &[u8], out: &mut [u8]) -> TextAnswer
     let mut shorts = [[0u8; SHORT_MOST]; FIELDS_MOST];
     let mut words = [[0u8; SHORT_MOST]; FIELDS_MOST];
     let mut marks = [0u8; FIELDS_MOST];
+    let mut starts = [NO_START; BUCKETS];
     read_lines(
         text,
         out,
@@ -71,6 +87,7 @@ fn read_short(text: &[u8], out: &mut [u8]) -> TextAnswer
         &mut shorts,
         &mut words,
         &mut marks,
+        &mut starts,
     )
 }
 

@@ -1,7 +1,9 @@
 // Expressions in their stored form, operator first, with their types.
 use crate::held_names::look_up;
 use crate::leaves::is_number;
+use crate::leaves::is_short_word;
 use crate::leaves::word_end;
+use crate::name_starts::BUCKETS;
 use crate::numbers::word_value;
 use crate::signs::Sign;
 use crate::signs::operator_at;
@@ -10,7 +12,6 @@ use crate::stored_nodes::no_tree;
 use crate::stored_nodes::not_node;
 use crate::stored_nodes::number_node;
 use crate::stored_nodes::two_node;
-use names::labels::is_short_in;
 use operators::rows::ATOM_LEVEL;
 use operators::rows::operator;
 use rules::FIELDS_MOST;
@@ -22,8 +23,8 @@ ghost use Prim.Native.Nat.{_+_, _*_, _≤_};
 ghost use lib.ListN.{length, drop};
 ghost use Rattle.rules.specs.Limits.{textMost, fieldsMost};
 ghost use Rattle.text_laws.specs.LineReader.{readTree};
-ghost use Rattle.names.specs.Classes.{classTable};
 ghost use Rattle.texts.specs.HeldNames.{namesOf};
+ghost use Rattle.texts.specs.NameStarts.{Ready};
 ghost use Rattle.texts.specs.StoredTrees.{StoredFor, held};
 ghost use Rattle.texts.specs.StoredPlaces.{
   WithinStored,
@@ -71,17 +72,19 @@ fn tree_leaf(
     shorts: &[[u8; SHORT_MOST]; FIELDS_MOST],
     words: &[[u8; SHORT_MOST]; FIELDS_MOST],
     marks: &[u8; FIELDS_MOST],
+    starts: &[u8; BUCKETS],
     n: usize,
     out: &mut [u8],
 ) -> StoredTree
-    requires { ⌜ (at ≤ length (now s)) × (n ≤ fieldsMost) × (now classes ≡ classTable) ⌝ }
+    requires { ⌜ (at ≤ length (now s)) × (n ≤ fieldsMost)
+        × Ready (now classes) (now starts) (now shorts) (now words) ⌝ }
     ensures place { λ r. ⌜ WithinStored (now (s .entry)) (at + 1) at 0 r ⌝ }
     ensures same { λ r. ⌜ LeafStored (namesOf (now (shorts .entry)) (now (words .entry)) (now (marks .entry)))
         n (now (s .entry)) at (held r (now (out .exit))) ⌝ }
 {
     let end = word_end(classes, s, at);
-    if is_short_in(classes, &s[at..end]) {
-        let i = look_up(shorts, words, marks, n, &s[at..end]);
+    if is_short_word(classes, &s[at..end]) {
+        let i = look_up(shorts, words, marks, starts, n, &s[at..end]);
         return field_node(i, n, end, out);
     }
     if is_number(classes, &s[at..end]) {
@@ -126,16 +129,17 @@ fn tree_expr(
     shorts: &[[u8; SHORT_MOST]; FIELDS_MOST],
     words: &[[u8; SHORT_MOST]; FIELDS_MOST],
     marks: &[u8; FIELDS_MOST],
+    starts: &[u8; BUCKETS],
     n: usize,
     out: &mut [u8],
 ) -> StoredTree
     requires { ⌜ (at ≤ length (now s)) × (length (now s) ≤ textMost) × (n ≤ fieldsMost)
-        × (now classes ≡ classTable) ⌝ }
+        × Ready (now classes) (now starts) (now shorts) (now words) ⌝ }
     ensures place { λ r. ⌜ WithinStored (now (s .entry)) (at + 1) at 0 r ⌝ }
     ensures same { λ r. ⌜ ExprStored (namesOf (now (shorts .entry)) (now (words .entry)) (now (marks .entry)))
         n (now (s .entry)) at k b (held r (now (out .exit))) ⌝ }
 {
-    let a = tree_atom(classes, s, at, b, shorts, words, marks, n, out);
+    let a = tree_atom(classes, s, at, b, shorts, words, marks, starts, n, out);
     let next = a.next;
     if a.len == 0 {
         return a;
@@ -151,6 +155,7 @@ fn tree_expr(
         shorts,
         words,
         marks,
+        starts,
         n,
         out,
     )
@@ -165,11 +170,12 @@ fn tree_atom(
     shorts: &[[u8; SHORT_MOST]; FIELDS_MOST],
     words: &[[u8; SHORT_MOST]; FIELDS_MOST],
     marks: &[u8; FIELDS_MOST],
+    starts: &[u8; BUCKETS],
     n: usize,
     out: &mut [u8],
 ) -> StoredTree
     requires { ⌜ (at ≤ length (now s)) × (length (now s) ≤ textMost) × (n ≤ fieldsMost)
-        × (now classes ≡ classTable) ⌝ }
+        × Ready (now classes) (now starts) (now shorts) (now words) ⌝ }
     ensures place { λ r. ⌜ WithinStored (now (s .entry)) (at + 1) at 0 r ⌝ }
     ensures same { λ r. ⌜ AtomStored (namesOf (now (shorts .entry)) (now (words .entry)) (now (marks .entry)))
         n (now (s .entry)) at b (held r (now (out .exit))) ⌝ }
@@ -179,12 +185,36 @@ fn tree_atom(
     }
     let c = s[at];
     if c == b'!' {
-        return tree_inside(classes, s, at + 1, b, true, shorts, words, marks, n, out);
+        return tree_inside(
+            classes,
+            s,
+            at + 1,
+            b,
+            true,
+            shorts,
+            words,
+            marks,
+            starts,
+            n,
+            out,
+        );
     }
     if c == b'(' {
-        return tree_inside(classes, s, at, b, false, shorts, words, marks, n, out);
+        return tree_inside(
+            classes,
+            s,
+            at,
+            b,
+            false,
+            shorts,
+            words,
+            marks,
+            starts,
+            n,
+            out,
+        );
     }
-    tree_leaf(classes, s, at, shorts, words, marks, n, out)
+    tree_leaf(classes, s, at, shorts, words, marks, starts, n, out)
 }
 
 // An expression in parentheses, or its negation.
@@ -197,11 +227,12 @@ fn tree_inside(
     shorts: &[[u8; SHORT_MOST]; FIELDS_MOST],
     words: &[[u8; SHORT_MOST]; FIELDS_MOST],
     marks: &[u8; FIELDS_MOST],
+    starts: &[u8; BUCKETS],
     n: usize,
     out: &mut [u8],
 ) -> StoredTree
     requires { ⌜ (at ≤ length (now s)) × (length (now s) ≤ textMost) × (n ≤ fieldsMost)
-        × (now classes ≡ classTable) ⌝ }
+        × Ready (now classes) (now starts) (now shorts) (now words) ⌝ }
     ensures place { λ r. ⌜ WithinStored (now (s .entry)) (at + 1) at 0 r ⌝ }
     ensures same { λ r. ⌜ InsideStored (namesOf (now (shorts .entry)) (now (words .entry)) (now (marks .entry)))
         n (now (s .entry)) at b neg (held r (now (out .exit))) ⌝ }
@@ -215,7 +246,19 @@ fn tree_inside(
     if s[at] != b'(' {
         return no_tree();
     }
-    let e = tree_expr(classes, s, at + 1, 0, b - 1, shorts, words, marks, n, out);
+    let e = tree_expr(
+        classes,
+        s,
+        at + 1,
+        0,
+        b - 1,
+        shorts,
+        words,
+        marks,
+        starts,
+        n,
+        out,
+    );
     if e.len == 0 {
         return e;
     }
@@ -242,11 +285,13 @@ fn tree_step(
     shorts: &[[u8; SHORT_MOST]; FIELDS_MOST],
     words: &[[u8; SHORT_MOST]; FIELDS_MOST],
     marks: &[u8; FIELDS_MOST],
+    starts: &[u8; BUCKETS],
     n: usize,
     out: &mut [u8],
 ) -> Step
     requires { ⌜ (at ≤ length (now s)) × (length (now s) ≤ textMost) × (n ≤ fieldsMost) × (left .next ≡ at)
-        × (left .len ≤ 5 * at) × (left .depth ≤ left .len) × (now classes ≡ classTable) ⌝ }
+        × (left .len ≤ 5 * at) × (left .depth ≤ left .len)
+        × Ready (now classes) (now starts) (now shorts) (now words) ⌝ }
     ensures place { λ r. ⌜ WithinStep (now (s .entry)) at (left .len) r ⌝ }
     ensures same { λ r. ⌜ StepStored (namesOf (now (shorts .entry)) (now (words .entry)) (now (marks .entry)))
         n (now (s .entry)) at k h b (held left (now (out .entry))) (now (out .exit)) r ⌝ }
@@ -273,6 +318,7 @@ fn tree_step(
                 shorts,
                 words,
                 marks,
+                starts,
                 n,
                 &mut out[from..],
             );
@@ -301,11 +347,13 @@ fn tree_more(
     shorts: &[[u8; SHORT_MOST]; FIELDS_MOST],
     words: &[[u8; SHORT_MOST]; FIELDS_MOST],
     marks: &[u8; FIELDS_MOST],
+    starts: &[u8; BUCKETS],
     n: usize,
     out: &mut [u8],
 ) -> StoredTree
     requires { ⌜ (at ≤ length (now s)) × (length (now s) ≤ textMost) × (n ≤ fieldsMost) × (left .next ≡ at)
-        × (left .len ≤ 5 * at) × (left .depth ≤ left .len) × (now classes ≡ classTable) ⌝ }
+        × (left .len ≤ 5 * at) × (left .depth ≤ left .len)
+        × Ready (now classes) (now starts) (now shorts) (now words) ⌝ }
     ensures place { λ r. ⌜ WithinStored (now (s .entry)) at at (left .len) r ⌝ }
     ensures same { λ r. ⌜ MoreStored (namesOf (now (shorts .entry)) (now (words .entry)) (now (marks .entry)))
         n (now (s .entry)) at k h b (held left (now (out .entry))) (held r (now (out .exit))) ⌝ }
@@ -324,6 +372,7 @@ fn tree_more(
             shorts,
             words,
             marks,
+            starts,
             n,
             out,
         );
@@ -344,14 +393,27 @@ pub(crate) fn stored_tree(
     shorts: &[[u8; SHORT_MOST]; FIELDS_MOST],
     words: &[[u8; SHORT_MOST]; FIELDS_MOST],
     marks: &[u8; FIELDS_MOST],
+    starts: &[u8; BUCKETS],
     n: usize,
     out: &mut [u8],
 ) -> StoredTree
     requires { ⌜ (at ≤ length (now s)) × (length (now s) ≤ textMost) × (n ≤ fieldsMost)
-        × (now classes ≡ classTable) ⌝ }
+        × Ready (now classes) (now starts) (now shorts) (now words) ⌝ }
     ensures place { λ r. ⌜ WithinStored (now (s .entry)) (at + 1) at 0 r ⌝ }
     ensures same { λ r. ⌜ StoredFor (namesOf (now (shorts .entry)) (now (words .entry)) (now (marks .entry)))
         n (now (s .entry)) (readTree (drop at (now (s .entry)))) (held r (now (out .exit))) ⌝ }
 {
-    tree_expr(classes, s, at, 0, OPEN_MOST, shorts, words, marks, n, out)
+    tree_expr(
+        classes,
+        s,
+        at,
+        0,
+        OPEN_MOST,
+        shorts,
+        words,
+        marks,
+        starts,
+        n,
+        out,
+    )
 }

@@ -1,4 +1,5 @@
 // The width of a field line, its expression in its stored form.
+use crate::name_starts::BUCKETS;
 use crate::phrases::starts_at;
 use crate::stored_nodes::no_tree;
 use crate::stored_trees::StoredTree;
@@ -19,6 +20,7 @@ ghost use Rattle.rules.specs.Limits.{textMost, fieldsMost};
 ghost use Rattle.names.specs.Classes.{classTable};
 ghost use Rattle.text_laws.specs.LineReader.{readMeasure, readWidth};
 ghost use Rattle.texts.specs.HeldNames.{namesOf};
+ghost use Rattle.texts.specs.NameStarts.{Ready};
 ghost use Rattle.texts.specs.PartPlaces.{isUnit};
 ghost use Rattle.texts.specs.HeldParts.{FixedFor, MeasureWithin, MeasureFor, SizedFor};
 
@@ -82,16 +84,17 @@ fn measure_at(
     shorts: &[[u8; SHORT_MOST]; FIELDS_MOST],
     words: &[[u8; SHORT_MOST]; FIELDS_MOST],
     marks: &[u8; FIELDS_MOST],
+    starts: &[u8; BUCKETS],
     n: usize,
     out: &mut [u8],
 ) -> Measure
     requires { ⌜ (at ≤ length (now s)) × (length (now s) ≤ textMost) × (n ≤ fieldsMost)
-        × (now classes ≡ classTable) ⌝ }
+        × Ready (now classes) (now starts) (now shorts) (now words) ⌝ }
     ensures place { λ r. ⌜ MeasureWithin (now (s .entry)) at r ⌝ }
     ensures same { λ r. ⌜ MeasureFor (namesOf (now (shorts .entry)) (now (words .entry)) (now (marks .entry)))
         n (now (s .entry)) (readMeasure (drop at (now (s .entry)))) (now (out .exit)) r ⌝ }
 {
-    let t = stored_tree(classes, s, at, shorts, words, marks, n, out);
+    let t = stored_tree(classes, s, at, shorts, words, marks, starts, n, out);
     if t.len == 0 {
         return plain(0, 0, 0);
     }
@@ -109,11 +112,12 @@ pub(crate) fn width_at(
     shorts: &[[u8; SHORT_MOST]; FIELDS_MOST],
     words: &[[u8; SHORT_MOST]; FIELDS_MOST],
     marks: &[u8; FIELDS_MOST],
+    starts: &[u8; BUCKETS],
     n: usize,
     out: &mut [u8],
 ) -> Measure
     requires { ⌜ (at ≤ length (now s)) × (length (now s) ≤ textMost) × (n ≤ fieldsMost)
-        × (now classes ≡ classTable) ⌝ }
+        × Ready (now classes) (now starts) (now shorts) (now words) ⌝ }
     ensures place { λ r. ⌜ MeasureWithin (now (s .entry)) at r ⌝ }
     ensures same { λ r. ⌜ MeasureFor (namesOf (now (shorts .entry)) (now (words .entry)) (now (marks .entry)))
         n (now (s .entry)) (readWidth (drop at (now (s .entry)))) (now (out .exit)) r ⌝ }
@@ -121,5 +125,5 @@ pub(crate) fn width_at(
     if starts_at(s, at, b"variable") {
         return plain(4, 0, at + 8);
     }
-    measure_at(classes, s, at, shorts, words, marks, n, out)
+    measure_at(classes, s, at, shorts, words, marks, starts, n, out)
 }

@@ -32,18 +32,24 @@ is-full-requires : tie.Need-is-full-requires
 is-full-requires c κs = search needs
 
 too-many-requires : tie.Need-too-many-requires
-too-many-requires c κs = c .before .before .before .before .before .pre .1
+too-many-requires c κs =
+    let c1 = c .before .before .before .before .before in
+    c1 .pre .0 .1
 
 returns : tie.Need-returns
 unfolding noteOf
 returns c =
-    let r = c .before .before .before .before .before .before .args .r in
+    let c1 = c .before .before .before .before .before .before in
+    let r = c1 .args .r in
     rw (c .too-many .ensures) (
-      taken-onward r at.FieldLine (note 4 0) refl (c .before .before .before .before .before .before .pre .0),
+      taken-onward r at.FieldLine (note 4 0) refl (c1 .pre .0 .0),
       (
-        refl,
-        (λ f k h. holds-full f r h (now (c .before .before .before .before .before .before .args .line))
-            (sym (full-same f r (h .counts)) ∙ sym (c .before .before .is-full .ensures) ∙ c .before .if1 .taken)),
+        (
+          refl,
+          (λ f k h. holds-full f r h (now (c1 .args .line))
+              (sym (full-same f r (h .counts)) ∙ sym (c .before .before .is-full .ensures) ∙ c .before .if1 .taken)),
+        ),
+        c1 .pre .1,
       ),
     )
 
@@ -61,26 +67,29 @@ slice-aggregate-parts-of-3 c = search needs
 
 parts-of-requires : tie.Need-parts-of-requires
 parts-of-requires c κs =
-    let c1 = c .before .before .before .before .before .before .before in
-    let c2 = c1 .before .before .before .before .before .before in
-    let few = full-room (c2 .args .r) (sym (c1 .before .before .is-full .ensures) ∙ c1 .before .if1 .left) in (
-      c2 .pre .2,
+    let c1 = c .before .before .before .before .before .before .before .before in
+    let c2 = c1 .before in
+    let c3 = c2 .before in
+    let c4 = c3 .before .before .before .before in
+    let few = full-room (c4 .args .r) (sym (c3 .is-full .ensures) ∙ c2 .if1 .left) in (
+      c4 .pre .0 .2,
       omega (
         arith,
         few,
-        c2 .pre .0 .fields,
+        c4 .pre .0 .0 .fields,
       ),
-      c1 .class-table .ensures,
+      record { table = c1 .class-table .ensures; names = c4 .pre .1 },
     )
 
 refuse-line-requires : tie.Need-refuse-line-requires
 refuse-line-requires c κs =
     let c1 = c .before .before .before .before .before .before .before .before .before .before .before .before
-    .before .before in (
-      c1 .before .before .before .before .before .pre .0,
-      c1 .before .before .before .before .before .pre .1,
-      full-room (c1 .before .before .before .before .before .args .r) (sym (c1 .before .is-full .ensures) ∙ c1 .if1
-          .left),
+    .before .before .before in
+    let c2 = c1 .before in
+    let c3 = c2 .before .before .before .before in (
+      c3 .pre .0 .0,
+      c3 .pre .0 .1,
+      full-room (c3 .args .r) (sym (c2 .is-full .ensures) ∙ c1 .if1 .left),
       omega arith,
       omega arith,
     )
@@ -88,18 +97,23 @@ refuse-line-requires c κs =
 returns-2 : tie.Need-returns-2
 returns-2 c =
     let c1 = c .before .before .before .before .before .before in
-    let c2 = c1 .before .before .before .before .before .before .before .before .before in
-    let r = c2 .before .before .before .before .before .args .r in
-    let l = now (c2 .before .before .before .before .before .args .line) in
+    let c2 = c1 .before .before .before .before .before .before .before .before .before .before in
+    let c3 = c2 .before in
+    let c4 = c3 .before .before .before .before in
+    let r = c4 .args .r in
+    let l = now (c4 .args .line) in
     let p = c1 .parts-of .result in
     let o = c1 .parts-of .ensures in
-    let e = form-none _ (r .fields) l (readForm l) _ p (o .1) (c .before .if2 .taken) in
+    let e = form-none _ (r .fields) l (readForm l) _ p (o .1 .0) (c .before .if2 .taken) in
     let q = c .refuse-line .ensures in (
       q .0,
       (
-        refl,
-        (λ f k h. rw (q .1 .0) (holds-formless f r (holds-kept f r h (o .0)) l (c .refuse-line .result .note)
-            (sym (full-same f r (h .counts)) ∙ sym (c2 .before .is-full .ensures) ∙ c2 .if1 .left) e (q .1 .1))),
+        (
+          refl,
+          (λ f k h. rw (q .1 .0) (holds-formless f r (holds-kept f r h (o .0)) l (c .refuse-line .result .note)
+              (sym (full-same f r (h .counts)) ∙ sym (c3 .is-full .ensures) ∙ c2 .if1 .left) e (q .1 .1))),
+        ),
+        c1 .parts-of .ensures .1 .1,
       ),
     )
 
@@ -118,23 +132,27 @@ slice-aggregate-take-form-3 c = search needs
 take-form-requires : tie.Need-take-form-requires
 take-form-requires c κs =
     let c1 = c .before .before .before .before .before .before .before in
-    let c2 = c1 .before .before .before .before .before .before .before in
-    let c3 = c2 .before .before .before .before .before .before .before .before .before in
-    let r = c3 .before .before .before .before .before .args .r in
-    let l = now (c3 .before .before .before .before .before .args .line) in
-    let p = c2 .parts-of .result in
-    let x = form-some _ (r .fields) l (readForm l) _ p (c2 .parts-of .ensures .1) (c1 .before .before .if2 .left) in
-    let small = sym (c1 .before .sizes-kept .ensures _ (r .fields) l
+    let c2 = c1 .before in
+    let c3 = c2 .before in
+    let c4 = c3 .before .before .before .before .before in
+    let c5 = c4 .before .before .before .before .before .before .before .before .before .before in
+    let c6 = c5 .before in
+    let c7 = c6 .before .before .before .before in
+    let r = c7 .args .r in
+    let l = now (c7 .args .line) in
+    let p = c4 .parts-of .result in
+    let x = form-some _ (r .fields) l (readForm l) _ p (c4 .parts-of .ensures .1 .0) (c3 .if2 .left) in
+    let small = sym (c2 .sizes-kept .ensures _ (r .fields) l
     (x .0) _ (x .2)) ∙ c1 .if3 .taken in (
-      c3 .before .before .before .before .before .pre,
-      full-room r (sym (c3 .before .is-full .ensures) ∙ c3 .if1 .left),
+      c7 .pre .0,
+      full-room r (sym (c6 .is-full .ensures) ∙ c5 .if1 .left),
       (
         parts-writable _ (r .fields) l (x .0) _ p (x .2) small,
         field-most _ (r .fields) l (x .0) _ p (x .2) small (line-formed l (x .0) (x .1)),
         record {
-          width = (let k = c2 .parts-of .kept .1 .1 .1 .1 .1 .1 .0 in omega (arith, k));
-          constraint = (let k = c2 .parts-of .kept .1 .1 .1 .1 .1 .1 .1 .0 in omega (arith, k));
-          condition = (let k = c2 .parts-of .kept .1 .1 .1 .1 .1 .1 .1 .1 .0 in omega (arith, k));
+          width = (let k = c4 .parts-of .kept .1 .1 .1 .1 .1 .1 .1 .0 in omega (arith, k));
+          constraint = (let k = c4 .parts-of .kept .1 .1 .1 .1 .1 .1 .1 .1 .0 in omega (arith, k));
+          condition = (let k = c4 .parts-of .kept .1 .1 .1 .1 .1 .1 .1 .1 .1 .0 in omega (arith, k));
         },
       ),
     )
@@ -145,55 +163,69 @@ same-length c = search needs
 returns-3 : tie.Need-returns-3
 returns-3 c =
     let c1 = c .before .before .before .before .before .before .before .before .before .before in
-    let c2 = c1 .before .before .before .before .before .before .before in
-    let c3 = c2 .before .before .before .before .before .before .before .before .before in
-    let r = c3 .before .before .before .before .before .args .r in
-    let l = now (c3 .before .before .before .before .before .args .line) in
-    let p = c2 .parts-of .result in
-    let o = c2 .parts-of .ensures in
-    let x = form-some _ (r .fields) l (readForm l) _ p (o .1) (c1 .before .before .if2 .left) in
-    let small = sym (c1 .before .sizes-kept .ensures _ (r .fields) l (x .0) _ (x .2)) ∙ c1 .if3 .taken in
+    let c2 = c1 .before in
+    let c3 = c2 .before in
+    let c4 = c3 .before .before .before .before .before in
+    let c5 = c4 .before .before .before .before .before .before .before .before .before .before in
+    let c6 = c5 .before in
+    let c7 = c6 .before .before .before .before in
+    let r = c7 .args .r in
+    let l = now (c7 .args .line) in
+    let p = c4 .parts-of .result in
+    let o = c4 .parts-of .ensures in
+    let x = form-some _ (r .fields) l (readForm l) _ p (o .1 .0) (c3 .if2 .left) in
+    let small = sym (c2 .sizes-kept .ensures _ (r .fields) l (x .0) _ (x .2)) ∙ c1 .if3 .taken in
     let q = c .before .before .take-form .ensures in (
       q .0,
       (
-        q .1 .0,
-        (λ f k h. q .1 .1 f (x .0) _ k
-            (sym (full-same f r (h .counts)) ∙ sym (c3 .before .is-full .ensures) ∙ c3 .if1 .left)
-            (holds-kept f r h (o .0)) (x .1) small (x .2)),
+        (
+          q .1 .0,
+          (λ f k h. q .1 .1 f (x .0) _ k
+              (sym (full-same f r (h .counts)) ∙ sym (c6 .is-full .ensures) ∙ c5 .if1 .left)
+              (holds-kept f r h (o .0)) (x .1) small (x .2)),
+        ),
+        c4 .parts-of .ensures .1 .1,
       ),
     )
 
 refuse-line-requires-2 : tie.Need-refuse-line-requires-2
 refuse-line-requires-2 c κs =
     let c1 = c .before .before .before .before .before .before .before .before .before .before .before .before
-    .before .before .before .before in (
-      c1 .before .before .before .before .before .pre .0,
-      c1 .before .before .before .before .before .pre .1,
-      full-room (c1 .before .before .before .before .before .args .r) (sym (c1 .before .is-full .ensures) ∙ c1 .if1
-          .left),
+    .before .before .before .before .before in
+    let c2 = c1 .before in
+    let c3 = c2 .before .before .before .before in (
+      c3 .pre .0 .0,
+      c3 .pre .0 .1,
+      full-room (c3 .args .r) (sym (c2 .is-full .ensures) ∙ c1 .if1 .left),
       omega arith,
       omega arith,
     )
 
 returns-4 : tie.Need-returns-4
 returns-4 c =
-    let c1 = c .before .before .before .before .before .before .before .before in
-    let c2 = c1 .before .before .before .before .before .before .before .before .before in
-    let r = c2 .before .before .before .before .before .args .r in
-    let l = now (c2 .before .before .before .before .before .args .line) in
-    let p = c1 .parts-of .result in
-    let o = c1 .parts-of .ensures in
-    let x = form-some _ (r .fields) l (readForm l) _ p (o .1) (c .before .before .before .if2 .left) in
+    let c1 = c .before .before .before in
+    let c2 = c1 .before .before .before .before .before in
+    let c3 = c2 .before .before .before .before .before .before .before .before .before .before in
+    let c4 = c3 .before in
+    let c5 = c4 .before .before .before .before in
+    let r = c5 .args .r in
+    let l = now (c5 .args .line) in
+    let p = c2 .parts-of .result in
+    let o = c2 .parts-of .ensures in
+    let x = form-some _ (r .fields) l (readForm l) _ p (o .1 .0) (c1 .if2 .left) in
     let q = c .refuse-line2 .ensures in
     let large : all isSmall (trees (x .0)) ≡ false =
     sym (c .before .before .sizes-kept .ensures _ (r .fields) l (x .0) _ (x .2)) ∙ c .before .if3 .left in (
       q .0,
       (
-        refl,
-        (λ f k h. rw (q .1 .0) (holds-closed f r (holds-kept f r h (o .0)) l (x .0) (c .refuse-line2 .result .note)
-            (sym (full-same f r (h .counts)) ∙ sym (c2 .before .is-full .ensures) ∙ c2 .if1 .left) (x .1)
-            (q .1 .1 ∙ large-note f r (x .0) (h .counts) large)
-            (ap isOpen (q .1 .1) ∙ shut-six (noteOf (r .note)) (r .lines + 1)))),
+        (
+          refl,
+          (λ f k h. rw (q .1 .0) (holds-closed f r (holds-kept f r h (o .0)) l (x .0) (c .refuse-line2 .result .note)
+              (sym (full-same f r (h .counts)) ∙ sym (c4 .is-full .ensures) ∙ c3 .if1 .left) (x .1)
+              (q .1 .1 ∙ large-note f r (x .0) (h .counts) large)
+              (ap isOpen (q .1 .1) ∙ shut-six (noteOf (r .note)) (r .lines + 1)))),
+        ),
+        c2 .parts-of .ensures .1 .1,
       ),
     )
 

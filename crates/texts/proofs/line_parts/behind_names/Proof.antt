@@ -8,11 +8,12 @@ use Rattle.texts.proofs.line_parts.behind_names.Lts as lts
 use Rattle.texts.proofs.clause_trees.ends_at.Reads as ends-at-reads
 use Rattle.texts.proofs.held_names.hold_own.Reads as hold-own-reads
 use Rattle.texts.proofs.line_parts.no_parts.Reads as no-parts-reads
+use Rattle.texts.proofs.line_parts.whole_parts.Reads as whole-parts-reads
 use Rattle.texts.proofs.width_trees.width_at.Reads as width-at-reads
 
 width-at-requires : tie.Need-width-at-requires
 width-at-requires c κs =
-    let c1 = c .before .before .before .before .before .before .before .before in
+    let c1 = c .before .before .before .before .before .before .before .before .before in
     (c1 .pre .0, c1 .pre .1, omega (arith, c1 .pre .2), c1 .pre .4)
 
 no-parts-requires : tie.Need-no-parts-requires
@@ -23,32 +24,48 @@ same-length c = search needs
 
 returns : tie.Need-returns
 returns c =
-    let a = c .before .before .before .before .before .before .before .before .before .before .before .before .before
-    .before .args in
-    let w = c .before .before .before .before .before .width-at in (
+    let c1 = c .before .before .before .before .before in
+    let c2 = c1 .before .before .before .before .before .before .before .before .before .before in
+    let a = c2 .args in
+    let w = c1 .width-at in (
       kept-all _ (a .n),
-      behind-none _ (a .n) (a .s .now) (a .label) (a .short) (a .at) _ _ _ (w .result) (c .no-parts .ensures)
-          (w .ensures .1) (c .before .if1 .taken),
+      (
+        behind-none _ (a .n) (a .s .now) (a .label) (a .short) (a .at) _ _ _ (w .result) (c .no-parts .ensures)
+            (w .ensures .1) (c .before .if1 .taken),
+        c2 .pre .4 .names,
+      ),
     )
 
 hold-own-requires : tie.Need-hold-own-requires
 hold-own-requires c κs =
     let c1 = c .before .before .before .before .before .before .before .before .before .before .before .before
-    .before .before .before .before in
+    .before .before .before .before .before .before in
     (c1 .pre .3, c1 .pre .2, c1 .pre .4)
 
 ends-at-requires : tie.Need-ends-at-requires
 ends-at-requires c κs =
-    let c1 = c .before .before .before .before .before .before .before .before .before .before in
-    let c2 = c1 .before .before .before .before .before .before .before .before .before .before .before .before
-    .before in
-    let w = c1 .before .before .before .before .width-at .ensures .0 (c1 .if1 .left) in
-    (w .1, c2 .pre .1, c2 .pre .2, c2 .pre .4)
+    let c1 = c .before .before .before .before .before .before in
+    let c2 = c1 .before .before .before .before .before in
+    let c3 = c2 .before .before .before .before in
+    let c4 = c3 .before .before .before .before .before .before .before .before .before .before in
+    let w = c3 .width-at .ensures .0 (c2 .if1 .left) in (
+      w .1,
+      c4 .pre .1,
+      c4 .pre .2,
+      record {
+        table = c4 .pre .4 .table;
+        names = c1 .hold-own .ensures .1;
+      },
+    )
+
+whole-parts-requires : tie.Need-whole-parts-requires
+whole-parts-requires c κs = search needs
 
 same-length-2 : tie.Need-same-length-2
 same-length-2 c =
-    let k = c .before .before .before .before .before .before .before .before .before .before .before .before .before
-    .before .before .before .before .before .before .before .before .before .width-at .kept .1 .1 .1 .1 .1 .1 .1 .0
+    let c1 = c .before .before .before .before .before .before .before .before .before .before .before .before
+    .before .before .before .before .before .before .before .before .before .before in
+    let k = c1 .width-at .kept .1 .1 .1 .1 .1 .1 .1 .1 .0
     in search (needs, k)
 
 same-length-3 : tie.Need-same-length-3
@@ -59,19 +76,24 @@ same-length-4 c = search needs
 
 returns-2 : tie.Need-returns-2
 returns-2 c =
-    let c1 = c .before .before .before .before .before .before .before in
+    let c1 = c .before .before .before .before .before .before in
     let c2 = c1 .before .before .before .before .before .before .before in
-    let c3 = c2 .before .before .before .before .before .before .before .before in
-    let c4 = c3 .before .before .before .before .before .before .before .before .before in
-    let a = c4 .args in
-    let w = c3 .width-at in
+    let c3 = c2 .before .before .before .before .before in
+    let c4 = c3 .before .before .before .before in
+    let c5 = c4 .before .before .before .before .before .before .before .before .before .before in
+    let a = c5 .args in
+    let w = c4 .width-at in
     let e = c1 .ends-at in
-    let own = c2 .hold-own .ensures in
-    let x = w .ensures .1 .there (c2 .before .before .before .before .if1 .left) in
-    let f = c4 .pre .3 in (
+    let own = c2 .hold-own .ensures .0 in
+    let x = w .ensures .1 .there (c3 .if1 .left) in
+    let f = c5 .pre .3 in (
       own-kept _ (a .n) (a .s .now) (a .label) (a .short) (w .result .kind) _ own,
-      behind-whole _ (a .n) (a .s .now) (a .label) (a .short) (a .at) _ _ (w .result) x (e .result) (e .ensures)
-          (c .if2 .taken) (f .0) (f .1) own,
+      (
+        rw (c .whole-parts .ensures) (behind-whole _ (a .n) (a .s .now) (a .label) (a .short) (a .at) _ _ (w .result)
+            x (e .result) (e .ensures)
+            (c .before .if2 .taken) (f .0) (f .1) own),
+        c2 .hold-own .ensures .1,
+      ),
     )
 
 no-parts-requires-2 : tie.Need-no-parts-requires-2
@@ -79,9 +101,9 @@ no-parts-requires-2 c κs = search needs
 
 same-length-5 : tie.Need-same-length-5
 same-length-5 c =
-    let k = c .before .before .before .before .before .before .before .before .before .before .before .before .before
-    .before .before .before .before .before .before .before .before .before .before .width-at .kept .1 .1 .1 .1 .1 .1
-    .1 .0 in search (needs, k)
+    let c1 = c .before .before .before .before .before .before .before .before .before .before .before .before
+    .before .before .before .before .before .before .before .before .before .before in
+    let k = c1 .width-at .kept .1 .1 .1 .1 .1 .1 .1 .1 .0 in search (needs, k)
 
 same-length-6 : tie.Need-same-length-6
 same-length-6 c = search needs
@@ -91,17 +113,22 @@ same-length-7 c = search needs
 
 returns-3 : tie.Need-returns-3
 returns-3 c =
-    let c1 = c .before .before .before .before .before .before .before .before in
+    let c1 = c .before .before .before .before .before .before in
     let c2 = c1 .before .before .before .before .before .before .before in
-    let c3 = c2 .before .before .before .before .before .before .before .before in
-    let a = c3 .before .before .before .before .before .before .before .before .before .args in
-    let w = c3 .width-at in
+    let c3 = c2 .before .before .before .before .before in
+    let c4 = c3 .before .before .before .before in
+    let c5 = c4 .before .before .before .before .before .before .before .before .before .before in
+    let a = c5 .args in
+    let w = c4 .width-at in
     let e = c1 .ends-at in
-    let own = c2 .hold-own .ensures in
-    let x = w .ensures .1 .there (c2 .before .before .before .before .if1 .left) in (
+    let own = c2 .hold-own .ensures .0 in
+    let x = w .ensures .1 .there (c3 .if1 .left) in (
       own-kept _ (a .n) (a .s .now) (a .label) (a .short) (w .result .kind) _ own,
-      behind-width _ (a .n) (a .s .now) (a .label) (a .short) (a .at) _ _ (w .result) x (e .result) (e .ensures) _
-          (c .no-parts2 .ensures) (c .before .if2 .left),
+      (
+        behind-width _ (a .n) (a .s .now) (a .label) (a .short) (a .at) _ _ (w .result) x (e .result) (e .ensures) _
+            (c .no-parts2 .ensures) (c .before .if2 .left),
+        c2 .hold-own .ensures .1,
+      ),
     )
 
 pub behind-names-spec : {M : Type 1} → statement M
@@ -114,6 +141,7 @@ behind-names-spec =
     returns
     hold-own-requires
     ends-at-requires
+    whole-parts-requires
     same-length-2
     same-length-3
     same-length-4

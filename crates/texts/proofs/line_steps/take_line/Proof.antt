@@ -1,4 +1,4 @@
-use mathlib.Core.Path.{_≡_, refl, ap, sym, _∙_}
+use mathlib.Core.Path.{refl, ap, _∙_}
 use mathlib.Core.List.{[]}
 use Prim.Native.Nat.{ℕ}
 use native.Mathlib.Omega.{arith}
@@ -9,11 +9,9 @@ use Rattle.base.specs.Bytes.{bytes}
 use Rattle.base.specs.Lists.{same}
 use Rattle.rules.specs.Frames.{units, border}
 use Rattle.text_laws.specs.Fold as fold
-use Rattle.text_laws.specs.Fold.{Found}
 use Rattle.text_laws.specs.Steady.{isHead}
-use Rattle.texts.specs.States.{stageOf}
 use Rattle.texts.specs.declared.states.Stage.the-variants as at
-use Rattle.texts.proofs.StateSteps.{taken-expect, holds-expect, line-at, same-nil}
+use Rattle.texts.proofs.StateSteps.{taken-expect, holds-expect, told-stage, line-at, same-nil}
 use borrow.Author.Needs.{needs}
 use Rattle.texts.proofs.line_steps.take_line.Statement.{statement}
 use Rattle.texts.proofs.line_steps.take_line.Tie as tie
@@ -33,71 +31,75 @@ enum-told : tie.Need-enum-told
 enum-told c = search needs
 
 take-opening-requires : tie.Need-take-opening-requires
-take-opening-requires c κs = (
-  c .before .before .before .before .before .before .pre .0,
-  c .before .before .before .before .before .before .pre .1,
-  omega (arith, c .before .before .before .before .before .before .pre .4),
-)
+take-opening-requires c κs =
+    let c1 = c .before .before .before .before .before .before in (
+      c1 .pre .0 .0,
+      c1 .pre .0 .1,
+      omega (arith, c1 .pre .0 .4),
+    )
 
 enum-told-2 : tie.Need-enum-told-2
 enum-told-2 c = search needs
 
 expect-requires : tie.Need-expect-requires
-expect-requires c κs = c .before .before .before .before .before .pre .1
+expect-requires c κs = c .before .before .before .before .before .pre .0 .1
 
 enum-told-3 : tie.Need-enum-told-3
 enum-told-3 c = search needs
 
 take-ruler-requires : tie.Need-take-ruler-requires
 take-ruler-requires c κs =
-    (c .before .before .before .before .before .pre .0, c .before .before .before .before .before .pre .1)
+    let c1 = c .before .before .before .before .before in
+    (c1 .pre .0 .0, c1 .pre .0 .1)
 
 enum-told-4 : tie.Need-enum-told-4
 enum-told-4 c = search needs
 
 is-units-requires : tie.Need-is-units-requires
-is-units-requires c κs = c .before .before .before .before .before .pre .0 .width
+is-units-requires c κs = c .before .before .before .before .before .pre .0 .0 .width
 
 expect-requires-2 : tie.Need-expect-requires-2
-expect-requires-2 c κs = c .before .before .before .before .before .before .pre .1
+expect-requires-2 c κs = c .before .before .before .before .before .before .pre .0 .1
 
 enum-told-5 : tie.Need-enum-told-5
 enum-told-5 c = search needs
 
 is-border-requires : tie.Need-is-border-requires
-is-border-requires c κs = c .before .before .before .before .before .pre .0 .width
+is-border-requires c κs = c .before .before .before .before .before .pre .0 .0 .width
 
 expect-requires-3 : tie.Need-expect-requires-3
-expect-requires-3 c κs = c .before .before .before .before .before .before .pre .1
+expect-requires-3 c κs = c .before .before .before .before .before .before .pre .0 .1
 
 enum-told-6 : tie.Need-enum-told-6
 enum-told-6 c = search needs
 
 take-row-requires : tie.Need-take-row-requires
-take-row-requires c κs = (
-  c .before .before .before .before .before .before .pre .0,
-  c .before .before .before .before .before .before .pre .1,
-  c .before .before .before .before .before .before .pre .3,
-)
+take-row-requires c κs =
+    let c1 = c .before .before .before .before .before .before in (
+      c1 .pre .0 .0,
+      c1 .pre .0 .1,
+      c1 .pre .0 .3,
+    )
 
 enum-told-7 : tie.Need-enum-told-7
 enum-told-7 c = search needs
 
 is-border-requires-2 : tie.Need-is-border-requires-2
-is-border-requires-2 c κs = c .before .before .before .before .before .pre .0 .width
+is-border-requires-2 c κs = c .before .before .before .before .before .pre .0 .0 .width
 
 expect-requires-4 : tie.Need-expect-requires-4
-expect-requires-4 c κs = c .before .before .before .before .before .before .pre .1
+expect-requires-4 c κs = c .before .before .before .before .before .before .pre .0 .1
 
 enum-told-8 : tie.Need-enum-told-8
 enum-told-8 c = search needs
 
 take-row-or-blank-requires : tie.Need-take-row-or-blank-requires
-take-row-or-blank-requires c κs = (
-  c .before .before .before .before .before .before .pre .0,
-  c .before .before .before .before .before .before .pre .1,
-  c .before .before .before .before .before .before .pre .3,
-)
+take-row-or-blank-requires c κs =
+    let c1 = c .before .before .before .before .before .before in (
+      c1 .pre .0 .0,
+      c1 .pre .0 .1,
+      c1 .pre .0 .3,
+    )
 
 enum-told-9 : tie.Need-enum-told-9
 enum-told-9 c = search needs
@@ -109,27 +111,29 @@ same-words-requires : tie.Need-same-words-requires
 same-words-requires c κs = search needs
 
 expect-requires-5 : tie.Need-expect-requires-5
-expect-requires-5 c κs = c .before .before .before .before .before .before .before .pre .1
+expect-requires-5 c κs = c .before .before .before .before .before .before .before .pre .0 .1
 
 enum-told-10 : tie.Need-enum-told-10
 enum-told-10 c = search needs
 
 expect-requires-6 : tie.Need-expect-requires-6
-expect-requires-6 c κs = c .before .before .before .before .before .pre .1
+expect-requires-6 c κs = c .before .before .before .before .before .pre .0 .1
 
 enum-told-11 : tie.Need-enum-told-11
 enum-told-11 c = search needs
 
 take-field-requires : tie.Need-take-field-requires
-take-field-requires c κs = c .before .before .before .before .before .before .before .before .before .before .before
-    .pre
+take-field-requires c κs =
+    let c1 = c .before .before .before .before .before .before .before .before .before .before .before .before in
+    c1 .pre
 
 enum-told-12 : tie.Need-enum-told-12
 enum-told-12 c = search needs
 
 take-field-requires-2 : tie.Need-take-field-requires-2
-take-field-requires-2 c κs = c .before .before .before .before .before .before .before .before .before .before
-    .before .pre
+take-field-requires-2 c κs =
+    let c1 = c .before .before .before .before .before .before .before .before .before .before .before .before in
+    c1 .pre
 
 enum-told-13 : tie.Need-enum-told-13
 enum-told-13 c = search needs
@@ -140,92 +144,107 @@ same-length c = search needs
 returns : tie.Need-returns
 unfolding fold.linedAt
 returns c =
-    let c1 = c .before .before .before .before .before .before .before .before .before in
-    let r = c1 .args .r in
-    let l = now (c1 .args .line) in
-    let told : (f : Found) → stageOf (r .stage) ≡ f .stage → f .stage ≡ fold.opening =
-    λ f e. sym e ∙ ap stageOf (c .before .before .before .before .enum-told .given .1) in
+    let c1 = c .before .before .before .before in
+    let c2 = c1 .before .before .before .before .before in
+    let r = c2 .args .r in
+    let l = now (c2 .args .line) in
+    let told = told-stage (c1 .enum-told .given .1) in
     let q = c .before .before .take-opening .ensures in (
       q .0,
       (
-        refl,
-        search needs,
-        (λ f k h.
-            let e = told f (h .counts .stage) in
-            line-at f l fold.opening e (q .1 _ f _ _ k (ap isHead e) h)),
+        (
+          refl,
+          search needs,
+          (λ f k h.
+              let e = told f (h .counts .stage) in
+              line-at f l fold.opening e (q .1 _ f _ _ k (ap isHead e) h)),
+        ),
+        c2 .pre .1,
       ),
     )
 
 returns-2 : tie.Need-returns-2
 unfolding fold.linedAt
 returns-2 c =
-    let r = c .before .before .before .before .before .before .args .r in
-    let l = now (c .before .before .before .before .before .before .args .line) in
-    let told : (f : Found) → stageOf (r .stage) ≡ f .stage → f .stage ≡ fold.blank =
-    λ f e. sym e ∙ ap stageOf (c .before .enum-told2 .given .1) in
+    let c1 = c .before .before .before .before .before .before in
+    let r = c1 .args .r in
+    let l = now (c1 .args .line) in
+    let told = told-stage (c .before .enum-told2 .given .1) in
     rw (c .expect .ensures) (
-      taken-expect (eqb (length l) 0) r at.TensRuler (c .before .before .before .before .before .before .pre .0),
+      taken-expect (eqb (length l) 0) r at.TensRuler (c1 .pre .0 .0),
       (
-        refl,
-        refl,
-        (λ f k h. line-at f l fold.blank (told f (h .counts .stage))
-            (holds-expect f r h ([]) l at.TensRuler _ (same-nil l))),
+        (
+          refl,
+          refl,
+          (λ f k h. line-at f l fold.blank (told f (h .counts .stage))
+              (holds-expect f r h ([]) l at.TensRuler _ (same-nil l))),
+        ),
+        c1 .pre .1,
       ),
     )
 
 returns-3 : tie.Need-returns-3
 unfolding fold.linedAt
 returns-3 c =
-    let r = c .before .before .before .before .before .before .args .r in
-    let l = now (c .before .before .before .before .before .before .args .line) in
-    let told : (f : Found) → stageOf (r .stage) ≡ f .stage → f .stage ≡ fold.tensRuler =
-    λ f e. sym e ∙ ap stageOf (c .before .enum-told3 .given .1) in
+    let c1 = c .before .before .before .before .before .before in
+    let r = c1 .args .r in
+    let l = now (c1 .args .line) in
+    let told = told-stage (c .before .enum-told3 .given .1) in
     let q = c .take-ruler .ensures in (
       q .0,
       (
-        refl,
-        refl,
-        (λ f k h.
-            let e = told f (h .counts .stage) in
-            line-at f l fold.tensRuler e (q .1 _ _ f _ _ k (ap isHead e) h)),
+        (
+          refl,
+          refl,
+          (λ f k h.
+              let e = told f (h .counts .stage) in
+              line-at f l fold.tensRuler e (q .1 _ _ f _ _ k (ap isHead e) h)),
+        ),
+        c1 .pre .1,
       ),
     )
 
 returns-4 : tie.Need-returns-4
 unfolding fold.linedAt
 returns-4 c =
-    let r = c .before .before .before .before .before .before .before .args .r in
-    let l = now (c .before .before .before .before .before .before .before .args .line) in
-    let told : (f : Found) → stageOf (r .stage) ≡ f .stage → f .stage ≡ fold.unitsRuler =
-    λ f e. sym e ∙ ap stageOf (c .before .before .enum-told4 .given .1) in
+    let c1 = c .before .before .before .before .before .before .before in
+    let r = c1 .args .r in
+    let l = now (c1 .args .line) in
+    let told = told-stage (c .before .before .enum-told4 .given .1) in
     rw (c .expect2 .ensures) (
       taken-expect (c .before .is-units .result) r at.TopBorder
-          (c .before .before .before .before .before .before .before .pre .0),
+          (c1 .pre .0 .0),
       (
-        refl,
-        refl,
-        (λ f k h. line-at f l fold.unitsRuler (told f (h .counts .stage))
-            (holds-expect f r h (units (f .width)) l at.TopBorder _ (c .before .is-units .ensures
-            ∙ ap (λ (w : ℕ). same l (units w)) (h .counts .width)))),
+        (
+          refl,
+          refl,
+          (λ f k h. line-at f l fold.unitsRuler (told f (h .counts .stage))
+              (holds-expect f r h (units (f .width)) l at.TopBorder _ (c .before .is-units .ensures
+              ∙ ap (λ (w : ℕ). same l (units w)) (h .counts .width)))),
+        ),
+        c1 .pre .1,
       ),
     )
 
 returns-5 : tie.Need-returns-5
 unfolding fold.linedAt
 returns-5 c =
-    let r = c .before .before .before .before .before .before .before .args .r in
-    let l = now (c .before .before .before .before .before .before .before .args .line) in
-    let told : (f : Found) → stageOf (r .stage) ≡ f .stage → f .stage ≡ fold.topBorder =
-    λ f e. sym e ∙ ap stageOf (c .before .before .enum-told5 .given .1) in
+    let c1 = c .before .before .before .before .before .before .before in
+    let r = c1 .args .r in
+    let l = now (c1 .args .line) in
+    let told = told-stage (c .before .before .enum-told5 .given .1) in
     rw (c .expect3 .ensures) (
       taken-expect (c .before .is-border .result) r at.FirstRow
-          (c .before .before .before .before .before .before .before .pre .0),
+          (c1 .pre .0 .0),
       (
-        refl,
-        refl,
-        (λ f k h. line-at f l fold.topBorder (told f (h .counts .stage))
-            (holds-expect f r h (border (f .width)) l at.FirstRow _ (c .before .is-border .ensures
-            ∙ ap (λ (w : ℕ). same l (border w)) (h .counts .width)))),
+        (
+          refl,
+          refl,
+          (λ f k h. line-at f l fold.topBorder (told f (h .counts .stage))
+              (holds-expect f r h (border (f .width)) l at.FirstRow _ (c .before .is-border .ensures
+              ∙ ap (λ (w : ℕ). same l (border w)) (h .counts .width)))),
+        ),
+        c1 .pre .1,
       ),
     )
 
@@ -235,38 +254,44 @@ same-length-2 c = search needs
 returns-6 : tie.Need-returns-6
 unfolding fold.linedAt
 returns-6 c =
-    let c1 = c .before .before .before .before .before .before .before .before .before in
-    let r = c1 .args .r in
-    let l = now (c1 .args .line) in
-    let told : (f : Found) → stageOf (r .stage) ≡ f .stage → f .stage ≡ fold.firstRow =
-    λ f e. sym e ∙ ap stageOf (c .before .before .before .before .enum-told6 .given .1) in
+    let c1 = c .before .before .before .before in
+    let c2 = c1 .before .before .before .before .before in
+    let r = c2 .args .r in
+    let l = now (c2 .args .line) in
+    let told = told-stage (c1 .enum-told6 .given .1) in
     let q = c .before .before .take-row .ensures in (
       q .0,
       (
-        search needs,
-        refl,
-        (λ f k h.
-            let e = told f (h .counts .stage) in
-            line-at f l fold.firstRow e (q .1 _ f _ _ k (ap isHead e) h)),
+        (
+          search needs,
+          refl,
+          (λ f k h.
+              let e = told f (h .counts .stage) in
+              line-at f l fold.firstRow e (q .1 _ f _ _ k (ap isHead e) h)),
+        ),
+        c2 .pre .1,
       ),
     )
 
 returns-7 : tie.Need-returns-7
 unfolding fold.linedAt
 returns-7 c =
-    let r = c .before .before .before .before .before .before .before .args .r in
-    let l = now (c .before .before .before .before .before .before .before .args .line) in
-    let told : (f : Found) → stageOf (r .stage) ≡ f .stage → f .stage ≡ fold.rowBorder =
-    λ f e. sym e ∙ ap stageOf (c .before .before .enum-told7 .given .1) in
+    let c1 = c .before .before .before .before .before .before .before in
+    let r = c1 .args .r in
+    let l = now (c1 .args .line) in
+    let told = told-stage (c .before .before .enum-told7 .given .1) in
     rw (c .expect4 .ensures) (
       taken-expect (c .before .is-border2 .result) r at.RowOrBlank
-          (c .before .before .before .before .before .before .before .pre .0),
+          (c1 .pre .0 .0),
       (
-        refl,
-        refl,
-        (λ f k h. line-at f l fold.rowBorder (told f (h .counts .stage))
-            (holds-expect f r h (border (f .width)) l at.RowOrBlank _ (c .before .is-border2 .ensures
-            ∙ ap (λ (w : ℕ). same l (border w)) (h .counts .width)))),
+        (
+          refl,
+          refl,
+          (λ f k h. line-at f l fold.rowBorder (told f (h .counts .stage))
+              (holds-expect f r h (border (f .width)) l at.RowOrBlank _ (c .before .is-border2 .ensures
+              ∙ ap (λ (w : ℕ). same l (border w)) (h .counts .width)))),
+        ),
+        c1 .pre .1,
       ),
     )
 
@@ -276,55 +301,64 @@ same-length-3 c = search needs
 returns-8 : tie.Need-returns-8
 unfolding fold.linedAt
 returns-8 c =
-    let c1 = c .before .before .before .before .before .before .before .before .before in
-    let r = c1 .args .r in
-    let l = now (c1 .args .line) in
-    let told : (f : Found) → stageOf (r .stage) ≡ f .stage → f .stage ≡ fold.rowOrBlank =
-    λ f e. sym e ∙ ap stageOf (c .before .before .before .before .enum-told8 .given .1) in
+    let c1 = c .before .before .before .before in
+    let c2 = c1 .before .before .before .before .before in
+    let r = c2 .args .r in
+    let l = now (c2 .args .line) in
+    let told = told-stage (c1 .enum-told8 .given .1) in
     let q = c .before .before .take-row-or-blank .ensures in (
       q .0,
       (
-        search needs,
-        refl,
-        (λ f k h.
-            let e = told f (h .counts .stage) in
-            line-at f l fold.rowOrBlank e (q .1 _ f _ _ k (ap isHead e) h)),
+        (
+          search needs,
+          refl,
+          (λ f k h.
+              let e = told f (h .counts .stage) in
+              line-at f l fold.rowOrBlank e (q .1 _ f _ _ k (ap isHead e) h)),
+        ),
+        c2 .pre .1,
       ),
     )
 
 returns-9 : tie.Need-returns-9
 unfolding fold.linedAt
 returns-9 c =
-    let c1 = c .before .before .before .before .before .before .before .before in
-    let r = c1 .args .r in
-    let l = now (c1 .args .line) in
-    let told : (f : Found) → stageOf (r .stage) ≡ f .stage → f .stage ≡ fold.whereLine =
-    λ f e. sym e ∙ ap stageOf (c .before .before .before .enum-told9 .given .1) in
+    let c1 = c .before .before .before in
+    let c2 = c1 .before .before .before .before .before in
+    let r = c2 .args .r in
+    let l = now (c2 .args .line) in
+    let told = told-stage (c1 .enum-told9 .given .1) in
     rw (c .expect5 .ensures) (
       taken-expect (c .before .same-words .result) r at.LastBlank
-          (c1 .pre .0),
+          (c2 .pre .0 .0),
       (
-        refl,
-        refl,
-        (λ f k h. line-at f l fold.whereLine (told f (h .counts .stage))
-            (holds-expect f r h (bytes "where:") l at.LastBlank _ (c .before .same-words .ensures))),
+        (
+          refl,
+          refl,
+          (λ f k h. line-at f l fold.whereLine (told f (h .counts .stage))
+              (holds-expect f r h (bytes "where:") l at.LastBlank _ (c .before .same-words .ensures))),
+        ),
+        c2 .pre .1,
       ),
     )
 
 returns-10 : tie.Need-returns-10
 unfolding fold.linedAt
 returns-10 c =
-    let r = c .before .before .before .before .before .before .args .r in
-    let l = now (c .before .before .before .before .before .before .args .line) in
-    let told : (f : Found) → stageOf (r .stage) ≡ f .stage → f .stage ≡ fold.lastBlank =
-    λ f e. sym e ∙ ap stageOf (c .before .enum-told10 .given .1) in
+    let c1 = c .before .before .before .before .before .before in
+    let r = c1 .args .r in
+    let l = now (c1 .args .line) in
+    let told = told-stage (c .before .enum-told10 .given .1) in
     rw (c .expect6 .ensures) (
-      taken-expect (eqb (length l) 0) r at.FirstField (c .before .before .before .before .before .before .pre .0),
+      taken-expect (eqb (length l) 0) r at.FirstField (c1 .pre .0 .0),
       (
-        refl,
-        refl,
-        (λ f k h. line-at f l fold.lastBlank (told f (h .counts .stage))
-            (holds-expect f r h ([]) l at.FirstField _ (same-nil l))),
+        (
+          refl,
+          refl,
+          (λ f k h. line-at f l fold.lastBlank (told f (h .counts .stage))
+              (holds-expect f r h ([]) l at.FirstField _ (same-nil l))),
+        ),
+        c1 .pre .1,
       ),
     )
 
@@ -337,20 +371,22 @@ same-length-5 c = search needs
 returns-11 : tie.Need-returns-11
 unfolding fold.linedAt
 returns-11 c =
-    let c1 = c .before .before .before .before .before .before .before .before .before in
-    let r = c1 .before .before .before .before .before .args .r in
-    let l = now (c1 .before .before .before .before .before .args .line) in
-    let told : (f : Found) → stageOf (r .stage) ≡ f .stage → f .stage ≡ fold.firstField =
-    λ f e. sym e ∙ ap stageOf
-    (c1 .enum-told11 .given .1) in
+    let c1 = c .before .before .before .before .before .before .before .before .before .before in
+    let c2 = c1 .before .before .before .before .before in
+    let r = c2 .args .r in
+    let l = now (c2 .args .line) in
+    let told = told-stage (c1 .enum-told11 .given .1) in
     let q = c .before .before .take-field .ensures in (
       q .0,
       (
-        refl,
-        q .1 .0,
-        (λ f k h.
-            let e = told f (h .counts .stage) in
-            line-at f l fold.firstField e (q .1 .1 f k h)),
+        (
+          refl,
+          q .1 .0 .0,
+          (λ f k h.
+              let e = told f (h .counts .stage) in
+              line-at f l fold.firstField e (q .1 .0 .1 f k h)),
+        ),
+        c .before .before .take-field .ensures .1 .1,
       ),
     )
 
@@ -363,36 +399,41 @@ same-length-7 c = search needs
 returns-12 : tie.Need-returns-12
 unfolding fold.linedAt
 returns-12 c =
-    let c1 = c .before .before .before .before .before .before .before .before .before in
-    let r = c1 .before .before .before .before .before .args .r in
-    let l = now (c1 .before .before .before .before .before .args .line) in
-    let told : (f : Found) → stageOf (r .stage) ≡ f .stage → f .stage ≡ fold.fieldLine =
-    λ f e. sym e ∙ ap stageOf
-    (c1 .enum-told12 .given .1) in
+    let c1 = c .before .before .before .before .before .before .before .before .before .before in
+    let c2 = c1 .before .before .before .before .before in
+    let r = c2 .args .r in
+    let l = now (c2 .args .line) in
+    let told = told-stage (c1 .enum-told12 .given .1) in
     let q = c .before .before .take-field2 .ensures in (
       q .0,
       (
-        refl,
-        q .1 .0,
-        (λ f k h.
-            let e = told f (h .counts .stage) in
-            line-at f l fold.fieldLine e (q .1 .1 f k h)),
+        (
+          refl,
+          q .1 .0 .0,
+          (λ f k h.
+              let e = told f (h .counts .stage) in
+              line-at f l fold.fieldLine e (q .1 .0 .1 f k h)),
+        ),
+        c .before .before .take-field2 .ensures .1 .1,
       ),
     )
 
 returns-13 : tie.Need-returns-13
 unfolding fold.linedAt
 returns-13 c =
-    let r = c .before .before .before .before .before .args .r in
-    let l = now (c .before .before .before .before .before .args .line) in
-    let told : (f : Found) → stageOf (r .stage) ≡ f .stage → f .stage ≡ fold.lost =
-    λ f e. sym e ∙ ap stageOf (c .enum-told13 .given .1) in (
-      (c .before .before .before .before .before .pre .0, omega arith),
+    let c1 = c .before .before .before .before .before in
+    let r = c1 .args .r in
+    let l = now (c1 .args .line) in
+    let told = told-stage (c .enum-told13 .given .1) in (
+      (c1 .pre .0 .0, omega arith),
       (
-        refl,
-        refl,
-        (λ f k h. line-at f l fold.lost
-            (told f (h .counts .stage)) h),
+        (
+          refl,
+          refl,
+          (λ f k h. line-at f l fold.lost
+              (told f (h .counts .stage)) h),
+        ),
+        c1 .pre .1,
       ),
     )
 

@@ -6,6 +6,7 @@ use lib.Dec.{eqb}
 use lib.ListN.{length, drop, length-drop}
 use lib.Seq.{length-take-le}
 use Rattle.texts.specs.HeldNames.{namesOf}
+use Rattle.texts.specs.NameStarts.{Starts}
 use Rattle.texts.specs.States.{Room}
 use Rattle.texts.proofs.LineWalk.{
   Walking,
@@ -27,26 +28,28 @@ use Rattle.texts.proofs.text_bytes.line_end.Reads as line-end-reads
 use Rattle.texts.proofs.text_ends.end_text.Reads as end-text-reads
 
 abbrev Inv-loop : tie.InvT-loop
-Inv-loop text out₀ cells₀ table₀ labels₀ shorts₀ words₀ marks₀ r₀ at₀ out cells table labels shorts words
-    marks r at =
+Inv-loop text out₀ cells₀ table₀ labels₀ shorts₀ words₀ marks₀ starts₀ r₀ at₀ out cells table labels shorts words
+    marks starts r at =
     (at ≤ length text) ×
     (r .lines ≤ at) ×
     (out ≡ out₀) ×
     (length cells ≡ length cells₀) ×
     (length table ≡ length table₀) ×
     Room r ×
-    Walking text at r cells table labels (namesOf shorts words marks)
+    Walking text at r cells table labels (namesOf shorts words marks) ×
+    Starts starts shorts words
 
 abbrev μ-loop : tie.MeasureT-loop
-μ-loop text out₀ cells₀ table₀ labels₀ shorts₀ words₀ marks₀ r₀ at₀ out cells table labels shorts words marks r at =
-    length text - at
+μ-loop text out₀ cells₀ table₀ labels₀ shorts₀ words₀ marks₀ starts₀ r₀ at₀ out cells table labels shorts words marks
+    starts r at = length text - at
 
 begin-requires : tie.Need-begin-requires Inv-loop μ-loop
 begin-requires c κs = search needs
 
 loop-holds : tie.Need-loop-holds Inv-loop μ-loop
 loop-holds c =
-    let p = c .before .before .before .before .before .pre in
+    let c1 = c .before .before .before .before .before in
+    let p = c1 .pre in
     rw (c .begin .ensures) (
       omega arith,
       omega arith,
@@ -54,7 +57,8 @@ loop-holds c =
       refl,
       refl,
       room-begun,
-      walking-start (now (c .before .before .before .before .before .args .text)) _ _ _ _ (p .3),
+      walking-start (now (c1 .args .text)) _ _ _ _ (p .3),
+      p .4,
     )
 
 line-end-requires : tie.Need-line-end-requires Inv-loop μ-loop
@@ -62,8 +66,10 @@ line-end-requires c κs = search needs
 
 end-text-requires : tie.Need-end-text-requires Inv-loop μ-loop
 end-text-requires c κs =
-    let p = c .before .before .before .before .before .before .before .before .before .before .pre in
-    let v = c .before .before .before .before .loop in (
+    let c1 = c .before .before .before .before in
+    let c2 = c1 .before .before .before .before .before .before in
+    let p = c2 .pre in
+    let v = c1 .loop in (
       v .inv .5,
       omega (arith, v .inv .1, v .inv .0, p .0),
       omega (arith, v .inv .4, p .2),
@@ -80,17 +86,19 @@ same-length-3 c = search needs
 
 returns : tie.Need-returns Inv-loop μ-loop
 returns c =
-    let c1 = c .before .before .before .before .before .before in
-    let c2 = c1 .before .before .before .before .before .before .before in
-    let t = now (c2 .args .text) in
-    let p = c2 .pre in
-    let v = c1 .before .loop in
-    let e = c1 .line-end in
+    let c1 = c .before .before .before .before .before in
+    let c2 = c1 .before in
+    let c3 = c2 .before in
+    let c4 = c3 .before .before .before .before .before .before in
+    let t = now (c4 .args .text) in
+    let p = c4 .pre in
+    let v = c3 .loop in
+    let e = c2 .line-end in
     let w = v .inv .6 in
     let z = walking-reads t (v .at) (e .result) (v .r) w (e .ensures .1) (v .inv .0) (e .ensures .0 .1)
-    (omega (arith, c .before .before .before .before .before .if1 .taken)) (p .0) in
+    (omega (arith, c1 .if1 .taken)) (p .0) in
     rw (← v .inv .2) (z _ _ (c .before .before .end-text .ensures _ _ _ _ (empty-end t (v .at) (v .inv .0)
-    ∙ ap (λ (n : ℕ). eqb (v .at) n) (sym (c .before .before .before .before .before .if1 .taken))) (w .holds)))
+    ∙ ap (λ (n : ℕ). eqb (v .at) n) (sym (c1 .if1 .taken))) (w .holds)))
 
 shared-slice-read-if2 : tie.Need-shared-slice-read-if2 Inv-loop μ-loop
 shared-slice-read-if2 c = search needs
@@ -106,11 +114,13 @@ same-length-6 c = search needs
 
 returns-2 : tie.Need-returns-2 Inv-loop μ-loop
 returns-2 c =
-    let c1 = c .before .before .before .before .before .before .before .before .before .before in
-    let t = now (c1 .args .text) in
-    let p = c1 .pre in
-    let v = c .before .before .before .before .loop in
-    let e = c .before .before .before .line-end in
+    let c1 = c .before .before .before in
+    let c2 = c1 .before in
+    let c3 = c2 .before .before .before .before .before .before in
+    let t = now (c3 .args .text) in
+    let p = c3 .pre in
+    let v = c2 .loop in
+    let e = c1 .line-end in
     let lt : e .result < length t = omega (arith, e .ensures .0 .1, c .before .before .if1 .left) in
     rw (← v .inv .2)
     (walking-stops t (v .at) (e .result) (v .r) (v .inv .6) (e .ensures .1) lt (c .if2 .taken) (p .0) _)
@@ -126,55 +136,67 @@ part-take-line-end c = search needs
 
 take-line-requires : tie.Need-take-line-requires Inv-loop μ-loop
 take-line-requires c κs =
-    let c1 = c .before .before .before .before .before .before .before .before .before .before in
-    let c2 = c1 .before .before .before .before .before .before .before in
-    let t = now (c2 .args .text) in
-    let p = c2 .pre in
-    let v = c1 .before .loop in
+    let c1 = c .before .before .before .before .before .before .before .before .before .before .before in
+    let c2 = c1 .before in
+    let c3 = c2 .before .before .before .before .before .before in
+    let t = now (c3 .args .text) in
+    let p = c3 .pre in
+    let v = c2 .loop in
     let e = c1 .line-end in
     let n = length-take-le (e .result - v .at) (drop (v .at) t)
     (omega (arith, e .ensures .0 .1, length-drop (v .at) t)) in (
-      v .inv .5,
-      omega (arith, v .inv .1, v .inv .0, p .0),
-      omega (arith, n, e .ensures .0 .1, p .0),
-      omega (arith, v .inv .3, p .1),
-      omega (arith, v .inv .4, p .2),
+      (
+        v .inv .5,
+        omega (arith, v .inv .1, v .inv .0, p .0),
+        omega (arith, n, e .ensures .0 .1, p .0),
+        omega (arith, v .inv .3, p .1),
+        omega (arith, v .inv .4, p .2),
+      ),
+      v .inv .7,
     )
 
 add-at : tie.Need-add-at Inv-loop μ-loop
 add-at c =
     let c1 = c .before .before .before .before .before .before .before .before .before .before .before .before
-    .before .before .before in
+    .before .before .before .before in
+    let c2 = c1 .before .before .before .before .before .before .before in
     let q = c1 .line-end .ensures .0 .1 in
-    let p = c1 .before .before .before .before .before .before .before .pre in
+    let p = c2 .pre in
     omega (arith, q, p .0)
 
 loop-less : tie.Need-loop-less Inv-loop μ-loop
 loop-less c =
     let c1 = c .before .before .before .before .before .before .before .before .before .before .before .before
-    .before .before in
-    let q = c1 .before .line-end .ensures .0 in
+    .before .before .before in
+    let c2 = c1 .before in
+    let q = c2 .line-end .ensures .0 in
     let n = c1 .if1 .left in
     omega (arith, q .0, q .1, n)
 
 loop-again : tie.Need-loop-again Inv-loop μ-loop
 loop-again c =
-    let c1 = c .before .before .before .before .before .before .before .before .before .before .before .before in
-    let t = now (c1 .before .before .before .before .before .before .before .before .before .before .args .text) in
-    let v = c1 .before .before .before .before .loop in
-    let e = c1 .before .before .before .line-end in
-    let q = c .before .before .before .before .take-line .ensures in
-    let n = c1 .before .before .if1 .left in
-    let f = c1 .if2 .left in
+    let c1 = c .before .before .before .before in
+    let c2 = c1 .before .before .before .before .before .before .before .before .before in
+    let c3 = c2 .before .before in
+    let c4 = c3 .before in
+    let c5 = c4 .before in
+    let c6 = c5 .before .before .before .before .before .before in
+    let t = now (c6 .args .text) in
+    let v = c5 .loop in
+    let e = c4 .line-end in
+    let q = c1 .take-line .ensures in
+    let n = c3 .if1 .left in
+    let f = c2 .if2 .left in
     let lt : e .result < length t = omega (arith, e .ensures .0 .1, n) in (
       omega (arith, lt),
       omega (arith, q .0 .1, v .inv .1, e .ensures .0 .0),
       v .inv .2,
-      omega (arith, q .1 .0, v .inv .3),
-      omega (arith, q .1 .1, v .inv .4),
+      omega (arith, q .1 .0 .0, v .inv .3),
+      omega (arith, q .1 .0 .1, v .inv .4),
       q .0 .0,
       walking-next t (v .at) (e .result) (v .r) (v .inv .6) (e .ensures .1) lt f
-          (c .before .before .before .before .take-line .result) (q .1),
+          (c1 .take-line .result) (q .1 .0),
+      q .1 .1,
     )
 
 pub read-lines-spec : {M : Type 1} → statement M

@@ -1,3 +1,4 @@
+use Rattle.texts.proofs.StartLaws.{starts-none}
 use borrow.Author.Needs.{needs}
 use Rattle.texts.proofs.reading.read_short.Statement.{statement}
 use Rattle.texts.proofs.reading.read_short.Tie as tie
@@ -12,12 +13,14 @@ slice-aggregate-read-lines-2 : tie.Need-slice-aggregate-read-lines-2
 slice-aggregate-read-lines-2 c = search needs
 
 read-lines-requires : tie.Need-read-lines-requires
-read-lines-requires c κs = (
-  c .before .before .before .before .before .before .before .before .before .pre,
-  search needs,
-  search needs,
-  (search needs, (search needs, search needs, search needs)),
-)
+read-lines-requires c κs =
+    let c1 = c .before .before .before .before .before .before .before .before .before .before in (
+      c1 .pre,
+      search needs,
+      search needs,
+      (search needs, (search needs, search needs, search needs)),
+      starts-none 255,
+    )
 
 same-length : tie.Need-same-length
 same-length c = search needs

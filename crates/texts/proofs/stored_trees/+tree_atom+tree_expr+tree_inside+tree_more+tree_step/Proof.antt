@@ -43,50 +43,50 @@ use Rattle.texts.proofs.stored_trees.tree_leaf.Reads as leaf
 use Rattle.texts.proofs.stored_trees.+tree_atom+tree_expr+tree_inside+tree_more+tree_step.{statement}
 use Rattle.texts.proofs.stored_trees.+tree_atom+tree_expr+tree_inside+tree_more+tree_step.Tie.{close}
 
-abbrev μ-atom : Measures 6 atom-kinds.ps ℕ
+abbrev μ-atom : Measures 7 atom-kinds.ps ℕ
 μ-atom κs a = 5 * (length (a .1 .0 .now) - a .1 .1 .0) + 1
 
-abbrev μ-expr : Measures 6 expr-kinds.ps ℕ
+abbrev μ-expr : Measures 7 expr-kinds.ps ℕ
 μ-expr κs a = 5 * (length (a .1 .0 .now) - a .1 .1 .0) + 2
 
-abbrev μ-inside : Measures 6 inside-kinds.ps ℕ
+abbrev μ-inside : Measures 7 inside-kinds.ps ℕ
 μ-inside κs a = 5 * (length (a .1 .0 .now) - a .1 .1 .0) + 0
 
-abbrev μ-more : Measures 6 more-kinds.ps ℕ
+abbrev μ-more : Measures 7 more-kinds.ps ℕ
 μ-more κs a = 5 * (length (a .1 .0 .now) - a .1 .1 .0) + 4
 
-abbrev μ-step : Measures 6 step-kinds.ps ℕ
+abbrev μ-step : Measures 7 step-kinds.ps ℕ
 μ-step κs a = 5 * (length (a .1 .0 .now) - a .1 .1 .0) + 3
 
-abbrev atom-at : ℕ → In 6 atom-kinds.ps
-atom-at t = and 6 atom-kinds.ps (is 6 atom-kinds.ps μ-atom t) atom.Pre
+abbrev atom-at : ℕ → In 7 atom-kinds.ps
+atom-at t = and 7 atom-kinds.ps (is 7 atom-kinds.ps μ-atom t) atom.Pre
 
-abbrev atom-below : ℕ → In 6 atom-kinds.ps
-atom-below t = and 6 atom-kinds.ps (falls 6 atom-kinds.ps _<_ μ-atom t) atom.Pre
+abbrev atom-below : ℕ → In 7 atom-kinds.ps
+atom-below t = and 7 atom-kinds.ps (falls 7 atom-kinds.ps _<_ μ-atom t) atom.Pre
 
-abbrev expr-at : ℕ → In 6 expr-kinds.ps
-expr-at t = and 6 expr-kinds.ps (is 6 expr-kinds.ps μ-expr t) expr.Pre
+abbrev expr-at : ℕ → In 7 expr-kinds.ps
+expr-at t = and 7 expr-kinds.ps (is 7 expr-kinds.ps μ-expr t) expr.Pre
 
-abbrev expr-below : ℕ → In 6 expr-kinds.ps
-expr-below t = and 6 expr-kinds.ps (falls 6 expr-kinds.ps _<_ μ-expr t) expr.Pre
+abbrev expr-below : ℕ → In 7 expr-kinds.ps
+expr-below t = and 7 expr-kinds.ps (falls 7 expr-kinds.ps _<_ μ-expr t) expr.Pre
 
-abbrev inside-at : ℕ → In 6 inside-kinds.ps
-inside-at t = and 6 inside-kinds.ps (is 6 inside-kinds.ps μ-inside t) inside.Pre
+abbrev inside-at : ℕ → In 7 inside-kinds.ps
+inside-at t = and 7 inside-kinds.ps (is 7 inside-kinds.ps μ-inside t) inside.Pre
 
-abbrev inside-below : ℕ → In 6 inside-kinds.ps
-inside-below t = and 6 inside-kinds.ps (falls 6 inside-kinds.ps _<_ μ-inside t) inside.Pre
+abbrev inside-below : ℕ → In 7 inside-kinds.ps
+inside-below t = and 7 inside-kinds.ps (falls 7 inside-kinds.ps _<_ μ-inside t) inside.Pre
 
-abbrev more-at : ℕ → In 6 more-kinds.ps
-more-at t = and 6 more-kinds.ps (is 6 more-kinds.ps μ-more t) more.Pre
+abbrev more-at : ℕ → In 7 more-kinds.ps
+more-at t = and 7 more-kinds.ps (is 7 more-kinds.ps μ-more t) more.Pre
 
-abbrev more-below : ℕ → In 6 more-kinds.ps
-more-below t = and 6 more-kinds.ps (falls 6 more-kinds.ps _<_ μ-more t) more.Pre
+abbrev more-below : ℕ → In 7 more-kinds.ps
+more-below t = and 7 more-kinds.ps (falls 7 more-kinds.ps _<_ μ-more t) more.Pre
 
-abbrev step-at : ℕ → In 6 step-kinds.ps
-step-at t = and 6 step-kinds.ps (is 6 step-kinds.ps μ-step t) step.Pre
+abbrev step-at : ℕ → In 7 step-kinds.ps
+step-at t = and 7 step-kinds.ps (is 7 step-kinds.ps μ-step t) step.Pre
 
-abbrev step-below : ℕ → In 6 step-kinds.ps
-step-below t = and 6 step-kinds.ps (falls 6 step-kinds.ps _<_ μ-step t) step.Pre
+abbrev step-below : ℕ → In 7 step-kinds.ps
+step-below t = and 7 step-kinds.ps (falls 7 step-kinds.ps _<_ μ-step t) step.Pre
 
 abbrev atom-calls : ℕ → atom-lts.Claims
 atom-calls t = (none.Asked, none.Learnt, inside-below t, inside.Post, leaf.Asked, leaf.Learnt)
@@ -263,7 +263,7 @@ inside-returns-5 t c =
     )
 
 abbrev more-Inv-loop : more-lts.InvT-loop
-more-Inv-loop classes s at k h b shorts words marks n out₀ p₀ level₀ out p level =
+more-Inv-loop classes s at k h b shorts words marks starts n out₀ p₀ level₀ out p level =
     (at ≤ p .next) ×
     (p .next ≤ length s) ×
     (p .len + 5 * at ≤ p₀ .len + 5 * p .next) ×
@@ -273,7 +273,7 @@ more-Inv-loop classes s at k h b shorts words marks n out₀ p₀ level₀ out p
     → MoreStored (namesOf shorts words marks) n s at k h b (held p₀ out₀) q)
 
 abbrev more-μ-loop : more-lts.MeasureT-loop
-more-μ-loop classes s at k h b shorts words marks n out₀ p₀ level₀ out p level = length s - p .next
+more-μ-loop classes s at k h b shorts words marks starts n out₀ p₀ level₀ out p level = length s - p .next
 
 more-loop-holds : (t : ℕ) → more-lts.Need-loop-holds (more-calls t) (more-at t) more.Post more-Inv-loop more-μ-loop
 more-loop-holds t c =
@@ -317,12 +317,12 @@ more-loop-again t c =
       g .1,
       omega (arith, l .inv .2, g .2),
       g .3,
-      q .kept .1 .1 .1 .1 .1 .1 .1 .1 .1 .1 .1 .0 ∙ l .inv .4,
+      q .kept .1 .1 .1 .1 .1 .1 .1 .1 .1 .1 .1 .1 .0 ∙ l .inv .4,
       λ r w. l .inv .5 r (q .ensures .1 .goes e r w),
     )
 
 step-operator-at-requires : (t : ℕ) → step-lts.Need-operator-at-requires (step-calls t) (step-at t) step.Post
-step-operator-at-requires t c κs = (c .before .before .pre .1 .0, c .before .before .pre .1 .6)
+step-operator-at-requires t c κs = (c .before .before .pre .1 .0, c .before .before .pre .1 .6 .table)
 
 step-returns : (t : ℕ) → step-lts.Need-returns (step-calls t) (step-at t) step.Post
 step-returns t c =
@@ -418,7 +418,7 @@ step-returns-5 t c =
     let t = c .before .before .two-node in
     let m = t .ensures in
     let j = joined-part (a .left .len) (c1 .place-in .result) (a .out .now) _ (c1 .place-in .ensures .0)
-    (c1 .place-in .ensures .1) (y .kept .1 .1 .1 .1 .1 .1 .1 .1 .1 .0) in
+    (c1 .place-in .ensures .1) (y .kept .1 .1 .1 .1 .1 .1 .1 .1 .1 .1 .0) in
     let p = c4 .before .before .before .pre .1 in
     step-goes _ (a .n) (a .s .now) (a .at) (a .k) (a .h) (a .b) (a .left .len) (held (a .left) (a .out .now)) _ _ refl
     (omega (arith, m .next, u .0, w .0))

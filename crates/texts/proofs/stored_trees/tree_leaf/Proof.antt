@@ -4,17 +4,18 @@ use Prim.Native.Nat.{_-_}
 use denote.Ref.{now}
 use lib.ListN.{take, drop}
 use Rattle.rules.specs.Names.{isShort}
-use Rattle.names.proofs.LentLaws.{short-in}
 use Rattle.text_laws.specs.Reader.{isNumberWord}
+use Rattle.texts.proofs.ExprLeaves.{word-part}
+use Rattle.texts.proofs.ShortWords.{all-word}
 use Rattle.texts.proofs.StoredSteps.{leaf-name, leaf-number, leaf-none}
 use borrow.Author.Needs.{needs}
 use Rattle.texts.proofs.stored_trees.tree_leaf.Statement.{statement}
 use Rattle.texts.proofs.stored_trees.tree_leaf.Tie as tie
 use Rattle.texts.proofs.stored_trees.tree_leaf.Reads as reads
 use Rattle.texts.proofs.stored_trees.tree_leaf.Lts as lts
-use Rattle.names.proofs.labels.is_short_in.Reads as is-short-in-reads
 use Rattle.texts.proofs.held_names.look_up.Reads as look-up-reads
 use Rattle.texts.proofs.leaves.is_number.Reads as is-number-reads
+use Rattle.texts.proofs.leaves.is_short_word.Reads as is-short-word-reads
 use Rattle.texts.proofs.leaves.word_end.Reads as word-end-reads
 use Rattle.texts.proofs.numbers.word_value.Reads as word-value-reads
 use Rattle.texts.proofs.stored_nodes.field_node.Reads as field-node-reads
@@ -22,19 +23,24 @@ use Rattle.texts.proofs.stored_nodes.no_tree.Reads as no-tree-reads
 use Rattle.texts.proofs.stored_nodes.number_node.Reads as number-node-reads
 
 word-end-requires : tie.Need-word-end-requires
-word-end-requires c κs = (c .before .before .pre .0, c .before .before .pre .2)
+word-end-requires c κs = (c .before .before .pre .0, c .before .before .pre .2 .table)
 
-sub-is-short-in : tie.Need-sub-is-short-in
-sub-is-short-in c = search needs
+sub-is-short-word : tie.Need-sub-is-short-word
+sub-is-short-word c = search needs
 
-part-is-short-in-start : tie.Need-part-is-short-in-start
-part-is-short-in-start c = search needs
+part-is-short-word-start : tie.Need-part-is-short-word-start
+part-is-short-word-start c = search needs
 
-part-is-short-in-end : tie.Need-part-is-short-in-end
-part-is-short-in-end c = search needs
+part-is-short-word-end : tie.Need-part-is-short-word-end
+part-is-short-word-end c = search needs
 
-is-short-in-requires : tie.Need-is-short-in-requires
-is-short-in-requires c κs = search needs
+is-short-word-requires : tie.Need-is-short-word-requires
+is-short-word-requires c κs =
+    let c1 = c .before .before .before .before in
+    let a = c1 .args in
+    let w = c .before .word-end .ensures in
+    let is = word-part (now (a .s)) (a .at) (c .before .word-end .result) (w .0 .0) (w .0 .1) (w .1) in
+    (rw is (all-word _), c1 .pre .2 .table)
 
 sub-look-up : tie.Need-sub-look-up
 sub-look-up c = search needs
@@ -46,7 +52,9 @@ part-look-up-end : tie.Need-part-look-up-end
 part-look-up-end c = search needs
 
 look-up-requires : tie.Need-look-up-requires
-look-up-requires c κs = search needs
+look-up-requires c κs =
+    let c1 = c .before .before .before .before .before .before .before in
+    (c1 .pre .1, c1 .pre .2 .names, sym (c .before .before .is-short-word .ensures) ∙ c .before .if1 .taken)
 
 field-node-requires : tie.Need-field-node-requires
 field-node-requires c κs = search needs
@@ -56,17 +64,19 @@ same-length c = search needs
 
 returns : tie.Need-returns
 returns c =
-    let a = c .before .before .before .before .before .before .before .before .before .before .before .before .args in
+    let c1 = c .before .before .before .before in
+    let c2 = c1 .before .before in
+    let c3 = c2 .before in
+    let c4 = c3 .before .before in
+    let c5 = c4 .before .before .before in
+    let a = c5 .args in
     let s = now (a .s) in
-    let end = c .before .before .before .before .before .before .before .before .before .word-end .result in
-    let w = c .before .before .before .before .before .before .before .before .before .word-end .ensures in
+    let end = c4 .word-end .result in
+    let w = c4 .word-end .ensures in
     let word = take (end - a .at) (drop (a .at) s) in
     let y : isShort word ≡ true =
-    sym (short-in (now (a .classes)) (c .before .before .before .before .before .before .before .before .before
-    .before .before .before .pre .2) word) ∙ sym (c .before .before .before .before .before .before .before
-    .is-short-in .ensures) ∙ c .before .before .before .before .before .before .if1 .taken in
-    leaf-name _ (a .n) s (a .at) end (w .0 .0) (w .0 .1) (w .1) _ _ _ y (c .before .before .before
-    .before .look-up .ensures .1)
+    sym (c3 .is-short-word .ensures) ∙ c2 .if1 .taken in
+    leaf-name _ (a .n) s (a .at) end (w .0 .0) (w .0 .1) (w .1) _ _ _ y (c1 .look-up .ensures .1)
     (c .before .before .field-node .ensures)
 
 sub-is-number : tie.Need-sub-is-number
@@ -79,7 +89,9 @@ part-is-number-end : tie.Need-part-is-number-end
 part-is-number-end c = search needs
 
 is-number-requires : tie.Need-is-number-requires
-is-number-requires c κs = c .before .before .before .before .before .before .before .pre .2
+is-number-requires c κs =
+    let c1 = c .before .before .before .before .before .before .before in
+    c1 .pre .2 .table
 
 sub-word-value : tie.Need-sub-word-value
 sub-word-value c = search needs
@@ -91,7 +103,9 @@ part-word-value-end : tie.Need-part-word-value-end
 part-word-value-end c = search needs
 
 word-value-requires : tie.Need-word-value-requires
-word-value-requires c κs = c .before .before .before .before .before .before .before .before .before .before .pre .2
+word-value-requires c κs =
+    let c1 = c .before .before .before .before .before .before .before .before .before .before in
+    c1 .pre .2 .table
 
 number-node-requires : tie.Need-number-node-requires
 number-node-requires c κs = search needs
@@ -101,38 +115,41 @@ same-length-2 c = search needs
 
 returns-2 : tie.Need-returns-2
 returns-2 c =
-    let a = c .before .before .before .before .before .before .before .before .before .before .before .before .before
-    .before .before .args in
+    let c1 = c .before .before .before .before in
+    let c2 = c1 .before .before in
+    let c3 = c2 .before in
+    let c4 = c3 .before .before in
+    let c5 = c4 .before in
+    let c6 = c5 .before .before in
+    let c7 = c6 .before .before .before in
+    let a = c7 .args in
     let s = now (a .s) in
-    let end = c .before .before .before .before .before .before .before .before .before .before .before .before
-    .word-end .result in
-    let w = c .before .before .before .before .before .before .before .before .before .before .before .before
-    .word-end .ensures in
+    let end = c6 .word-end .result in
+    let w = c6 .word-end .ensures in
     let word = take (end - a .at) (drop (a .at) s) in
     let k : isShort word ≡ false =
-    sym (short-in (now (a .classes)) (c .before .before .before .before .before .before .before .before .before
-    .before .before .before .before .before .before .pre .2) word) ∙ sym (c .before .before .before .before .before
-    .before .before .before .before .before .is-short-in .ensures) ∙ c .before .before .before .before .before
-    .before .before .before .before .if1 .left in
-    let y : isNumberWord word ≡ true = sym (c .before .before .before .before .before .before .before .is-number
-    .ensures) ∙ c .before .before .before .before .before .before .if2 .taken in
+    sym (c5 .is-short-word .ensures) ∙ c4 .if1 .left in
+    let y : isNumberWord word ≡ true = sym (c3 .is-number
+    .ensures) ∙ c2 .if2 .taken in
     leaf-number _ (a .n) s (a .at) end (w .0 .0) (w .0 .1) (w .1) _ _ _ k y
-    (c .before .before .before .before .word-value .ensures .1) (c .before .before .number-node .ensures)
+    (c1 .word-value .ensures .1) (c .before .before .number-node .ensures)
 
 no-tree-requires : tie.Need-no-tree-requires
 no-tree-requires c κs = search needs
 
 returns-3 : tie.Need-returns-3
 returns-3 c =
-    let a = c .before .before .before .before .before .before .before .before .before .before .args in
+    let c1 = c .before .before .before .before in
+    let c2 = c1 .before in
+    let c3 = c2 .before .before in
+    let c4 = c3 .before .before .before in
+    let a = c4 .args in
     let s = now (a .s) in
-    let end = c .before .before .before .before .before .before .before .word-end .result in
-    let w = c .before .before .before .before .before .before .before .word-end .ensures in
+    let end = c3 .word-end .result in
+    let w = c3 .word-end .ensures in
     let word = take (end - a .at) (drop (a .at) s) in
     let k : isShort word ≡ false =
-    sym (short-in (now (a .classes)) (c .before .before .before .before .before .before .before .before .before
-    .before .pre .2) word) ∙ sym (c .before .before .before .before .before .is-short-in .ensures) ∙ c .before
-    .before .before .before .if1 .left in
+    sym (c2 .is-short-word .ensures) ∙ c1 .if1 .left in
     let y : isNumberWord word ≡ false = sym (c .before .before .is-number .ensures) ∙ c .before .if2 .left in
     leaf-none _ (a .n) s (a .at) end (w .0 .0) (w .0 .1) (w .1) _ _ k y (c .no-tree .ensures)
 
@@ -141,10 +158,10 @@ tree-leaf-spec =
     tie.close
     (tie.spec
     word-end-requires
-    sub-is-short-in
-    part-is-short-in-start
-    part-is-short-in-end
-    is-short-in-requires
+    sub-is-short-word
+    part-is-short-word-start
+    part-is-short-word-end
+    is-short-word-requires
     sub-look-up
     part-look-up-start
     part-look-up-end

@@ -33,7 +33,7 @@ unit-behind-requires c κs =
     let t = c .before .before .before .before .stored-tree in (
       got-within _ _ _ _ (t .result) (c .if1 .left) (t .ensures .0) .1,
       c .before .before .before .before .before
-          .before .before .before .pre .3,
+          .before .before .before .pre .3 .table,
     )
 
 enum-told : tie.Need-enum-told
@@ -57,7 +57,7 @@ sized-requires c κs =
       bits-unit (c .before .before .before .before .before .before .before .before
           .before .before .before .before .args .s .now) (t .result .next) _ (h .1) (p .1),
       c .before .before .before
-          .before .before .before .before .before .before .before .before .before .pre .3,
+          .before .before .before .before .before .before .before .before .before .pre .3 .table,
     )
 
 same-length-2 : tie.Need-same-length-2
