@@ -14,7 +14,8 @@ use Rattle.text_laws.specs.Fold as fold
 use Rattle.texts.specs.HeldNames.{Names}
 use Rattle.texts.specs.Noted.{noteOf}
 use Rattle.texts.specs.States.{note, changed, madeWrong, expected, isTold, Room, Taken}
-use Rattle.texts.specs.States.{stageOf, Holds}
+use Rattle.texts.specs.States.{stageOf, Holds, LineStep}
+use Rattle.text_laws.specs.Steady.{Steady}
 use Rattle.texts.specs.declared.notes.Note.{Note}
 use Rattle.texts.specs.declared.states.Stage.{Stage}
 use Rattle.texts.specs.declared.states.Stage.the-variants as at
@@ -134,13 +135,32 @@ module _ (f : fold.Found) (r : Reading) {cells table : List ℕ} {labels : List 
       go true = holds-onward s
       go false = holds-wrong
 
--- the stage that the code is told to be at
-pub told-stage : {a b : Stage} → a ≡ b → (f : fold.Found) → stageOf a ≡ f .stage → f .stage ≡ stageOf b
-told-stage e f h = sym h ∙ ap stageOf e
+-- ── the line of a stage ──
 
--- the line of the stage
-pub line-at : (f : fold.Found) (l : List ℕ) (s : fold.Stage) {q : Reading} {cells table : List ℕ}
-    {labels : List (List ℕ)} {names : Names} → f .stage ≡ s → Holds (fold.linedAt s f l) q cells table labels names
-    → Holds (fold.lined f l) q cells table labels names
-line-at f l s {q} {cells} {table} {labels} {names} e h =
-    subst (λ (z : fold.Stage). Holds (fold.linedAt z f l) q cells table labels names) (sym e) h
+module _ (r : Reading) (l : List ℕ) (s : Stage) (told : r .stage ≡ s) where
+  -- what is held behind it, by what the fold makes of a line at that stage
+  pub at-stage : {q : Reading} {cells cells′ table table′ : List ℕ} {labels labels′ : List (List ℕ)}
+      {names names′ : Names}
+      → ((f : fold.Found) → Steady f → f .stage ≡ stageOf s → Holds f r cells table labels names
+      → Holds (fold.linedAt (stageOf s) f l) q cells′ table′ labels′ names′)
+      → (f : fold.Found) → Steady f → Holds f r cells table labels names
+      → Holds (fold.lined f l) q cells′ table′ labels′ names′
+  at-stage {q} {cells} {cells′} {table} {table′} {labels} {labels′} {names} {names′} step f k h =
+      let e : f .stage ≡ stageOf s = sym (h .counts .stage) ∙ ap stageOf told in
+      subst (λ (z : fold.Stage). Holds (fold.linedAt z f l) q cells′ table′ labels′ names′) (sym e) (step f k e h)
+
+  -- a line that must be a certain one, which may go by W
+  pub expect-step : (want : ℕ → List ℕ) (next : Stage) (right : Bool) {cells table : List ℕ}
+      {labels : List (List ℕ)} {names : Names} → Room r → right ≡ same l (want (r .width))
+      → ((f : fold.Found) → fold.linedAt (stageOf s) f l ≡ fold.expect (want (f .width)) (stageOf next) f l)
+      → Taken r (expected right r next)
+      × LineStep l r (expected right r next) cells cells table table labels labels names names
+  expect-step want next right {cells} {table} {labels} {names} room e is = (
+    taken-expect right r next room,
+    (
+      refl,
+      refl,
+      at-stage (λ f k t h. rw (is f) (holds-expect f r h (want (f .width)) l next right
+          (e ∙ ap (λ (w : ℕ). same l (want w)) (h .counts .width)))),
+    ),
+  )

@@ -1,17 +1,13 @@
-use mathlib.Core.Path.{refl, ap, _∙_}
+use mathlib.Core.Path.{refl, ap}
 use mathlib.Core.List.{[]}
-use Prim.Native.Nat.{ℕ}
 use native.Mathlib.Omega.{arith}
 use denote.Ref.{now}
-use lib.Dec.{eqb}
-use lib.ListN.{length}
 use Rattle.base.specs.Bytes.{bytes}
-use Rattle.base.specs.Lists.{same}
 use Rattle.rules.specs.Frames.{units, border}
 use Rattle.text_laws.specs.Fold as fold
 use Rattle.text_laws.specs.Steady.{isHead}
 use Rattle.texts.specs.declared.states.Stage.the-variants as at
-use Rattle.texts.proofs.StateSteps.{taken-expect, holds-expect, told-stage, line-at, same-nil}
+use Rattle.texts.proofs.StateSteps.{at-stage, expect-step, same-nil}
 use borrow.Author.Needs.{needs}
 use Rattle.texts.proofs.line_steps.take_line.Statement.{statement}
 use Rattle.texts.proofs.line_steps.take_line.Tie as tie
@@ -146,22 +142,9 @@ unfolding fold.linedAt
 returns c =
     let c1 = c .before .before .before .before in
     let c2 = c1 .before .before .before .before .before in
-    let r = c2 .args .r in
-    let l = now (c2 .args .line) in
-    let told = told-stage (c1 .enum-told .given .1) in
-    let q = c .before .before .take-opening .ensures in (
-      q .0,
-      (
-        (
-          refl,
-          search needs,
-          (λ f k h.
-              let e = told f (h .counts .stage) in
-              line-at f l fold.opening e (q .1 _ f _ _ k (ap isHead e) h)),
-        ),
-        c2 .pre .1,
-      ),
-    )
+    let held = at-stage (c2 .args .r) (now (c2 .args .line)) at.Opening (c1 .enum-told .given .1) in
+    let q = c .before .before .take-opening .ensures in
+    (q .0, ((refl, search needs, held (λ f k e h. q .1 _ f _ _ k (ap isHead e) h)), c2 .pre .1))
 
 returns-2 : tie.Need-returns-2
 unfolding fold.linedAt
@@ -169,40 +152,17 @@ returns-2 c =
     let c1 = c .before .before .before .before .before .before in
     let r = c1 .args .r in
     let l = now (c1 .args .line) in
-    let told = told-stage (c .before .enum-told2 .given .1) in
-    rw (c .expect .ensures) (
-      taken-expect (eqb (length l) 0) r at.TensRuler (c1 .pre .0 .0),
-      (
-        (
-          refl,
-          refl,
-          (λ f k h. line-at f l fold.blank (told f (h .counts .stage))
-              (holds-expect f r h ([]) l at.TensRuler _ (same-nil l))),
-        ),
-        c1 .pre .1,
-      ),
-    )
+    let told = c .before .enum-told2 .given .1 in
+    let p = expect-step r l at.Blank told (λ w. []) at.TensRuler _ (c1 .pre .0 .0) (same-nil l) (λ f. refl) in
+    rw (c .expect .ensures) (p .0, (p .1, c1 .pre .1))
 
 returns-3 : tie.Need-returns-3
 unfolding fold.linedAt
 returns-3 c =
     let c1 = c .before .before .before .before .before .before in
-    let r = c1 .args .r in
-    let l = now (c1 .args .line) in
-    let told = told-stage (c .before .enum-told3 .given .1) in
-    let q = c .take-ruler .ensures in (
-      q .0,
-      (
-        (
-          refl,
-          refl,
-          (λ f k h.
-              let e = told f (h .counts .stage) in
-              line-at f l fold.tensRuler e (q .1 _ _ f _ _ k (ap isHead e) h)),
-        ),
-        c1 .pre .1,
-      ),
-    )
+    let held = at-stage (c1 .args .r) (now (c1 .args .line)) at.TensRuler (c .before .enum-told3 .given .1) in
+    let q = c .take-ruler .ensures in
+    (q .0, ((refl, refl, held (λ f k e h. q .1 _ _ f _ _ k (ap isHead e) h)), c1 .pre .1))
 
 returns-4 : tie.Need-returns-4
 unfolding fold.linedAt
@@ -210,21 +170,10 @@ returns-4 c =
     let c1 = c .before .before .before .before .before .before .before in
     let r = c1 .args .r in
     let l = now (c1 .args .line) in
-    let told = told-stage (c .before .before .enum-told4 .given .1) in
-    rw (c .expect2 .ensures) (
-      taken-expect (c .before .is-units .result) r at.TopBorder
-          (c1 .pre .0 .0),
-      (
-        (
-          refl,
-          refl,
-          (λ f k h. line-at f l fold.unitsRuler (told f (h .counts .stage))
-              (holds-expect f r h (units (f .width)) l at.TopBorder _ (c .before .is-units .ensures
-              ∙ ap (λ (w : ℕ). same l (units w)) (h .counts .width)))),
-        ),
-        c1 .pre .1,
-      ),
-    )
+    let told = c .before .before .enum-told4 .given .1 in
+    let p = expect-step r l at.UnitsRuler told units at.TopBorder _ (c1 .pre .0 .0) (c .before .is-units .ensures)
+    (λ f. refl) in
+    rw (c .expect2 .ensures) (p .0, (p .1, c1 .pre .1))
 
 returns-5 : tie.Need-returns-5
 unfolding fold.linedAt
@@ -232,21 +181,10 @@ returns-5 c =
     let c1 = c .before .before .before .before .before .before .before in
     let r = c1 .args .r in
     let l = now (c1 .args .line) in
-    let told = told-stage (c .before .before .enum-told5 .given .1) in
-    rw (c .expect3 .ensures) (
-      taken-expect (c .before .is-border .result) r at.FirstRow
-          (c1 .pre .0 .0),
-      (
-        (
-          refl,
-          refl,
-          (λ f k h. line-at f l fold.topBorder (told f (h .counts .stage))
-              (holds-expect f r h (border (f .width)) l at.FirstRow _ (c .before .is-border .ensures
-              ∙ ap (λ (w : ℕ). same l (border w)) (h .counts .width)))),
-        ),
-        c1 .pre .1,
-      ),
-    )
+    let told = c .before .before .enum-told5 .given .1 in
+    let p = expect-step r l at.TopBorder told border at.FirstRow _ (c1 .pre .0 .0) (c .before .is-border .ensures)
+    (λ f. refl) in
+    rw (c .expect3 .ensures) (p .0, (p .1, c1 .pre .1))
 
 same-length-2 : tie.Need-same-length-2
 same-length-2 c = search needs
@@ -256,22 +194,9 @@ unfolding fold.linedAt
 returns-6 c =
     let c1 = c .before .before .before .before in
     let c2 = c1 .before .before .before .before .before in
-    let r = c2 .args .r in
-    let l = now (c2 .args .line) in
-    let told = told-stage (c1 .enum-told6 .given .1) in
-    let q = c .before .before .take-row .ensures in (
-      q .0,
-      (
-        (
-          search needs,
-          refl,
-          (λ f k h.
-              let e = told f (h .counts .stage) in
-              line-at f l fold.firstRow e (q .1 _ f _ _ k (ap isHead e) h)),
-        ),
-        c2 .pre .1,
-      ),
-    )
+    let held = at-stage (c2 .args .r) (now (c2 .args .line)) at.FirstRow (c1 .enum-told6 .given .1) in
+    let q = c .before .before .take-row .ensures in
+    (q .0, ((search needs, refl, held (λ f k e h. q .1 _ f _ _ k (ap isHead e) h)), c2 .pre .1))
 
 returns-7 : tie.Need-returns-7
 unfolding fold.linedAt
@@ -279,21 +204,10 @@ returns-7 c =
     let c1 = c .before .before .before .before .before .before .before in
     let r = c1 .args .r in
     let l = now (c1 .args .line) in
-    let told = told-stage (c .before .before .enum-told7 .given .1) in
-    rw (c .expect4 .ensures) (
-      taken-expect (c .before .is-border2 .result) r at.RowOrBlank
-          (c1 .pre .0 .0),
-      (
-        (
-          refl,
-          refl,
-          (λ f k h. line-at f l fold.rowBorder (told f (h .counts .stage))
-              (holds-expect f r h (border (f .width)) l at.RowOrBlank _ (c .before .is-border2 .ensures
-              ∙ ap (λ (w : ℕ). same l (border w)) (h .counts .width)))),
-        ),
-        c1 .pre .1,
-      ),
-    )
+    let told = c .before .before .enum-told7 .given .1 in
+    let p = expect-step r l at.RowBorder told border at.RowOrBlank _ (c1 .pre .0 .0) (c .before .is-border2 .ensures)
+    (λ f. refl) in
+    rw (c .expect4 .ensures) (p .0, (p .1, c1 .pre .1))
 
 same-length-3 : tie.Need-same-length-3
 same-length-3 c = search needs
@@ -303,22 +217,9 @@ unfolding fold.linedAt
 returns-8 c =
     let c1 = c .before .before .before .before in
     let c2 = c1 .before .before .before .before .before in
-    let r = c2 .args .r in
-    let l = now (c2 .args .line) in
-    let told = told-stage (c1 .enum-told8 .given .1) in
-    let q = c .before .before .take-row-or-blank .ensures in (
-      q .0,
-      (
-        (
-          search needs,
-          refl,
-          (λ f k h.
-              let e = told f (h .counts .stage) in
-              line-at f l fold.rowOrBlank e (q .1 _ f _ _ k (ap isHead e) h)),
-        ),
-        c2 .pre .1,
-      ),
-    )
+    let held = at-stage (c2 .args .r) (now (c2 .args .line)) at.RowOrBlank (c1 .enum-told8 .given .1) in
+    let q = c .before .before .take-row-or-blank .ensures in
+    (q .0, ((search needs, refl, held (λ f k e h. q .1 _ f _ _ k (ap isHead e) h)), c2 .pre .1))
 
 returns-9 : tie.Need-returns-9
 unfolding fold.linedAt
@@ -327,20 +228,10 @@ returns-9 c =
     let c2 = c1 .before .before .before .before .before in
     let r = c2 .args .r in
     let l = now (c2 .args .line) in
-    let told = told-stage (c1 .enum-told9 .given .1) in
-    rw (c .expect5 .ensures) (
-      taken-expect (c .before .same-words .result) r at.LastBlank
-          (c2 .pre .0 .0),
-      (
-        (
-          refl,
-          refl,
-          (λ f k h. line-at f l fold.whereLine (told f (h .counts .stage))
-              (holds-expect f r h (bytes "where:") l at.LastBlank _ (c .before .same-words .ensures))),
-        ),
-        c2 .pre .1,
-      ),
-    )
+    let told = c1 .enum-told9 .given .1 in
+    let p = expect-step r l at.WhereLine told (λ w. bytes "where:") at.LastBlank _ (c2 .pre .0 .0) (c .before .same-words .ensures)
+    (λ f. refl) in
+    rw (c .expect5 .ensures) (p .0, (p .1, c2 .pre .1))
 
 returns-10 : tie.Need-returns-10
 unfolding fold.linedAt
@@ -348,19 +239,9 @@ returns-10 c =
     let c1 = c .before .before .before .before .before .before in
     let r = c1 .args .r in
     let l = now (c1 .args .line) in
-    let told = told-stage (c .before .enum-told10 .given .1) in
-    rw (c .expect6 .ensures) (
-      taken-expect (eqb (length l) 0) r at.FirstField (c1 .pre .0 .0),
-      (
-        (
-          refl,
-          refl,
-          (λ f k h. line-at f l fold.lastBlank (told f (h .counts .stage))
-              (holds-expect f r h ([]) l at.FirstField _ (same-nil l))),
-        ),
-        c1 .pre .1,
-      ),
-    )
+    let told = c .before .enum-told10 .given .1 in
+    let p = expect-step r l at.LastBlank told (λ w. []) at.FirstField _ (c1 .pre .0 .0) (same-nil l) (λ f. refl) in
+    rw (c .expect6 .ensures) (p .0, (p .1, c1 .pre .1))
 
 same-length-4 : tie.Need-same-length-4
 same-length-4 c = search needs
@@ -373,22 +254,9 @@ unfolding fold.linedAt
 returns-11 c =
     let c1 = c .before .before .before .before .before .before .before .before .before .before in
     let c2 = c1 .before .before .before .before .before in
-    let r = c2 .args .r in
-    let l = now (c2 .args .line) in
-    let told = told-stage (c1 .enum-told11 .given .1) in
-    let q = c .before .before .take-field .ensures in (
-      q .0,
-      (
-        (
-          refl,
-          q .1 .0 .0,
-          (λ f k h.
-              let e = told f (h .counts .stage) in
-              line-at f l fold.firstField e (q .1 .0 .1 f k h)),
-        ),
-        c .before .before .take-field .ensures .1 .1,
-      ),
-    )
+    let held = at-stage (c2 .args .r) (now (c2 .args .line)) at.FirstField (c1 .enum-told11 .given .1) in
+    let q = c .before .before .take-field .ensures in
+    (q .0, ((refl, q .1 .0 .0, held (λ f k e h. q .1 .0 .1 f k h)), q .1 .1))
 
 same-length-6 : tie.Need-same-length-6
 same-length-6 c = search needs
@@ -401,41 +269,16 @@ unfolding fold.linedAt
 returns-12 c =
     let c1 = c .before .before .before .before .before .before .before .before .before .before in
     let c2 = c1 .before .before .before .before .before in
-    let r = c2 .args .r in
-    let l = now (c2 .args .line) in
-    let told = told-stage (c1 .enum-told12 .given .1) in
-    let q = c .before .before .take-field2 .ensures in (
-      q .0,
-      (
-        (
-          refl,
-          q .1 .0 .0,
-          (λ f k h.
-              let e = told f (h .counts .stage) in
-              line-at f l fold.fieldLine e (q .1 .0 .1 f k h)),
-        ),
-        c .before .before .take-field2 .ensures .1 .1,
-      ),
-    )
+    let held = at-stage (c2 .args .r) (now (c2 .args .line)) at.FieldLine (c1 .enum-told12 .given .1) in
+    let q = c .before .before .take-field2 .ensures in
+    (q .0, ((refl, q .1 .0 .0, held (λ f k e h. q .1 .0 .1 f k h)), q .1 .1))
 
 returns-13 : tie.Need-returns-13
 unfolding fold.linedAt
 returns-13 c =
     let c1 = c .before .before .before .before .before in
-    let r = c1 .args .r in
-    let l = now (c1 .args .line) in
-    let told = told-stage (c .enum-told13 .given .1) in (
-      (c1 .pre .0 .0, omega arith),
-      (
-        (
-          refl,
-          refl,
-          (λ f k h. line-at f l fold.lost
-              (told f (h .counts .stage)) h),
-        ),
-        c1 .pre .1,
-      ),
-    )
+    let held = at-stage (c1 .args .r) (now (c1 .args .line)) at.Lost (c .enum-told13 .given .1) in
+    ((c1 .pre .0 .0, omega arith), ((refl, refl, held (λ f k e h. h)), c1 .pre .1))
 
 pub take-line-spec : {M : Type 1} → statement M
 take-line-spec =

@@ -19,19 +19,24 @@ use borrow.Fn.Kinds.{In}
 use borrow.Fn.PlainCycle.{Measures, is, falls, and}
 use Rattle.texts.proofs.stored_trees.tree_atom.Reads as atom
 use Rattle.texts.proofs.stored_trees.tree_atom.Kinds as atom-kinds
-use Rattle.texts.proofs.stored_trees.+tree_atom+tree_expr+tree_inside+tree_more+tree_step.Lts-tree_atom as atom-lts
+use Rattle.texts.proofs.stored_trees.+tree_atom+tree_expr+tree_inside+tree_more+tree_step.Lts-tree_atom
+    as atom-lts
 use Rattle.texts.proofs.stored_trees.tree_expr.Reads as expr
 use Rattle.texts.proofs.stored_trees.tree_expr.Kinds as expr-kinds
-use Rattle.texts.proofs.stored_trees.+tree_atom+tree_expr+tree_inside+tree_more+tree_step.Lts-tree_expr as expr-lts
+use Rattle.texts.proofs.stored_trees.+tree_atom+tree_expr+tree_inside+tree_more+tree_step.Lts-tree_expr
+    as expr-lts
 use Rattle.texts.proofs.stored_trees.tree_inside.Reads as inside
 use Rattle.texts.proofs.stored_trees.tree_inside.Kinds as inside-kinds
-use Rattle.texts.proofs.stored_trees.+tree_atom+tree_expr+tree_inside+tree_more+tree_step.Lts-tree_inside as inside-lts
+use Rattle.texts.proofs.stored_trees.+tree_atom+tree_expr+tree_inside+tree_more+tree_step.Lts-tree_inside
+    as inside-lts
 use Rattle.texts.proofs.stored_trees.tree_more.Reads as more
 use Rattle.texts.proofs.stored_trees.tree_more.Kinds as more-kinds
-use Rattle.texts.proofs.stored_trees.+tree_atom+tree_expr+tree_inside+tree_more+tree_step.Lts-tree_more as more-lts
+use Rattle.texts.proofs.stored_trees.+tree_atom+tree_expr+tree_inside+tree_more+tree_step.Lts-tree_more
+    as more-lts
 use Rattle.texts.proofs.stored_trees.tree_step.Reads as step
 use Rattle.texts.proofs.stored_trees.tree_step.Kinds as step-kinds
-use Rattle.texts.proofs.stored_trees.+tree_atom+tree_expr+tree_inside+tree_more+tree_step.Lts-tree_step as step-lts
+use Rattle.texts.proofs.stored_trees.+tree_atom+tree_expr+tree_inside+tree_more+tree_step.Lts-tree_step
+    as step-lts
 use Rattle.operators.proofs.rows.operator.Reads as row
 use Rattle.texts.proofs.signs.operator_at.Reads as sign
 use Rattle.texts.proofs.stored_nodes.no_tree.Reads as none
@@ -144,8 +149,7 @@ atom-tree-inside-requires-2 t c κs =
 
 atom-returns-3 : (t : ℕ) → atom-lts.Need-returns-3 (atom-calls t) (atom-at t) atom.Post
 atom-returns-3 t c =
-    let c1 = c .before .before .before .before .before .before .before .before .before .before in
-    let a = c1 .args in (
+    let a = c .before .before .before .before .before .before .before .before .before .before .args in (
       c .before .before .tree-inside2 .ensures .0,
       atom-paren _ (a .n) (a .s .now) (a .at) (a .b) _ (omega arith) (c .before .before .before .before .if3 .taken)
           (c .before .before .tree-inside2 .ensures .1),
@@ -158,8 +162,7 @@ atom-tree-leaf-requires t c κs =
 
 atom-returns-4 : (t : ℕ) → atom-lts.Need-returns-4 (atom-calls t) (atom-at t) atom.Post
 atom-returns-4 t c =
-    let c1 = c .before .before .before .before .before .before .before .before .before .before in
-    let a = c1 .args in (
+    let a = c .before .before .before .before .before .before .before .before .before .before .args in (
       c .before .before .tree-leaf .ensures .0,
       atom-word _ (a .n) (a .s .now) (a .at) (a .b) _ (omega arith) (c .before .before .before .before .before .if2
           .left) (c .before .before .before .before .if3 .left) (c .before .before .tree-leaf .ensures .1),
