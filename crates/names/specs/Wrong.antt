@@ -167,7 +167,7 @@ wrongHeld =
     holds (bytes "ABCDEFGH") (padTo shortMost (bytes "ABCDEFG"))
     ∷ holds (bytes "AB") (replicate shortMost 65)
     ∷ holds (bytes "AB") (bytes "AB      ")
-    -- the last byte the most significant; the first byte alone; one key for all names [02, R-3]
+    -- the last byte the most significant; the first byte alone; the last byte left out [02, R-3]
     ∷ makesKey (heldAs "AB") (65 + 256 * 66)
     ∷ makesKey (heldAs "AB") 65
     ∷ makesKey (heldAs "AB") (nameNumber (heldAs "A"))

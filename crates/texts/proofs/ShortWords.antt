@@ -1,17 +1,18 @@
 -- Words of letters and digits that are short names.
 use mathlib.Core.Path.{_≡_, refl, sym, _∙_}
-use mathlib.Core.Bool.{Bool, true, false, cond, _||_, not}
+use mathlib.Core.Bool.{Bool, true, false, cond, not, or-false}
 use mathlib.Core.List.{List, [], _∷_}
 use Prim.Native.Nat.{ℕ, _≤_, _<_}
 use native.Mathlib.Omega.{arith}
 use lib.ListN.{length, getD}
 use borrow.Author.Tests.{le-leb}
-use Rattle.base.specs.Lists.{all, between}
-use Rattle.base.proofs.Lists.{fails, between-true}
-use Rattle.base.proofs.Breaks.{or-true, all-cons}
+use Rattle.base.specs.Lists.{all}
+use Rattle.base.proofs.Lists.{fails}
+use Rattle.base.proofs.Breaks.{all-cons}
 use Rattle.rules.specs.Limits.{shortMost}
 use Rattle.rules.specs.Names.{isLetter, isDigit, isWordByte, isReserved, isShort}
 use Rattle.text_laws.specs.Reader.{word}
+use Rattle.text_laws.proofs.ReaderWords.{not-short}
 use Rattle.names.proofs.PadLaws.{short-held}
 
 pub all-word : (s : List ℕ) → all isWordByte (word s) ≡ true
@@ -24,25 +25,14 @@ all-word (c ∷ s) = go (isWordByte c) refl (all-word s)
     go true e h = rw (e, h) refl
     go false e h = refl
 
--- a digit is no letter
-digit-apart : (c : ℕ) → isDigit c ≡ true → isLetter c ≡ false
-unfolding isDigit isLetter
-digit-apart c h =
-    let d = between-true 48 c 57 h in
-    fails (between 65 c 90 || between 97 c 122) (λ l.
-    or-true (between 65 c 90) (between 97 c 122)
-    (λ e. omega (arith, d .0, d .1, between-true 65 c 90 e))
-    (λ e. omega (arith, d .0, d .1, between-true 97 c 122 e)) l)
-
 pub short-none : (w : List ℕ) → length w ≡ 0 → false ≡ isShort w
 unfolding isShort
 short-none [] e = refl
 short-none (c ∷ w) e = absurd (omega arith)
 
 pub short-digit : (w : List ℕ) → 0 < length w → isDigit (getD w 0 0) ≡ true → false ≡ isShort w
-unfolding isShort
 short-digit [] lt e = absurd (omega arith)
-short-digit (c ∷ w) lt e = rw (digit-apart c e) refl
+short-digit (c ∷ w) lt e = sym (not-short (c ∷ w) c w refl e)
 
 pub short-long : (w : List ℕ) → shortMost < length w → false ≡ isShort w
 short-long w lt = sym (fails (isShort w) (λ h. omega (arith, lt, short-held w h .0 .size)))
@@ -52,9 +42,5 @@ pub short-word : (w : List ℕ) → 0 < length w → all isWordByte w ≡ true �
 unfolding isShort isWordByte
 short-word [] lt h d le = absurd (omega arith)
 short-word (c ∷ w) lt h d le =
-    let letter : isLetter c ≡ true = sym (rw d (or-none (isLetter c))) ∙ all-cons isWordByte c w h .0 in
+    let letter : isLetter c ≡ true = sym (rw d (or-false (isLetter c))) ∙ all-cons isWordByte c w h .0 in
     rw (letter, h, le-leb (length (c ∷ w)) shortMost le) refl
-  where
-    or-none : (b : Bool) → (b || false) ≡ b
-    or-none true = refl
-    or-none false = refl

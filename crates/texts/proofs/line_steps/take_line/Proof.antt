@@ -229,8 +229,8 @@ returns-9 c =
     let r = c2 .args .r in
     let l = now (c2 .args .line) in
     let told = c1 .enum-told9 .given .1 in
-    let p = expect-step r l at.WhereLine told (λ w. bytes "where:") at.LastBlank _ (c2 .pre .0 .0) (c .before .same-words .ensures)
-    (λ f. refl) in
+    let p = expect-step r l at.WhereLine told (λ w. bytes "where:") at.LastBlank _ (c2 .pre .0 .0)
+    (c .before .same-words .ensures) (λ f. refl) in
     rw (c .expect5 .ensures) (p .0, (p .1, c2 .pre .1))
 
 returns-10 : tie.Need-returns-10
