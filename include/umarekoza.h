@@ -1,7 +1,7 @@
 /* Umarekoza: packet diagrams as tables, and packets read by them.
 
-   Link libumarekoza.a (x86-64 Linux). Numbers, places and bytes are those of document 01 with the limits that document
-   02 gives; only 30, for a name or index that no field has, is not in 01: document 02 gives it.
+   Link libumarekoza.a (x86-64 Linux). Numbers, places and bytes are those of document 01 with the limits, names and
+   operators that document 02 gives; 29, for a zero divisor, and 30, for a name or index that no field has, are 02's.
 
    Each function has a proved promise, which holds for all bytes and lengths: it settles the answer, and what every
    lent buffer holds afterwards. A buffer that is not written is left as it was, and so is any byte beyond what is
@@ -13,7 +13,7 @@
    - while the call runs, nothing else writes any of its buffers, those that it only reads too, or reads one that it
      writes;
    - NULL with length 0 is taken as an empty buffer: nothing is read or written through it;
-   - there is stack enough: a call may need up to some 90 kilobytes. */
+   - there is stack enough: a call may need up to some 100 kilobytes. */
 #ifndef UMAREKOZA_H
 #define UMAREKOZA_H
 
@@ -67,8 +67,8 @@ struct umarekoza_answer umarekoza_check_table(const uint8_t *table, size_t table
 
 /* Reads a packet by a table, and writes four numbers a field at the start of run: 1 if it is present, its offset and
    its width in bits, its value (0 if it is long); an absent field has four zeros. Accepted: the packet's bits.
-   Refused: 21 at 0 (the table), 22 at 0 (too long), 23 at 0 (run_len is under four numbers a field), 24 to 27 at the
-   field from 1, 28 at 0 (bits left over). Then run is unchanged. */
+   Refused: 21 at 0 (the table), 22 at 0 (too long), 23 at 0 (run_len is under four numbers a field), 24 to 27 and 29
+   at the field from 1, 28 at 0 (bits left over). Then run is unchanged. */
 struct umarekoza_answer umarekoza_read_packet(const uint8_t *table, size_t table_len, const uint8_t *packet,
                                               size_t packet_len, uint32_t *run, size_t run_len);
 

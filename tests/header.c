@@ -1,5 +1,6 @@
 /* The header as a C program sees it: the sizes, and each function with an accepted and a refused answer and with NULL
-   and length 0 for each buffer. Texts, tables, packets and answers are those of document 01, number 30 that of 02. */
+   and length 0 for each buffer. Texts, tables, packets and answers are those of document 01, numbers 29 and 30 those of
+   02. */
 #include <stdio.h>
 #include <string.h>
 
@@ -49,6 +50,20 @@ static const char blade[] =
     "Borrower (Bor): 2 bytes; present only when L == 1.\n"
     "Readings: N bytes.\n"
     "Sum: 2 bytes.\n";
+
+/* The Tag with a constraint that divides by its field. */
+static const char third[] =
+    "A Tag is formatted as follows:\n"
+    "\n"
+    " 0\n"
+    " 0 1 2 3 4 5 6 7\n"
+    "+-+-+-+-+-+-+-+-+\n"
+    "|       K       |\n"
+    "+-+-+-+-+-+-+-+-+\n"
+    "\n"
+    "where:\n"
+    "\n"
+    "Kind (K): 1 byte; 7 / K == 2.\n";
 
 /* A rest field alone. */
 static const char rest[] =
@@ -290,6 +305,25 @@ static void read_partly(void)
     expect(nines(run, sizeof m1_numbers, sizeof run), "what lies beyond M1's numbers, partly");
 }
 
+static void zero_divisor(void)
+{
+    static const uint8_t three[1] = {3};
+    static const uint8_t zero[1] = {0};
+    uint8_t out[64], listed[16];
+    uint32_t run[4] = {9, 9, 9, 9};
+    struct umarekoza_answer tag = umarekoza_write_table(BYTES(third), out, sizeof out);
+    expect(is(tag, 0, 0, 50), "the text of a quotient");
+    expect(is(umarekoza_read_packet(out, tag.length, zero, 1, run, 4), 29, 1, 0), "a zero divisor");
+    expect(reads(umarekoza_read_partly(out, tag.length, zero, 1, run, 4), 29, 1, 0, 0), "a zero divisor, partly");
+    expect(run[0] == 9 && run[3] == 9, "the run of a zero divisor");
+    expect(lies(umarekoza_field_bytes(out, tag.length, zero, 1, 0), 0, 0), "the bytes of a zero divisor");
+    expect(is(umarekoza_read_packet(out, tag.length, three, 1, run, 4), 0, 0, 8), "a quotient rounded down");
+    expect(run[0] == 1 && run[3] == 3, "the numbers of a quotient rounded down");
+    expect(is(umarekoza_list_packet(out, tag.length, zero, 1, listed, 16), 0, 0, 16)
+               && memcmp(listed, "refused 29 at 1\n", 16) == 0,
+           "the listing of a zero divisor");
+}
+
 int main(void)
 {
     expect(sizeof(struct umarekoza_answer) == 16, "size of an answer");
@@ -307,5 +341,6 @@ int main(void)
     count_fields();
     field_kind();
     read_partly();
+    zero_divisor();
     return failed;
 }

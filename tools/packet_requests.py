@@ -1,12 +1,12 @@
-"""The requests of crates/runs on tables and packets, with their answers: M1 to M10 of document 01; as many fields and
-bytes as may be, and one more; and those of the vectors. A part is answered by its length and its bytes, `part LEN HEX`,
-where the vectors have `part START LEN`.
+"""The requests of crates/runs on tables and packets, with their answers: M1 to M10 of document 01; quotients,
+remainders and powers; as many fields and bytes as may be, and one more; and those of the vectors. A part is answered by
+its length and its bytes, `part LEN HEX`, where the vectors have `part START LEN`.
 """
 from collections import Counter
 
 from runs import BLADE, TAG, both, fixed, full, full_table, number, rest, spelled, split, stored, table, tcp
 
-VECTORS = ("tables", "packets", "base2", "large", "r10", "r2")
+VECTORS = ("tables", "packets", "base2", "large", "r10", "r2", "r7")
 KINDS = {"tables": ("table",), "packets": ("read", "part", "list")}
 SHORT = {"tables": 420, "packets": 500}  # every request of at most so many bytes is taken
 SHORT_R10 = 6000  # of r10.tsv of so many
@@ -46,13 +46,25 @@ READINGS = [
 M1_PARTS = ["", "", "", "07", "01 2C", "AA BB", "00 09", ""]
 M2_PARTS = ["", "", "", "07", "", "AA BB", "00 09", ""]
 
-# M8 and M9: a tree, and its value, or None where it is 27.
+# M8 and M9, and request R-7 of document 02: a tree, and its value or the number of its fault.
 VALUES = [
     (both("+", number(2), both("*", number(3), number(4))), 14),
     (both("-", both("-", number(7), number(2)), number(1)), 4),
     (both("*", number(65535), number(65537)), 4294967295),
-    (both("*", number(65536), number(65536)), None),
-    (both("-", number(3), number(5)), None),
+    (both("*", number(65536), number(65536)), "27"),
+    (both("-", number(3), number(5)), "27"),
+    (both("/", number(7), number(2)), 3),
+    (both("%", number(7), number(2)), 1),
+    (both("^", number(2), both("^", number(3), number(2))), 512),
+    (both("^", both("^", number(2), number(3)), number(2)), 64),
+    (both("^", number(0), number(0)), 1),
+    (both("^", number(2), number(31)), 2147483648),
+    (both("^", number(1), number(4294967295)), 1),
+    (both("/", number(1), number(0)), "29"),
+    (both("%", number(1), number(0)), "29"),
+    (both("/", both("-", number(1), number(2)), number(0)), "27"),
+    (both("^", number(2), number(32)), "27"),
+    (both("^", number(4294967295), number(4294967295)), "27"),
 ]
 
 # Segments of TCP: a SYN with an option of four bytes, whose flags are bits 104 to 111, and one with SYN and FIN set.
@@ -99,10 +111,10 @@ def marked_flags():
 # Each tree in the constraint of a byte: accepted where its value is the one compared with.
 def marked_values():
     for tree, value in VALUES:
-        for compared in (0 if value is None else value, 1):
+        is_fault = isinstance(value, str)
+        for compared in (0 if is_fault else value, 1 if value != 1 else 2):
             kind = table(b"Tag", 8, fixed(b"Kind", b"K", 8, both("==", tree, number(compared))))
-            number_due = "27" if value is None else "25"
-            due = "ok 8 1,0,8,9" if compared == value else "refused %s 1" % number_due
+            due = "ok 8 1,0,8,9" if compared == value else "refused %s 1" % (value if is_fault else "25")
             yield "read 4 %s 09" % kind.hex(), due
 
 

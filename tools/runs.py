@@ -3,8 +3,9 @@ import struct
 
 ROOM = 65536  # no file of requests is longer
 
-# The stored form of document 01, 'The stored table'.
-CODES = {"+": 0x10, "-": 0x11, "*": 0x12, "==": 0x20, "<=": 0x23, ">": 0x24, ">=": 0x25, "||": 0x31}
+# The stored form of document 01, 'The stored table', with the operators of document 02.
+CODES = {"+": 0x10, "-": 0x11, "*": 0x12, "/": 0x13, "%": 0x14, "^": 0x15}
+CODES.update({"==": 0x20, "<=": 0x23, ">": 0x24, ">=": 0x25, "||": 0x31})
 
 
 def two(n):

@@ -4,10 +4,14 @@ be, and of more; and those of the vectors.
 """
 from runs import BLADE, ROOM, TAG, both, field, fixed, full, full_table, measured, number, spelled, stored, table, tcp
 
-VECTORS = ("spelled", "edge", "mutated", "base2", "r10", "r2")
-# So many texts of each group are taken, the shortest, and the longest accepted one; of r2.tsv and of the others.
-TAKEN_R2 = {"ok": 40, "refused 8": 20, "refused 9": 12, "refused 5": 8, "refused 11": 4}
-TAKEN = {"ok": 70, "many": 5, "refused 1": 8, "refused 4": 12}
+VECTORS = ("spelled", "edge", "mutated", "base2", "r10", "r2", "r7")
+# So many texts of each group are taken, the shortest, and the longest accepted one: of r2.tsv, of r7.tsv and of the
+# others.
+TAKEN_OF = {
+    "r2": {"ok": 30, "refused 8": 16, "refused 9": 8, "refused 5": 8, "refused 11": 4},
+    "r7": {"ok": 36, "refused 5": 10, "refused 6": 3, "refused 9": 8, "refused 11": 4},
+}
+TAKEN = {"ok": 64, "many": 5, "refused 1": 8, "refused 4": 12}
 REFUSED = 12  # of every other group
 
 # The source document's QUIC long header as far as document 01 takes it: a cell shows a short name that fits it, and
@@ -153,11 +157,11 @@ def group(answer):
 def chosen(vectors):
     groups = {}
     for file, request, answer in stored(vectors, VECTORS, ("text",)):
-        groups.setdefault((file == "r2", group(answer)), []).append((request, answer))
-    for (is_r2, kind), cases in groups.items():
+        groups.setdefault((file if file in TAKEN_OF else "", group(answer)), []).append((request, answer))
+    for (file, kind), cases in groups.items():
         cases.sort(key=lambda case: len(case[0]))
-        yield from cases[: TAKEN_R2.get(kind, 0) if is_r2 else TAKEN.get(kind, REFUSED)]
-    yield groups[False, "ok"][-1]
+        yield from cases[: TAKEN_OF[file].get(kind, 0) if file else TAKEN.get(kind, REFUSED)]
+    yield groups["", "ok"][-1]
 
 
 # The cases, the longest first, each in the first file with room for it.

@@ -15,7 +15,17 @@ static const uint8_t *behind(const uint8_t *part)
     return part + 2 + two(part);
 }
 
-/* The value of the expression at *at, which is moved behind it. */
+static uint32_t power(uint32_t base, uint32_t exponent)
+{
+    uint32_t product = 1;
+    for (; exponent > 0; exponent /= 2, base *= base)
+        if (exponent % 2 == 1)
+            product *= base;
+    return product;
+}
+
+/* The value of the expression at *at, which is moved behind it. Where && or || skips an operand, it may have a zero
+   divisor or leave the range here; its value plays no part. */
 static uint32_t value(const uint8_t **at, const uint32_t *run)
 {
     uint8_t code = *(*at)++;
@@ -34,6 +44,9 @@ static uint32_t value(const uint8_t **at, const uint32_t *run)
     case 0x10: return left + right;
     case 0x11: return left - right;
     case 0x12: return left * right;
+    case 0x13: return right == 0 ? 0 : left / right;
+    case 0x14: return right == 0 ? 0 : left % right;
+    case 0x15: return power(left, right);
     case 0x20: return left == right;
     case 0x21: return left != right;
     case 0x22: return left < right;

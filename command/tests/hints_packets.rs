@@ -204,11 +204,41 @@ error[27]: the constraint of `Sum` leaves the range: `S * 4294967295` is 9 * 429
 }
 
 #[test]
+fn zero_divisors_29() {
+    let due = "\
+error[29]: the width of `Readings` divides by zero: `6 / (N - 2)` is 6 / 0
+ --> packet.bin, field 6: Readings
+ = note: the width is `6 / (N - 2)`
+ = note: `N` (Cells) is 2
+ = note: let this field be `present only when N - 2 != 0`
+";
+    let page = with("Readings: N bytes.", "Readings: 6 / (N - 2) bytes.");
+    told("29", &page, &M1, "refused 29 at 6", &format!("{due}{M1_BEFORE_READINGS}"));
+    let fields = format!("{M1_BEFORE_READINGS}  Readings: 32 16\n");
+    let due = "\
+error[29]: the constraint of `Sum` divides by zero: `S % (N - 2)` is 9 % 0
+ --> packet.bin, field 7: Sum
+ = note: the constraint is `S % (N - 2) == 0`
+ = note: `S` (Sum) is 9, `N` (Cells) is 2
+ = note: write `N - 2 != 0 && S % (N - 2) == 0`
+";
+    let page = with("Sum: 2 bytes.", "Sum (S): 2 bytes; S % (N - 2) == 0.");
+    told("29-constraint", &page, &M1, "refused 29 at 7", &format!("{due}{fields}"));
+}
+
+#[test]
 fn documented_packets() {
     let place = Place::new("documented-packets");
     let m4 = [&M1[..], &[0]].concat();
-    let cases: [(&str, &[u8]); 6] =
-        [("N", &[0; 8192]), ("N", &M1[..5]), ("N", &[0x55, 7]), ("Bor", &M2), ("N - 3", &M1), ("N", &m4)];
+    let cases: [(&str, &[u8]); 7] = [
+        ("N", &[0; 8192]),
+        ("N", &M1[..5]),
+        ("N", &[0x55, 7]),
+        ("Bor", &M2),
+        ("N - 3", &M1),
+        ("N", &m4),
+        ("6 / N", &[0x60, 7, 1, 0x2C]),
+    ];
     for (readings, packet) in cases {
         place.put("my-page.txt", with("Readings: N bytes.", &format!("Readings: {readings} bytes.")));
         place.put("my-packet.bin", packet);

@@ -149,7 +149,7 @@ fn packets_22_to_28() {
 }
 
 #[test]
-fn faults_of_expressions_26_and_27() {
+fn faults_of_expressions_26_27_and_29() {
     let place = Place::new("faults");
     place.put("m2", M2);
     place.put("absent", BLADE.replace("Sum: 2 bytes.", "Sum: 2 bytes; Bor == 300."));
@@ -158,6 +158,10 @@ fn faults_of_expressions_26_and_27() {
     place
         .run(&["read", "below", "m1"])
         .refused("refused 27 at 6", &[" --> m1, field 6: Readings\n", "below 0"]);
+    place.put("divided", BLADE.replace("Readings: N bytes.", "Readings: 6 / (N - 2) bytes."));
+    place
+        .run(&["read", "divided", "m1"])
+        .refused("refused 29 at 6", &[" --> m1, field 6: Readings\n", "divides by zero"]);
 }
 
 #[test]

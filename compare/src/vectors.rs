@@ -10,7 +10,7 @@ use umarekoza_model::protocol::from_hex;
 use umarekoza_model::{Reading, Refusal};
 
 /// The files of stored cases.
-pub const FILES: [&str; 9] = [
+pub const FILES: [&str; 10] = [
     "spelled.tsv",
     "edge.tsv",
     "mutated.tsv",
@@ -20,6 +20,7 @@ pub const FILES: [&str; 9] = [
     "large.tsv",
     "r10.tsv",
     "r2.tsv",
+    "r7.tsv",
 ];
 
 /// Compares all requests.

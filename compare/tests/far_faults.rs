@@ -9,6 +9,8 @@ const LISTING_LIMIT: u64 = 7_800;
 const TABLE_LIMIT: usize = 54_100;
 const TEXT_TABLE_LIMIT: usize = 28_000;
 
+const MANY_POWERS: usize = 1_000;
+
 const NOT_GOOD: Answer = Answer { number: 21, place: 0, length: 0 };
 const TOO_LONG: Answer = Answer { number: 22, place: 0, length: 0 };
 const NOTHING: Span = Span { offset: 0, length: 0 };
@@ -42,6 +44,19 @@ unsafe extern "C" fn line_places(text: *const u8, n: usize, out: *mut u8, m: usi
 
 unsafe extern "C" fn later_line_places(text: *const u8, n: usize, out: *mut u8, m: usize) -> Answer {
     folded((8, 256), text, n, out, m)
+}
+
+/// A line of so many powers that it is too deep is a 6, even where its form is wrong further on.
+unsafe extern "C" fn deep_first(text: *const u8, n: usize, out: *mut u8, m: usize) -> Answer {
+    let mut answer = (LIBRARY.write_table)(text, n, out, m);
+    if answer.number == 5 {
+        let mut lines = std::slice::from_raw_parts(text, n).split(|byte| *byte == b'\n');
+        let line = lines.nth(answer.place as usize - 1).unwrap_or_default();
+        if line.iter().filter(|byte| **byte == b'^').count() > MANY_POWERS {
+            answer.number = 6;
+        }
+    }
+    answer
 }
 
 unsafe extern "C" fn no_long_table(text: *const u8, n: usize, out: *mut u8, m: usize) -> Answer {
@@ -240,11 +255,16 @@ unsafe extern "C" fn one_byte_more(
     answer
 }
 
-const WRONG: [(&str, &str, Exports); 19] = [
+const WRONG: [(&str, &str, Exports); 20] = [
     ("write_table", "places of rows modulo 512", Exports { write_table: row_places, ..LIBRARY }),
     ("write_table", "places of last lines modulo 8192", Exports { write_table: last_places, ..LIBRARY }),
     ("write_table", "places of 5 to 11 modulo 256", Exports { write_table: line_places, ..LIBRARY }),
     ("write_table", "places of 8 to 11 modulo 256", Exports { write_table: later_line_places, ..LIBRARY }),
+    (
+        "write_table",
+        "a line that is too deep before its form",
+        Exports { write_table: deep_first, ..LIBRARY },
+    ),
     ("write_table", "no table over the limit", Exports { write_table: no_long_table, ..LIBRARY }),
     ("check_table", "no table over the limit", Exports { check_table: long_not_good, ..LIBRARY }),
     ("read_packet", "no table over the limit", Exports { read_packet: long_not_read, ..LIBRARY }),

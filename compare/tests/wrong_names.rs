@@ -1,36 +1,16 @@
 //! The comparison notices programs that are wrong about names alone [02, R-2]: the model, with one wrong rule of
 //! `naming` at a time. All its other files are the model's own.
 
-#[path = "../../model/src/descriptions.rs"]
-mod descriptions;
-#[path = "../../model/src/expressions.rs"]
-mod expressions;
-#[path = "../../model/src/field_lines.rs"]
-mod field_lines;
-#[path = "../../model/src/frames.rs"]
-mod frames;
-#[path = "../../model/src/lines.rs"]
-mod lines;
-#[path = "../../model/src/matching.rs"]
-mod matching;
-#[path = "../../model/src/names.rs"]
-mod names;
+mod changed_model;
 #[path = "wrong_naming/mod.rs"]
 mod naming;
-#[path = "../../model/src/refusals.rs"]
-mod refusals;
-#[path = "../../model/src/rules.rs"]
-mod rules;
-#[path = "../../model/src/stored.rs"]
-mod stored;
-#[path = "../../model/src/tables.rs"]
-mod tables;
-#[path = "../../model/src/texts.rs"]
-mod texts;
 #[allow(dead_code)]
-#[path = "../../model/src/trees.rs"]
-mod trees;
+#[path = "../../model/src/operators.rs"]
+mod operators;
+#[path = "../../model/src/widths.rs"]
+mod widths;
 
+use changed_model::*;
 use naming::{by_rule, Rule, Rule::*};
 use refusals::Refusal;
 use std::slice::from_raw_parts;
@@ -38,7 +18,7 @@ use std::sync::Mutex;
 use umarekoza::TABLE_MOST;
 use umarekoza_compare::exports::{Answer, Exports, LIBRARY};
 use umarekoza_compare::runs::{generated, Settings, Tally};
-use umarekoza_model::generate::{table, text, Rng};
+use umarekoza_model::generate::{table, text};
 
 const OF_BOTH: [Rule; 17] = [
     AnyIsRead,
@@ -61,10 +41,6 @@ const OF_BOTH: [Rule; 17] = [
 ];
 /// A table is refused at no line.
 const OF_TEXTS: [Rule; 2] = [EarliestFirst, LikeFirst];
-const WRITE: &str = "write_table";
-const CHECK: &str = "check_table";
-/// How many of ten thousand texts or tables show a wrong rule, at the least.
-const DUE: usize = 10;
 
 /// Each call with each rule that it can have.
 fn programs() -> impl Iterator<Item = (&'static str, Rule)> {
@@ -90,13 +66,6 @@ fn checked(rule: Option<Rule>, table: &[u8]) -> Result<(), Refusal> {
 
 /// The wrong rule of the program that is compared, or none.
 static WRONG: Mutex<Option<Rule>> = Mutex::new(None);
-
-fn answer(settled: Result<usize, Refusal>) -> Answer {
-    match settled {
-        Ok(length) => Answer { number: 0, place: 0, length: length as u64 },
-        Err(Refusal { number, place }) => Answer { number, place, length: 0 },
-    }
-}
 
 unsafe extern "C" fn write_table(text: *const u8, n: usize, out: *mut u8, m: usize) -> Answer {
     let written = written(*WRONG.lock().unwrap(), from_raw_parts(text, n), m);
@@ -124,22 +93,8 @@ fn wrong_rules_on_names_are_noticed() {
             WRITE => Exports { write_table, ..LIBRARY },
             _ => Exports { check_table, ..LIBRARY },
         };
-        let wrong = compared(Some(rule), 10_000, exports).err();
-        let wrong = wrong.unwrap_or_else(|| panic!("{call}, {rule:?}: not noticed"));
-        assert!(wrong.contains(&format!(": {call}")), "{call}, {rule:?}: {wrong}");
+        is_noticed(compared(Some(rule), 10_000, exports), call, rule);
     }
-}
-
-/// Ten thousand cases, each with its right answer.
-fn answered<T>(case: fn(&mut Rng) -> Vec<u8>, right: impl Fn(&[u8]) -> T) -> Vec<(Vec<u8>, T)> {
-    let mut rng = Rng::new(1);
-    let cases = (0..10_000).map(|_| case(&mut rng));
-    cases.map(|case| (case.clone(), right(&case))).collect()
-}
-
-/// How many of the cases have another answer; no more than are due are counted.
-fn differing<T: PartialEq>(cases: &[(Vec<u8>, T)], wrong: impl Fn(&[u8]) -> T) -> usize {
-    cases.iter().filter(|(case, right)| wrong(case) != *right).take(DUE).count()
 }
 
 #[test]
@@ -147,11 +102,10 @@ fn ten_of_ten_thousand_cases_show_each_wrong_rule() {
     let texts = answered(text, |text| written(None, text, TABLE_MOST));
     let tables = answered(table, |table| checked(None, table));
     for (call, rule) in programs() {
-        let found = match call {
-            WRITE => differing(&texts, |text| written(Some(rule), text, TABLE_MOST)),
-            _ => differing(&tables, |table| checked(Some(rule), table)),
-        };
-        assert_eq!(found, DUE, "{call}, {rule:?}");
+        match call {
+            WRITE => is_shown(&texts, call, rule, |text| written(Some(rule), text, TABLE_MOST)),
+            _ => is_shown(&tables, call, rule, |table| checked(Some(rule), table)),
+        }
     }
 }
 

@@ -9,7 +9,7 @@ const ALLOWED: &str = "a page has the characters from space to `~` and LF line e
 /// A character's name, and what to write instead.
 type Name = (char, &'static str, &'static str);
 
-const NAMES: [Name; 31] = [
+const NAMES: [Name; 32] = [
     ('\0', "NUL", "take it out; if every second character is one, save the page as plain ASCII"),
     ('\t', "tab", "write spaces"),
     ('\r', "CR", "let lines end in LF alone"),
@@ -21,6 +21,7 @@ const NAMES: [Name; 31] = [
     ('\u{AD}', "soft hyphen", "take it out, or write `-`"),
     ('\u{B7}', "middle dot", "write `*`"),
     ('\u{D7}', "multiplication sign", "write `*`"),
+    ('\u{F7}', "division sign", "write `/`"),
     ('\u{2007}', "figure space", "write a space"),
     ('\u{200B}', "zero width space", "take it out"),
     ('\u{2010}', "hyphen", "write `-`"),

@@ -6,7 +6,7 @@ use crate::operators::{operator_at, COMPARISON};
 use crate::shown::{found, quoted, shown, word_length};
 
 pub fn is_sign(byte: u8) -> bool {
-    matches!(byte, b'=' | b'<' | b'>' | b'&' | b'|' | b'!')
+    matches!(byte, b'=' | b'<' | b'>' | b'&' | b'|' | b'!' | b'*' | b'/' | b'%' | b'^')
 }
 
 /// Signs round this place that make no operator together.
@@ -17,6 +17,9 @@ pub fn signs(line: &[u8], at: usize) -> Fault {
         b"<>" => Some("!="),
         b"===" => Some("=="),
         b"!==" => Some("!="),
+        b"**" | b"^^" => Some("^"),
+        b"//" => Some("/"),
+        b"%%" => Some("%"),
         _ => None,
     };
     Fault::new(from..end, format!("{} is no operator", quoted(&line[from..end])), "no such operator")
@@ -68,7 +71,6 @@ pub fn behind(line: &[u8], at: usize, due: &str) -> Fault {
         [b'&', ..] => unknown(1, "did you mean `&&`?"),
         [b'|', ..] => unknown(1, "did you mean `||`?"),
         [b'!', ..] => unknown(1, "did you mean `!=`?"),
-        [b'/' | b'%' | b'^', ..] => unknown(1, "numbers are joined by `+`, `-` and `*`"),
         [b'_', ..] => {
             Fault::new(sign..sign + 1, "`_` is not allowed in a name", "not allowed").note(OF_SHORTS)
         }
@@ -90,6 +92,8 @@ fn word(line: &[u8], at: usize, due: &str) -> Fault {
         b"and" => Some("&&"),
         b"or" => Some("||"),
         b"is" | b"eq" | b"equals" => Some("=="),
+        b"div" => Some("/"),
+        b"mod" => Some("%"),
         _ => None,
     };
     let message = format!("expected an operator, {due}, found {}", quoted(&line[at..at + length]));

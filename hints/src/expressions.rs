@@ -4,7 +4,7 @@ use crate::expression_faults::{behind, broken_number, is_sign, no_number, signs}
 use crate::faults::Fault;
 use crate::limits::{OPEN_MOST, SHORT_MOST};
 use crate::names::{is_reserved, OF_SHORTS};
-use crate::operators::{operator_at, Operator, ATOM, COMPARISON};
+use crate::operators::{operator_at, Operator, COMPARISON, POWER};
 use crate::shown::{counted, found, quoted, word_length};
 use crate::trees::{Kind, Node, Tree};
 
@@ -44,21 +44,37 @@ impl Reader<'_> {
 
     /// Operands joined by operators of this level, each of them of a higher one.
     fn level(&mut self, level: u8) -> Result<usize, Fault> {
-        if level == ATOM {
-            return self.atom();
+        if level == POWER {
+            return self.powers();
         }
         let mut left = self.level(level + 1)?;
         while let Some((operator, behind)) = self.operator(level) {
             self.at = behind;
             let right = self.level(level + 1)?;
-            let from = self.nodes[left].span.start;
-            let deepest = self.nodes[left].depth.max(self.nodes[right].depth);
-            left = self.push(Kind::Two(operator, left, right), from, deepest);
+            left = self.join(operator, left, right);
             if level == COMPARISON {
                 break;
             }
         }
         Ok(left)
+    }
+
+    /// Atoms joined by `^`, from the last one on.
+    fn powers(&mut self) -> Result<usize, Fault> {
+        let mut joined = Vec::new();
+        let mut last = self.atom()?;
+        while let Some((operator, behind)) = self.operator(POWER) {
+            self.at = behind;
+            joined.push((operator, last));
+            last = self.atom()?;
+        }
+        Ok(joined.into_iter().rev().fold(last, |right, (operator, left)| self.join(operator, left, right)))
+    }
+
+    fn join(&mut self, operator: Operator, left: usize, right: usize) -> usize {
+        let from = self.nodes[left].span.start;
+        let deepest = self.nodes[left].depth.max(self.nodes[right].depth);
+        self.push(Kind::Two(operator, left, right), from, deepest)
     }
 
     /// The operator of this level that comes next, and the place behind it and its spaces.
@@ -161,11 +177,9 @@ impl Reader<'_> {
         match (self.rest(), self.line.get(at.wrapping_sub(1))) {
             ([b' ', ..], _) => Fault::new(at..at + 1, "a space too many", "a space too many")
                 .note("one space at most stands on each side of an operator, none inside parentheses"),
-            ([b'!', ..], _) => fault.note("`!` has its operand in parentheses: `!(..)`"),
             ([b'-', ..], _) => fault.note("there are no negative numbers"),
-            ([b'=' | b'<' | b'>' | b'&' | b'|', ..], Some(before)) if is_sign(*before) => {
-                signs(self.line, at)
-            }
+            ([b'!', ..], _) => fault.note("`!` has its operand in parentheses: `!(..)`"),
+            ([sign, ..], Some(before)) if is_sign(*sign) && is_sign(*before) => signs(self.line, at),
             _ => fault,
         }
     }

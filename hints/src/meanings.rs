@@ -11,7 +11,7 @@ pub fn meaning_of(number: u32) -> Meaning {
     })
 }
 
-const MEANINGS: [(u32, &str, &str); 20] = [
+const MEANINGS: [(u32, &str, &str); 21] = [
     (1, "the page is too long", "a page has at most 16,384 bytes"),
     (
         2,
@@ -55,5 +55,6 @@ const MEANINGS: [(u32, &str, &str); 20] = [
     (26, "an expression of this field reads an absent field", "test first whether that field is there"),
     (27, "a step of an expression of this field leaves 0 to 4,294,967,295", "test the numbers first"),
     (28, "bits are left over behind the last field", "the packet is longer than the page says"),
+    (29, "an expression of this field divides by zero", "test the divisor first"),
     (30, "no field has this name or index", "give a label, a short name or an index from 0"),
 ];

@@ -8,6 +8,7 @@ mod written;
 use crate::hint::Verdict;
 use crate::limits::PACKET_MOST;
 use crate::meanings::meaning_of;
+use crate::operators::Broken;
 use crate::shown::{counted, quoted, shown, shown_name, spelled};
 use stored::{fields_of, StoredField, StoredWidth, Tree};
 use values::{value_of, Fault};
@@ -49,7 +50,7 @@ pub fn packet_hint(table: &[u8], packet: &[u8], before: &[[u32; 4]], verdict: Ve
         (28, None) if !fields.is_empty() && before.len() == fields.len() => {
             left_over(&fields, packet, before)
         }
-        (24..=27, Some(index)) if index < fields.len() && before.len() >= index => {
+        (24..=27 | 29, Some(index)) if index < fields.len() && before.len() >= index => {
             let reading = Reading { fields: &fields, packet, before: &before[..index], index };
             reading.step().err().flatten().filter(|told| told.number == verdict.number)
         }
@@ -243,17 +244,24 @@ impl Reading<'_> {
                 let message = format!("the {what} of {label} reads `{name}`, which is absent: `{whole}`");
                 (26, message, mends::of_absent(what, rule, self.fields, absent))
             }
-            Fault::Range { step, left, right } => {
+            Fault::Step { step, left, right, broken } => {
                 let Tree::Two(operator, ..) = step else { return None };
+                let step_written = written(step, self.fields);
+                let told = format!("`{step_written}` is {left} {} {right}", operator.symbol);
                 let limit = if operator.symbol == "-" { "below 0" } else { "over 4,294,967,295" };
-                let (step_written, symbol) = (written(step, self.fields), operator.symbol);
-                let message = format!(
-                    "the {what} of {label} leaves the range: `{step_written}` is {left} {symbol} {right}, {limit}"
-                );
-                (27, message, mends::of_range(what, rule, self.fields, step))
+                match broken {
+                    Broken::Range => {
+                        let message = format!("the {what} of {label} leaves the range: {told}, {limit}");
+                        (27, message, mends::of_range(what, rule, self.fields, step))
+                    }
+                    Broken::ZeroDivisor => {
+                        let message = format!("the {what} of {label} divides by zero: {told}");
+                        (29, message, mends::of_divisor(what, rule, self.fields, step))
+                    }
+                }
             }
         };
-        let rule_note = (number == 27).then(|| format!("the {what} is `{whole}`"));
+        let rule_note = (number != 26).then(|| format!("the {what} is `{whole}`"));
         let notes = rule_note.into_iter().chain(self.values(rule, own)).chain(mend).collect();
         Some(Told { number, message, notes })
     }

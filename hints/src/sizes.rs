@@ -8,6 +8,9 @@ use crate::shown::quoted;
 use crate::trees::Tree;
 use std::ops::Range;
 
+/// The operators of which a chain means the same, however it is grouped; a product is 0 or 27 by its grouping.
+const REGROUPED: [&str; 3] = ["+", "&&", "||"];
+
 /// Number 6, the first of each line.
 pub fn sizes(fields: &Fields) -> Vec<Mistake> {
     let too_large = |(field, form): (&Field, &FieldLine)| {
@@ -28,9 +31,10 @@ fn size_fault(what: &str, tree: &Tree) -> Option<Fault> {
     };
     let mut fault = Fault::new(tree.span.clone(), format!("the {what} is too large: {found}"), found);
     if deep {
+        let chain = "parentheses make a long chain less deep, as in `(a+b)+(c+d)`";
         fault = fault
             .note("a number or name has depth 1, an operator 1 more than its deeper operand")
-            .note("parentheses make a long chain less deep, as in `(a+b)+(c+d)`");
+            .note_if(tree.symbols().any(|symbol| REGROUPED.contains(&symbol)).then(|| chain.to_string()));
     }
     if long {
         fault = fault.note("a number takes 5 bytes, a name 2, an operator 1");

@@ -53,19 +53,16 @@ impl Tree {
         }
     }
 
-    /// What the tree comes to, if it reads no field and no step leaves the range.
+    /// What the tree comes to, if it reads no field and no step faults.
     pub fn constant(&self) -> Option<u32> {
         let mut values: Vec<u32> = Vec::new();
         for node in &self.nodes {
             values.push(match &node.kind {
                 Kind::Number(number) => *number,
-                Kind::Two(operator, left, right) => match operator.symbol {
-                    "+" => values[*left].checked_add(values[*right])?,
-                    "-" => values[*left].checked_sub(values[*right])?,
-                    "*" => values[*left].checked_mul(values[*right])?,
-                    _ => return None,
-                },
-                Kind::Name(_) | Kind::Not(_) => return None,
+                Kind::Two(operator, left, right) if operator.gives == Type::Number => {
+                    operator.applied(values[*left], values[*right]).ok()?
+                }
+                Kind::Two(..) | Kind::Name(_) | Kind::Not(_) => return None,
             });
         }
         values.last().copied()
@@ -75,6 +72,14 @@ impl Tree {
     pub fn names(&self) -> impl Iterator<Item = Range<usize>> + '_ {
         self.nodes.iter().filter_map(|node| match &node.kind {
             Kind::Name(name) => Some(name.clone()),
+            _ => None,
+        })
+    }
+
+    /// The symbols of its two-sided operators.
+    pub fn symbols(&self) -> impl Iterator<Item = &'static str> + '_ {
+        self.nodes.iter().filter_map(|node| match &node.kind {
+            Kind::Two(operator, ..) => Some(operator.symbol),
             _ => None,
         })
     }

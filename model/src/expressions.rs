@@ -1,14 +1,15 @@
 //! Reads an expression from a text [01, Expressions].
 
 use crate::naming::name_at;
-use crate::trees::{Node, Op, Tree, COMPARISON, OR, PRODUCT};
+use crate::operators::{groups, level, Op, OPS};
+use crate::trees::{Node, Tree};
 
 const MOST_OPEN: usize = 12;
 
 /// The longest expression that starts at `at`, and the place after it.
 pub fn expression(text: &[u8], at: usize) -> Option<(Tree<&[u8]>, usize)> {
     let mut reader = Reader { text, at, open: 0, nodes: Vec::new() };
-    reader.operators(OR)?;
+    reader.operators()?;
     Some((Tree { nodes: reader.nodes }, reader.at))
 }
 
@@ -25,43 +26,38 @@ impl<'a> Reader<'a> {
         self.nodes.len() - 1
     }
 
-    /// An atom and what follows it by operators of the level `loosest` and tighter ones. Once an operator is
-    /// taken, only those of its level (none, after a comparison) or looser ones can follow its right operand.
-    fn operators(&mut self, loosest: u8) -> Option<usize> {
-        let mut left = self.atom()?;
-        let mut tightest = PRODUCT;
+    /// Atoms with operators between them. An operator waits, with its left operand, until what follows its right one
+    /// binds looser, or equally and groups to the left; none waits beside one of its level that groups to neither side.
+    fn operators(&mut self) -> Option<usize> {
+        let mut waiting: Vec<(Op, usize)> = Vec::new();
+        let mut last = self.atom()?;
         while let Some((op, after)) = self.operator() {
-            let level = op.level();
-            if level < loosest || level > tightest {
-                break;
+            let (own, (to_left, to_right)) = (level(op), groups(level(op)));
+            let is_done = |earlier: Op| level(earlier) > own || (level(earlier) == own && to_left);
+            while let Some((earlier, left)) = waiting.pop_if(|(earlier, _)| is_done(*earlier)) {
+                last = self.push(Node::Two(earlier, left, last));
             }
+            if waiting.last().is_some_and(|(earlier, _)| level(*earlier) == own) && !to_right {
+                return None;
+            }
+            waiting.push((op, last));
             self.at = after;
-            let right = self.operators(level + 1)?;
-            left = self.push(Node::Two(op, left, right));
-            tightest = if level == COMPARISON { level - 1 } else { level };
+            last = self.atom()?;
         }
-        Some(left)
+        for (op, left) in waiting.into_iter().rev() {
+            last = self.push(Node::Two(op, left, last));
+        }
+        Some(last)
     }
 
     /// The operator that comes next, and the place after it; up to one space on each side.
     fn operator(&self) -> Option<(Op, usize)> {
         let at = self.at + usize::from(self.peek(self.at) == b' ');
-        let (op, length) = match (self.peek(at), self.peek(at + 1)) {
-            (b'|', b'|') => (Op::Or, 2),
-            (b'&', b'&') => (Op::And, 2),
-            (b'=', b'=') => (Op::Eq, 2),
-            (b'!', b'=') => (Op::Ne, 2),
-            (b'<', b'=') => (Op::Le, 2),
-            (b'>', b'=') => (Op::Ge, 2),
-            (b'<', _) => (Op::Lt, 1),
-            (b'>', _) => (Op::Gt, 1),
-            (b'+', _) => (Op::Add, 1),
-            (b'-', _) => (Op::Sub, 1),
-            (b'*', _) => (Op::Mul, 1),
-            _ => return None,
-        };
-        let after = at + length;
-        Some((op, after + usize::from(self.peek(after) == b' ')))
+        let rest = self.text.get(at..)?;
+        let signs = OPS.iter().filter(|row| rest.starts_with(row.2));
+        let (op, _, sign, _) = signs.max_by_key(|row| row.2.len())?;
+        let after = at + sign.len();
+        Some((*op, after + usize::from(self.peek(after) == b' ')))
     }
 
     fn atom(&mut self) -> Option<usize> {
@@ -83,7 +79,7 @@ impl<'a> Reader<'a> {
         }
         self.at += length;
         self.open += 1;
-        let inner = self.operators(OR)?;
+        let inner = self.operators()?;
         if self.peek(self.at) != b')' {
             return None;
         }
@@ -152,6 +148,13 @@ mod tests {
         assert_eq!(grouped("a<b+1&& c>=2||!(d==e)"), "[[[a<[b+1]]&&[c>=2]]||[![d==e]]]");
         assert_eq!(grouped("a||b&&c||d"), "[[a||[b&&c]]||d]");
         assert_eq!(grouped("(a==b)==(((c)))"), "[[a==b]==c]");
+        assert_eq!(grouped("2^3^4"), "[2^[3^4]]");
+        assert_eq!(grouped("(2^3)^4 ^5"), "[[2^3]^[4^5]]");
+        assert_eq!(grouped("a*2^3^4*b"), "[[a*[2^[3^4]]]*b]");
+        assert_eq!(grouped("2^a*3"), "[[2^a]*3]");
+        assert_eq!(grouped("8/4/2*3%5"), "[[[[8/4]/2]*3]%5]");
+        assert_eq!(grouped("8/(4/2)-7 % 3 ^ 2"), "[[8/[4/2]]-[7%[3^2]]]");
+        assert_eq!(grouped("a+b^2==c%2&&d<e"), "[[[a+[b^2]]==[c%2]]&&[d<e]]");
     }
 
     #[test]
@@ -177,6 +180,14 @@ mod tests {
             "a=b",
             "a< =b",
             "a&b",
+            "2^",
+            "^2",
+            "2^^3",
+            "2**3",
+            "7//2",
+            "7%/2",
+            "2  ^3",
+            "2^ ",
         ];
         for text in wrong {
             assert_eq!(bracketed(text), None, "{text}");

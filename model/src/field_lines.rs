@@ -5,6 +5,7 @@ use crate::expressions::expression;
 use crate::names::{is_label, is_short_name};
 use crate::rules::MOST_FIXED_BITS;
 use crate::trees::Tree;
+use crate::widths::fixed_number;
 
 pub const VARIABLE: &[u8] = b"variable";
 pub const PRESENT: &[u8] = b"; present only when ";
@@ -53,7 +54,7 @@ fn width<'a>(rest: &mut &'a [u8]) -> Option<Width<&'a [u8]>> {
     let (word, after) = after.split_at(end);
     *rest = after;
     let (_, unit) = UNITS.into_iter().find(|(name, _)| *name == word)?;
-    let Some(number) = tree.single_number() else {
+    let Some(number) = fixed_number(&tree) else {
         return Some(Width::Measured { unit, tree });
     };
     let bits = number.checked_mul(unit)?;

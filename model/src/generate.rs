@@ -1,9 +1,10 @@
 //! Random texts, tables and packets from a seed: right ones, and ones damaged in many ways. The same seed gives
 //! the same cases.
 //!
-//! `layouts` and `words` choose rows and names, `growth` the trees, `fields` the description; `spelling` writes
-//! it as one of its texts; `bends` breaks a rule of a description, `clashes` those on equal names, `edits` changes
-//! bytes and lines; `fitting` makes packets for a table. `extremes` makes what stands at the far ends of the limits.
+//! `layouts` and `words` choose rows and names, `growth` the trees, `steps` some at the edges of `/`, `%` and `^`,
+//! `fields` the description; `spelling` writes it as one of its texts; `bends` breaks a rule of a description, `clashes`
+//! those on equal names, `edits` changes bytes and lines; `fitting` makes packets for a table. `extremes` makes what
+//! stands at the far ends of the limits.
 
 mod bends;
 mod clashes;
@@ -13,8 +14,11 @@ mod fields;
 mod fitting;
 mod growth;
 mod layouts;
+#[cfg(test)]
+mod reached;
 mod rng;
 mod spelling;
+mod steps;
 mod words;
 
 pub use rng::Rng;
@@ -27,7 +31,7 @@ use spelling::{spell, Manner};
 use words::Names;
 
 /// A text at the far ends is one of so many.
-const FAR_TEXT: usize = 60;
+const FAR_TEXT: usize = 40;
 /// A table as long as may be is one of so many, and one of too many fields.
 const FAR_TABLE: usize = 800;
 const CROWDED_TABLE: usize = 60;
@@ -83,6 +87,7 @@ pub fn table(rng: &mut Rng) -> Vec<u8> {
             }
             encode(&description)
         }
+        2 if rng.one_in(3) => edits::recode(encode(&description), rng),
         2 | 3 => edits::edit_bytes(encode(&description), rng, &edits::TABLE_BYTES),
         _ => encode(&description),
     }
@@ -125,12 +130,13 @@ fn crowded_table(rng: &mut Rng) -> Vec<u8> {
     encode(&fields::description(rng, &layout, &names))
 }
 
-/// A text of very many lines or fields, or one of a long table; about half of them damaged.
+/// A text of very many lines or fields, of a very long line, or of a long table; about half of them damaged.
 fn far_text(rng: &mut Rng) -> Vec<u8> {
-    let text = match rng.below(4) {
+    let text = match rng.below(6) {
         0 => extremes::many_rows(rng),
         1 => extremes::many_lines(rng),
         2 => return tall_text(rng),
+        3 | 4 => return extremes::many_powers(rng),
         _ => long_table_text(rng),
     };
     match rng.below(4) {
@@ -172,7 +178,7 @@ fn wide_or_tall(rng: &mut Rng, count: usize) -> Layout {
 
 /// Rows and names; with `shown`, each field has a name that its cell has room for.
 fn plan(rng: &mut Rng, shown: bool) -> (Layout, Names) {
-    let layout = if rng.one_in(if shown { 20 } else { 50 }) {
+    let layout = if rng.one_in(if shown { 20 } else { 40 }) {
         let count = many(rng);
         wide_or_tall(rng, count)
     } else {

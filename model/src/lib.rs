@@ -1,11 +1,11 @@
-//! A model of document 01 and of requests of document 02, written from them and from the readings of
+//! A model of document 01 and of requests of document 02, written from them and from the readings of
 //! their open points in `docs/DECISIONS.md`, not from the library: it reads description texts, writes and checks field
 //! tables, reads packets by a table and lists them. Every function answers for every input.
 //!
-//! In reading order: `names`, `trees`, `expressions`, `descriptions`, `naming`, `rules` say what a description is;
-//! `lines`, `frames`, `field_lines`, `matching`, `texts` read a text; `stored`, `tables` hold the stored form;
-//! `evaluation`, `reading`, `listing`, `lookups` use a table. `generate` makes random cases, and `protocol`
-//! answers the requests of the oracle.
+//! In reading order: `names`, `operators`, `trees`, `expressions`, `descriptions`, `naming`, `widths`, `rules` say what
+//! a description is; `lines`, `frames`, `field_lines`, `matching`, `texts` read a text; `stored`, `tables` hold the
+//! stored form; `evaluation`, `reading`, `listing`, `lookups` use a table. `generate` makes random cases, and
+//! `protocol` answers the requests of the oracle.
 
 mod descriptions;
 mod evaluation;
@@ -19,6 +19,7 @@ mod lookups;
 mod matching;
 mod names;
 mod naming;
+mod operators;
 pub mod protocol;
 mod reading;
 mod refusals;
@@ -27,6 +28,7 @@ mod stored;
 mod tables;
 mod texts;
 mod trees;
+mod widths;
 
 pub use listing::list_packet;
 pub use lookups::{count_fields, field_kind, field_label, field_short, find_field};

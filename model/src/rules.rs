@@ -5,6 +5,7 @@ use crate::descriptions::{Description, Field, Width};
 use crate::names::{is_label, is_short_name};
 use crate::naming::{first_repeat, may_read};
 use crate::trees::{Kind, Node, Tree};
+use crate::widths::fixed_number;
 
 pub const ROW_BITS: [u32; 3] = [8, 16, 32];
 pub const MOST_FIELDS: usize = 128;
@@ -32,7 +33,7 @@ fn names_right<N>(field: &Field<N>) -> bool {
 fn width_right<N: Copy>(field: &Field<N>) -> bool {
     match &field.width {
         Width::Fixed(bits) => (1..=MOST_FIXED_BITS).contains(bits),
-        Width::Measured { unit, tree } => matches!(unit, 1 | 8) && tree.single_number().is_none(),
+        Width::Measured { unit, tree } => matches!(unit, 1 | 8) && fixed_number(tree).is_none(),
         Width::Rest => true,
     }
 }

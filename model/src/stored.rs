@@ -1,8 +1,9 @@
 //! The stored form of a description, written and taken apart [01, The stored table].
 
 use crate::descriptions::{Description, Field, Width};
+use crate::operators::{code, op_of};
 use crate::rules::{LONGEST_TREE, MOST_DEPTH};
-use crate::trees::{Node, Op, Tree, FIELD_CODE, NOT_CODE, NUMBER_CODE};
+use crate::trees::{Node, Tree, FIELD_CODE, NOT_CODE, NUMBER_CODE};
 
 const HEAD: usize = 1;
 const FIXED: usize = 2;
@@ -85,7 +86,7 @@ fn put_node(bytes: &mut Vec<u8>, tree: &Tree<usize>, node: usize) {
             put_node(bytes, tree, operand);
         }
         Node::Two(op, left, right) => {
-            bytes.push(op.code());
+            bytes.push(code(op));
             put_node(bytes, tree, left);
             put_node(bytes, tree, right);
         }
@@ -172,7 +173,7 @@ fn take_node(rest: &mut &[u8], nodes: &mut Vec<Node<usize>>, depth: u32) -> Opti
         FIELD_CODE => Node::Name(usize::from(take(rest, 1)?[0])),
         NOT_CODE => Node::Not(take_node(rest, nodes, depth)?),
         code => {
-            let op = Op::from_code(code)?;
+            let op = op_of(code)?;
             let left = take_node(rest, nodes, depth)?;
             Node::Two(op, left, take_node(rest, nodes, depth)?)
         }

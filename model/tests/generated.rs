@@ -80,7 +80,7 @@ fn packets_of_every_answer() {
         let (start, length) = field_bytes(&table, &packet, rng.below(130));
         assert!(start + length <= packet.len());
     }
-    tally.has_all(21..=28);
+    tally.has_all(21..=29);
     assert!((1200..=4200).contains(&tally.accepted()), "{:?}", tally.0);
 }
 

@@ -21,7 +21,7 @@ fn spelled() {
 
 #[test]
 fn edge() {
-    agrees("edge.tsv", 561);
+    agrees("edge.tsv", 560);
 }
 
 #[test]
@@ -57,4 +57,9 @@ fn r10() {
 #[test]
 fn r2() {
     agrees("r2.tsv", 300);
+}
+
+#[test]
+fn r7() {
+    agrees("r7.tsv", 300);
 }

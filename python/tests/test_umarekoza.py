@@ -95,6 +95,12 @@ class Marked(unittest.TestCase):
         refusal, count = umarekoza.read_partly(TABLE, M1, array("I", [7] * 27))
         self.assertEqual(((refusal.number, refusal.place), count), ((23, 0), 0))
 
+    def test_zero_divisors(self):
+        table = umarekoza.table_of(TAG.replace(b"K == 7", b"7 / K == 2"))
+        self.assertEqual(umarekoza.fields_of(table, b"\x03"), [Field(True, 0, 8, 3)])
+        self.refused(29, 1, umarekoza.fields_of, table, b"\0")
+        self.assertEqual(umarekoza.listing(table, b"\0"), b"refused 29 at 1\n")
+
     def test_fields_by_name_and_index(self):
         labels = ["Version", "On Loan", "Cells", "Blade", "Borrower", "Readings", "Sum"]
         self.assertEqual([umarekoza.field_label(TABLE, index) for index in range(8)], labels + [None])

@@ -1,6 +1,6 @@
 """Packet diagrams as a person writes them, turned into field tables, and packets read by a table: calls of the proved
-library by ctypes. Document 01 has the rules, the numbers and the places; only 30, for a field that is not there, is
-document 02's.
+library by ctypes. Document 01 has the rules, the numbers and the places; only 29, for a zero
+divisor, and 30, for a field that is not there, are document 02's.
 
 A text, table, packet or name is anything with the bytes of one: bytes, bytearray, memoryview, mmap; none is copied. A
 name may be a str too. What is written to is a bytearray or another buffer that may be written, and for a run one of
@@ -83,7 +83,7 @@ def check_table(table):
 
 def read_packet(table, packet, run):
     """Writes four numbers a field to the start of run: present (1 or 0), offset, width and value. Answers the bits of
-    the packet. Refuses by 21 to 28."""
+    the packet. Refuses by 21 to 29."""
     return _calls.read_packet(table, packet, run)
 
 
@@ -94,7 +94,7 @@ def read_partly(table, packet, run):
 
 
 def fields_of(table, packet):
-    """The fields of a packet, in the order of the table. Refuses by 21, 22 and 24 to 28."""
+    """The fields of a packet, in the order of the table. Refuses by 21, 22 and 24 to 29."""
     run = array("I", [_UNTOUCHED]) * RUN_MOST
     read_packet(table, packet, run)
     fields = (Field._make(run[at : at + 4]) for at in range(0, RUN_MOST, 4))

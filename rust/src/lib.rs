@@ -1,12 +1,12 @@
 //! Packet diagrams as a person writes them, turned into field tables, and packets read by a table: safe calls of
 //! the proved static library `libumarekoza.a`. Document 01 has the rules, the numbers and the places; [`Refusal`]
-//! names the one number that it does not have.
+//! names the two numbers that it does not have.
 //!
 //! Every function answers for every input and panics for none. Functions that write to a lent slice change no
 //! byte of it where they refuse, and nothing beyond what they write where they accept; [`read_partly`] alone writes
 //! what it read before a refusal.
 //!
-//! The library uses the stack of the thread that calls it: a call may need up to some 90 kilobytes.
+//! The library uses the stack of the thread that calls it: a call may need up to some 100 kilobytes.
 //!
 //! ```
 //! let page = "\

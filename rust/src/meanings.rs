@@ -16,7 +16,7 @@ pub fn meanings() -> &'static [Meaning] {
     &MEANINGS
 }
 
-const MEANINGS: [Meaning; 20] = [
+const MEANINGS: [Meaning; 21] = [
     Meaning {
         number: 1,
         what: "the page is longer than 16,384 bytes",
@@ -112,13 +112,18 @@ const MEANINGS: [Meaning; 20] = [
     Meaning {
         number: 27,
         what: "a step of an expression of this field is below 0 or over 4,294,967,295",
-        mend: "look on the page for a difference that falls below 0, or test first, as in `N >= 2 && N - \
-               2 < 5`",
+        mend: "look on the page for a difference that falls below 0 or a product or power that grows too \
+               large, or test first, as in `N >= 2 && N - 2 < 5`",
     },
     Meaning {
         number: 28,
         what: "bits are left over behind the last field",
         mend: "the packet is longer than the page says; a field of `variable` width takes what is left",
+    },
+    Meaning {
+        number: 29,
+        what: "an expression of this field divides by zero, by `/` or by `%`",
+        mend: "test the divisor first, on the page, as in `N != 0 && 6 / N < 5`",
     },
     Meaning {
         number: 30,
@@ -143,7 +148,7 @@ mod tests {
     #[test]
     fn every_number_has_one_meaning() {
         let numbers: Vec<u32> = meanings().iter().map(|meaning| meaning.number).collect();
-        let expected: Vec<u32> = (1..=11).chain(21..=28).chain([30]).collect();
+        let expected: Vec<u32> = (1..=11).chain(21..=30).collect();
         assert_eq!(numbers, expected);
     }
 

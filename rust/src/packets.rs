@@ -23,7 +23,7 @@ impl From<[u32; 4]> for Field {
 /// Reads a packet by a table: four numbers a field to the start of `run`, namely present (1 or 0), offset, width
 /// and value. Answers the bits of the packet.
 ///
-/// Refuses by 21 to 28. A refusal leaves `run` as it was; numbers beyond those of the fields stay too.
+/// Refuses by 21 to 29. A refusal leaves `run` as it was; numbers beyond those of the fields stay too.
 ///
 /// ```
 /// # let page = include_bytes!("../../examples/pages/blade-report.txt");
@@ -58,7 +58,7 @@ pub fn read_partly(table: &[u8], packet: &[u8], run: &mut [u32]) -> (Result<u64,
     calls::read_partly(table, packet, run).settled()
 }
 
-/// The fields of a packet, in the order of the table. Refuses by 21, 22 and 24 to 28.
+/// The fields of a packet, in the order of the table. Refuses by 21, 22 and 24 to 29.
 ///
 /// ```
 /// use umarekoza::{fields_of, Field};

@@ -71,6 +71,29 @@ fn m8_and_m9_expressions() {
 }
 
 #[test]
+fn quotients_remainders_and_powers() {
+    let read = |constraint: &str| {
+        let page = one_byte(&format!("Kind (K): 8 bits; {constraint}."));
+        fields_of(&table_of(page.as_bytes()).unwrap(), &[0]).map(|fields| fields.len())
+    };
+    for right in ["7/2 == 3", "7%2 == 1", "2^3^2 == 512", "2*3^2 == 18", "0^0 == 1", "K == 0 || 1/K == 1"] {
+        assert_eq!(read(right), Ok(1), "{right}");
+    }
+    for zero in ["1/K == 0", "1%0 == 1", "1/0+(1-2) == 0"] {
+        assert_eq!(read(zero), refused(29, 1), "{zero}");
+    }
+    for range in ["(1-2)/0 == 0", "2^32 == 0", "4294967295^4294967295 == 0"] {
+        assert_eq!(read(range), refused(27, 1), "{range}");
+    }
+    let table = table_of(one_byte("Kind (K): 8 bits; 6/K == 2.").as_bytes()).unwrap();
+    assert_eq!(listing(&table, &[0]), b"refused 29 at 1\n");
+    assert_eq!(listing(&table, &[3]), b"Kind: 0 8 3\nbits 8\n");
+    let mut run = [7; 4];
+    assert_eq!(read_partly(&table, &[0], &mut run), (refused(29, 1), 0));
+    assert_eq!(run, [7; 4]);
+}
+
+#[test]
 fn m10_tag_table_just_fits() {
     let page = one_byte("Kind (K): 1 byte; K == 7.");
     let mut out = [0xEE; 44];

@@ -5,9 +5,9 @@ use std::path::Path;
 use umarekoza::*;
 
 /// The files, and how many lines each has.
-const FILES: [(&str, usize); 9] = [
+const FILES: [(&str, usize); 10] = [
     ("spelled.tsv", 384),
-    ("edge.tsv", 561),
+    ("edge.tsv", 560),
     ("mutated.tsv", 576),
     ("tables.tsv", 512),
     ("packets.tsv", 506),
@@ -15,6 +15,7 @@ const FILES: [(&str, usize); 9] = [
     ("large.tsv", 24),
     ("r10.tsv", 71),
     ("r2.tsv", 300),
+    ("r7.tsv", 300),
 ];
 
 /// The bytes of a hex word, `-` for none.

@@ -45,3 +45,13 @@ module _ {A : Type 0} (keeps : List A → A → Bool) where
           → (keeps before x ≡ true) × (after ≡ none)
       go true e f = (e, f)
       go false e f = absurd (let z : _≡_ {A = ℕ} 0 1 = cc in omega arith)
+
+-- a rule that asks for less
+pub keeps-weaker : {A : Type 0} (p q : List A → A → Bool)
+    → ((before : List A) (x : A) → p before x ≡ true → q before x ≡ true)
+    → (before l : List A) → firstBreak p before l ≡ none → firstBreak q before l ≡ none
+unfolding firstBreak
+keeps-weaker p q f before [] h = refl
+keeps-weaker p q f before (x ∷ l) h =
+    let k = firstBreak-cons p before x l h in
+    rw (f before x (k .0)) (keeps-weaker p q f (before ++ (x ∷ [])) l (k .1))

@@ -3,6 +3,7 @@
 -- Expressions      trees: spelling, values, limits
 -- Fields           how many fields, their names, widths and rows
 -- Names            which names may be read, and which clash
+-- Quotients        quotients, remainders and powers, everywhere
 -- StoredTable      tables, and what is looked up in them
 -- Spelling         texts that spell a description
 -- ReadingAPacket   packets, and what is handed out
@@ -13,6 +14,7 @@ pub mod LinesOfAText
 pub mod Expressions
 pub mod Fields
 pub mod Names
+pub mod Quotients
 pub mod StoredTable
 pub mod Spelling
 pub mod ReadingAPacket

@@ -28,7 +28,7 @@ use Rattle.text_laws.specs.WrongTexts.{pair, four}
 use Rattle.text_laws.specs.WrongTextNames as texts
 
 -- the text's table is written
-abbrev writes : List ℕ → Description → Case
+abbrev pub writes : List ℕ → Description → Case
 writes text d = answers text (replicate 300 9)
     (leaves (accepted (length (stored d))) (overlaid (stored d) (replicate 300 9)))
 

@@ -160,8 +160,9 @@ forms =
     refuses (tagLines 1 ++ bytes "\n") (refused 5 12)
     ∷ refuses (tagHead ++ bytes "Kind (K): 1 byte; K == 7\n") (refused 5 11)
     ∷ refuses (tagHead ++ bytes "Kind: 33 bits.\n") (refused 5 11)
-    -- 5 at a later line, before 7 at an earlier one
+    -- 5 at a later line, before 7 at an earlier one; a sign twice [02, R-7]
     ∷ refuses crossedOpen (refused 5 12)
+    ∷ refuses (tagHead ++ bytes "Kind (K): 1 byte; K//2 == 3.\n") (refused 5 11)
     ∷ []
 
 abbrev wholeTexts : List Case
@@ -243,6 +244,7 @@ answersOfTheCode =
     ∷ stands (ofPacket (PacketAnswer.Refused Fault.ConstraintFalse 1)) (refused 25 1)
     ∷ stands (ofPacket (PacketAnswer.Refused Fault.AbsentRead 3)) (refused 26 3)
     ∷ stands (ofPacket (PacketAnswer.Refused Fault.OutOfRange 2)) (refused 27 2)
+    ∷ stands (ofPacket (PacketAnswer.Refused Fault.ZeroDivisor 2)) (refused 29 2)
     ∷ stands (ofPacket PacketAnswer.LeftOver) (refused 28 0)
     ∷ stands (ofText (TextAnswer.Accepted 44)) (accepted 44)
     ∷ stands (ofText TextAnswer.TooLong) (refused 1 0)

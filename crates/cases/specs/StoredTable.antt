@@ -4,13 +4,14 @@ use Rattle.base.specs.Bytes.{bytes}
 use Rattle.rules.specs.Answers.{accepted, refused}
 use Rattle.rules.specs.Cases.{Case, stores, finds, labels}
 use Rattle.rules.specs.Marked.{bladeReport}
-use Rattle.rules.specs.Pages.{allKinds, allKindsTable, allCodes, allCodesTable}
+use Rattle.rules.specs.Pages.{allKinds, allKindsTable, allCodes, allCodesTable, addedCodes, addedCodesTable}
 
 abbrev tables : List Case
 tables =
-    -- every kind of field, every code
+    -- every kind of field, every code [02, R-7]
     stores allKinds allKindsTable
     ∷ stores allCodes allCodesTable
+    ∷ stores addedCodes addedCodesTable
     ∷ []
 
 abbrev lookups : List Case

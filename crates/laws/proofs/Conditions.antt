@@ -23,7 +23,9 @@ use Rattle.rules.specs.Reading.{
   leftOver,
   readOn,
   readField,
+  readFieldIn,
   readFields,
+  readFieldsIn,
   reading,
   bitTotal,
   holds,
@@ -73,7 +75,7 @@ module _ (before : List Entry) (f : Field ℕ) where
       go false = present-kept y e (place + n) refl
 
   field-kept : (packet : List ℕ) (place later : ℕ) → KeptIn before f (readField packet before place later f)
-  unfolding readField
+  unfolding readFieldIn
   field-kept packet place later = go (holds before (f .condition)) refl
     where
       present : Step
@@ -108,7 +110,7 @@ at-end before all false h = let z : _≡_ {A = ℕ} 0 1 = cc in absurd (omega ar
 
 fields-kept : (packet : List ℕ) (before all : List Entry) (place : ℕ) (fs : List (Field ℕ))
     → readFields packet before place fs ≡ complete all → Behind before fs all
-unfolding readFields
+unfolding readFieldsIn
 fields-kept packet before all place [] h = at-end before all (eqb place (bitTotal packet)) h
 fields-kept packet before all place (f ∷ fs) h =
     go (readField packet before place (sum fixedBits fs) f) (field-kept before f packet place (sum fixedBits fs)) h

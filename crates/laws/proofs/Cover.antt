@@ -25,7 +25,9 @@ use Rattle.rules.specs.Reading.{
   leftOver,
   readOn,
   readField,
+  readFieldIn,
   readFields,
+  readFieldsIn,
   reading,
   bitTotal,
   holds,
@@ -65,7 +67,7 @@ present-placed packet entries place f n =
 
 field-placed : (packet : List ℕ) (entries : List Entry) (place later : ℕ) (f : Field ℕ)
     → Placed place (readField packet entries place later f)
-unfolding readField
+unfolding readFieldIn
 field-placed packet entries place later f =
     let present : Step = andThen (widthAt packet entries place later (f .width)) (bounded packet entries place f) in
     both place (holds entries (f .condition)) (λ c. cond (eqb c 0) (step absent place) present)
@@ -102,7 +104,7 @@ cons-behind packet entries all place next e (inr p) w = record {
 
 fields-behind : (packet : List ℕ) (entries all : List Entry) (place : ℕ) (fs : List (Field ℕ))
     → readFields packet entries place fs ≡ complete all → Behind entries place packet all
-unfolding readFields
+unfolding readFieldsIn
 fields-behind packet entries all place [] h = at-end packet entries all place (eqb place (bitTotal packet)) refl h
 fields-behind packet entries all place (f ∷ fs) h =
     go (readField packet entries place (sum fixedBits fs) f) (field-placed packet entries place (sum fixedBits fs) f) h

@@ -1,8 +1,7 @@
 -- Whether a table is good is decidable: a good table stores the description that is read from it.
-use mathlib.Core.Path.{_≡_, sym, _∙_, ap}
-use mathlib.Core.Bool.{Bool, true, Bool-discrete}
+use mathlib.Core.Path.{_≡_, refl, sym, _∙_, ap}
+use mathlib.Core.Bool.{Bool, true, false}
 use mathlib.Core.List.{List, List-discrete}
-use mathlib.Core.Option.{Option, none, discrete}
 use Prim.Native.Nat.{ℕ}
 use native.Mathlib.Decide.{ℕ-discrete, map-dec}
 use Rattle.rules.specs.Fields.{Description}
@@ -12,41 +11,19 @@ use Rattle.rules.specs.Stored.{storedIn, GoodIn, Good}
 use Rattle.rules.specs.Results.{GoodDecidable}
 use Rattle.laws.proofs.Readers.{describedIn}
 use Rattle.laws.proofs.Unique.{described-stored}
+use Rattle.laws.proofs.WithinTest.{isWithinIn, within-in, outside-in}
 
 pub both-decidable : {A B : Type 0} → Dec A → Dec B → Dec (A × B)
 both-decidable (yes a) (yes b) = yes (a, b)
 both-decidable (yes a) (no f) = no (λ p. f (p .1))
 both-decidable (no f) d = no (λ p. f (p .0))
 
-true? : (b : Bool) → Dec (b ≡ true)
-true? b = Bool-discrete b true
-
-none? : (o : Option ℕ) → Dec (o ≡ none)
-none? o = discrete ℕ-discrete o none
-
 pub within-decidable : (e : Edition) (d : Description) → Dec (WithinIn e d)
-within-decidable e d =
-    map-dec
-    (λ p. record {
-      name = p .0;
-      row = p .1 .0;
-      count = p .1 .1 .0;
-      form = p .1 .1 .1 .0;
-      size = p .1 .1 .1 .1 .0;
-      names = p .1 .1 .1 .1 .1 .0;
-      types = p .1 .1 .1 .1 .1 .1 .0;
-      rests = p .1 .1 .1 .1 .1 .1 .1 .0;
-      rows = p .1 .1 .1 .1 .1 .1 .1 .1;
-    })
-    (λ w. (w .name, (w .row, (w .count, (w .form, (w .size, (w .names, (w .types, (w .rests, w .rows)))))))))
-    (both-decidable (true? _)
-    (both-decidable (true? _)
-    (both-decidable (true? _)
-    (both-decidable (none? _)
-    (both-decidable (none? _)
-    (both-decidable (none? _)
-    (both-decidable (none? _)
-    (both-decidable (none? _) (true? _)))))))))
+within-decidable e d = go (isWithinIn e d) refl
+  where
+    go : (b : Bool) → isWithinIn e d ≡ b → Dec (WithinIn e d)
+    go true h = yes (within-in e d h)
+    go false h = no (outside-in e d h)
 
 pub described-good : (e : Edition) (table : List ℕ) (g : GoodIn e table) → g .description ≡ describedIn e table
 described-good e table g =

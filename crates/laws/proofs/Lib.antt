@@ -3,11 +3,14 @@
 -- ReadsNumbers  numbers and counted lists are read again
 -- ReadsTrees    stored trees are read again
 -- ReadsFields   the records of fields are read again
+-- OperatorLaws  what an edition knows, a wider one knows and evaluates alike
 -- NameLaws      a name is that of one field only
 -- NamesStay     what R-2 left as it was
 -- Unique        a stored table stores one description
 -- Decidable     whether a table is good is decidable
 -- Earlier       what an edition with narrower limits accepts is accepted by one with wider ones
+-- Without       what an edition without the operators of codes 0x13 to 0x15 gives stays
+-- Powers        a power by at most 32 products
 -- GoodTest      good, by one test of a table's bytes
 -- Readings      what an accepted packet's entries come from
 -- Cover         an accepted packet's bits lie in one present field each
@@ -23,11 +26,14 @@ pub mod Readers
 pub mod ReadsNumbers
 pub mod ReadsTrees
 pub mod ReadsFields
+pub mod OperatorLaws
 pub mod NameLaws
 pub mod NamesStay
 pub mod Unique
 pub mod Decidable
 pub mod Earlier
+pub mod Without
+pub mod Powers
 pub mod GoodTest
 pub mod Readings
 pub mod Cover

@@ -6,7 +6,7 @@ use mathlib.Core.List.{List, [], _∷_, _++_, append-nil}
 use mathlib.Core.Option.{Option, none, some}
 use Prim.Native.Nat.{ℕ}
 use lib.ListN.{getElem?}
-use Rattle.base.specs.Lists.{any, same, ifAny, listOf, isNone, isEmpty, firstBreak}
+use Rattle.base.specs.Lists.{any, same, ifAny, listOf, isNone, isEmpty}
 use Rattle.base.proofs.Lists.{
   and-left,
   and-right,
@@ -19,7 +19,7 @@ use Rattle.base.proofs.Lists.{
   any-mem,
   same-true,
 }
-use Rattle.base.proofs.Breaks.{or-true, firstBreak-cons}
+use Rattle.base.proofs.Breaks.{or-true, keeps-weaker}
 use Rattle.rules.specs.declared.ValueType.{ValueType}
 use Rattle.rules.specs.declared.ValueType.the-variants.{Number, YesNo}
 use Rattle.rules.specs.Operators.{takes, gives}
@@ -29,17 +29,6 @@ use Rattle.rules.specs.Fields.{Width, fixed, measured, rest, Field, isFixed, re
 use Rattle.rules.specs.Within.{clash, keepsNames, widthHasType, keepsTypes, isReadable, indexReadable}
 use Rattle.rules.specs.Results.{hasShort, likeClash, ReadStays, ApartBefore, PlainRead, PlainClash}
 use Rattle.laws.proofs.ReadsFields.{formed-parts}
-
--- ── rules that ask for less ──
-
-keeps-weaker : {A : Type 0} (p q : List A → A → Bool)
-    → ((before : List A) (x : A) → p before x ≡ true → q before x ≡ true)
-    → (before l : List A) → firstBreak p before l ≡ none → firstBreak q before l ≡ none
-unfolding firstBreak
-keeps-weaker p q f before [] h = refl
-keeps-weaker p q f before (x ∷ l) h =
-    let k = firstBreak-cons p before x l h in
-    rw (f before x (k .0)) (keeps-weaker p q f (before ++ (x ∷ [])) l (k .1))
 
 -- ── what may be read ──
 

@@ -24,6 +24,7 @@ use Rattle.rules.specs.Reading.{
   readOn,
   readField,
   readFields,
+  readFieldsIn,
   isTooLong,
   reading,
   readingIn,
@@ -51,6 +52,7 @@ fault-large Fault.BitsMissing = omega arith
 fault-large Fault.ConstraintFalse = omega arith
 fault-large Fault.AbsentRead = omega arith
 fault-large Fault.OutOfRange = omega arith
+fault-large Fault.ZeroDivisor = omega arith
 
 -- a refusal has a number of 22 or more, and no value
 abbrev pub Told : Reading → Type 0
@@ -63,7 +65,7 @@ at-end entries false = (omega arith, refl)
 
 fields-told : (packet : List ℕ) (entries : List Entry) (place : ℕ) (fs : List (Field ℕ))
     → Told (readFields packet entries place fs)
-unfolding readFields
+unfolding readFieldsIn
 fields-told packet entries place [] = at-end entries (eqb place (bitTotal packet))
 fields-told packet entries place (f ∷ fs) =
     go (readField packet entries place (sum fixedBits fs) f) (λ more next. fields-told packet more next fs)

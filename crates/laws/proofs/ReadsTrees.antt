@@ -10,7 +10,7 @@ use lib.ListN.{length, length-append}
 use borrow.Author.Tests.{leb-true}
 use Rattle.base.proofs.Breaks.{and-true}
 use Rattle.rules.specs.declared.Op.{Op}
-use Rattle.rules.specs.declared.Op.the-variants.{Or, And, Eq, Ne, Lt, Le, Gt, Ge, Add, Sub, Mul}
+use Rattle.rules.specs.declared.Op.the-variants.{Or, And, Eq, Ne, Lt, Le, Gt, Ge, Add, Sub, Mul, Div, Rem, Pow}
 use Rattle.rules.specs.Limits.{depthMost, storedMost}
 use Rattle.rules.specs.Operators.{operator, operators, code}
 use Rattle.rules.specs.Trees.{Tree, num, read, two, negation, depth, le4, storedTree, storedLength, isSmall, isInRange}
@@ -31,6 +31,9 @@ codeOf-code Ge = refl
 codeOf-code Add = refl
 codeOf-code Sub = refl
 codeOf-code Mul = refl
+codeOf-code Div = refl
+codeOf-code Rem = refl
+codeOf-code Pow = refl
 
 depth-positive : (t : Tree ℕ) → 0 < depth t
 unfolding depth

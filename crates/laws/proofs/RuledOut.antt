@@ -25,8 +25,8 @@ use Rattle.rules.specs.Names.{
   isReserved,
   isShort,
 }
-use Rattle.rules.specs.Trees.{depth, le2, le4, storedTree, isInRange, hasType}
-use Rattle.rules.specs.Values.{apply, decides, evaluate}
+use Rattle.rules.specs.Trees.{depth, le2, le4, storedTree, isInRange, hasOperators, hasType}
+use Rattle.rules.specs.Values.{power, apply, decides, evaluateBy}
 use Rattle.rules.specs.Fields.{Description}
 use Rattle.rules.specs.Within.{rowsFit, Within}
 use Rattle.rules.specs.Stored.{storedIn, storedFieldIn, stored, fieldBody, headBody, Good}
@@ -36,8 +36,8 @@ use Rattle.rules.specs.Reading.{
   partBytes,
   bitsAt,
   valueIn,
-  readField,
-  readFields,
+  readFieldIn,
+  readFieldsIn,
   reading,
   readingIn,
   fieldsBefore,
@@ -116,6 +116,7 @@ use Rattle.laws.specs.Wrong.{
 }
 use Rattle.laws.specs.WrongLimits.{entriesOf, linesOf, wrongLimits}
 use Rattle.laws.specs.WrongNames.{wrongNames}
+use Rattle.laws.specs.WrongOperators.{powers, quotients, wrongOperators}
 
 -- ── all that a promise allows ──
 
@@ -354,13 +355,13 @@ pub all-out : (cs : List Claim) → all isOther cs ≡ true → AllFalse cs
 all-out = every-passes isOther ruled-out
 
 -- each wrong program's answer is ruled out
-pub all-ruled-out : AllFalse (wrong ++ (wrongLimits ++ wrongNames))
+pub all-ruled-out : AllFalse (wrong ++ (wrongLimits ++ (wrongNames ++ wrongOperators)))
 unfolding digits all any same lastIs sum joined firstBreak operator operators isLetter isDigit isSpace isWordByte
     isLabelByte noTwoSpaces isLabel reserved isReserved isShort depth le2 le4 storedTree isInRange hasType
-    apply decides evaluate rowsFit storedIn storedFieldIn fieldBody headBody bitsAt valueIn readField readFields
-    readingIn entryLines linesText faultNumber ofPacket delivered readingAnswer
+    hasOperators power apply decides evaluateBy rowsFit storedIn storedFieldIn fieldBody headBody bitsAt valueIn
+    readFieldIn readFieldsIn readingIn entryLines linesText faultNumber ofPacket delivered readingAnswer
     packetOutcomeIn readingLines firstNamed fieldsBefore entriesBefore partlyOutcome manyFields entriesOf linesOf
-    Tables.readTwo Tables.readFour Tables.readCounted Tables.codeIn Tables.codeOf Tables.readAfter
+    powers quotients Tables.readTwo Tables.readFour Tables.readCounted Tables.codeIn Tables.codeOf Tables.readAfter
     Tables.readTree Tables.treeOf Tables.readFixed Tables.readMeasured Tables.readWidth Tables.fieldFrom
     Tables.readField Tables.readFields Tables.describedIn
-all-ruled-out = all-out (wrong ++ (wrongLimits ++ wrongNames)) refl
+all-ruled-out = all-out (wrong ++ (wrongLimits ++ (wrongNames ++ wrongOperators))) refl

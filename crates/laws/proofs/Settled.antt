@@ -59,7 +59,8 @@ packetOf a =
     (cond (eqb (a .number) 24) (PacketAnswer.Refused Fault.BitsMissing (a .place))
     (cond (eqb (a .number) 25) (PacketAnswer.Refused Fault.ConstraintFalse (a .place))
     (cond (eqb (a .number) 26) (PacketAnswer.Refused Fault.AbsentRead (a .place))
-    (cond (eqb (a .number) 27) (PacketAnswer.Refused Fault.OutOfRange (a .place)) PacketAnswer.LeftOver)))))))
+    (cond (eqb (a .number) 27) (PacketAnswer.Refused Fault.OutOfRange (a .place))
+    (cond (eqb (a .number) 29) (PacketAnswer.Refused Fault.ZeroDivisor (a .place)) PacketAnswer.LeftOver))))))))
 
 packet-back : (r : PacketAnswer) → packetOf (ofPacket r) ≡ r
 unfolding packetOf ofPacket faultNumber
@@ -71,6 +72,7 @@ packet-back (PacketAnswer.Refused Fault.BitsMissing i) = refl
 packet-back (PacketAnswer.Refused Fault.ConstraintFalse i) = refl
 packet-back (PacketAnswer.Refused Fault.AbsentRead i) = refl
 packet-back (PacketAnswer.Refused Fault.OutOfRange i) = refl
+packet-back (PacketAnswer.Refused Fault.ZeroDivisor i) = refl
 packet-back PacketAnswer.LeftOver = refl
 
 fieldOf : Answer → FieldAnswer

@@ -112,9 +112,14 @@ wrongBytes =
     -- a letter taken for a digit; the right table instead of the lent one
     ∷ saysDigit classTable 65 true
     ∷ saysDigit noClasses 48 true
-    -- a parenthesis taken for an operator; `!` left out
+    -- a parenthesis taken for an operator; `!` left out; `%`, `/` and `^` left out; `\` taken for one [02, R-7]
     ∷ saysOperator classTable 40 true
     ∷ saysOperator classTable 33 false
+    ∷ saysOperator classTable 37 false
+    ∷ saysOperator classTable 47 false
+    ∷ saysOperator classTable 94 false
+    ∷ saysOperator classTable 92 true
+    ∷ makesTable (set classTable 94 0)
     -- a tab taken for a space; no space known
     ∷ saysSpace classTable 9 true
     ∷ saysSpace classTable 32 false

@@ -6,7 +6,7 @@ use Prim.Native.Nat.{ℕ}
 use lib.Dec.{eqb}
 use borrow.Author.Tests.{eqb-true}
 use Rattle.rules.specs.declared.Op.{Op}
-use Rattle.rules.specs.declared.Op.the-variants.{Or, And, Eq, Ne, Lt, Le, Gt, Ge, Add, Sub, Mul}
+use Rattle.rules.specs.declared.Op.the-variants.{Or, And, Eq, Ne, Lt, Le, Gt, Ge, Add, Sub, Mul, Div, Rem, Pow}
 use Rattle.rules.specs.Operators.{operator, operators, code, numberCode, fieldCode, notCode}
 use Rattle.operators.specs.declared.codes.Code.{Code}
 use Rattle.operators.specs.Codes.{codeIn, codeOf}
@@ -66,3 +66,6 @@ code-two Ge = refl
 code-two Add = refl
 code-two Sub = refl
 code-two Mul = refl
+code-two Div = refl
+code-two Rem = refl
+code-two Pow = refl

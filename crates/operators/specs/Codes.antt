@@ -1,4 +1,4 @@
--- What the first byte of a stored expression says. [01, The stored table]
+-- What the first byte of a stored expression says. [01, The stored table] [02, R-7]
 use mathlib.Core.Bool.{cond}
 use mathlib.Core.List.{List, [], _∷_}
 use Prim.Native.Nat.{ℕ}

@@ -1,5 +1,5 @@
 -- An operator's row in the code: every column is one of the table of the rules.
--- [01, Expressions] [01, The stored table]
+-- [01, Expressions] [01, The stored table] [02, R-7]
 use Prim.Native.Nat.{ℕ}
 use lib.ListN.{getD}
 use Rattle.rules.specs.declared.Op.{Op}

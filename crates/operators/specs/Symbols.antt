@@ -1,4 +1,4 @@
--- The operator with whose symbol a text begins: the longest symbol counts. [01, Expressions]
+-- The operator with whose symbol a text begins: the longest symbol counts. [01, Expressions] [02, R-7]
 use mathlib.Core.Bool.{cond}
 use mathlib.Core.List.{List, [], _∷_}
 use Prim.Native.Nat.{ℕ}

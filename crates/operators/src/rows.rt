@@ -23,7 +23,10 @@ pub struct Row {
 }
 
 // The level of an atom, tighter than every operator: `atomLevel` of rules/specs/Operators.antt.
-pub const ATOM_LEVEL: u8 = 5;
+pub const ATOM_LEVEL: u8 = 6;
+
+// The tightest level of operators, which group to the right: `tightestLevel` of texts/specs/Chains.antt.
+pub const TIGHTEST_LEVEL: u8 = 5;
 
 const NUMBER: ValueType = ValueType::Number;
 
@@ -77,5 +80,8 @@ pub fn operator(op: Op) -> Row
         Op::Add => columns(b'+', 0, 3, 3, 4, 0x10, NUMBER, NUMBER, NEITHER),
         Op::Sub => columns(b'-', 0, 3, 3, 4, 0x11, NUMBER, NUMBER, NEITHER),
         Op::Mul => columns(b'*', 0, 4, 4, 5, 0x12, NUMBER, NUMBER, NEITHER),
+        Op::Div => columns(b'/', 0, 4, 4, 5, 0x13, NUMBER, NUMBER, NEITHER),
+        Op::Rem => columns(b'%', 0, 4, 4, 5, 0x14, NUMBER, NUMBER, NEITHER),
+        Op::Pow => columns(b'^', 0, 5, 6, 5, 0x15, NUMBER, NUMBER, NEITHER),
     }
 }

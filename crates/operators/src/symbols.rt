@@ -21,6 +21,9 @@ fn short_symbol(first: u8) -> Symbol
         b'+' => Symbol::Is(Op::Add, 1),
         b'-' => Symbol::Is(Op::Sub, 1),
         b'*' => Symbol::Is(Op::Mul, 1),
+        b'/' => Symbol::Is(Op::Div, 1),
+        b'%' => Symbol::Is(Op::Rem, 1),
+        b'^' => Symbol::Is(Op::Pow, 1),
         _ => Symbol::Nothing,
     }
 }

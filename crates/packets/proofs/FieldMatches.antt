@@ -27,6 +27,7 @@ use Rattle.rules.specs.Reading.{
   constrained,
   bounded,
   readField,
+  readFieldIn,
   bitTotal,
 }
 use Rattle.laws.proofs.ReadsFields.{formed-parts}
@@ -131,7 +132,7 @@ module _ (s packet run : List ℕ) (before : List (Field ℕ)) (entries : List E
       → Matches entries (runWith run (length entries) (fieldStep s packet run p later place))
       (readField packet entries place total f)
       (stepAfter s run (length entries) p (fieldStep s packet run p later place))
-  unfolding fieldStep readField
+  unfolding fieldStep readFieldIn
   field-matches later total sums =
       let k = ifAny (hasType (indexReadable (before ++ (f ∷ []))) YesNo) (f .constraint) in
       let c = ifAny (hasType (indexReadable before) YesNo) (f .condition) in

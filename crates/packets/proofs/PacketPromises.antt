@@ -78,6 +78,7 @@ fault-positive Fault.BitsMissing e = omega (arith, e)
 fault-positive Fault.ConstraintFalse e = omega (arith, e)
 fault-positive Fault.AbsentRead e = omega (arith, e)
 fault-positive Fault.OutOfRange e = omega (arith, e)
+fault-positive Fault.ZeroDivisor e = omega (arith, e)
 
 accepted-zero : (r : PacketAnswer) → isAccepted r ≡ true → ofPacket r .number ≡ 0
 unfolding ofPacket

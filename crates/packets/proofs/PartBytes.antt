@@ -14,7 +14,7 @@ use Rattle.laws.specs.Places.{Stands, IsBytes}
 use Rattle.laws.proofs.Places.{stands-part, stands-none, stands-byte}
 use Rattle.base.proofs.Lists.{and-left, and-right, and-both, not-both, or-cases}
 use Rattle.rules.specs.declared.Op.{Op}
-use Rattle.rules.specs.declared.Op.the-variants.{Or, And, Eq, Ne, Lt, Le, Gt, Ge, Add, Sub, Mul}
+use Rattle.rules.specs.declared.Op.the-variants.{Or, And, Eq, Ne, Lt, Le, Gt, Ge, Add, Sub, Mul, Div, Rem, Pow}
 use Rattle.rules.specs.declared.ValueType.{ValueType}
 use Rattle.rules.specs.declared.ValueType.the-variants.{YesNo}
 use Rattle.rules.specs.Limits.{depthMost, storedMost}
@@ -168,6 +168,9 @@ code-other Ge = refl
 code-other Add = refl
 code-other Sub = refl
 code-other Mul = refl
+code-other Div = refl
+code-other Rem = refl
+code-other Pow = refl
 
 pub number-byte : (s : List ℕ) (p : Span) (t : Tree ℕ) → In s p (storedExpression t)
     → eqb (getD s (p .at) 0) 1 ≡ isNumber t

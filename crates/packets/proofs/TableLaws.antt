@@ -10,6 +10,7 @@ use borrow.Author.Tests.{le-leb}
 use Rattle.base.specs.Lists.{any, joined}
 use Rattle.laws.specs.Places.{IsBytes, twoAt}
 use Rattle.base.proofs.Lists.{and-left, and-right, and-both, not-both}
+use Rattle.laws.proofs.OperatorLaws.{keeps-known}
 use Rattle.laws.proofs.Places.{stands-join, stands-left, stands-right}
 use Rattle.rules.specs.declared.TableAnswer.{TableAnswer}
 use Rattle.rules.specs.Fields.{Field, Description}
@@ -57,6 +58,7 @@ good-of s at l b h count fields last names =
         row = h .row;
         count = rw count (h .count);
         form = fields .form;
+        operators = keeps-known [] l;
         size = fields .size;
         names = names-sound s l from at (fields .form) (fields .size) (fields .stands) (rw count names);
         types = fields .types;

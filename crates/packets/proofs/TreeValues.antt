@@ -17,7 +17,19 @@ use Rattle.rules.specs.declared.ValueType.the-variants.{Number, YesNo}
 use Rattle.rules.specs.Limits.{numberMost}
 use Rattle.rules.specs.Operators.{takes, gives}
 use Rattle.rules.specs.Trees.{Tree, num, read, two, negation, depth, storedTree, isInRange, sameType, hasType}
-use Rattle.rules.specs.Values.{Value, value, fault, apply, decides, withRight, withLeft, opposite, yesNo, evaluate}
+use Rattle.rules.specs.Values.{
+  Value,
+  value,
+  fault,
+  apply,
+  decides,
+  withRight,
+  withLeft,
+  opposite,
+  yesNo,
+  evaluateBy,
+  evaluate,
+}
 use Rattle.rules.specs.Stored.{storedExpression}
 use Rattle.operators.specs.declared.codes.Code.{Code}
 use Rattle.operators.specs.Codes.{codeOf}
@@ -35,7 +47,7 @@ not-placed (value x) next = refl
 not-placed (fault f) next = refl
 
 right-placed : (o : Op) (x : ℕ) (v : Value) (next : ℕ)
-    → onValue (placed v next) (λ y n. placed (apply o x y) (n .at)) ≡ placed (withRight o x v) next
+    → onValue (placed v next) (λ y n. placed (apply o x y) (n .at)) ≡ placed (withRight apply o x v) next
 right-placed o x (value y) next = refl
 right-placed o x (fault f) next = refl
 
@@ -44,12 +56,12 @@ two-placed : (o : Op) (v w : Value) (mid next : ℕ) (val : ℕ → Evaluated) (
     → onValue (placed v mid) (λ x m.
     cond (decides o x) (Evaluated.Value x (cursor (skip (m .at))))
     (onValue (val (m .at)) (λ y n. placed (apply o x y) (n .at))))
-    ≡ placed (withLeft o v w) next
+    ≡ placed (withLeft apply o v w) next
 two-placed o (value x) w mid next val skip e f = go (decides o x)
   where
     go : (b : Bool)
         → cond b (Evaluated.Value x (cursor (skip mid))) (onValue (val mid) (λ y n. placed (apply o x y) (n .at)))
-        ≡ placed (cond b (value x) (withRight o x w)) next
+        ≡ placed (cond b (value x) (withRight apply o x w)) next
     go true = rw f
     go false = rw e (right-placed o x w next)
 two-placed o (fault g) w mid next val skip e f = refl
@@ -63,7 +75,7 @@ value-there d s run at b x w k ne p f =
 
 pub value-stored : (d : ℕ) (s run : List ℕ) (at : ℕ) (t : Tree ℕ) (next : ℕ) → isInRange t ≡ true → depth t ≤ d
     → Stands s at (storedExpression t) next → valueAt d s run at ≡ placed (evaluate (runValue run) t) next
-unfolding storedTree depth isInRange evaluate
+unfolding storedTree depth isInRange evaluateBy
 value-stored d s run at (num n) next r le p =
     let rest = stands-rest s at next _ _ p in
     let in-s = stands-some s at next _ _ p in
@@ -99,7 +111,7 @@ value-stored d s run at (negation a) next r le p =
 
 pub evaluate-agree : (may : ℕ → Bool) (ty : ValueType) (t : Tree ℕ) (e f : ℕ → Value) → hasType may ty t ≡ true
     → ((i : ℕ) → may i ≡ true → e i ≡ f i) → evaluate e t ≡ evaluate f t
-unfolding hasType evaluate
+unfolding hasType evaluateBy
 evaluate-agree may ty (num n) e f h same = refl
 evaluate-agree may ty (read i) e f h same = same i (and-right (sameType ty Number) (may i) h)
 evaluate-agree may ty (two o a b) e f h same =

@@ -29,6 +29,7 @@ use Rattle.rules.specs.Reading.{
   readOn,
   readField,
   readFields,
+  readFieldsIn,
   reading,
   readingIn,
   onStep as stepsOn,
@@ -119,7 +120,7 @@ on-complete entries (stop f) go more ih es h = let z : _≡_ {A = ℕ} 0 1 = cc 
 
 complete-before : (packet : List ℕ) (fs : List (Field ℕ)) (entries : List Entry) (place : ℕ) (es : List Entry)
     → readFields packet entries place fs ≡ complete es → fieldsBefore packet entries place fs ≡ es
-unfolding readFields fieldsBefore
+unfolding readFieldsIn fieldsBefore
 complete-before packet [] entries place es h = complete-is (eqb place (bitTotal packet)) entries es h
 complete-before packet (f ∷ fs) entries place es h =
     on-complete entries (readField packet entries place (sum fixedBits fs) f)
@@ -147,7 +148,7 @@ pub walk-reads : (s packet : List ℕ) (fs before : List (Field ℕ)) (entries :
     → Stands s at (joined storedField fs) end → end ≤ tableMost
     → WalkHolds packet n (readFields packet entries place fs) (fieldsBefore packet entries place fs)
     (walkFrom s packet (length fs) (length entries) run place at)
-unfolding walkFrom readFields fieldsBefore walkAnswer
+unfolding walkFrom readFieldsIn fieldsBefore walkAnswer
 walk-reads s packet [] before entries run n place at end counts all begins room form size types p le = record {
   answer = at-end packet entries run place begins (eqb place (bitTotal packet)) refl;
   begins = record {

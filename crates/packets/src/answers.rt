@@ -12,6 +12,7 @@ fn fault_number(fault: Fault) -> usize
         Fault::ConstraintFalse => 25,
         Fault::AbsentRead => 26,
         Fault::OutOfRange => 27,
+        Fault::ZeroDivisor => 29,
     }
 }
 

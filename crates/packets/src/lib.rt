@@ -5,6 +5,7 @@ mod fields;
 mod lines;
 pub mod listing;
 pub mod lookups;
+mod powers;
 pub mod readings;
 mod records;
 mod steps;

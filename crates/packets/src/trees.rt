@@ -1,4 +1,5 @@
 // Stored trees, checked and evaluated by functions that call themselves on operands.
+use crate::powers::power_of;
 use operators::codes::Code;
 use operators::codes::code_of;
 use operators::rows::operator;
@@ -164,6 +165,21 @@ fn combine(op: Op, x: u32, y: u32, next: Cursor) -> Evaluated
             }
         }
         Op::Mul => in_range((x as u64) * (y as u64), next),
+        Op::Div => {
+            if y == 0 {
+                Evaluated::Stop(Fault::ZeroDivisor)
+            } else {
+                Evaluated::Value(x / y, next)
+            }
+        }
+        Op::Rem => {
+            if y == 0 {
+                Evaluated::Stop(Fault::ZeroDivisor)
+            } else {
+                Evaluated::Value(x % y, next)
+            }
+        }
+        Op::Pow => in_range(power_of(x, y), next),
     }
 }
 

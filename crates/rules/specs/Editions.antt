@@ -1,9 +1,12 @@
--- What may differ between editions of the rules: the edition in force, and an earlier one.
+-- What may differ between editions of the rules: the edition in force, and earlier ones.
 use mathlib.Core.Path.{_≡_, refl}
-use mathlib.Core.Bool.{true}
+use mathlib.Core.Bool.{Bool, true, cond, not}
 use Prim.Native.Nat.{ℕ, _+_}
 use lib.Dec.{ltb, leb}
+use Rattle.rules.specs.declared.Op.{Op}
 use Rattle.rules.specs.Limits.{fieldsMost, packetMost}
+use Rattle.rules.specs.Operators.{isAdded}
+use Rattle.rules.specs.Values.{Meaning, apply}
 
 pub record Edition : Type 0 where
   -- how many fields there may be; an index takes one byte
@@ -11,13 +14,24 @@ pub record Edition : Type 0 where
   pub few : leb fields 256 ≡ true
   -- how many bytes a packet may have
   pub packet : ℕ
+  -- the operators that there may be, and what they make of values
+  pub knows : Op → Bool
+  pub means : Meaning
   -- the kind of a fixed field's record; a measured one's and the rest field's are the next two
   pub fixedKind : ℕ
   pub short : ltb (fixedKind + 2) 65536 ≡ true
 
--- [01, The stored table] [02, R-10]
+-- [01, The stored table] [02, R-7] [02, R-10]
 abbrev pub current : Edition
-current = record { fields = fieldsMost; few = refl; packet = packetMost; fixedKind = 2; short = refl }
+current = record {
+  fields = fieldsMost;
+  few = refl;
+  packet = packetMost;
+  knows = λ o. true;
+  means = apply;
+  fixedKind = 2;
+  short = refl;
+}
 
 -- what a depot runs that still has the limits of document 01, all else as in force
 -- [01, Fields] [01, Refusal numbers] [02, R-10]
@@ -26,6 +40,20 @@ earlier = record {
   fields = 64;
   few = refl;
   packet = 2048;
+  knows = current .knows;
+  means = current .means;
+  fixedKind = current .fixedKind;
+  short = current .short;
+}
+
+-- without `/`, `%` and `^`, all else as in force; what it would make of these is anything [02, R-7]
+abbrev pub withoutAdded : Meaning → Edition
+withoutAdded means = record {
+  fields = current .fields;
+  few = current .few;
+  packet = current .packet;
+  knows = λ o. not (isAdded o);
+  means = λ o. cond (isAdded o) (means o) (apply o);
   fixedKind = current .fixedKind;
   short = current .short;
 }

@@ -14,7 +14,7 @@ use Rattle.rules.specs.Editions.{Edition, current}
 use Rattle.rules.specs.Names.{isAllowed, lineFeed}
 use Rattle.rules.specs.Fields.{Form}
 use Rattle.rules.specs.Within.{keepsSize, keepsNames, keepsTypes, keepsRest, nameReadable}
-use Rattle.rules.specs.Lines.{SpellsField, Unresolved}
+use Rattle.rules.specs.Lines.{SpellsFieldIn, Unresolved}
 use Rattle.rules.specs.Frames.{Frame, isFrame, frameText, FrameOf, lineNumber, cells, isOverfullIn}
 use Rattle.rules.specs.Spelling.{mismatch}
 
@@ -46,15 +46,15 @@ pub record RightLines (text : List ℕ) (k : ℕ) : Type 0 where
 
 -- ── 5: forms ──
 
--- no form spells the line
-abbrev pub Formless : List ℕ → Type 0
-Formless l = (x : Form) → SpellsField Unresolved x l → ⊥
+-- no form spells the line, by an edition
+abbrev pub FormlessIn : Edition → List ℕ → Type 0
+FormlessIn e l = (x : Form) → SpellsFieldIn Unresolved e x l → ⊥
 
 -- the first line without a form has the index i
-pub record FirstFormless (lines : List (List ℕ)) (i : ℕ) : Type 0 where
+pub record FirstFormlessIn (e : Edition) (lines : List (List ℕ)) (i : ℕ) : Type 0 where
   pub there : i < length lines
-  pub formless : Formless (getD lines i [])
-  pub earlier : (j : ℕ) → j < i → Formless (getD lines j []) → ⊥
+  pub formless : FormlessIn e (getD lines i [])
+  pub earlier : (j : ℕ) → j < i → FormlessIn e (getD lines j []) → ⊥
 
 -- ── 6 to 10: rules ──
 
@@ -90,12 +90,18 @@ pub data RefusesIn (e : Edition) (text : List ℕ) : Answer → Type 0 where
   line : {k : ℕ} → Plain text → ((f : Frame) → FrameOf text f → ⊥) → RightLines text k
       → RefusesIn e text (refused 3 (suc k))
   many : {f : Frame} → Plain text → FrameOf text f → isOverfullIn e f ≡ true → RefusesIn e text (refused 4 0)
-  form : {f : Frame} {i : ℕ} → FramedIn e text f → FirstFormless (f .lines) i
+  form : {f : Frame} {i : ℕ} → FramedIn e text f → FirstFormlessIn e (f .lines) i
       → RefusesIn e text (refused 5 (lineNumber f i))
   rule : {f : Frame} {a : Answer} (forms : List Form) → FramedIn e text f
-      → Each (SpellsField Unresolved) forms (f .lines) → ruleBroken f forms ≡ some a → RefusesIn e text a
+      → Each (SpellsFieldIn Unresolved e) forms (f .lines) → ruleBroken f forms ≡ some a → RefusesIn e text a
 
 -- by the edition in force
+abbrev pub Formless : List ℕ → Type 0
+Formless l = FormlessIn current l
+
+abbrev pub FirstFormless : List (List ℕ) → ℕ → Type 0
+FirstFormless lines i = FirstFormlessIn current lines i
+
 abbrev pub Framed : List ℕ → Frame → Type 0
 Framed text f = FramedIn current text f
 

@@ -28,6 +28,7 @@ fn fault_number(fault: Fault) -> u64 {
         Fault::ConstraintFalse => 25,
         Fault::AbsentRead => 26,
         Fault::OutOfRange => 27,
+        Fault::ZeroDivisor => 29,
     }
 }
 

@@ -1,32 +1,47 @@
--- A text that is not refused for its number of fields keeps its outcome in an edition that allows more. [02, R-10]
+-- A text that is not refused for what a narrower edition lacks keeps its outcome in a wider one, and each text has an
+-- outcome by every edition that is narrower than the one in force. [02, R-7] [02, R-10]
 use mathlib.Core.Path.{_≡_, refl, sym, subst, _∙_}
-use mathlib.Core.Bool.{Bool, true, false, false≢true, Bool-discrete}
-use mathlib.Core.List.{List}
-use Prim.Native.Nat.{ℕ, _≤_, _<_}
+use mathlib.Core.Bool.{Bool, true, false, false≢true}
+use mathlib.Core.Logic.{_⊎_, inl, inr}
+use mathlib.Core.List.{List, [], _∷_}
+use mathlib.Core.Option.{Option, none, some}
+use Prim.Native.Nat.{ℕ}
 use native.Mathlib.Omega.{arith}
 use lib.Dec.{ltb}
-use lib.ListN.{length}
-use borrow.Author.Tests.{ltb-true, ltb-false, lt-ltb, le-ltb}
-use Rattle.base.proofs.Lists.{or-false-left, or-false-right, between-true}
-use Rattle.base.proofs.Lookups.{each-length}
+use lib.ListN.{length, getD}
+use borrow.Author.Tests.{ltb-false, le-ltb}
+use Rattle.base.specs.Lists.{Each}
+use Rattle.base.proofs.Lists.{or-false-left, or-false-right}
+use Rattle.base.proofs.Lookups.{none-breaks, each-left, each-length}
 use Rattle.rules.specs.Editions.{Edition, current, earlier}
-use Rattle.rules.specs.Fields.{Description}
-use Rattle.rules.specs.Within.{WithinIn}
+use Rattle.rules.specs.declared.Op.{Op}
+use Rattle.rules.specs.Fields.{Form, Description}
+use Rattle.rules.specs.Lines.{SpellsFieldIn, Unresolved}
+use Rattle.rules.specs.Within.{knowsAllIn, keepsOperatorsIn, WithinIn}
 use Rattle.rules.specs.Stored.{storedIn}
-use Rattle.rules.specs.Frames.{Frame, cells, isOverfullIn, isOverfull}
-use Rattle.rules.specs.Spelling.{shows, SpellsIn, Spells}
-use Rattle.rules.specs.Refusals.{FramedIn, RefusesIn, long, byte, line, many, form, rule, Plain, Framed, Refuses}
+use Rattle.rules.specs.Frames.{Frame, FrameOf, cells, lineNumber, isOverfullIn}
+use Rattle.rules.specs.Spelling.{NameOf, SpellsIn}
+use Rattle.rules.specs.Refusals.{FirstFormlessIn, ruleBroken, Plain, FramedIn, RefusesIn, Refuses}
+use Rattle.rules.specs.Refusals.{long, byte, line, many, form, rule}
 use Rattle.rules.specs.Answers.{Answer, refused}
 use Rattle.rules.specs.Promises.{Outcome, leaves, delivered, ReadsTextIn, spelled, refuses, ReadsText}
 use Rattle.rules.specs.Results.{TextAnswersStay, EarlierTextTotal}
-use Rattle.laws.proofs.Earlier.{within-by, stored-like}
+use Rattle.laws.proofs.OperatorLaws.{Widens, field-known}
+use Rattle.laws.proofs.Earlier.{within-by, within-more, stored-like, earlier-widens}
+use Rattle.text_laws.specs.LineReader.{readForm}
+use Rattle.text_laws.specs.Resolving.{resolve, described}
 use Rattle.text_laws.proofs.AllowedTexts.{spelled-allowed}
+use Rattle.text_laws.proofs.FormExact.{form-unique}
+use Rattle.text_laws.proofs.NamedFields.{NamedField}
+use Rattle.text_laws.proofs.NamedRules.{same-known}
+use Rattle.text_laws.proofs.NamedTypes.{rules-kept}
+use Rattle.text_laws.proofs.Resolve.{resolved-named, resolved-spells}
+use Rattle.text_laws.proofs.TextSeen.{andForms, LineIn, FormedIn, one-more, line-read}
 use Rattle.text_laws.proofs.TextResults.{text-total}
 
-spells-by : (a b : Edition) (text : List ℕ) (d : Description) → SpellsIn a text d → length (d .fields) ≤ b .fields
-    → SpellsIn b text d
-spells-by a b text d s few = record {
-  within = within-by a b d (s .within) few;
+spells-by : (a b : Edition) (text : List ℕ) (d : Description) → SpellsIn a text d → WithinIn b d → SpellsIn b text d
+spells-by a b text d s within = record {
+  within = within;
   frame = s .frame;
   isFrameOf = s .isFrameOf;
   name = s .name;
@@ -35,97 +50,156 @@ spells-by a b text d s few = record {
   lines = s .lines;
 }
 
-module _ (a b : Edition) (more : a .fields ≤ b .fields) (kind : a .fixedKind ≡ b .fixedKind) (text : List ℕ) where
-  count-few : (d : Description) → WithinIn a d → length (d .fields) ≤ a .fields
-  count-few d w = between-true 1 (length (d .fields)) (a .fields) (w .count) .1
+-- ── forms of lines by editions of which one knows the operators of the other ──
 
+module _ (a b : Edition) (knows : (o : Op) → a .knows o ≡ true → b .knows o ≡ true) where
+  pub form-more : (x : Form) (l : List ℕ) → SpellsFieldIn Unresolved a x l → SpellsFieldIn Unresolved b x l
+  form-more x l h = record { formed = h .formed; operators = field-known a b knows x (h .operators); line = h .line }
+
+  pub forms-more : (forms : List Form) (lines : List (List ℕ)) → Each (SpellsFieldIn Unresolved a) forms lines
+      → Each (SpellsFieldIn Unresolved b) forms lines
+  forms-more [] [] h = tt
+  forms-more [] (l ∷ lines) h = absurd h
+  forms-more (x ∷ forms) [] h = absurd h
+  forms-more (x ∷ forms) (l ∷ lines) h = (form-more x l (h .0), forms-more forms lines (h .1))
+
+  -- and if both know the same, the same line is the first without a form
+  formless-like : ((o : Op) → b .knows o ≡ true → a .knows o ≡ true) → (lines : List (List ℕ)) (i : ℕ)
+      → FirstFormlessIn b lines i → FirstFormlessIn a lines i
+  formless-like back lines i q = record {
+    there = q .there;
+    formless = λ x h. q .formless x (form-more x (getD lines i []) h);
+    earlier = λ j lt n. q .earlier j lt (λ x h. n x (record {
+      formed = h .formed;
+      operators = field-known b a back x (h .operators);
+      line = h .line;
+    }));
+  }
+
+-- ── from a narrower edition to a wider one ──
+
+module _ (a b : Edition) (wide : Widens a b) where
   few-more : (n : ℕ) → ltb (a .fields) n ≡ false → ltb (b .fields) n ≡ false
-  few-more n e = le-ltb (b .fields) n (omega (arith, ltb-false (a .fields) n e, more))
+  few-more n e = le-ltb (b .fields) n (omega (arith, ltb-false (a .fields) n e, wide .fields))
 
-  frame-more : (f : Frame) → isOverfullIn a f ≡ false → isOverfullIn b f ≡ false
+  pub frame-more : (f : Frame) → isOverfullIn a f ≡ false → isOverfullIn b f ≡ false
   frame-more f e =
       let c = ltb (a .fields) (length (cells f)) in
       let l = ltb (a .fields) (length (f .lines)) in
       rw (few-more (length (cells f)) (or-false-left c l e), few-more (length (f .lines)) (or-false-right c l e)) refl
 
-  framed-more : (f : Frame) → FramedIn a text f → FramedIn b text f
-  framed-more f w = record { plain = w .plain; isFrameOf = w .isFrameOf; few = frame-more f (w .few) }
+  module _ (text : List ℕ) where
+    framed-more : (f : Frame) → FramedIn a text f → FramedIn b text f
+    framed-more f w = record { plain = w .plain; isFrameOf = w .isFrameOf; few = frame-more f (w .few) }
 
-  refuses-more : (x : Answer) → RefusesIn a text x → (x .number ≡ 4 → ⊥) → RefusesIn b text x
-  refuses-more x (long h) ne = long h
-  refuses-more x (byte h e) ne = byte h e
-  refuses-more x (line p q r) ne = line p q r
-  refuses-more x (many p q r) ne = absurd (ne refl)
-  refuses-more x (form {f} w q) ne = form (framed-more f w) q
-  refuses-more x (rule {f} forms w q r) ne = rule forms (framed-more f w) q r
+    -- where a frame is overfull or a line has no form by the narrower edition, the wider one has to say the same of it
+    refuses-more : (x : Answer) → RefusesIn a text x
+        → ((f : Frame) → x .number ≡ 4 → isOverfullIn a f ≡ true → isOverfullIn b f ≡ true)
+        → ((lines : List (List ℕ)) (i : ℕ) → x .number ≡ 5 → FirstFormlessIn a lines i → FirstFormlessIn b lines i)
+        → RefusesIn b text x
+    refuses-more x (long h) over same = long h
+    refuses-more x (byte h e) over same = byte h e
+    refuses-more x (line p q r) over same = line p q r
+    refuses-more x (many {f} p q r) over same = many p q (over f refl r)
+    refuses-more x (form {f} {i} w q) over same = form (framed-more f w) (same (f .lines) i refl q)
+    refuses-more x (rule {f} forms w q r) over same =
+        rule forms (framed-more f w) (forms-more a b (wide .knows) forms (f .lines) q) r
 
-  pub text-more : (out : List ℕ) (o : Outcome) → ReadsTextIn a text out o → (o .answer .number ≡ 4 → ⊥)
-      → ReadsTextIn b text out o
-  text-more out o (spelled {d} le s) ne =
-      subst (λ (l : List ℕ). ReadsTextIn b text out (delivered l out)) (sym (stored-like a b more kind d))
-      (spelled le (spells-by a b text d s (omega (arith, count-few d (s .within), more))))
-  text-more out o (refuses r) ne = refuses (refuses-more (o .answer) r ne)
+    pub text-more : (out : List ℕ) (o : Outcome) → ReadsTextIn a text out o
+        → ((f : Frame) → o .answer .number ≡ 4 → isOverfullIn a f ≡ true → isOverfullIn b f ≡ true)
+        → ((lines : List (List ℕ)) (i : ℕ) → o .answer .number ≡ 5 → FirstFormlessIn a lines i
+        → FirstFormlessIn b lines i)
+        → ReadsTextIn b text out o
+    text-more out o (spelled {d} le s) over same =
+        subst (λ (l : List ℕ). ReadsTextIn b text out (delivered l out)) (sym (stored-like a b wide d))
+        (spelled le (spells-by a b text d s (within-more a b wide d (s .within))))
+    text-more out o (refuses r) over same = refuses (refuses-more (o .answer) r over same)
 
 pub text-answers-stay : TextAnswersStay
-text-answers-stay text out o p ne = text-more earlier current (omega arith) refl text out o p ne
+text-answers-stay text out o p ne =
+    text-more earlier current earlier-widens text out o p (λ f e h. absurd (ne e))
+    (λ lines i e q. formless-like current earlier (λ o h. h) (λ o h. h) lines i q)
 
--- ── each text has an outcome by the earlier edition ──
+-- ── each text has an outcome by an edition that allows less ──
 
-module _ (text : List ℕ) where
-  overfull? : (f : Frame) → Dec (isOverfullIn earlier f ≡ true)
-  overfull? f = Bool-discrete (isOverfullIn earlier f) true
-
-  not-over : (f : Frame) → (isOverfullIn earlier f ≡ true → ⊥) → isOverfullIn earlier f ≡ false
-  not-over f h = go (isOverfullIn earlier f) refl
+module _ (e : Edition) (wide : Widens e current) where
+  -- the form of a line, if it has only operators that the edition knows
+  line-known : (l : List ℕ) (o : Option Form) → LineIn current l o → (q : Option Form) × LineIn e l q
+  line-known l none h = (none, λ x p. h x (form-more e current (wide .knows) x l p))
+  line-known l (some x) h = go (knowsAllIn e x) refl
     where
-      go : (b : Bool) → isOverfullIn earlier f ≡ b → b ≡ false
-      go true e = absurd (h e)
-      go false e = refl
+      go : (b : Bool) → knowsAllIn e x ≡ b → (q : Option Form) × LineIn e l q
+      go true k = (some x, record { formed = h .formed; operators = k; line = h .line })
+      go false k = (
+        none,
+        λ y p.
+            let same : y ≡ x = form-unique l y x (form-more e current (wide .knows) y l p) h in
+            false≢true (sym k ∙ subst (λ (z : Form). knowsAllIn e z ≡ true) same (p .operators)),
+      )
 
-  -- a frame that is not overfull by the edition in force
-  judged : (f : Frame) (x : Answer) → Framed text f → (FramedIn earlier text f → RefusesIn earlier text x)
-      → (y : Answer) × RefusesIn earlier text y
-  judged f x w go = choose (overfull? f)
+  lines-known : (ls : List (List ℕ)) → (r : ℕ ⊎ List Form) × FormedIn e ls r
+  lines-known [] = (inr [], tt)
+  lines-known (l ∷ ls) =
+      let q = line-known l (readForm l) (line-read l (readForm l) refl) in
+      let r = lines-known ls in
+      (andForms (q .0) (r .0), one-more e l ls (q .0) (r .0) (q .1) (r .1))
+
+module _ (e : Edition) (wide : Widens e current) (text out : List ℕ) where
+  -- resolved fields have the operators of their forms
+  forms-spelled : (f : Frame) → FramedIn e text f → (forms : List Form)
+      → Each (SpellsFieldIn Unresolved e) forms (f .lines) → ruleBroken f forms ≡ none
+      → SpellsIn e text (described f forms)
+  forms-spelled f w forms h kept =
+      let R = NameOf (resolve forms) in
+      let s = resolved-spells text f forms (w .isFrameOf) (frame-more e current wide f (w .few))
+      (forms-more e current (wide .knows) forms (f .lines) h) kept in
+      let named = resolved-named forms (rules-kept f forms kept .types) in
+      let known = same-known R e (resolve forms) forms named
+      ∙ none-breaks (keepsOperatorsIn e) [] forms
+      (λ b i x g. each-left (SpellsFieldIn Unresolved e) forms (f .lines) h i x g .2 .operators) in
+      let n = each-length (NamedField R) (resolve forms) forms named in
+      let m = each-length (SpellsFieldIn Unresolved e) forms (f .lines) h in
+      let most = ltb-false (e .fields) (length (f .lines))
+      (or-false-right (ltb (e .fields) (length (cells f))) (ltb (e .fields) (length (f .lines))) (w .few)) in
+      spells-by current e text (described f forms) s
+      (within-by current e (described f forms) (s .within) (omega (arith, n, m, most)) known)
+
+  by-rules : (f : Frame) → FramedIn e text f → (forms : List Form)
+      → Each (SpellsFieldIn Unresolved e) forms (f .lines) → (o : Option Answer) → ruleBroken f forms ≡ o
+      → (p : Outcome) × ReadsTextIn e text out p
+  by-rules f w forms h (some a) k = (leaves a out, refuses (rule forms w h k))
+  by-rules f w forms h none k =
+      (delivered (storedIn e (described f forms)) out, spelled (w .plain .size) (forms-spelled f w forms h k))
+
+  by-forms : (f : Frame) → FramedIn e text f → (r : ℕ ⊎ List Form) → FormedIn e (f .lines) r
+      → (p : Outcome) × ReadsTextIn e text out p
+  by-forms f w (inl i) h = (leaves (refused 5 (lineNumber f i)) out, refuses (form w h))
+  by-forms f w (inr forms) h = by-rules f w forms h (ruleBroken f forms) refl
+
+  by-frame : (f : Frame) → Plain text → FrameOf text f → (p : Outcome) × ReadsTextIn e text out p
+  by-frame f p q = go (isOverfullIn e f) refl
     where
-      choose : Dec (isOverfullIn earlier f ≡ true) → (y : Answer) × RefusesIn earlier text y
-      choose (yes e) = (refused 4 0, many (w .plain) (w .isFrameOf) e)
-      choose (no n) = (x, go (record { plain = w .plain; isFrameOf = w .isFrameOf; few = not-over f n }))
+      go : (b : Bool) → isOverfullIn e f ≡ b → (p : Outcome) × ReadsTextIn e text out p
+      go true k = (leaves (refused 4 0) out, refuses (many p q k))
+      go false k =
+          let r = lines-known e wide (f .lines) in
+          by-forms f (record { plain = p; isFrameOf = q; few = k }) (r .0) (r .1)
 
-  over-less : (f : Frame) → isOverfull f ≡ true → isOverfullIn earlier f ≡ true
-  over-less f e = go (overfull? f)
-    where
-      go : Dec (isOverfullIn earlier f ≡ true) → isOverfullIn earlier f ≡ true
-      go (yes h) = h
-      go (no n) = absurd (false≢true (sym (frame-more earlier current (omega arith) refl text f (not-over f n)) ∙ e))
+  refused-total : (x : Answer) → Refuses text x → (p : Outcome) × ReadsTextIn e text out p
+  refused-total x (long h) = (leaves x out, refuses (long h))
+  refused-total x (byte h k) = (leaves x out, refuses (byte h k))
+  refused-total x (line p q r) = (leaves x out, refuses (line p q r))
+  refused-total x (many {f} p q r) = by-frame f p q
+  refused-total x (form {f} w q) = by-frame f (w .plain) (w .isFrameOf)
+  refused-total x (rule {f} forms w q r) = by-frame f (w .plain) (w .isFrameOf)
 
-  refused-total : (x : Answer) → Refuses text x → (y : Answer) × RefusesIn earlier text y
-  refused-total x (long h) = (refused 1 0, long h)
-  refused-total x (byte h e) = (refused 2 0, byte h e)
-  refused-total x (line p q r) = (x, line p q r)
-  refused-total x (many {f} p q r) = (refused 4 0, many p q (over-less f r))
-  refused-total x (form {f} w q) = judged f x w (λ v. form v q)
-  refused-total x (rule {f} forms w q r) = judged f x w (λ v. rule forms v q r)
+  total : (o : Outcome) → ReadsText text out o → (p : Outcome) × ReadsTextIn e text out p
+  total o (spelled {d} le s) =
+      by-frame (s .frame) (record { size = le; bytes = spelled-allowed text d s }) (s .isFrameOf)
+  total o (refuses r) = refused-total (o .answer) r
 
-  -- a text that spells more fields than the earlier edition allows shows as many cells
-  crowded : (d : Description) (s : Spells text d) → earlier .fields < length (d .fields)
-      → isOverfullIn earlier (s .frame) ≡ true
-  crowded d s lt =
-      let e = each-length (λ c f. shows c f ≡ true) (cells (s .frame)) (d .fields) (s .shown) in
-      rw (lt-ltb (earlier .fields) (length (cells (s .frame))) (omega (arith, e, lt))) refl
-
-  total : (out : List ℕ) (o : Outcome) → ReadsText text out o → (p : Outcome) × ReadsTextIn earlier text out p
-  total out o (spelled {d} le s) = go (ltb (earlier .fields) (length (d .fields))) refl
-    where
-      go : (b : Bool) → ltb (earlier .fields) (length (d .fields)) ≡ b → (p : Outcome) × ReadsTextIn earlier text out p
-      go true e =
-          let over = crowded d s (ltb-true (earlier .fields) (length (d .fields)) e) in
-          let plain : Plain text = record { size = le; bytes = spelled-allowed text d s } in
-          (leaves (refused 4 0) out, refuses (many plain (s .isFrameOf) over))
-      go false e =
-          let few = ltb-false (earlier .fields) (length (d .fields)) e in
-          (delivered (storedIn earlier d) out, spelled le (spells-by current earlier text d s few))
-  total out o (refuses r) =
-      let q = refused-total (o .answer) r in (leaves (q .0) out, refuses (q .1))
+pub total-less : (e : Edition) → Widens e current → (text out : List ℕ) → (p : Outcome) × ReadsTextIn e text out p
+total-less e wide text out = let o = text-total text out in total e wide text out (o .0) (o .1)
 
 pub earlier-text-total : EarlierTextTotal
-earlier-text-total text out = let o = text-total text out in total text out (o .0) (o .1)
+earlier-text-total text out = total-less earlier earlier-widens text out

@@ -16,6 +16,7 @@ use Rattle.rules.specs.Fields.{Width, fixed, measured, rest, Form, widthTrees, 
 use Rattle.rules.specs.Within.{isWidth, isFormed}
 use Rattle.rules.specs.Expressions.{SpellsAt, number, field, two-sided, negated, parentheses}
 use Rattle.rules.specs.Lines.{shortText, Remark, SpellsWidth, SpellsMaybe, SpellsField, Unresolved}
+use Rattle.laws.proofs.OperatorLaws.{knows-all}
 use Rattle.text_laws.specs.LineReader.{Got, miss, hit, literal, readLabel, readShort, readWidth}
 use Rattle.text_laws.specs.LineReader.{
   isConstraint,
@@ -86,6 +87,7 @@ module _ (s : List ℕ) where
         (all-append isInRange (listOf (x .constraint)) (listOf (x .condition))
         (maybe-in-range Unresolved (bytes "; ") (x .constraint) (c .0) (c .2))
         (maybe-in-range Unresolved (bytes "; present only when ") (x .condition) (d .0) (d .2))))));
+    operators = knows-all x;
     line = record {
       width = w .0;
       constraint = c .0;

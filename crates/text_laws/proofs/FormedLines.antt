@@ -8,6 +8,7 @@ use Rattle.base.proofs.Breaks.{firstBreak-cons}
 use Rattle.rules.specs.Fields.{Field}
 use Rattle.rules.specs.Within.{keepsForm}
 use Rattle.rules.specs.Lines.{SpellsLine, SpellsField}
+use Rattle.laws.proofs.OperatorLaws.{knows-all}
 
 module _ {N : Type 0} (R : N → List ℕ → Type 0) where
   pub formed-lines : (before fields : List (Field N)) (lines : List (List ℕ))
@@ -17,7 +18,8 @@ module _ {N : Type 0} (R : N → List ℕ → Type 0) where
   formed-lines before (f ∷ fields) [] h p = absurd p
   formed-lines before (f ∷ fields) (l ∷ lines) h p =
       let e = firstBreak-cons keepsForm before f fields h in
-      (record { formed = e .0; line = p .0 }, formed-lines (before ++ (f ∷ [])) fields lines (e .1) (p .1))
+      let here : SpellsField R f l = record { formed = e .0; operators = knows-all f; line = p .0 } in
+      (here, formed-lines (before ++ (f ∷ [])) fields lines (e .1) (p .1))
 
   pub bare-lines : (fields : List (Field N)) (lines : List (List ℕ)) → Each (SpellsField R) fields lines
       → Each (SpellsLine R) fields lines

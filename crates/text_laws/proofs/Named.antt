@@ -17,6 +17,7 @@ use Rattle.rules.specs.Trees.{
   depth,
   storedTree,
   isInRange,
+  hasOperators,
   isSmall,
   isNumber,
   sameType,
@@ -94,6 +95,14 @@ module _ {N : Type 0} {R : N → List ℕ → Type 0} where
   named-range (named-field r) = refl
   named-range (named-two p q) = ap₂ _&&_ (named-range p) (named-range q)
   named-range (named-negation p) = named-range p
+
+  pub named-operators : (knows : Op → Bool) {t : Tree N} {u : Tree (List ℕ)} → Named R t u
+      → hasOperators knows t ≡ hasOperators knows u
+  unfolding hasOperators
+  named-operators knows named-number = refl
+  named-operators knows (named-field r) = refl
+  named-operators knows (named-two p q) = rw (named-operators knows p, named-operators knows q)
+  named-operators knows (named-negation p) = named-operators knows p
 
   pub named-is-number : {t : Tree N} {u : Tree (List ℕ)} → Named R t u → isNumber t ≡ isNumber u
   named-is-number named-number = refl

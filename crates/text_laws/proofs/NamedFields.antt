@@ -10,7 +10,8 @@ use Rattle.base.specs.Bytes.{bytes}
 use Rattle.base.proofs.Lookups.{all-joined}
 use Rattle.rules.specs.declared.ValueType.{ValueType}
 use Rattle.rules.specs.Names.{isShort}
-use Rattle.rules.specs.Trees.{Tree, num, isSmall, isInRange}
+use Rattle.rules.specs.Editions.{Edition}
+use Rattle.rules.specs.Trees.{Tree, num, isSmall, isInRange, hasOperators}
 use Rattle.rules.specs.Fields.{
   Width,
   fixed,
@@ -23,8 +24,9 @@ use Rattle.rules.specs.Fields.{
   widthTrees,
   trees,
 }
-use Rattle.rules.specs.Within.{isWidth, isFormed, widthHasType}
+use Rattle.rules.specs.Within.{isWidth, isFormed, knowsAllIn, widthHasType}
 use Rattle.rules.specs.Lines.{SpellsWidth, SpellsMaybe, SpellsField, Unresolved}
+use Rattle.laws.proofs.OperatorLaws.{knows-all}
 use Rattle.rules.specs.Expressions.{SpellsAt}
 use Rattle.rules.specs.Frames.{Slot}
 use Rattle.rules.specs.Spelling.{isPlaceFor, shows}
@@ -37,6 +39,7 @@ use Rattle.text_laws.proofs.Named.{
   named-spelled,
   named-small,
   named-range,
+  named-operators,
   named-is-number,
   named-type,
 }
@@ -202,6 +205,10 @@ module _ {N : Type 0} {R : N → List ℕ → Type 0} where
   same-formed x y h =
       rw (h .label, h .short, same-width (h .width), same-trees isInRange isInRange (λ t u n. named-range n) x y h)
 
+  pub same-operators : (e : Edition) (x : Field N) (y : Form) → NamedField R x y → knowsAllIn e x ≡ knowsAllIn e y
+  same-operators e x y h =
+      same-trees (hasOperators (e .knows)) (hasOperators (e .knows)) (λ t u n. named-operators (e .knows) n) x y h
+
   pub same-small : (x : Field N) (y : Form) → NamedField R x y → all isSmall (trees x) ≡ all isSmall (trees y)
   same-small x y h = same-trees isSmall isSmall (λ t u n. named-small n) x y h
 
@@ -232,6 +239,7 @@ module _ {N : Type 0} {R : N → List ℕ → Type 0} where
             n,
             record {
               formed = sym (same-formed x y n) ∙ h .formed;
+              operators = knows-all y;
               line = record {
                 width = h .line .width;
                 constraint = h .line .constraint;
@@ -250,6 +258,7 @@ module _ {N : Type 0} {R : N → List ℕ → Type 0} where
       → SpellsField R x s
   named-field-spelled x y s n h = record {
     formed = same-formed x y n ∙ h .formed;
+    operators = knows-all x;
     line = record {
       width = h .line .width;
       constraint = h .line .constraint;

@@ -8,13 +8,15 @@ use Rattle.base.specs.Lists.{Each, firstBreak}
 use Rattle.base.proofs.Lookups.{each-any, each-breaks, kept-at, element-parts}
 use Rattle.rules.specs.Names.{isShort}
 use Rattle.rules.specs.Fields.{Field, Form, isRest}
-use Rattle.rules.specs.Within.{keepsForm, keepsSize, clash, keepsNames, keepsRest}
+use Rattle.rules.specs.Editions.{Edition}
+use Rattle.rules.specs.Within.{keepsForm, keepsOperatorsIn, keepsSize, clash, keepsNames, keepsRest}
 use Rattle.laws.proofs.ReadsFields.{formed-names}
 use Rattle.laws.proofs.NameLaws.{NameIn, read-short}
 use Rattle.rules.specs.Frames.{Slot}
 use Rattle.rules.specs.Spelling.{shows, mismatch}
 use Rattle.text_laws.proofs.NamedFields.{
   NamedField,
+  same-operators,
   same-small,
   same-shows,
   same-fixed-width,
@@ -36,6 +38,12 @@ module _ {N : Type 0} (fields : List (Field N)) where
 -- ── the rules ──
 
 module _ (R : ℕ → List ℕ → Type 0) where
+  pub same-known : (e : Edition) (fields : List (Field ℕ)) (forms : List Form) → Each (NamedField R) fields forms
+      → firstBreak (keepsOperatorsIn e) [] fields ≡ firstBreak (keepsOperatorsIn e) [] forms
+  same-known e fields forms h =
+      each-breaks (NamedField R) (keepsOperatorsIn e) (keepsOperatorsIn e) [] [] fields forms tt h
+      (λ b x a g y c u v p n. same-operators e x y n)
+
   pub same-sizes : (fields : List (Field ℕ)) (forms : List Form) → Each (NamedField R) fields forms
       → firstBreak keepsSize [] fields ≡ firstBreak keepsSize [] forms
   same-sizes fields forms h = each-breaks (NamedField R) keepsSize keepsSize [] [] fields forms tt h

@@ -20,6 +20,7 @@ use Rattle.rules.specs.Trees.{Tree, hasType}
 use Rattle.rules.specs.Fields.{Width, fixed, measured, rest, Field, Form, isFixed, readNames}
 use Rattle.rules.specs.Within.{Within, isRowWidth, keepsForm, keepsNames, keepsTypes, widthHasType, nameReadable}
 use Rattle.rules.specs.Lines.{SpellsField, Unresolved}
+use Rattle.laws.proofs.OperatorLaws.{keeps-known}
 use Rattle.rules.specs.Frames.{Frame, FrameOf, isFrame, isRow, isLine, cells, isOverfull}
 use Rattle.rules.specs.Spelling.{Spells, NameOf, shows}
 use Rattle.rules.specs.Refusals.{ruleBroken}
@@ -177,6 +178,7 @@ module _ (text : List ℕ) (f : Frame) (forms : List Form) (frame : FrameOf text
         count = rw n (true-between 1 (length (f .lines)) fieldsMost (some-lines (f .lines) (framed .3)) most);
         form = none-breaks keepsForm [] (resolve forms)
             (λ b i x e. each-left (SpellsField R) (resolve forms) (f .lines) lines i x e .2 .formed);
+        operators = keeps-known [] (resolve forms);
         size = same-sizes R (resolve forms) forms named ∙ kept .size;
         names = unique;
         types = same-types (resolve forms) forms unique named ∙ kept .types;

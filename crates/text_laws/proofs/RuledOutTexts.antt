@@ -113,9 +113,11 @@ use Rattle.rules.specs.Answers.{Answer, refused}
 use Rattle.rules.specs.Promises.{Outcome, leaves, ReadsText}
 use Rattle.rules.specs.Marked.{tag, tagText}
 use Rattle.rules.specs.Pages.{tagLines, manyFields, manyRows, manyLines}
+use Rattle.laws.specs.WrongOperators.{powers}
 use Rattle.laws.proofs.RuledOut.{numbers}
 use Rattle.text_laws.specs.WrongTexts.{Claim, reads, Claimed, AllFalse, wrongTexts}
 use Rattle.text_laws.specs.WrongTextNames.{wrongTextNames}
+use Rattle.text_laws.specs.WrongTextOperators.{wrongTextOperators}
 use Rattle.text_laws.proofs.TextResults.{text-unique}
 use Rattle.text_laws.proofs.TextSeen.{formsOf, seen, outcomeOf, outcome-is}
 
@@ -141,7 +143,7 @@ barredText = tagLines 1 ++ (0x7F ∷ [])
 record Computed : Type 0 where
   spelled : seen tagText ≡ inr tag
   barred : seen barredText ≡ inl (refused 2 0)
-  others : all isOther (wrongTexts ++ wrongTextNames) ≡ true
+  others : all isOther (wrongTexts ++ (wrongTextNames ++ wrongTextOperators)) ≡ true
 
 computed : Computed
 unfolding digits all any same lastIs sum joined tabulate firstBreak operator operators isLetter isDigit isSpace
@@ -154,6 +156,7 @@ unfolding digits all any same lastIs sum joined tabulate firstBreak operator ope
     readCondition isRemark readForm Frames.readName Frames.step onFirst pieces rest lead leftTrim keepEnd
     rightTrim cellOf keepRow longOf readRow closing readTens onName onWidth onRow rowOrEnd opened onSame run
     rightFrom rightLines whole readFrame firstIndex renameTree resolve formsOf seen manyFields manyRows manyLines
+    powers
 computed = record { spelled = refl; barred = refl; others = refl }
 
 -- the outcomes of two texts
@@ -167,5 +170,6 @@ pub barred-known : {out : List ℕ} → ReadsText (tagLines 1 ++ (0x7F ∷ [])) 
 barred-known {out} = known barredText out (inl (refused 2 0)) (computed .barred)
 
 -- each wrong program's answer is ruled out
-pub texts-ruled-out : AllFalse (wrongTexts ++ wrongTextNames)
-texts-ruled-out = every-passes isOther ruled-out (wrongTexts ++ wrongTextNames) (computed .others)
+pub texts-ruled-out : AllFalse (wrongTexts ++ (wrongTextNames ++ wrongTextOperators))
+texts-ruled-out =
+    every-passes isOther ruled-out (wrongTexts ++ (wrongTextNames ++ wrongTextOperators)) (computed .others)

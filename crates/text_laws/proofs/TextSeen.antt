@@ -14,11 +14,12 @@ use Rattle.rules.specs.Limits.{textMost}
 use Rattle.rules.specs.Names.{isAllowed}
 use Rattle.rules.specs.Fields.{Form, Description}
 use Rattle.rules.specs.Stored.{stored}
-use Rattle.rules.specs.Lines.{SpellsField, Unresolved}
+use Rattle.rules.specs.Editions.{Edition, current}
+use Rattle.rules.specs.Lines.{SpellsFieldIn, SpellsField, Unresolved}
 use Rattle.rules.specs.Frames.{Frame, FrameOf, isOverfull, lineNumber}
 use Rattle.rules.specs.Spelling.{Spells}
 use Rattle.rules.specs.Answers.{Answer, refused}
-use Rattle.rules.specs.Refusals.{Formless, FirstFormless, ruleBroken, Plain, Framed, Refuses}
+use Rattle.rules.specs.Refusals.{FormlessIn, FirstFormlessIn, ruleBroken, Plain, Framed, Refuses}
 use Rattle.rules.specs.Refusals.{long, byte, line, many, form, rule}
 use Rattle.rules.specs.Promises.{Outcome, leaves, delivered, ReadsText, spelled, refuses}
 use Rattle.text_laws.specs.LineReader.{readForm}
@@ -32,7 +33,7 @@ use Rattle.text_laws.proofs.Resolve.{resolved-spells}
 -- ── the forms of lines ──
 
 -- one more line in front
-abbrev andForms : Option Form → ℕ ⊎ List Form → ℕ ⊎ List Form
+abbrev pub andForms : Option Form → ℕ ⊎ List Form → ℕ ⊎ List Form
 andForms none r = inl 0
 andForms (some x) (inl i) = inl (suc i)
 andForms (some x) (inr xs) = inr (x ∷ xs)
@@ -42,28 +43,33 @@ unfoldable pub formsOf : List (List ℕ) → ℕ ⊎ List Form
 formsOf [] = inr []
 formsOf (l ∷ ls) = andForms (readForm l) (formsOf ls)
 
-abbrev Formed : List (List ℕ) → ℕ ⊎ List Form → Type 0
-Formed ls (inl i) = FirstFormless ls i
-Formed ls (inr forms) = Each (SpellsField Unresolved) forms ls
+-- what they are by an edition, of one line and of all
+abbrev pub LineIn : Edition → List ℕ → Option Form → Type 0
+LineIn e l none = FormlessIn e l
+LineIn e l (some x) = SpellsFieldIn Unresolved e x l
 
-no-form : (l : List ℕ) → readForm l ≡ none → Formless l
-no-form l e x p = Option·none-ne-some x (sym e ∙ form-complete l x p)
+abbrev pub FormedIn : Edition → List (List ℕ) → ℕ ⊎ List Form → Type 0
+FormedIn e ls (inl i) = FirstFormlessIn e ls i
+FormedIn e ls (inr forms) = Each (SpellsFieldIn Unresolved e) forms ls
 
-one-more : (l : List ℕ) (ls : List (List ℕ)) (o : Option Form) (r : ℕ ⊎ List Form) → readForm l ≡ o → Formed ls r
-    → Formed (l ∷ ls) (andForms o r)
-one-more l ls none r e p =
-    record { there = omega arith; formless = no-form l e; earlier = λ j lt. absurd (omega arith) }
-one-more l ls (some x) (inl i) e p = record {
+pub one-more : (e : Edition) (l : List ℕ) (ls : List (List ℕ)) (o : Option Form) (r : ℕ ⊎ List Form) → LineIn e l o
+    → FormedIn e ls r → FormedIn e (l ∷ ls) (andForms o r)
+one-more e l ls none r h p = record { there = omega arith; formless = h; earlier = λ j lt. absurd (omega arith) }
+one-more e l ls (some x) (inl i) h p = record {
   there = (let lt : i < length ls = p .there in omega arith);
   formless = p .formless;
-  earlier = elim [ zero ↦ λ lt f. f x (form-sound l x e) | suc j ↦ λ lt f. p .earlier j (omega arith) f ];
+  earlier = elim [ zero ↦ λ lt f. f x h | suc j ↦ λ lt f. p .earlier j (omega arith) f ];
 }
-one-more l ls (some x) (inr xs) e p = (form-sound l x e, p)
+one-more e l ls (some x) (inr xs) h p = (h, p)
 
-formed : (ls : List (List ℕ)) → Formed ls (formsOf ls)
+pub line-read : (l : List ℕ) (o : Option Form) → readForm l ≡ o → LineIn current l o
+line-read l none e = λ x p. Option·none-ne-some x (sym e ∙ form-complete l x p)
+line-read l (some x) e = form-sound l x e
+
+formed : (ls : List (List ℕ)) → FormedIn current ls (formsOf ls)
 unfolding formsOf
 formed [] = tt
-formed (l ∷ ls) = one-more l ls (readForm l) (formsOf ls) refl (formed ls)
+formed (l ∷ ls) = one-more current l ls (readForm l) (formsOf ls) (line-read l (readForm l) refl) (formed ls)
 
 -- ── the text, one stage after the other ──
 
@@ -107,7 +113,7 @@ rules-seen text f forms p h (some a) e = rule forms p h e
 rules-seen text f forms p h none e =
     (p .plain .size, resolved-spells text f forms (p .isFrameOf) (p .few) h e)
 
-forms-seen : (text : List ℕ) (f : Frame) → Framed text f → (r : ℕ ⊎ List Form) → Formed (f .lines) r
+forms-seen : (text : List ℕ) (f : Frame) → Framed text f → (r : ℕ ⊎ List Form) → FormedIn current (f .lines) r
     → Seen text (byForms f r)
 forms-seen text f p (inl i) h = form p h
 forms-seen text f p (inr forms) h = rules-seen text f forms p h (ruleBroken f forms) refl

@@ -8,6 +8,7 @@
 -- Steady       what is true of what is kept, behind any lines
 -- WrongTexts   answers of wrong programs to texts, of which the promise is false
 -- WrongTextNames  of those that are wrong about names
+-- WrongTextOperators  of those that are wrong about quotients, remainders and powers
 -- The readers are helpers of code and proofs; no public promise rests on them.
 pub mod Reader
 pub mod LineReader
@@ -19,3 +20,4 @@ pub mod Fold
 pub mod Steady
 pub mod WrongTexts
 pub mod WrongTextNames
+pub mod WrongTextOperators

@@ -10,7 +10,7 @@ use lib.ListN.{length, drop, getD, length-drop}
 use lib.Seq.{drop-cons, drop-length, drop-drop, getD-drop}
 use Rattle.rules.specs.declared.Op.{Op}
 use Rattle.rules.specs.Names.{isSpace, isOperator}
-use Rattle.text_laws.specs.Reader.{Found, missing, found, firstOf, order, skip, skipBehind, operatorAt}
+use Rattle.text_laws.specs.Reader.{Found, missing, found, firstOf, order, skip}
 use Rattle.operators.specs.declared.symbols.Symbol.{Symbol}
 use Rattle.operators.specs.Symbols.{symbolOf}
 use Rattle.texts.proofs.FirstSymbol.{foundBy, first-symbol, first-none, Sized, symbol-sized}
@@ -95,24 +95,3 @@ pub sign-within : (s : List ℕ) (at : ℕ) (r : Sign) (o : Op) (n : ℕ) → r 
     → (at < n) × (n ≤ length s)
 unfolding WithinSign
 sign-within s at r o n p w = rw p at w
-
--- ── with the spaces around it ──
-
-module _ (s : List ℕ) (at from : ℕ) (g : Sign) (e : drop from s ≡ skip (drop at s)) where
-  pub operator-none : g ≡ sign.Nothing → SameSign s (firstOf order (drop from s)) g
-      → Signed s at (operatorAt (drop at s)) sign.Nothing
-  unfolding WithinSign SameSign operatorAt skipBehind
-  operator-none p w =
-      let q : firstOf order (skip (drop at s)) ≡ missing = rw e at (sign-none s (firstOf order
-      (drop from s)) g p w) in
-      (tt, rw q refl)
-
-  pub operator-some : (o : Op) (n m : ℕ) → at ≤ from → g ≡ sign.At o n → WithinSign s from g
-      → SameSign s (firstOf order (drop from s)) g → n ≤ m → m ≤ length s → drop m s ≡ skip (drop n s)
-      → Signed s at (operatorAt (drop at s)) (sign.At o m)
-  unfolding WithinSign SameSign operatorAt skipBehind
-  operator-some o n m lo p i w nm hi d =
-      let u = sign-within s from g o n p i in
-      let q : firstOf order (skip (drop at s)) ≡ found o (drop n s) =
-      rw e at (sign-some s (firstOf order (drop from s)) g o n p w) in
-      ((omega arith, hi), rw q (m, refl, d))

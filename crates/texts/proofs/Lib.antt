@@ -3,7 +3,9 @@
 -- ExprSigns, ExprLeaves    operators and words at a place of a text, as the code reads them
 -- ShortWords               words of letters and digits that are short names
 -- ExprSteps                expressions at a place of a text
+-- TakenSteps, AtomSteps    operators that may stand at a level, and what an atom begins with
 -- StoredBytes, StoredSteps, StoredExprs   expressions in their stored form, as the code makes them
+-- ChainLaws, ChainReads, ChainSteps, ChainGoes   operators that group to the right and wait for their right operand
 -- FieldWords, FieldNames   phrases, units, labels and short names at a place of a text
 -- FieldClauses             constraint and condition at a place of a text
 -- FrameLeaves              pieces, rulers and the opening line, as the code reads them
@@ -56,9 +58,15 @@ pub mod ExprSigns
 pub mod ExprLeaves
 pub mod ShortWords
 pub mod ExprSteps
+pub mod TakenSteps
+pub mod AtomSteps
 pub mod StoredBytes
 pub mod StoredSteps
 pub mod StoredExprs
+pub mod ChainLaws
+pub mod ChainReads
+pub mod ChainSteps
+pub mod ChainGoes
 pub mod FieldWords
 pub mod FieldNames
 pub mod FieldClauses

@@ -17,7 +17,8 @@ use Rattle.text_laws.specs.Reader.{Out, fail, got, word, behind, wordValue, isN
 use Rattle.text_laws.specs.Reader.{close}
 use Rattle.texts.specs.HeldNames.{Names}
 use Rattle.texts.specs.StoredTrees.{lookUp, typeOf, TreeBytes, held, StoredIs, SameStored}
-use Rattle.texts.specs.StoredPlaces.{Made, NotMade, TwoMade, WithinStored, wrapOf, LeafStored}
+use Rattle.texts.specs.StoredPlaces.{Made, NotMade, TwoMade, WithinStored, LeafStored}
+use Rattle.texts.specs.ExprPlaces.{wrapOf}
 use Rattle.texts.specs.StoredPlaces.{ClosedStored}
 use Rattle.texts.specs.declared.stored_trees.StoredTree.{StoredTree}
 use Rattle.texts.proofs.ExprSteps.{two-length}

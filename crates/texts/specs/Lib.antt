@@ -12,6 +12,7 @@
 -- HeldRecords  the record of a field line by the parts that the code holds
 -- Resolved  a field line whose names are looked up among the held ones
 -- StoredPlaces  how stored expressions are made, and what is promised of them at places of a text
+-- Chains  operators that group to the right and wait for their right operand
 -- States  what the code keeps of a text between two lines
 pub mod ExprPlaces
 pub mod FieldPlaces
@@ -27,4 +28,5 @@ pub mod HeldParts
 pub mod HeldRecords
 pub mod Resolved
 pub mod StoredPlaces
+pub mod Chains
 pub mod States

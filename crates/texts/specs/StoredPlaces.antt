@@ -1,20 +1,20 @@
 -- How the code makes stored expressions, and what it promises of them at places of a text: mirrors the code, no public
 -- promise rests on it.
 use mathlib.Core.Path.{_≡_}
-use mathlib.Core.Bool.{Bool, true, false, cond, _&&_}
+use mathlib.Core.Bool.{Bool, cond, _&&_}
 use mathlib.Core.List.{List, _∷_}
 use Prim.Native.Nat.{ℕ, suc, _+_, _*_, _≤_, _<_, max}
 use lib.Dec.{eqb}
 use lib.ListN.{length, take, drop}
 use Rattle.rules.specs.declared.Op.{Op}
 use Rattle.rules.specs.Operators.{code, takes, gives, notCode}
-use Rattle.rules.specs.Trees.{Tree, negation}
-use Rattle.text_laws.specs.Reader.{got, word, behind, leaf, close, inside, atom, expr}
+use Rattle.rules.specs.Trees.{Tree}
+use Rattle.text_laws.specs.Reader.{got, word, behind, leaf, close, atom, expr}
 use Rattle.text_laws.specs.Reader.{more}
+use Rattle.texts.specs.ExprPlaces.{wrapOf}
 use Rattle.texts.specs.HeldNames.{Names}
-use Rattle.texts.specs.StoredTrees.{typeCode, TreeBytes, held, StoredIs, SameStored}
+use Rattle.texts.specs.StoredTrees.{typeCode, TreeBytes, StoredIs, SameStored}
 use Rattle.texts.specs.declared.stored_trees.StoredTree.{StoredTree}
-use Rattle.texts.specs.declared.stored_trees.Step.{Step}
 
 -- ── expressions made of expressions ──
 
@@ -53,10 +53,6 @@ pub record WithinStored (s : List ℕ) (lo at z : ℕ) (r : StoredTree) : Type 0
   pub grown : 0 < r .len → r .len + 5 * at ≤ z + 5 * r .next
   pub flat : 0 < r .len → r .depth ≤ r .len
 
--- what stands in parentheses, or its negation
-abbrev pub wrapOf : Bool → Tree (List ℕ) → Tree (List ℕ)
-wrapOf neg = cond neg negation (λ t. t)
-
 abbrev pub LeafStored : Names → ℕ → List ℕ → ℕ → TreeBytes → Type 0
 LeafStored names n s at r = SameStored names n s (leaf (word (drop at s)) (behind (drop at s))) r
 
@@ -67,10 +63,6 @@ ExprStored names n s at k b r =
 abbrev pub AtomStored : Names → ℕ → List ℕ → ℕ → ℕ → TreeBytes → Type 0
 AtomStored names n s at b r =
     (f : ℕ) → length (drop at s) < suc f → SameStored names n s (atom (expr f 0) b (drop at s)) r
-
-abbrev pub InsideStored : Names → ℕ → List ℕ → ℕ → ℕ → Bool → TreeBytes → Type 0
-InsideStored names n s at b neg r =
-    (f : ℕ) → length (drop at s) < suc f → SameStored names n s (inside (expr f 0) b (wrapOf neg) (drop at s)) r
 
 -- the closing parenthesis behind the expression p
 abbrev pub ClosedStored : List ℕ → Bool → TreeBytes → TreeBytes → Type 0
@@ -83,17 +75,3 @@ abbrev pub MoreStored : Names → ℕ → List ℕ → ℕ → ℕ → ℕ → �
 MoreStored names n s at k h b p r =
     (t : Tree (List ℕ)) (f : ℕ) → StoredIs names n t p → length (drop at s) < f
     → SameStored names n s (more f k h b t (drop at s)) r
-
--- one operator behind the expression p: it goes on with the whole, or ends
-pub record StepStored (names : Names) (n : ℕ) (s : List ℕ) (at k h b : ℕ) (p : TreeBytes) (bytes : List ℕ)
-    (r : Step) : Type 0 where
-  pub ends : r .on ≡ false → MoreStored names n s at k h b p (held (r .tree) bytes)
-  pub goes : r .on ≡ true → (q : TreeBytes) → MoreStored names n s (r .tree .next) k (r .level) b (held (r .tree)
-      bytes) q
-      → MoreStored names n s at k h b p q
-
--- places as of `WithinStored`
-pub record WithinStep (s : List ℕ) (at z : ℕ) (r : Step) : Type 0 where
-  pub ends : r .on ≡ false → WithinStored s at at z (r .tree)
-  pub goes : r .on ≡ true → (at < r .tree .next) × (r .tree .next ≤ length s)
-      × (r .tree .len + 5 * at ≤ z + 5 * r .tree .next) × (r .tree .depth ≤ r .tree .len)

@@ -2,11 +2,13 @@
 // bytes and lines   text_bytes, phrases, reading (the pass), line_steps (a line), text_ends (the end)
 // the frame         openings, rulers, rows, slots, shown_slots, head_lines
 // field lines       labels, units, widths, width_trees, clause_trees, line_parts
-// expressions       leaves, numbers, signs, stored_nodes, stored_trees
+// expressions       leaves, numbers, signs, atoms, stored_nodes, chains, stored_trees
 // names             held_names, name_starts, name_clashes
 // rules, records    part_tests, part_slots, line_rules, form_rules, part_records, kept_fields
 // what is kept      states, notes
 // specs/ holds definitions that mirror what the code does, proofs/ the theorems on them.
+mod atoms;
+mod chains;
 mod clause_trees;
 mod form_rules;
 mod head_lines;

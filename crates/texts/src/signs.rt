@@ -1,7 +1,8 @@
-// The two-sided operator at a place of a text, with one space or none on each side.
+// The two-sided operator at a place of a text.
 use names::classes::is_operator_in;
 use names::classes::is_space_in;
 use names::words::byte_of;
+use operators::rows::operator;
 use operators::symbols::Symbol;
 use operators::symbols::symbol_of;
 use rules::Op;
@@ -10,12 +11,18 @@ ghost use Prim.Native.Nat.{_+_, _≤_};
 ghost use lib.ListN.{length, drop};
 ghost use Rattle.text_laws.specs.Reader.{firstOf, order, skip, operatorAt};
 ghost use Rattle.names.specs.Classes.{classTable};
-ghost use Rattle.texts.specs.ExprPlaces.{SameSign, WithinSign};
+ghost use Rattle.texts.specs.ExprPlaces.{SameSign, WithinSign, takenIn, SameTaken, WithinTaken};
 
 // An operator, and the place behind it.
 pub(crate) enum Sign {
     Nothing,
     At(Op, usize),
+}
+
+// An operator, the place behind it, its level and the loosest level that stands bare on its right.
+pub(crate) enum Taken {
+    Nothing,
+    By(Op, usize, u8, u8),
 }
 
 // Past one space, if there is one.
@@ -54,18 +61,27 @@ fn sign_at(classes: &[u8; 256], s: &[u8], at: usize) -> Sign
     }
 }
 
-pub(crate) fn operator_at(classes: &[u8; 256], s: &[u8], at: usize) -> Sign
+// The operator at `at`, with one space or none on each side, if it may stand at level `k` behind an expression of level
+// `h`.
+pub(crate) fn taken_at(classes: &[u8; 256], s: &[u8], at: usize, k: u8, h: u8) -> Taken
     requires { ⌜ (at ≤ length (now s)) × (now classes ≡ classTable) ⌝ }
-    ensures place { λ r. ⌜ WithinSign (now (s .entry)) at r ⌝ }
-    ensures same { λ r. ⌜ SameSign (now (s .entry)) (operatorAt (drop at (now (s .entry)))) r ⌝ }
+    ensures place { λ r. ⌜ WithinTaken (now (s .entry)) at r ⌝ }
+    ensures same { λ r. ⌜ SameTaken (now (s .entry)) (takenIn k h (operatorAt (drop at (now (s .entry))))) r ⌝ }
 {
     let from = skipped(classes, s, at);
     let g = sign_at(classes, s, from);
     match g {
-        Sign::Nothing => Sign::Nothing,
+        Sign::Nothing => Taken::Nothing,
         Sign::At(o, n) => {
-            let m = skipped(classes, s, n);
-            Sign::At(o, m)
+            let row = operator(o);
+            if row.level < k {
+                return Taken::Nothing;
+            }
+            if h < row.left {
+                return Taken::Nothing;
+            }
+            let end = skipped(classes, s, n);
+            Taken::By(o, end, row.level, row.right)
         }
     }
 }

@@ -27,8 +27,15 @@ pub(crate) fn no_tree() -> StoredTree
     }
 }
 
+// The place, or the end where it lies behind that.
+pub(crate) fn place_in(at: usize, end: usize) -> usize
+    ensures { λ r. ⌜ (r ≤ end) × (at ≤ end → r ≡ at) ⌝ }
+{
+    if at < end { at } else { end }
+}
+
 // Puts a byte before the first n, if there is room.
-fn put_first(out: &mut [u8], n: usize, c: u8)
+pub(crate) fn put_first(out: &mut [u8], n: usize, c: u8)
     ensures { λ r. ⌜ (n < length (now (out .entry)) → take (n + 1) (now (out .exit))
         ≡ c ∷ take n (now (out .entry))) ⌝ }
 {
@@ -46,7 +53,7 @@ fn put_first(out: &mut [u8], n: usize, c: u8)
 }
 
 // A type as a number: 1 for a number, 2 for yes or no.
-fn type_code(t: ValueType) -> usize
+pub(crate) fn type_code(t: ValueType) -> usize
     ensures { λ r. ⌜ r ≡ typeCode t ⌝ }
 {
     match t {
@@ -71,7 +78,7 @@ fn two_type(o: Op, a: usize, b: usize) -> usize
     0
 }
 
-fn larger(a: usize, b: usize) -> usize
+pub(crate) fn larger(a: usize, b: usize) -> usize
     ensures { λ r. ⌜ r ≡ max a b ⌝ }
 {
     if a < b { b } else { a }

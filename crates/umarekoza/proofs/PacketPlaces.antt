@@ -27,6 +27,7 @@ use Rattle.rules.specs.Reading.{
   readField,
   readOn,
   readFields,
+  readFieldsIn,
   isTooLong,
   reading,
   readingIn,
@@ -51,14 +52,15 @@ use Rattle.rules.specs.Promises.{
 }
 use Rattle.laws.proofs.Decidable.{good-decidable}
 
-fault-low : (f : Fault) → faultNumber f ≤ 28
+fault-low : (f : Fault) → faultNumber f ≤ 29
 unfolding faultNumber
 fault-low Fault.BitsMissing = omega arith
 fault-low Fault.ConstraintFalse = omega arith
 fault-low Fault.AbsentRead = omega arith
 fault-low Fault.OutOfRange = omega arith
+fault-low Fault.ZeroDivisor = omega arith
 
-pub number-low : (r : PacketAnswer) → ofPacket r .number ≤ 28
+pub number-low : (r : PacketAnswer) → ofPacket r .number ≤ 29
 unfolding ofPacket
 number-low (PacketAnswer.Accepted n) = omega arith
 number-low PacketAnswer.NotGood = omega arith
@@ -83,7 +85,7 @@ module _ (packet : List ℕ) where
 
   fields-low : (entries : List Entry) (place : ℕ) (fs : List (Field ℕ))
       → readingAnswer (readFields packet entries place fs) packet .place ≤ length entries + length fs
-  unfolding readFields
+  unfolding readFieldsIn
   fields-low entries place [] = ended-low entries _ (eqb place (bitTotal packet))
   fields-low entries place (f ∷ fs) =
       let q = step-low entries (λ more next. readFields packet more next fs) (length fs)

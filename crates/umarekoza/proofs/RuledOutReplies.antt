@@ -15,11 +15,11 @@ use Rattle.rules.specs.Names.{
   isReserved,
   isShort,
 }
-use Rattle.rules.specs.Trees.{depth, le2, le4, storedTree, isInRange, hasType}
-use Rattle.rules.specs.Values.{apply, decides, evaluate}
+use Rattle.rules.specs.Trees.{depth, le2, le4, storedTree, isInRange, hasOperators, hasType}
+use Rattle.rules.specs.Values.{power, apply, decides, evaluateBy}
 use Rattle.rules.specs.Within.{rowsFit}
 use Rattle.rules.specs.Stored.{storedIn, storedFieldIn, fieldBody, headBody}
-use Rattle.rules.specs.Reading.{bitsAt, valueIn, readField, readFields, readingIn, fieldsBefore, entriesBefore}
+use Rattle.rules.specs.Reading.{bitsAt, valueIn, readFieldIn, readFieldsIn, readingIn, fieldsBefore, entriesBefore}
 use Rattle.rules.specs.Listing.{entryLines, linesText}
 use Rattle.rules.specs.Answers.{faultNumber}
 use Rattle.rules.specs.Promises.{delivered, readingAnswer, packetOutcomeIn, partlyOutcome, readingLines, firstNamed}
@@ -31,9 +31,9 @@ use Rattle.umarekoza.specs.WrongReplies.{wrongReplies, WrongTextReplies}
 pub replies-ruled-out : AllFalse wrongReplies
 unfolding digits all any same lastIs sum joined firstBreak operator isLetter isDigit isSpace isWordByte
     isLabelByte noTwoSpaces isLabel reserved isReserved isShort depth le2 le4 storedTree isInRange hasType
-    apply decides evaluate rowsFit storedIn storedFieldIn fieldBody headBody bitsAt valueIn readField readFields
-    readingIn entryLines linesText faultNumber delivered readingAnswer packetOutcomeIn readingLines firstNamed
-    fieldsBefore entriesBefore partlyOutcome
+    hasOperators power apply decides evaluateBy rowsFit storedIn storedFieldIn fieldBody headBody bitsAt valueIn
+    readFieldIn readFieldsIn readingIn entryLines linesText faultNumber delivered readingAnswer packetOutcomeIn
+    readingLines firstNamed fieldsBefore entriesBefore partlyOutcome
 replies-ruled-out = all-out wrongReplies refl
 
 pub text-replies-ruled-out : WrongTextReplies

@@ -35,7 +35,7 @@ ghost use Rattle.rules.specs.Promises.{
 ghost use Rattle.umarekoza.specs.Exports.{replyAnswer, spanPart, partialAnswer};
 
 // Number 0 is acceptance, with place 0 and the length that is answered; else the number and place of the refusal, with
-// length 0. They are document 01's; only 30, for a name or index that no field has, is document 02's for no such field.
+// length 0. They are document 01's; 29, for a zero divisor, and 30, for a name or index that no field has, are 02's.
 #[repr(C)]
 pub struct Reply {
     pub number: u32,

@@ -36,15 +36,25 @@ pub fn of_range(what: &str, rule: &Tree, fields: &[StoredField], step: &Tree) ->
         });
     }
     let enough = Tree::two(operator(">=")?, (**left).clone(), (**right).clone());
-    Some(match what {
-        "width" => format!("let this field be `present only when {}`", written(&enough, fields)),
-        "condition" => {
-            let tested = Tree::two(operator("&&")?, enough, rule.clone());
-            format!("write `present only when {}`", written(&tested, fields))
-        }
-        _ => {
-            let tested = Tree::two(operator("&&")?, enough, rule.clone());
-            format!("write `{}`", written(&tested, fields))
-        }
-    })
+    tested_first(what, rule, fields, enough)
+}
+
+/// For an expression with a step that divides by zero.
+pub fn of_divisor(what: &str, rule: &Tree, fields: &[StoredField], step: &Tree) -> Option<String> {
+    let Tree::Two(_, _, divisor) = step else { return None };
+    if divisor.fields().is_empty() {
+        return Some("the divisor is 0 in every packet".to_string());
+    }
+    let some = Tree::two(operator("!=")?, (**divisor).clone(), Tree::Number(0));
+    tested_first(what, rule, fields, some)
+}
+
+/// The expression behind a test without which it faults; a width has it as a condition.
+fn tested_first(what: &str, rule: &Tree, fields: &[StoredField], test: Tree) -> Option<String> {
+    if what == "width" {
+        return Some(format!("let this field be `present only when {}`", written(&test, fields)));
+    }
+    let tested = written(&Tree::two(operator("&&")?, test, rule.clone()), fields);
+    let when = if what == "condition" { "present only when " } else { "" };
+    Some(format!("write `{when}{tested}`"))
 }

@@ -1,15 +1,15 @@
 //! The value of a stored expression, or the step at which it faults.
 
 use super::stored::Tree;
-use crate::operators::Operator;
+use crate::operators::Broken;
 
 /// What ends an evaluation.
 #[derive(Clone, Copy, Debug)]
 pub enum Fault<'a> {
     /// This field is absent.
     Absent(usize),
-    /// This step, with the values of its operands, leaves the range.
-    Range { step: &'a Tree, left: u32, right: u32 },
+    /// This step, with the values of its operands, is broken.
+    Step { step: &'a Tree, left: u32, right: u32, broken: Broken },
     /// No value is known for this field.
     Unknown,
 }
@@ -34,23 +34,7 @@ pub fn value_of<'a>(tree: &'a Tree, reads: Reads) -> Result<u32, Fault<'a>> {
                 _ => {}
             }
             let right = value_of(right, reads)?;
-            applied(operator, left, right).ok_or(Fault::Range { step: tree, left, right })
+            operator.applied(left, right).map_err(|broken| Fault::Step { step: tree, left, right, broken })
         }
     }
-}
-
-fn applied(operator: &Operator, left: u32, right: u32) -> Option<u32> {
-    let truth = match operator.symbol {
-        "+" => return left.checked_add(right),
-        "-" => return left.checked_sub(right),
-        "*" => return left.checked_mul(right),
-        "==" => left == right,
-        "!=" => left != right,
-        "<" => left < right,
-        "<=" => left <= right,
-        ">" => left > right,
-        ">=" => left >= right,
-        _ => right != 0,
-    };
-    Some(u32::from(truth))
 }

@@ -1,7 +1,7 @@
 //! Stored expressions written out, with names and no parentheses that are not needed.
 
 use super::stored::{StoredField, Tree};
-use crate::operators::{ATOM, COMPARISON};
+use crate::operators::ATOM;
 use crate::shown::shown;
 
 /// The expression as a page would have it.
@@ -11,10 +11,12 @@ pub fn written(tree: &Tree, fields: &[StoredField]) -> String {
         Tree::Field(index) => name_of(fields, *index),
         Tree::Not(operand) => format!("!({})", written(operand, fields)),
         Tree::Two(operator, left, right) => {
-            let level = operator.level;
-            let bare = level_of(left) > level || (level_of(left) == level && level != COMPARISON);
-            let left = operand(left, bare, fields);
-            let right = operand(right, level_of(right) > level, fields);
+            let (to_left, to_right) = operator.groups();
+            let bare = |side: &Tree, groups: bool| {
+                level_of(side) > operator.level || (level_of(side) == operator.level && groups)
+            };
+            let left = operand(left, bare(left, to_left), fields);
+            let right = operand(right, bare(right, to_right), fields);
             format!("{left} {} {right}", operator.symbol)
         }
     }

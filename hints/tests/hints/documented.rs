@@ -38,11 +38,13 @@ fn packets_are_told_as_documented() {
     packet_told(&[2, 4], &[0x42, 0x07, 0xAA, 0xBB, 0x00, 0x09], &m2, 26, 6);
     packet_told(&[0x11, 2, 2, 1, 3, 0, 0, 0], &m4[..8], &M1[..5], 27, 6);
     packet_told(&[2, 2], &m4, &M1, 28, 0);
+    let none = [[1, 0, 2, 1], [1, 2, 1, 1], [1, 3, 5, 0], [1, 8, 8, 7], [1, 16, 16, 300]];
+    packet_told(&[0x13, 1, 6, 0, 0, 0, 2, 2], &[0x60, 0x07, 0x01, 0x2C], &none, 29, 6);
 }
 
 #[test]
 fn every_number_has_an_example() {
-    for number in (1..=11).chain(24..=28) {
+    for number in (1..=11).chain(24..=29) {
         assert!(PAGES.contains(&format!("\n\n    error[{number}]: ")), "{number}");
     }
 }

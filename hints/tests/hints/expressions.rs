@@ -1,6 +1,6 @@
 //! Number 5: expressions.
 
-use crate::common::{form_told, BORROWER, CELLS, READINGS, VERSION};
+use crate::common::{form_told, BORROWER, CELLS, VERSION};
 
 #[test]
 fn wrong_operators() {
@@ -17,13 +17,6 @@ fn wrong_operators() {
         "`&` is no operator",
         "                                                  ^ no such operator",
         &["did you mean `&&`?"],
-    );
-    form_told(
-        READINGS,
-        "Readings: N / 2 bytes.",
-        "`/` is no operator",
-        "            ^ no such operator",
-        &["numbers are joined by `+`, `-` and `*`"],
     );
     form_told(
         CELLS,

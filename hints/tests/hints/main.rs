@@ -9,6 +9,7 @@ mod field_lines;
 mod fields;
 mod frames;
 mod names;
+mod operators;
 mod packets;
 mod ranges;
 

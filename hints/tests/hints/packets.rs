@@ -1,4 +1,4 @@
-//! Numbers 24 to 28: what a packet lacks, and which rule it breaks by which values.
+//! Numbers 24 to 29: what a packet lacks, and which rule it breaks by which values.
 
 use umarekoza_hints::{packet_hint, plain_packet, Verdict};
 
@@ -48,7 +48,7 @@ pub const M1: [[u32; 4]; 7] = [
 ];
 
 #[track_caller]
-fn told(table: &[u8], packet: &[u8], before: &[[u32; 4]], (number, place): (u32, u32), due: &str) {
+pub fn told(table: &[u8], packet: &[u8], before: &[[u32; 4]], (number, place): (u32, u32), due: &str) {
     let hint = packet_hint(table, packet, before, Verdict { number, place });
     let told = plain_packet(&hint, "packet.bin");
     assert_eq!(told, due, "told:\n{told}\ndue:\n{due}");
@@ -169,7 +169,7 @@ error[25]: the constraint of `FIN` does not hold: `FIN == 0 || SYN == 0`
 }
 
 /// A flag, a number that is there if the flag is set, and a field of this kind and rest.
-fn flagged(kind: u8, rest: &[u8]) -> Vec<u8> {
+pub fn flagged(kind: u8, rest: &[u8]) -> Vec<u8> {
     table(&[
         (2, "Flag", "F", &[8, 0, 0, 0, 0, 0]),
         (2, "Count", "C", &[8, 0, 0, 0, 8, 0, 0x20, 2, 0, 1, 1, 0, 0, 0]),
@@ -180,7 +180,7 @@ fn flagged(kind: u8, rest: &[u8]) -> Vec<u8> {
 /// Neither `C` nor anything else is there, but the flag, which is 0.
 const ABSENT: [[u32; 4]; 2] = [[1, 0, 8, 0], [0, 0, 0, 0]];
 /// `C` is 1.
-const PRESENT: [[u32; 4]; 2] = [[1, 0, 8, 1], [1, 8, 8, 1]];
+pub const PRESENT: [[u32; 4]; 2] = [[1, 0, 8, 1], [1, 8, 8, 1]];
 
 #[test]
 fn an_absent_field_that_is_read() {

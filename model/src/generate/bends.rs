@@ -5,7 +5,8 @@ use super::Rng;
 use crate::descriptions::{Description, Field, Width};
 use crate::names::is_short_name;
 use crate::naming::read_names;
-use crate::trees::{Kind, Node, Op, Tree};
+use crate::operators::Op;
+use crate::trees::{Kind, Node, Tree};
 
 const ODD_LABELS: [&[u8]; 6] =
     [b"A label that is longer than it may be 123", b"", b"-a", b"a ", b"a  b", b"a_b"];
@@ -28,7 +29,7 @@ pub fn bend(rng: &mut Rng, description: &mut Description) {
         7..=10 => misread(rng, fields, index),
         11 => mistype(rng, field),
         12 | 13 => rest_and_after(rng, fields, index, other),
-        14 => field.constraint = Some(Growth::new(&[]).chain(rng, Kind::Truth, 13)),
+        14 => field.constraint = Some(too_deep(rng)),
         15 => field.constraint = Some(Growth::new(&[]).balanced(rng, Kind::Truth, 21)),
         16 => rewiden(rng, field),
         17 => description.row_bits = rng.pick([8, 16, 32, 24, 0]),
@@ -36,6 +37,18 @@ pub fn bend(rng: &mut Rng, description: &mut Description) {
         _ => {
             fields.remove(index);
         }
+    }
+}
+
+/// A tree that is a little too deep, or a chain of powers that is too deep.
+fn too_deep(rng: &mut Rng) -> Tree<usize> {
+    match rng.below(4) {
+        0 => Growth::new(&[]).chain_of_powers(rng, Kind::Truth, 13),
+        1 => {
+            let depth = rng.between(14, 60);
+            Growth::new(&[]).chain_of_powers(rng, Kind::Truth, depth)
+        }
+        _ => Growth::new(&[]).chain(rng, Kind::Truth, 13),
     }
 }
 
@@ -69,10 +82,10 @@ fn unname(rng: &mut Rng, fields: &mut [Field<usize>], index: usize) {
 fn misread(rng: &mut Rng, fields: &mut [Field<usize>], index: usize) {
     let is_long = |field: &Field<usize>| field.fixed_bits().is_none();
     let is_nameless = |field: &Field<usize>| !is_long(field) && read_names(field).next().is_none();
-    let earlier = match rng.below(4) {
+    let earlier = match rng.below(5) {
         0 => fields[..index].iter().rposition(is_long),
-        1 => fields[..index].iter().rposition(|field| is_long(field) && is_short_name(field.label)),
-        2 => fields[..index].iter().rposition(is_nameless),
+        1 | 2 => fields[..index].iter().rposition(|field| is_long(field) && is_short_name(field.label)),
+        3 => fields[..index].iter().rposition(is_nameless),
         _ => None,
     };
     let chosen = earlier.unwrap_or(rng.between(0, fields.len()));
@@ -98,8 +111,12 @@ fn read(rng: &mut Rng, field: &mut Field<usize>, read: usize) {
 /// A tree of the wrong type, at the top or within.
 fn mistype(rng: &mut Rng, field: &mut Field<usize>) {
     let one = Node::Number(1);
-    let nodes = match rng.below(4) {
+    let nodes = match rng.below(5) {
         0 => vec![one],
+        4 => {
+            let op = rng.pick([Op::Div, Op::Rem, Op::Pow]);
+            vec![one, one, Node::Two(Op::Eq, 0, 1), one, Node::Two(op, 2, 3)]
+        }
         1 => vec![one, Node::Not(0)],
         2 => vec![one, one, Node::Two(Op::Eq, 0, 1), one, Node::Two(Op::Eq, 2, 3)],
         _ => vec![one, one, Node::Two(Op::Eq, 0, 1), one, Node::Two(Op::And, 2, 3)],

@@ -1,5 +1,5 @@
 //! Cases at the far ends of the limits: the longest tables and listings, very many bits behind a rest field, and
-//! texts of very many lines.
+//! texts of very many lines or very long ones.
 
 use super::growth::Growth;
 use super::words::Names;
@@ -102,5 +102,33 @@ pub fn many_lines(rng: &mut Rng) -> Vec<u8> {
     if rng.one_in(2) {
         text.push(b'F');
     }
+    text
+}
+
+/// A text of one or two field lines, one of them with powers of as many numbers as its length allows; at times wrong at
+/// the end of that line.
+pub fn many_powers(rng: &mut Rng) -> Vec<u8> {
+    let most = rng.between(4_000, LONGEST_TEXT - 300);
+    let number: &[u8] = rng.pick([b"1", b"0", b"F", b"2", b"4294967295"]);
+    let sign: &[u8] = rng.pick([b"^", b"^", b" ^ ", b"^ "]);
+    let mut powers = number.to_vec();
+    while powers.len() < most {
+        powers.extend([sign, number].concat());
+    }
+    let end: &[u8] = rng.pick([b"", b"", b"", b"/0", b"^", b"^)", b"^^1", b"^01", b"  "]);
+    powers.extend(end);
+    let long = [b"G: ", &powers[..], b" bits"].concat();
+    let constraint = [b"G: 1 byte; ", &powers[..], b" == 1"].concat();
+    let condition = [b"G: 1 byte; present only when 1 != ", &powers[..]].concat();
+    let (bar, line): (&[u8], _) = match rng.below(3) {
+        0 => (b":", long),
+        1 => (b"|", constraint),
+        _ => (b"|", condition),
+    };
+    let mut text = opening(8);
+    text.extend([b"|F              |\n", &border(8)[..], b"\n"].concat());
+    text.extend([bar, b"       G       ", bar, b"\n", &border(8)[..], b"\n\n", WHERE, b"\n\n"].concat());
+    let first: &[u8] = rng.pick([b"F: 8 bits.\n", b"F: 8 bits.\n", b"F: 08 bits.\n"]);
+    text.extend([first, &line[..], b".\n"].concat());
     text
 }

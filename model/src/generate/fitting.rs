@@ -4,15 +4,18 @@ use super::extremes::far_length;
 use super::Rng;
 use crate::descriptions::{Description, Field, Width};
 use crate::evaluation::value;
+use crate::operators::ZERO_DIVISOR;
 use crate::reading::{read_fields, LONGEST_PACKET};
 use crate::tables::good_description;
-use crate::trees::Node;
+use crate::trees::{Node, Tree};
 
 const MOST_BITS: u64 = 8 * LONGEST_PACKET as u64;
 const VALUES_TRIED: usize = 24;
 const PACKETS_TRIED: usize = 6;
 /// A rest field that fills a far packet is one of so many.
 const FAR: usize = 2;
+/// A packet that has a zero divisor is left so one time in so many.
+const DIVIDED: usize = 2;
 
 /// A packet that the table accepts, if one is found soon; random bytes for a table that is not good.
 pub fn fitting(rng: &mut Rng, table: &[u8]) -> Vec<u8> {
@@ -22,7 +25,11 @@ pub fn fitting(rng: &mut Rng, table: &[u8]) -> Vec<u8> {
     let mut packet = Vec::new();
     for _ in 0..PACKETS_TRIED {
         packet = attempt(rng, &description);
-        if read_fields(&description, &packet).is_ok() {
+        let is_left = match read_fields(&description, &packet) {
+            Err(refusal) => refusal.number == ZERO_DIVISOR && rng.one_in(DIVIDED),
+            Ok(_) => true,
+        };
+        if is_left {
             break;
         }
     }
@@ -61,7 +68,8 @@ fn byte(bits: &[bool]) -> u8 {
     (0..8).fold(0, |byte, place| byte << 1 | u8::from(bits.get(place) == Some(&true)))
 }
 
-/// Adds the bits of a field that is present; none if an expression faults or the packet gets too long.
+/// Adds the bits of a field that is present; none if an expression leaves the range or reads an absent field, or the
+/// packet gets too long.
 fn add_field(
     rng: &mut Rng,
     field: &Field<usize>,
@@ -70,7 +78,7 @@ fn add_field(
     bits: &mut Vec<bool>,
 ) -> Option<()> {
     if let Some(condition) = &field.condition {
-        if value(condition, values).ok()? == 0 {
+        if value_or_any(rng, condition, values)? == 0 {
             values.push(None);
             return Some(());
         }
@@ -82,7 +90,7 @@ fn add_field(
             bits.extend((0..*width).rev().map(|place| number >> place & 1 == 1));
             return Some(());
         }
-        Width::Measured { unit, tree } => u64::from(*unit) * u64::from(value(tree, values).ok()?),
+        Width::Measured { unit, tree } => u64::from(*unit) * u64::from(value_or_any(rng, tree, values)?),
         Width::Rest => {
             let behind: u32 = after.iter().filter_map(Field::fixed_bits).sum();
             let others = bits.len() as u64 + u64::from(behind);
@@ -98,6 +106,14 @@ fn add_field(
     let bytes = rng.bytes((long as usize).div_ceil(8));
     bits.extend((0..long as usize).map(|place| bytes[place / 8] >> (place % 8) & 1 == 1));
     Some(())
+}
+
+/// The value of an expression; where a divisor is zero, any with which the packet goes on.
+fn value_or_any(rng: &mut Rng, tree: &Tree<usize>, values: &[Option<u32>]) -> Option<u32> {
+    match value(tree, values) {
+        Err(ZERO_DIVISOR) => Some(rng.pick([0, 0, 1])),
+        value => value.ok(),
+    }
 }
 
 /// A number for a fixed field of `width` bits, one that its constraint takes if such a one is found.

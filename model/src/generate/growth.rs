@@ -1,10 +1,10 @@
 //! Random trees within the limits, and trees of a given depth or number of leaves.
 
 use super::Rng;
-use crate::evaluation::apply;
-use crate::trees::{Kind, Node, Op, Tree};
+use crate::operators::{apply, Op};
+use crate::trees::{Kind, Node, Tree};
 
-const ARITHMETIC: [Op; 3] = [Op::Add, Op::Sub, Op::Mul];
+const ARITHMETIC: [Op; 6] = [Op::Add, Op::Sub, Op::Mul, Op::Div, Op::Rem, Op::Pow];
 const COMPARISONS: [Op; 6] = [Op::Eq, Op::Ne, Op::Lt, Op::Le, Op::Gt, Op::Ge];
 const JOINS: [Op; 2] = [Op::And, Op::Or];
 const LEAF: usize = 5;
@@ -13,7 +13,7 @@ const COMPARED: usize = 2 * LEAF + 1;
 /// Grows trees that read the fields `readable`, each an index and its bits.
 pub struct Growth<'a> {
     pub readable: &'a [(usize, u32)],
-    nodes: Vec<Node<usize>>,
+    pub nodes: Vec<Node<usize>>,
 }
 
 impl<'a> Growth<'a> {
@@ -29,7 +29,13 @@ impl<'a> Growth<'a> {
         };
         if self.readable.is_empty() || rng.one_in(2) {
             let right = self.push(Node::Number(rng.between(1, 4) as u32));
-            self.push(Node::Two(rng.pick([Op::Add, Op::Mul]), left, right));
+            let op = rng.pick([Op::Add, Op::Add, Op::Mul, Op::Mul, Op::Div, Op::Rem, Op::Pow, Op::Pow]);
+            let is_swapped = match op {
+                Op::Pow => !rng.one_in(4),
+                _ => rng.one_in(3),
+            };
+            let (left, right) = if is_swapped { (right, left) } else { (left, right) };
+            self.push(Node::Two(op, left, right));
         }
         Tree { nodes: self.nodes }
     }
@@ -44,6 +50,10 @@ impl<'a> Growth<'a> {
                 self.push(Node::Two(rng.pick(JOINS), left, right))
             }
             1 => self.push(Node::Not(left)),
+            2 => {
+                let right = self.quotient(rng, TAME);
+                self.push(Node::Two(rng.pick(JOINS), left, right))
+            }
             _ => left,
         };
         Tree { nodes: self.nodes }
@@ -51,9 +61,13 @@ impl<'a> Growth<'a> {
 
     /// A width that is not a single number.
     pub fn width(mut self, rng: &mut Rng) -> Tree<usize> {
-        match rng.below(12) {
+        match rng.below(14) {
             0 => return self.balanced(rng, Kind::Number, 20),
+            1 if rng.one_in(3) => return self.chain_of_powers(rng, Kind::Number, 12),
             1 => return self.chain(rng, Kind::Number, 12),
+            12 | 13 => {
+                self.edge(rng);
+            }
             2 => {
                 let depth = rng.between(3, 12);
                 self.arithmetic(rng, depth, 120);
@@ -73,9 +87,13 @@ impl<'a> Growth<'a> {
 
     /// A constraint or condition.
     pub fn truth(mut self, rng: &mut Rng) -> Tree<usize> {
-        match rng.below(12) {
+        match rng.below(16) {
             0 => return self.balanced(rng, Kind::Truth, 20),
+            1 if rng.one_in(3) => return self.chain_of_powers(rng, Kind::Truth, 12),
             1 => return self.chain(rng, Kind::Truth, 12),
+            12..=15 => {
+                self.compared_edge(rng);
+            }
             2 | 3 => {
                 let depth = rng.between(3, 12);
                 self.yes_or_no(rng, depth, 120);
@@ -157,10 +175,11 @@ impl<'a> Growth<'a> {
         }
         let left = self.sum(rng, leaves / 2);
         let right = self.sum(rng, leaves - leaves / 2);
-        self.push(Node::Two(rng.pick([Op::Add, Op::Add, Op::Sub, Op::Mul]), left, right))
+        let op = if rng.one_in(3) { rng.pick(ARITHMETIC) } else { Op::Add };
+        self.push(Node::Two(op, left, right))
     }
 
-    fn push(&mut self, node: Node<usize>) -> usize {
+    pub fn push(&mut self, node: Node<usize>) -> usize {
         self.nodes.push(node);
         self.nodes.len() - 1
     }
@@ -186,6 +205,30 @@ impl<'a> Growth<'a> {
         let left = self.push(Node::Name(index));
         let right = self.push(Node::Number(number as u32));
         self.push(Node::Two(rng.pick(comparisons), left, right))
+    }
+
+    /// Such a comparison of a quotient or a remainder, most often by a small number.
+    fn quotient<const N: usize>(&mut self, rng: &mut Rng, comparisons: [Op; N]) -> usize {
+        let divided = self.leaf(rng);
+        let divisor = match rng.below(4) {
+            0 => self.leaf(rng),
+            _ => self.push(Node::Number(rng.between(1, 4) as u32)),
+        };
+        let left = self.push(Node::Two(rng.pick([Op::Div, Op::Rem]), divided, divisor));
+        let right = self.push(Node::Number(rng.below(4) as u32));
+        self.push(Node::Two(rng.pick(comparisons), left, right))
+    }
+
+    /// A number at an edge of `/`, `%` or `^` compared with another, at times behind a comparison that may decide.
+    fn compared_edge(&mut self, rng: &mut Rng) -> usize {
+        let first = rng.one_in(3).then(|| self.simple(rng, COMPARISONS));
+        let left = self.edge(rng);
+        let right = self.push(Node::Number(rng.pick([0, 1, 1, 2, 3, 5])));
+        let compared = self.push(Node::Two(rng.pick(COMPARISONS), left, right));
+        match first {
+            Some(first) => self.push(Node::Two(rng.pick(JOINS), first, compared)),
+            None => compared,
+        }
     }
 
     /// An operator of arithmetic within `depth` and `bytes`, which allow one.

@@ -5,7 +5,8 @@ use crate::descriptions::{Description, Field, Width};
 use crate::field_lines::{PRESENT, VARIABLE};
 use crate::frames::{border, tens_ruler, units_ruler, FORMATTED, WHERE};
 use crate::naming::read_names;
-use crate::trees::{Node, Tree, ATOM, COMPARISON};
+use crate::operators::{groups, level, ATOM};
+use crate::trees::{Node, Tree};
 
 const MOST_OPEN: usize = 12;
 const UNKNOWN: &[u8] = b"Q9q";
@@ -253,9 +254,9 @@ impl Speller<'_> {
     }
 }
 
-fn level(tree: &Tree<usize>, node: usize) -> u8 {
+fn level_of(tree: &Tree<usize>, node: usize) -> u8 {
     match tree.nodes[node] {
-        Node::Two(op, _, _) => op.level(),
+        Node::Two(op, _, _) => level(op),
         _ => ATOM,
     }
 }
@@ -263,8 +264,9 @@ fn level(tree: &Tree<usize>, node: usize) -> u8 {
 /// Whether the left and the right operand of an operator have to stand in parentheses.
 fn wraps(tree: &Tree<usize>, node: usize) -> (bool, bool) {
     let Node::Two(op, left, right) = tree.nodes[node] else { return (false, false) };
-    let (left, own, right) = (level(tree, left), op.level(), level(tree, right));
-    (left < own || (left == own && own == COMPARISON), right <= own)
+    let (left, own, right) = (level_of(tree, left), level(op), level_of(tree, right));
+    let (to_left, to_right) = groups(own);
+    (left < own || (left == own && !to_left), right < own || (right == own && !to_right))
 }
 
 /// For each node, how many parentheses its subtree has open at once at the least.

@@ -64,7 +64,19 @@ returns-14 c = rw (c .match .keys14)
 
 returns-15 : tie.Need-returns-15
 unfolding codeOf codeIn operators operator
-returns-15 c =
+returns-15 c = rw (c .match .keys15)
+
+returns-16 : tie.Need-returns-16
+unfolding codeOf codeIn operators operator
+returns-16 c = rw (c .match .keys16)
+
+returns-17 : tie.Need-returns-17
+unfolding codeOf codeIn operators operator
+returns-17 c = rw (c .match .keys17)
+
+returns-18 : tie.Need-returns-18
+unfolding codeOf codeIn operators operator
+returns-18 c =
     let r₀ = c .match .rest in
     let r₁ = r₀ .0 in
     let r₂ = r₁ .0 in
@@ -78,6 +90,9 @@ returns-15 c =
     let r₁₀ = r₉ .0 in
     let r₁₁ = r₁₀ .0 in
     let r₁₂ = r₁₁ .0 in
+    let r₁₃ = r₁₂ .0 in
+    let r₁₄ = r₁₃ .0 in
+    let r₁₅ = r₁₄ .0 in
     simp (
       ne-eqb _ 0x32 (r₀ .1),
       ne-eqb _ 0x31 (r₁ .1),
@@ -88,11 +103,14 @@ returns-15 c =
       ne-eqb _ 0x22 (r₆ .1),
       ne-eqb _ 0x21 (r₇ .1),
       ne-eqb _ 0x20 (r₈ .1),
-      ne-eqb _ 0x12 (r₉ .1),
-      ne-eqb _ 0x11 (r₁₀ .1),
-      ne-eqb _ 0x10 (r₁₁ .1),
-      ne-eqb _ 0x02 (r₁₂ .1),
-      ne-eqb _ 0x01 (r₁₂ .0 .1),
+      ne-eqb _ 0x15 (r₉ .1),
+      ne-eqb _ 0x14 (r₁₀ .1),
+      ne-eqb _ 0x13 (r₁₁ .1),
+      ne-eqb _ 0x12 (r₁₂ .1),
+      ne-eqb _ 0x11 (r₁₃ .1),
+      ne-eqb _ 0x10 (r₁₄ .1),
+      ne-eqb _ 0x02 (r₁₅ .1),
+      ne-eqb _ 0x01 (r₁₅ .0 .1),
     )
 
 pub code-of-spec : {M : Type 1} → statement M
@@ -113,4 +131,7 @@ code-of-spec =
     returns-12
     returns-13
     returns-14
-    returns-15)
+    returns-15
+    returns-16
+    returns-17
+    returns-18)

@@ -73,6 +73,24 @@ enum-told-11 c = search needs
 columns-requires-11 : tie.Need-columns-requires-11
 columns-requires-11 c κs = search needs
 
+enum-told-12 : tie.Need-enum-told-12
+enum-told-12 c = search needs
+
+columns-requires-12 : tie.Need-columns-requires-12
+columns-requires-12 c κs = search needs
+
+enum-told-13 : tie.Need-enum-told-13
+enum-told-13 c = search needs
+
+columns-requires-13 : tie.Need-columns-requires-13
+columns-requires-13 c κs = search needs
+
+enum-told-14 : tie.Need-enum-told-14
+enum-told-14 c = search needs
+
+columns-requires-14 : tie.Need-columns-requires-14
+columns-requires-14 c κs = search needs
+
 returns : tie.Need-returns
 unfolding rowOf operator
 returns c = rw (c .before .enum-told .given .1, c .columns .ensures)
@@ -117,40 +135,24 @@ returns-11 : tie.Need-returns-11
 unfolding rowOf operator
 returns-11 c = rw (c .before .enum-told11 .given .1, c .columns11 .ensures)
 
+returns-12 : tie.Need-returns-12
+unfolding rowOf operator
+returns-12 c = rw (c .before .enum-told12 .given .1, c .columns12 .ensures)
+
+returns-13 : tie.Need-returns-13
+unfolding rowOf operator
+returns-13 c = rw (c .before .enum-told13 .given .1, c .columns13 .ensures)
+
+returns-14 : tie.Need-returns-14
+unfolding rowOf operator
+returns-14 c = rw (c .before .enum-told14 .given .1, c .columns14 .ensures)
+
 pub operator-spec : {M : Type 1} → statement M
 operator-spec =
     tie.close
-    (tie.spec
-    enum-told
-    columns-requires
-    enum-told-2
-    columns-requires-2
-    enum-told-3
-    columns-requires-3
-    enum-told-4
-    columns-requires-4
-    enum-told-5
-    columns-requires-5
-    enum-told-6
-    columns-requires-6
-    enum-told-7
-    columns-requires-7
-    enum-told-8
-    columns-requires-8
-    enum-told-9
-    columns-requires-9
-    enum-told-10
-    columns-requires-10
-    enum-told-11
-    columns-requires-11
-    returns
-    returns-2
-    returns-3
-    returns-4
-    returns-5
-    returns-6
-    returns-7
-    returns-8
-    returns-9
-    returns-10
-    returns-11)
+    (tie.spec enum-told columns-requires enum-told-2 columns-requires-2 enum-told-3 columns-requires-3 enum-told-4
+    columns-requires-4 enum-told-5 columns-requires-5 enum-told-6 columns-requires-6 enum-told-7 columns-requires-7
+    enum-told-8 columns-requires-8 enum-told-9 columns-requires-9 enum-told-10 columns-requires-10 enum-told-11
+    columns-requires-11 enum-told-12 columns-requires-12 enum-told-13 columns-requires-13 enum-told-14
+    columns-requires-14 returns returns-2 returns-3 returns-4 returns-5 returns-6 returns-7 returns-8 returns-9
+    returns-10 returns-11 returns-12 returns-13 returns-14)

@@ -1,11 +1,12 @@
 use Rattle.packets.proofs.Products.{product-fits}
 use Rattle.rules.specs.Values.{apply}
-use borrow.Author.Tests.{le-leb, lt-leb}
+use borrow.Author.Tests.{le-leb, lt-leb, eq-eqb, ne-eqb}
 use borrow.Author.Needs.{needs}
 use Rattle.packets.proofs.trees.combine.Statement.{statement}
 use Rattle.packets.proofs.trees.combine.Tie as tie
 use Rattle.packets.proofs.trees.combine.Reads as reads
 use Rattle.packets.proofs.trees.combine.Lts as lts
+use Rattle.packets.proofs.powers.power_of.Reads as power-of-reads
 use Rattle.packets.proofs.trees.in_range.Reads as in-range-reads
 use Rattle.packets.proofs.trees.yes_no.Reads as yes-no-reads
 
@@ -72,6 +73,27 @@ mul-in-range c = record { fits = product-fits (search needs) (search needs) }
 in-range-requires-2 : tie.Need-in-range-requires-2
 in-range-requires-2 c κs = search needs
 
+enum-told-12 : tie.Need-enum-told-12
+enum-told-12 c = search needs
+
+div-t31 : tie.Need-div-t31
+div-t31 c = search needs
+
+enum-told-13 : tie.Need-enum-told-13
+enum-told-13 c = search needs
+
+rem-t35 : tie.Need-rem-t35
+rem-t35 c = search needs
+
+enum-told-14 : tie.Need-enum-told-14
+enum-told-14 c = search needs
+
+power-of-requires : tie.Need-power-of-requires
+power-of-requires c κs = search needs
+
+in-range-requires-3 : tie.Need-in-range-requires-3
+in-range-requires-3 c κs = search needs
+
 returns : tie.Need-returns
 unfolding apply
 returns c = rw (c .enum-told .given .1)
@@ -120,40 +142,32 @@ returns-12 : tie.Need-returns-12
 unfolding apply
 returns-12 c = rw (c .before .enum-told11 .given .1, c .in-range2 .ensures)
 
+returns-13 : tie.Need-returns-13
+unfolding apply
+returns-13 c = rw (c .before .enum-told12 .given .1, eq-eqb _ _ (c .if2 .taken))
+
+returns-14 : tie.Need-returns-14
+unfolding apply
+returns-14 c = rw (c .before .enum-told12 .given .1, ne-eqb _ _ (c .if2 .left))
+
+returns-15 : tie.Need-returns-15
+unfolding apply
+returns-15 c = rw (c .before .enum-told13 .given .1, eq-eqb _ _ (c .if3 .taken))
+
+returns-16 : tie.Need-returns-16
+unfolding apply
+returns-16 c = rw (c .before .enum-told13 .given .1, ne-eqb _ _ (c .if3 .left))
+
+returns-17 : tie.Need-returns-17
+unfolding apply
+returns-17 c = rw (c .before .before .enum-told14 .given .1, c .in-range3 .ensures, c .before .power-of .ensures)
+
 pub combine-spec : {M : Type 1} → statement M
 combine-spec =
     tie.close
-    (tie.spec
-    enum-told
-    enum-told-2
-    enum-told-3
-    yes-no-requires
-    enum-told-4
-    yes-no-requires-2
-    enum-told-5
-    yes-no-requires-3
-    enum-told-6
-    yes-no-requires-4
-    enum-told-7
-    yes-no-requires-5
-    enum-told-8
-    yes-no-requires-6
-    enum-told-9
-    add-in-range
-    in-range-requires
-    enum-told-10
-    enum-told-11
-    mul-in-range
-    in-range-requires-2
-    returns
-    returns-2
-    returns-3
-    returns-4
-    returns-5
-    returns-6
-    returns-7
-    returns-8
-    returns-9
-    returns-10
-    returns-11
-    returns-12)
+    (tie.spec enum-told enum-told-2 enum-told-3 yes-no-requires enum-told-4 yes-no-requires-2 enum-told-5
+    yes-no-requires-3 enum-told-6 yes-no-requires-4 enum-told-7 yes-no-requires-5 enum-told-8 yes-no-requires-6
+    enum-told-9 add-in-range in-range-requires enum-told-10 enum-told-11 mul-in-range in-range-requires-2
+    enum-told-12 div-t31 enum-told-13 rem-t35 enum-told-14 power-of-requires in-range-requires-3 returns returns-2
+    returns-3 returns-4 returns-5 returns-6 returns-7 returns-8 returns-9 returns-10 returns-11 returns-12
+    returns-13 returns-14 returns-15 returns-16 returns-17)
