@@ -5,8 +5,9 @@ use mathlib.Core.List.{List, [], _∷_, _++_}
 use mathlib.Core.Option.{Option, none, some}
 use Prim.Native.Nat.{ℕ, _+_, _≤_}
 use Rattle.base.specs.Lists.{all, listOf, firstBreak, sum}
-use Rattle.base.proofs.Lists.{and-left, and-right, and-both}
-use Rattle.base.proofs.Breaks.{all-cons, all-one, all-append, firstBreak-cons, keeps-weaker}
+use Rattle.base.proofs.Lists.{and-left, and-right, and-both, all-of, all-weaken}
+use Rattle.base.proofs.Breaks.{all-one, all-append, firstBreak-cons, keeps-weaker}
+use Rattle.base.proofs.Lookups.{none-breaks}
 use Rattle.rules.specs.declared.Op.{Op}
 use Rattle.rules.specs.Editions.{Edition, current}
 use Rattle.rules.specs.Trees.{Tree, num, read, two, negation, hasOperators}
@@ -46,40 +47,26 @@ operators-weaker p q f (two o a b) h =
     (operators-weaker p q f b (and-right (hasOperators p a) (hasOperators p b) both)))
 operators-weaker p q f (negation a) h = operators-weaker p q f a h
 
-all-weaker : {A : Type 0} (p q : A → Bool) → ((x : A) → p x ≡ true → q x ≡ true) → (l : List A) → all p l ≡ true
-    → all q l ≡ true
-unfolding all
-all-weaker p q f [] h = refl
-all-weaker p q f (x ∷ l) h =
-    let e = all-cons p x l h in and-both (q x) (all q l) (f x (e .0)) (all-weaker p q f l (e .1))
-
 pub field-known : {N : Type 0} (a b : Edition) → ((o : Op) → a .knows o ≡ true → b .knows o ≡ true) → (f : Field N)
     → knowsAllIn a f ≡ true → knowsAllIn b f ≡ true
 field-known a b more f h =
-    all-weaker (hasOperators (a .knows)) (hasOperators (b .knows))
+    all-weaken (hasOperators (a .knows)) (hasOperators (b .knows))
     (operators-weaker (a .knows) (b .knows) more) (trees f) h
 
 -- the edition in force knows all operators
-all-known : {N : Type 0} (l : List (Tree N)) → all (hasOperators (current .knows)) l ≡ true
-unfolding all hasOperators
-all-known [] = refl
-all-known (t ∷ l) = and-both (hasOperators (current .knows) t) (all (hasOperators (current .knows)) l)
-    (known t) (all-known l)
-  where
-    known : {N : Type 0} (t : Tree N) → hasOperators (current .knows) t ≡ true
-    known (num n) = refl
-    known (read a) = refl
-    known (two o a b) =
-        and-both (hasOperators (current .knows) a) (hasOperators (current .knows) b) (known a) (known b)
-    known (negation a) = known a
+tree-known : {N : Type 0} (t : Tree N) → hasOperators (current .knows) t ≡ true
+unfolding hasOperators
+tree-known (num n) = refl
+tree-known (read a) = refl
+tree-known (two o a b) =
+    and-both (hasOperators (current .knows) a) (hasOperators (current .knows) b) (tree-known a) (tree-known b)
+tree-known (negation a) = tree-known a
 
 pub knows-all : {N : Type 0} (f : Field N) → knowsAllIn current f ≡ true
-knows-all f = all-known (trees f)
+knows-all f = all-of (hasOperators (current .knows)) (trees f) (λ t m. tree-known t)
 
 pub keeps-known : {N : Type 0} (before l : List (Field N)) → firstBreak (keepsOperatorsIn current) before l ≡ none
-unfolding firstBreak
-keeps-known before [] = refl
-keeps-known before (f ∷ l) = rw (knows-all f) (keeps-known (before ++ (f ∷ [])) l)
+keeps-known before l = none-breaks (keepsOperatorsIn current) before l (λ b i f g. knows-all f)
 
 -- ── what one edition knows, another one knows, and means the same by it ──
 

@@ -49,68 +49,68 @@ module _ (means : Meaning) where
 
   -- ── a description without them ──
 
-  plain-kept : (before l : List (Field ℕ))
+  none-added-kept : (before l : List (Field ℕ))
       → all (λ f. all (hasOperators (withoutAdded means .knows)) (trees f)) l ≡ true
       → firstBreak (keepsOperatorsIn (withoutAdded means)) before l ≡ none
   unfolding firstBreak
-  plain-kept before [] h = refl
-  plain-kept before (f ∷ l) h =
+  none-added-kept before [] h = refl
+  none-added-kept before (f ∷ l) h =
       let e = all-cons (λ g. all (hasOperators (withoutAdded means .knows)) (trees g)) f l h in
-      rw (e .0) (plain-kept (before ++ (f ∷ [])) l (e .1))
+      rw (e .0) (none-added-kept (before ++ (f ∷ [])) l (e .1))
 
-  kept-plain : (before l : List (Field ℕ)) → firstBreak (keepsOperatorsIn (withoutAdded means)) before l ≡ none
+  kept-none-added : (before l : List (Field ℕ)) → firstBreak (keepsOperatorsIn (withoutAdded means)) before l ≡ none
       → all (λ f. all (hasOperators (withoutAdded means .knows)) (trees f)) l ≡ true
   unfolding all
-  kept-plain before [] h = refl
-  kept-plain before (f ∷ l) h =
+  kept-none-added before [] h = refl
+  kept-none-added before (f ∷ l) h =
       let k = firstBreak-cons (keepsOperatorsIn (withoutAdded means)) before f l h in
       and-both (all (hasOperators (withoutAdded means .knows)) (trees f))
       (all (λ g. all (hasOperators (withoutAdded means .knows)) (trees g)) l) (k .0)
-      (kept-plain (before ++ (f ∷ [])) l (k .1))
+      (kept-none-added (before ++ (f ∷ [])) l (k .1))
 
   good-without : (table : List ℕ) (good : Good table) → NoneAdded (good .description)
       → (old : GoodIn (withoutAdded means) table) × (old .description ≡ good .description)
-  good-without table good plain =
+  good-without table good free =
       let c = between-true 1 (length (good .description .fields)) (current .fields) (good .within .count) in
       good-less (withoutAdded means) current without-widens table good (c .1)
-      (plain-kept [] (good .description .fields) plain)
+      (none-added-kept [] (good .description .fields) free)
 
   reading-stays : (d : Description) → NoneAdded d → (packet : List ℕ)
       → reading d packet ≡ readingIn (withoutAdded means) d packet
   unfolding readingIn
-  reading-stays d plain packet =
+  reading-stays d free packet =
       rw (fields-like (withoutAdded means) current without-widens packet (d .fields) []
-      (plain-kept [] (d .fields) plain) [] 0)
+      (none-added-kept [] (d .fields) free) [] 0)
 
   outcome-stays : (d : Description) → NoneAdded d → (packet run : List ℕ)
       → packetOutcomeIn current d packet run ≡ packetOutcomeIn (withoutAdded means) d packet run
   unfolding packetOutcomeIn
-  outcome-stays d plain packet run = rw (reading-stays d plain packet)
+  outcome-stays d free packet run = rw (reading-stays d free packet)
 
   reads-stay : (table : List ℕ) (good : Good table) → NoneAdded (good .description) → (packet run : List ℕ)
       (o : Outcome) → (ReadsPacket table packet run o → ReadsPacketIn (withoutAdded means) table packet run o)
       × (ReadsPacketIn (withoutAdded means) table packet run o → ReadsPacket table packet run o)
-  reads-stay table good plain packet run o = (to, from)
+  reads-stay table good free packet run o = (to, from)
     where
       known : GoodIn (withoutAdded means) table
-      known = good-without table good plain .0
+      known = good-without table good free .0
 
       same : (h : Good table) → h .description ≡ good .description
       same h = sym (good-like (withoutAdded means) current without-widens table known h)
-          ∙ good-without table good plain .1
+          ∙ good-without table good free .1
 
       to : ReadsPacket table packet run o → ReadsPacketIn (withoutAdded means) table packet run o
       to p (yes old) =
           let e = good-like (withoutAdded means) current without-widens table old good in
-          p (yes good) ∙ outcome-stays (good .description) plain packet run
+          p (yes good) ∙ outcome-stays (good .description) free packet run
           ∙ sym (ap (λ (d : Description). packetOutcomeIn (withoutAdded means) d packet run) e)
       to p (no bad) = absurd (bad known)
 
       from : ReadsPacketIn (withoutAdded means) table packet run o → ReadsPacket table packet run o
       from p (yes h) =
-          let e = good-without table good plain .1 in
+          let e = good-without table good free .1 in
           p (yes known) ∙ ap (λ (d : Description). packetOutcomeIn (withoutAdded means) d packet run) e
-          ∙ sym (outcome-stays (good .description) plain packet run)
+          ∙ sym (outcome-stays (good .description) free packet run)
           ∙ sym (ap (λ (d : Description). packetOutcomeIn current d packet run) (same h))
       from p (no bad) = absurd (bad good)
 
@@ -122,8 +122,8 @@ module _ (means : Meaning) where
       go : Dec (GoodIn (withoutAdded means) table) → ReadsPacket table packet run o
       go (yes old) =
           let good = stays-good (withoutAdded means) current without-widens table old in
-          let plain = kept-plain [] (old .description .fields) (old .within .operators) in
-          reads-stay table (good .0) (subst NoneAdded (sym (good .1)) plain) packet run o .1 p
+          let free = kept-none-added [] (old .description .fields) (old .within .operators) in
+          reads-stay table (good .0) (subst NoneAdded (sym (good .1)) free) packet run o .1 p
       go (no bad) = absurd (ne (ap (λ (x : Outcome). x .answer .number) (p (no bad))))
 
 pub without-stays-good : WithoutStaysGood
@@ -134,14 +134,14 @@ none-added-good-without means table good = (
   good-without means table good,
   λ old.
       let e = good-like (withoutAdded means) current (without-widens means) table old good in
-      subst NoneAdded e (kept-plain means [] (old .description .fields) (old .within .operators)),
+      subst NoneAdded e (kept-none-added means [] (old .description .fields) (old .within .operators)),
 )
 
 pub none-added-reading-stays : NoneAddedReadingStays
-none-added-reading-stays means d plain packet = reading-stays means d plain packet
+none-added-reading-stays means d free packet = reading-stays means d free packet
 
 pub none-added-reads-stay : NoneAddedReadsStay
-none-added-reads-stay means table good plain packet run o = reads-stay means table good plain packet run o
+none-added-reads-stay means table good free packet run o = reads-stay means table good free packet run o
 
 pub without-table-stays : WithoutTableStays
 without-table-stays means table a p ne = table-stays (withoutAdded means) current (without-widens means) table a p ne

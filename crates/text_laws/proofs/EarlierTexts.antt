@@ -63,18 +63,15 @@ module _ (a b : Edition) (knows : (o : Op) → a .knows o ≡ true → b .knows 
   forms-more (x ∷ forms) [] h = absurd h
   forms-more (x ∷ forms) (l ∷ lines) h = (form-more x l (h .0), forms-more forms lines (h .1))
 
-  -- and if both know the same, the same line is the first without a form
-  formless-like : ((o : Op) → b .knows o ≡ true → a .knows o ≡ true) → (lines : List (List ℕ)) (i : ℕ)
-      → FirstFormlessIn b lines i → FirstFormlessIn a lines i
-  formless-like back lines i q = record {
-    there = q .there;
-    formless = λ x h. q .formless x (form-more x (getD lines i []) h);
-    earlier = λ j lt n. q .earlier j lt (λ x h. n x (record {
-      formed = h .formed;
-      operators = field-known b a back x (h .operators);
-      line = h .line;
-    }));
-  }
+-- and if both know the same, the same line is the first without a form
+formless-like : (a b : Edition) → ((o : Op) → a .knows o ≡ true → b .knows o ≡ true)
+    → ((o : Op) → b .knows o ≡ true → a .knows o ≡ true) → (lines : List (List ℕ)) (i : ℕ)
+    → FirstFormlessIn b lines i → FirstFormlessIn a lines i
+formless-like a b knows back lines i q = record {
+  there = q .there;
+  formless = λ x h. q .formless x (form-more a b knows x (getD lines i []) h);
+  earlier = λ j lt n. q .earlier j lt (λ x h. n x (form-more b a back x (getD lines j []) h));
+}
 
 -- ── from a narrower edition to a wider one ──
 

@@ -110,7 +110,6 @@ module _ (names : Names) (n : ℕ) (s : List ℕ) (at k b : ℕ) (ge : tightestL
           → take (c .len + (1 + a .len)) bytes ≡ take (c .len + (1 + a .len)) after)
           → c .len + (1 + (a .len + y .len)) ≤ length out → take (c .len) bytes ≡ take (c .len) out
       kept y bytes front h =
-          let m = c .len + (1 + a .len) in
           let le : c .len ≤ c .len + (1 + a .len) = omega arith in
           let e = front (omega (arith, h, x .waits .long, j .long)) in
           sym (take-take (c .len) (c .len + (1 + a .len)) bytes le)

@@ -133,16 +133,17 @@ abbrev isTight : Op → Bool
 isTight o = ltb (level o) tightestLevel
     || (eqb (level o) tightestLevel && (eqb (rightLevel o) tightestLevel && ltb tightestLevel (leftLevel o)))
 
-tightest : (o : Op) → (level o < tightestLevel)
+abbrev Tight : Op → Type 0
+Tight o = (level o < tightestLevel)
     ⊎ ((level o ≡ tightestLevel) × (rightLevel o ≡ tightestLevel) × (tightestLevel < leftLevel o))
+
+tightest : (o : Op) → Tight o
 unfolding all operators operator
 tightest o = tell (or-cases (ltb (level o) tightestLevel) _ (each isTight refl o))
   where
     tell : (ltb (level o) tightestLevel ≡ true)
         ⊎ ((eqb (level o) tightestLevel && (eqb (rightLevel o) tightestLevel && ltb tightestLevel (leftLevel o)))
-        ≡ true)
-        → (level o < tightestLevel)
-        ⊎ ((level o ≡ tightestLevel) × (rightLevel o ≡ tightestLevel) × (tightestLevel < leftLevel o))
+        ≡ true) → Tight o
     tell (inl e) = inl (ltb-true (level o) tightestLevel e)
     tell (inr e) =
         let q = and-true (eqb (level o) tightestLevel) _ e in
@@ -154,9 +155,7 @@ module _ (k : ℕ) (ge : tightestLevel ≤ k) where
   pub tightest-right : (o : Op) → k ≤ level o → (rightLevel o ≡ k) × (level o ≡ k)
   tightest-right o le = tell (tightest o)
     where
-      tell : (level o < tightestLevel)
-          ⊎ ((level o ≡ tightestLevel) × (rightLevel o ≡ tightestLevel) × (tightestLevel < leftLevel o))
-          → (rightLevel o ≡ k) × (level o ≡ k)
+      tell : Tight o → (rightLevel o ≡ k) × (level o ≡ k)
       tell (inl lt) = absurd (omega arith)
       tell (inr p) = (omega (arith, p .0, p .1), omega (arith, p .0))
 
@@ -166,9 +165,7 @@ module _ (k : ℕ) (ge : tightestLevel ≤ k) where
   tightest-stops missing = refl
   tightest-stops (found o r) = rw (off (tightest o)) refl
     where
-      off : (level o < tightestLevel)
-          ⊎ ((level o ≡ tightestLevel) × (rightLevel o ≡ tightestLevel) × (tightestLevel < leftLevel o))
-          → (leb k (level o) && leb (leftLevel o) k) ≡ false
+      off : Tight o → (leb k (level o) && leb (leftLevel o) k) ≡ false
       off (inl lt) = rw (lt-leb k (level o) (omega arith)) refl
       off (inr p) = pick (leb k (level o)) refl
         where

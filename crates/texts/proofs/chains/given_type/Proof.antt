@@ -1,6 +1,5 @@
 use mathlib.Core.Path.{refl}
 use borrow.Author.Tests.{eq-eqb, ne-eqb}
-use borrow.Author.Needs.{needs}
 use Rattle.texts.proofs.chains.given_type.Statement.{statement}
 use Rattle.texts.proofs.chains.given_type.Tie as tie
 use Rattle.texts.proofs.chains.given_type.Reads as reads
