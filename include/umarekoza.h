@@ -1,7 +1,8 @@
 /* Umarekoza: packet diagrams as tables, and packets read by them.
 
-   Link libumarekoza.a (x86-64 Linux). Numbers, places and bytes are those of document 01 with the limits, names and
-   operators that document 02 gives; 29, for a zero divisor, and 30, for a name or index that no field has, are 02's.
+   Link libumarekoza.a (x86-64 Linux). Numbers, places and bytes are those of document 01 with the limits, names,
+   operators and field records that document 02 gives; 29, for a zero divisor, and 30, for a name or index that no field
+   has, are 02's.
 
    Each function has a proved promise, which holds for all bytes and lengths: it settles the answer, and what every
    lent buffer holds afterwards. A buffer that is not written is left as it was, and so is any byte beyond what is
@@ -33,7 +34,7 @@ extern "C" {
 
 /* A run of so many numbers, and an output of so many bytes for a table or for a listing, is always enough. */
 #define UMAREKOZA_RUN_MOST 512
-#define UMAREKOZA_TABLE_MOST 54326
+#define UMAREKOZA_TABLE_MOST 54582
 #define UMAREKOZA_LISTING_MOST 7947
 
 /* Number 0: accepted, with place 0 and a length. Else refused: the number and place of the refusal, and length 0. */
@@ -62,7 +63,8 @@ struct umarekoza_span {
    unchanged. */
 struct umarekoza_answer umarekoza_write_table(const uint8_t *text, size_t text_len, uint8_t *out, size_t out_len);
 
-/* Checks a table. Accepted: the table's length. Refused: 21 at 0. */
+/* Checks a table. Accepted: the table's length. Refused: 21 at 0, an old table too, whose records keep no number of
+   readers: umarekoza_convert_table makes a new one of it. */
 struct umarekoza_answer umarekoza_check_table(const uint8_t *table, size_t table_len);
 
 /* Reads a packet by a table, and writes four numbers a field at the start of run: 1 if it is present, its offset and
@@ -98,9 +100,19 @@ struct umarekoza_span umarekoza_field_short(const uint8_t *table, size_t table_l
 /* The number of a table's fields. Accepted: their number, as the length. Refused: 21 at 0. */
 struct umarekoza_answer umarekoza_count_fields(const uint8_t *table, size_t table_len);
 
-/* The kind of a field, by its index from 0. Accepted, as the length: 2 (fixed), 3 (measured) or 4 (rest); those of 3
-   and 4 are long. Refused: 21 at 0 (the table), 30 at 0 (no such field). */
+/* The kind of a field, by its index from 0. Accepted, as the length: 12 (fixed), 13 (measured) or 14 (rest); those of
+   13 and 14 are long. Refused: 21 at 0 (the table), 30 at 0 (no such field). */
 struct umarekoza_answer umarekoza_field_kind(const uint8_t *table, size_t table_len, size_t index);
+
+/* How many places read a field, by its index from 0: the references to it in the expressions of other fields, every
+   one counted. Accepted: their number, as the length. Refused: 21 at 0 (the table), 30 at 0 (no such field). */
+struct umarekoza_answer umarekoza_count_readers(const uint8_t *table, size_t table_len, size_t index);
+
+/* Writes the new table of an old one at the start of out: every byte of its records is kept but for lengths and kinds,
+   and each field's record gets its number of readers. Accepted: the new table's length. Refused: 21 at 0 if the table
+   is not good by the rules for old ones (1 to 64 fields, no `/`, `%` and `^`, records of kinds 2 to 4 without a number,
+   names as in force), 11 at 0 if the new table does not fit. Then out is unchanged. */
+struct umarekoza_answer umarekoza_convert_table(const uint8_t *table, size_t table_len, uint8_t *out, size_t out_len);
 
 /* Reads a packet by a table as umarekoza_read_packet does, with the same answers, as far as it goes: the run gets the
    numbers of the fields before the first refused one, all of them where bits are left over (28) or the packet is

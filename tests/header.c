@@ -21,7 +21,13 @@ static const char tag[] =
     "\n"
     "Kind (K): 1 byte; K == 7.\n";
 
-static const uint8_t tag_table[44] = {
+static const uint8_t tag_table[46] = {
+    0x0D, 0x00, 0x01, 0x00, 0x08, 0x00, 0x01, 0x00, 0x03, 0x00, 0x54, 0x61, 0x67, 0x1D, 0x00, 0x0C,
+    0x00, 0x00, 0x00, 0x04, 0x00, 0x4B, 0x69, 0x6E, 0x64, 0x01, 0x00, 0x4B, 0x08, 0x00, 0x08, 0x00,
+    0x20, 0x02, 0x00, 0x01, 0x07, 0x00, 0x00, 0x00, 0x00, 0x00, 0x04, 0x00, 0x05, 0x00};
+
+/* The Tag table as it was before records kept a number. */
+static const uint8_t old_tag_table[44] = {
     0x0D, 0x00, 0x01, 0x00, 0x08, 0x00, 0x01, 0x00, 0x03, 0x00, 0x54, 0x61, 0x67, 0x1B, 0x00,
     0x02, 0x00, 0x04, 0x00, 0x4B, 0x69, 0x6E, 0x64, 0x01, 0x00, 0x4B, 0x08, 0x00, 0x08, 0x00,
     0x20, 0x02, 0x00, 0x01, 0x07, 0x00, 0x00, 0x00, 0x00, 0x00, 0x04, 0x00, 0x05, 0x00};
@@ -94,9 +100,9 @@ static const char m1_listing[] =
 static const uint32_t m1_numbers[28] = {
     1, 0, 2, 1, 1, 2, 1, 1, 1, 3, 5, 2, 1, 8, 8, 7, 1, 16, 16, 300, 1, 32, 16, 0, 1, 48, 16, 9};
 
-/* The blade report's table, written by the library: its records have 22, 30, 22, 28, 19, 33, 26, 17 and 4 bytes. */
-static uint8_t table[201];
-static const size_t table_len = 201;
+/* The blade report's table, written by the library: its records have 22, 32, 24, 30, 21, 35, 28, 19 and 4 bytes. */
+static uint8_t table[215];
+static const size_t table_len = 215;
 
 static int failed;
 
@@ -144,12 +150,12 @@ static void most(void)
     const size_t run_len = UMAREKOZA_RUN_MOST;
     struct umarekoza_answer note;
     expect(UMAREKOZA_RUN_MOST == 4 * UMAREKOZA_FIELDS_MOST, "four numbers a field");
-    expect(is(umarekoza_write_table(BYTES(tag), bytes, sizeof bytes), 0, 0, 44), "the Tag text to a long output");
-    expect(is(umarekoza_read_packet(tag_table, 44, packet, UMAREKOZA_PACKET_MOST, numbers, run_len), 25, 1, 0),
+    expect(is(umarekoza_write_table(BYTES(tag), bytes, sizeof bytes), 0, 0, 46), "the Tag text to a long output");
+    expect(is(umarekoza_read_packet(tag_table, 46, packet, UMAREKOZA_PACKET_MOST, numbers, run_len), 25, 1, 0),
            "a packet as long as may be");
-    expect(is(umarekoza_read_packet(tag_table, 44, packet, sizeof packet, numbers, run_len), 22, 0, 0),
+    expect(is(umarekoza_read_packet(tag_table, 46, packet, sizeof packet, numbers, run_len), 22, 0, 0),
            "a packet too long");
-    expect(is(umarekoza_list_packet(tag_table, 44, packet, sizeof packet, lines, sizeof lines), 0, 0, 16),
+    expect(is(umarekoza_list_packet(tag_table, 46, packet, sizeof packet, lines, sizeof lines), 0, 0, 16),
            "a packet too long listed");
     note = umarekoza_write_table(BYTES(rest), bytes, sizeof bytes);
     expect(is(umarekoza_list_packet(bytes, note.length, packet, 8191, lines, sizeof lines), 0, 0, sizeof due - 1),
@@ -166,19 +172,20 @@ static void write_table(void)
     expect(is(umarekoza_write_table(NULL, 0, NULL, 0), 3, 1, 0), "no text and no output");
     expect(is(umarekoza_write_table(NULL, 0, out, 64), 3, 1, 0), "no text");
     expect(is(umarekoza_write_table(BYTES(tag), NULL, 0), 11, 0, 0), "no output");
-    expect(is(umarekoza_write_table(BYTES(tag), out, 43), 11, 0, 0), "an output too short");
+    expect(is(umarekoza_write_table(BYTES(tag), out, 45), 11, 0, 0), "an output too short");
     expect(nines(out, 0, 64), "an output after refusals");
-    expect(is(umarekoza_write_table(BYTES(tag), out, 64), 0, 0, 44), "the Tag text");
-    expect(memcmp(out, tag_table, 44) == 0, "the Tag table");
-    expect(nines(out, 44, 64), "what lies beyond the table");
+    expect(is(umarekoza_write_table(BYTES(tag), out, 64), 0, 0, 46), "the Tag text");
+    expect(memcmp(out, tag_table, 46) == 0, "the Tag table");
+    expect(nines(out, 46, 64), "what lies beyond the table");
     expect(is(umarekoza_write_table(BYTES(blade), table, table_len), 0, 0, table_len), "the blade report's text");
 }
 
 static void check_table(void)
 {
     expect(is(umarekoza_check_table(NULL, 0), 21, 0, 0), "no table to check");
-    expect(is(umarekoza_check_table(tag_table, 43), 21, 0, 0), "a part of the Tag table");
-    expect(is(umarekoza_check_table(tag_table, 44), 0, 0, 44), "the Tag table checked");
+    expect(is(umarekoza_check_table(tag_table, 45), 21, 0, 0), "a part of the Tag table");
+    expect(is(umarekoza_check_table(tag_table, 46), 0, 0, 46), "the Tag table checked");
+    expect(is(umarekoza_check_table(old_tag_table, 44), 21, 0, 0), "the old Tag table checked");
     expect(is(umarekoza_check_table(table, table_len), 0, 0, table_len), "the blade report's table checked");
 }
 
@@ -241,26 +248,26 @@ static void find_field(void)
 static void field_label(void)
 {
     expect(lies(umarekoza_field_label(NULL, 0, 0), 0, 0), "a label in no table");
-    expect(lies(umarekoza_field_label(tag_table, 43, 0), 0, 0), "a label in a part of the Tag table");
-    expect(lies(umarekoza_field_label(tag_table, 44, 1), 0, 0), "the label of no field");
-    expect(lies(umarekoza_field_label(tag_table, 44, 0), 19, 4), "the label Kind");
+    expect(lies(umarekoza_field_label(tag_table, 45, 0), 0, 0), "a label in a part of the Tag table");
+    expect(lies(umarekoza_field_label(tag_table, 46, 1), 0, 0), "the label of no field");
+    expect(lies(umarekoza_field_label(tag_table, 46, 0), 21, 4), "the label Kind");
 }
 
 static void field_short(void)
 {
     expect(lies(umarekoza_field_short(NULL, 0, 0), 0, 0), "a short name in no table");
-    expect(lies(umarekoza_field_short(tag_table, 43, 0), 0, 0), "a short name in a part of the Tag table");
-    expect(lies(umarekoza_field_short(tag_table, 44, 1), 0, 0), "the short name of no field");
-    expect(lies(umarekoza_field_short(tag_table, 44, 0), 25, 1), "the short name K");
+    expect(lies(umarekoza_field_short(tag_table, 45, 0), 0, 0), "a short name in a part of the Tag table");
+    expect(lies(umarekoza_field_short(tag_table, 46, 1), 0, 0), "the short name of no field");
+    expect(lies(umarekoza_field_short(tag_table, 46, 0), 27, 1), "the short name K");
     expect(lies(umarekoza_field_short(table, table_len, 3), 0, 0), "Blade has no short name");
-    expect(lies(umarekoza_field_short(table, table_len, 4), 137, 3), "the short name Bor");
+    expect(lies(umarekoza_field_short(table, table_len, 4), 147, 3), "the short name Bor");
 }
 
 static void count_fields(void)
 {
     expect(is(umarekoza_count_fields(NULL, 0), 21, 0, 0), "the fields of no table");
-    expect(is(umarekoza_count_fields(tag_table, 43), 21, 0, 0), "the fields of a part of the Tag table");
-    expect(is(umarekoza_count_fields(tag_table, 44), 0, 0, 1), "the Tag table's field");
+    expect(is(umarekoza_count_fields(tag_table, 45), 21, 0, 0), "the fields of a part of the Tag table");
+    expect(is(umarekoza_count_fields(tag_table, 46), 0, 0, 1), "the Tag table's field");
     expect(is(umarekoza_count_fields(table, table_len), 0, 0, 7), "the blade report's fields");
 }
 
@@ -270,9 +277,39 @@ static void field_kind(void)
     struct umarekoza_answer note = umarekoza_write_table(BYTES(rest), out, sizeof out);
     expect(is(umarekoza_field_kind(NULL, 0, 0), 21, 0, 0), "a kind in no table");
     expect(is(umarekoza_field_kind(table, table_len, 7), 30, 0, 0), "the kind of no field");
-    expect(is(umarekoza_field_kind(table, table_len, 0), 0, 0, 2), "the kind of Version");
-    expect(is(umarekoza_field_kind(table, table_len, 5), 0, 0, 3), "the kind of Readings");
-    expect(note.number == 0 && is(umarekoza_field_kind(out, note.length, 0), 0, 0, 4), "the kind of Text");
+    expect(is(umarekoza_field_kind(table, table_len, 0), 0, 0, 12), "the kind of Version");
+    expect(is(umarekoza_field_kind(table, table_len, 5), 0, 0, 13), "the kind of Readings");
+    expect(note.number == 0 && is(umarekoza_field_kind(out, note.length, 0), 0, 0, 14), "the kind of Text");
+}
+
+static void count_readers(void)
+{
+    static const uint64_t due[7] = {0, 1, 1, 0, 0, 0, 0};
+    size_t index;
+    expect(is(umarekoza_count_readers(NULL, 0, 0), 21, 0, 0), "the readers in no table");
+    expect(is(umarekoza_count_readers(old_tag_table, 44, 0), 21, 0, 0), "the readers in the old Tag table");
+    expect(is(umarekoza_count_readers(tag_table, 45, 9), 21, 0, 0), "the readers in a part of the Tag table");
+    expect(is(umarekoza_count_readers(tag_table, 46, 0), 0, 0, 0), "Kind is read by its own constraint alone");
+    expect(is(umarekoza_count_readers(tag_table, 46, 1), 30, 0, 0), "the readers of no field");
+    expect(is(umarekoza_count_readers(table, table_len, SIZE_MAX), 30, 0, 0), "the readers of the last index");
+    for (index = 0; index < 7; index++)
+        expect(is(umarekoza_count_readers(table, table_len, index), 0, 0, due[index]), "the blade report's readers");
+}
+
+static void convert_table(void)
+{
+    uint8_t out[64];
+    memset(out, 9, sizeof out);
+    expect(is(umarekoza_convert_table(NULL, 0, NULL, 0), 21, 0, 0), "converting nothing");
+    expect(is(umarekoza_convert_table(NULL, 0, out, 64), 21, 0, 0), "converting no table");
+    expect(is(umarekoza_convert_table(old_tag_table, 43, out, 64), 21, 0, 0), "converting a part of a table");
+    expect(is(umarekoza_convert_table(tag_table, 46, out, 64), 21, 0, 0), "converting a new table");
+    expect(is(umarekoza_convert_table(old_tag_table, 44, NULL, 0), 11, 0, 0), "converting to no output");
+    expect(is(umarekoza_convert_table(old_tag_table, 44, out, 45), 11, 0, 0), "converting to a short output");
+    expect(nines(out, 0, 64), "an output after refused conversions");
+    expect(is(umarekoza_convert_table(old_tag_table, 44, out, 64), 0, 0, 46), "the old Tag table converted");
+    expect(memcmp(out, tag_table, 46) == 0, "what the old Tag table becomes");
+    expect(nines(out, 46, 64), "what lies beyond a converted table");
 }
 
 static void read_partly(void)
@@ -312,7 +349,7 @@ static void zero_divisor(void)
     uint8_t out[64], listed[16];
     uint32_t run[4] = {9, 9, 9, 9};
     struct umarekoza_answer tag = umarekoza_write_table(BYTES(third), out, sizeof out);
-    expect(is(tag, 0, 0, 50), "the text of a quotient");
+    expect(is(tag, 0, 0, 52), "the text of a quotient");
     expect(is(umarekoza_read_packet(out, tag.length, zero, 1, run, 4), 29, 1, 0), "a zero divisor");
     expect(reads(umarekoza_read_partly(out, tag.length, zero, 1, run, 4), 29, 1, 0, 0), "a zero divisor, partly");
     expect(run[0] == 9 && run[3] == 9, "the run of a zero divisor");
@@ -340,6 +377,8 @@ int main(void)
     field_short();
     count_fields();
     field_kind();
+    count_readers();
+    convert_table();
     read_partly();
     zero_divisor();
     return failed;

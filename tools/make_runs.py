@@ -6,14 +6,15 @@
 Reads VECTORS/*.tsv (a request, a TAB and its answer to a line).
 Writes crates/runs/data/marked_texts    texts of text_requests.py
        crates/runs/data/texts1 ..       texts at their limits, of text_requests.py, and requests `text` of the vectors
-       crates/runs/data/marked_packets  M1 to M10 of document 01, and steps of request R-7 of document 02
+       crates/runs/data/marked_packets  M1 to M10 of document 01, and cases of requests R-5 and R-7 of document 02
        crates/runs/data/limits1 ..      tables and packets at their limits, of packet_requests.py
        crates/runs/data/tables1 ..      requests `table` of the vectors
+       crates/runs/data/readers1 ..     requests `readers` and `convert` of the vectors
        crates/runs/data/packets1 ..     requests `read`, `part` and `list` of the vectors
        crates/runs/stdout               the answers due to these files, in this order, in which main names them
-No answer comes from a run of the program: those of M1 to M10 are document 01's, those of R-7 document 02's, those at
-the limits follow from how their tables and packets are built, as does a marked text's table, the others are the
-vectors'.
+No answer comes from a run of the program: those of M1 to M10 are document 01's, those of R-5 and R-7 document 02's,
+those at the limits follow from how their tables and packets are built, as does a marked text's table, the others are
+the vectors'.
 """
 import sys
 

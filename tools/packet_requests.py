@@ -1,14 +1,16 @@
-"""The requests of crates/runs on tables and packets, with their answers: M1 to M10 of document 01; quotients,
-remainders and powers; as many fields and bytes as may be, and one more; and those of the vectors. A part is answered by
-its length and its bytes, `part LEN HEX`, where the vectors have `part START LEN`.
+"""The requests of crates/runs on tables and packets, with their answers: M1 to M10 of document 01; tables with wrong
+numbers, and an old one; quotients, remainders and powers; as many fields and bytes as may be, and one more; and those
+of the vectors. A part is answered by its length and its bytes, `part LEN HEX`, where the vectors have `part START LEN`.
 """
 from collections import Counter
 
-from runs import BLADE, TAG, both, fixed, full, full_table, number, rest, spelled, split, stored, table, tcp
+from runs import (
+    BLADE, OLD_TAG, TAG, both, fixed, full, full_table, number, packed, rest, spelled, split, stored, table, tcp,
+)  # fmt: skip
 
-VECTORS = ("tables", "packets", "base2", "large", "r10", "r2", "r7")
-KINDS = {"tables": ("table",), "packets": ("read", "part", "list")}
-SHORT = {"tables": 420, "packets": 500}  # every request of at most so many bytes is taken
+VECTORS = ("base2", "large", "r5", "packets", "r10", "r7")
+KINDS = {"tables": ("table",), "readers": ("readers", "convert"), "packets": ("read", "part", "list")}
+SHORT = {"tables": 420, "readers": 420, "packets": 500}  # every request of at most so many bytes is taken
 SHORT_R10 = 6000  # of r10.tsv of so many
 LEAST = 30  # so many of each kind of request and answer are taken, as far as there are, whatever their length
 
@@ -97,7 +99,22 @@ def marked():
     yield "table " + TAG.hex(), "ok"
     yield "read 4 %s 07" % TAG.hex(), "ok 8 1,0,8,7"
     yield "read 4 %s 08" % TAG.hex(), "refused 25 1"
+    yield from marked_numbers()
     yield from marked_flags()
+
+
+# The blade report's table with another number in the record of each field, and the Tag's table as it was.
+def marked_numbers():
+    at = BLADE[0]
+    for _ in range(BLADE[6]):
+        for number in (BLADE[at + 4] + 1, BLADE[at + 4] ^ 1):
+            wrong = BLADE[: at + 4] + bytes([number]) + BLADE[at + 5 :]
+            yield "table " + wrong.hex(), "refused 21 0"
+        at += BLADE[at]
+    old = bytes.fromhex(OLD_TAG).hex()
+    yield "table " + old, "refused 21 0"
+    yield "read 4 %s 07" % old, "refused 21 0"
+    yield "list %s 07" % old, b"refused 21 at 0\n".hex()
 
 
 # The published TCP header reads SYN and FIN by their labels, which have no short names beside them.
@@ -191,5 +208,5 @@ def chosen(vectors, name):
 def files(vectors):
     files = {"marked_packets": list(marked()), **split("limits", list(limits()))}
     for name in KINDS:
-        files.update(split(name, [(r, due_to(r, a)) for r, a in chosen(vectors, name)]))
+        files.update(packed(name, [(r, due_to(r, a)) for r, a in chosen(vectors, name)]))
     return files

@@ -1,9 +1,9 @@
-"""What packet_requests.py and text_requests.py share: document 01's stored form, the vectors, and files of requests."""
+"""What packet_requests.py and text_requests.py share: the stored form, the vectors, and files of requests."""
 import struct
 
 ROOM = 65536  # no file of requests is longer
 
-# The stored form of document 01, 'The stored table', with the operators of document 02.
+# The stored form of document 01, 'The stored table', with the operators and the field records of document 02.
 CODES = {"+": 0x10, "-": 0x11, "*": 0x12, "/": 0x13, "%": 0x14, "^": 0x15}
 CODES.update({"==": 0x20, "<=": 0x23, ">": 0x24, ">=": 0x25, "||": 0x31})
 
@@ -32,20 +32,41 @@ def record(kind, body):
     return two(4 + len(body)) + two(kind) + body
 
 
+# A field: its kind, its body behind the number, and its expressions.
 def fixed(label, short, bits, constraint=b"", condition=b""):
-    return record(2, sized(label) + sized(short) + two(bits) + sized(constraint) + sized(condition))
+    body = sized(label) + sized(short) + two(bits) + sized(constraint) + sized(condition)
+    return 12, body, (constraint, condition)
 
 
 def measured(label, short, unit, width, condition=b""):
-    return record(3, sized(label) + sized(short) + two(unit) + sized(width) + sized(b"") + sized(condition))
+    body = sized(label) + sized(short) + two(unit) + sized(width) + sized(b"") + sized(condition)
+    return 13, body, (width, condition)
 
 
 def rest(label, short):
-    return record(4, sized(label) + sized(short) + sized(b"") + sized(b""))
+    return 14, sized(label) + sized(short) + sized(b"") + sized(b""), ()
+
+
+# The indexes that an expression reads, each as often as it does.
+def reads(tree):
+    at, found = 0, []
+    while at < len(tree):
+        if tree[at] == 2:
+            found.append(tree[at + 1])
+        at += {1: 5, 2: 2}.get(tree[at], 1)
+    return found
+
+
+# How often other fields read the field of an index.
+def readers(fields, index):
+    others = (trees for i, (_, _, trees) in enumerate(fields) if i != index)
+    return sum(reads(tree).count(index) for trees in others for tree in trees)
 
 
 def table(name, w, *fields):
-    return record(1, two(w) + two(len(fields)) + sized(name)) + b"".join(fields) + record(5, b"")
+    head = record(1, two(w) + two(len(fields)) + sized(name))
+    records = (record(kind, two(readers(fields, i)) + body) for i, (kind, body, _) in enumerate(fields))
+    return head + b"".join(records) + record(5, b"")
 
 
 BLADE = table(
@@ -88,9 +109,11 @@ def tcp(letters):
 
 
 TAG = table(b"Tag", 8, fixed(b"Kind", b"K", 8, both("==", field(0), number(7))))
-TAG_OF_01 = """0D 00 01 00 08 00 01 00 03 00 54 61 67 1B 00 02 00 04 00 4B 69 6E 64 01 00 4B 08 00 08 00
+TAG_OF_02 = """0D 00 01 00 08 00 01 00 03 00 54 61 67 1D 00 0C 00 00 00 04 00 4B 69 6E 64 01 00 4B 08 00 08 00
     20 02 00 01 07 00 00 00 00 00 04 00 05 00"""
-assert TAG == bytes.fromhex(TAG_OF_01)
+OLD_TAG = """0D 00 01 00 08 00 01 00 03 00 54 61 67 1B 00 02 00 04 00 4B 69 6E 64 01 00 4B 08 00 08 00
+    20 02 00 01 07 00 00 00 00 00 04 00 05 00"""
+assert TAG == bytes.fromhex(TAG_OF_02)
 
 
 # The labels and bits of n fields in rows of 32 bits: sixteen to a row, and one alone where one is left.
@@ -127,4 +150,17 @@ def split(name, cases):
             files.append([])
             size = len(case[0]) + 1
         files[-1].append(case)
+    return {"%s%d" % (name, i): file for i, file in enumerate(files, 1)}
+
+
+# The cases, the longest first, each in the first file with room for it.
+def packed(name, cases):
+    files = []
+    for case in sorted(cases, key=lambda case: -len(case[0])):
+        for file in files:
+            if sum(len(request) + 1 for request, _ in file) + len(case[0]) < ROOM:
+                file.append(case)
+                break
+        else:
+            files.append([case])
     return {"%s%d" % (name, i): file for i, file in enumerate(files, 1)}

@@ -2,14 +2,15 @@
 and a QUIC long header, with outputs that are exactly long enough, too short and longer; texts of as many fields as may
 be, and of more; and those of the vectors.
 """
-from runs import BLADE, ROOM, TAG, both, field, fixed, full, full_table, measured, number, spelled, stored, table, tcp
+from runs import BLADE, TAG, both, field, fixed, full, full_table, measured, number, packed, spelled, stored, table, tcp
 
-VECTORS = ("spelled", "edge", "mutated", "base2", "r10", "r2", "r7")
-# So many texts of each group are taken, the shortest, and the longest accepted one: of r2.tsv, of r7.tsv and of the
-# others.
+VECTORS = ("base2", "large", "r5", "spelled", "edge", "mutated", "r10", "r2", "r7")
+# So many texts of each group are taken, the shortest, and the longest accepted one: of r5.tsv, of r2.tsv, of r7.tsv and
+# of the others.
 TAKEN_OF = {
-    "r2": {"ok": 30, "refused 8": 16, "refused 9": 8, "refused 5": 8, "refused 11": 4},
-    "r7": {"ok": 36, "refused 5": 10, "refused 6": 3, "refused 9": 8, "refused 11": 4},
+    "r5": {"ok": 18, "many": 5},
+    "r2": {"refused 8": 16, "refused 9": 8, "refused 5": 8, "refused 11": 4},
+    "r7": {"refused 5": 10, "refused 6": 3, "refused 9": 8, "refused 11": 4},
 }
 TAKEN = {"ok": 64, "many": 5, "refused 1": 8, "refused 4": 12}
 REFUSED = 12  # of every other group
@@ -164,18 +165,5 @@ def chosen(vectors):
     yield groups["", "ok"][-1]
 
 
-# The cases, the longest first, each in the first file with room for it.
-def packed(cases):
-    files = []
-    for case in sorted(cases, key=lambda case: -len(case[0])):
-        for file in files:
-            if sum(len(request) + 1 for request, _ in file) + len(case[0]) < ROOM:
-                file.append(case)
-                break
-        else:
-            files.append([case])
-    return {"texts%d" % i: file for i, file in enumerate(files, 1)}
-
-
 def files(vectors):
-    return {"marked_texts": list(marked()), **packed([*limits(), *chosen(vectors)])}
+    return {"marked_texts": list(marked()), **packed("texts", [*limits(), *chosen(vectors)])}

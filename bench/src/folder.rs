@@ -183,6 +183,18 @@ mod tests {
         }
     }
 
+    /// A good table with 0 in the place of each number of readers.
+    fn unnumbered(table: &[u8]) -> Vec<u8> {
+        let mut table = table.to_vec();
+        let two = |table: &[u8], at: usize| usize::from(u16::from_le_bytes([table[at], table[at + 1]]));
+        let mut at = two(&table, 0);
+        while two(&table, at + 2) != 5 {
+            table[at + 4..at + 6].fill(0);
+            at += two(&table, at);
+        }
+        table
+    }
+
     #[test]
     fn twins_differ_in_the_names_that_are_read() {
         let all = folder(WHOLE, Reads::All);
@@ -192,7 +204,8 @@ mod tests {
             for (case, twin) in all.iter().zip(&twins) {
                 assert_eq!(table_of(&twin.page).as_ref(), Ok(&twin.table));
                 assert_eq!(case.table.len(), twin.table.len());
-                let bytes = case.table.iter().zip(&twin.table);
+                let (stored, other) = (unnumbered(&case.table), unnumbered(&twin.table));
+                let bytes = stored.iter().zip(&other);
                 let changed: Vec<_> = bytes.filter(|(byte, other)| byte != other).collect();
                 assert!(changed.iter().all(|(byte, other)| other < byte && **other <= last));
                 assert!(changed.len() > WHOLE.fields * WHOLE.names / 2);

@@ -3,6 +3,8 @@
 #[cfg(before)]
 use crate::before;
 
+use umarekoza::TABLE_MOST;
+
 /// The number that goes with an acceptance.
 type Accepted = Option<u64>;
 
@@ -11,6 +13,16 @@ pub struct Library {
     pub read_packet: fn(&[u8], &[u8], &mut [u32]) -> Accepted,
     pub write_table: fn(&[u8], &mut [u8]) -> Accepted,
     pub find_field: fn(&[u8], &[u8]) -> Accepted,
+}
+
+impl Library {
+    /// The table of a page as this library stores it.
+    pub fn table(&self, page: &[u8]) -> Vec<u8> {
+        let mut out = vec![0; TABLE_MOST];
+        let length = (self.write_table)(page, &mut out).expect("a page of the bench is right");
+        out.truncate(length as usize);
+        out
+    }
 }
 
 pub static NOW: Library = Library {

@@ -89,15 +89,22 @@ fn libraries() -> impl Iterator<Item = &'static Library> {
 
 /// The names of some tables, asked for in turns, so that the processor learns no table by heart.
 fn find_times(cases: &[Case], rounds: usize) -> Times {
-    let tables = || cases.iter().map(|case| case.table.as_slice());
-    let fields = (0..WHOLE.fields).flat_map(|field| tables().map(move |table| (table, field)));
-    let asked = fields.flat_map(|(table, field)| {
-        let names = [field_label(table, field), field_short(table, field)].into_iter().flatten();
+    let stored = |library: &Library| cases.iter().map(|case| library.table(&case.page)).collect();
+    let tables: Vec<Vec<Vec<u8>>> = libraries().map(stored).collect();
+    let asked: Vec<Vec<Asked>> = tables.iter().map(|tables| asked(cases, tables)).collect();
+    let calls = libraries().zip(&asked).map(|(library, asked)| find_all(library, asked));
+    let mut calls: Vec<Call> = calls.collect();
+    times(&mut calls, rounds).per(|call| asked[call].len())
+}
+
+/// Each name of each field, asked for in a library's own table of the case.
+fn asked<'a>(cases: &'a [Case], tables: &'a [Vec<u8>]) -> Vec<Asked<'a>> {
+    let fields = (0..WHOLE.fields).flat_map(|field| cases.iter().zip(tables).map(move |pair| (pair, field)));
+    let asked = fields.flat_map(|((case, table), field)| {
+        let names = [field_label(&case.table, field), field_short(&case.table, field)].into_iter().flatten();
         names.map(move |name| Asked { table, name, index: field as u64 })
     });
-    let asked: Vec<Asked> = asked.collect();
-    let mut calls: Vec<Call> = libraries().map(|library| find_all(library, &asked)).collect();
-    times(&mut calls, rounds).per(|_| asked.len())
+    asked.collect()
 }
 
 /// What the commands take that are made with the libraries. UMAREKOZA_COMMAND and UMAREKOZA_COMMAND_BEFORE

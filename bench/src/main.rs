@@ -14,7 +14,7 @@ mod reader;
 mod rounds;
 mod tables;
 
-use calls::{check, model_check, model_read, model_write, plain, read, write};
+use calls::{check, count, model_check, model_count, model_read, model_write, plain, read, write};
 use cases::Case;
 use libraries::{Library, BEFORE, NOW};
 use rounds::{times, Call};
@@ -42,7 +42,7 @@ fn main() {
     lookups::print(rounds);
 }
 
-/// The library twice, and the other one, by what both accept.
+/// The library twice, and the other one, by what both accept, each by tables in its own form.
 fn against(before: &Library, rounds: usize) {
     let cases =
         [Case::blade(), Case::constrained(16, 4096), Case::constrained(64, TEXT_MOST), Case::long(2048)];
@@ -72,6 +72,9 @@ fn ratios(rounds: usize) {
     for case in [&blade, &half, &fields] {
         let mut calls = [check(&NOW, case), check(&NOW, case), model_check(case)];
         ratio_row("check_table", case, &mut calls, rounds);
+    }
+    for case in [&blade, &half, &fields] {
+        ratio_row("count_readers", case, &mut [count(case), count(case), model_count(case)], rounds);
     }
     for case in [&blade, &half, &fields, &long] {
         let (plain, constrained) = (plain(case, false), plain(case, true));

@@ -2,7 +2,7 @@
 #include <stddef.h>
 #include <stdint.h>
 
-enum { FIXED = 2, MEASURED = 3, REST = 4 };
+enum { FIXED = 12, MEASURED = 13, REST = 14 };
 
 static uint32_t two(const uint8_t *at)
 {
@@ -77,7 +77,7 @@ static uint32_t bits(const uint8_t *packet, uint32_t place, uint32_t width)
 /* The place of the width in a field's record. */
 static const uint8_t *width_part(const uint8_t *record)
 {
-    return behind(behind(record + 4));
+    return behind(behind(record + 6));
 }
 
 /* The fixed widths of some records. */

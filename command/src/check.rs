@@ -41,8 +41,7 @@ pub fn run(inputs: &[Input], deep: bool, sort: Sort, json: bool) -> Result<Statu
 pub fn tell(source: &Source, json: bool) -> Result<Status, Failure> {
     let (file, kind, table) = (&source.input, source.kind(), source.table());
     if json {
-        let name = file.name().to_string_lossy();
-        outputs::print_line(&json::source(&name, kind, &table).to_string())?;
+        outputs::print_line(&json::source(source, &table).to_string())?;
     } else if let Err(refusal) = table {
         outputs::print_line(&format!("{file}: {kind} {refusal}"))?;
         explain::source(source, refusal);

@@ -26,7 +26,17 @@ pub fn command() -> Command {
         .about("Reads packets by pages that describe them")
         .after_help(NOTES.join("\n"))
         .subcommand_required(true)
-        .subcommands([table(), read(), bytes(), check(), explain(), man(), completions_verb()])
+        .subcommands([
+            table(),
+            read(),
+            bytes(),
+            check(),
+            readers(),
+            convert(),
+            explain(),
+            man(),
+            completions_verb(),
+        ])
 }
 
 /// What a shell reads to complete the command's words.
@@ -53,11 +63,31 @@ fn words_to_complete(line: &str) -> String {
 }
 
 fn table() -> Command {
-    let output = Arg::new("output").short('o').long("output").value_name("TABLE").required(true);
     Command::new("table")
         .about("Write the table of a page")
         .arg(file("page", "PAGE", "The page"))
-        .arg(path(output).help("The file of the table; `-` is standard output, unless that is a terminal"))
+        .arg(output())
+}
+
+fn convert() -> Command {
+    Command::new("convert")
+        .about("Write the new table of an old one, which does not keep how often a field is read")
+        .arg(file("old", "OLD", "The old table"))
+        .arg(output())
+}
+
+fn output() -> Arg {
+    let output = Arg::new("output").short('o').long("output").value_name("TABLE").required(true);
+    path(output).help("The file of the table; `-` is standard output, unless that is a terminal")
+}
+
+fn readers() -> Command {
+    let field = Arg::new("field").value_name("FIELD").value_parser(OsStringValueParser::new());
+    Command::new("readers")
+        .about("Say how many places read each field: references in the expressions of other fields")
+        .arg(file("source", "SOURCE", "The page or table"))
+        .arg(field.help("Print the number of that field alone"))
+        .args(sorts())
 }
 
 fn read() -> Command {

@@ -12,12 +12,40 @@ use std::ffi::OsStr;
 use umarekoza::{Field, Refusal};
 use umarekoza_hints::{packet_hint, page_hint, Hint, Verdict};
 
+/// What is said of a table that is good no longer, and how to mend it.
+pub const OLD: &str = "this is an old table: its records do not keep how often a field is read";
+const CONVERT: &str = "`umarekoza convert OLD -o TABLE` makes a new one of it";
+
 /// Explains the refusal of a page or of a table.
 pub fn source(source: &Source, refusal: Refusal) {
-    draw(&match source.is_page() {
-        true => page(&source.input.to_string(), &source.bytes, refusal),
-        false => meaning(source.input.to_string(), refusal, source.doubt().into_iter().collect()),
+    let place = source.input.to_string();
+    draw(&match () {
+        () if source.is_page() => page(&place, &source.bytes, refusal),
+        () if source.is_old() => bare(place, refusal, OLD, vec![CONVERT.to_string()]),
+        () => meaning(place, refusal, source.doubt().into_iter().collect()),
     });
+}
+
+/// Explains why a table is not converted.
+pub fn conversion(source: &Source, refusal: Refusal) {
+    let why = match () {
+        () if source.bytes.first() == Some(&b'A') => {
+            "it begins as a page does: `umarekoza table PAGE -o TABLE` writes the table of a page"
+        }
+        () if source.table().is_ok() => "it is a good table as it is: there is nothing to convert",
+        () => {
+            "an old table has records of kinds 2 to 4, at most 64 fields, and neither `/` nor `%` nor `^`; what is \
+             not good is written again from its page with `umarekoza table PAGE -o TABLE`"
+        }
+    };
+    let place = source.input.to_string();
+    draw(&bare(place, refusal, "this is not a good old table", vec![why.to_string()]));
+}
+
+/// What is said of a whole file.
+fn bare(place: String, refusal: Refusal, message: &str, notes: Vec<String>) -> Told {
+    let (number, message) = (refusal.number, message.to_string());
+    Told { number, message, place, mark: None, notes, below: Vec::new() }
 }
 
 /// What is said of a refused page: the hint, whose column is 0 where it has no more than the number's meaning.
@@ -74,10 +102,9 @@ pub fn no_bytes(name: &Name<'_>, described: &Described, field: &Field) {
 
 /// What a number means, with these notes and how to mend it.
 fn meaning(place: String, refusal: Refusal, mut notes: Vec<String>) -> Told {
-    let number = refusal.number;
     let message = refusal.meaning().map_or(refusal.to_string(), |meaning| meaning.what.to_string());
     notes.extend(refusal.meaning().map(|meaning| meaning.mend.to_string()));
-    Told { number, message, place, mark: None, notes, below: Vec::new() }
+    bare(place, refusal, &message, notes)
 }
 
 fn verdict(refusal: Refusal) -> Verdict {

@@ -1,8 +1,9 @@
 //! Answers as objects of JSON.
 
-use crate::explain::field_of;
+use crate::explain::{field_of, OLD};
 use crate::fields::{reading, whole_bytes, Described};
 use crate::hex::written;
+use crate::sources::Source;
 use serde_json::{json, Map, Value};
 use umarekoza::{Field, Kind, Refusal};
 
@@ -54,13 +55,17 @@ fn kind(kind: Kind) -> &'static str {
     }
 }
 
-/// A page or table, accepted with the length of its table, or refused.
-pub fn source(name: &str, kind: &str, table: &Result<Vec<u8>, Refusal>) -> Value {
+/// A page or table, accepted with the length of its table, or refused; of an old table it is said that it is one.
+pub fn source(source: &Source, table: &Result<Vec<u8>, Refusal>) -> Value {
+    let name = source.input.name().to_string_lossy();
     let mut object = match table {
         Ok(table) => object(json!({ "name": name, "result": "accepted", "bytes": table.len() })),
-        Err(refusal) => refused(name, *refusal),
+        Err(refusal) => refused(&name, *refusal),
     };
-    object.insert("kind".to_string(), json!(kind));
+    if table.is_err() && source.is_old() {
+        object.insert("meaning".to_string(), json!(OLD));
+    }
+    object.insert("kind".to_string(), json!(source.kind()));
     Value::Object(object)
 }
 

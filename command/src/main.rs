@@ -3,14 +3,15 @@
 //!
 //! `cli` has the verbs and options, and `requests` reads a command line by them. `inputs` reads files, `folders`
 //! what is in folders, `sources` pages and tables, `packets` packets, `hex` and `dump` those that are written in
-//! hexadecimal. `table`, `read`, `bytes`, `check`, `watch` and `numbers` are the verbs, `man` and clap_complete make
-//! the man page and the completions. `explain` says what a refusal means, `draw` draws that, `json` says answers for
-//! programs, `fields` finds fields, `names` shows names. `outputs` and `replace` write results, with `progress` beside
-//! them.
+//! hexadecimal. `table`, `read`, `bytes`, `check`, `watch`, `readers`, `convert` and `numbers` are the verbs, `man` and
+//! clap_complete make the man page and the completions. `explain` says what a refusal means, `draw` draws that, `json`
+//! says answers for programs, `fields` finds fields, `names` shows names. `outputs` and `replace` write results, with
+//! `progress` beside them.
 
 mod bytes;
 mod check;
 mod cli;
+mod convert;
 mod draw;
 mod dump;
 mod explain;
@@ -26,6 +27,7 @@ mod outputs;
 mod packets;
 mod progress;
 mod read;
+mod readers;
 mod replace;
 mod requests;
 mod sources;
@@ -73,6 +75,8 @@ fn run() -> Result<Status, Failure> {
     match requests::request(env::args_os())? {
         Request::Print(text) => outputs::print(text.as_bytes()),
         Request::Table { page, table } => table::run(&page, table.as_deref()),
+        Request::Convert { old, table } => convert::run(&old, table.as_deref()),
+        Request::Readers { source, field } => readers::run(&source, field.as_deref()),
         Request::Read { source, packets, form } => read::run(&source, &packets, &form),
         Request::Bytes { source, packets, field, as_hex } => bytes::run(&source, &packets, &field, as_hex),
         Request::Check { files, deep, sort, json } => check::run(&files, deep, sort, json),

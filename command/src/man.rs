@@ -27,11 +27,13 @@ pub fn page() -> String {
 /// What clap adds to the verbs.
 const OTHERS: [&str; 2] = ["umarekoza help [VERB]", "umarekoza --version"];
 
-const EXAMPLES: [&str; 4] = [
+const EXAMPLES: [&str; 6] = [
     "umarekoza check page.txt",
     "umarekoza read --hex page.txt packet.hex",
     "umarekoza read --json --lines page.txt packets.txt",
     "umarekoza bytes page.txt packet.bin Readings",
+    "umarekoza readers page.txt Cells",
+    "umarekoza convert old.table -o new.table",
 ];
 
 /// A verb with its arguments and options.

@@ -34,8 +34,7 @@ pub fn run(source: &SourceName, packets: &Packets, form: &Form) -> Result<Status
 /// Prints and explains the refusal of a page or a table.
 fn refuse_source(source: &Source, refusal: Refusal, form: &Form) -> Result<Status, Failure> {
     if matches!(form, Form::Json) {
-        let name = source.input.name().to_string_lossy();
-        outputs::print_line(&json::source(&name, source.kind(), &Err(refusal)).to_string())?;
+        outputs::print_line(&json::source(source, &Err(refusal)).to_string())?;
     } else {
         outputs::print_line(&refusal.to_string())?;
         explain::source(source, refusal);

@@ -18,6 +18,14 @@ pub enum Request {
         page: Input,
         table: Option<PathBuf>,
     },
+    Convert {
+        old: Input,
+        table: Option<PathBuf>,
+    },
+    Readers {
+        source: SourceName,
+        field: Option<OsString>,
+    },
     Read {
         source: SourceName,
         packets: Packets,
@@ -72,10 +80,9 @@ pub fn request(words: impl Iterator<Item = OsString>) -> Result<Request, Failure
 
 fn request_of(verb: &str, matches: &ArgMatches) -> Request {
     match verb {
-        "table" => Request::Table {
-            page: input(matches, "page"),
-            table: matches.get_one::<PathBuf>("output").filter(|path| path.as_os_str() != "-").cloned(),
-        },
+        "table" => Request::Table { page: input(matches, "page"), table: output(matches) },
+        "convert" => Request::Convert { old: input(matches, "old"), table: output(matches) },
+        "readers" => Request::Readers { source: source(matches), field: matches.get_one("field").cloned() },
         "read" => Request::Read { source: source(matches), packets: packets(matches), form: form(matches) },
         "bytes" => Request::Bytes {
             source: source(matches),
@@ -100,6 +107,11 @@ fn request_of(verb: &str, matches: &ArgMatches) -> Request {
         "man" => Request::Man,
         _ => Request::Completions(*matches.get_one("shell").expect("clap asks for a shell")),
     }
+}
+
+/// The file of a table; none for standard output.
+fn output(matches: &ArgMatches) -> Option<PathBuf> {
+    matches.get_one::<PathBuf>("output").filter(|path| path.as_os_str() != "-").cloned()
 }
 
 fn source(matches: &ArgMatches) -> SourceName {

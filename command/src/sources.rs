@@ -59,6 +59,11 @@ impl Source {
         umarekoza::check_table(&self.bytes).map(|()| self.bytes.clone())
     }
 
+    /// Whether it is a table that is good no longer and can be converted.
+    pub fn is_old(&self) -> bool {
+        !self.is_page() && umarekoza::converted(&self.bytes).is_ok()
+    }
+
     /// Why it was taken for a table, where its first byte alone said so.
     pub fn doubt(&self) -> Option<String> {
         if self.sort != Sort::ByFirstByte || self.is_page() {

@@ -8,6 +8,7 @@ use std::fs::{self, Metadata};
 use std::io::{self, IsTerminal};
 use std::os::unix::fs::MetadataExt;
 use std::path::Path;
+use umarekoza::Refusal;
 
 pub fn run(page: &Input, table: Option<&Path>) -> Result<Status, Failure> {
     let source = SourceName { input: page.clone(), sort: Sort::Page }.read()?;
@@ -15,12 +16,26 @@ pub fn run(page: &Input, table: Option<&Path>) -> Result<Status, Failure> {
         let message = format!("{page}: the table would take the place of its page; choose another name");
         return Err(Failure::Said(message));
     }
+    not_to_a_terminal(table)?;
+    deliver(umarekoza::table_of(&source.bytes), table, |refusal| explain::source(&source, refusal))
+}
+
+/// Fails where a table would go to standard output and that is a terminal.
+pub fn not_to_a_terminal(table: Option<&Path>) -> Result<(), Failure> {
     if table.is_none() && io::stdout().is_terminal() {
-        return Err(Failure::Said(
-            "a table is not written to a terminal: `-o FILE` writes a file".to_string(),
-        ));
+        let message = "a table is not written to a terminal: `-o FILE` writes a file";
+        return Err(Failure::Said(message.to_string()));
     }
-    match (umarekoza::table_of(&source.bytes), table) {
+    Ok(())
+}
+
+/// Writes a table to its file or to standard output; or tells its refusal, and explains it.
+pub fn deliver(
+    written: Result<Vec<u8>, Refusal>,
+    table: Option<&Path>,
+    explain: impl FnOnce(Refusal),
+) -> Result<Status, Failure> {
+    match (written, table) {
         (Ok(bytes), Some(table)) => replace(table, &bytes).map(|()| Status::Accepted),
         (Ok(bytes), None) => outputs::print(&bytes),
         (Err(refusal), table) => {
@@ -29,7 +44,7 @@ pub fn run(page: &Input, table: Option<&Path>) -> Result<Status, Failure> {
             } else {
                 outputs::complain(&refusal.to_string());
             }
-            explain::source(&source, refusal);
+            explain(refusal);
             Ok(Status::Refused)
         }
     }

@@ -38,7 +38,7 @@ fn wrong_arguments() {
 #[test]
 fn did_you_mean() {
     let place = Place::new("mean");
-    place.run(&["reed", "page", "m1"]).failed(&["Did you mean 'read'?"]);
+    place.run(&["chek", "page"]).failed(&["Did you mean 'check'?"]);
     place.run(&["read", "--hexx", "page", "m1"]).failed(&["Did you mean '--hex'?"]);
     place.run(&["read", "page", "m1", "--field", "Borower"]).left(
         1,

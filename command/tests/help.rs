@@ -4,7 +4,8 @@ mod common;
 
 use common::*;
 
-const VERBS: [&str; 7] = ["table", "read", "bytes", "check", "explain", "man", "completions"];
+const VERBS: [&str; 9] =
+    ["table", "read", "bytes", "check", "readers", "convert", "explain", "man", "completions"];
 const OPTIONS: [&str; 9] =
     ["output", "hex", "lines", "json", "field", "page", "table", "to-hex", "recursive"];
 
@@ -80,7 +81,9 @@ fn bash_completes() {
              _umarekoza umarekoza \"${{COMP_WORDS[{count}]}}\"; echo \"${{COMPREPLY[@]}}\""
         ))
     };
-    complete("umarekoza re", 1).accepted("read\n");
+    complete("umarekoza re", 1).accepted("read readers\n");
+    complete("umarekoza co", 1).accepted("convert completions\n");
+    complete("umarekoza convert ''", 2).accepted("-o -h --output --help\n");
     complete("umarekoza read --j", 2).accepted("--json\n");
     complete("umarekoza check --r", 2).accepted("--recursive\n");
     complete("umarekoza bytes ''", 2).accepted("-h --hex --page --table --to-hex --help\n");

@@ -248,6 +248,10 @@ fn documented_packets() {
     documented(&place.run(&["read", "my-page.txt", "m1", "--field", "Borower"]));
     place.put("my-table", "no table");
     documented(&place.run(&["read", "--table", "my-table", "m1"]));
+    place.put("my-old-table", OLD_TAG_TABLE);
+    documented(&place.run(&["check", "my-old-table"]));
+    place.put("my-table", TAG_TABLE);
+    documented(&place.run(&["convert", "my-table", "-o", "my-table"]));
 }
 
 /// What was said stands in docs/PAGES.md.

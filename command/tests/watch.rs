@@ -83,7 +83,7 @@ fn a_changed_page_is_checked_again() {
 fn a_page_that_goes_and_comes_back() {
     let place = Place::new("watch-gone");
     let watched = Watched::new(&place, &["check", "--watch", "--json", "page"]);
-    let accepted = "{\"bytes\":201,\"kind\":\"page\",\"name\":\"page\",\"result\":\"accepted\"}";
+    let accepted = "{\"bytes\":215,\"kind\":\"page\",\"name\":\"page\",\"result\":\"accepted\"}";
     watched.prints(accepted);
     fs::remove_file(place.folder.join("page")).unwrap();
     watched.says(&["umarekoza: page: there is no such file or folder"]);

@@ -137,6 +137,26 @@ impl Calls {
         self.counted(same(answer, due_answer).and(kept(&[&table])), format_args!("field_kind {index}"))
     }
 
+    /// The length is the number of references.
+    pub fn count_readers(&mut self, table: &[u8], index: usize, due: &Settled<usize>) -> Result<(), Wrong> {
+        let mut table = self.lent(table);
+        let due_answer = self.due(due, |count| *count as u64);
+        // SAFETY: what is lent is valid for its length.
+        let answer = unsafe { (self.exports.count_readers)(table.start(), table.len(), index) };
+        self.counted(same(answer, due_answer).and(kept(&[&table])), format_args!("count_readers {index}"))
+    }
+
+    /// The length is the new table's.
+    pub fn convert_table(&mut self, table: &[u8], room: usize, due: &Settled<Vec<u8>>) -> Result<(), Wrong> {
+        let (mut table, mut out) = (self.lent(table), self.room(room));
+        let due_answer = self.due(due, |table| table.len() as u64);
+        let call = self.exports.convert_table;
+        // SAFETY: what is lent is valid for its length.
+        let answer = unsafe { call(table.start(), table.len(), out.start(), out.len()) };
+        let found = same(answer, due_answer).and(wrote(&out, due.as_deref())).and(kept(&[&table]));
+        self.counted(found, format_args!("convert_table to {room}"))
+    }
+
     /// The length is the bit total, the count that of the fields in the run.
     pub fn read_partly(
         &mut self,

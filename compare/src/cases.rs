@@ -1,13 +1,14 @@
-//! Cases: a text, or a table with a packet.
+//! Cases: a text, a table with a packet, or a table for the converter.
 
 use std::fmt;
 use umarekoza::PACKET_MOST;
-use umarekoza_model::generate::{packet, table, tail, text, Rng};
+use umarekoza_model::generate::{old_table, packet, table, tail, text, Rng};
 use umarekoza_model::protocol::to_hex;
 
 pub enum Case {
     Text(Vec<u8>),
     Packet { table: Vec<u8>, packet: Vec<u8> },
+    Old(Vec<u8>),
 }
 
 impl Case {
@@ -16,6 +17,10 @@ impl Case {
         if rng.one_in(3) {
             let text = if rng.one_in(50) { noise(rng) } else { text(rng) };
             return Case::Text(text);
+        }
+        if rng.one_in(6) {
+            let table = if rng.one_in(50) { noise(rng) } else { old_table(rng) };
+            return Case::Old(table);
         }
         if rng.one_in(250) {
             let (table, packet) = tail(rng);
@@ -32,6 +37,7 @@ impl fmt::Display for Case {
         match self {
             Case::Text(text) => write!(to, "text {}", to_hex(text)),
             Case::Packet { table, packet } => write!(to, "table {} packet {}", to_hex(table), to_hex(packet)),
+            Case::Old(table) => write!(to, "old table {}", to_hex(table)),
         }
     }
 }
@@ -54,22 +60,27 @@ mod tests {
     use std::ops::RangeInclusive;
     use umarekoza::RUN_MOST;
     use umarekoza_model::generate::Rng;
-    use umarekoza_model::{check_table, count_fields, read_packet, write_table, Refusal};
+    use umarekoza_model::{check_table, convert_table, count_fields, read_packet, write_table, Refusal};
 
-    /// A text or a table with its number of fields, or a packet with its number of bytes, and whether it is accepted.
-    /// Of texts refused for their number of fields it is 129.
+    /// A text or a table, an old one too, with its number of fields, or a packet with its number of bytes, and whether
+    /// it is accepted. Of texts refused for their number of fields it is 129.
     type Seen = (&'static str, usize, bool);
+
+    /// The number of fields that a table's head has.
+    fn stated(table: &[u8]) -> usize {
+        table.get(6..8).map_or(0, |two| usize::from(u16::from_le_bytes([two[0], two[1]])))
+    }
 
     fn seen(case: &Case) -> Vec<Seen> {
         match case {
+            Case::Old(table) => vec![("old", stated(table), convert_table(table, usize::MAX).is_ok())],
             Case::Text(text) => match write_table(text, usize::MAX) {
                 Ok(table) => vec![("text", count_fields(&table).unwrap(), true)],
                 Err(Refusal { number: 4, .. }) => vec![("text", 129, false)],
                 Err(_) => vec![],
             },
             Case::Packet { table, packet } => {
-                let stated = table.get(6..8).map_or(0, |two| u16::from_le_bytes([two[0], two[1]]));
-                let mut seen = vec![("table", usize::from(stated), check_table(table).is_ok())];
+                let mut seen = vec![("table", stated(table), check_table(table).is_ok())];
                 match read_packet(table, packet, RUN_MOST) {
                     Ok(_) => seen.push(("packet", packet.len(), true)),
                     Err(Refusal { number: 22, .. }) => seen.push(("packet", packet.len(), false)),
@@ -85,11 +96,13 @@ mod tests {
     }
 
     /// What is at the limits of fields and packets, 128 and 8,191, and at those of document 01, 64 and 2,048.
-    const FAR: [(&str, RangeInclusive<usize>, bool); 7] = [
+    const FAR: [(&str, RangeInclusive<usize>, bool); 9] = [
         ("text", 65..=128, true),
         ("text", 129..=129, false),
         ("table", 65..=128, true),
         ("table", 129..=258, false),
+        ("old", 2..=64, true),
+        ("old", 65..=128, false),
         ("packet", 2_047..=2_049, true),
         ("packet", 8_190..=8_191, true),
         ("packet", 8_192..=16_384, false),
@@ -118,7 +131,9 @@ mod tests {
         for bytes in [2_047, 2_048, 2_049, 8_190, 8_191] {
             accepted("packet", bytes);
         }
-        let refused = [("table", 129), ("table", 130), ("table", 256), ("table", 257), ("packet", 8_192)];
+        accepted("old", 64);
+        let refused =
+            [("table", 129), ("table", 130), ("table", 256), ("table", 257), ("packet", 8_192), ("old", 65)];
         for (what, number) in refused {
             assert!(seen.contains(&(what, number, false)), "no refused {what} of {number}");
         }

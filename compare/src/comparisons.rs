@@ -17,7 +17,12 @@ pub fn compare(calls: &mut Calls, case: &Case) -> Result<(), Wrong> {
         Case::Packet { table, packet } => {
             compare_table(calls, table)?;
             compare_reading(calls, table, packet)?;
-            compare_listing(calls, table, packet)
+            compare_listing(calls, table, packet)?;
+            compare_conversion(calls, table)
+        }
+        Case::Old(table) => {
+            compare_table(calls, table)?;
+            compare_conversion(calls, table)
         }
     }
 }
@@ -40,12 +45,32 @@ fn compare_table(calls: &mut Calls, table: &[u8]) -> Result<(), Wrong> {
         calls.field_label(table, index, (start, length))?;
         calls.field_short(table, index, (short_start, short_length))?;
         calls.field_kind(table, index, &model::field_kind(table, index))?;
+        calls.count_readers(table, index, &model::count_readers(table, index))?;
         let name = name_like(&mut calls.rng, table, &table[start..start + length]);
         for name in [&name[..], &table[short_start..short_start + short_length]] {
             calls.find_field(table, name, &model::find_field(table, name))?;
         }
     }
+    compare_readers(calls, table)
+}
+
+/// The last field and the one beyond it.
+fn compare_readers(calls: &mut Calls, table: &[u8]) -> Result<(), Wrong> {
+    let fields = model::count_fields(table).unwrap_or(0);
+    for index in [fields.saturating_sub(1), fields] {
+        calls.count_readers(table, index, &model::count_readers(table, index))?;
+    }
     Ok(())
+}
+
+/// A table that is converted is compared once more as it then is.
+fn compare_conversion(calls: &mut Calls, table: &[u8]) -> Result<(), Wrong> {
+    let fits = model::convert_table(table, usize::MAX);
+    let needed = fits.as_ref().map_or(calls.rng.below(100), Vec::len);
+    for room in rooms(&mut calls.rng, needed, TABLE_MOST) {
+        calls.convert_table(table, room, if fits.is_ok() && room < needed { &TOO_SHORT } else { &fits })?;
+    }
+    fits.map_or(Ok(()), |converted| compare_table(calls, &converted))
 }
 
 fn compare_reading(calls: &mut Calls, table: &[u8], packet: &[u8]) -> Result<(), Wrong> {

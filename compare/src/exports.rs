@@ -53,6 +53,8 @@ pub struct Exports {
     pub field_short: Name,
     pub count_fields: Check,
     pub field_kind: Kind,
+    pub count_readers: Kind,
+    pub convert_table: Write,
     pub read_partly: ReadPartly,
 }
 
@@ -68,6 +70,8 @@ pub const LIBRARY: Exports = Exports {
     field_short: umarekoza_field_short,
     count_fields: umarekoza_count_fields,
     field_kind: umarekoza_field_kind,
+    count_readers: umarekoza_count_readers,
+    convert_table: umarekoza_convert_table,
     read_partly: umarekoza_read_partly,
 };
 
@@ -86,6 +90,8 @@ extern "C" {
     fn umarekoza_field_short(table: *const u8, table_len: usize, index: usize) -> Span;
     fn umarekoza_count_fields(table: *const u8, table_len: usize) -> Answer;
     fn umarekoza_field_kind(table: *const u8, table_len: usize, index: usize) -> Answer;
+    fn umarekoza_count_readers(table: *const u8, table_len: usize, index: usize) -> Answer;
+    fn umarekoza_convert_table(table: *const u8, table_len: usize, out: *mut u8, out_len: usize) -> Answer;
     fn umarekoza_read_partly(table: *const u8, table_len: usize, packet: *const u8, packet_len: usize,
                              run: *mut u32, run_len: usize) -> Partial;
 }

@@ -10,14 +10,15 @@ use umarekoza_model::protocol::from_hex;
 use umarekoza_model::{Reading, Refusal};
 
 /// The files of stored cases.
-pub const FILES: [&str; 10] = [
+pub const FILES: [&str; 11] = [
+    "base2.tsv",
+    "large.tsv",
+    "r5.tsv",
+    "tables.tsv",
+    "packets.tsv",
     "spelled.tsv",
     "edge.tsv",
     "mutated.tsv",
-    "tables.tsv",
-    "packets.tsv",
-    "base2.tsv",
-    "large.tsv",
     "r10.tsv",
     "r2.tsv",
     "r7.tsv",
@@ -49,7 +50,10 @@ fn compare_line(calls: &mut Calls, line: &str) -> Result<(), Wrong> {
 fn case(words: &[&str]) -> Option<Case> {
     Some(match *words {
         ["text", _, text] => Case::Text(from_hex(text)?),
-        ["table", table] => Case::Packet { table: from_hex(table)?, packet: Vec::new() },
+        ["table", table] | ["readers", _, table] => {
+            Case::Packet { table: from_hex(table)?, packet: Vec::new() }
+        }
+        ["convert", _, table] => Case::Old(from_hex(table)?),
         ["read", _, table, packet] | ["part", _, table, packet] | ["list", table, packet] => {
             Case::Packet { table: from_hex(table)?, packet: from_hex(packet)? }
         }
@@ -80,6 +84,13 @@ fn compare_stored(calls: &mut Calls, words: &[&str], answer: &str) -> Option<Res
         ["list", table, packet] => {
             let (table, packet) = (from_hex(table)?, from_hex(packet)?);
             calls.list_packet((&table, &packet), LISTING_MOST, &Ok(from_hex(answer)?))
+        }
+        ["readers", index, table] => {
+            let count = |rest: &str| rest.parse().ok();
+            calls.count_readers(&from_hex(table)?, index.parse().ok()?, &settled(answer, count)?)
+        }
+        ["convert", room, table] => {
+            calls.convert_table(&from_hex(table)?, room.parse().ok()?, &settled(answer, from_hex)?)
         }
         _ => return None,
     })

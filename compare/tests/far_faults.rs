@@ -4,9 +4,9 @@
 use umarekoza_compare::exports::{Answer, Exports, Span, LIBRARY};
 use umarekoza_compare::runs::{generated, Settings};
 
-/// No listing is longer than 7,947 bytes, and no good table than 54,198. A text has room for about half of that.
+/// No listing is longer than 7,947 bytes, and no good table than 54,454. A text has room for about half of that.
 const LISTING_LIMIT: u64 = 7_800;
-const TABLE_LIMIT: usize = 54_100;
+const TABLE_LIMIT: usize = 54_300;
 const TEXT_TABLE_LIMIT: usize = 28_000;
 
 const MANY_POWERS: usize = 1_000;
@@ -122,10 +122,10 @@ fn behind_rest(table: &[u8]) -> Option<(usize, u32)> {
     let number = |at: usize| number_in(table, at);
     let (mut at, mut index, mut found) = (number(0)?, 0, None);
     while number(at + 2)? != 5 {
-        let short = at + 6 + number(at + 4)?;
+        let short = at + 8 + number(at + 6)?;
         match (number(at + 2)?, &mut found) {
-            (4, _) => found = Some((index, 0)),
-            (2, Some((_, behind))) => *behind += number(short + 2 + number(short)?)? as u32,
+            (14, _) => found = Some((index, 0)),
+            (12, Some((_, behind))) => *behind += number(short + 2 + number(short)?)? as u32,
             _ => {}
         }
         (at, index) = (at + number(at)?, index + 1);
@@ -255,7 +255,41 @@ unsafe extern "C" fn one_byte_more(
     answer
 }
 
-const WRONG: [(&str, &str, Exports); 20] = [
+/// Numbers of readers are kept in a byte.
+unsafe extern "C" fn few_readers(table: *const u8, n: usize, index: usize) -> Answer {
+    let mut answer = (LIBRARY.count_readers)(table, n, index);
+    answer.length %= 256;
+    answer
+}
+
+/// A table of which a number of readers is over 255 is not good.
+unsafe extern "C" fn small_numbers(table: *const u8, n: usize) -> Answer {
+    let answer = (LIBRARY.check_table)(table, n);
+    let fields = if answer.number == 0 { usize::from(*table.add(6)) } else { 0 };
+    if (0..fields).any(|index| (LIBRARY.count_readers)(table, n, index).length > 255) {
+        return NOT_GOOD;
+    }
+    answer
+}
+
+/// The readers of the last fields are not told.
+unsafe extern "C" fn near_readers(table: *const u8, n: usize, index: usize) -> Answer {
+    let answer = (LIBRARY.count_readers)(table, n, index);
+    if answer.number == 0 && index > 126 {
+        return Answer { number: 30, place: 0, length: 0 };
+    }
+    answer
+}
+
+/// An old table of 64 fields is not good.
+unsafe extern "C" fn few_old_fields(table: *const u8, n: usize, out: *mut u8, m: usize) -> Answer {
+    if n > 6 && *table.add(6) == 64 {
+        return NOT_GOOD;
+    }
+    (LIBRARY.convert_table)(table, n, out, m)
+}
+
+const WRONG: [(&str, &str, Exports); 24] = [
     ("write_table", "places of rows modulo 512", Exports { write_table: row_places, ..LIBRARY }),
     ("write_table", "places of last lines modulo 8192", Exports { write_table: last_places, ..LIBRARY }),
     ("write_table", "places of 5 to 11 modulo 256", Exports { write_table: line_places, ..LIBRARY }),
@@ -284,6 +318,10 @@ const WRONG: [(&str, &str, Exports); 20] = [
     ("read_packet", "over 2,048 bytes are a 22", Exports { read_packet: short_packets, ..LIBRARY }),
     ("read_packet", "8,191 bytes are a 22", Exports { read_packet: one_byte_less, ..LIBRARY }),
     ("read_packet", "8,192 bytes are no 22", Exports { read_packet: one_byte_more, ..LIBRARY }),
+    ("count_readers", "readers modulo 256", Exports { count_readers: few_readers, ..LIBRARY }),
+    ("check_table", "over 255 readers are a 21", Exports { check_table: small_numbers, ..LIBRARY }),
+    ("count_readers", "field 128 is a 30", Exports { count_readers: near_readers, ..LIBRARY }),
+    ("convert_table", "64 old fields are a 21", Exports { convert_table: few_old_fields, ..LIBRARY }),
 ];
 
 #[test]

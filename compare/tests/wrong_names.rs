@@ -2,11 +2,16 @@
 //! `naming` at a time. All its other files are the model's own.
 
 mod changed_model;
+#[allow(dead_code)]
+#[path = "../../model/src/editions.rs"]
+mod editions;
 #[path = "wrong_naming/mod.rs"]
 mod naming;
 #[allow(dead_code)]
 #[path = "../../model/src/operators.rs"]
 mod operators;
+#[path = "../../model/src/references.rs"]
+mod references;
 #[path = "../../model/src/widths.rs"]
 mod widths;
 

@@ -2,6 +2,9 @@
 //! rule of `operators` or `widths` at a time. All its other files are the model's own.
 
 mod changed_model;
+#[allow(dead_code)]
+#[path = "../../model/src/editions.rs"]
+mod editions;
 #[path = "../../model/src/evaluation.rs"]
 mod evaluation;
 #[path = "../../model/src/listing.rs"]
@@ -12,6 +15,8 @@ mod naming;
 mod operators;
 #[path = "../../model/src/reading.rs"]
 mod reading;
+#[path = "../../model/src/references.rs"]
+mod references;
 
 use changed_model::*;
 use operators as widths;

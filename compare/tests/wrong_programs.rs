@@ -105,6 +105,8 @@ wrong!(field_label, placed, table m *const u8; index -> Span);
 wrong!(field_short, placed, table m *const u8; index -> Span);
 wrong!(count_fields, answered, table m *const u8; -> Answer);
 wrong!(field_kind, answered, table m *const u8; index -> Answer);
+wrong!(count_readers, answered, table m *const u8; index -> Answer);
+wrong!(convert_table, answered, table m *const u8, out n *mut u8; -> Answer);
 wrong!(read_partly, told_partly, table m *const u8, packet n *const u8, run o *mut u32; -> Partial);
 
 const EXPORTS: Exports = Exports {
@@ -118,6 +120,8 @@ const EXPORTS: Exports = Exports {
     field_short,
     count_fields,
     field_kind,
+    count_readers,
+    convert_table,
     read_partly,
 };
 
@@ -137,8 +141,15 @@ fn wrong_programs_are_noticed() {
         ("field_short", 1),
         ("count_fields", 1),
         ("field_kind", 1),
+        ("count_readers", 1),
     ];
-    let with_output = [("write_table", 2), ("read_packet", 3), ("list_packet", 3), ("read_partly", 3)];
+    let with_output = [
+        ("write_table", 2),
+        ("read_packet", 3),
+        ("list_packet", 3),
+        ("read_partly", 3),
+        ("convert_table", 2),
+    ];
     for (call, buffers) in with_buffers.into_iter().chain(with_output) {
         let of_answer = if SPANS.contains(&call) { &OF_SPANS[..] } else { &OF_ANSWERS };
         let of_buffers = (0..buffers).flat_map(|i| [Before(i), First(i), FirstOfEmpty(i), Behind(i)]);

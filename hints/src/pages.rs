@@ -162,9 +162,9 @@ fn table_length(text: &[u8]) -> usize {
     let (fields, _) = Fields::read(&lines.ended[from..], from + 1);
     let records = fields.right().map(|(_, form)| {
         let numbers = match form.width {
-            Width::Fixed(_) => 14,
-            Width::Measured { .. } => 16,
-            Width::Rest => 12,
+            Width::Fixed(_) => 16,
+            Width::Measured { .. } => 18,
+            Width::Rest => 14,
         };
         let expressions: usize = form.expressions().map(|(_, tree)| tree.stored()).sum();
         numbers + form.label.len() + form.short.as_ref().map_or(0, |short| short.len()) + expressions

@@ -2,9 +2,9 @@
 //! the same cases.
 //!
 //! `layouts` and `words` choose rows and names, `growth` the trees, `steps` some at the edges of `/`, `%` and `^`,
-//! `fields` the description; `spelling` writes it as one of its texts; `bends` breaks a rule of a description, `clashes`
-//! those on equal names, `edits` changes bytes and lines; `fitting` makes packets for a table. `extremes` makes what
-//! stands at the far ends of the limits.
+//! `fields` the description; `spelling` writes it as one of its texts; `bends` breaks a rule of a description,
+//! `clashes` those on equal names, `numbers` makes tables with wrong numbers and old ones, `edits` changes bytes and
+//! lines; `fitting` makes packets for a table. `extremes` makes what stands at the far ends of the limits.
 
 mod bends;
 mod clashes;
@@ -14,8 +14,11 @@ mod fields;
 mod fitting;
 mod growth;
 mod layouts;
+mod numbers;
 #[cfg(test)]
 mod reached;
+#[cfg(test)]
+mod reached_numbers;
 mod rng;
 mod spelling;
 mod steps;
@@ -32,9 +35,15 @@ use words::Names;
 
 /// A text at the far ends is one of so many.
 const FAR_TEXT: usize = 40;
-/// A table as long as may be is one of so many, and one of too many fields.
+/// A table as long as may be is one of so many, one of too many fields, and one of a field that is read very often.
 const FAR_TABLE: usize = 800;
 const CROWDED_TABLE: usize = 60;
+const MUCH_READ_TABLE: usize = 300;
+/// So many lines that read as much as they can are often within the length of a text.
+const MUCH_READ_LINES: usize = 40;
+/// A table with wrong numbers is one of so many, and one of the old form or of both.
+const MISNUMBERED: usize = 12;
+const MIXED: usize = 24;
 /// A description with broken rules is one of so many that has equal names.
 const CLASHING: usize = 8;
 /// The most fields, and the most bytes of a packet, by document 01 alone.
@@ -78,18 +87,54 @@ pub fn table(rng: &mut Rng) -> Vec<u8> {
     if rng.one_in(CROWDED_TABLE) {
         return crowded_table(rng);
     }
+    if rng.one_in(MUCH_READ_TABLE) {
+        return much_read_table(rng);
+    }
     let (layout, names) = plan(rng, false);
     let mut description = fields::description(rng, &layout, &names);
+    if rng.one_in(MISNUMBERED) {
+        return numbers::misnumbered(rng, &description);
+    }
+    if rng.one_in(MIXED) {
+        return numbers::mixed(rng, &description);
+    }
     match rng.below(8) {
         0 | 1 => {
-            if !clashed(rng, &mut description, 2) {
-                bent(rng, &mut description);
-            }
+            spoiled(rng, &mut description);
             encode(&description)
         }
         2 if rng.one_in(3) => edits::recode(encode(&description), rng),
         2 | 3 => edits::edit_bytes(encode(&description), rng, &edits::TABLE_BYTES),
         _ => encode(&description),
+    }
+}
+
+/// A table for the converter: about half of them are old good ones, the others are of too many fields, have operators
+/// that document 01 does not, broken rules or changed bytes, or are no old ones.
+pub fn old_table(rng: &mut Rng) -> Vec<u8> {
+    let layout = match rng.below(10) {
+        0 => {
+            let count = EARLIER_FIELDS + rng.pick([0, 0, 1, 1, 2, 64]);
+            wide_or_tall(rng, count)
+        }
+        _ => layout(rng),
+    };
+    let names = Names::random(rng, &layout, false);
+    let mut description = fields::description(rng, &layout, &names);
+    match rng.below(16) {
+        0 | 1 => {
+            spoiled(rng, &mut description);
+            numbers::old(rng, &description)
+        }
+        2 | 3 => edits::edit_bytes(numbers::old(rng, &description), rng, &edits::TABLE_BYTES),
+        4 => edits::recode(numbers::old(rng, &description), rng),
+        5 => table(rng),
+        6 if rng.one_in(4) => {
+            let names = much_read_names(rng, EARLIER_FIELDS);
+            let description = extremes::much_read(rng, &names);
+            numbers::old(rng, &description)
+        }
+        _ => numbers::old(rng, &description),
     }
 }
 
@@ -122,6 +167,22 @@ fn longest_table(rng: &mut Rng) -> Vec<u8> {
     table
 }
 
+/// A table of fields that are read very often, at times with a wrong number.
+fn much_read_table(rng: &mut Rng) -> Vec<u8> {
+    let names = much_read_names(rng, MOST_FIELDS);
+    let description = extremes::much_read(rng, &names);
+    if rng.one_in(3) {
+        return numbers::misnumbered(rng, &description);
+    }
+    encode(&description)
+}
+
+/// Names for up to `most` fields of a byte, each in a row of its own.
+fn much_read_names(rng: &mut Rng, most: usize) -> Names {
+    let slots = vec![Slot::Fixed(8); rng.between(most / 2, most)];
+    Names::random(rng, &Layout { row_bits: 8, slots }, true)
+}
+
 /// A table of more fields than there may be.
 fn crowded_table(rng: &mut Rng) -> Vec<u8> {
     let count = too_many(rng);
@@ -132,11 +193,12 @@ fn crowded_table(rng: &mut Rng) -> Vec<u8> {
 
 /// A text of very many lines or fields, of a very long line, or of a long table; about half of them damaged.
 fn far_text(rng: &mut Rng) -> Vec<u8> {
-    let text = match rng.below(6) {
+    let text = match rng.below(7) {
         0 => extremes::many_rows(rng),
         1 => extremes::many_lines(rng),
         2 => return tall_text(rng),
         3 | 4 => return extremes::many_powers(rng),
+        5 => return much_read_text(rng),
         _ => long_table_text(rng),
     };
     match rng.below(4) {
@@ -156,6 +218,13 @@ fn long_table_text(rng: &mut Rng) -> Vec<u8> {
         Names::random(rng, &Layout { row_bits: 8, slots }, true)
     };
     let description = extremes::longest(rng, &names);
+    spell(rng, &description, &description, Manner::PLAIN)
+}
+
+/// A text of fields that are read very often; it may be over the length of a text.
+fn much_read_text(rng: &mut Rng) -> Vec<u8> {
+    let names = much_read_names(rng, MUCH_READ_LINES);
+    let description = extremes::much_read(rng, &names);
     spell(rng, &description, &description, Manner::PLAIN)
 }
 
@@ -220,6 +289,13 @@ fn bent_text(rng: &mut Rng, description: &Description) -> Vec<u8> {
     bent(rng, &mut told);
     let drawn = if rng.one_in(2) { &told } else { description };
     spell(rng, drawn, &told, Manner::default())
+}
+
+/// Gives fields of a description equal names, or breaks other rules of it.
+fn spoiled(rng: &mut Rng, description: &mut Description) {
+    if !clashed(rng, description, 2) {
+        bent(rng, description);
+    }
 }
 
 /// Breaks one or two rules of a description.

@@ -1,13 +1,15 @@
-//! A model of document 01 and of requests of document 02, written from them and from the readings of
-//! their open points in `docs/DECISIONS.md`, not from the library: it reads description texts, writes and checks field
-//! tables, reads packets by a table and lists them. Every function answers for every input.
+//! A model of document 01 and of requests of document 02, written from them and from the
+//! readings of their open points in `docs/DECISIONS.md`, not from the library: it reads description texts, writes,
+//! checks and converts field tables, reads packets by a table and lists them. Every function answers for every input.
 //!
-//! In reading order: `names`, `operators`, `trees`, `expressions`, `descriptions`, `naming`, `widths`, `rules` say what
-//! a description is; `lines`, `frames`, `field_lines`, `matching`, `texts` read a text; `stored`, `tables` hold the
-//! stored form; `evaluation`, `reading`, `listing`, `lookups` use a table. `generate` makes random cases, and
-//! `protocol` answers the requests of the oracle.
+//! In reading order: `names`, `operators`, `trees`, `expressions`, `descriptions`, `naming`, `widths`, `editions`,
+//! `rules` say what a description is; `lines`, `frames`, `field_lines`, `matching`, `texts` read a text; `references`,
+//! `stored`, `tables`, `conversion` hold the stored form; `evaluation`, `reading`, `listing`, `lookups` use a table.
+//! `generate` makes random cases, and `protocol` answers the requests of the oracle.
 
+mod conversion;
 mod descriptions;
+mod editions;
 mod evaluation;
 mod expressions;
 mod field_lines;
@@ -22,6 +24,7 @@ mod naming;
 mod operators;
 pub mod protocol;
 mod reading;
+mod references;
 mod refusals;
 mod rules;
 mod stored;
@@ -30,8 +33,9 @@ mod texts;
 mod trees;
 mod widths;
 
+pub use conversion::convert_table;
 pub use listing::list_packet;
-pub use lookups::{count_fields, field_kind, field_label, field_short, find_field};
+pub use lookups::{count_fields, count_readers, field_kind, field_label, field_short, find_field};
 pub use reading::{field_bytes, read_packet, read_partly, Partly, Reading};
 pub use refusals::Refusal;
 pub use tables::check_table;

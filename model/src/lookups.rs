@@ -1,7 +1,9 @@
-//! Fields of a table: how many, found by name, and by index with kind, label and short name.
+//! Fields of a table: how many, found by name, and by index with kind, readers, label and short name.
 
-use crate::descriptions::Width;
+use crate::editions::{kind_of, CURRENT};
+use crate::references::readers;
 use crate::refusals::{refused, Refusal};
+use crate::stored::sort;
 use crate::tables::good_description;
 
 /// The index of the field whose label or short name is `name`; 30, the number that document 02 gives where there is
@@ -19,13 +21,18 @@ pub fn count_fields(table: &[u8]) -> Result<usize, Refusal> {
     good_description(table).map(|description| description.fields.len())
 }
 
-/// The kind of the record of a field: 2 fixed, 3 measured, 4 rest; 30 if there is no such field.
+/// The kind of the record of a field: 12 fixed, 13 measured, 14 rest; 30 if there is no such field.
 pub fn field_kind(table: &[u8], index: usize) -> Result<usize, Refusal> {
-    let description = good_description(table)?;
-    match description.fields.get(index).map(|field| &field.width) {
-        Some(Width::Fixed(_)) => Ok(2),
-        Some(Width::Measured { .. }) => Ok(3),
-        Some(Width::Rest) => Ok(4),
+    match good_description(table)?.fields.get(index) {
+        Some(field) => Ok(kind_of(&CURRENT, sort(&field.width))),
+        None => refused(30, 0),
+    }
+}
+
+/// How many references to a field other fields have; 30 if there is no such field [02, R-5].
+pub fn count_readers(table: &[u8], index: usize) -> Result<usize, Refusal> {
+    match readers(&good_description(table)?.fields).get(index) {
+        Some(count) => Ok(*count),
         None => refused(30, 0),
     }
 }
@@ -34,9 +41,9 @@ pub fn field_kind(table: &[u8], index: usize) -> Result<usize, Refusal> {
 pub fn field_label(table: &[u8], index: usize) -> (usize, usize) {
     let Ok(description) = good_description(table) else { return (0, 0) };
     let Some(field) = description.fields.get(index) else { return (0, 0) };
-    // The head and the fields before; then length, kind and label length, two bytes each.
+    // The head and the fields before; then length, kind, number and label length, two bytes each.
     let start = (0..=index).fold(0, |start, _| start + number_at(table, start));
-    (start + 6, field.label.len())
+    (start + 8, field.label.len())
 }
 
 /// The same of its short name; 0, 0 too if it has none.

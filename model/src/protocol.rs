@@ -1,6 +1,9 @@
 //! The requests of the oracle and their answers, a line each; see `vectors/README.md`.
 
-use crate::{check_table, field_bytes, list_packet, read_packet, write_table, Reading, Refusal};
+use crate::{
+    check_table, convert_table, count_readers, field_bytes, list_packet, read_packet, write_table, Reading,
+    Refusal,
+};
 
 /// The answer to a request; `bad request` to a line that is none.
 pub fn answer(request: &str) -> String {
@@ -24,6 +27,14 @@ fn answer_words(words: &[&str]) -> Option<String> {
             format!("part {start} {length}")
         }
         ["list", table, packet] => to_hex(&list_packet(&from_hex(table)?, &from_hex(packet)?)),
+        ["readers", index, table] => {
+            let count = count_readers(&from_hex(table)?, index.parse().ok()?);
+            settled(count.map(|count| format!("ok {count}")))
+        }
+        ["convert", room, table] => {
+            let converted = convert_table(&from_hex(table)?, room.parse().ok()?);
+            settled(converted.map(|table| format!("ok {}", to_hex(&table))))
+        }
         _ => return None,
     };
     Some(answer)

@@ -2,6 +2,7 @@
 //! Those that a text can break one by one are functions of a field among its fields.
 
 use crate::descriptions::{Description, Field, Width};
+use crate::editions::{knows, most_fields, Edition};
 use crate::names::{is_label, is_short_name};
 use crate::naming::{first_repeat, may_read};
 use crate::trees::{Kind, Node, Tree};
@@ -13,12 +14,16 @@ pub const MOST_FIXED_BITS: u32 = 32;
 pub const MOST_DEPTH: u32 = 12;
 pub const LONGEST_TREE: usize = 120;
 
-/// Every rule on W, names, kinds, expressions, fields and rows.
-pub fn within_limits(description: &Description) -> bool {
+/// Every rule on W, names, kinds, expressions, fields and rows, by an edition.
+pub fn within_limits(edition: &Edition, description: &Description) -> bool {
     let fields = &description.fields;
+    let is_known = |tree: &Tree<usize>| {
+        tree.nodes.iter().all(|node| !matches!(node, Node::Two(op, ..) if !knows(edition, *op)))
+    };
     ROW_BITS.contains(&description.row_bits)
         && is_label(description.name)
-        && (1..=MOST_FIELDS).contains(&fields.len())
+        && (1..=most_fields(edition)).contains(&fields.len())
+        && fields.iter().flat_map(Field::trees).all(is_known)
         && fields.iter().all(|field| names_right(field) && width_right(field) && trees_small(field))
         && first_repeat(fields).is_none()
         && (0..fields.len()).all(|index| reads_right(fields, index))

@@ -1,33 +1,42 @@
-//! The stored form of a description, written and taken apart [01, The stored table].
+//! The stored form of a description, written and taken apart [01, The stored table] [02, R-5].
 
 use crate::descriptions::{Description, Field, Width};
+use crate::editions::{kind_of, sort_of, Edition, Sort, CURRENT};
 use crate::operators::{code, op_of};
+use crate::references::readers;
 use crate::rules::{LONGEST_TREE, MOST_DEPTH};
 use crate::trees::{Node, Tree, FIELD_CODE, NOT_CODE, NUMBER_CODE};
 
 const HEAD: usize = 1;
-const FIXED: usize = 2;
-const MEASURED: usize = 3;
-const REST: usize = 4;
 const END: usize = 5;
 
 /// The table of a description.
 pub fn encode(description: &Description) -> Vec<u8> {
+    encode_in(&CURRENT, description)
+}
+
+/// Its table by an edition.
+pub fn encode_in(edition: &Edition, description: &Description) -> Vec<u8> {
+    encode_with(edition, description, &readers(&description.fields))
+}
+
+/// The same with these numbers, one for each field, where the edition keeps them.
+pub fn encode_with(edition: &Edition, description: &Description, numbers: &[usize]) -> Vec<u8> {
     let mut table = Vec::with_capacity(64 * (description.fields.len() + 1));
     record(&mut table, HEAD, |body| {
         put_number(body, description.row_bits as usize);
         put_number(body, description.fields.len());
         put_part(body, description.name);
     });
-    for field in &description.fields {
-        put_field(&mut table, field);
+    for (field, number) in description.fields.iter().zip(numbers) {
+        put_field(&mut table, edition, field, *number);
     }
     record(&mut table, END, |_| {});
     table
 }
 
 /// Adds a record: its length, its kind and the body that `put` adds.
-fn record(table: &mut Vec<u8>, kind: usize, put: impl FnOnce(&mut Vec<u8>)) {
+pub fn record(table: &mut Vec<u8>, kind: usize, put: impl FnOnce(&mut Vec<u8>)) {
     let start = table.len();
     put_number(table, 0);
     put_number(table, kind);
@@ -36,13 +45,11 @@ fn record(table: &mut Vec<u8>, kind: usize, put: impl FnOnce(&mut Vec<u8>)) {
     table[start..start + 2].copy_from_slice(&length.to_le_bytes());
 }
 
-fn put_field(table: &mut Vec<u8>, field: &Field<usize>) {
-    let kind = match field.width {
-        Width::Fixed(_) => FIXED,
-        Width::Measured { .. } => MEASURED,
-        Width::Rest => REST,
-    };
-    record(table, kind, |body| {
+fn put_field(table: &mut Vec<u8>, edition: &Edition, field: &Field<usize>, number: usize) {
+    record(table, kind_of(edition, sort(&field.width)), |body| {
+        if edition.keeps_numbers {
+            put_number(body, number);
+        }
         put_part(body, field.label);
         put_part(body, field.short.unwrap_or(b""));
         match &field.width {
@@ -58,7 +65,16 @@ fn put_field(table: &mut Vec<u8>, field: &Field<usize>) {
     });
 }
 
-fn put_number(bytes: &mut Vec<u8>, number: usize) {
+/// What a record of a field of this width is of.
+pub fn sort<N>(width: &Width<N>) -> Sort {
+    match width {
+        Width::Fixed(_) => Sort::Fixed,
+        Width::Measured { .. } => Sort::Measured,
+        Width::Rest => Sort::Rest,
+    }
+}
+
+pub fn put_number(bytes: &mut Vec<u8>, number: usize) {
     bytes.extend_from_slice(&(number as u16).to_le_bytes());
 }
 
@@ -93,9 +109,15 @@ fn put_node(bytes: &mut Vec<u8>, tree: &Tree<usize>, node: usize) {
     }
 }
 
-/// The description whose records a table holds, if it is such a list of records; whether the description is
-/// within the limits is not asked here.
-pub fn decode(table: &[u8]) -> Option<Description<'_>> {
+/// What a table's records hold: a description and, where they keep one, the number of each field.
+pub struct Decoded<'a> {
+    pub description: Description<'a>,
+    pub numbers: Vec<usize>,
+}
+
+/// What a table holds, if it is such a list of records by this edition; whether the description is within the limits
+/// and the numbers are right is not asked here.
+pub fn decode<'a>(edition: &Edition, table: &'a [u8]) -> Option<Decoded<'a>> {
     let mut rest = table;
     let (kind, mut head) = take_record(&mut rest)?;
     let row_bits = take_number(&mut head)? as u32;
@@ -104,31 +126,36 @@ pub fn decode(table: &[u8]) -> Option<Description<'_>> {
     if kind != HEAD || !head.is_empty() {
         return None;
     }
-    let mut fields = Vec::new();
+    let (mut fields, mut numbers) = (Vec::new(), Vec::new());
     for _ in 0..count {
-        fields.push(take_field(&mut rest)?);
+        let (kind, mut body) = take_record(&mut rest)?;
+        if edition.keeps_numbers {
+            numbers.push(take_number(&mut body)?);
+        }
+        fields.push(take_field(sort_of(edition, kind)?, body)?);
     }
     let (kind, body) = take_record(&mut rest)?;
     let ended = kind == END && body.is_empty() && rest.is_empty();
-    ended.then_some(Description { name, row_bits, fields })
+    ended.then_some(Decoded { description: Description { name, row_bits, fields }, numbers })
 }
 
 /// The kind and body of the next record.
-fn take_record<'a>(rest: &mut &'a [u8]) -> Option<(usize, &'a [u8])> {
+pub fn take_record<'a>(rest: &mut &'a [u8]) -> Option<(usize, &'a [u8])> {
     let length = take_number(rest)?;
     let mut record = take(rest, length.checked_sub(2)?)?;
     Some((take_number(&mut record)?, record))
 }
 
-fn take_field<'a>(rest: &mut &'a [u8]) -> Option<Field<'a, usize>> {
-    let (kind, mut body) = take_record(rest)?;
+/// The field of a record, from what follows its number.
+fn take_field(sort: Sort, mut body: &[u8]) -> Option<Field<'_, usize>> {
     let label = take_part(&mut body)?;
     let short = Some(take_part(&mut body)?).filter(|short| !short.is_empty());
-    let width = match kind {
-        FIXED => Width::Fixed(take_number(&mut body)? as u32),
-        MEASURED => Width::Measured { unit: take_number(&mut body)? as u32, tree: take_tree(&mut body)?? },
-        REST => Width::Rest,
-        _ => return None,
+    let width = match sort {
+        Sort::Fixed => Width::Fixed(take_number(&mut body)? as u32),
+        Sort::Measured => {
+            Width::Measured { unit: take_number(&mut body)? as u32, tree: take_tree(&mut body)?? }
+        }
+        Sort::Rest => Width::Rest,
     };
     let constraint = take_tree(&mut body)?;
     let condition = take_tree(&mut body)?;

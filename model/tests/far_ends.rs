@@ -4,9 +4,9 @@ use std::collections::BTreeMap;
 use umarekoza_model::generate::{packet, table, tail, text, Rng};
 use umarekoza_model::{check_table, count_fields, list_packet, read_packet, write_table, Refusal};
 
-/// A record with a label of 40 bytes, a short name of 8, a width of 119 (no number can be stored in 120), and a
-/// constraint and a condition of 120.
-const LONGEST_RECORD: usize = 4 + 42 + 10 + 2 + 121 + 2 * 122;
+/// A record with its number, a label of 40 bytes, a short name of 8, a width of 119 (no number can be stored in 120),
+/// and a constraint and a condition of 120.
+const LONGEST_RECORD: usize = 4 + 2 + 42 + 10 + 2 + 121 + 2 * 122;
 /// The head, 128 such records and the end.
 const LONGEST_TABLE: usize = 50 + 128 * LONGEST_RECORD + 4;
 /// No text has room for 68 such records; some tables of texts are about as long.

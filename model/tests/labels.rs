@@ -2,7 +2,7 @@
 
 mod pages;
 
-use pages::{counted, fixed, page, record, refusal, table};
+use pages::{counted, fixed, page, read_fixed, record, refusal, table};
 use umarekoza_model::{check_table, find_field, write_table, Refusal};
 
 /// `i == 0`, stored.
@@ -16,7 +16,7 @@ const NOT_GOOD: Result<(), Refusal> = Err(Refusal { number: 21, place: 0 });
 fn a_readable_label_is_read() {
     let read_by_label = page(&["SYN: 1 byte.", "FIN: 1 byte; (FIN == 0) || (SYN == 0)."]);
     let constraint = [&[0x31], &is_zero(1)[..], &is_zero(0)[..]].concat();
-    let due = table(&[fixed("SYN", "", &[]), fixed("FIN", "", &constraint)]);
+    let due = table(&[read_fixed(1, "SYN", "", &[]), fixed("FIN", "", &constraint)]);
     assert_eq!(write_table(read_by_label.as_bytes(), 4096), Ok(due));
     for reader in ["Sum: Count bytes.", "Sum: N bytes.", "Sum: N + Count bytes."] {
         assert_eq!(refusal(&["Count (N): 1 byte; Count == 1 || N == 2.", reader]), None, "{reader}");
@@ -90,7 +90,7 @@ fn tables() {
         assert_eq!(good(&[fixed(label, "", &[])]), Ok(()), "{label}");
     }
     let rest = |label: &str, short: &str| {
-        record(4, &[&counted(label.as_bytes()), &counted(short.as_bytes()), &[0, 0, 0, 0]])
+        record(14, &[&[0, 0], &counted(label.as_bytes()), &counted(short.as_bytes()), &[0, 0, 0, 0]])
     };
     assert_eq!(good(&[fixed("One", "N", zero), rest("Data", "D")]), Ok(()));
     assert_eq!(good(&[rest("Data", ""), fixed("One", "", zero)]), NOT_GOOD);

@@ -122,11 +122,11 @@ fn m8_to_m9_expressions() {
 fn m10_tag_table() {
     let tag = packet(
         "0D 00 01 00 08 00 01 00 03 00 54 61 67 \
-         1B 00 02 00 04 00 4B 69 6E 64 01 00 4B 08 00 08 00 20 02 00 01 07 00 00 00 00 00 04 00 05 00",
+         1D 00 0C 00 00 00 04 00 4B 69 6E 64 01 00 4B 08 00 08 00 20 02 00 01 07 00 00 00 00 00 04 00 05 00",
     );
     let text = one_byte("Kind (K): 1 byte; K == 7.");
-    assert_eq!(write_table(text.as_bytes(), 44), Ok(tag));
-    assert_eq!(write_table(text.as_bytes(), 43), Err(Refusal { number: 11, place: 0 }));
+    assert_eq!(write_table(text.as_bytes(), 46), Ok(tag));
+    assert_eq!(write_table(text.as_bytes(), 45), Err(Refusal { number: 11, place: 0 }));
 }
 
 #[test]
@@ -146,7 +146,7 @@ fn names_labels_and_parts() {
     assert_eq!(&table[start..start + length], b"Bor");
     assert_eq!([3, 7].map(|index| field_short(&table, index)), [(0, 0); 2]);
     assert_eq!((count_fields(&table), count_fields(b"")), (Ok(7), Err(Refusal { number: 21, place: 0 })));
-    assert_eq!([0, 5].map(|index| field_kind(&table, index)), [Ok(2), Ok(3)]);
+    assert_eq!([0, 5].map(|index| field_kind(&table, index)), [Ok(12), Ok(13)]);
     assert_eq!(field_kind(&table, 7), Err(Refusal { number: 30, place: 0 }));
     let m1 = packet("62 07 01 2C AA BB 00 09");
     let parts = (0..8).map(|index| field_bytes(&table, &m1, index));

@@ -2,7 +2,7 @@
 
 mod pages;
 
-use pages::{counted, fixed, page, record, refusal, table};
+use pages::{counted, page, read_fixed, record, refusal, table};
 use std::thread;
 use umarekoza_model::{
     check_table, field_bytes, list_packet, read_packet, read_partly, write_table, Refusal,
@@ -20,7 +20,7 @@ fn two(code: u8, left: &[u8], right: &[u8]) -> Vec<u8> {
 
 /// The record of a measured field without clauses.
 fn measured(label: &str, unit: u8, width: &[u8]) -> Vec<u8> {
-    record(3, &[&counted(label.as_bytes()), &[0, 0, unit, 0], &counted(width), &[0, 0, 0, 0]])
+    record(13, &[&[0, 0], &counted(label.as_bytes()), &[0, 0, unit, 0], &counted(width), &[0, 0, 0, 0]])
 }
 
 /// The table of a byte `K` and a field `D` of this width.
@@ -31,7 +31,8 @@ fn written(width: &str) -> Result<Vec<u8>, Refusal> {
 #[test]
 fn stored_forms() {
     let stored = |width: &str, tree: Vec<u8>| {
-        let due = table(&[fixed("K", "", &[]), measured("D", 8, &tree)]);
+        let due =
+            table(&[read_fixed(width.matches('K').count() as u8, "K", "", &[]), measured("D", 8, &tree)]);
         assert_eq!(check_table(&due), Ok(()), "{width}");
         assert_eq!(written(&format!("{width} bytes")), Ok(due), "{width}");
     };
@@ -52,7 +53,10 @@ fn stored_forms() {
 
 #[test]
 fn refused_tables() {
-    let good = |tree: &[u8]| check_table(&table(&[fixed("K", "", &[]), measured("D", 1, tree)]));
+    let good = |tree: &[u8]| {
+        let reads = u8::from(tree.ends_with(&[0x02, 0x00]));
+        check_table(&table(&[read_fixed(reads, "K", "", &[]), measured("D", 1, tree)]))
+    };
     let is_zero = two(0x20, &number(0), &number(0));
     for code in 0x13..=0x15 {
         assert_eq!(good(&two(code, &number(2), &[0x02, 0x00])), Ok(()), "{code:x}");

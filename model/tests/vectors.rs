@@ -15,31 +15,6 @@ fn agrees(file: &str, count: usize) {
 }
 
 #[test]
-fn spelled() {
-    agrees("spelled.tsv", 384);
-}
-
-#[test]
-fn edge() {
-    agrees("edge.tsv", 560);
-}
-
-#[test]
-fn mutated() {
-    agrees("mutated.tsv", 576);
-}
-
-#[test]
-fn tables() {
-    agrees("tables.tsv", 512);
-}
-
-#[test]
-fn packets() {
-    agrees("packets.tsv", 506);
-}
-
-#[test]
 fn base2() {
     agrees("base2.tsv", 200);
 }
@@ -50,16 +25,46 @@ fn large() {
 }
 
 #[test]
+fn r5() {
+    agrees("r5.tsv", 300);
+}
+
+#[test]
+fn tables() {
+    agrees("tables.tsv", 512);
+}
+
+#[test]
+fn packets() {
+    agrees("packets.tsv", 494);
+}
+
+#[test]
+fn spelled() {
+    agrees("spelled.tsv", 94);
+}
+
+#[test]
+fn edge() {
+    agrees("edge.tsv", 395);
+}
+
+#[test]
+fn mutated() {
+    agrees("mutated.tsv", 550);
+}
+
+#[test]
 fn r10() {
-    agrees("r10.tsv", 71);
+    agrees("r10.tsv", 47);
 }
 
 #[test]
 fn r2() {
-    agrees("r2.tsv", 300);
+    agrees("r2.tsv", 181);
 }
 
 #[test]
 fn r7() {
-    agrees("r7.tsv", 300);
+    agrees("r7.tsv", 187);
 }

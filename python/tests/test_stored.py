@@ -10,8 +10,8 @@ from umarekoza import Refusal
 VECTORS = Path(__file__).resolve().parents[2] / "vectors"
 # How many lines each file has.
 FILES = {
-    "spelled": 384, "edge": 560, "mutated": 576, "tables": 512, "packets": 506, "base2": 200, "large": 24, "r10": 71,
-    "r2": 300, "r7": 300,
+    "base2": 200, "large": 24, "r5": 300, "tables": 512, "packets": 494, "spelled": 94, "edge": 395, "mutated": 550,
+    "r10": 47, "r2": 181, "r7": 187,
 }  # fmt: skip
 
 
@@ -51,7 +51,18 @@ def listed(stored, packet):
     return umarekoza.listing(from_hex(stored), from_hex(packet)).hex()
 
 
-CALLS = {"text": text, "table": table, "read": read, "part": part, "list": listed}
+def readers(index, stored):
+    return "ok %d" % umarekoza.count_readers(from_hex(stored), int(index))
+
+
+def convert(room, stored):
+    out = bytearray(int(room))
+    return "ok " + out[: umarekoza.convert_table(from_hex(stored), out)].hex()
+
+
+CALLS = {
+    "text": text, "table": table, "read": read, "part": part, "list": listed, "readers": readers, "convert": convert,
+}  # fmt: skip
 
 
 def answer(request):

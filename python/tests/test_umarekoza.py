@@ -25,6 +25,10 @@ TAG = (
     b"+-+-+-+-+-+-+-+-+\n\nwhere:\n\nKind (K): 1 byte; K == 7.\n"
 )
 TAG_TABLE = bytes.fromhex(
+    "0D000100080001000300546167 1D000C0000000400 4B696E6401004B08000800 2002000107000000 0000 04000500"
+)
+# As it was before records kept a number.
+OLD_TAG_TABLE = bytes.fromhex(
     "0D000100080001000300546167 1B0002000400 4B696E6401004B08000800 2002000107000000 0000 04000500"
 )
 TABLE = umarekoza.table_of(BLADE)
@@ -46,11 +50,11 @@ class Marked(unittest.TestCase):
     def test_tables(self):
         self.assertEqual(umarekoza.table_of(TAG), TAG_TABLE)
         out = bytearray(b"\xee" * 50)
-        self.assertEqual(umarekoza.write_table(TAG, out), 44)
-        self.assertEqual(out, TAG_TABLE + b"\xee" * 6)
-        short = bytearray(b"\xee" * 43)
+        self.assertEqual(umarekoza.write_table(TAG, out), 46)
+        self.assertEqual(out, TAG_TABLE + b"\xee" * 4)
+        short = bytearray(b"\xee" * 45)
         self.refused(11, 0, umarekoza.write_table, TAG, short)
-        self.assertEqual(short, b"\xee" * 43)
+        self.assertEqual(short, b"\xee" * 45)
         self.refused(7, 19, umarekoza.table_of, (ROOT / "examples/mistake.txt").read_bytes())
         self.refused(3, 1, umarekoza.table_of, b"")
         self.assertIsNone(umarekoza.check_table(TAG_TABLE))
@@ -119,6 +123,27 @@ class Marked(unittest.TestCase):
         self.refused(30, 0, umarekoza.field_kind, TABLE, 7)
         self.refused(21, 0, umarekoza.field_kind, b"", 0)
 
+    def test_how_often_fields_are_read(self):
+        self.assertEqual([umarekoza.count_readers(TABLE, index) for index in range(7)], [0, 1, 1, 0, 0, 0, 0])
+        more = umarekoza.table_of(BLADE.replace(b"Sum: 2 bytes.", b"Sum: 2 bytes; L == 1 || V + V < N."))
+        self.assertEqual([umarekoza.count_readers(more, index) for index in range(7)], [2, 2, 2, 0, 0, 0, 0])
+        for index in (7, 2**64, 2**80):
+            self.refused(30, 0, umarekoza.count_readers, TABLE, index)
+        self.refused(21, 0, umarekoza.count_readers, OLD_TAG_TABLE, 0)
+        self.refused(21, 0, umarekoza.count_readers, b"", 9)
+
+    def test_old_tables(self):
+        self.refused(21, 0, umarekoza.check_table, OLD_TAG_TABLE)
+        self.assertEqual(umarekoza.converted(OLD_TAG_TABLE), TAG_TABLE)
+        out = bytearray(b"\xee" * 50)
+        self.refused(21, 0, umarekoza.convert_table, TAG_TABLE, out)
+        self.refused(11, 0, umarekoza.convert_table, OLD_TAG_TABLE, memoryview(out)[:45])
+        self.assertEqual(out, b"\xee" * 50)
+        self.assertEqual(umarekoza.convert_table(OLD_TAG_TABLE, out), 46)
+        self.assertEqual(out, TAG_TABLE + b"\xee" * 4)
+        self.refused(21, 0, umarekoza.converted, b"no table")
+        self.assertRaises(ValueError, umarekoza.convert_table, out, out)
+
     def test_labels_are_names_too(self):
         self.assertEqual(umarekoza.table_of(BLADE.replace(b"Readings: N", b"Readings: Cells")), TABLE)
         self.refused(9, 22, umarekoza.table_of, BLADE.replace(b"Readings: N", b"Readings: Sum"))
@@ -160,15 +185,15 @@ class Buffers(unittest.TestCase):
                 self.assertEqual(umarekoza.listing(TABLE, mapped), M1_LISTING)
 
     def test_outputs_of_every_sort(self):
-        room = memoryview(bytearray(60))
-        self.assertEqual(umarekoza.write_table(TAG, room[8:52]), 44)
+        room = memoryview(bytearray(62))
+        self.assertEqual(umarekoza.write_table(TAG, room[8:54]), 46)
         self.assertEqual(bytes(room), bytes(8) + TAG_TABLE + bytes(8))
         numbers = memoryview(bytearray(4 * 28)).cast("I")
         self.assertEqual(umarekoza.read_packet(TABLE, M1, numbers), 64)
         self.assertEqual(numbers[16:20].tolist(), [1, 16, 16, 300])
 
     def test_wrong_buffers(self):
-        self.assertRaises(BufferError, umarekoza.write_table, TAG, bytes(44))
+        self.assertRaises(BufferError, umarekoza.write_table, TAG, bytes(46))
         self.assertRaises(TypeError, umarekoza.table_of, "A Tag")
         self.assertRaises(TypeError, umarekoza.table_of, None)
         self.assertRaises(BufferError, umarekoza.listing, TABLE, memoryview(M1)[::2])
@@ -182,8 +207,8 @@ class Buffers(unittest.TestCase):
         whole = memoryview(buffer)
         self.assertRaises(ValueError, umarekoza.write_table, whole[: len(TAG)], whole[len(TAG) - 1 :])
         self.assertRaises(ValueError, umarekoza.write_table, whole, whole)
-        self.assertEqual(umarekoza.write_table(whole[: len(TAG)], whole[len(TAG) :]), 44)
-        self.assertEqual(whole[len(TAG) :][:44], TAG_TABLE)
+        self.assertEqual(umarekoza.write_table(whole[: len(TAG)], whole[len(TAG) :]), 46)
+        self.assertEqual(whole[len(TAG) :][:46], TAG_TABLE)
 
     def test_buffers_are_given_back(self):
         packet = bytearray(M1)

@@ -28,8 +28,9 @@ from ._calls import Refusal
 
 __all__ = [
     "FIELDS_MOST", "Field", "Kind", "LISTING_MOST", "PACKET_MOST", "RUN_MOST", "Refusal", "TABLE_MOST", "TEXT_MOST",
-    "VERSION", "check_table", "count_fields", "field_bytes", "field_kind", "field_label", "field_short", "fields_of",
-    "find_field", "list_packet", "listing", "read_packet", "read_partly", "table_of", "write_table",
+    "VERSION", "check_table", "convert_table", "converted", "count_fields", "count_readers", "field_bytes",
+    "field_kind", "field_label", "field_short", "fields_of", "find_field", "list_packet", "listing", "read_packet",
+    "read_partly", "table_of", "write_table",
 ]  # fmt: skip
 
 VERSION = "0.1.0"
@@ -41,7 +42,7 @@ PACKET_MOST = 8191
 
 # A run of so many numbers, and an output of so many bytes for a table or for a listing, is always enough.
 RUN_MOST = 512
-TABLE_MOST = 54326
+TABLE_MOST = 54582
 LISTING_MOST = 7947
 
 # No number of a reading, which is 0 or 1 where a field begins.
@@ -51,9 +52,9 @@ _UNTOUCHED = 0xFFFFFFFF
 class Kind(enum.Enum):
     """The kind of a field; one that is measured or the rest is long and has no value."""
 
-    FIXED = 2
-    MEASURED = 3
-    REST = 4
+    FIXED = 12
+    MEASURED = 13
+    REST = 14
 
 
 class Field(NamedTuple):
@@ -141,6 +142,26 @@ def count_fields(table):
 def field_kind(table, index):
     """The kind of a field. Refuses by 21, and by 30 if there is no such field."""
     return Kind(_calls.field_kind(table, index))
+
+
+def count_readers(table, index):
+    """How many places read a field: the references to it in the expressions of other fields, every one counted.
+
+    Refuses by 21, and by 30 if there is no such field.
+    """
+    return _calls.count_readers(table, index)
+
+
+def convert_table(old, out):
+    """Writes the new table of an old one, whose records keep no number of readers, to the start of out and answers its
+    length. Refuses by 21 what is no good table by the rules for old ones, and by 11 if out is too short."""
+    return _calls.convert_table(old, out)
+
+
+def converted(old):
+    """The new table of an old one, as bytes. Refuses by 21."""
+    out = bytearray(TABLE_MOST)
+    return bytes(memoryview(out)[: convert_table(old, out)])
 
 
 def field_short(table, index):

@@ -56,6 +56,8 @@ _field_label = _entry("field_label", _Span, 1, index=True)
 _field_short = _entry("field_short", _Span, 1, index=True)
 _count_fields = _entry("count_fields", _Answer, 1)
 _field_kind = _entry("field_kind", _Answer, 1, index=True)
+_count_readers = _entry("count_readers", _Answer, 1, index=True)
+_convert_table = _entry("convert_table", _Answer, 2)
 _read_partly = _entry("read_partly", _Partial, 3)
 
 
@@ -121,6 +123,18 @@ def count_fields(table):
 def field_kind(table, index):
     with Lent() as lent:
         return _field_kind(*lent.reads(table), index_of(index)).settled()
+
+
+def count_readers(table, index):
+    with Lent() as lent:
+        return _count_readers(*lent.reads(table), index_of(index)).settled()
+
+
+def convert_table(old, out):
+    with Lent() as lent:
+        old, out = lent.reads(old), lent.writes(out)
+        lent.see_that_none_overlap()
+        return _convert_table(*old, *out).settled()
 
 
 def part(whole, span):

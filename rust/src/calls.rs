@@ -99,6 +99,13 @@ mod library {
         pub fn umarekoza_field_short(table: *const u8, table_len: usize, index: usize) -> Span;
         pub fn umarekoza_count_fields(table: *const u8, table_len: usize) -> Answer;
         pub fn umarekoza_field_kind(table: *const u8, table_len: usize, index: usize) -> Answer;
+        pub fn umarekoza_count_readers(table: *const u8, table_len: usize, index: usize) -> Answer;
+        pub fn umarekoza_convert_table(
+            table: *const u8,
+            table_len: usize,
+            out: *mut u8,
+            out_len: usize,
+        ) -> Answer;
         pub fn umarekoza_read_partly(
             table: *const u8,
             table_len: usize,
@@ -164,6 +171,17 @@ pub fn count_fields(table: &[u8]) -> Answer {
 pub fn field_kind(table: &[u8], index: usize) -> Answer {
     // SAFETY: the pointer is valid for its length.
     unsafe { library::umarekoza_field_kind(table.as_ptr(), table.len(), index) }
+}
+
+pub fn count_readers(table: &[u8], index: usize) -> Answer {
+    // SAFETY: the pointer is valid for its length.
+    unsafe { library::umarekoza_count_readers(table.as_ptr(), table.len(), index) }
+}
+
+pub fn convert_table(table: &[u8], out: &mut [u8]) -> Answer {
+    let (out, room) = (out.as_mut_ptr(), out.len());
+    // SAFETY: both pointers are valid for their lengths, and `out` is lent for the call alone.
+    unsafe { library::umarekoza_convert_table(table.as_ptr(), table.len(), out, room) }
 }
 
 pub fn read_partly(table: &[u8], packet: &[u8], run: &mut [u32]) -> Partial {

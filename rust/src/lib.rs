@@ -56,7 +56,8 @@ pub use meanings::{meanings, Meaning};
 pub use packets::{field_bytes, fields_of, list_packet, listing, read_packet, read_partly, Field};
 pub use refusal::Refusal;
 pub use tables::{
-    check_table, count_fields, field_kind, field_label, field_short, find_field, table_of, write_table, Kind,
+    check_table, convert_table, converted, count_fields, count_readers, field_kind, field_label, field_short,
+    find_field, table_of, write_table, Kind,
 };
 
 /// The version of this crate and of the library's header.

@@ -15,8 +15,8 @@ const STORED_MOST: usize = 120;
 pub const RUN_MOST: usize = 4 * FIELDS_MOST;
 /// An output of so many bytes has room for every table: the head, the records of the fields, and the end.
 pub const TABLE_MOST: usize = 10 + LABEL_MOST + FIELDS_MOST * RECORD_MOST + 4;
-/// Length and kind, label, short name, unit, and three expressions, each behind its length.
-const RECORD_MOST: usize = 4 + (2 + LABEL_MOST) + (2 + SHORT_MOST) + 2 + 3 * (2 + STORED_MOST);
+/// Length, kind and number, label, short name, unit, and three expressions, each behind its length.
+const RECORD_MOST: usize = 6 + (2 + LABEL_MOST) + (2 + SHORT_MOST) + 2 + 3 * (2 + STORED_MOST);
 /// An output of so many bytes has room for every listing: the line of each field, and `bits 65528` with its LF.
 pub const LISTING_MOST: usize = FIELDS_MOST * LINE_MOST + 11;
 /// A label, `: `, an offset of five digits, a width of two, a value of ten, two spaces and LF. The line of a long field

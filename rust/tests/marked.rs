@@ -96,12 +96,13 @@ fn quotients_remainders_and_powers() {
 #[test]
 fn m10_tag_table_just_fits() {
     let page = one_byte("Kind (K): 1 byte; K == 7.");
-    let mut out = [0xEE; 44];
-    assert_eq!(write_table(page.as_bytes(), &mut out[..43]), refused(11, 0));
-    assert_eq!(out, [0xEE; 44]);
-    assert_eq!(write_table(page.as_bytes(), &mut out), Ok(44));
+    let mut out = [0xEE; 46];
+    assert_eq!(write_table(page.as_bytes(), &mut out[..45]), refused(11, 0));
+    assert_eq!(out, [0xEE; 46]);
+    assert_eq!(write_table(page.as_bytes(), &mut out), Ok(46));
     assert_eq!(out[..13], *b"\x0D\0\x01\0\x08\0\x01\0\x03\0Tag");
-    assert_eq!(out[40..], [4, 0, 5, 0]);
+    assert_eq!(out[13..19], [0x1D, 0, 12, 0, 0, 0]);
+    assert_eq!(out[42..], [4, 0, 5, 0]);
     assert_eq!(check_table(&out), Ok(()));
 }
 
@@ -219,6 +220,41 @@ fn kinds_and_short_names() {
     assert_eq!(kinds, [[Kind::Fixed; 4].as_slice(), &[Kind::Rest, Kind::Fixed]].concat());
 }
 
+/// The Tag's table as it was before records kept a number.
+const OLD_TAG: &[u8] = b"\x0D\0\x01\0\x08\0\x01\0\x03\0Tag\
+    \x1B\0\x02\0\x04\0Kind\x01\0K\x08\0\x08\0\x20\x02\0\x01\x07\0\0\0\0\0\x04\0\x05\0";
+
+#[test]
+fn how_often_fields_are_read() {
+    let counts = |table: &[u8]| -> Vec<Result<usize, Refusal>> {
+        (0..8).map(|index| count_readers(table, index)).collect()
+    };
+    let due = |numbers: [usize; 7]| numbers.into_iter().map(Ok).chain([refused(30, 0)]).collect::<Vec<_>>();
+    assert_eq!(counts(&blade()), due([0, 1, 1, 0, 0, 0, 0]));
+    let more = blade_with("Sum: 2 bytes.", "Sum: 2 bytes; L == 1 || V + V < N.").unwrap();
+    assert_eq!(counts(&more), due([2, 2, 2, 0, 0, 0, 0]));
+    assert_eq!(count_readers(&more, usize::MAX), refused(30, 0));
+    // The number of Version, the first field, behind the head and its own length and kind.
+    let mut wrong = more.clone();
+    assert_eq!(wrong[22..28], [32, 0, 12, 0, 2, 0]);
+    wrong[26] = 1;
+    assert_eq!((check_table(&wrong), count_readers(&wrong, 0)), (refused(21, 0), refused(21, 0)));
+}
+
+#[test]
+fn old_tables_are_converted() {
+    let tag = table_of(one_byte("Kind (K): 1 byte; K == 7.").as_bytes()).unwrap();
+    assert_eq!(check_table(OLD_TAG), refused(21, 0));
+    let mut out = [0xEE; 50];
+    assert_eq!(convert_table(OLD_TAG, &mut out[..45]), refused(11, 0));
+    assert_eq!(convert_table(&tag, &mut out), refused(21, 0));
+    assert_eq!(convert_table(&OLD_TAG[..43], &mut out), refused(21, 0));
+    assert_eq!(out, [0xEE; 50]);
+    assert_eq!(convert_table(OLD_TAG, &mut out), Ok(46));
+    assert_eq!((&out[..46], &out[46..]), (&tag[..], &[0xEE; 4][..]));
+    assert_eq!((converted(OLD_TAG), converted(&tag)), (Ok(tag), refused(21, 0)));
+}
+
 #[test]
 fn empty_slices() {
     assert_eq!(write_table(b"", &mut []), refused(3, 1));
@@ -231,4 +267,7 @@ fn empty_slices() {
     assert_eq!(listing(b"", b""), b"refused 21 at 0\n");
     assert_eq!(find_field(&blade(), b""), refused(30, 0));
     assert_eq!(field_label(b"", 0), None);
+    assert_eq!(count_readers(b"", 0), refused(21, 0));
+    assert_eq!(convert_table(b"", &mut []), refused(21, 0));
+    assert_eq!(convert_table(OLD_TAG, &mut []), refused(11, 0));
 }

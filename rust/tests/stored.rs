@@ -5,17 +5,18 @@ use std::path::Path;
 use umarekoza::*;
 
 /// The files, and how many lines each has.
-const FILES: [(&str, usize); 10] = [
-    ("spelled.tsv", 384),
-    ("edge.tsv", 560),
-    ("mutated.tsv", 576),
-    ("tables.tsv", 512),
-    ("packets.tsv", 506),
+const FILES: [(&str, usize); 11] = [
     ("base2.tsv", 200),
     ("large.tsv", 24),
-    ("r10.tsv", 71),
-    ("r2.tsv", 300),
-    ("r7.tsv", 300),
+    ("r5.tsv", 300),
+    ("tables.tsv", 512),
+    ("packets.tsv", 494),
+    ("spelled.tsv", 94),
+    ("edge.tsv", 395),
+    ("mutated.tsv", 550),
+    ("r10.tsv", 47),
+    ("r2.tsv", 181),
+    ("r7.tsv", 187),
 ];
 
 /// The bytes of a hex word, `-` for none.
@@ -61,6 +62,20 @@ fn read(run_len: usize, table: &[u8], packet: &[u8]) -> Result<String, Refusal> 
     Ok(line)
 }
 
+/// The answer to `convert`; with room enough, `converted` gives the same.
+fn renewed(room: usize, old: &[u8]) -> String {
+    let mut out = vec![0; room];
+    let renewed = convert_table(old, &mut out).map(|length| out[..length].to_vec());
+    match &renewed {
+        Err(refusal) => assert!(out.iter().all(|byte| *byte == 0), "{refusal}"),
+        Ok(table) => assert_eq!(check_table(table), Ok(())),
+    }
+    if !matches!(renewed, Err(Refusal { number: 11, .. })) {
+        assert_eq!(converted(old), renewed);
+    }
+    settled(renewed.map(|table| format!("ok {}", hex(&table))))
+}
+
 fn answer(request: &str) -> String {
     let words: Vec<&str> = request.split(' ').collect();
     match *words {
@@ -79,6 +94,10 @@ fn answer(request: &str) -> String {
             format!("part {} {}", part.as_ptr() as usize - packet.as_ptr() as usize, part.len())
         }
         ["list", table, packet] => hex(&listing(&bytes(table), &bytes(packet))),
+        ["readers", index, table] => {
+            settled(count_readers(&bytes(table), number(index)).map(|count| format!("ok {count}")))
+        }
+        ["convert", room, table] => renewed(number(room), &bytes(table)),
         _ => panic!("no request: {request}"),
     }
 }

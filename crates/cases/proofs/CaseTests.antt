@@ -18,7 +18,7 @@ use Rattle.rules.specs.Values.{Value, value, fault, evaluate}
 use Rattle.rules.specs.Fields.{Description}
 use Rattle.rules.specs.Within.{Within}
 use Rattle.rules.specs.Stored.{stored, Good}
-use Rattle.rules.specs.Editions.{current}
+use Rattle.rules.specs.Editions.{current, uncounted}
 use Rattle.rules.specs.Expressions.{SpellsTree}
 use Rattle.rules.specs.Lines.{Unresolved}
 use Rattle.rules.specs.Frames.{isFrame}
@@ -28,6 +28,9 @@ use Rattle.rules.specs.Reading.{Part, reading, partIn, partBytes}
 use Rattle.rules.specs.Answers.{Answer, faultNumber}
 use Rattle.rules.specs.Promises.{
   Outcome,
+  leaves,
+  delivered,
+  notGood,
   byTable,
   ChecksTable,
   packetOutcome,
@@ -37,6 +40,9 @@ use Rattle.rules.specs.Promises.{
   FindsField,
   labelBy,
   LendsLabel,
+  readersAnswer,
+  CountsReaders,
+  ConvertsTable,
   listing,
   ReadsText,
 }
@@ -49,6 +55,7 @@ use Rattle.rules.specs.Cases.{
   hands,
   finds,
   labels,
+  readBy,
   exceeds,
   values,
   faults,
@@ -56,6 +63,7 @@ use Rattle.rules.specs.Cases.{
   spells,
   stores,
   checks,
+  converts,
   unframed,
   breaks,
   keeps,
@@ -70,8 +78,9 @@ use Rattle.rules.specs.Cases.{
 }
 use Rattle.laws.proofs.WithinTest.{isWithin, within, outside}
 use Rattle.laws.proofs.Unique.{stored-unique}
-use Rattle.laws.proofs.GoodTest.{answerIn, table-told}
-use Rattle.laws.proofs.RuledOut.{good-stored, labelAt, answerNumbers, numbers, placeNumbers}
+use Rattle.laws.proofs.GoodTest.{told-by, answerIn, table-told}
+use Rattle.laws.proofs.Allowed.{good-stored, labelAt, convertedIn}
+use Rattle.laws.proofs.RuledOut.{answerNumbers, numbers, placeNumbers}
 use Rattle.text_laws.specs.Reader.{Out, fail, got, expr}
 use Rattle.text_laws.proofs.ReaderUnique.{tree-unique, found-whole}
 use Rattle.text_laws.proofs.ReaderExact.{exact}
@@ -175,6 +184,17 @@ label-in d i label start w h from good =
       place = ap (λ (n : ℕ). movedBy n from) (eqb-true start (labelAt d i .start) (p .1));
     })
 
+readers-in : (d : Description) (i : ℕ) (a : Answer) → Within d
+    → same (answerNumbers a) (answerNumbers (readersAnswer (d .fields) i)) ≡ true → CountsReaders (stored d) i a
+readers-in d i a w h good =
+    answer-same a (readersAnswer (d .fields) i) h ∙ sym (by-stored d w (λ c. readersAnswer (c .fields) i) _ good)
+
+converted : (table out : List ℕ) (o : Outcome) → same (numbers o) (numbers (convertedIn table out)) ≡ true
+    → ConvertsTable table out o
+converted table out o h old =
+    outcome-same o (convertedIn table out) h
+    ∙ told-by uncounted table (λ d. delivered (stored d) out) (leaves notGood out) old
+
 -- ── texts ──
 
 abbrev pub isAnswer : Answer → Option Answer → Bool
@@ -222,6 +242,7 @@ isRight (hands d packet i part) =
 isRight (finds d name a) =
     isWithin d && same (answerNumbers a) (answerNumbers (firstNamed name 0 (d .fields)))
 isRight (labels d i label start) = isWithin d && isLabelAt d i label start
+isRight (readBy d i a) = isWithin d && same (answerNumbers a) (answerNumbers (readersAnswer (d .fields) i))
 isRight (exceeds d) = not (isWithin d)
 isRight (values s t n) = isTree t (readWhole s) && isValueOf n (evaluate noFields t)
 isRight (faults s t n) = isTree t (readWhole s) && isFaultOf n (evaluate noFields t)
@@ -229,6 +250,7 @@ isRight (unspelled s) = not (isWhole (readWhole s))
 isRight (spells text d) = isSpelled d (seen text)
 isRight (stores d table) = isWithin d && same (stored d) table
 isRight (checks table a) = same (answerNumbers a) (answerNumbers (answerIn current table))
+isRight (converts table out o) = same (numbers o) (numbers (convertedIn table out))
 isRight (unframed f) = not (isFrame f)
 isRight (breaks f forms a) = isFrame f && isAnswer a (ruleBroken f forms)
 isRight (keeps f forms) = isFrame f && isNone (ruleBroken f forms)
@@ -251,6 +273,7 @@ right (prints d packet text) h = fitting d _ (λ w e. same-true _ _ e) h
 right (hands d packet i part) h = fitting d _ (λ w e. part-same _ _ e) h
 right (finds d name a) h = fitting d _ (λ w e. found-in d name a w e) h
 right (labels d i label start) h = fitting d _ (λ w e. label-in d i label start w e) h
+right (readBy d i a) h = fitting d _ (λ w e. readers-in d i a w e) h
 right (exceeds d) h = outside d (not-true (isWithin d) h)
 right (values s t n) h = both _ _ (found-only s t) (value-of n (evaluate noFields t)) h
 right (faults s t n) h =
@@ -261,6 +284,7 @@ right (unspelled s) h = none-found s (not-true (isWhole (readWhole s)) h)
 right (spells text d) h = spelled-by text d (seen text) (is-seen text) h
 right (stores d table) h = fitting d _ (λ w e. same-true _ _ e) h
 right (checks table a) h = checked table a h
+right (converts table out o) h = converted table out o h
 right (unframed f) h = not-true (isFrame f) h
 right (breaks f forms a) h = both _ _ (λ e. e) (answer-is a (ruleBroken f forms)) h
 right (keeps f forms) h = both _ _ (λ e. e) (none-is (ruleBroken f forms)) h

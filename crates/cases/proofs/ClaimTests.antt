@@ -7,7 +7,7 @@ use lib.ListN.{length, getD, replicate}
 use Rattle.base.specs.Lists.{all, same}
 use Rattle.base.proofs.Lists.{every-passes, same-true}
 use Rattle.base.proofs.Breaks.{and-true}
-use Rattle.rules.specs.Editions.{current}
+use Rattle.rules.specs.Editions.{current, uncounted}
 use Rattle.rules.specs.Fields.{Description}
 use Rattle.rules.specs.Within.{Within}
 use Rattle.rules.specs.Stored.{stored, Good}
@@ -26,6 +26,7 @@ use Rattle.rules.specs.Promises.{
   labelBy,
   shortBy,
   Partly,
+  readersAnswer,
 }
 use Rattle.laws.specs.Wrong.{
   Claim,
@@ -49,11 +50,15 @@ use Rattle.laws.specs.Wrong.{
   shorts,
   placesShort,
   partlyWith,
+  countsReaders,
+  countsReadersIn,
+  convertsWith,
   Claimed,
 }
 use Rattle.laws.proofs.WithinTest.{within}
 use Rattle.laws.proofs.GoodTest.{told-by, table-told}
-use Rattle.laws.proofs.RuledOut.{labelAt, shortAt, claimed, given, isFitting}
+use Rattle.laws.proofs.Allowed.{labelAt, shortAt}
+use Rattle.laws.proofs.RuledOut.{claimed, given, isFitting}
 use Rattle.cases.specs.Promised.{AllSo}
 use Rattle.cases.proofs.CaseTests.{answer-from, outcome-from, part-from, by-stored}
 
@@ -117,6 +122,13 @@ claim-so (shorts d i bytes start) h e = lends-so d (stored d) (λ c. shortAt c i
 claim-so (placesShort d i part) h e = λ good.
     ap part-from e ∙ sym (by-stored d (within d h) (λ c. shortAt c i) _ good)
 claim-so (partlyWith m d packet a after n) h e = λ good. ap partly-from e ∙ sym (by-stored d (within d h) _ _ good)
+claim-so (countsReaders d i a) h e = λ good.
+    ap answer-from e ∙ sym (by-stored d (within d h) (λ c. readersAnswer (c .fields) i) notGood good)
+claim-so (countsReadersIn table i a) h e = λ good.
+    ap answer-from e ∙ told-by current table (λ d. readersAnswer (d .fields) i) notGood good
+claim-so (convertsWith n table a after) h e = λ old.
+    ap outcome-from e ∙ told-by uncounted table (λ d. delivered (stored d) (replicate n 9))
+    (leaves notGood (replicate n 9)) old
 
 abbrev pub isSo : Claim → Bool
 isSo c = isFitting c && same (claimed c) (given c)

@@ -21,13 +21,14 @@ use Rattle.rules.specs.Names.{
 use Rattle.rules.specs.Trees.{depth, le2, le4, storedTree, isInRange, hasOperators, hasType}
 use Rattle.rules.specs.Values.{power, apply, decides, evaluateBy}
 use Rattle.rules.specs.Within.{rowsFit}
-use Rattle.rules.specs.Stored.{storedIn, storedFieldIn, fieldBody, headBody}
+use Rattle.rules.specs.References.{treeReads, fieldReads, times, readers}
+use Rattle.rules.specs.Stored.{storedIn, storedWith, recordsIn, storedFieldIn, fieldBody, headBody}
 use Rattle.rules.specs.Frames.{tens, units, border, cellText, rowLines, isFrame, headLines, cells}
 use Rattle.rules.specs.Spelling.{mismatch}
 use Rattle.rules.specs.Refusals.{ruleBroken}
 use Rattle.rules.specs.Reading.{bitsAt, valueIn, readFieldIn, readFieldsIn, readingIn, fieldsBefore, entriesBefore}
 use Rattle.rules.specs.Listing.{entryLines, linesText}
-use Rattle.rules.specs.Answers.{faultNumber, ofTable, ofPacket, ofText, ofListing}
+use Rattle.rules.specs.Answers.{faultNumber, ofTable, ofPacket, ofText, ofField, ofListing, ofConversion}
 use Rattle.rules.specs.Promises.{delivered, readingAnswer, packetOutcomeIn, partlyOutcome, firstNamed, readingLines}
 use Rattle.rules.specs.Pages.{manyFields, manyRows, manyLines, notTimes, andTimes}
 use Rattle.text_laws.specs.Reader.{
@@ -112,6 +113,7 @@ use Rattle.rules.specs.Cases.{AllHold}
 use Rattle.rules.specs.Marked.{bladeReport, marked}
 use Rattle.laws.specs.WrongLimits.{entriesOf, linesOf}
 use Rattle.laws.specs.WrongOperators as Wrong
+use Rattle.laws.specs.WrongNumbers.{doubled}
 use Rattle.laws.proofs.Readers as Tables
 use Rattle.laws.proofs.WithinTest.{within}
 use Rattle.base.proofs.Also.{_also_}
@@ -121,6 +123,7 @@ use Rattle.cases.specs.Fields.{fields}
 use Rattle.cases.specs.Names.{names}
 use Rattle.cases.specs.Quotients.{quotients}
 use Rattle.cases.specs.StoredTable.{storedTable}
+use Rattle.cases.specs.Readers as Counted
 use Rattle.cases.specs.Spelling.{spelling}
 use Rattle.cases.specs.ReadingAPacket.{readingAPacket}
 use Rattle.cases.specs.RefusalNumbers.{refusalNumbers}
@@ -133,20 +136,21 @@ use Rattle.cases.proofs.ClaimTests.{all-so}
 cases-hold : AllHold marked × Worked
 unfolding digits all any same lastIs sum joined tabulate firstBreak operator operators isLetter isDigit isSpace
     isPrintable isAllowed isWordByte isLabelByte noTwoSpaces isLabel reserved isReserved isShort depth le2 le4
-    storedTree isInRange hasType hasOperators power apply decides evaluateBy rowsFit storedIn storedFieldIn fieldBody
-    headBody tens units border cellText rowLines isFrame headLines cells mismatch ruleBroken bitsAt valueIn
-    readFieldIn readFieldsIn readingIn fieldsBefore entriesBefore entryLines linesText faultNumber ofTable ofPacket
-    ofText ofListing delivered readingAnswer packetOutcomeIn partlyOutcome firstNamed readingLines manyFields notTimes
-    andTimes after manyRows manyLines firstOf insert longestFirst order skip skipBehind operatorAt word behind scan
-    wordValue isNumeral isNumberWord andThen leaf close inside atom step expr more Lines.readField literal begins
-    labelEnds labelText labelBehind readLabel readClosedName readShort readTree unitOf readUnit readMeasure readWidth
-    readPhrase readMaybe isCondition isConstraint readConstraint readCondition isRemark readForm Frames.readName
-    Frames.step onFirst pieces rest lead leftTrim keepEnd rightTrim cellOf keepRow longOf readRow closing readTens
-    onName onWidth onRow rowOrEnd opened onSame run rightFrom rightLines whole readFrame firstIndex renameTree resolve
+    storedTree isInRange hasType hasOperators power apply decides evaluateBy rowsFit treeReads fieldReads times
+    readers storedIn storedWith recordsIn storedFieldIn fieldBody headBody tens units border cellText rowLines
+    isFrame headLines cells mismatch ruleBroken bitsAt valueIn readFieldIn readFieldsIn readingIn fieldsBefore
+    entriesBefore entryLines linesText faultNumber ofTable ofPacket ofText ofField ofListing ofConversion delivered
+    readingAnswer packetOutcomeIn partlyOutcome firstNamed readingLines manyFields notTimes andTimes after manyRows
+    manyLines firstOf insert longestFirst order skip skipBehind operatorAt word behind scan wordValue isNumeral
+    isNumberWord andThen leaf close inside atom step expr more Lines.readField literal begins labelEnds labelText
+    labelBehind readLabel readClosedName readShort readTree unitOf readUnit readMeasure readWidth readPhrase
+    readMaybe isCondition isConstraint readConstraint readCondition isRemark readForm Frames.readName Frames.step
+    onFirst pieces rest lead leftTrim keepEnd rightTrim cellOf keepRow longOf readRow closing readTens onName
+    onWidth onRow rowOrEnd opened onSame run rightFrom rightLines whole readFrame firstIndex renameTree resolve
     sameTree formsOf seen Tables.readTwo Tables.readFour Tables.readCounted Tables.codeIn Tables.codeOf
     Tables.readAfter Tables.readTree Tables.treeOf Tables.readFixed Tables.readMeasured Tables.readWidth
     Tables.fieldFrom Tables.readField Tables.readFields Tables.describedIn entriesOf linesOf Wrong.powers
-    Wrong.quotients
+    Wrong.quotients doubled
 cases-hold = (
   -- M4, the fifth of the list, for every byte
   in-order (take 4 marked) (drop 4 marked) (all-right (take 4 marked) refl)
@@ -159,6 +163,7 @@ cases-hold = (
     names = all-right names refl;
     quotients = all-right quotients refl;
     tables = all-right storedTable refl;
+    readers = all-right Counted.readers refl;
     spelling = all-right spelling refl;
     packets = all-right readingAPacket refl;
     refusals = all-right refusalNumbers refl;

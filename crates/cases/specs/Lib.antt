@@ -5,6 +5,7 @@
 -- Names            which names may be read, and which clash
 -- Quotients        quotients, remainders and powers, everywhere
 -- StoredTable      tables, and what is looked up in them
+-- Readers          how often a field is read by others, and old tables
 -- Spelling         texts that spell a description
 -- ReadingAPacket   packets, and what is handed out
 -- RefusalNumbers   numbers and places of refusals
@@ -16,6 +17,7 @@ pub mod Fields
 pub mod Names
 pub mod Quotients
 pub mod StoredTable
+pub mod Readers
 pub mod Spelling
 pub mod ReadingAPacket
 pub mod RefusalNumbers

@@ -60,9 +60,9 @@ descriptions =
 
 abbrev inTables : List Case
 inTables =
-    checks (stored (tables.byLabel "Mine")) (accepted 81)
+    checks (stored (tables.byLabel "Mine")) (accepted 87)
     ∷ checks (stored (tables.byLabel "My Own")) (refused 21 0)
-    ∷ checks (stored tables.oneWord) (accepted 79)
+    ∷ checks (stored tables.oneWord) (accepted 85)
     ∷ checks (stored tables.labelFirst) (refused 21 0)
     ∷ checks (stored tables.shortFirst) (refused 21 0)
     ∷ checks (stored tables.crossed) (refused 21 0)

@@ -252,7 +252,7 @@ inOrder =
 abbrev inTables : List Case
 inTables =
     -- 13, 14, 15 are hexadecimal; what comes behind them says nothing
-    map (λ c. checks (tables.coded c) (accepted 84)) (0x12 ∷ 0x13 ∷ 0x14 ∷ 0x15 ∷ [])
+    map (λ c. checks (tables.coded c) (accepted 90)) (0x12 ∷ 0x13 ∷ 0x14 ∷ 0x15 ∷ [])
     ++ map (λ c. checks (tables.coded c) (refused 21 0)) (13 ∷ 14 ∷ 15 ∷ 0x16 ∷ 0x17 ∷ [])
 
 -- ── texts ──

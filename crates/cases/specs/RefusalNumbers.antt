@@ -10,10 +10,12 @@ use Rattle.rules.specs.declared.Fault.{Fault}
 use Rattle.rules.specs.declared.TableAnswer.{TableAnswer}
 use Rattle.rules.specs.declared.PacketAnswer.{PacketAnswer}
 use Rattle.rules.specs.declared.TextAnswer.{TextAnswer}
+use Rattle.rules.specs.declared.FieldAnswer.{FieldAnswer}
 use Rattle.rules.specs.declared.ListingAnswer.{ListingAnswer}
+use Rattle.rules.specs.declared.ConversionAnswer.{ConversionAnswer}
 use Rattle.rules.specs.Trees.{num}
 use Rattle.rules.specs.Fields.{fixed}
-use Rattle.rules.specs.Answers.{accepted, refused, ofTable, ofPacket, ofText, ofListing}
+use Rattle.rules.specs.Answers.{accepted, refused, ofTable, ofPacket, ofText, ofField, ofListing, ofConversion}
 use Rattle.rules.specs.Promises.{leaves}
 use Rattle.rules.specs.Cases.{Case, checks, breaks, refuses, answers, stands, named, unnamed}
 use Rattle.rules.specs.Marked.{tagText, tagTable}
@@ -150,8 +152,8 @@ counts =
     ∷ refuses (crowded 17) (refused 4 0)
     ∷ refuses (crowded 16) (refused 7 41)
     ∷ refuses (manyText 129) (refused 4 0)
-    ∷ answers (manyText 65) (replicate 1113 9) (leaves (accepted 1113) (stored (page (manyFields 0 65))))
-    ∷ answers (manyText 128) (replicate 2212 9) (leaves (accepted 2212) (stored (page (manyFields 0 128))))
+    ∷ answers (manyText 65) (replicate 1243 9) (leaves (accepted 1243) (stored (page (manyFields 0 65))))
+    ∷ answers (manyText 128) (replicate 2468 9) (leaves (accepted 2468) (stored (page (manyFields 0 128))))
     ∷ []
 
 abbrev forms : List Case
@@ -197,9 +199,9 @@ wholeTexts =
 abbrev outputs : List Case
 outputs =
     -- the table is written where there is room, what lies beyond it stays; else 11
-    answers tagText (replicate 50 9) (leaves (accepted 44) (tagTable ++ replicate 6 9))
-    ∷ answers tagText (replicate 44 9) (leaves (accepted 44) tagTable)
-    ∷ answers tagText (replicate 43 9) (leaves (refused 11 0) (replicate 43 9))
+    answers tagText (replicate 50 9) (leaves (accepted 46) (tagTable ++ replicate 4 9))
+    ∷ answers tagText (replicate 46 9) (leaves (accepted 46) tagTable)
+    ∷ answers tagText (replicate 45 9) (leaves (refused 11 0) (replicate 45 9))
     ∷ answers [] (replicate 50 9) (leaves (refused 3 1) (replicate 50 9))
     ∷ []
 
@@ -209,10 +211,10 @@ tagWith i b = set tagTable i b
 
 abbrev tables : List Case
 tables =
-    checks tagTable (accepted 44)
+    checks tagTable (accepted 46)
     -- 21: no bytes, a byte less, a byte more
     ∷ checks [] (refused 21 0)
-    ∷ checks (take 43 tagTable) (refused 21 0)
+    ∷ checks (take 45 tagTable) (refused 21 0)
     ∷ checks (tagTable ++ (0 ∷ [])) (refused 21 0)
     -- 21: a record's length or kind, W, the number of fields, NAME
     ∷ checks (tagWith 0 0x0E) (refused 21 0)
@@ -221,20 +223,20 @@ tables =
     ∷ checks (tagWith 6 2) (refused 21 0)
     ∷ checks (tagWith 12 0x2D) (refused 21 0)
     ∷ checks (tagWith 15 0x06) (refused 21 0)
-    ∷ checks (tagWith 42 0x04) (refused 21 0)
+    ∷ checks (tagWith 44 0x04) (refused 21 0)
     -- 21: a width that leaves a row unfilled, a code that says nothing, a field that is not there
-    ∷ checks (tagWith 26 7) (refused 21 0)
-    ∷ checks (tagWith 30 0x26) (refused 21 0)
-    ∷ checks (tagWith 32 1) (refused 21 0)
+    ∷ checks (tagWith 28 7) (refused 21 0)
+    ∷ checks (tagWith 32 0x26) (refused 21 0)
+    ∷ checks (tagWith 34 1) (refused 21 0)
     -- the most fields, and one more [02, R-10]
-    ∷ checks (stored (page (manyFields 0 128))) (accepted 2212)
+    ∷ checks (stored (page (manyFields 0 128))) (accepted 2468)
     ∷ checks (stored (page (manyFields 0 129))) (refused 21 0)
     ∷ []
 
 abbrev answersOfTheCode : List Case
 answersOfTheCode =
     -- 01's numbers for the answers of the code
-    stands (ofTable (TableAnswer.Good 44)) (accepted 44)
+    stands (ofTable (TableAnswer.Good 46)) (accepted 46)
     ∷ stands (ofTable TableAnswer.NotGood) (refused 21 0)
     ∷ stands (ofPacket (PacketAnswer.Accepted 64)) (accepted 64)
     ∷ stands (ofPacket PacketAnswer.NotGood) (refused 21 0)
@@ -246,7 +248,7 @@ answersOfTheCode =
     ∷ stands (ofPacket (PacketAnswer.Refused Fault.OutOfRange 2)) (refused 27 2)
     ∷ stands (ofPacket (PacketAnswer.Refused Fault.ZeroDivisor 2)) (refused 29 2)
     ∷ stands (ofPacket PacketAnswer.LeftOver) (refused 28 0)
-    ∷ stands (ofText (TextAnswer.Accepted 44)) (accepted 44)
+    ∷ stands (ofText (TextAnswer.Accepted 46)) (accepted 46)
     ∷ stands (ofText TextAnswer.TooLong) (refused 1 0)
     ∷ stands (ofText TextAnswer.BadByte) (refused 2 0)
     ∷ stands (ofText (TextAnswer.BadLine 11)) (refused 3 11)
@@ -260,6 +262,13 @@ answersOfTheCode =
     ∷ stands (ofText TextAnswer.NoRoom) (refused 11 0)
     ∷ stands (ofListing (ListingAnswer.Written 92)) (accepted 92)
     ∷ stands (ofListing ListingAnswer.NoRoom) (refused 11 0)
+    -- what is told of a field, and a table that is converted [02, R-5]
+    ∷ stands (ofField (FieldAnswer.At 4)) (accepted 4)
+    ∷ stands (ofField FieldAnswer.NotGood) (refused 21 0)
+    ∷ stands (ofField FieldAnswer.Unknown) (refused 30 0)
+    ∷ stands (ofConversion (ConversionAnswer.Converted 46)) (accepted 46)
+    ∷ stands (ofConversion ConversionAnswer.NotGood) (refused 21 0)
+    ∷ stands (ofConversion ConversionAnswer.NoRoom) (refused 11 0)
     ∷ []
 
 abbrev pub refusalNumbers : List Case

@@ -24,9 +24,9 @@ lookups =
     ∷ finds bladeReport (bytes "Bla") (refused 30 0)
     ∷ finds bladeReport [] (refused 30 0)
     -- a label as a part of the table; the empty part at its start where there is no such field
-    ∷ labels bladeReport 0 (bytes "Version") 28
-    ∷ labels bladeReport 1 (bytes "On Loan") 58
-    ∷ labels bladeReport 6 (bytes "Sum") 186
+    ∷ labels bladeReport 0 (bytes "Version") 30
+    ∷ labels bladeReport 1 (bytes "On Loan") 62
+    ∷ labels bladeReport 6 (bytes "Sum") 200
     ∷ labels bladeReport 7 [] 0
     ∷ []
 

@@ -10,6 +10,9 @@
 -- Decidable     whether a table is good is decidable
 -- Earlier       what an edition with narrower limits accepts is accepted by one with wider ones
 -- Without       what an edition without the operators of codes 0x13 to 0x15 gives stays
+-- Counting      how often a field is read fits into two bytes, and may be counted field by field
+-- Numbers       a record keeps the true number, an old table none
+-- Converted     what converting an old table gives
 -- Powers        a power by at most 32 products
 -- GoodTest      good, by one test of a table's bytes
 -- Readings      what an accepted packet's entries come from
@@ -18,6 +21,7 @@
 -- PlacesOfNumbers  numbers that stand in two bytes and in four
 -- Settled       the promises settle each answer and buffer
 -- RunCover      the entries in the run after an accepted packet cover it
+-- Allowed         all that a promise allows
 -- RuledOut        the answers of wrong programs (specs/Wrong) are ruled out
 -- RuledOutAlways  what is ruled out for all inputs
 -- Places        where bytes stand: joined, split, the byte in front, the end
@@ -33,6 +37,9 @@ pub mod Unique
 pub mod Decidable
 pub mod Earlier
 pub mod Without
+pub mod Counting
+pub mod Numbers
+pub mod Converted
 pub mod Powers
 pub mod GoodTest
 pub mod Readings
@@ -41,6 +48,7 @@ pub mod Conditions
 pub mod PlacesOfNumbers
 pub mod Settled
 pub mod RunCover
+pub mod Allowed
 pub mod RuledOut
 pub mod RuledOutAlways
 pub mod Places

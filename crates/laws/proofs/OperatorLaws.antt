@@ -73,7 +73,6 @@ keeps-known before l = none-breaks (keepsOperatorsIn current) before l (λ b i f
 pub record Widens (a b : Edition) : Type 0 where
   pub fields : a .fields ≤ b .fields
   pub packet : a .packet ≤ b .packet
-  pub kind : a .fixedKind ≡ b .fixedKind
   pub knows : (o : Op) → a .knows o ≡ true → b .knows o ≡ true
   pub means : (o : Op) → a .knows o ≡ true → (x y : ℕ) → a .means o x y ≡ b .means o x y
 

@@ -87,19 +87,23 @@ fieldFrom label short width constraint condition = record {
   condition = unlessEmpty treeOf condition;
 }
 
+-- the number in front of a field's body, where the edition keeps it, is skipped
+abbrev pub behindKept : Edition → List ℕ → List ℕ
+behindKept e s = cond (e .keepsReaders) (drop 2 s) s
+
 -- a field's record; its length is skipped
-unfoldable pub readField : ℕ → Reader (Field ℕ)
-readField first s =
+unfoldable pub readField : Edition → Reader (Field ℕ)
+readField e s =
     andThen (readTwo (drop 2 s)) (λ kind s₁.
-    andThen (readCounted s₁) (λ label s₂.
+    andThen (readCounted (behindKept e s₁)) (λ label s₂.
     andThen (readCounted s₂) (λ short s₃.
-    andThen (readWidth first kind s₃) (λ width s₄.
+    andThen (readWidth (e .fixedKind) kind s₃) (λ width s₄.
     andThen (readCounted s₄) (λ constraint s₅.
     andThen (readCounted s₅) (λ condition r. (fieldFrom label short width constraint condition, r)))))))
 
-unfoldable pub readFields : ℕ → ℕ → Reader (List (Field ℕ))
-readFields first zero s = ([], s)
-readFields first (suc n) s = andThen (readField first s) (λ f r. andThen (readFields first n r) (λ l q. (f ∷ l, q)))
+unfoldable pub readFields : Edition → ℕ → Reader (List (Field ℕ))
+readFields e zero s = ([], s)
+readFields e (suc n) s = andThen (readField e s) (λ f r. andThen (readFields e n r) (λ l q. (f ∷ l, q)))
 
 -- the description that a stored table of an edition stores; the first record's length and kind, and the last record,
 -- are skipped
@@ -108,5 +112,5 @@ describedIn e s =
     andThen (readTwo (drop 2 (drop 2 s))) (λ row s₁.
     andThen (readTwo s₁) (λ count s₂.
     andThen (readCounted s₂) (λ name s₃.
-    andThen (readFields (e .fixedKind) count s₃) (λ fields r.
+    andThen (readFields e count s₃) (λ fields r.
     record { name = name; rowWidth = row; fields = fields }))))

@@ -1,18 +1,18 @@
 -- What the record of a field stores is read again.
 use mathlib.Core.Path.{_≡_, refl, _∙_, ap}
-use mathlib.Core.Bool.{true, _&&_, _||_, not}
+use mathlib.Core.Bool.{Bool, true, false, cond, _&&_, _||_, not}
 use mathlib.Core.List.{List, [], _∷_, _++_, append-assoc}
 use mathlib.Core.Option.{Option, none, some}
-use Prim.Native.Nat.{ℕ, _+_, _<_, _≤_}
+use Prim.Native.Nat.{ℕ, suc, _+_, _<_, _≤_}
 use native.Mathlib.Omega.{arith}
 use lib.Dec.{leb, eqb}
-use lib.ListN.{length}
+use lib.ListN.{length, drop}
 use borrow.Author.Tests.{leb-true, ltb-true, eqb-true, eq-eqb, ne-eqb}
-use Rattle.base.specs.Lists.{all, joined, headIs, between, ifAny, listOf, firstBreak}
+use Rattle.base.specs.Lists.{all, headIs, between, ifAny, listOf, firstBreak}
 use Rattle.base.proofs.Breaks.{and-true, or-true, all-one, all-append, firstBreak-cons}
 use Rattle.rules.specs.Limits.{labelMost, shortMost, fixedMost}
 use Rattle.rules.specs.Names.{isLetter, isWordByte, isReserved, isLabel, isShort}
-use Rattle.rules.specs.Trees.{Tree, isSmall, isInRange, isNumber}
+use Rattle.rules.specs.Trees.{Tree, le2, isSmall, isInRange, isNumber}
 use Rattle.rules.specs.Fields.{Width, fixed, measured, rest, Field, widthTrees, trees}
 use Rattle.rules.specs.Editions.{Edition}
 use Rattle.rules.specs.Within.{isWidth, isFormed, keepsForm, keepsSize}
@@ -23,7 +23,9 @@ use Rattle.rules.specs.Stored.{
   storedName,
   storedMaybe,
   fieldBody,
+  keptIn,
   storedFieldIn,
+  recordsIn,
 }
 use Rattle.laws.proofs.Readers.{
   treeOf,
@@ -32,6 +34,7 @@ use Rattle.laws.proofs.Readers.{
   readMeasured,
   readWidth,
   fieldFrom,
+  behindKept,
   readField,
   readFields,
 }
@@ -86,7 +89,7 @@ unit-bound u h =
 pub fixed-bound : (n : ℕ) → between 1 n fixedMost ≡ true → n < 65536
 fixed-bound n h = omega (arith, leb-true n fixedMost (and-true (leb 1 n) (leb n fixedMost) h .1))
 
-kind-bound : (e : Edition) (w : Width ℕ) → kindIn e w < 65536
+pub kind-bound : (e : Edition) (w : Width ℕ) → kindIn e w < 65536
 kind-bound e (fixed n) = omega (arith, ltb-true (e .fixedKind + 2) 65536 (e .short))
 kind-bound e (measured u t) = omega (arith, ltb-true (e .fixedKind + 2) 65536 (e .short))
 kind-bound e rest = omega (arith, ltb-true (e .fixedKind + 2) 65536 (e .short))
@@ -131,10 +134,18 @@ pub formed-names : {N : Type 0} (f : Field N) → isFormed f ≡ true
     → (isLabel (f .label) ≡ true) × (ifAny isShort (f .short) ≡ true)
 formed-names f h = let e = formed-parts f h in (e .0, e .1)
 
-pub readField-stored : (e : Edition) (f : Field ℕ) → isFormed f ≡ true → all isSmall (trees f) ≡ true → (r : List ℕ)
-    → readField (e .fixedKind) (storedFieldIn e f ++ r) ≡ (f, r)
+behind-kept : (e : Edition) (n : ℕ) (s : List ℕ) → behindKept e (keptIn e n ++ s) ≡ s
+unfolding le2
+behind-kept e n s = go (e .keepsReaders)
+  where
+    go : (b : Bool) → cond b (drop 2 (cond b (le2 n) [] ++ s)) (cond b (le2 n) [] ++ s) ≡ s
+    go true = refl
+    go false = refl
+
+pub readField-stored : (e : Edition) (n : ℕ) (f : Field ℕ) → isFormed f ≡ true → all isSmall (trees f) ≡ true
+    → (r : List ℕ) → readField e (storedFieldIn e n f ++ r) ≡ (f, r)
 unfolding readField storedFieldIn fieldBody fieldFrom
-readField-stored edition f formed small r =
+readField-stored edition n f formed small r =
     let w = widthTrees (f .width) in
     let c = listOf (f .constraint) in
     let k = listOf (f .condition) in
@@ -148,6 +159,7 @@ readField-stored edition f formed small r =
       append-assoc,
       skip-le2,
       readTwo-le2 (kindIn edition (f .width)) (kind-bound edition (f .width)),
+      behind-kept edition n,
       readCounted-counted (f .label) label,
       readCounted-counted (storedName (f .short)) (name-length (f .short) (e .1)),
       readWidth-stored edition (f .width) (e .2) (range .0) (size .0),
@@ -158,16 +170,16 @@ readField-stored edition f formed small r =
       maybe-stored (f .condition) (ranges .1) (sizes .1),
     )
 
-pub readFields-stored : (edition : Edition) (before l : List (Field ℕ)) → firstBreak keepsForm before l ≡ none
-    → firstBreak keepsSize before l ≡ none → (r : List ℕ)
-    → readFields (edition .fixedKind) (length l) (joined (storedFieldIn edition) l ++ r) ≡ (l, r)
-unfolding readFields joined
-readFields-stored edition before [] formed small r = refl
-readFields-stored edition before (f ∷ l) formed small r =
-    let e = firstBreak-cons keepsForm before f l formed in
-    let s = firstBreak-cons keepsSize before f l small in
+pub readFields-stored : (e : Edition) (numbers : ℕ → ℕ) (i : ℕ) (before l : List (Field ℕ))
+    → firstBreak keepsForm before l ≡ none → firstBreak keepsSize before l ≡ none → (r : List ℕ)
+    → readFields e (length l) (recordsIn e numbers i l ++ r) ≡ (l, r)
+unfolding readFields recordsIn
+readFields-stored e numbers i before [] formed small r = refl
+readFields-stored e numbers i before (f ∷ l) formed small r =
+    let a = firstBreak-cons keepsForm before f l formed in
+    let b = firstBreak-cons keepsSize before f l small in
     rw (
-      append-assoc (storedFieldIn edition f) (joined (storedFieldIn edition) l) r,
-      readField-stored edition f (e .0) (s .0),
-      readFields-stored edition (before ++ (f ∷ [])) l (e .1) (s .1),
+      append-assoc (storedFieldIn e (numbers i) f) (recordsIn e numbers (suc i) l) r,
+      readField-stored e (numbers i) f (a .0) (b .0),
+      readFields-stored e numbers (suc i) (before ++ (f ∷ [])) l (a .1) (b .1),
     )

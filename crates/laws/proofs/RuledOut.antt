@@ -1,17 +1,15 @@
--- What the promises rule out. For the stored table of a description within the limits, a promise allows one answer and
--- one buffer; of other numbers it is false. Each claim of specs/Wrong has other numbers, by one computation.
-use mathlib.Core.Path.{_≡_, refl, ap, sym, _∙_}
-use mathlib.Core.Bool.{Bool, true, cond, _&&_, not}
+-- What the promises rule out. A promise allows one answer and one buffer (Allowed); of other numbers it is false. Each
+-- claim of specs/Wrong has other numbers, by one computation.
+use mathlib.Core.Path.{_≡_, refl, ap, _∙_}
+use mathlib.Core.Bool.{Bool, true, _&&_, not}
 use mathlib.Core.List.{List, [], _∷_, _++_}
 use Prim.Native.Nat.{ℕ}
-use native.Mathlib.Omega.{arith}
 use lib.ListN.{length, getElem?, replicate}
 use Rattle.base.specs.Bytes.{digits}
 use Rattle.base.specs.Lists.{all, any, same, lastIs, sum, joined, firstBreak}
 use Rattle.base.proofs.Lists.{every-passes, not-same}
 use Rattle.base.proofs.Breaks.{and-true}
 use Rattle.rules.specs.Limits.{limits}
-use Rattle.rules.specs.Editions.{Edition, current}
 use Rattle.rules.specs.Operators.{operator, operators}
 use Rattle.rules.specs.Names.{
   isLetter,
@@ -27,9 +25,9 @@ use Rattle.rules.specs.Names.{
 }
 use Rattle.rules.specs.Trees.{depth, le2, le4, storedTree, isInRange, hasOperators, hasType}
 use Rattle.rules.specs.Values.{power, apply, decides, evaluateBy}
-use Rattle.rules.specs.Fields.{Description}
-use Rattle.rules.specs.Within.{rowsFit, Within}
-use Rattle.rules.specs.Stored.{storedIn, storedFieldIn, stored, fieldBody, headBody, Good}
+use Rattle.rules.specs.Within.{rowsFit}
+use Rattle.rules.specs.References.{treeReads, fieldReads, times, readers}
+use Rattle.rules.specs.Stored.{storedIn, storedWith, recordsIn, storedFieldIn, stored, fieldBody, headBody}
 use Rattle.rules.specs.Reading.{
   Part,
   partIn,
@@ -49,45 +47,49 @@ use Rattle.rules.specs.Promises.{
   Outcome,
   leaves,
   delivered,
-  notGood,
-  ChecksTableIn,
-  ChecksTable,
   readingAnswer,
   packetOutcome,
   packetOutcomeIn,
-  ReadsPacketIn,
-  ReadsPacket,
-  partBy,
-  PlacesPart,
-  movedBy,
-  Lends,
-  LendsPart,
   firstNamed,
-  FindsField,
-  labelOf,
-  labelBy,
-  PlacesLabel,
-  LendsLabel,
   readingLines,
   listing,
-  ListsPacket,
   Partly,
   leavesPartly,
   partlyOutcome,
-  ReadsPartly,
-  shortOf,
-  shortBy,
-  PlacesShort,
-  LendsShort,
-  CountsFields,
   kindAnswer,
-  TellsKind,
+  readersAnswer,
 }
-use Rattle.rules.specs.Pages.{manyFields}
+use Rattle.rules.specs.Pages.{manyFields, notTimes, andTimes}
 use Rattle.laws.proofs.WithinTest.{isWithin, within}
-use Rattle.laws.proofs.Decidable.{good-decidable-in}
-use Rattle.laws.proofs.GoodTest.{isGoodIn, told-by, answerIn, table-told}
+use Rattle.laws.proofs.GoodTest.{answerIn}
 use Rattle.laws.proofs.Readers as Tables
+use Rattle.laws.proofs.Allowed.{
+  table-only,
+  outcomeIn,
+  answer-only,
+  outcome-only-in,
+  outcome-only,
+  listing-only,
+  part-only,
+  part-place-only,
+  field-only,
+  foundIn,
+  found-only,
+  labelAt,
+  label-only,
+  label-place-only,
+  count-only,
+  kind-only,
+  shortAt,
+  short-only,
+  short-place-only,
+  partly-only,
+  readers-only,
+  readersIn,
+  readers-only-in,
+  convertedIn,
+  converted-only,
+}
 use Rattle.laws.specs.Wrong.{
   Claim,
   checks,
@@ -110,6 +112,9 @@ use Rattle.laws.specs.Wrong.{
   shorts,
   placesShort,
   partlyWith,
+  countsReaders,
+  countsReadersIn,
+  convertsWith,
   Claimed,
   AllFalse,
   wrong,
@@ -117,114 +122,8 @@ use Rattle.laws.specs.Wrong.{
 use Rattle.laws.specs.WrongLimits.{entriesOf, linesOf, wrongLimits}
 use Rattle.laws.specs.WrongNames.{wrongNames}
 use Rattle.laws.specs.WrongOperators.{powers, quotients, wrongOperators}
-
--- ── all that a promise allows ──
-
-abbrev pub good-stored : (d : Description) → Within d → Good (stored d)
-good-stored d w = record { description = d; within = w; isStored = refl }
-
-pub table-only : (d : Description) (a : Answer) → Within d → ChecksTable (stored d) a → a ≡ accepted (length (stored d))
-table-only d a w p = p (yes (good-stored d w))
-
--- the outcome of a packet, by an edition
-abbrev pub outcomeIn : Edition → List ℕ → List ℕ → List ℕ → Outcome
-outcomeIn e table packet run =
-    cond (isGoodIn e table) (packetOutcomeIn e (Tables.describedIn e table) packet run) (leaves notGood run)
-
-pub answer-only : (e : Edition) (table : List ℕ) (a : Answer) → ChecksTableIn e table a → a ≡ answerIn e table
-answer-only e table a p =
-    let good = good-decidable-in e table in
-    p good ∙ sym (table-told e table good)
-
-pub outcome-only-in : (e : Edition) (table packet run : List ℕ) (o : Outcome) → ReadsPacketIn e table packet run o
-    → o ≡ outcomeIn e table packet run
-outcome-only-in e table packet run o p =
-    let good = good-decidable-in e table in
-    p good ∙ sym (told-by e table (λ d. packetOutcomeIn e d packet run) (leaves notGood run) good)
-
-pub outcome-only : (d : Description) (packet run : List ℕ) (o : Outcome) → Within d
-    → ReadsPacket (stored d) packet run o → o ≡ packetOutcome d packet run
-outcome-only d packet run o w p = p (yes (good-stored d w))
-
-pub listing-only : (d : Description) (packet out : List ℕ) (o : Outcome) → Within d
-    → ListsPacket (stored d) packet out o → o ≡ delivered (listing d packet) out
-listing-only d packet out o w p = p (yes (good-stored d w))
-
-moved-back : (n m : ℕ) (from : ℕ × ℕ) → movedBy n from ≡ movedBy m from → n ≡ m
-moved-back n m from e = omega (arith, ap (λ (p : ℕ × ℕ). p .1) e)
-
--- bytes that are lent at a place are those of the part, which starts there
-lent-only : (buffer : List ℕ) (from : ℕ × ℕ) (part : Part) (bytes : List ℕ) (start : ℕ)
-    → Lends buffer from part bytes (movedBy start from) → (bytes ≡ partBytes buffer part) × (start ≡ part .start)
-lent-only buffer from part bytes start p = (p .content, moved-back start (part .start) from (p .place))
-
-pub part-only : (d : Description) (packet : List ℕ) (i : ℕ) (from : ℕ × ℕ) (bytes : List ℕ) (start : ℕ) → Within d
-    → LendsPart (stored d) packet i from bytes (movedBy start from)
-    → (bytes ≡ partBytes packet (partIn (reading d packet) i)) × (start ≡ partIn (reading d packet) i .start)
-unfolding partBy
-part-only d packet i from bytes start w p =
-    lent-only packet from (partIn (reading d packet) i) bytes start (p (yes (good-stored d w)))
-
-pub part-place-only : (d : Description) (packet : List ℕ) (i : ℕ) (part : Part) → Within d
-    → PlacesPart (stored d) packet i part → part ≡ partIn (reading d packet) i
-unfolding partBy
-part-place-only d packet i part w p = p (yes (good-stored d w))
-
-pub field-only : (d : Description) (name : List ℕ) (a : Answer) → Within d → FindsField (stored d) name a
-    → a ≡ firstNamed name 0 (d .fields)
-field-only d name a w p = p (yes (good-stored d w))
-
--- the field of a name, in any table
-abbrev pub foundIn : List ℕ → List ℕ → Answer
-foundIn table name =
-    cond (isGoodIn current table) (firstNamed name 0 (Tables.describedIn current table .fields)) notGood
-
-pub found-only : (table name : List ℕ) (a : Answer) → FindsField table name a → a ≡ foundIn table name
-found-only table name a p =
-    let good = good-decidable-in current table in
-    p good ∙ sym (told-by current table (λ d. firstNamed name 0 (d .fields)) notGood good)
-
-abbrev pub labelAt : Description → ℕ → Part
-labelAt d i = labelOf d i (getElem? (d .fields) i)
-
-pub label-only : (d : Description) (i : ℕ) (from : ℕ × ℕ) (bytes : List ℕ) (start : ℕ) → Within d
-    → LendsLabel (stored d) i from bytes (movedBy start from)
-    → (bytes ≡ partBytes (stored d) (labelAt d i)) × (start ≡ labelAt d i .start)
-unfolding labelBy
-label-only d i from bytes start w p =
-    lent-only (stored d) from (labelAt d i) bytes start (p (yes (good-stored d w)))
-
-pub label-place-only : (d : Description) (i : ℕ) (part : Part) → Within d → PlacesLabel (stored d) i part
-    → part ≡ labelAt d i
-unfolding labelBy
-label-place-only d i part w p = p (yes (good-stored d w))
-
-pub count-only : (d : Description) (a : Answer) → Within d → CountsFields (stored d) a
-    → a ≡ accepted (length (d .fields))
-count-only d a w p = p (yes (good-stored d w))
-
-pub kind-only : (d : Description) (i : ℕ) (a : Answer) → Within d → TellsKind (stored d) i a
-    → a ≡ kindAnswer (getElem? (d .fields) i)
-kind-only d i a w p = p (yes (good-stored d w))
-
-abbrev pub shortAt : Description → ℕ → Part
-shortAt d i = shortOf d i (getElem? (d .fields) i)
-
-pub short-only : (d : Description) (i : ℕ) (from : ℕ × ℕ) (bytes : List ℕ) (start : ℕ) → Within d
-    → LendsShort (stored d) i from bytes (movedBy start from)
-    → (bytes ≡ partBytes (stored d) (shortAt d i)) × (start ≡ shortAt d i .start)
-unfolding shortBy
-short-only d i from bytes start w p =
-    lent-only (stored d) from (shortAt d i) bytes start (p (yes (good-stored d w)))
-
-pub short-place-only : (d : Description) (i : ℕ) (part : Part) → Within d → PlacesShort (stored d) i part
-    → part ≡ shortAt d i
-unfolding shortBy
-short-place-only d i part w p = p (yes (good-stored d w))
-
-pub partly-only : (d : Description) (packet run : List ℕ) (p : Partly) → Within d
-    → ReadsPartly (stored d) packet run p → p ≡ partlyOutcome d packet run
-partly-only d packet run p w h = h (yes (good-stored d w))
+use Rattle.laws.specs.WrongNumbers.{doubled, wrongNumbers}
+use Rattle.laws.specs.WrongRecords.{wrongRecords}
 
 -- ── of other numbers it is false ──
 
@@ -268,6 +167,9 @@ claimed (tellsKind d i a) = answerNumbers a
 claimed (shorts d i bytes start) = start ∷ bytes
 claimed (placesShort d i part) = placeNumbers part
 claimed (partlyWith m d packet a after n) = partlyNumbers (leavesPartly a after n)
+claimed (countsReaders d i a) = answerNumbers a
+claimed (countsReadersIn table i a) = answerNumbers a
+claimed (convertsWith n table a after) = numbers (leaves a after)
 
 abbrev pub given : Claim → List ℕ
 given (checks d r) = answerNumbers (accepted (length (stored d)))
@@ -290,6 +192,9 @@ given (tellsKind d i a) = answerNumbers (kindAnswer (getElem? (d .fields) i))
 given (shorts d i bytes start) = partNumbers (stored d) (shortAt d i)
 given (placesShort d i part) = placeNumbers (shortAt d i)
 given (partlyWith m d packet a after n) = partlyNumbers (partlyOutcome d packet (replicate m 9))
+given (countsReaders d i a) = answerNumbers (readersAnswer (d .fields) i)
+given (countsReadersIn table i a) = answerNumbers (readersIn table i)
+given (convertsWith n table a after) = numbers (convertedIn table (replicate n 9))
 
 -- what is claimed of a table is of the table of a description within the limits
 abbrev pub isFitting : Claim → Bool
@@ -313,6 +218,9 @@ isFitting (tellsKind d i a) = isWithin d
 isFitting (shorts d i bytes start) = isWithin d
 isFitting (placesShort d i part) = isWithin d
 isFitting (partlyWith m d packet a after n) = isWithin d
+isFitting (countsReaders d i a) = isWithin d
+isFitting (countsReadersIn table i a) = true
+isFitting (convertsWith n table a after) = true
 
 two-parts : {m n : ℕ} {s t : List ℕ} → (s ≡ t) × (m ≡ n) → m ∷ s ≡ n ∷ t
 two-parts {n = n} {s = s} q = ap (λ (k : ℕ). k ∷ s) (q .1) ∙ ap (λ (l : List ℕ). n ∷ l) (q .0)
@@ -342,6 +250,10 @@ claim-only (shorts d i bytes start) h p = two-parts (short-only d i (p .0) bytes
 claim-only (placesShort d i part) h p = ap placeNumbers (short-place-only d i part (within d h) p)
 claim-only (partlyWith m d packet a after n) h p =
     ap partlyNumbers (partly-only d packet (replicate m 9) (leavesPartly a after n) (within d h) p)
+claim-only (countsReaders d i a) h p = ap answerNumbers (readers-only d i a (within d h) p)
+claim-only (countsReadersIn table i a) h p = ap answerNumbers (readers-only-in table i a p)
+claim-only (convertsWith n table a after) h p =
+    ap numbers (converted-only table (replicate n 9) (leaves a after) p)
 
 abbrev pub isOther : Claim → Bool
 isOther c = isFitting c && not (same (claimed c) (given c))
@@ -354,14 +266,18 @@ ruled-out c h p =
 pub all-out : (cs : List Claim) → all isOther cs ≡ true → AllFalse cs
 all-out = every-passes isOther ruled-out
 
+abbrev pub everyClaim : List Claim
+everyClaim = wrong ++ (wrongLimits ++ (wrongNames ++ (wrongOperators ++ (wrongNumbers ++ wrongRecords))))
+
 -- each wrong program's answer is ruled out
-pub all-ruled-out : AllFalse (wrong ++ (wrongLimits ++ (wrongNames ++ wrongOperators)))
+pub all-ruled-out : AllFalse everyClaim
 unfolding digits all any same lastIs sum joined firstBreak operator operators isLetter isDigit isSpace isWordByte
     isLabelByte noTwoSpaces isLabel reserved isReserved isShort depth le2 le4 storedTree isInRange hasType
-    hasOperators power apply decides evaluateBy rowsFit storedIn storedFieldIn fieldBody headBody bitsAt valueIn
-    readFieldIn readFieldsIn readingIn entryLines linesText faultNumber ofPacket delivered readingAnswer
-    packetOutcomeIn readingLines firstNamed fieldsBefore entriesBefore partlyOutcome manyFields entriesOf linesOf
-    powers quotients Tables.readTwo Tables.readFour Tables.readCounted Tables.codeIn Tables.codeOf Tables.readAfter
-    Tables.readTree Tables.treeOf Tables.readFixed Tables.readMeasured Tables.readWidth Tables.fieldFrom
-    Tables.readField Tables.readFields Tables.describedIn
-all-ruled-out = all-out (wrong ++ (wrongLimits ++ (wrongNames ++ wrongOperators))) refl
+    hasOperators power apply decides evaluateBy rowsFit treeReads fieldReads times readers storedIn storedWith
+    recordsIn storedFieldIn fieldBody headBody bitsAt valueIn readFieldIn readFieldsIn readingIn entryLines
+    linesText faultNumber ofPacket delivered readingAnswer packetOutcomeIn readingLines firstNamed fieldsBefore
+    entriesBefore partlyOutcome manyFields notTimes andTimes entriesOf linesOf powers quotients doubled
+    Tables.readTwo Tables.readFour Tables.readCounted Tables.codeIn Tables.codeOf Tables.readAfter Tables.readTree
+    Tables.treeOf Tables.readFixed Tables.readMeasured Tables.readWidth Tables.fieldFrom Tables.readField
+    Tables.readFields Tables.describedIn
+all-ruled-out = all-out everyClaim refl

@@ -1,5 +1,6 @@
--- What the promise of reading a packet rules out for all inputs: an invented bit total, a run that a refusal changes,
--- 21 for a good table, and anything else for a table that is not good.
+-- What the promises rule out for all inputs. Of reading a packet: an invented bit total, a run that a refusal changes,
+-- 21 for a good table, and anything else for a table that is not good. Of how often a field is read: 21 for a good
+-- table. Of converting: an output that a refusal changes, 21 for an old table that was good.
 use mathlib.Core.Path.{_≡_, refl, sym, ap, _∙_}
 use mathlib.Core.Bool.{Bool, true, false, cond, _&&_, not}
 use mathlib.Core.List.{List}
@@ -8,11 +9,14 @@ use native.Mathlib.Omega.{arith}
 use lib.Dec.{ltb}
 use lib.ListN.{length}
 use Rattle.rules.specs.declared.PacketAnswer.{PacketAnswer}
+use Rattle.rules.specs.declared.ConversionAnswer.{ConversionAnswer}
 use Rattle.rules.specs.Fields.{Description}
 use Rattle.rules.specs.Within.{Within}
-use Rattle.rules.specs.Stored.{stored, Good}
+use Rattle.rules.specs.Editions.{uncounted}
+use Rattle.rules.specs.References.{readers}
+use Rattle.rules.specs.Stored.{stored, GoodIn, Good}
 use Rattle.rules.specs.Reading.{Reading, complete, refusing, isTooLong, reading, bitTotal}
-use Rattle.rules.specs.Answers.{Answer, accepted, refused, ofPacket}
+use Rattle.rules.specs.Answers.{Answer, accepted, refused, ofPacket, ofConversion}
 use Rattle.rules.specs.Promises.{
   Outcome,
   leaves,
@@ -24,10 +28,14 @@ use Rattle.rules.specs.Promises.{
   packetOutcome,
   packetOutcomeIn,
   ReadsPacket,
+  overlaid,
+  delivered,
+  CountsReaders,
+  ConvertsTable,
 }
 use Rattle.laws.proofs.Readings.{Told, reading-told}
-use Rattle.laws.proofs.Decidable.{good-decidable}
-use Rattle.laws.proofs.RuledOut.{table-only, outcome-only}
+use Rattle.laws.proofs.Decidable.{good-decidable, good-decidable-in}
+use Rattle.laws.proofs.Allowed.{table-only, outcome-only, readers-only}
 
 -- ── outcomes ──
 
@@ -111,3 +119,48 @@ good-read d packet run after w p =
     (leaves (readingAnswer (reading d packet) packet) (runAfter (reading d packet) run))
     (λ e. omega arith) (reading-other packet (reading d packet) (reading-told d packet))
     (sym (ap (λ (o : Outcome). o .answer .number) (outcome-only d packet run (leaves notGood after) w p)))
+
+-- and for how often a field is read by others
+pub good-counted : (d : Description) (i : ℕ) → Within d → CountsReaders (stored d) i notGood → ⊥
+good-counted d i w p =
+    either (λ (a : Answer). a .number ≡ 21 → ⊥) (ltb i (length (d .fields))) (accepted (readers (d .fields) i))
+    (refused 30 0) (λ e. omega arith) (λ e. omega arith)
+    (sym (ap (λ (a : Answer). a .number) (readers-only d i notGood w p)))
+
+-- ── an old table converted ── [02, R-5]
+
+-- accepted, or the output as it was; and not refused by 21
+record Delivers (out : List ℕ) (o : Outcome) : Type 0 where
+  keeps : (o .answer .number ≡ 0 → ⊥) → o .buffer ≡ out
+  good : o .answer .number ≡ 21 → ⊥
+
+delivers : (w out : List ℕ) → Delivers out (delivered w out)
+unfolding delivered
+delivers w out =
+    either (Delivers out) (ltb (length out) (length w)) (leaves (refused 11 0) out)
+    (leaves (accepted (length w)) (overlaid w out))
+    (record { keeps = λ e. refl; good = λ e. omega arith })
+    (record { keeps = λ e. absurd (e refl); good = λ e. omega arith })
+
+module _ (table out after : List ℕ) where
+  -- a refusal changes nothing
+  pub conversion-keeps : (r : ConversionAnswer) → (ofConversion r .number ≡ 0 → ⊥)
+      → ConvertsTable table out (leaves (ofConversion r) after) → after ≡ out
+  conversion-keeps r n p = go (good-decidable-in uncounted table)
+    where
+      go : Dec (GoodIn uncounted table) → after ≡ out
+      go (yes old) =
+          let e = p (yes old) in
+          ap (λ (o : Outcome). o .buffer) e
+          ∙ delivers (stored (old .description)) out .keeps (λ z. n (ap (λ (o : Outcome). o .answer .number) e ∙ z))
+      go (no bad) = ap (λ (o : Outcome). o .buffer) (p (no bad))
+
+  -- 21 for an old table that was good
+  pub old-converted-good : GoodIn uncounted table → ConvertsTable table out (leaves notGood after) → ⊥
+  old-converted-good old p =
+      delivers (stored (old .description)) out .good (sym (ap (λ (o : Outcome). o .answer .number) (p (yes old))))
+
+  -- a table that was not good is 21, and the output as it was
+  pub not-old-only : (r : ConversionAnswer) → (GoodIn uncounted table → ⊥)
+      → ConvertsTable table out (leaves (ofConversion r) after) → leaves (ofConversion r) after ≡ leaves notGood out
+  not-old-only r bad p = p (no bad)

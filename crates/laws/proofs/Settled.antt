@@ -10,8 +10,10 @@ use Rattle.rules.specs.declared.PacketAnswer.{PacketAnswer}
 use Rattle.rules.specs.declared.FieldAnswer.{FieldAnswer}
 use Rattle.rules.specs.declared.ListingAnswer.{ListingAnswer}
 use Rattle.rules.specs.declared.TextAnswer.{TextAnswer}
+use Rattle.rules.specs.declared.ConversionAnswer.{ConversionAnswer}
 use Rattle.rules.specs.Reading.{Part}
-use Rattle.rules.specs.Answers.{Answer, faultNumber, ofTable, ofPacket, ofField, ofListing, ofText}
+use Rattle.rules.specs.Answers.{Answer, faultNumber, ofTable, ofPacket, ofField, ofListing, ofText, ofConversion}
+use Rattle.rules.specs.Editions.{uncounted}
 use Rattle.rules.specs.Stored.{Good}
 use Rattle.rules.specs.Promises.{
   Outcome,
@@ -36,9 +38,11 @@ use Rattle.rules.specs.Promises.{
   LendsShort,
   CountsFields,
   TellsKind,
+  CountsReaders,
+  ConvertsTable,
 }
 use Rattle.rules.specs.Results.{TextUnique}
-use Rattle.laws.proofs.Decidable.{good-decidable}
+use Rattle.laws.proofs.Decidable.{good-decidable, good-decidable-in}
 
 -- ── an answer is known by its number, place and value ──
 
@@ -123,6 +127,17 @@ text-back (TextAnswer.BadName p) = refl
 text-back (TextAnswer.BadRest p) = refl
 text-back TextAnswer.NoRoom = refl
 
+conversionOf : Answer → ConversionAnswer
+conversionOf a =
+    cond (eqb (a .number) 0) (ConversionAnswer.Converted (a .amount))
+    (cond (eqb (a .number) 21) ConversionAnswer.NotGood ConversionAnswer.NoRoom)
+
+conversion-back : (r : ConversionAnswer) → conversionOf (ofConversion r) ≡ r
+unfolding conversionOf ofConversion
+conversion-back (ConversionAnswer.Converted n) = refl
+conversion-back ConversionAnswer.NotGood = refl
+conversion-back ConversionAnswer.NoRoom = refl
+
 pub table-number : (a b : TableAnswer) → ofTable a ≡ ofTable b → a ≡ b
 table-number a b e = sym (table-back a) ∙ ap tableOf e ∙ table-back b
 
@@ -137,6 +152,9 @@ field-number a b e = sym (field-back a) ∙ ap fieldOf e ∙ field-back b
 
 pub text-number : (a b : TextAnswer) → ofText a ≡ ofText b → a ≡ b
 text-number a b e = sym (text-back a) ∙ ap textOf e ∙ text-back b
+
+pub conversion-number : (a b : ConversionAnswer) → ofConversion a ≡ ofConversion b → a ≡ b
+conversion-number a b e = sym (conversion-back a) ∙ ap conversionOf e ∙ conversion-back b
 
 -- ── one answer for each input ──
 
@@ -218,6 +236,18 @@ count-settled table a b p q = table-number a b (both table _ (ofTable a) (ofTabl
 pub kind-settled : (table : List ℕ) (i : ℕ) (a b : FieldAnswer) → TellsKind table i (ofField a)
     → TellsKind table i (ofField b) → a ≡ b
 kind-settled table i a b p q = field-number a b (both table _ (ofField a) (ofField b) p q)
+
+pub readers-settled : (table : List ℕ) (i : ℕ) (a b : FieldAnswer) → CountsReaders table i (ofField a)
+    → CountsReaders table i (ofField b) → a ≡ b
+readers-settled table i a b p q = field-number a b (both table _ (ofField a) (ofField b) p q)
+
+pub conversion-settled : (table out : List ℕ) (a b : ConversionAnswer) (after other : List ℕ)
+    → ConvertsTable table out (leaves (ofConversion a) after)
+    → ConvertsTable table out (leaves (ofConversion b) other)
+    → (a ≡ b) × (after ≡ other)
+conversion-settled table out a b after other p q =
+    let old = good-decidable-in uncounted table in
+    apart ofConversion conversion-number a b after other (p old ∙ sym (q old))
 
 pub partly-settled : (table packet run : List ℕ) (a b : PacketAnswer) (after other : List ℕ) (n m : ℕ)
     → ReadsPartly table packet run (leavesPartly (ofPacket a) after n)

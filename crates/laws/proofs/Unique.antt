@@ -12,7 +12,8 @@ use Rattle.base.proofs.Breaks.{and-true, or-true}
 use Rattle.rules.specs.Editions.{Edition}
 use Rattle.rules.specs.Fields.{Description}
 use Rattle.rules.specs.Within.{isRowWidth, WithinIn}
-use Rattle.rules.specs.Stored.{headBody, storedIn}
+use Rattle.rules.specs.References.{readers}
+use Rattle.rules.specs.Stored.{headBody, storedWith, storedIn}
 use Rattle.rules.specs.Results.{StoredUnique}
 use Rattle.laws.proofs.Readers.{describedIn}
 use Rattle.laws.proofs.ReadsNumbers.{readTwo-le2, skip-le2, readCounted-counted}
@@ -34,9 +35,11 @@ count-bound e n h =
           (e .few),
     )
 
-pub described-stored : (e : Edition) (d : Description) → WithinIn e d → describedIn e (storedIn e d) ≡ d
-unfolding describedIn storedIn headBody
-described-stored e d w =
+-- whatever the numbers are
+pub described-with : (e : Edition) (numbers : ℕ → ℕ) (d : Description) → WithinIn e d
+    → describedIn e (storedWith e numbers d) ≡ d
+unfolding describedIn storedWith headBody
+described-with e numbers d w =
     let name : length (d .name) < 65536 = omega (arith, label-length (d .name) (w .name)) in
     simp (
       append-assoc,
@@ -44,8 +47,12 @@ described-stored e d w =
       readTwo-le2 (d .rowWidth) (row-bound (d .rowWidth) (w .row)),
       readTwo-le2 (length (d .fields)) (count-bound e (length (d .fields)) (w .count)),
       readCounted-counted (d .name) name,
-      readFields-stored e [] (d .fields) (w .form) (w .size),
+      readFields-stored e numbers 0 [] (d .fields) (w .form) (w .size),
     )
+
+pub described-stored : (e : Edition) (d : Description) → WithinIn e d → describedIn e (storedIn e d) ≡ d
+unfolding storedIn
+described-stored e d w = described-with e (readers (d .fields)) d w
 
 -- two descriptions within the limits that have one stored table are equal
 pub stored-unique : StoredUnique

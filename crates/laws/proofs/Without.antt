@@ -30,7 +30,7 @@ use Rattle.rules.specs.Results.{
 }
 use Rattle.laws.proofs.OperatorLaws.{Widens, fields-like}
 use Rattle.laws.proofs.Decidable.{good-decidable-in}
-use Rattle.laws.proofs.Earlier.{stays-good, good-less, good-like, table-stays}
+use Rattle.laws.proofs.Earlier.{AlikeStored, stays-good, good-less, good-like, table-stays}
 
 module _ (means : Meaning) where
   -- what it knows, it means as the one in force does
@@ -42,10 +42,12 @@ module _ (means : Meaning) where
   without-widens = record {
     fields = omega arith;
     packet = omega arith;
-    kind = refl;
     knows = λ o h. refl;
     means = λ o h x y. meant o (isAdded o) h x y;
   }
+
+  pub without-alike : AlikeStored (withoutAdded means) current
+  without-alike = record { kind = refl; keeps = refl }
 
   -- ── a description without them ──
 
@@ -72,7 +74,7 @@ module _ (means : Meaning) where
       → (old : GoodIn (withoutAdded means) table) × (old .description ≡ good .description)
   good-without table good free =
       let c = between-true 1 (length (good .description .fields)) (current .fields) (good .within .count) in
-      good-less (withoutAdded means) current without-widens table good (c .1)
+      good-less (withoutAdded means) current without-widens without-alike table good (c .1)
       (none-added-kept [] (good .description .fields) free)
 
   reading-stays : (d : Description) → NoneAdded d → (packet : List ℕ)
@@ -96,12 +98,12 @@ module _ (means : Meaning) where
       known = good-without table good free .0
 
       same : (h : Good table) → h .description ≡ good .description
-      same h = sym (good-like (withoutAdded means) current without-widens table known h)
+      same h = sym (good-like (withoutAdded means) current without-widens without-alike table known h)
           ∙ good-without table good free .1
 
       to : ReadsPacket table packet run o → ReadsPacketIn (withoutAdded means) table packet run o
       to p (yes old) =
-          let e = good-like (withoutAdded means) current without-widens table old good in
+          let e = good-like (withoutAdded means) current without-widens without-alike table old good in
           p (yes good) ∙ outcome-stays (good .description) free packet run
           ∙ sym (ap (λ (d : Description). packetOutcomeIn (withoutAdded means) d packet run) e)
       to p (no bad) = absurd (bad known)
@@ -121,19 +123,20 @@ module _ (means : Meaning) where
     where
       go : Dec (GoodIn (withoutAdded means) table) → ReadsPacket table packet run o
       go (yes old) =
-          let good = stays-good (withoutAdded means) current without-widens table old in
+          let good = stays-good (withoutAdded means) current without-widens without-alike table old in
           let free = kept-none-added [] (old .description .fields) (old .within .operators) in
           reads-stay table (good .0) (subst NoneAdded (sym (good .1)) free) packet run o .1 p
       go (no bad) = absurd (ne (ap (λ (x : Outcome). x .answer .number) (p (no bad))))
 
 pub without-stays-good : WithoutStaysGood
-without-stays-good means table old = stays-good (withoutAdded means) current (without-widens means) table old
+without-stays-good means table old =
+    stays-good (withoutAdded means) current (without-widens means) (without-alike means) table old
 
 pub none-added-good-without : NoneAddedGoodWithout
 none-added-good-without means table good = (
   good-without means table good,
   λ old.
-      let e = good-like (withoutAdded means) current (without-widens means) table old good in
+      let e = good-like (withoutAdded means) current (without-widens means) (without-alike means) table old good in
       subst NoneAdded e (kept-none-added means [] (old .description .fields) (old .within .operators)),
 )
 
@@ -144,7 +147,8 @@ pub none-added-reads-stay : NoneAddedReadsStay
 none-added-reads-stay means table good free packet run o = reads-stay means table good free packet run o
 
 pub without-table-stays : WithoutTableStays
-without-table-stays means table a p ne = table-stays (withoutAdded means) current (without-widens means) table a p ne
+without-table-stays means table a p ne =
+    table-stays (withoutAdded means) current (without-widens means) (without-alike means) table a p ne
 
 pub without-packet-stays : WithoutPacketStays
 without-packet-stays means table packet run o p ne = packet-same means table packet run o p ne

@@ -2,9 +2,13 @@
 -- WrongLimits  of those that are wrong about the limits
 -- WrongNames  of those that are wrong about names
 -- WrongOperators  of those that are wrong about quotients, remainders and powers
+-- WrongNumbers  of those that are wrong about how often a field is read, and about old tables
+-- WrongRecords  of those that are wrong about some records: their kinds, their lengths, what is read in many fields
 -- Places  where bytes stand in a list: a helper of code and proofs; no public promise rests on it
 pub mod Wrong
 pub mod WrongLimits
 pub mod WrongNames
 pub mod WrongOperators
+pub mod WrongNumbers
+pub mod WrongRecords
 pub mod Places

@@ -40,6 +40,8 @@ use Rattle.rules.specs.Promises.{
   LendsShort,
   CountsFields,
   TellsKind,
+  CountsReaders,
+  ConvertsTable,
 }
 use Rattle.rules.specs.Cases.{lentRun, named, unnamed, entry}
 use Rattle.rules.specs.Marked.{bladeReport, m1, m1Listing}
@@ -85,6 +87,11 @@ pub data Claim : Type 0 where
   placesShort : Description → ℕ → Part → Claim
   -- the answer to a packet, what a run of so many 9s holds then, and how many fields it has
   partlyWith : ℕ → Description → List ℕ → Answer → List ℕ → ℕ → Claim
+  -- how often the field of an index is read, in the table of a description and in any table [02, R-5]
+  countsReaders : Description → ℕ → Answer → Claim
+  countsReadersIn : List ℕ → ℕ → Answer → Claim
+  -- the answer where any bytes are converted, and what an output of so many 9s holds then [02, R-5]
+  convertsWith : ℕ → List ℕ → Answer → List ℕ → Claim
 
 -- by the edition in force
 abbrev pub checksBytes : List ℕ → Answer → Claim
@@ -125,6 +132,9 @@ Claimed (tellsKind d i a) = TellsKind (stored d) i a
 Claimed (shorts d i short start) = (from : ℕ × ℕ) × LendsShort (stored d) i from short (movedBy start from)
 Claimed (placesShort d i part) = PlacesShort (stored d) i part
 Claimed (partlyWith m d packet a after n) = ReadsPartly (stored d) packet (replicate m 9) (leavesPartly a after n)
+Claimed (countsReaders d i a) = CountsReaders (stored d) i a
+Claimed (countsReadersIn table i a) = CountsReaders table i a
+Claimed (convertsWith n table a after) = ConvertsTable table (replicate n 9) (leaves a after)
 
 abbrev pub AllFalse : List Claim → Type 0
 AllFalse = Every (λ c. Claimed c → ⊥)
@@ -259,18 +269,18 @@ abbrev wrongLabels : List Claim
 wrongLabels =
     -- a label: the empty part; the short name; the neighbour's; its own bytes from elsewhere; one beyond the fields
     labels bladeReport 0 [] 0
-    ∷ labels bladeReport 0 (bytes "V") 37
-    ∷ labels bladeReport 0 (bytes "On Loan") 58
+    ∷ labels bladeReport 0 (bytes "V") 39
+    ∷ labels bladeReport 0 (bytes "On Loan") 62
     ∷ labels bladeReport 0 (bytes "Version") 0
-    ∷ labels bladeReport 7 (bytes "Sum") 186
+    ∷ labels bladeReport 7 (bytes "Sum") 200
     -- where a label lies: the empty part; the short name's place; the neighbour's; its own start with another size;
     -- its length taken in; one beyond the fields
     ∷ placesLabel bladeReport 0 (partFrom 0 0)
-    ∷ placesLabel bladeReport 0 (partFrom 37 1)
-    ∷ placesLabel bladeReport 0 (partFrom 58 7)
-    ∷ placesLabel bladeReport 0 (partFrom 28 12)
-    ∷ placesLabel bladeReport 0 (partFrom 26 9)
-    ∷ placesLabel bladeReport 7 (partFrom 186 3)
+    ∷ placesLabel bladeReport 0 (partFrom 39 1)
+    ∷ placesLabel bladeReport 0 (partFrom 62 7)
+    ∷ placesLabel bladeReport 0 (partFrom 30 12)
+    ∷ placesLabel bladeReport 0 (partFrom 28 9)
+    ∷ placesLabel bladeReport 7 (partFrom 200 3)
     ∷ []
 
 abbrev wrongAnswers : List Claim
@@ -296,23 +306,23 @@ wrongAnswers =
     ∷ tellsLimits (take 9 limits)
     -- the number of fields: those with a short name alone; the table's length; 21 for a good table
     ∷ counts bladeReport (accepted 4)
-    ∷ counts bladeReport (accepted 201)
+    ∷ counts bladeReport (accepted 215)
     ∷ counts bladeReport notGood
     -- a kind: fixed for every field; the first record's; the last record's for an index beyond; none for a field
-    ∷ tellsKind bladeReport 5 (accepted 2)
+    ∷ tellsKind bladeReport 5 (accepted 12)
     ∷ tellsKind bladeReport 0 (accepted 1)
     ∷ tellsKind bladeReport 7 (accepted 5)
     ∷ tellsKind bladeReport 0 (refused 30 0)
     -- a short name: the empty part; the label; the neighbour's; its own bytes from elsewhere; the label for none
     ∷ shorts bladeReport 0 [] 0
-    ∷ shorts bladeReport 0 (bytes "Version") 28
-    ∷ shorts bladeReport 0 (bytes "L") 67
-    ∷ shorts bladeReport 0 (bytes "V") 28
-    ∷ shorts bladeReport 3 (bytes "Blade") 108
+    ∷ shorts bladeReport 0 (bytes "Version") 30
+    ∷ shorts bladeReport 0 (bytes "L") 71
+    ∷ shorts bladeReport 0 (bytes "V") 30
+    ∷ shorts bladeReport 3 (bytes "Blade") 116
     -- where it lies: the empty part; its length taken in; where it would stand for a field that has none
     ∷ placesShort bladeReport 0 (partFrom 0 0)
-    ∷ placesShort bladeReport 0 (partFrom 35 3)
-    ∷ placesShort bladeReport 3 (partFrom 115 0)
+    ∷ placesShort bladeReport 0 (partFrom 37 3)
+    ∷ placesShort bladeReport 3 (partFrom 123 0)
     -- read as far as it goes: nothing written; the refused field counted; its numbers written, also where it breaks its
     -- constraint; accepted; nothing where bits are left over
     ∷ readsPartly bladeReport m3 (refused 24 7) lentRun 0

@@ -115,7 +115,7 @@ abbrev before : List Claim
 before =
     -- 64 fields refused; 65 accepted
     checksIn earlier (stored (fieldsOf 64)) notGood
-    ∷ checksIn earlier (stored (fieldsOf 65)) (accepted 1113)
+    ∷ checksIn earlier (stored (fieldsOf 65)) (accepted 1243)
     -- a part of 65 fields read: all; 64 and bits left over; 64, where the packet has no more
     ∷ readsIn earlier 260 (stored (fieldsOf 65)) (fives 65) (accepted 520) (joined numbersOf (entriesOf 0 65))
     ∷ readsIn earlier 260 (stored (fieldsOf 65)) (fives 65) (refused 28 0) (replicate 260 9)

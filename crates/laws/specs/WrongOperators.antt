@@ -109,7 +109,7 @@ quotients (suc n) = two Div (quotients n) (num 2)
 
 -- the table of `A / B` bytes with another code
 abbrev pub coded : ℕ → List ℕ
-coded c = set (stored (sized Div)) 71 c
+coded c = set (stored (sized Div)) 77 c
 
 -- the edition without the three
 abbrev pub before : Edition

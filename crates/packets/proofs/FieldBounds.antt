@@ -90,7 +90,7 @@ field-sizes f formed small =
     }
 
 -- how long a field's record is
-pub body-size : (f : Field ℕ) → Sizes f → 4 + length (fieldBody f) ≤ recordMost
+pub body-size : (f : Field ℕ) → Sizes f → 6 + length (fieldBody f) ≤ recordMost
 unfolding fieldBody
 body-size f z =
     let l = counted (f .label) in
@@ -115,15 +115,18 @@ body-size f z =
       z .condition,
     )
 
-pub record-size : (f : Field ℕ) → length (storedField f) ≡ 4 + length (fieldBody f)
+pub record-size : (n : ℕ) (f : Field ℕ) → length (storedField n f) ≡ 6 + length (fieldBody f)
 unfolding storedFieldIn
-record-size f =
+record-size n f =
+    let body = le2 n ++ fieldBody f in
     omega (
       arith,
-      length-append (le2 (4 + length (fieldBody f))) (le2 (kindNumber (f .width)) ++ fieldBody f),
-      length-append (le2 (kindNumber (f .width))) (fieldBody f),
-      length-le2 (4 + length (fieldBody f)),
+      length-append (le2 (4 + length body)) (le2 (kindNumber (f .width)) ++ body),
+      length-append (le2 (kindNumber (f .width))) body,
+      length-append (le2 n) (fieldBody f),
+      length-le2 (4 + length body),
       length-le2 (kindNumber (f .width)),
+      length-le2 n,
     )
 
 pub field-bounds : (f : Field ℕ) → isFormed f ≡ true → all isSmall (trees f) ≡ true → Bounds f

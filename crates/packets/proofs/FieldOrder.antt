@@ -87,10 +87,10 @@ module _ (s : List ℕ) (p : Parts) where
       go (measured u t) k d e = rw (k, e)
       go rest k d e = rw (k, e)
 
-  pub rest-is : (f : Field ℕ) → PartsStand s p f → eqb (p .kind) 4 ≡ isRest f
+  pub rest-is : (f : Field ℕ) → PartsStand s p f → eqb (p .kind) 14 ≡ isRest f
   rest-is f st = go (f .width) (st .kind) refl
     where
-      go : (w : Width ℕ) → p .kind ≡ kindNumber w → f .width ≡ w → eqb (p .kind) 4 ≡ isRest f
+      go : (w : Width ℕ) → p .kind ≡ kindNumber w → f .width ≡ w → eqb (p .kind) 14 ≡ isRest f
       go (fixed n) k e = rw (k, e)
       go (measured u t) k e = rw (k, e)
       go rest k e = rw (k, e)

@@ -70,15 +70,15 @@ unfolding all
 one-passes f t h = and-both (f t) true h refl
 
 module _ (s marks : List ℕ) (p : Parts) where
-  fixed-in : p .kind ≡ 2 → numberTest (p .kind) (p .number) ≡ true → WidthIn s marks p (fixed (p .number))
+  fixed-in : p .kind ≡ 12 → numberTest (p .kind) (p .number) ≡ true → WidthIn s marks p (fixed (p .number))
   unfolding numberTest all
   fixed-in e h = record { kind = e; stands = refl; formed = rw e at h; range = refl; small = refl; typed = refl }
 
-  rest-in : p .kind ≡ 4 → WidthIn s marks p rest
+  rest-in : p .kind ≡ 14 → WidthIn s marks p rest
   unfolding all
   rest-in e = record { kind = e; stands = tt; formed = refl; range = refl; small = refl; typed = refl }
 
-  measured-in : IsBytes s → p .kind ≡ 3 → numberTest (p .kind) (p .number) ≡ true → widthTest s marks p ≡ true
+  measured-in : IsBytes s → p .kind ≡ 13 → numberTest (p .kind) (p .number) ≡ true → widthTest s marks p ≡ true
       → (w : Width ℕ) × WidthIn s marks p w
   unfolding numberTest widthTest
   measured-in b e h ok =
@@ -99,21 +99,21 @@ module _ (s marks : List ℕ) (p : Parts) where
         },
       )
 
-  pub width-sound : IsBytes s → between 2 (p .kind) 4 ≡ true → numberTest (p .kind) (p .number) ≡ true
+  pub width-sound : IsBytes s → between 12 (p .kind) 14 ≡ true → numberTest (p .kind) (p .number) ≡ true
       → widthTest s marks p ≡ true → (w : Width ℕ) × WidthIn s marks p w
-  width-sound b k h ok = go (eqb (p .kind) 2) refl (eqb (p .kind) 3) refl
+  width-sound b k h ok = go (eqb (p .kind) 12) refl (eqb (p .kind) 13) refl
     where
-      go : (x : Bool) → eqb (p .kind) 2 ≡ x → (y : Bool) → eqb (p .kind) 3 ≡ y → (w : Width ℕ) × WidthIn s marks p w
-      go true e y f = (fixed (p .number), fixed-in (eqb-true (p .kind) 2 e) h)
-      go false e true f = measured-in b (eqb-true (p .kind) 3 f) h ok
+      go : (x : Bool) → eqb (p .kind) 12 ≡ x → (y : Bool) → eqb (p .kind) 13 ≡ y → (w : Width ℕ) × WidthIn s marks p w
+      go true e y f = (fixed (p .number), fixed-in (eqb-true (p .kind) 12 e) h)
+      go false e true f = measured-in b (eqb-true (p .kind) 13 f) h ok
       go false e false f =
-          let n = between-true 2 (p .kind) 4 k in
-          let ne : p .kind ≡ 2 → ⊥ = eqb-false (p .kind) 2 e in
-          let nf : p .kind ≡ 3 → ⊥ = eqb-false (p .kind) 3 f in
+          let n = between-true 12 (p .kind) 14 k in
+          let ne : p .kind ≡ 12 → ⊥ = eqb-false (p .kind) 12 e in
+          let nf : p .kind ≡ 13 → ⊥ = eqb-false (p .kind) 13 f in
           (rest, rest-in (omega (arith, n, ne, nf)))
 
   pub width-complete : (w : Width ℕ) → WidthIn s marks p w
-      → (numberTest (p .kind) (p .number) ≡ true) × (widthTest s marks p ≡ true) × (between 2 (p .kind) 4 ≡ true)
+      → (numberTest (p .kind) (p .number) ≡ true) × (widthTest s marks p ≡ true) × (between 12 (p .kind) 14 ≡ true)
   unfolding numberTest widthTest
   width-complete (fixed n) h = rw (h .kind) (rw (h .stands) (h .formed), refl, refl)
   width-complete (measured u t) h =

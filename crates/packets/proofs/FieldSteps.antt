@@ -29,7 +29,7 @@ use Rattle.packets.specs.FieldTest.{
 -- a width's place and its tree's end are not behind the width's end
 width-ends : (s : List ℕ) (k a : ℕ) → (a ≤ widthAt s k a .next) × (ending (widthAt s k a .tree) ≤ widthAt s k a .next)
 unfolding widthAt
-width-ends s k a = go (eqb k 2) (eqb k 3)
+width-ends s k a = go (eqb k 12) (eqb k 13)
   where
     first : WidthParts
     first = widthOf (twoAt s a) (spanOf a 0) (a + 2)
@@ -50,7 +50,7 @@ width-ends s k a = go (eqb k 2) (eqb k 3)
 pub parts-inside : (s : List ℕ) (at : ℕ) → partsAt s at .next ≤ length s → Inside s (partsAt s at)
 unfolding partsAt
 parts-inside s at h =
-    let e = width-ends s (twoAt s (at + 2)) (ending (spanAt s (ending (spanAt s (at + 4))))) in
+    let e = width-ends s (twoAt s (at + 2)) (ending (spanAt s (ending (spanAt s (at + 6))))) in
     record {
       label = omega (arith, h, e);
       short = omega (arith, h, e);
@@ -91,10 +91,10 @@ unfolding fieldTest formTest numberTest bitsOf
 bits-small w place ended s at p h =
     let f = and-left (formTest s p) _ (and-right (boundsTest s at p) _ h) in
     let n = and-right (shortTest s (p .short)) _ (and-right (isLabel (bytesIn s (p .label))) _ f) in
-    go (eqb (p .kind) 2) n
+    go (eqb (p .kind) 12) n
   where
     go : (b : Bool) → cond b (between 1 (p .number) fixedMost)
-        (cond (eqb (p .kind) 3) (eqb (p .number) 1 || eqb (p .number) 8) true) ≡ true
+        (cond (eqb (p .kind) 13) (eqb (p .number) 1 || eqb (p .number) 8) true) ≡ true
         → cond b (p .number) 0 ≤ fixedMost
     go true e = between-true 1 (p .number) fixedMost e .1
     go false e = omega arith

@@ -117,7 +117,7 @@ module _ (s marks own : List ℕ) (p : Parts) where
         },
       )
 
-  pub field-sound : IsBytes s → Inside s p → between 2 (p .kind) 4 ≡ true → formTest s p ≡ true
+  pub field-sound : IsBytes s → Inside s p → between 12 (p .kind) 14 ≡ true → formTest s p ≡ true
       → treesTest s marks own p ≡ true → (f : Field ℕ) × PartsStand s p f × Keeps marks own f
   unfolding formTest treesTest
   field-sound b inside k form tree =
@@ -130,7 +130,7 @@ module _ (s marks own : List ℕ) (p : Parts) where
       (maybe-sound s marks (p .condition) b (and-right (maybeTest s own (p .constraint)) _ m))
 
   pub field-complete : (f : Field ℕ) → PartsStand s p f → Keeps marks own f
-      → (formTest s p ≡ true) × (treesTest s marks own p ≡ true) × (between 2 (p .kind) 4 ≡ true)
+      → (formTest s p ≡ true) × (treesTest s marks own p ≡ true) × (between 12 (p .kind) 14 ≡ true)
   unfolding formTest treesTest
   field-complete f st h =
       let c = listOf (f .constraint) in
@@ -165,8 +165,8 @@ module _ (s marks own : List ℕ) (p : Parts) where
 module _ (s marks own : List ℕ) (at : ℕ) where
   pub record-sound : IsBytes s → boundsTest s at (partsAt s at) ≡ true → formTest s (partsAt s at) ≡ true
       → treesTest s marks own (partsAt s at) ≡ true
-      → (f : Field ℕ) × PartsStand s (partsAt s at) f × Keeps marks own f × Stands s at (storedField f)
-      (partsAt s at .next)
+      → (f : Field ℕ) × PartsStand s (partsAt s at) f × Keeps marks own f
+      × Stands s at (storedField (twoAt s (at + 4)) f) (partsAt s at .next)
   unfolding boundsTest
   record-sound b h form tree =
       let p = partsAt s at in
@@ -177,18 +177,18 @@ module _ (s marks own : List ℕ) (at : ℕ) where
       let q = field-sound s marks own p b (parts-inside s at le) k form tree in
       (q .0, q .1, q .2, record-build s at (q .0) b le e (q .1))
 
-  pub record-complete : (f : Field ℕ) (next : ℕ) → Keeps marks own f → Stands s at (storedField f) next
+  pub record-complete : (n : ℕ) (f : Field ℕ) (next : ℕ) → Keeps marks own f → Stands s at (storedField n f) next
       → next ≤ length s
       → (boundsTest s at (partsAt s at) ≡ true) × (formTest s (partsAt s at) ≡ true)
       × (treesTest s marks own (partsAt s at) ≡ true) × PartsStand s (partsAt s at) f × (partsAt s at .next ≡ next)
   unfolding boundsTest
-  record-complete f next h st le =
+  record-complete n f next h st le =
       let p = partsAt s at in
-      let q = record-parts s at next f (field-bounds f (h .formed) (h .small)) st in
+      let q = record-parts s at next n f (field-bounds f (h .formed) (h .small)) st in
       let r = field-complete s marks own p f (q .0) h in
-      let n : p .next ≤ length s = omega (arith, q .1, le) in
+      let m : p .next ≤ length s = omega (arith, q .1, le) in
       let e : at + twoAt s at ≡ p .next = q .2 ∙ sym (q .1) in (
-        and-both (leb (p .next) (length s)) _ (le-leb _ _ n)
+        and-both (leb (p .next) (length s)) _ (le-leb _ _ m)
             (and-both (eqb (at + twoAt s at) (p .next)) _ (eq-eqb _ _ e) (r .2)),
         r .0,
         r .1,

@@ -4,15 +4,16 @@
 -- TreeValues                        a stored tree's value
 -- PartsLaws, RecordLaws             the parts of a record and the field stored there
 -- FieldBounds, TableHead            sizes of a field within the limits; a stored table's first record
--- FieldSteps, WalkSteps, NameSteps, TableSteps   what the code that checks a table is told at its steps
+-- FieldSteps, WalkSteps, NameSteps, CountSteps, TableSteps, RightSteps   what the code that checks a table is told at its steps
 -- PartBytes, FieldParts, FieldTests, FieldOrder  a field's record: tests and rules
--- WalkLaws, NameLaws, TableParts, TableLaws    all fields, names, the whole table: tests and rules
+-- WalkLaws, NameLaws, CountLaws, TableParts, TableLaws   all fields, names, numbers, the whole table: tests and rules
 -- BitLaws, StepLaws, PacketWalk     bits, one field of a packet, and all
 -- RunEntries, FieldReads, FieldMatches, HeadReads, CopyLaws, WalkReads   what a stored table's walk reads
 -- PacketPromises, PartPromises, PartlyPromises   from the walk to the promises
 -- WriteLaws, LinesWritten           writing one byte, and one line, behind the other
 -- LinesStored, ListingTexts, ListingStored   what is written by a table is its description's listing
 -- LookupSteps, LookupStored, LookupPromises   records by index and fields by name
+-- AddedLaws, WidenLaws, WidenSteps, NumberedLaws, ConvertPromises   old tables converted
 pub mod Products
 pub mod TreeSteps
 pub mod TreeTypes
@@ -26,13 +27,16 @@ pub mod TableHead
 pub mod FieldSteps
 pub mod WalkSteps
 pub mod NameSteps
+pub mod CountSteps
 pub mod PartBytes
 pub mod FieldParts
 pub mod FieldTests
 pub mod FieldOrder
 pub mod WalkLaws
 pub mod NameLaws
+pub mod CountLaws
 pub mod TableSteps
+pub mod RightSteps
 pub mod TableParts
 pub mod TableLaws
 pub mod BitLaws
@@ -55,3 +59,8 @@ pub mod ListingStored
 pub mod LookupSteps
 pub mod LookupStored
 pub mod LookupPromises
+pub mod AddedLaws
+pub mod WidenLaws
+pub mod WidenSteps
+pub mod NumberedLaws
+pub mod ConvertPromises

@@ -27,13 +27,13 @@ line-length s p run i = go (ltb labelMost (p .label .len)) refl (ltb (length s) 
     text : List ℕ
     text =
         take (p .label .len) (drop (p .label .at) s)
-        ++ (bytes ":" ++ (stateText (eqb (p .kind) 2) (entryIn run i) ++ bytes "\n"))
+        ++ (bytes ":" ++ (stateText (eqb (p .kind) 12) (entryIn run i) ++ bytes "\n"))
 
     go : (a : Bool) → ltb labelMost (p .label .len) ≡ a → (b : Bool) → length (cond (a || b) [] text) ≤ lineMost
     go true e b = omega arith
     go false e true = omega arith
     go false e false =
-        let q = state-length (eqb (p .kind) 2) (entryIn run i) in
+        let q = state-length (eqb (p .kind) 12) (entryIn run i) in
         let l = length-take (p .label .len) (drop (p .label .at) s) in
         simp length-append (omega (arith, q, l, ltb-false labelMost (p .label .len) e))
 

@@ -10,6 +10,7 @@ use Rattle.rules.specs.declared.PacketAnswer.{PacketAnswer}
 use Rattle.rules.specs.declared.TableAnswer.{TableAnswer}
 use Rattle.rules.specs.Fields.{Description}
 use Rattle.rules.specs.Within.{Within}
+use Rattle.rules.specs.References.{readers}
 use Rattle.rules.specs.Stored.{recordOf, stored, Good}
 use Rattle.rules.specs.Reading.{Entry, complete, reading, absent, bitTotal}
 use Rattle.rules.specs.Listing.{refusedLine, bitsLine, linesText, entryLines}
@@ -21,7 +22,7 @@ use Rattle.packets.specs.Listings.{ListsStored, ListsInto}
 use Rattle.packets.specs.LineTexts.{entryIn, linesFrom}
 use Rattle.packets.proofs.TableHead.{head-count, fields-stand}
 use Rattle.packets.specs.Parts.{tableMost}
-use Rattle.packets.proofs.TableParts.{table-length}
+use Rattle.packets.proofs.TableParts.{stored-length}
 use Rattle.packets.proofs.RunEntries.{run-number, run-present}
 use Rattle.packets.proofs.LinesStored.{lines-stored}
 use Rattle.packets.proofs.ListingTexts.{
@@ -50,9 +51,10 @@ module _ (s packet : List ℕ) (d : Description) (w : Within d) (is : stored d �
   lines-are : (es : List Entry) → reading d packet ≡ complete es
       → linesFrom s run 0 (twoAt s 6) (twoAt s 0) ≡ linesText (entryLines (d .fields) es)
   lines-are es e =
-      let l : length s ≤ tableMost = rw is at (table-length d w) in
+      let l : length s ≤ tableMost = stored-length d w s is in
       rw (head-count d s is w)
-      (lines-stored s run (d .fields) es [] 0 (twoAt s 0) (length s) (recordOf 5 []) (w .form) (w .size)
+      (lines-stored (readers (d .fields)) 0 s run (d .fields) es [] 0 (twoAt s 0) (length s) (recordOf 5 []) (w
+      .form) (w .size)
       (entries-length d packet es e) l (fields-stand d s is w) (entries-in es e))
 
   pub listed-accepted : ofPacket a .number ≡ 0

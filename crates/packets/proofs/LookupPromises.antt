@@ -6,14 +6,17 @@ use mathlib.Core.Option.{Option, none, some}
 use Prim.Native.Nat.{ℕ, zero, suc, _+_, _<_, _≤_}
 use native.Mathlib.Omega.{arith}
 use lib.ListN.{length, take, drop, getElem?}
-use borrow.Author.Tests.{eq-eqb, ne-eqb}
+use native.Mathlib.Nat.{zero-add}
+use borrow.Author.Tests.{lt-ltb, le-ltb, eq-eqb, ne-eqb}
 use Rattle.base.specs.Lists.{ifAny}
 use Rattle.laws.specs.Places.{twoAt}
 use Rattle.laws.proofs.Places.{stands-some}
+use Rattle.laws.proofs.Counting.{readers-fit}
 use Rattle.rules.specs.declared.TableAnswer.{TableAnswer}
 use Rattle.rules.specs.declared.FieldAnswer.{FieldAnswer}
 use Rattle.rules.specs.Names.{isShort}
 use Rattle.rules.specs.Fields.{Field}
+use Rattle.rules.specs.References.{readers}
 use Rattle.rules.specs.Stored.{recordOf, storedName, Good}
 use Rattle.rules.specs.Answers.{Answer, ofTable, ofField}
 use Rattle.rules.specs.Reading.{Part, partFrom, noPart}
@@ -22,6 +25,7 @@ use Rattle.rules.specs.Promises.{
   FindsField,
   CountsFields,
   TellsKind,
+  CountsReaders,
   labelOf,
   labelBy,
   shortPart,
@@ -35,9 +39,10 @@ use Rattle.packets.specs.declared.records.Parts.{Parts}
 use Rattle.packets.specs.Parts.{tableMost, spanOf, ending, partsAt}
 use Rattle.packets.specs.PartsStand.{In}
 use Rattle.packets.specs.Lookups.{placeFrom, findFrom}
-use Rattle.packets.specs.Found.{Finds, spanIn, labelIn, filledSpan, shortIn, kindIn, OnTable, OnLabel, OnShort}
+use Rattle.packets.specs.Found.{Finds, spanIn, labelIn, filledSpan, shortIn, kindIn, readersIn}
+use Rattle.packets.specs.Found.{OnTable, OnLabel, OnShort}
 use Rattle.packets.proofs.TableHead.{head-first, head-count, fields-stand}
-use Rattle.packets.proofs.TableParts.{table-length}
+use Rattle.packets.proofs.TableParts.{stored-length}
 use Rattle.packets.proofs.LinesStored.{label-inside}
 use Rattle.packets.proofs.LookupStored.{find-stored, Placed, place-stored}
 use Rattle.packets.proofs.PacketPromises.{not-good}
@@ -55,9 +60,10 @@ module _ (table name : List ℕ) where
   index-found g (yes k) =
       let d = k .description in
       let w = k .within in
-      let l : length table ≤ tableMost = rw (k .isStored) at (table-length d w) in
+      let l : length table ≤ tableMost = stored-length d w table (k .isStored) in
       rw (head-count d table (k .isStored) w)
-      (find-stored table (length table) (recordOf 5 []) l name (d .fields) [] 0 (twoAt table 0) (w .form) (w .size)
+      (find-stored (readers (d .fields)) table (length table) (recordOf 5 []) l 0 name (d .fields) [] 0 (twoAt table 0)
+      (w .form) (w .size)
       (fields-stand d table (k .isStored) w))
 
 -- ── the number of fields ──
@@ -122,12 +128,18 @@ module _ (table : List ℕ) (i : ℕ) where
       let c = head-count (k .description) table (k .isStored) (k .within) in
       beyond (k .description .fields) i (omega (arith, c))
 
-  pub placed : (k : Good table) → i < twoAt table 6 → Placed table (length table) (recordOf 5 [])
-      (rw (k .isStored) at (table-length (k .description) (k .within))) (k .description .fields) i (twoAt table 0)
+  -- the number of references to each field
+  abbrev numbers : Good table → ℕ → ℕ
+  numbers k = readers (k .description .fields)
+
+  pub placed : (k : Good table) → i < twoAt table 6 → Placed (numbers k) table (length table) (recordOf 5 [])
+      (stored-length (k .description) (k .within) table (k .isStored)) 0 (k .description .fields) i
+      (twoAt table 0)
   placed k h =
       let d = k .description in
       let w = k .within in
-      place-stored table (length table) (recordOf 5 []) _ (d .fields) [] i (twoAt table 0) (w .form) (w .size)
+      place-stored (numbers k) table (length table) (recordOf 5 []) _ 0 (d .fields) [] i (twoAt table 0) (w .form)
+      (w .size)
       (fields-stand d table (k .isStored) w) (omega (arith, head-count d table (k .isStored) w))
 
   -- a part of the record, where each decision has it or none
@@ -164,6 +176,26 @@ module _ (table : List ℕ) (i : ℕ) where
   kind-told (FieldRecord.At p) h (yes k) =
       let q = placed k (h .1) in rw (q .element, h .2, q .parts-are .kind)
   kind-told (FieldRecord.At p) h (no b) = absurd (b (h .0))
+
+  -- ── readers ──
+
+  pub readers-told : (r : FieldRecord) → Finds table i r → CountsReaders table i (ofField (readersIn r))
+  unfolding ofField partsAt
+  readers-told FieldRecord.NotGood bad (yes k) = absurd (bad k)
+  readers-told FieldRecord.NotGood bad (no b) = refl
+  readers-told FieldRecord.Unknown h (yes k) =
+      let c = head-count (k .description) table (k .isStored) (k .within) in
+      rw (le-ltb i (length (k .description .fields)) (omega (arith, c, h .1))) refl
+  readers-told FieldRecord.Unknown h (no b) = absurd (b (h .0))
+  readers-told (FieldRecord.At p) h (yes k) =
+      let d = k .description in
+      let c = head-count d table (k .isStored) (k .within) in
+      let q = placed k (h .1) .number-is in
+      let fit = readers-fit d (k .within) i in
+      let z : 0 + i ≡ i = zero-add i in
+      let n : twoAt table (here + 4) ≡ readers (d .fields) i = omega (arith, rw z at q, fit) in
+      rw (lt-ltb i (length (d .fields)) (omega (arith, c, h .1)), h .2, n) refl
+  readers-told (FieldRecord.At p) h (no b) = absurd (b (h .0))
 
   -- ── label ──
 

@@ -3,21 +3,22 @@ use mathlib.Core.Path.{_≡_, refl, sym, _∙_, ap}
 use mathlib.Core.Bool.{Bool, true, false, cond, _||_, false≢true}
 use mathlib.Core.List.{List, [], _∷_, _++_, append-assoc}
 use mathlib.Core.Option.{Option, none, some}
-use Prim.Native.Nat.{ℕ, zero, suc, _+_, _-_, _<_, _≤_}
+use Prim.Native.Nat.{ℕ, zero, suc, _+_, _-_, _%_, _<_, _≤_}
 use native.Mathlib.Omega.{arith}
+use native.Mathlib.Nat.{add-zero}
 use native.Mathlib.Numerals.{add-one}
 use lib.ListN.{length, take, drop, getElem?, length-append}
 use lib.Seq.{take-at}
 use borrow.Author.Tests.{le-ltb, eq-eqb, ne-eqb}
-use Rattle.base.specs.Lists.{all, any, same, ifAny, listOf, joined, firstBreak}
+use Rattle.base.specs.Lists.{all, any, same, ifAny, listOf, firstBreak}
 use Rattle.rules.specs.declared.FieldAnswer.{FieldAnswer}
-use Rattle.laws.specs.Places.{Stands}
+use Rattle.laws.specs.Places.{Stands, twoAt}
 use Rattle.laws.proofs.Places.{stands-left, stands-right, stands-some}
 use Rattle.base.proofs.Breaks.{firstBreak-cons}
 use Rattle.rules.specs.Names.{isLabel, isShort}
 use Rattle.rules.specs.Fields.{Field, fieldNames}
 use Rattle.rules.specs.Within.{keepsForm, keepsSize}
-use Rattle.rules.specs.Stored.{storedName, storedField}
+use Rattle.rules.specs.Stored.{storedName, storedField, records, recordsIn}
 use Rattle.rules.specs.Answers.{accepted, ofField}
 use Rattle.rules.specs.Promises.{firstNamed}
 use Rattle.laws.proofs.ReadsFields.{formed-parts}
@@ -75,29 +76,31 @@ has-name s p name f l h q =
 
 -- ── one record after the other ──
 
-module _ (s : List ℕ) (end : ℕ) (r : List ℕ) (short : end ≤ tableMost) where
+module _ (numbers : ℕ → ℕ) (s : List ℕ) (end : ℕ) (r : List ℕ) (short : end ≤ tableMost) where
   -- what is known of the record in front
-  record Front (f : Field ℕ) (fs : List (Field ℕ)) (before : List (Field ℕ)) (place : ℕ) : Type 0 where
+  record Front (k : ℕ) (f : Field ℕ) (fs : List (Field ℕ)) (before : List (Field ℕ)) (place : ℕ) : Type 0 where
     formed : firstBreak keepsForm (before ++ (f ∷ [])) fs ≡ none
     sized : firstBreak keepsSize (before ++ (f ∷ [])) fs ≡ none
     label : isLabel (f .label) ≡ true
     name : ifAny isShort (f .short) ≡ true
     parts : PartsStand s (partsAt s place) f
-    next : partsAt s place .next ≡ place + length (storedField f)
-    more : Stands s (place + length (storedField f)) (joined storedField fs ++ r) end
+    number : twoAt s (place + 4) ≡ numbers k % 65536
+    next : partsAt s place .next ≡ place + length (storedField (numbers k) f)
+    more : Stands s (place + length (storedField (numbers k) f)) (records numbers (suc k) fs ++ r) end
     low : place ≤ tableMost
 
-  front : (f : Field ℕ) (fs before : List (Field ℕ)) (place : ℕ) → firstBreak keepsForm before (f ∷ fs) ≡ none
-      → firstBreak keepsSize before (f ∷ fs) ≡ none → Stands s place (joined storedField (f ∷ fs) ++ r) end
-      → Front f fs before place
-  unfolding joined
-  front f fs before place hf hs p =
+  front : (k : ℕ) (f : Field ℕ) (fs before : List (Field ℕ)) (place : ℕ) → firstBreak keepsForm before (f ∷ fs) ≡ none
+      → firstBreak keepsSize before (f ∷ fs) ≡ none → Stands s place (records numbers k (f ∷ fs) ++ r) end
+      → Front k f fs before place
+  unfolding recordsIn
+  front k f fs before place hf hs p =
       let kf = firstBreak-cons keepsForm before f fs hf in
       let ks = firstBreak-cons keepsSize before f fs hs in
-      let p′ : Stands s place (storedField f ++ (joined storedField fs ++ r)) end
-      = rw (append-assoc (storedField f) (joined storedField fs) r) at p in
+      let here = storedField (numbers k) f in
+      let p′ : Stands s place (here ++ (records numbers (suc k) fs ++ r)) end
+      = rw (append-assoc here (records numbers (suc k) fs) r) at p in
       let b = field-bounds f (kf .0) (ks .0) in
-      let w = record-parts s place (place + length (storedField f)) f b (stands-left s place end _ _ p′) in
+      let w = record-parts s place (place + length here) (numbers k) f b (stands-left s place end _ _ p′) in
       let q = formed-parts f (kf .0) in
       record {
         formed = kf .1;
@@ -105,20 +108,22 @@ module _ (s : List ℕ) (end : ℕ) (r : List ℕ) (short : end ≤ tableMost) w
         label = q .0;
         name = q .1;
         parts = w .0;
+        number = w .3;
         next = w .1;
-        more = stands-right s place end (storedField f) _ p′;
+        more = stands-right s place end here _ p′;
         low = omega (arith, p .end);
       }
 
-  pub find-stored : (name : List ℕ) (fs before : List (Field ℕ)) (i place : ℕ) → firstBreak keepsForm before fs ≡ none
-      → firstBreak keepsSize before fs ≡ none → Stands s place (joined storedField fs ++ r) end
+  pub find-stored : (k : ℕ) (name : List ℕ) (fs before : List (Field ℕ)) (i place : ℕ)
+      → firstBreak keepsForm before fs ≡ none
+      → firstBreak keepsSize before fs ≡ none → Stands s place (records numbers k fs ++ r) end
       → ofField (findFrom s name i (length fs) place) ≡ firstNamed name i fs
   unfolding findFrom firstNamed ofField
-  find-stored name [] before i place hf hs p = refl
-  find-stored name (f ∷ fs) before i place hf hs p =
-      let w = front f fs before place hf hs p in
-      let ih = find-stored name fs (before ++ (f ∷ [])) (i + 1) (place + length (storedField f)) (w .formed)
-      (w .sized) (w .more) in
+  find-stored k name [] before i place hf hs p = refl
+  find-stored k name (f ∷ fs) before i place hf hs p =
+      let w = front k f fs before place hf hs p in
+      let ih = find-stored (suc k) name fs (before ++ (f ∷ [])) (i + 1) (place + length (storedField (numbers k) f))
+      (w .formed) (w .sized) (w .more) in
       rw (
         le-ltb tableMost place (w .low),
         has-name s (partsAt s place) name f (w .label) (w .name) (w .parts),
@@ -127,47 +132,53 @@ module _ (s : List ℕ) (end : ℕ) (r : List ℕ) (short : end ≤ tableMost) w
       (go (any (same name) (fieldNames f)) (ih ∙ ap (λ (n : ℕ). firstNamed name n fs) (add-one i)))
     where
       go : (b : Bool)
-          → ofField (findFrom s name (i + 1) (length fs) (place + length (storedField f))) ≡ firstNamed name (suc i) fs
+          → ofField (findFrom s name (i + 1) (length fs) (place + length (storedField (numbers k) f)))
+          ≡ firstNamed name (suc i) fs
           → ofField (cond b (FieldAnswer.At i)
-          (findFrom s name (i + 1) (length fs) (place + length (storedField f))))
+          (findFrom s name (i + 1) (length fs) (place + length (storedField (numbers k) f))))
           ≡ cond b (accepted i) (firstNamed name (suc i) fs)
       go true ih = refl
       go false ih = ih
 
   -- the record of an index that there is
-  pub record Placed (fs : List (Field ℕ)) (i place : ℕ) : Type 0 where
+  pub record Placed (k : ℕ) (fs : List (Field ℕ)) (i place : ℕ) : Type 0 where
     pub field : Field ℕ
     pub element : getElem? fs i ≡ some field
-    pub place-is : placeFrom s i place ≡ place + length (joined storedField (take i fs))
+    pub place-is : placeFrom s i place ≡ place + length (records numbers k (take i fs))
+    pub number-is : twoAt s (placeFrom s i place + 4) ≡ numbers (k + i) % 65536
     pub label-is : isLabel (field .label) ≡ true
     pub short-is : ifAny isShort (field .short) ≡ true
     pub parts-are : PartsStand s (partsAt s (placeFrom s i place)) field
     pub is-low : placeFrom s i place ≤ tableMost
 
-  pub place-stored : (fs before : List (Field ℕ)) (i place : ℕ) → firstBreak keepsForm before fs ≡ none
-      → firstBreak keepsSize before fs ≡ none → Stands s place (joined storedField fs ++ r) end → i < length fs
-      → Placed fs i place
-  unfolding placeFrom joined
-  place-stored [] before i place hf hs p lt = absurd (omega arith)
-  place-stored (f ∷ fs) before zero place hf hs p lt = let w = front f fs before place hf hs p in record {
+  pub place-stored : (k : ℕ) (fs before : List (Field ℕ)) (i place : ℕ) → firstBreak keepsForm before fs ≡ none
+      → firstBreak keepsSize before fs ≡ none → Stands s place (records numbers k fs ++ r) end → i < length fs
+      → Placed k fs i place
+  unfolding placeFrom recordsIn
+  place-stored k [] before i place hf hs p lt = absurd (omega arith)
+  place-stored k (f ∷ fs) before zero place hf hs p lt = let w = front k f fs before place hf hs p in record {
     field = f;
     element = refl;
     place-is = omega arith;
+    number-is = w .number ∙ ap (λ (j : ℕ). numbers j % 65536) (sym (add-zero k));
     label-is = w .label;
     short-is = w .name;
     parts-are = w .parts;
     is-low = w .low;
   }
-  place-stored (f ∷ fs) before (suc i) place hf hs p lt =
-      let w = front f fs before place hf hs p in
-      let ih = place-stored fs (before ++ (f ∷ [])) i (place + length (storedField f)) (w .formed) (w .sized) (w .more)
+  place-stored k (f ∷ fs) before (suc i) place hf hs p lt =
+      let w = front k f fs before place hf hs p in
+      let here = storedField (numbers k) f in
+      let ih = place-stored (suc k) fs (before ++ (f ∷ [])) i (place + length here) (w .formed) (w .sized) (w .more)
       (omega arith) in
-      let e : placeFrom s (suc i) place ≡ placeFrom s i (place + length (storedField f))
+      let one : suc k + i ≡ k + suc i = omega arith in
+      let e : placeFrom s (suc i) place ≡ placeFrom s i (place + length here)
       = rw (le-ltb tableMost place (w .low), w .next) in
       record {
         field = ih .field;
         element = ih .element;
-        place-is = e ∙ omega (arith, ih .place-is, length-append (storedField f) (joined storedField (take i fs)));
+        place-is = e ∙ omega (arith, ih .place-is, length-append here (records numbers (suc k) (take i fs)));
+        number-is = rw e (ih .number-is ∙ ap (λ (j : ℕ). numbers j % 65536) one);
         label-is = ih .label-is;
         short-is = ih .short-is;
         parts-are = rw e (ih .parts-are);

@@ -3,14 +3,15 @@ use mathlib.Core.Path.{_≡_, refl, sym, _∙_, ap}
 use mathlib.Core.Bool.{Bool, true, false, _||_}
 use mathlib.Core.List.{List, [], _∷_, _++_, map, append-assoc}
 use mathlib.Core.Option.{none}
-use Prim.Native.Nat.{ℕ, zero, suc, _+_, _<_, _≤_}
+use Prim.Native.Nat.{ℕ, zero, suc, _+_, _%_, _<_, _≤_}
 use native.Mathlib.Omega.{arith}
+use native.Mathlib.Nat.{add-zero, zero-add}
 use lib.Dec.{ltb, eqb}
 use lib.ListN.{length, getD, length-append}
 use lib.Seq.{getD-append-seam}
 use borrow.Author.Tests.{ltb-true, ltb-false, eqb-true, eq-eqb, not-true}
-use Rattle.base.specs.Lists.{any, ifAny, joined, firstBreak}
-use Rattle.laws.specs.Places.{Stands}
+use Rattle.base.specs.Lists.{any, ifAny, firstBreak}
+use Rattle.laws.specs.Places.{Stands, twoAt}
 use Rattle.base.proofs.Lists.{
   and-left,
   and-right,
@@ -24,7 +25,7 @@ use Rattle.rules.specs.Limits.{shortMost}
 use Rattle.rules.specs.Names.{isShort}
 use Rattle.rules.specs.Fields.{Field, rest}
 use Rattle.rules.specs.Within.{isFormed, keepsForm, keepsSize, clash, keepsNames}
-use Rattle.rules.specs.Stored.{storedField}
+use Rattle.rules.specs.Stored.{storedField, records, recordsIn}
 use Rattle.laws.proofs.ReadsFields.{formed-parts}
 use Rattle.names.specs.Repeats.{padTo, heldWord, namesAlike, firstRepeat}
 use Rattle.names.proofs.RepeatLaws.{no-repeat, repeat-none}
@@ -121,23 +122,29 @@ form-at before (f ∷ l) h zero lt = firstBreak-cons keepsForm before f l h .0
 form-at before (f ∷ l) h (suc i) lt =
     form-at (before ++ (f ∷ [])) l (firstBreak-cons keepsForm before f l h .1) i (omega arith)
 
-parts-nth : (s : List ℕ) (before l : List (Field ℕ)) → firstBreak keepsForm before l ≡ none
-    → firstBreak keepsSize before l ≡ none → (at next : ℕ) → Stands s at (joined storedField l) next
+-- the parts of a field's record, and its number
+parts-nth : (numbers : ℕ → ℕ) (k : ℕ) (s : List ℕ) (before l : List (Field ℕ)) → firstBreak keepsForm before l ≡ none
+    → firstBreak keepsSize before l ≡ none → (at next : ℕ) → Stands s at (records numbers k l) next
     → (i : ℕ) → i < length l → PartsStand s (partsAt s (getD (placesFrom s (length l) at) i 0)) (nth l i)
-unfolding joined placesFrom
-parts-nth s before [] form size at next st i lt = absurd (omega arith)
-parts-nth s before (f ∷ l) form size at next st zero lt =
-    record-parts s at (at + length (storedField f)) f
+    × (twoAt s (getD (placesFrom s (length l) at) i 0 + 4) ≡ numbers (k + i) % 65536)
+unfolding recordsIn placesFrom
+parts-nth numbers k s before [] form size at next st i lt = absurd (omega arith)
+parts-nth numbers k s before (f ∷ l) form size at next st zero lt =
+    let q = record-parts s at (at + length (storedField (numbers k) f)) (numbers k) f
     (field-bounds f (firstBreak-cons keepsForm before f l form .0) (firstBreak-cons keepsSize before f l size .0))
-    (stands-left s at next (storedField f) (joined storedField l) st) .0
-parts-nth s before (f ∷ l) form size at next st (suc i) lt =
+    (stands-left s at next (storedField (numbers k) f) (records numbers (suc k) l) st) in
+    (q .0, q .3 ∙ ap (λ (j : ℕ). numbers j % 65536) (sym (add-zero k)))
+parts-nth numbers k s before (f ∷ l) form size at next st (suc i) lt =
     let a = firstBreak-cons keepsForm before f l form in
     let b = firstBreak-cons keepsSize before f l size in
-    let mid = at + length (storedField f) in
-    let q = record-parts s at mid f (field-bounds f (a .0) (b .0))
-    (stands-left s at next (storedField f) (joined storedField l) st) in
-    let r = stands-right s at next (storedField f) (joined storedField l) st in
-    rw (q .1) (parts-nth s (before ++ (f ∷ [])) l (a .1) (b .1) mid next r i (omega arith))
+    let one = storedField (numbers k) f in
+    let mid = at + length one in
+    let q = record-parts s at mid (numbers k) f (field-bounds f (a .0) (b .0))
+    (stands-left s at next one (records numbers (suc k) l) st) in
+    let r = stands-right s at next one (records numbers (suc k) l) st in
+    let e : suc k + i ≡ k + suc i = omega arith in
+    let p = parts-nth numbers (suc k) s (before ++ (f ∷ [])) l (a .1) (b .1) mid next r i (omega arith) in
+    rw (q .1) (p .0, p .1 ∙ ap (λ (j : ℕ). numbers j % 65536) e)
 
 pub places-length : (s : List ℕ) (n at : ℕ) → length (placesFrom s n at) ≡ n
 unfolding placesFrom
@@ -154,20 +161,20 @@ or-neither a b p q = rw (p, q)
 
 -- ── the test ──
 
-module _ (s : List ℕ) (l : List (Field ℕ)) (at next : ℕ) (form : firstBreak keepsForm [] l ≡ none)
-    (size : firstBreak keepsSize [] l ≡ none) (st : Stands s at (joined storedField l) next) where
+module _ (numbers : ℕ → ℕ) (s : List ℕ) (l : List (Field ℕ)) (at next : ℕ) (form : firstBreak keepsForm [] l ≡ none)
+    (size : firstBreak keepsSize [] l ≡ none) (st : Stands s at (records numbers 0 l) next) where
   abbrev places : List ℕ
   places = placesFrom s (length l) at
 
   label-nth : (i : ℕ) → i < length l → labelAt s (getD places i 0) ≡ nth l i .label
   unfolding labelAt
-  label-nth i lt = bytes-are s _ _ (parts-nth s [] l form size at next st i lt .label)
+  label-nth i lt = bytes-are s _ _ (parts-nth numbers 0 s [] l form size at next st i lt .0 .label)
 
   short-nth : (i : ℕ) → i < length l → getD (shortsAt s places) i [] ≡ heldShort (nth l i .short)
   unfolding heldIn
   short-nth i lt =
       getD-mapped (shortAt s) places i (omega (arith, places-length s (length l) at))
-      ∙ ap (padTo shortMost) (bytes-are s _ _ (parts-nth s [] l form size at next st i lt .short))
+      ∙ ap (padTo shortMost) (bytes-are s _ _ (parts-nth numbers 0 s [] l form size at next st i lt .0 .short))
 
   word-nth : (i : ℕ) → i < length l → getD (wordsAt s places) i [] ≡ heldWord (nth l i .label)
   word-nth i lt =
@@ -183,6 +190,11 @@ module _ (s : List ℕ) (l : List (Field ℕ)) (at next : ℕ) (form : firstBrea
   alike-is i j p q =
       rw (label-nth i p, label-nth j q, short-nth i p, short-nth j q, word-nth i p, word-nth j q)
       (sym (clash-held (nth l i) (nth l j) (short-good i p) (short-good j q)) ∙ clash-turn (nth l i) (nth l j))
+
+  -- the numbers in the records
+  pub number-nth : (i : ℕ) → i < length l → twoAt s (getD places i 0 + 4) ≡ numbers i % 65536
+  number-nth i lt =
+      parts-nth numbers 0 s [] l form size at next st i lt .1 ∙ ap (λ (j : ℕ). numbers j % 65536) (zero-add i)
 
   pub names-sound : namesTest s (length l) at ≡ true → firstBreak keepsNames [] l ≡ none
   unfolding namesTest

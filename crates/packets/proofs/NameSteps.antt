@@ -146,7 +146,7 @@ short-none s p e =
 -- ── all of them ──
 
 module _ (s : List ℕ) (n : ℕ) (places all : List ℕ) where
-  same-place : take n places ≡ all → (i : ℕ) → i < n → getD places i 0 ≡ getD all i 0
+  pub same-place : take n places ≡ all → (i : ℕ) → i < n → getD places i 0 ≡ getD all i 0
   same-place e i lt = sym (getD-take n places i 0 lt) ∙ ap (λ (l : List ℕ). getD l i 0) e
 
   pub all-places : take n places ≡ all → FieldPlaces s n all → FieldPlaces s n places

@@ -7,7 +7,6 @@ use native.Mathlib.Nat.{zero-add}
 use lib.ListN.{length, length-append}
 use borrow.Author.Tests.{leb-true}
 use lib.Dec.{leb}
-use Rattle.base.specs.Lists.{joined}
 use Rattle.laws.specs.Places.{Stands, twoAt}
 use Rattle.laws.proofs.Places.{stands-all, stands-left, stands-right}
 use Rattle.base.proofs.Breaks.{and-true}
@@ -15,7 +14,8 @@ use Rattle.rules.specs.Limits.{fieldsMost}
 use Rattle.rules.specs.Trees.{le2}
 use Rattle.rules.specs.Fields.{Description}
 use Rattle.rules.specs.Within.{Within}
-use Rattle.rules.specs.Stored.{recordOf, counted, headBody, storedField, stored, storedIn}
+use Rattle.rules.specs.References.{readers}
+use Rattle.rules.specs.Stored.{recordOf, counted, headBody, records, stored, storedIn, storedWith}
 use Rattle.laws.proofs.PlacesOfNumbers.{length-le2, stands-two}
 use Rattle.laws.proofs.ReadsFields.{label-length}
 use Rattle.packets.proofs.TableParts.{head-length}
@@ -27,8 +27,9 @@ count-most d w = leb-true _ _ (and-true (leb 1 (length (d .fields))) (leb (lengt
 -- ── the first record ──
 
 module _ (d : Description) (s : List ℕ) (is : stored d ≡ s) where
-  whole : Stands s 0 (recordOf 1 (headBody d) ++ (joined storedField (d .fields) ++ recordOf 5 [])) (length s)
-  unfolding storedIn
+  whole : Stands s 0 (recordOf 1 (headBody d) ++ (records (readers (d .fields)) 0 (d .fields) ++ recordOf 5 []))
+      (length s)
+  unfolding storedIn storedWith
   whole = rw is (stands-all s)
 
   -- a number of the first record, behind the bytes w
@@ -59,7 +60,8 @@ module _ (d : Description) (s : List ℕ) (is : stored d ≡ s) where
       refl
       (omega arith)
 
-  pub fields-stand : Within d → Stands s (twoAt s 0) (joined storedField (d .fields) ++ recordOf 5 []) (length s)
+  pub fields-stand : Within d → Stands s (twoAt s 0) (records (readers (d .fields)) 0 (d .fields) ++ recordOf 5 [])
+      (length s)
   fields-stand w =
       rw (head-first w, ← zero-add (length (recordOf 1 (headBody d))))
       (stands-right s 0 (length s) (recordOf 1 (headBody d)) _ whole)

@@ -3,13 +3,13 @@ use mathlib.Core.Path.{_≡_, sym, _∙_, ap}
 use mathlib.Core.Bool.{true}
 use mathlib.Core.List.{List, [], _∷_, _++_, append-nil}
 use mathlib.Core.Option.{none}
-use Prim.Native.Nat.{ℕ, _+_, _*_, _≤_}
+use Prim.Native.Nat.{ℕ, suc, _+_, _*_, _≤_}
 use native.Mathlib.Omega.{arith}
 use lib.Dec.{leb, eqb}
 use lib.ListN.{length, length-append}
 use lib.Seq.{drop-length}
 use borrow.Author.Tests.{le-leb, eqb-true, eq-eqb}
-use Rattle.base.specs.Lists.{between, joined, firstBreak}
+use Rattle.base.specs.Lists.{between, firstBreak}
 use Rattle.laws.specs.Places.{Stands, IsBytes, twoAt}
 use Rattle.base.proofs.Lists.{and-left, and-right, and-both, between-true}
 use Rattle.laws.proofs.Places.{stands-none, stands-all}
@@ -18,11 +18,13 @@ use Rattle.rules.specs.Limits.{fieldsMost}
 use Rattle.rules.specs.Trees.{le2}
 use Rattle.rules.specs.Fields.{Field, Description}
 use Rattle.rules.specs.Within.{isRowWidth, keepsForm, keepsSize, Within}
-use Rattle.rules.specs.Stored.{counted, recordOf, storedField, headBody, stored, storedIn}
+use Rattle.rules.specs.References.{readers}
+use Rattle.rules.specs.Stored.{counted, recordOf, storedField, records, recordsIn, headBody, storedWith, storedIn}
+use Rattle.rules.specs.Stored.{stored}
 use Rattle.laws.proofs.PlacesOfNumbers.{length-le2}
 use Rattle.laws.proofs.ReadsFields.{label-length}
 use Rattle.laws.proofs.Unique.{row-bound, count-bound}
-use Rattle.packets.specs.Parts.{tableMost, spanAt}
+use Rattle.packets.specs.Parts.{recordMost, tableMost, spanAt}
 use Rattle.packets.specs.PartsStand.{In}
 use Rattle.packets.specs.FieldTest.{bytesIn}
 use Rattle.packets.specs.TableTest.{headTest, lastTest}
@@ -126,23 +128,25 @@ whole-is s w p = sym (append-nil w) ∙ ap (λ (r : List ℕ). w ++ r) (sym (dro
 pub whole-stands : (s w : List ℕ) → w ≡ s → Stands s 0 w (length s)
 whole-stands s w e = rw e (stands-all s)
 
-fields-length : (before l : List (Field ℕ)) → firstBreak keepsForm before l ≡ none
+fields-length : (numbers : ℕ → ℕ) (k : ℕ) (before l : List (Field ℕ)) → firstBreak keepsForm before l ≡ none
     → firstBreak keepsSize before l ≡ none
-    → length (joined storedField l) ≤ 424 * length l
-unfolding joined
-fields-length before [] form size = omega arith
-fields-length before (f ∷ l) form size =
+    → length (records numbers k l) ≤ recordMost * length l
+unfolding recordsIn
+fields-length numbers k before [] form size = omega arith
+fields-length numbers k before (f ∷ l) form size =
     let a = firstBreak-cons keepsForm before f l form in
     let b = firstBreak-cons keepsSize before f l size in
-    let r = fields-length (before ++ (f ∷ [])) l (a .1) (b .1) in
+    let r = fields-length numbers (suc k) (before ++ (f ∷ [])) l (a .1) (b .1) in
+    let one = storedField (numbers k) f in
     let z = body-size f (field-sizes f (a .0) (b .0)) in
-    omega (arith, length-append (storedField f) (joined storedField l), record-size f, z, r)
+    omega (arith, length-append one (records numbers (suc k) l), record-size (numbers k) f, z, r)
 
-pub table-length : (d : Description) → Within d → length (stored d) ≤ tableMost
-unfolding storedIn
-table-length d w =
+-- whatever the numbers are
+pub table-length : (numbers : ℕ → ℕ) (d : Description) → Within d → length (storedWith current numbers d) ≤ tableMost
+unfolding storedWith
+table-length numbers d w =
     let head = recordOf 1 (headBody d) in
-    let fields = joined storedField (d .fields) in
+    let fields = records numbers 0 (d .fields) in
     let last = recordOf 5 [] in
     let c = between-true 1 (length (d .fields)) fieldsMost (w .count) in
     omega (
@@ -155,10 +159,14 @@ table-length d w =
       length-le2 1,
       head-length d,
       label-length (d .name) (w .name),
-      fields-length [] (d .fields) (w .form) (w .size),
+      fields-length numbers 0 [] (d .fields) (w .form) (w .size),
       length-append (le2 4) (le2 5 ++ []),
       length-append (le2 5) [],
       length-le2 4,
       length-le2 5,
       c,
     )
+
+pub stored-length : (d : Description) → Within d → (s : List ℕ) → stored d ≡ s → length s ≤ tableMost
+unfolding storedIn
+stored-length d w s is = rw is at (table-length (readers (d .fields)) d w)

@@ -1,11 +1,11 @@
 -- What the code that checks a whole table is told at its steps.
-use mathlib.Core.Path.{_≡_, sym, _∙_}
+use mathlib.Core.Path.{_≡_, sym, ap, _∙_}
 use mathlib.Core.Bool.{Bool, true, false, cond, _||_}
 use mathlib.Core.List.{List, []}
 use Prim.Native.Nat.{ℕ, zero, suc, _+_, _%_, _<_, _≤_}
 use native.Mathlib.Omega.{arith}
 use lib.Dec.{leb, eqb}
-use lib.ListN.{length}
+use lib.ListN.{length, take}
 use borrow.Author.Tests.{leb-true, eqb-true}
 use Rattle.base.specs.Lists.{between}
 use Rattle.laws.specs.Places.{twoAt}
@@ -19,7 +19,8 @@ use Rattle.packets.specs.declared.tables.Walked.the-variants.{Past, Bad}
 use Rattle.packets.specs.Parts.{tableMost, spanAt, partsAt}
 use Rattle.packets.specs.FieldTest.{bytesIn}
 use Rattle.packets.specs.NamesTest.{placesFrom, FieldPlaces, Gathered}
-use Rattle.packets.specs.TableTest.{walkAt, headTest, GatheredBy}
+use Rattle.packets.specs.CountsTest.{Tallied}
+use Rattle.packets.specs.TableTest.{walkAt, headTest, GatheredBy, TalliedBy, GatheredAll}
 use Rattle.packets.proofs.FieldSteps.{parts-inside, field-next}
 use Rattle.packets.proofs.WalkLaws.{past-bad, walk-parts}
 
@@ -100,3 +101,15 @@ pub gathered-past : {r : Walked} {at : ℕ} {s : List ℕ} {n from : ℕ} {place
     {shorts words : List (List ℕ)}
     → r ≡ Past at → GatheredBy r s n from places keys shorts words → Gathered s n from places keys shorts words
 gathered-past e g = rw e at g
+
+pub tallied-past : (s : List ℕ) (n from : ℕ) (counts : List ℕ) {r : Walked} {at : ℕ} → r ≡ Past at
+    → TalliedBy r s n from counts → Tallied s n from counts
+tallied-past s n from counts e g = rw e at g
+
+-- the same by the table's own numbers
+pub gathered-all : (s places counts : List ℕ) (n from : ℕ) (r : Bool) → n ≡ twoAt s 6 → from ≡ twoAt s 8
+    → take n places ≡ placesFrom s n (10 + from) → Tallied s n (10 + from) counts → GatheredAll r s places counts
+gathered-all s places counts n from true a b p t =
+    let z : 10 + from ≡ 10 + twoAt s 8 = ap (λ (k : ℕ). 10 + k) b in
+    (rw (← a, ← z) p, rw (← a, ← z) t)
+gathered-all s places counts n from false a b p t = tt

@@ -1,19 +1,19 @@
 -- The walk over the fields of a table passes where fields that keep their rules are stored, and only there.
-use mathlib.Core.Path.{_≡_, refl, sym, _∙_, ap}
+use mathlib.Core.Path.{_≡_, refl, sym, subst, _∙_, ap}
 use mathlib.Core.Bool.{Bool, true, false, cond, _&&_, _||_}
 use mathlib.Core.List.{List, [], _∷_, _++_}
 use mathlib.Core.Option.{none}
-use Prim.Native.Nat.{ℕ, zero, suc, _+_, _%_, _≤_}
+use Prim.Native.Nat.{ℕ, zero, suc, _+_, _%_, _≤_, _<_}
 use native.Mathlib.Omega.{arith}
 use lib.Dec.{eqb}
-use lib.ListN.{length}
-use Rattle.base.specs.Lists.{all, any, ifAny, joined, firstBreak}
-use Rattle.laws.specs.Places.{Stands, IsBytes}
+use lib.ListN.{length, getD}
+use Rattle.base.specs.Lists.{all, any, ifAny, firstBreak}
+use Rattle.laws.specs.Places.{Stands, IsBytes, twoAt}
 use Rattle.base.proofs.Lists.{and-left, and-right, and-both}
 use Rattle.laws.proofs.Places.{stands-none, stands-join, stands-left, stands-right}
 use Rattle.base.proofs.Breaks.{firstBreak-cons}
 use Rattle.rules.specs.declared.ValueType.the-variants.{YesNo}
-use Rattle.rules.specs.Trees.{isSmall, hasType}
+use Rattle.rules.specs.Trees.{le2, isSmall, hasType}
 use Rattle.rules.specs.Fields.{Field, isRest, fixedBits, trees}
 use Rattle.rules.specs.Within.{
   isFormed,
@@ -26,13 +26,14 @@ use Rattle.rules.specs.Within.{
   rowsFit,
   widths,
 }
-use Rattle.rules.specs.Stored.{storedField}
+use Rattle.rules.specs.Stored.{recordOf, kindNumber, fieldBody, storedField, storedFieldIn, records, recordsIn}
 use Rattle.laws.proofs.ReadsFields.{formed-parts}
 use Rattle.packets.specs.declared.tables.Walked.{Walked}
 use Rattle.packets.specs.declared.tables.Walked.the-variants.{Past, Bad}
 use Rattle.packets.specs.Parts.{partsAt}
 use Rattle.packets.specs.PartsStand.{PartsStand}
 use Rattle.packets.specs.FieldTest.{treesTest, boundsTest, formTest, orderTest, fieldTest, markOf, bitsOf}
+use Rattle.packets.specs.NamesTest.{placesFrom}
 use Rattle.packets.specs.TableTest.{walkAt}
 use Rattle.packets.proofs.FieldTests.{Keeps, record-sound, record-complete}
 use Rattle.packets.proofs.FieldOrder.{
@@ -60,7 +61,7 @@ module _ (w n : ℕ) (marks : List ℕ) (place : ℕ) (ended : Bool) (s : List �
 
   abbrev then : Walked
   then =
-      walkAt w n own (place + bitsOf (partsAt s at)) (ended || eqb (partsAt s at .kind) 4) s (partsAt s at .next)
+      walkAt w n own (place + bitsOf (partsAt s at)) (ended || eqb (partsAt s at .kind) 14) s (partsAt s at .next)
 
   pub walk-parts : walkAt w (suc n) marks place ended s at ≡ Past next
       → (fieldTest w place ended s at (partsAt s at) ≡ true) × (treesTest s marks own (partsAt s at) ≡ true)
@@ -104,14 +105,20 @@ module _ (w place : ℕ) (ended : Bool) (s : List ℕ) (at : ℕ) where
 
 -- ── the fields from a place on, behind some fields ──
 
-pub record FieldsIn (w : ℕ) (before : List (Field ℕ)) (place : ℕ) (s : List ℕ) (at next : ℕ) (l : List (Field ℕ))
-    : Type 0 where
-  pub stands : Stands s at (joined storedField l) next
+-- with the numbers from the index k on
+pub record FieldsIn (numbers : ℕ → ℕ) (k w : ℕ) (before : List (Field ℕ)) (place : ℕ) (s : List ℕ) (at next : ℕ)
+    (l : List (Field ℕ)) : Type 0 where
+  pub stands : Stands s at (records numbers k l) next
   pub form : firstBreak keepsForm before l ≡ none
   pub size : firstBreak keepsSize before l ≡ none
   pub types : firstBreak (keepsTypes indexReadable) before l ≡ none
   pub rests : firstBreak keepsRest before l ≡ none
   pub rows : rowsFit w place (widths l) ≡ true
+
+-- the numbers from the index k on stand in the n records from a place on
+abbrev pub KeptAt : (ℕ → ℕ) → ℕ → List ℕ → ℕ → ℕ → Type 0
+KeptAt numbers k s n at =
+    (j : ℕ) → j < n → le2 (numbers (k + j)) ≡ le2 (twoAt s (getD (placesFrom s n at) j 0 + 4))
 
 break-cons : (keeps : List (Field ℕ) → Field ℕ → Bool) (before : List (Field ℕ)) (f : Field ℕ) (l : List (Field ℕ))
     → keeps before f ≡ true → firstBreak keeps (before ++ (f ∷ [])) l ≡ none → firstBreak keeps before (f ∷ l) ≡ none
@@ -146,15 +153,16 @@ module _ (before : List (Field ℕ)) (f : Field ℕ) where
 
 -- ── sound ──
 
-module _ (w n place : ℕ) (before : List (Field ℕ)) (s : List ℕ) (at next : ℕ) where
+module _ (numbers : ℕ → ℕ) (k w n place : ℕ) (before : List (Field ℕ)) (s : List ℕ) (at next : ℕ) where
   fields-cons : (f : Field ℕ) (l : List (Field ℕ))
       → Keeps (marksOf before) (marksOf (before ++ (f ∷ []))) f → fitsRow w place (f .width) ≡ true
-      → keepsRest before f ≡ true → Stands s at (storedField f) (partsAt s at .next)
-      → FieldsIn w (before ++ (f ∷ [])) (place + fixedBits f) s (partsAt s at .next) next l
-      → FieldsIn w before place s at next (f ∷ l)
-  unfolding joined
+      → keepsRest before f ≡ true → Stands s at (storedField (numbers k) f) (partsAt s at .next)
+      → FieldsIn numbers (suc k) w (before ++ (f ∷ [])) (place + fixedBits f) s (partsAt s at .next) next l
+      → FieldsIn numbers k w before place s at next (f ∷ l)
+  unfolding recordsIn
   fields-cons f l keeps row rests st h = record {
-    stands = stands-join s at (partsAt s at .next) next (storedField f) (joined storedField l) st (h .stands);
+    stands = stands-join s at (partsAt s at .next) next (storedField (numbers k) f) (records numbers (suc k) l) st
+        (h .stands);
     form = break-cons keepsForm before f l (keeps .formed) (h .form);
     size = break-cons keepsSize before f l (keeps .small) (h .size);
     types = break-cons (keepsTypes indexReadable) before f l (keeps-types before f keeps) (h .types);
@@ -164,39 +172,49 @@ module _ (w n place : ℕ) (before : List (Field ℕ)) (s : List ℕ) (at next :
   }
 
   walk-cons : ((b : List (Field ℕ)) (q a : ℕ) → walkAt w n (marksOf b) q (any isRest b) s a ≡ Past next
-      → (l : List (Field ℕ)) × (length l ≡ n) × FieldsIn w b q s a next l)
+      → KeptAt numbers (suc k) s n a
+      → (l : List (Field ℕ)) × (length l ≡ n) × FieldsIn numbers (suc k) w b q s a next l)
       → (f : Field ℕ) → PartsStand s (partsAt s at) f
       → Keeps (marksOf before) (marksOf before ++ (markOf s (partsAt s at) ∷ [])) f
-      → Stands s at (storedField f) (partsAt s at .next)
+      → Stands s at (storedField (twoAt s (at + 4)) f) (partsAt s at .next)
+      → KeptAt numbers k s (suc n) at
       → orderTest w place (any isRest before) (partsAt s at) ≡ true
       → walkAt w n (marksOf before ++ (markOf s (partsAt s at) ∷ [])) (place + bitsOf (partsAt s at))
-      (any isRest before || eqb (partsAt s at .kind) 4) s (partsAt s at .next) ≡ Past next
-      → (l : List (Field ℕ)) × (length l ≡ suc n) × FieldsIn w before place s at next l
-  walk-cons rec f ps keeps st order h =
+      (any isRest before || eqb (partsAt s at .kind) 14) s (partsAt s at .next) ≡ Past next
+      → (l : List (Field ℕ)) × (length l ≡ suc n) × FieldsIn numbers k w before place s at next l
+  unfolding placesFrom storedFieldIn
+  walk-cons rec f ps keeps st kept order h =
       let p = partsAt s at in
       let short = formed-parts f (keeps .formed) .1 in
       let o : marksOf before ++ (markOf s p ∷ []) ≡ marksOf (before ++ (f ∷ [])) = own-marks before f (markOf s p)
       (mark-is s p f ps short) in
-      let e : (any isRest before || eqb (p .kind) 4) ≡ any isRest (before ++ (f ∷ [])) =
+      let e : (any isRest before || eqb (p .kind) 14) ≡ any isRest (before ++ (f ∷ [])) =
       rw (rest-is s p f ps) (sym (any-end isRest before f)) in
-      let k : Keeps (marksOf before) (marksOf (before ++ (f ∷ []))) f = rw o at keeps in
+      let kept-all : Keeps (marksOf before) (marksOf (before ++ (f ∷ []))) f = rw o at keeps in
       let b : (fitsRow w place (f .width) && keepsRest before f) ≡ true = sym (order-is s p f before w place ps)
       ∙ order in
-      let q = rec (before ++ (f ∷ [])) (place + fixedBits f) (p .next) (rw (o, bits-are s p f ps, e) at h) in (
+      let z : k + 0 ≡ k = omega arith in
+      let number : le2 (twoAt s (at + 4)) ≡ le2 (numbers k) = sym (rw z at (kept 0 (omega arith))) in
+      let same : storedField (twoAt s (at + 4)) f ≡ storedField (numbers k) f =
+      ap (λ (m : List ℕ). recordOf (kindNumber (f .width)) (m ++ fieldBody f)) number in
+      let q = rec (before ++ (f ∷ [])) (place + fixedBits f) (p .next) (rw (o, bits-are s p f ps, e) at h)
+      (λ j lt. let m : k + suc j ≡ suc k + j = omega arith in rw m at (kept (suc j) (omega arith))) in (
         f ∷ q .0,
         ap suc (q .1),
-        fields-cons f (q .0) k (and-left (fitsRow w place (f .width)) _ b)
-            (and-right (fitsRow w place (f .width)) _ b) st (q .2),
+        fields-cons f (q .0) kept-all (and-left (fitsRow w place (f .width)) _ b)
+            (and-right (fitsRow w place (f .width)) _ b)
+            (subst (λ (r : List ℕ). Stands s at r (p .next)) same st) (q .2),
       )
 
-pub walk-sound : (w n : ℕ) (before : List (Field ℕ)) (place : ℕ) (s : List ℕ) (at next : ℕ) → IsBytes s
+pub walk-sound : (numbers : ℕ → ℕ) (k w n : ℕ) (before : List (Field ℕ)) (place : ℕ) (s : List ℕ) (at next : ℕ)
+    → IsBytes s → KeptAt numbers k s n at
     → walkAt w n (marksOf before) place (any isRest before) s at ≡ Past next
-    → (l : List (Field ℕ)) × (length l ≡ n) × FieldsIn w before place s at next l
-unfolding walkAt firstBreak joined rowsFit
-walk-sound w zero before place s at next b h = go (eqb (place % w) 0) refl h
+    → (l : List (Field ℕ)) × (length l ≡ n) × FieldsIn numbers k w before place s at next l
+unfolding walkAt firstBreak recordsIn rowsFit
+walk-sound numbers k w zero before place s at next b kept h = go (eqb (place % w) 0) refl h
   where
     go : (x : Bool) → eqb (place % w) 0 ≡ x → cond x (Past at) Bad ≡ Past next
-        → (l : List (Field ℕ)) × (length l ≡ 0) × FieldsIn w before place s at next l
+        → (l : List (Field ℕ)) × (length l ≡ 0) × FieldsIn numbers k w before place s at next l
     go true e f =
         let m : at ≡ next = cc in (
           [],
@@ -211,13 +229,14 @@ walk-sound w zero before place s at next b h = go (eqb (place % w) 0) refl h
           },
         )
     go false e f = absurd (past-bad next f)
-walk-sound w (suc n) before place s at next b h =
+walk-sound numbers k w (suc n) before place s at next b kept h =
     let p = partsAt s at in
     let ended = any isRest before in
     let q = walk-parts w n (marksOf before) place ended s at next h in
     let t = test-parts w place ended s at (q .0) in
     let r = record-sound s (marksOf before) (marksOf before ++ (markOf s p ∷ [])) at b (t .0) (t .1) (q .1) in
-    walk-cons w n place before s at next (λ c u a g. walk-sound w n c u s a next b g) (r .0) (r .1) (r .2) (r .3)
+    walk-cons numbers k w n place before s at next
+    (λ c u a g more. walk-sound numbers (suc k) w n c u s a next b more g) (r .0) (r .1) (r .2) (r .3) kept
     (t .2) (q .2)
 
 -- ── complete ──
@@ -227,32 +246,33 @@ walk-none : (w : ℕ) (marks : List ℕ) (place : ℕ) (ended : Bool) (s : List 
 unfolding walkAt rowsFit
 walk-none w marks place ended s at next r e = rw (r, e)
 
-pub walk-complete : (w : ℕ) (before : List (Field ℕ)) (place : ℕ) (s : List ℕ) (at next : ℕ) (l : List (Field ℕ))
-    → next ≤ length s → FieldsIn w before place s at next l
+pub walk-complete : (numbers : ℕ → ℕ) (k w : ℕ) (before : List (Field ℕ)) (place : ℕ) (s : List ℕ) (at next : ℕ)
+    (l : List (Field ℕ)) → next ≤ length s → FieldsIn numbers k w before place s at next l
     → walkAt w (length l) (marksOf before) place (any isRest before) s at ≡ Past next
-unfolding joined
-walk-complete w before place s at next [] le h = end (h .rows) (h .stands .end)
+unfolding recordsIn
+walk-complete numbers k w before place s at next [] le h = end (h .rows) (h .stands .end)
   where
     end : rowsFit w place [] ≡ true → next ≡ at + 0
         → walkAt w 0 (marksOf before) place (any isRest before) s at ≡ Past next
     end r e = walk-none w (marksOf before) place (any isRest before) s at next r (omega (arith, e))
-walk-complete w before place s at next (f ∷ l) le h =
+walk-complete numbers k w before place s at next (f ∷ l) le h =
     let p = partsAt s at in
-    let mid = at + length (storedField f) in
-    let st = stands-left s at next (storedField f) (joined storedField l) (h .stands) in
-    let right = stands-right s at next (storedField f) (joined storedField l) (h .stands) in
+    let one = storedField (numbers k) f in
+    let mid = at + length one in
+    let st = stands-left s at next one (records numbers (suc k) l) (h .stands) in
+    let right = stands-right s at next one (records numbers (suc k) l) (h .stands) in
     let form = firstBreak-cons keepsForm before f l (h .form) in
     let size = firstBreak-cons keepsSize before f l (h .size) in
     let types = firstBreak-cons (keepsTypes indexReadable) before f l (h .types) in
     let rests = firstBreak-cons keepsRest before f l (h .rests) in
     let rows = sym (rows-step w place f (widths l)) ∙ h .rows in
     let keeps = types-keep before f (form .0) (size .0) (types .0) in
-    let c = record-complete s (marksOf before) (marksOf (before ++ (f ∷ []))) at f mid keeps st
+    let c = record-complete s (marksOf before) (marksOf (before ++ (f ∷ []))) at (numbers k) f mid keeps st
     (omega (arith, right .end, le)) in
     let short = formed-parts f (form .0) .1 in
     let o : marksOf before ++ (markOf s p ∷ []) ≡ marksOf (before ++ (f ∷ [])) = own-marks before f (markOf s p)
     (mark-is s p f (c .3) short) in
-    let e : (any isRest before || eqb (p .kind) 4) ≡ any isRest (before ++ (f ∷ [])) =
+    let e : (any isRest before || eqb (p .kind) 14) ≡ any isRest (before ++ (f ∷ [])) =
     rw (rest-is s p f (c .3)) (sym (any-end isRest before f)) in
     let order : orderTest w place (any isRest before) p ≡ true =
     order-is s p f before w place (c .3)
@@ -260,7 +280,7 @@ walk-complete w before place s at next (f ∷ l) le h =
     walk-passes w (length l) (marksOf before) place (any isRest before) s at next
     (test-whole w place (any isRest before) s at (c .0) (c .1) order) (rw o (c .2))
     ∙ rw (o, bits-are s p f (c .3), e, c .4)
-    (walk-complete w (before ++ (f ∷ [])) (place + fixedBits f) s mid next l le (record {
+    (walk-complete numbers (suc k) w (before ++ (f ∷ [])) (place + fixedBits f) s mid next l le (record {
       stands = right;
       form = form .1;
       size = size .1;

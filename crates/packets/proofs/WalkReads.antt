@@ -3,7 +3,7 @@ use mathlib.Core.Path.{_≡_, refl, _∙_}
 use mathlib.Core.Bool.{Bool, true, false, cond}
 use mathlib.Core.List.{List, [], _∷_, _++_}
 use mathlib.Core.Option.{none}
-use Prim.Native.Nat.{ℕ, _+_, _*_, _<_, _≤_}
+use Prim.Native.Nat.{ℕ, suc, _+_, _*_, _<_, _≤_}
 use native.Mathlib.Omega.{arith}
 use native.Mathlib.Numerals.{add-one}
 use lib.Dec.{ltb, eqb}
@@ -16,7 +16,8 @@ use Rattle.laws.proofs.Places.{stands-left, stands-right}
 use Rattle.rules.specs.declared.PacketAnswer.{PacketAnswer}
 use Rattle.rules.specs.Fields.{Field, Description, fixedBits}
 use Rattle.rules.specs.Within.{keepsForm, keepsSize, keepsTypes, indexReadable, Within}
-use Rattle.rules.specs.Stored.{storedField, stored}
+use Rattle.rules.specs.References.{readers}
+use Rattle.rules.specs.Stored.{storedField, records, recordsIn, stored}
 use Rattle.rules.specs.Answers.{ofPacket}
 use Rattle.rules.specs.Reading.{
   Entry,
@@ -56,36 +57,43 @@ use Rattle.packets.proofs.HeadReads.{head-stands}
 -- ── records one behind the other ──
 
 -- the record of the first field, and the records behind it
-record First (s : List ℕ) (at end : ℕ) (f : Field ℕ) (fs : List (Field ℕ)) : Type 0 where
+record First (numbers : ℕ → ℕ) (k : ℕ) (s : List ℕ) (at end : ℕ) (f : Field ℕ) (fs : List (Field ℕ)) : Type 0 where
   parts : PartsStand s (recordAt s at) f
-  later : Stands s (recordAt s at .next) (joined storedField fs) end
+  later : Stands s (recordAt s at .next) (records numbers (suc k) fs) end
 
-first-stands : (before : List (Field ℕ)) (f : Field ℕ) (fs : List (Field ℕ)) (s : List ℕ) (at end : ℕ)
+first-stands : (numbers : ℕ → ℕ) (k : ℕ) (before : List (Field ℕ)) (f : Field ℕ) (fs : List (Field ℕ)) (s : List ℕ)
+    (at end : ℕ)
     → firstBreak keepsForm before (f ∷ fs) ≡ none → firstBreak keepsSize before (f ∷ fs) ≡ none
-    → Stands s at (joined storedField (f ∷ fs)) end → end ≤ tableMost → First s at end f fs
-unfolding joined recordAt
-first-stands before f fs s at end form size p le =
+    → Stands s at (records numbers k (f ∷ fs)) end → end ≤ tableMost → First numbers k s at end f fs
+unfolding recordsIn recordAt
+first-stands numbers k before f fs s at end form size p le =
     let e = firstBreak-cons keepsForm before f fs form in
     let z = firstBreak-cons keepsSize before f fs size in
-    let here = stands-left s at end (storedField f) (joined storedField fs) p in
-    let there = stands-right s at end (storedField f) (joined storedField fs) p in
-    let q = record-parts s at (at + length (storedField f)) f (field-bounds f (e .0) (z .0)) here in
+    let one = storedField (numbers k) f in
+    let here = stands-left s at end one (records numbers (suc k) fs) p in
+    let there = stands-right s at end one (records numbers (suc k) fs) p in
+    let q = record-parts s at (at + length one) (numbers k) f (field-bounds f (e .0) (z .0)) here in
     let near : ltb tableMost at ≡ false = le-ltb tableMost at (omega (arith, there .end)) in
     record { parts = rw near (q .0); later = rw (near, q .1) there }
 
-later-sum : (before fs : List (Field ℕ)) (s : List ℕ) (at end : ℕ) → firstBreak keepsForm before fs ≡ none
-    → firstBreak keepsSize before fs ≡ none → Stands s at (joined storedField fs) end → end ≤ tableMost
+later-sum : (numbers : ℕ → ℕ) (k : ℕ) (before fs : List (Field ℕ)) (s : List ℕ) (at end : ℕ)
+    → firstBreak keepsForm before fs ≡ none
+    → firstBreak keepsSize before fs ≡ none → Stands s at (records numbers k fs) end → end ≤ tableMost
     → laterBits (length fs) s at ≡ sum fixedBits fs
 unfolding laterBits sum
-later-sum before [] s at end form size p le = refl
-later-sum before (f ∷ fs) s at end form size p le =
+later-sum numbers k before [] s at end form size p le = refl
+later-sum numbers k before (f ∷ fs) s at end form size p le =
     let e = firstBreak-cons keepsForm before f fs form in
     let z = firstBreak-cons keepsSize before f fs size in
-    let q = first-stands before f fs s at end form size p le in
+    let q = first-stands numbers k before f fs s at end form size p le in
     let r = recordAt s at in
     let form = formed-parts f (e .0) .2 in
     let bits = fixed-part r (f .width) (q .parts .kind) s (r .tree) (q .parts .width) form in
-    rw (bits, later-sum (before ++ (f ∷ [])) fs s (recordAt s at .next) end (e .1) (z .1) (q .later) le)
+    rw (
+      bits,
+      later-sum numbers (suc k) (before ++ (f ∷ [])) fs s (recordAt s at .next) end (e .1) (z .1) (q .later)
+          le,
+    )
 
 -- ── all fields ──
 
@@ -140,30 +148,31 @@ walk-on packet n after entries go more walk le b ih (stop f) (step d m) q = absu
 walk-on packet n after entries go more walk le b ih (stop f) (stop g) q =
     record { answer = rw (q, add-one); begins = record { count = omega arith; most = le; front = b } }
 
-pub walk-reads : (s packet : List ℕ) (fs before : List (Field ℕ)) (entries : List Entry) (run : List ℕ)
-    (n place at end : ℕ)
+pub walk-reads : (numbers : ℕ → ℕ) (k : ℕ) (s packet : List ℕ) (fs before : List (Field ℕ)) (entries : List Entry)
+    (run : List ℕ) (n place at end : ℕ)
     → length entries ≡ length before → n ≡ length entries + length fs → Begins run entries → 4 * n ≤ length run
     → firstBreak keepsForm before fs ≡ none → firstBreak keepsSize before fs ≡ none
     → firstBreak (keepsTypes indexReadable) before fs ≡ none
-    → Stands s at (joined storedField fs) end → end ≤ tableMost
+    → Stands s at (records numbers k fs) end → end ≤ tableMost
     → WalkHolds packet n (readFields packet entries place fs) (fieldsBefore packet entries place fs)
     (walkFrom s packet (length fs) (length entries) run place at)
 unfolding walkFrom readFieldsIn fieldsBefore walkAnswer
-walk-reads s packet [] before entries run n place at end counts all begins room form size types p le = record {
-  answer = at-end packet entries run place begins (eqb place (bitTotal packet)) refl;
-  begins = record {
-    count = end-count (eqb place (bitTotal packet)) place n ∙ omega arith;
-    most = omega arith;
-    front = begins;
-  };
-}
-walk-reads s packet (f ∷ fs) before entries run n place at end counts all begins room form size types p le =
-    let q = first-stands before f fs s at end form size p le in
+walk-reads numbers k s packet [] before entries run n place at end counts all begins room form size types p le =
+    record {
+      answer = at-end packet entries run place begins (eqb place (bitTotal packet)) refl;
+      begins = record {
+        count = end-count (eqb place (bitTotal packet)) place n ∙ omega arith;
+        most = omega arith;
+        front = begins;
+      };
+    }
+walk-reads numbers m s packet (f ∷ fs) before entries run n place at end counts all begins room form size types p le =
+    let q = first-stands numbers m before f fs s at end form size p le in
     let e = firstBreak-cons keepsForm before f fs form in
     let z = firstBreak-cons keepsSize before f fs size in
     let k = firstBreak-cons (keepsTypes indexReadable) before f fs types in
     let r = recordAt s at in
-    let sums = later-sum (before ++ (f ∷ [])) fs s (r .next) end (e .1) (z .1) (q .later) le in
+    let sums = later-sum numbers (suc m) (before ++ (f ∷ [])) fs s (r .next) end (e .1) (z .1) (q .later) le in
     let found = fieldStep s packet run r (length fs) place in
     let after = runWith run (length entries) found in
     let long : length after ≡ length run = length-with run (length entries) found in
@@ -172,8 +181,9 @@ walk-reads s packet (f ∷ fs) before entries run n place at end counts all begi
     (λ left next. walkFrom s packet (length fs) (length entries + 1) left next (r .next))
     (omega arith) (with-keeps run entries found begins)
     (λ d next b.
-    let m : length (entries ++ (d ∷ [])) ≡ length entries + 1 = length-append entries (d ∷ []) in
-    rw m at (walk-reads s packet fs (before ++ (f ∷ [])) (entries ++ (d ∷ [])) after n next (r .next) end
+    let j : length (entries ++ (d ∷ [])) ≡ length entries + 1 = length-append entries (d ∷ []) in
+    rw j at (walk-reads numbers (suc m) s packet fs (before ++ (f ∷ [])) (entries ++ (d ∷ [])) after n next (r .next)
+    end
     (omega (arith, length-append before (f ∷ []))) (omega arith) b (omega arith) (e .1) (z .1) (k .1) (q .later) le))
     (readField packet entries place (sum fixedBits fs) f) (stepAfter s run (length entries) r found)
     (field-matches s packet run before entries place f r counts begins (omega arith) (e .0) (z .0) (k .0) (q .parts)
@@ -186,7 +196,8 @@ unfolding walkAll joined
 walk-all d w s packet run e room =
     let h = head-stands d w s e in
     rw (h .count)
-    (walk-reads s packet (d .fields) [] [] run (length (d .fields)) 0 (twoAt s 0) (h .end) refl (omega arith) refl
+    (walk-reads (readers (d .fields)) 0 s packet (d .fields) [] [] run (length (d .fields)) 0 (twoAt s 0) (h .end)
+    refl (omega arith) refl
     (omega (arith, h .count, room)) (w .form) (w .size) (w .types) (h .fields) (h .short))
 
 -- ── a packet read into a run ──

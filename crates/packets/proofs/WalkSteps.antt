@@ -40,7 +40,7 @@ module _ (w n i : ℕ) (marks : List ℕ) (place : ℕ) (ended : Bool) (s : List
   pub walk-on : i < n → fieldTest w place ended s at (partsAt s at) ≡ true
       → treesTest s marks own (partsAt s at) ≡ true
       → walkAt w (n - i) marks place ended s at
-      ≡ walkAt w (n - (i + 1)) own (place + bitsOf (partsAt s at)) (ended || eqb (partsAt s at .kind) 4) s
+      ≡ walkAt w (n - (i + 1)) own (place + bitsOf (partsAt s at)) (ended || eqb (partsAt s at .kind) 14) s
       (partsAt s at .next)
   unfolding walkAt
   walk-on lt e f = let m : n - i ≡ suc (n - (i + 1)) = omega arith in rw (m, e, f)

@@ -47,7 +47,7 @@ maybeTest s marks p = eqb (p .len) 0 || treeTest s marks YesNo p
 -- a measured width's tree is no single number
 unfoldable pub widthTest : List ℕ → List ℕ → Parts → Bool
 widthTest s marks p =
-    not (eqb (p .kind) 3) || (not (eqb (getD s (p .tree .at) 0) 1) && treeTest s marks Number (p .tree))
+    not (eqb (p .kind) 13) || (not (eqb (getD s (p .tree .at) 0) 1) && treeTest s marks Number (p .tree))
 
 -- marks of the fields before, and with the own field
 unfoldable pub treesTest : List ℕ → List ℕ → List ℕ → Parts → Bool
@@ -57,11 +57,11 @@ treesTest s marks own p = widthTest s marks p && (maybeTest s own (p .constraint
 
 -- the record lies in the table, ends where its length says, and is a field's
 unfoldable pub boundsTest : List ℕ → ℕ → Parts → Bool
-boundsTest s at p = leb (p .next) (length s) && (eqb (at + twoAt s at) (p .next) && between 2 (p .kind) 4)
+boundsTest s at p = leb (p .next) (length s) && (eqb (at + twoAt s at) (p .next) && between 12 (p .kind) 14)
 
 unfoldable pub numberTest : ℕ → ℕ → Bool
 numberTest kind number =
-    cond (eqb kind 2) (between 1 number fixedMost) (cond (eqb kind 3) (eqb number 1 || eqb number 8) true)
+    cond (eqb kind 12) (between 1 number fixedMost) (cond (eqb kind 13) (eqb number 1 || eqb number 8) true)
 
 unfoldable pub shortTest : List ℕ → Span → Bool
 shortTest s p = eqb (p .len) 0 || isShort (bytesIn s p)
@@ -72,7 +72,7 @@ formTest s p = isLabel (bytesIn s (p .label)) && (shortTest s (p .short) && numb
 -- rows are not crossed and end before a long field; after the rest field come fixed fields without a condition
 unfoldable pub orderTest : ℕ → ℕ → Bool → Parts → Bool
 orderTest w place ended p =
-    cond (eqb (p .kind) 2) (leb (place % w + p .number) w && (not ended || eqb (p .condition .len) 0))
+    cond (eqb (p .kind) 12) (leb (place % w + p .number) w && (not ended || eqb (p .condition .len) 0))
     (eqb (place % w) 0 && not ended)
 
 unfoldable pub fieldTest : ℕ → ℕ → Bool → List ℕ → ℕ → Parts → Bool
@@ -82,10 +82,10 @@ fieldTest w place ended s at p = boundsTest s at p && (formTest s p && orderTest
 
 -- 1 where the field may be read: word says whether its label has the form of a short name
 unfoldable pub markBy : Bool → Parts → ℕ
-markBy word p = cond (eqb (p .kind) 2) (cond word 1 (cond (eqb (p .short .len) 0) 0 1)) 0
+markBy word p = cond (eqb (p .kind) 12) (cond word 1 (cond (eqb (p .short .len) 0) 0 1)) 0
 
 abbrev pub markOf : List ℕ → Parts → ℕ
 markOf s p = markBy (isShort (bytesIn s (p .label))) p
 
 unfoldable pub bitsOf : Parts → ℕ
-bitsOf p = cond (eqb (p .kind) 2) (p .number) 0
+bitsOf p = cond (eqb (p .kind) 12) (p .number) 0

@@ -1,4 +1,4 @@
--- The record of the field of an index, and its label, short name and kind.
+-- The record of the field of an index, and its label, short name, kind and readers.
 -- This mirrors the code: no public promise rests on this file.
 use mathlib.Core.Path.{_≡_}
 use mathlib.Core.Bool.{cond}
@@ -44,6 +44,12 @@ abbrev pub kindIn : FieldRecord → FieldAnswer
 kindIn FieldRecord.NotGood = FieldAnswer.NotGood
 kindIn FieldRecord.Unknown = FieldAnswer.Unknown
 kindIn (FieldRecord.At p) = FieldAnswer.At (p .kind)
+
+-- how often the field is read
+abbrev pub readersIn : FieldRecord → FieldAnswer
+readersIn FieldRecord.NotGood = FieldAnswer.NotGood
+readersIn FieldRecord.Unknown = FieldAnswer.Unknown
+readersIn (FieldRecord.At p) = FieldAnswer.At (p .readers)
 
 -- a part of the table, which lies within it
 pub record OnTable (table : List ℕ) (part : Dec (Good table) → Part) (r : Span) : Type 0 where

@@ -41,7 +41,7 @@ unfoldable pub lineText : List ℕ → Parts → List ℕ → ℕ → List ℕ
 lineText s p run i =
     cond (isNoLabel s (p .label)) []
     (take (p .label .len) (drop (p .label .at) s)
-    ++ (bytes ":" ++ (stateText (eqb (p .kind) 2) (entryIn run i) ++ bytes "\n")))
+    ++ (bytes ":" ++ (stateText (eqb (p .kind) 12) (entryIn run i) ++ bytes "\n")))
 
 -- the lines of n fields, counted from i, whose records begin at a place
 unfoldable pub linesFrom : List ℕ → List ℕ → ℕ → ℕ → ℕ → List ℕ

@@ -17,7 +17,7 @@ runMost = 4 * fieldsMost
 
 -- no good table is longer: the first record, a record of the longest parts for each field, and the last record
 abbrev pub recordMost : ℕ
-recordMost = 16 + labelMost + shortMost + 3 * storedMost
+recordMost = 18 + labelMost + shortMost + 3 * storedMost
 
 abbrev pub tableMost : ℕ
 tableMost = 10 + labelMost + recordMost * fieldsMost + 4
@@ -41,14 +41,15 @@ widthOf number tree next = record { number = number; tree = tree; next = next }
 
 unfoldable pub widthAt : List ℕ → ℕ → ℕ → WidthParts
 widthAt s kind at =
-    cond (eqb kind 2) (widthOf (twoAt s at) (spanOf at 0) (at + 2))
-    (cond (eqb kind 3) (widthOf (twoAt s at) (spanAt s (at + 2)) (ending (spanAt s (at + 2))))
+    cond (eqb kind 12) (widthOf (twoAt s at) (spanOf at 0) (at + 2))
+    (cond (eqb kind 13) (widthOf (twoAt s at) (spanAt s (at + 2)) (ending (spanAt s (at + 2))))
     (widthOf 0 (spanOf at 0) at))
 
 -- the parts, one behind the other
-abbrev pub withConstraint : List ℕ → ℕ → Span → Span → WidthParts → Span → Parts
-withConstraint s kind label short w constraint = record {
+abbrev pub withConstraint : List ℕ → ℕ → ℕ → Span → Span → WidthParts → Span → Parts
+withConstraint s kind readers label short w constraint = record {
   kind = kind;
+  readers = readers;
   label = label;
   short = short;
   number = w .number;
@@ -58,14 +59,15 @@ withConstraint s kind label short w constraint = record {
   next = ending (spanAt s (ending constraint));
 }
 
-abbrev pub withWidth : List ℕ → ℕ → Span → Span → WidthParts → Parts
-withWidth s kind label short w = withConstraint s kind label short w (spanAt s (w .next))
+abbrev pub withWidth : List ℕ → ℕ → ℕ → Span → Span → WidthParts → Parts
+withWidth s kind readers label short w = withConstraint s kind readers label short w (spanAt s (w .next))
 
-abbrev pub withShort : List ℕ → ℕ → Span → Span → Parts
-withShort s kind label short = withWidth s kind label short (widthAt s kind (ending short))
+abbrev pub withShort : List ℕ → ℕ → ℕ → Span → Span → Parts
+withShort s kind readers label short = withWidth s kind readers label short (widthAt s kind (ending short))
 
 unfoldable pub partsAt : List ℕ → ℕ → Parts
-partsAt s at = withShort s (twoAt s (at + 2)) (spanAt s (at + 4)) (spanAt s (ending (spanAt s (at + 4))))
+partsAt s at =
+    withShort s (twoAt s (at + 2)) (twoAt s (at + 4)) (spanAt s (at + 6)) (spanAt s (ending (spanAt s (at + 6))))
 
 -- what the code is told of its parts besides
 pub record Spans (s : List ℕ) (at : ℕ) (r : Span) : Type 0 where

@@ -47,7 +47,7 @@ unfoldable pub recordAt : List ℕ → ℕ → Parts
 recordAt s at = partsAt s (cond (ltb tableMost at) 0 at)
 
 unfoldable pub fixedOf : Parts → ℕ
-fixedOf p = cond (eqb (p .kind) 2) (cond (leb (p .number) fixedMost) (p .number) 0) 0
+fixedOf p = cond (eqb (p .kind) 12) (cond (leb (p .number) fixedMost) (p .number) 0) 0
 
 unfoldable pub unitOf : ℕ → ℕ
 unitOf n = cond (eqb n 8) 8 1
@@ -79,11 +79,11 @@ restAt s packet p later place = remainder (bitTotal packet) (place + laterBits l
 
 unfoldable pub extentAt : List ℕ → List ℕ → List ℕ → Parts → ℕ → ℕ → Value
 extentAt s packet run p later place =
-    cond (eqb (p .kind) 3) (measuredAt s run p)
-    (cond (eqb (p .kind) 4) (restAt s packet p later place) (value (fixedOf p)))
+    cond (eqb (p .kind) 13) (measuredAt s run p)
+    (cond (eqb (p .kind) 14) (restAt s packet p later place) (value (fixedOf p)))
 
 unfoldable pub numberOf : List ℕ → ℕ → ℕ → ℕ → ℕ
-numberOf packet kind place width = cond (eqb kind 2) (cond (leb width fixedMost) (bitsAt packet place width) 0) 0
+numberOf packet kind place width = cond (eqb kind 12) (cond (leb width fixedMost) (bitsAt packet place width) 0) 0
 
 abbrev pub presentEntry : List ℕ → ℕ → ℕ → ℕ → Entry
 presentEntry packet kind place width =

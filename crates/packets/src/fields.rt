@@ -248,7 +248,7 @@ pub(crate) fn bits_of(parts: Parts) -> usize
 
 // The rest field came before, or is this one.
 pub(crate) fn ends_with(ended: bool, parts: Parts) -> bool
-    ensures { λ r. ⌜ r ≡ (ended || eqb (parts .kind) 4) ⌝ }
+    ensures { λ r. ⌜ r ≡ (ended || eqb (parts .kind) 14) ⌝ }
 {
     if ended {
         return true;

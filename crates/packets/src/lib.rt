@@ -1,6 +1,8 @@
 // Tables are checked, and packets read by them.
 pub mod answers;
 mod bits;
+pub mod conversions;
+mod counts;
 mod fields;
 mod lines;
 pub mod listing;

@@ -1,4 +1,4 @@
-// Fields of a table: how many, by name, and by index with kind, label and short name.
+// Fields of a table: how many, by name, and by index with kind, readers, label and short name.
 use crate::readings::Bytes;
 use crate::records::Parts;
 use crate::records::parts_at;
@@ -17,13 +17,14 @@ ghost use Rattle.rules.specs.Promises.{
   FindsField,
   CountsFields,
   TellsKind,
+  CountsReaders,
   PlacesLabel,
   LendsLabel,
   PlacesShort,
   LendsShort,
 };
 ghost use Rattle.packets.specs.Lookups.{placeFrom, isNamedIn, hasName, findFrom};
-ghost use Rattle.packets.specs.Found.{Finds, labelIn, filledSpan, shortIn, kindIn, OnLabel, OnShort};
+ghost use Rattle.packets.specs.Found.{Finds, labelIn, filledSpan, shortIn, kindIn, readersIn, OnLabel, OnShort};
 ghost use Rattle.rules.specs.Answers.{ofTable, ofField};
 
 // What is found for an index: no good table, no such field, or its record.
@@ -193,6 +194,24 @@ pub fn field_kind(table: &[u8], index: usize) -> FieldAnswer
 {
     let found = find_record(table, index);
     kind_of(found)
+}
+
+fn readers_of(found: FieldRecord) -> FieldAnswer
+    ensures { λ r. ⌜ r ≡ readersIn found ⌝ }
+{
+    match found {
+        FieldRecord::NotGood => FieldAnswer::NotGood,
+        FieldRecord::Unknown => FieldAnswer::Unknown,
+        FieldRecord::At(parts) => FieldAnswer::At(parts.readers),
+    }
+}
+
+// How many references to the field of an index there are in other fields' expressions.
+pub fn count_readers(table: &[u8], index: usize) -> FieldAnswer
+    ensures { λ r. ⌜ CountsReaders (now (table .entry)) index (ofField r) ⌝ }
+{
+    let found = find_record(table, index);
+    readers_of(found)
 }
 
 // The label's part of the field of an index.

@@ -10,11 +10,11 @@ ghost use Rattle.packets.specs.Parts.{placeMost, tableMost, Spans, Width
 pub(crate) const FEW_FIELDS: usize = 16;
 
 // The record kinds of fields.
-pub(crate) const FIXED: usize = 2;
+pub(crate) const FIXED: usize = 12;
 
-pub(crate) const MEASURED: usize = 3;
+pub(crate) const MEASURED: usize = 13;
 
-pub(crate) const REST: usize = 4;
+pub(crate) const REST: usize = 14;
 
 // What a width stores: its number (bits, or the unit), a measured width's expression, and the place behind them.
 pub(crate) struct WidthParts {
@@ -25,6 +25,7 @@ pub(crate) struct WidthParts {
 
 pub(crate) struct Parts {
     pub kind: usize,
+    pub readers: usize,
     pub label: Span,
     pub short: Span,
     pub number: usize,
@@ -102,7 +103,7 @@ pub(crate) fn label_span(s: &[u8], at: usize) -> Span
     requires { ⌜ at ≤ tableMost ⌝ }
     ensures { λ r. ⌜ r ≡ partsAt (now (s .entry)) at .label ⌝ }
 {
-    span_at(s, at + 4)
+    span_at(s, at + 6)
 }
 
 // The parts of the record at a place.
@@ -111,7 +112,8 @@ pub(crate) fn parts_at(s: &[u8], at: usize) -> Parts
     ensures { λ r. ⌜ r ≡ partsAt (now (s .entry)) at ⌝ }
 {
     let kind = two_at(s, at + 2);
-    let label = span_at(s, at + 4);
+    let readers = two_at(s, at + 4);
+    let label = span_at(s, at + 6);
     let short = span_at(s, label.at + label.len);
     let width = width_parts(s, kind, short.at + short.len);
     let number = width.number;
@@ -121,6 +123,7 @@ pub(crate) fn parts_at(s: &[u8], at: usize) -> Parts
     let next = condition.at + condition.len;
     Parts {
         kind,
+        readers,
         label,
         short,
         number,

@@ -1,6 +1,6 @@
 -- What may differ between editions of the rules: the edition in force, and earlier ones.
 use mathlib.Core.Path.{_≡_, refl}
-use mathlib.Core.Bool.{Bool, true, cond, not}
+use mathlib.Core.Bool.{Bool, true, false, cond, not}
 use Prim.Native.Nat.{ℕ, _+_}
 use lib.Dec.{ltb, leb}
 use Rattle.rules.specs.declared.Op.{Op}
@@ -20,8 +20,10 @@ pub record Edition : Type 0 where
   -- the kind of a fixed field's record; a measured one's and the rest field's are the next two
   pub fixedKind : ℕ
   pub short : ltb (fixedKind + 2) 65536 ≡ true
+  -- a field's record keeps how often the field is read
+  pub keepsReaders : Bool
 
--- [01, The stored table] [02, R-7] [02, R-10]
+-- [01, The stored table] [02, R-5] [02, R-7] [02, R-10]
 abbrev pub current : Edition
 current = record {
   fields = fieldsMost;
@@ -29,8 +31,9 @@ current = record {
   packet = packetMost;
   knows = λ o. true;
   means = apply;
-  fixedKind = 2;
+  fixedKind = 12;
   short = refl;
+  keepsReaders = true;
 }
 
 -- what a depot runs that still has the limits of document 01, all else as in force
@@ -44,6 +47,7 @@ earlier = record {
   means = current .means;
   fixedKind = current .fixedKind;
   short = current .short;
+  keepsReaders = current .keepsReaders;
 }
 
 -- without `/`, `%` and `^`, all else as in force; what it would make of these is anything [02, R-7]
@@ -56,4 +60,32 @@ withoutAdded means = record {
   means = λ o. cond (isAdded o) (means o) (apply o);
   fixedKind = current .fixedKind;
   short = current .short;
+  keepsReaders = current .keepsReaders;
+}
+
+-- what an old table was good by, the rules as R-2 left them: the limits of document 01, without `/`, `%` and `^`, and
+-- records of the kinds 2 to 4 that keep no number; names as in force [01, The stored table] [02, R-2] [02, R-5]
+abbrev pub uncounted : Edition
+uncounted = record {
+  fields = earlier .fields;
+  few = earlier .few;
+  packet = earlier .packet;
+  knows = λ o. not (isAdded o);
+  means = apply;
+  fixedKind = 2;
+  short = refl;
+  keepsReaders = false;
+}
+
+-- with such records, all else as in force [02, R-5]
+abbrev pub withoutReaders : Edition
+withoutReaders = record {
+  fields = current .fields;
+  few = current .few;
+  packet = current .packet;
+  knows = current .knows;
+  means = current .means;
+  fixedKind = uncounted .fixedKind;
+  short = uncounted .short;
+  keepsReaders = uncounted .keepsReaders;
 }

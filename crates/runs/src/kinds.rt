@@ -1,8 +1,10 @@
-// The five kinds of request: `text`, `table`, `read`, `part` and `list`.
+// The seven kinds of request: `text`, `table`, `read`, `part`, `list`, `readers` and `convert`.
 use crate::lent::output;
 use crate::lent::room_for;
 use crate::lent::run;
+use crate::packet_answers::show_conversion;
 use crate::packet_answers::show_listing;
+use crate::packet_answers::show_readers;
 use crate::packet_answers::show_reading;
 use crate::packet_answers::show_table;
 use crate::printing::show;
@@ -10,7 +12,9 @@ use crate::printing::show_bytes;
 use crate::printing::show_end;
 use crate::printing::show_number;
 use crate::text_answers::show_text;
+use packets::conversions::convert_table;
 use packets::listing::list_packet;
+use packets::lookups::count_readers;
 use packets::readings::field_bytes;
 use packets::readings::read_packet;
 use packets::tables::check_table;
@@ -50,6 +54,32 @@ fn answer_table(words: &[u8]) {
     let mut table = io::large_buffer();
     let n = bytes_in(words, &mut table);
     show_table(check_table(&table[..n]));
+}
+
+// `readers INDEX TABLE`; the words begin with the index.
+fn answer_readers(words: &[u8]) {
+    let index = number_in(words);
+    let second = next_word(words);
+    let mut table = io::large_buffer();
+    let n = bytes_in(&words[second..], &mut table);
+    show_readers(count_readers(&table[..n], index));
+}
+
+// The table converted into the first size bytes of an output, or into all if there are fewer.
+fn run_conversion(table: &[u8], out: &mut [u8], size: isize) {
+    let n = io::count(size, out);
+    let answer = convert_table(table, &mut out[..n]);
+    show_conversion(answer, out);
+}
+
+// `convert SIZE TABLE`; the words begin with the size.
+fn answer_conversion(words: &[u8]) {
+    let size = number_in(words);
+    let second = next_word(words);
+    let mut table = io::large_buffer();
+    let n = bytes_in(&words[second..], &mut table);
+    let mut out = output();
+    run_conversion(&table[..n], &mut out, size as isize);
 }
 
 // The packet read into the first size numbers of a run, or into all if there are fewer.
@@ -101,11 +131,13 @@ fn answer_packet(words: &[u8], kind: u8, number: usize) {
     run_packet(&table[..n], &packet[..m], kind, number);
 }
 
-// A request whose kind has this letter, the second of `text` and the first of any other.
+// A request whose kind has this letter, the second of `text`, the fourth of `readers` and the first of any other.
 fn answer_words(kind: u8, words: &[u8]) {
     match kind {
         b'e' => answer_text(words),
         b't' => answer_table(words),
+        b'd' => answer_readers(words),
+        b'c' => answer_conversion(words),
         b'l' => answer_packet(words, kind, 0),
         b'r' | b'p' => {
             let number = number_in(words);
@@ -118,13 +150,19 @@ fn answer_words(kind: u8, words: &[u8]) {
     }
 }
 
-// A request, known by its first letter; `text` by its second.
+// A request, known by its first letter; `text` by its second, `readers` by its fifth.
 pub(crate) fn answer_line(line: &[u8]) {
-    if line.len() < 2 {
+    if line.len() < 5 {
         return;
     }
     let first = next_word(line);
     let words = &line[first..];
+    if line[0] == b'r' {
+        if line[4] == b'e' {
+            answer_words(b'd', words);
+            return;
+        }
+    }
     if line[0] == b't' {
         if line[1] == b'e' {
             answer_words(b'e', words);

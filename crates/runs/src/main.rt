@@ -60,8 +60,8 @@ fn run_limits() {
 
 fn run_tables() {
     run_file(b"tables1");
-    run_file(b"tables2");
-    run_file(b"tables3");
+    run_file(b"readers1");
+    run_file(b"readers2");
 }
 
 fn run_packets() {
@@ -76,6 +76,7 @@ fn run_packets() {
     run_file(b"packets9");
     run_file(b"packets10");
     run_file(b"packets11");
+    run_file(b"packets12");
 }
 
 fn main() {

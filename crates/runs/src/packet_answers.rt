@@ -7,7 +7,9 @@ use crate::printing::show_bytes;
 use crate::printing::show_end;
 use crate::printing::show_number;
 use crate::printing::show_refusal;
+use rules::ConversionAnswer;
 use rules::Fault;
+use rules::FieldAnswer;
 use rules::ListingAnswer;
 use rules::PacketAnswer;
 use rules::TableAnswer;
@@ -36,6 +38,36 @@ pub(crate) fn show_table(answer: TableAnswer) {
     match answer {
         TableAnswer::Good(_) => show(b"ok\n"),
         TableAnswer::NotGood => show_refusal(21, 0, true),
+    }
+}
+
+// How often a field is read.
+fn show_count(n: usize) {
+    show_number(b"ok ", n as u64);
+    show_end(true);
+}
+
+pub(crate) fn show_readers(answer: FieldAnswer) {
+    match answer {
+        FieldAnswer::At(n) => show_count(n),
+        FieldAnswer::NotGood => show_refusal(21, 0, true),
+        FieldAnswer::Unknown => show_refusal(30, 0, true),
+    }
+}
+
+// The new table, beyond which nothing is to change.
+fn show_converted(out: &[u8], n: usize) {
+    show(b"ok ");
+    show_bytes(out, n);
+    show_end(unchanged(out, n));
+}
+
+pub(crate) fn show_conversion(answer: ConversionAnswer, out: &[u8]) {
+    let same = unchanged(out, 0);
+    match answer {
+        ConversionAnswer::Converted(n) => show_converted(out, n),
+        ConversionAnswer::NotGood => show_refusal(21, 0, same),
+        ConversionAnswer::NoRoom => show_refusal(11, 0, same),
     }
 }
 

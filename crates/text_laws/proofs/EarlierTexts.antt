@@ -27,7 +27,7 @@ use Rattle.rules.specs.Answers.{Answer, refused}
 use Rattle.rules.specs.Promises.{Outcome, leaves, delivered, ReadsTextIn, spelled, refuses, ReadsText}
 use Rattle.rules.specs.Results.{TextAnswersStay, EarlierTextTotal}
 use Rattle.laws.proofs.OperatorLaws.{Widens, field-known}
-use Rattle.laws.proofs.Earlier.{within-by, within-more, stored-like, earlier-widens}
+use Rattle.laws.proofs.Earlier.{within-by, within-more, AlikeStored, stored-like, earlier-widens, earlier-alike}
 use Rattle.text_laws.specs.LineReader.{readForm}
 use Rattle.text_laws.specs.Resolving.{resolve, described}
 use Rattle.text_laws.proofs.AllowedTexts.{spelled-allowed}
@@ -39,7 +39,7 @@ use Rattle.text_laws.proofs.Resolve.{resolved-named, resolved-spells}
 use Rattle.text_laws.proofs.TextSeen.{andForms, LineIn, FormedIn, one-more, line-read}
 use Rattle.text_laws.proofs.TextResults.{text-total}
 
-spells-by : (a b : Edition) (text : List ℕ) (d : Description) → SpellsIn a text d → WithinIn b d → SpellsIn b text d
+pub spells-by : (a b : Edition) (text : List ℕ) (d : Description) → SpellsIn a text d → WithinIn b d → SpellsIn b text d
 spells-by a b text d s within = record {
   within = within;
   frame = s .frame;
@@ -64,7 +64,7 @@ module _ (a b : Edition) (knows : (o : Op) → a .knows o ≡ true → b .knows 
   forms-more (x ∷ forms) (l ∷ lines) h = (form-more x l (h .0), forms-more forms lines (h .1))
 
 -- and if both know the same, the same line is the first without a form
-formless-like : (a b : Edition) → ((o : Op) → a .knows o ≡ true → b .knows o ≡ true)
+pub formless-like : (a b : Edition) → ((o : Op) → a .knows o ≡ true → b .knows o ≡ true)
     → ((o : Op) → b .knows o ≡ true → a .knows o ≡ true) → (lines : List (List ℕ)) (i : ℕ)
     → FirstFormlessIn b lines i → FirstFormlessIn a lines i
 formless-like a b knows back lines i q = record {
@@ -90,7 +90,7 @@ module _ (a b : Edition) (wide : Widens a b) where
     framed-more f w = record { plain = w .plain; isFrameOf = w .isFrameOf; few = frame-more f (w .few) }
 
     -- where a frame is overfull or a line has no form by the narrower edition, the wider one has to say the same of it
-    refuses-more : (x : Answer) → RefusesIn a text x
+    pub refuses-more : (x : Answer) → RefusesIn a text x
         → ((f : Frame) → x .number ≡ 4 → isOverfullIn a f ≡ true → isOverfullIn b f ≡ true)
         → ((lines : List (List ℕ)) (i : ℕ) → x .number ≡ 5 → FirstFormlessIn a lines i → FirstFormlessIn b lines i)
         → RefusesIn b text x
@@ -102,19 +102,19 @@ module _ (a b : Edition) (wide : Widens a b) where
     refuses-more x (rule {f} forms w q r) over same =
         rule forms (framed-more f w) (forms-more a b (wide .knows) forms (f .lines) q) r
 
-    pub text-more : (out : List ℕ) (o : Outcome) → ReadsTextIn a text out o
+    pub text-more : AlikeStored a b → (out : List ℕ) (o : Outcome) → ReadsTextIn a text out o
         → ((f : Frame) → o .answer .number ≡ 4 → isOverfullIn a f ≡ true → isOverfullIn b f ≡ true)
         → ((lines : List (List ℕ)) (i : ℕ) → o .answer .number ≡ 5 → FirstFormlessIn a lines i
         → FirstFormlessIn b lines i)
         → ReadsTextIn b text out o
-    text-more out o (spelled {d} le s) over same =
-        subst (λ (l : List ℕ). ReadsTextIn b text out (delivered l out)) (sym (stored-like a b wide d))
+    text-more alike out o (spelled {d} le s) over same =
+        subst (λ (l : List ℕ). ReadsTextIn b text out (delivered l out)) (sym (stored-like a b wide alike d))
         (spelled le (spells-by a b text d s (within-more a b wide d (s .within))))
-    text-more out o (refuses r) over same = refuses (refuses-more (o .answer) r over same)
+    text-more alike out o (refuses r) over same = refuses (refuses-more (o .answer) r over same)
 
 pub text-answers-stay : TextAnswersStay
 text-answers-stay text out o p ne =
-    text-more earlier current earlier-widens text out o p (λ f e h. absurd (ne e))
+    text-more earlier current earlier-widens text earlier-alike out o p (λ f e h. absurd (ne e))
     (λ lines i e q. formless-like current earlier (λ o h. h) (λ o h. h) lines i q)
 
 -- ── each text has an outcome by an edition that allows less ──

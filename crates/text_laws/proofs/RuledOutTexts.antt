@@ -24,7 +24,8 @@ use Rattle.rules.specs.Names.{
   isShort,
 }
 use Rattle.rules.specs.Trees.{depth, le2, le4, storedTree, isInRange, hasType}
-use Rattle.rules.specs.Stored.{storedIn, storedFieldIn, fieldBody, headBody}
+use Rattle.rules.specs.References.{treeReads, fieldReads, times, readers}
+use Rattle.rules.specs.Stored.{storedIn, storedWith, recordsIn, storedFieldIn, fieldBody, headBody}
 use Rattle.rules.specs.Frames.{tens, units, border, cellText, rowLines, headLines, cells}
 use Rattle.rules.specs.Spelling.{mismatch}
 use Rattle.rules.specs.Refusals.{ruleBroken}
@@ -114,10 +115,12 @@ use Rattle.rules.specs.Promises.{Outcome, leaves, ReadsText}
 use Rattle.rules.specs.Marked.{tag, tagText}
 use Rattle.rules.specs.Pages.{tagLines, manyFields, manyRows, manyLines}
 use Rattle.laws.specs.WrongOperators.{powers}
+use Rattle.laws.specs.WrongNumbers.{doubled}
 use Rattle.laws.proofs.RuledOut.{numbers}
 use Rattle.text_laws.specs.WrongTexts.{Claim, reads, Claimed, AllFalse, wrongTexts}
 use Rattle.text_laws.specs.WrongTextNames.{wrongTextNames}
 use Rattle.text_laws.specs.WrongTextOperators.{wrongTextOperators}
+use Rattle.text_laws.specs.WrongTextNumbers.{wrongTextNumbers}
 use Rattle.text_laws.proofs.TextResults.{text-unique}
 use Rattle.text_laws.proofs.TextSeen.{formsOf, seen, outcomeOf, outcome-is}
 
@@ -143,20 +146,20 @@ barredText = tagLines 1 ++ (0x7F ∷ [])
 record Computed : Type 0 where
   spelled : seen tagText ≡ inr tag
   barred : seen barredText ≡ inl (refused 2 0)
-  others : all isOther (wrongTexts ++ (wrongTextNames ++ wrongTextOperators)) ≡ true
+  others : all isOther (wrongTexts ++ (wrongTextNames ++ (wrongTextOperators ++ wrongTextNumbers))) ≡ true
 
 computed : Computed
 unfolding digits all any same lastIs sum joined tabulate firstBreak operator operators isLetter isDigit isSpace
     isPrintable isAllowed isWordByte isLabelByte noTwoSpaces isLabel reserved isReserved isShort depth le2 le4
-    storedTree isInRange hasType storedIn storedFieldIn fieldBody headBody tens units border cellText rowLines
-    headLines cells mismatch ruleBroken ofText delivered notTimes after firstOf insert longestFirst order skip
-    skipBehind operatorAt word behind scan wordValue isNumeral isNumberWord andThen leaf close inside atom step
-    expr more Lines.readField literal begins labelEnds labelText labelBehind readLabel readClosedName readShort
-    readTree unitOf readUnit readMeasure readWidth readPhrase readMaybe isCondition isConstraint readConstraint
-    readCondition isRemark readForm Frames.readName Frames.step onFirst pieces rest lead leftTrim keepEnd
-    rightTrim cellOf keepRow longOf readRow closing readTens onName onWidth onRow rowOrEnd opened onSame run
-    rightFrom rightLines whole readFrame firstIndex renameTree resolve formsOf seen manyFields manyRows manyLines
-    powers
+    storedTree isInRange hasType treeReads fieldReads times readers storedIn storedWith recordsIn storedFieldIn
+    fieldBody headBody tens units border cellText rowLines headLines cells mismatch ruleBroken ofText delivered
+    notTimes after firstOf insert longestFirst order skip skipBehind operatorAt word behind scan wordValue isNumeral
+    isNumberWord andThen leaf close inside atom step expr more Lines.readField literal begins labelEnds labelText
+    labelBehind readLabel readClosedName readShort readTree unitOf readUnit readMeasure readWidth readPhrase
+    readMaybe isCondition isConstraint readConstraint readCondition isRemark readForm Frames.readName Frames.step
+    onFirst pieces rest lead leftTrim keepEnd rightTrim cellOf keepRow longOf readRow closing readTens onName
+    onWidth onRow rowOrEnd opened onSame run rightFrom rightLines whole readFrame firstIndex renameTree resolve
+    formsOf seen manyFields manyRows manyLines powers doubled
 computed = record { spelled = refl; barred = refl; others = refl }
 
 -- the outcomes of two texts
@@ -170,6 +173,8 @@ pub barred-known : {out : List ℕ} → ReadsText (tagLines 1 ++ (0x7F ∷ [])) 
 barred-known {out} = known barredText out (inl (refused 2 0)) (computed .barred)
 
 -- each wrong program's answer is ruled out
-pub texts-ruled-out : AllFalse (wrongTexts ++ (wrongTextNames ++ wrongTextOperators))
+pub texts-ruled-out : AllFalse (wrongTexts ++ (wrongTextNames ++ (wrongTextOperators ++ wrongTextNumbers)))
 texts-ruled-out =
-    every-passes isOther ruled-out (wrongTexts ++ (wrongTextNames ++ wrongTextOperators)) (computed .others)
+    every-passes isOther ruled-out
+    (wrongTexts ++ (wrongTextNames ++ (wrongTextOperators ++ wrongTextNumbers)))
+    (computed .others)

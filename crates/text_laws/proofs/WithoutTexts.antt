@@ -1,13 +1,13 @@
 -- Texts by the edition without the operators of codes 0x13 to 0x15 and by the one in force: only 5 changes. [02, R-7]
 use Rattle.rules.specs.Editions.{current, withoutAdded}
 use Rattle.rules.specs.Results.{WithoutTextStays, WithoutTextTotal}
-use Rattle.laws.proofs.Without.{without-widens}
+use Rattle.laws.proofs.Without.{without-widens, without-alike}
 use Rattle.text_laws.proofs.EarlierTexts.{text-more, total-less}
 
 -- both allow as many fields, so 4 stays
 pub without-text-stays : WithoutTextStays
 without-text-stays means text out o p ne =
-    text-more (withoutAdded means) current (without-widens means) text out o p (λ f e h. h)
+    text-more (withoutAdded means) current (without-widens means) text (without-alike means) out o p (λ f e h. h)
     (λ lines i e q. absurd (ne e))
 
 pub without-text-total : WithoutTextTotal

@@ -9,6 +9,7 @@
 -- WrongTexts   answers of wrong programs to texts, of which the promise is false
 -- WrongTextNames  of those that are wrong about names
 -- WrongTextOperators  of those that are wrong about quotients, remainders and powers
+-- WrongTextNumbers  of those that are wrong about how often a field is read
 -- The readers are helpers of code and proofs; no public promise rests on them.
 pub mod Reader
 pub mod LineReader
@@ -21,3 +22,4 @@ pub mod Steady
 pub mod WrongTexts
 pub mod WrongTextNames
 pub mod WrongTextOperators
+pub mod WrongTextNumbers

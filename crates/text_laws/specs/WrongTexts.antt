@@ -168,26 +168,26 @@ twoRests = pageText
 abbrev pub wrongOutputs : List Claim
 wrongOutputs =
     -- every text refused; an output refused that the table just fills
-    reads tagText (nines 44) (BadLine 1) (nines 44)
-    ∷ reads tagText (nines 44) NoRoom (nines 44)
+    reads tagText (nines 46) (BadLine 1) (nines 46)
+    ∷ reads tagText (nines 46) NoRoom (nines 46)
     -- the Tag table for every text
-    ∷ reads bladeText (nines 300) (Accepted 44) (overlaid tagTable (nines 300))
-    ∷ reads [] (nines 44) (Accepted 44) tagTable
+    ∷ reads bladeText (nines 300) (Accepted 46) (overlaid tagTable (nines 300))
+    ∷ reads [] (nines 46) (Accepted 46) tagTable
     -- accepted, and nothing written
-    ∷ reads tagText (nines 44) (Accepted 44) (nines 44)
+    ∷ reads tagText (nines 46) (Accepted 46) (nines 46)
     -- accepted with another length
-    ∷ reads tagText (nines 44) (Accepted 43) tagTable
-    ∷ reads tagText (nines 44) (Accepted 0) tagTable
+    ∷ reads tagText (nines 46) (Accepted 45) tagTable
+    ∷ reads tagText (nines 46) (Accepted 0) tagTable
     -- the output's length for the table's
     ∷ reads tagText (nines 50) (Accepted 50) (overlaid tagTable (nines 50))
     -- bytes beyond the table changed
-    ∷ reads tagText (nines 50) (Accepted 44) (tagTable ++ replicate 6 0)
+    ∷ reads tagText (nines 50) (Accepted 46) (tagTable ++ replicate 4 0)
     -- the output changed on a refusal
-    ∷ reads tagText (nines 43) NoRoom (take 43 tagTable)
-    ∷ reads [] (nines 44) (BadLine 1) (replicate 44 0)
+    ∷ reads tagText (nines 45) NoRoom (take 45 tagTable)
+    ∷ reads [] (nines 46) (BadLine 1) (replicate 46 0)
     -- accepted though the output is too short
-    ∷ reads tagText (nines 43) (Accepted 44) (nines 43)
-    ∷ reads tagText (nines 43) (Accepted 43) (take 43 tagTable)
+    ∷ reads tagText (nines 45) (Accepted 46) (nines 45)
+    ∷ reads tagText (nines 45) (Accepted 45) (take 45 tagTable)
     ∷ []
 
 -- of numbers and places
@@ -267,14 +267,14 @@ wrongPairs =
 abbrev pub wrongMany : List Claim
 wrongMany =
     -- 4, or 7 at the 65th line; 64 of the fields written; 11 for an output that the table just fills; nothing written
-    reads (manyText 65) (nines 1113) TooMany (nines 1113)
-    ∷ reads (manyText 65) (nines 1113) (Mismatch 206) (nines 1113)
-    ∷ reads (manyText 65) (nines 1113) (Accepted 1096) (overlaid (stored (page (manyFields 0 64))) (nines 1113))
-    ∷ reads (manyText 65) (nines 1113) NoRoom (nines 1113)
-    ∷ reads (manyText 65) (nines 1113) (Accepted 1113) (nines 1113)
+    reads (manyText 65) (nines 1243) TooMany (nines 1243)
+    ∷ reads (manyText 65) (nines 1243) (Mismatch 206) (nines 1243)
+    ∷ reads (manyText 65) (nines 1243) (Accepted 1224) (overlaid (stored (page (manyFields 0 64))) (nines 1243))
+    ∷ reads (manyText 65) (nines 1243) NoRoom (nines 1243)
+    ∷ reads (manyText 65) (nines 1243) (Accepted 1243) (nines 1243)
     -- 129 accepted
-    ∷ reads (manyText 129) (nines 2300) (Accepted (length (stored (page (manyFields 0 129)))))
-    (overlaid (stored (page (manyFields 0 129))) (nines 2300))
+    ∷ reads (manyText 129) (nines 2500) (Accepted (length (stored (page (manyFields 0 129)))))
+    (overlaid (stored (page (manyFields 0 129))) (nines 2500))
     ∷ []
 
 abbrev pub wrongTexts : List Claim

@@ -1,5 +1,5 @@
 -- The end of a text: the lowest refusal, and the table.
-use mathlib.Core.Path.{_≡_, refl, ap, ap₂, sym, _∙_}
+use mathlib.Core.Path.{_≡_, refl, ap, ap₂, sym, subst, _∙_}
 use mathlib.Core.Bool.{Bool, true, false, cond, _||_, not}
 use mathlib.Core.List.{List, [], _++_, append-assoc, append-nil}
 use mathlib.Core.Option.{Option, none, some}
@@ -16,9 +16,11 @@ use Rattle.writing.specs.Writes.{Writes}
 use Rattle.writing.proofs.Writing.{writes-join}
 use Rattle.rules.specs.Answers.{Answer, accepted, refused}
 use Rattle.rules.specs.Trees.{le2}
+use Rattle.rules.specs.References.{readers}
 use Rattle.rules.specs.Fields.{Field}
-use Rattle.rules.specs.Stored.{counted, recordOf, storedField, storedIn, headBody, stored}
+use Rattle.rules.specs.Stored.{counted, recordOf, records, storedWith, storedIn, headBody, stored}
 use Rattle.rules.specs.Promises.{leaves, overlaid, delivered}
+use Rattle.references.specs.Numbers.{numbered}
 use Rattle.text_laws.specs.Lowest.{lower}
 use Rattle.text_laws.specs.Fold as fold
 use Rattle.text_laws.proofs.Loose.{lowest-clear}
@@ -35,15 +37,19 @@ use Rattle.texts.specs.States.{
   remainNote,
   lastNote,
   TableStep,
+  Area,
+  area,
+  plainField,
+  Numbers,
 }
 use Rattle.texts.specs.declared.notes.Note.{Note}
 use Rattle.texts.specs.declared.states.Stage.{Stage}
 use Rattle.texts.specs.declared.states.Stage.the-variants as at
 use Rattle.texts.specs.declared.states.Reading.{Reading}
 use Rattle.writing.specs.Puts.{placed, put}
-use Rattle.writing.proofs.PutLaws.{put-writes}
 use Rattle.texts.proofs.LineForms.{told-lower}
 use Rattle.texts.proofs.RecordLaws.{two-writes, two-end}
+use Rattle.texts.proofs.RecordNumbers.{records-length, numbered-all}
 use Rattle.texts.proofs.TableLaws.{head-end}
 use Rattle.texts.proofs.RecordSizes.{two-length, counted-length}
 
@@ -203,37 +209,50 @@ size-all w n name body =
       two-length 5,
     )
 
-module _ (k : fold.Kept) (r : Reading) {cells table : List ℕ} {labels : List (List ℕ)} {names : Names}
-    (h : Holds (k .found) r cells table labels names) (clear : fold.lowestOf k ≡ none) where
+module _ (k : fold.Kept) (r : Reading) {cells : List ℕ} {table : Area} {labels : List (List ℕ)} {names : Names}
+    (h : Holds (k .found) r cells table labels names) (clear : fold.lowestOf k ≡ none) (room : Room r) where
   same-fields : h .records .fields ≡ k .found .judged .fields
   same-fields = h .records .stands .exact (lowest-clear (k .found .stage) (k .line) (k .found) clear)
 
-  parts : (take (r .name) table ≡ k .found .name)
-      × (take (r .end - r .name) (drop (r .name) table) ≡ joined storedField (k .found .judged .fields))
+  parts : (take (r .name) (table .bytes) ≡ k .found .name)
+      × (take (r .end - r .name) (drop (r .name) (table .bytes)) ≡ joined plainField (k .found .judged .fields))
   parts =
-      let c = cut table (k .found .name) (joined storedField (h .records .fields)) (r .end) (h .records .stored)
-      (h .records .end) in
+      let c = cut (table .bytes) (k .found .name) (joined plainField (h .records .fields)) (r .end)
+      (h .records .stored) (h .records .end) in
       let n = h .counts .name in (
-        ap (λ (i : ℕ). take i table) n ∙ c .0,
-        ap (λ (i : ℕ). take (r .end - i) (drop i table)) n ∙ c .1 ∙ ap (joined storedField) same-fields,
+        ap (λ (i : ℕ). take i (table .bytes)) n ∙ c .0,
+        ap (λ (i : ℕ). take (r .end - i) (drop i (table .bytes))) n ∙ c .1 ∙ ap (joined plainField) same-fields,
       )
 
-  table-is : recordOf 1 (le2 (r .width) ++ (le2 (r .fields) ++ counted (take (r .name) table)))
-      ++ (take (r .end - r .name) (drop (r .name) table) ++ recordOf 5 [])
-      ≡ stored (fold.foundDescription (k .found))
-  unfolding storedIn headBody
-  table-is = rw (h .counts .width, h .counts .fields, parts .0, parts .1) refl
+  -- each record with its number
+  body-is : numbered (r .fields) (table .counts) (take (r .end - r .name) (drop (r .name) (table .bytes)))
+      ≡ records (readers (k .found .judged .fields)) 0 (k .found .judged .fields)
+  body-is =
+      let fs = k .found .judged .fields in
+      let n = h .counts .fields in
+      ap₂ (λ (i : ℕ) (l : List ℕ). numbered i (table .counts) l) n (parts .1)
+      ∙ numbered-all fs (table .counts)
+      (subst (λ (l : List (Field ℕ)). Numbers l (table .counts)) same-fields (h .records .numbers))
+      (omega (arith, n, room .fields, room .count))
+
+  table-is : recordOf 1 (le2 (r .width) ++ (le2 (r .fields) ++ counted (take (r .name) (table .bytes))))
+      ++ (numbered (r .fields) (table .counts) (take (r .end - r .name) (drop (r .name) (table .bytes)))
+      ++ recordOf 5 []) ≡ stored (fold.foundDescription (k .found))
+  unfolding storedIn storedWith headBody
+  table-is = rw (body-is, h .counts .width, h .counts .fields, parts .0) refl
 
   pub table-size : length (stored (fold.foundDescription (k .found))) ≡ 14 + r .end
   table-size =
       let f = k .found in
+      let fs = f .judged .fields in
+      let body = numbered (r .fields) (table .counts) (take (r .end - r .name) (drop (r .name) (table .bytes))) in
       let e = ap length (sym table-is) in
-      let s = size-all (r .width) (r .fields) (take (r .name) table) (take (r .end - r .name) (drop (r .name) table)) in
+      let s = size-all (r .width) (r .fields) (take (r .name) (table .bytes)) body in
       let a = ap length (parts .0) in
-      let b = ap length (parts .1) in
+      let b = ap length body-is ∙ records-length (readers fs) 0 fs in
       let c = h .records .end in
-      let d = length-append (f .name) (joined storedField (h .records .fields)) in
-      let g = ap (λ (l : List (Field ℕ)). length (joined storedField l)) same-fields in
+      let d = length-append (f .name) (joined plainField (h .records .fields)) in
+      let g = ap (λ (l : List (Field ℕ)). length (joined plainField l)) same-fields in
       omega (arith, e, s, a, b, c, d, g)
 
   pub end-short : (out : List ℕ) → length out < 14 + r .end → leaves (refused 11 0) out ≡ fold.finish k out
@@ -257,22 +276,40 @@ module _ (k : fold.Kept) (r : Reading) {cells table : List ℕ} {labels : List (
 
 -- ── the code's writes ──
 
-pub put-all : (r : Reading) (table : List ℕ) {out a b c d : List ℕ} {head body size n : ℕ} → Room r
+-- behind the first record there is room for the others
+pub record-room : (r : Reading) (table : List ℕ) {out a : List ℕ} {head : ℕ} → Room r → r .end ≤ length table
+    → 14 + r .end ≤ length out
+    → Writes out 0 (recordOf 1 (le2 (r .width) ++ (le2 (r .fields) ++ counted (take (r .name - 0) table)))) a head
+    → head + length (take (r .end - r .name) (drop (r .name) table)) ≤ length a
+record-room r table {out} {a} {head} k big room w =
+    let v : Writes out 0 (recordOf 1 (le2 (r .width) ++ (le2 (r .fields) ++ counted (take (r .name) table)))) a head =
+    rw (sub-zero (r .name)) at w in
+    omega (
+      arith,
+      length-take-le (r .name) table (omega (arith, big, k .front)),
+      length-take-le (r .end - r .name) (drop (r .name) table)
+          (omega (arith, big, k .front, length-drop (r .name) table)),
+      head-end (r .width) (r .fields) (take (r .name) table) v,
+      v .kept,
+      room,
+      k .front,
+    )
+
+pub put-all : (r : Reading) (table counts : List ℕ) {out a b c d : List ℕ} {head body size n : ℕ} → Room r
     → r .end ≤ length table → 14 + r .end ≤ length out
     → Writes out 0 (recordOf 1 (le2 (r .width) ++ (le2 (r .fields) ++ counted (take (r .name - 0) table)))) a head
-    → placed body b ≡ put a head (take (r .end - r .name) (drop (r .name) table))
-    → placed size c ≡ put b body (le2 4) → placed n d ≡ put c size (le2 5) → TableStep r table out d n
-put-all r table {out} {a} {b} {c} {d} {head} {body} {size} {n} k big room w₁ e₂ e₃ e₄ =
+    → body ≡ head + length (take (r .end - r .name) (drop (r .name) table))
+    → Writes a head (numbered (r .fields) counts (take (r .end - r .name) (drop (r .name) table))) b body
+    → placed size c ≡ put b body (le2 4) → placed n d ≡ put c size (le2 5) → TableStep r (area table counts) out d n
+put-all r table counts {out} {a} {b} {c} {d} {head} {body} {size} {n} k big room w₁ e₂ w₂ e₃ e₄ =
     let v₁ : Writes out 0 (recordOf 1 (le2 (r .width) ++ (le2 (r .fields) ++ counted (take (r .name) table)))) a head =
     rw (sub-zero (r .name)) at w₁ in
     let name = take (r .name) table in
-    let mid = take (r .end - r .name) (drop (r .name) table) in
     let l₁ = length-take-le (r .name) table (omega (arith, big, k .front)) in
     let l₂ = length-take-le (r .end - r .name) (drop (r .name) table)
     (omega (arith, big, k .front, length-drop (r .name) table)) in
     let h₁ = head-end (r .width) (r .fields) name v₁ in
-    let w₂ = put-writes (omega (arith, l₁, l₂, h₁, v₁ .kept, room, k .front)) e₂ in
-    let w₃ = two-writes 4 (omega (arith, l₁, l₂, h₁, v₁ .kept, w₂ .end, w₂ .kept, room, k .front)) e₃ in
+    let w₃ = two-writes 4 (omega (arith, l₁, l₂, h₁, v₁ .kept, e₂, w₂ .kept, room, k .front)) e₃ in
     let z = two-end 4 w₃ in
-    let w₄ = two-writes 5 (omega (arith, l₁, l₂, h₁, v₁ .kept, w₂ .end, w₂ .kept, w₃ .kept, z, room, k .front)) e₄ in
+    let w₄ = two-writes 5 (omega (arith, l₁, l₂, h₁, v₁ .kept, e₂, w₂ .kept, w₃ .kept, z, room, k .front)) e₄ in
     rw (append-nil (le2 5)) (writes-join v₁ (writes-join w₂ (writes-join w₃ w₄)))

@@ -15,7 +15,6 @@ use Rattle.rules.specs.Limits.{fieldsMost}
 use Rattle.rules.specs.Answers.{Answer, refused}
 use Rattle.rules.specs.Names.{isShort}
 use Rattle.rules.specs.Fields.{Width, fixed, measured, rest, Field, Form, isRest, isRestWidth}
-use Rattle.rules.specs.Stored.{storedField}
 use Rattle.text_laws.specs.LineReader.{readForm}
 use Rattle.text_laws.specs.Lowest.{lower, broken}
 use Rattle.text_laws.specs.Judging.{faceWidth, face, faces, resolvedIn, rules, Judged, isOpen, isMany, isFull, many}
@@ -31,7 +30,7 @@ use Rattle.texts.specs.HeldNames as held
 use Rattle.texts.specs.Slots.{storedSlot}
 use Rattle.texts.specs.Resolved.{indexed}
 use Rattle.texts.specs.States.{note, changed, withLine, lineRefused, lineKept, isFullAs, NamedWith}
-use Rattle.texts.specs.States.{Counts, Named, Holds}
+use Rattle.texts.specs.States.{Area, plainField, isShortRecord, Counts, Named, Holds}
 use Rattle.texts.specs.declared.notes.Note.{Note}
 use Rattle.texts.specs.declared.states.Stage.the-variants as at
 use Rattle.texts.specs.declared.states.Reading.{Reading}
@@ -40,6 +39,7 @@ use Rattle.texts.proofs.HeldArrays.{named-front, named-face}
 use Rattle.texts.proofs.Holding.{writes}
 use Rattle.texts.proofs.LineForms.{named-kept}
 use Rattle.texts.proofs.LineTypes.{ShortNames}
+use Rattle.texts.proofs.LineCounts.{fieldTallied, numbers-more}
 
 -- ── full ──
 
@@ -76,7 +76,7 @@ fieldFound f j = record {
   judged = j;
 }
 
-module _ (f : fold.Found) (r : Reading) {cells table : List ℕ} {labels : List (List ℕ)} {names : Names}
+module _ (f : fold.Found) (r : Reading) {cells : List ℕ} {table : Area} {labels : List (List ℕ)} {names : Names}
     (h : Holds f r cells table labels names) where
   holds-judged : (j : Judged) (n : ℕ) (a : Note) → n ≡ j .count → j .fields ≡ f .judged .fields
       → (j .lowest ≡ none → f .judged .lowest ≡ none) → noteOf a ≡ j .lowest
@@ -108,6 +108,7 @@ module _ (f : fold.Found) (r : Reading) {cells table : List ℕ} {labels : List 
       };
       stored = h .records .stored;
       end = h .records .end;
+      numbers = h .records .numbers;
     };
     named = subst (λ (l : List (Field ℕ)). Named (faces l) labels names) (sym e) (h .named);
   }
@@ -152,7 +153,7 @@ module _ (f : fold.Found) (r : Reading) {cells table : List ℕ} {labels : List 
       k)
 
 -- other names may be held behind those of the fields
-pub holds-named : (f : fold.Found) (r : Reading) (x : Form) {cells table : List ℕ}
+pub holds-named : (f : fold.Found) (r : Reading) (x : Form) {cells : List ℕ} {table : Area}
     {labels labels′ : List (List ℕ)} {names names′ : Names} → Holds f r cells table labels names
     → NamedWith f x labels′ names′ → Holds f r cells table labels′ names′
 holds-named f r x h n = record {
@@ -163,8 +164,8 @@ holds-named f r x h n = record {
 }
 
 -- and behind those of the fields other names may stand
-pub holds-kept : (f : fold.Found) (r : Reading) {cells table : List ℕ} {labels : List (List ℕ)} {names names′ : Names}
-    → Holds f r cells table labels names → held.Kept names (r .fields) names′
+pub holds-kept : (f : fold.Found) (r : Reading) {cells : List ℕ} {table : Area} {labels : List (List ℕ)}
+    {names names′ : Names} → Holds f r cells table labels names → held.Kept names (r .fields) names′
     → Holds f r cells table labels names′
 holds-kept f r h k = record {
   counts = h .counts;
@@ -202,11 +203,11 @@ same-count j fs h = sym (length-map fs face) ∙ ap length (h .seen) ∙ length-
 
 -- one record more
 stored-more : (name : List ℕ) (fs : List (Field ℕ)) (next : Field ℕ)
-    → name ++ joined storedField (fs ++ (next ∷ [])) ≡ (name ++ joined storedField fs) ++ storedField next
+    → name ++ joined plainField (fs ++ (next ∷ [])) ≡ (name ++ joined plainField fs) ++ plainField next
 stored-more name fs next =
-    ap (λ (z : List ℕ). name ++ z) (joined-append storedField fs (next ∷ [])
-    ∙ ap (λ (z : List ℕ). joined storedField fs ++ z) (joined-one storedField next))
-    ∙ sym (append-assoc name (joined storedField fs) (storedField next))
+    ap (λ (z : List ℕ). name ++ z) (joined-append plainField fs (next ∷ [])
+    ∙ ap (λ (z : List ℕ). joined plainField fs ++ z) (joined-one plainField next))
+    ∙ sym (append-assoc name (joined plainField fs) (plainField next))
 
 -- and one field more, as later lines see it
 seen-more : (j : Judged) (before : List (Field ℕ)) (y : Field ℕ) (x : Form) → j .fields ≡ before ++ (y ∷ [])
@@ -215,14 +216,16 @@ seen-more j before y x e same =
     ap faces e ∙ faces-append before y ∙ ap (λ (z : Form). faces before ++ (z ∷ [])) same
 
 -- what a kept field adds: its cell is passed, its record is written, its names are held
-pub record Kept (f : fold.Found) (r : Reading) (x : Form) (to end : ℕ) (isRested : Bool) (table after : List ℕ)
+pub record Kept (f : fold.Found) (r : Reading) (x : Form) (to end : ℕ) (isRested : Bool) (table after : Area)
     (labels : List (List ℕ)) (names : Names) : Type 0 where
   pub cell : to ≡ length (joined storedSlot (take (suc (length (f .judged .fields))) (f .cells)))
-  pub writes : Writes table (r .end) (storedField (indexed names (r .fields) x)) after end
+  pub writes : Writes (table .bytes) (r .end) (plainField (indexed names (r .fields) x)) (after .bytes) end
+  pub short : isShortRecord (indexed names (r .fields) x) ≡ true
+  pub tallies : after .counts ≡ fieldTallied (r .fields) (indexed names (r .fields) x) (table .counts)
   pub rested : isRested ≡ (any isRest (faces (f .judged .fields)) || isRest x)
   pub named : NamedWith f x labels names
 
-module _ (f : fold.Found) (r : Reading) {cells table after : List ℕ} {labels labels′ : List (List ℕ)}
+module _ (f : fold.Found) (r : Reading) {cells : List ℕ} {table after : Area} {labels labels′ : List (List ℕ)}
     {names names′ : Names} (h : Holds f r cells table labels names) (x : Form) {end cell : ℕ} {rested : Bool}
     (k : Kept f r x cell end rested table after labels′ names′) where
   counts-grown : (j : Judged) (y : Field ℕ) (a : Note) → j .count ≡ suc (f .judged .count)
@@ -257,8 +260,9 @@ module _ (f : fold.Found) (r : Reading) {cells table after : List ℕ} {labels l
       same-count (f .judged) fs (h .records .stands) ∙ sym (h .counts .fields) in
       let seen = seen-more j before y x e same in
       let next = indexed names′ (length fs) x in
-      let w : take end after ≡ take (r .end) table ++ storedField next =
-      k .writes .text ∙ ap (λ (i : ℕ). take (r .end) table ++ storedField (indexed names′ i x)) (sym m) in
+      let w : take end (after .bytes) ≡ take (r .end) (table .bytes) ++ plainField next =
+      k .writes .text ∙ ap (λ (i : ℕ). take (r .end) (table .bytes) ++ plainField (indexed names′ i x))
+      (sym m) in
       let all-stored = stored-more (f .name) fs next in
       record {
         counts = counts-grown j y a c e same low;
@@ -271,18 +275,21 @@ module _ (f : fold.Found) (r : Reading) {cells table after : List ℕ} {labels l
         records = record {
           fields = fs ++ (next ∷ []);
           stands = stands;
-          stored = w ∙ ap (λ (z : List ℕ). z ++ storedField next) (h .records .stored) ∙ sym all-stored;
+          stored = w ∙ ap (λ (z : List ℕ). z ++ plainField next) (h .records .stored) ∙ sym all-stored;
           end = (let q = ap length all-stored in
-              let p = length-append (f .name ++ joined storedField fs) (storedField next) in
-              let z = ap (λ (i : ℕ). length (storedField (indexed names′ i x))) m in
+              let p = length-append (f .name ++ joined plainField fs) (plainField next) in
+              let z = ap (λ (i : ℕ). length (plainField (indexed names′ i x))) m in
               omega (arith, k .writes .end, h .records .end, q, p, z));
+          numbers = numbers-more fs next (h .records .numbers)
+              (ap (λ (i : ℕ). isShortRecord (indexed names′ i x)) m ∙ k .short)
+              (k .tallies ∙ ap (λ (i : ℕ). fieldTallied i (indexed names′ i x) (table .counts)) (sym m));
         };
         named = subst (λ (z : List Form). Named z labels′ names′) (sym seen)
             (named-face (faces before) x (k .named));
       }
 
 -- the code's field stands in for the fold's
-module _ (f : fold.Found) (r : Reading) {cells table after : List ℕ} {labels labels′ : List (List ℕ)}
+module _ (f : fold.Found) (r : Reading) {cells : List ℕ} {table after : Area} {labels labels′ : List (List ℕ)}
     {names names′ : Names} (h : Holds f r cells table labels names) (x : Form) {end cell : ℕ} {rested : Bool}
     (k : Kept f r x cell end rested table after labels′ names′)
     (steady : Steady f) (short : ShortNames x)

@@ -85,7 +85,7 @@ module _ (f : fold.Found) (steady : Steady f) (line : List ℕ) (x : Form) (isFo
 
   -- 10
   pub rest-is : (names : Names) (n : ℕ) (v : LineBytes) (p : Parts) → PartsHeld names n line x v p
-      → (any isRest (faces (f .judged .fields)) && not (eqb (p .kind) 2 && eqb (p .condition .len) 0))
+      → (any isRest (faces (f .judged .fields)) && not (eqb (p .kind) 12 && eqb (p .condition .len) 0))
       ≡ not (keepsRest (faces (f .judged .fields)) x)
   rest-is names n v p is =
       rw (

@@ -1,7 +1,7 @@
 -- What the code keeps behind the lines of the head that hold NAME, W and cells.
-use mathlib.Core.Path.{_≡_, refl, ap, sym, _∙_}
+use mathlib.Core.Path.{_≡_, refl, ap, sym, subst, _∙_}
 use mathlib.Core.Bool.{Bool, true, false, cond, _&&_}
-use mathlib.Core.List.{List, [], append-nil}
+use mathlib.Core.List.{List, [], _∷_, append-nil}
 use mathlib.Core.Option.{Option, none, some}
 use Prim.Native.Nat.{ℕ, _+_, _-_, _*_, _≤_, _<_}
 use native.Mathlib.Omega.{arith}
@@ -18,11 +18,13 @@ use Rattle.rules.specs.Limits.{fieldsMost, labelMost}
 use Rattle.rules.specs.Names.{isLabel}
 use Rattle.rules.specs.Frames.{tens}
 use Rattle.text_laws.specs.FrameReader.{closing, readName, readTens}
-use Rattle.text_laws.specs.Judging.{faces}
+use Rattle.text_laws.specs.Judging.{faces, Judged}
+use Rattle.text_laws.specs.Steady.{StandIn}
+use Rattle.rules.specs.Fields.{Field}
 use Rattle.text_laws.specs.Fold as fold
 use Rattle.texts.specs.HeldNames.{Names}
 use Rattle.texts.specs.FramePlaces.{isSome, widthOr, nameBehind}
-use Rattle.texts.specs.States.{changed, withHead, slotMost, Room, Holds}
+use Rattle.texts.specs.States.{changed, withHead, slotMost, Room, Area, area, Numbers, Holds}
 use Rattle.texts.specs.declared.states.Stage.the-variants as at
 use Rattle.texts.specs.declared.states.Reading.{Reading}
 use Rattle.writing.specs.Puts.{placed, put}
@@ -120,12 +122,16 @@ module _ (l : List ℕ) (a : ℕ) (le : a ≤ length l) (n : NameOf (drop a l)) 
   name-put room e = put-writes (omega (arith, n .short, room)) (rw same-cut at e)
 
 -- where no field was kept, none stands in
-module _ (f : fold.Found) (r : Reading) {cells table : List ℕ} {labels : List (List ℕ)} {names : Names}
+none-stands : (j : Judged) (fs : List (Field ℕ)) → StandIn j fs → j .fields ≡ [] → fs ≡ []
+none-stands j [] h e = refl
+none-stands j (y ∷ fs) h e = absurd (let n = ap length (h .seen ∙ ap faces e) in omega (arith, n))
+
+module _ (f : fold.Found) (r : Reading) {cells : List ℕ} {table : Area} {labels : List (List ℕ)} {names : Names}
     (h : Holds f r cells table labels names) where
   -- NAME stands at the start of the table
-  pub holds-name : f .judged .fields ≡ [] → (n : List ℕ) (k : ℕ) {after : List ℕ} → Writes table 0 n after k
+  pub holds-name : f .judged .fields ≡ [] → (n : List ℕ) (k : ℕ) {after : List ℕ} → Writes (table .bytes) 0 n after k
       → Holds (fold.withName f (some n)) (changed (withHead r (r .width) k k (r .cells) (r .slots)) (r .lines + 1)
-      at.Blank (r .note)) cells after labels names
+      at.Blank (r .note)) cells (area after (table .counts)) labels names
   unfolding joined
   holds-name none-yet n k w = record {
     counts = record {
@@ -145,6 +151,8 @@ module _ (f : fold.Found) (r : Reading) {cells table : List ℕ} {labels : List 
       stands = record { seen = ap faces (sym none-yet); exact = λ e. sym none-yet };
       stored = (let t : take k _ ≡ n = w .text in t ∙ sym (append-nil n));
       end = (let e : k ≡ length n = omega (arith, w .end) in e ∙ ap length (sym (append-nil n)));
+      numbers = subst (λ (l : List (Field ℕ)). Numbers l (table .counts))
+          (none-stands (f .judged) (h .records .fields) (h .records .stands) none-yet) (h .records .numbers);
     };
     named = h .named;
   }
@@ -171,6 +179,7 @@ module _ (f : fold.Found) (r : Reading) {cells table : List ℕ} {labels : List 
       stands = h .records .stands;
       stored = h .records .stored;
       end = h .records .end;
+      numbers = h .records .numbers;
     };
     named = h .named;
   }

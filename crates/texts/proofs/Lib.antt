@@ -30,6 +30,7 @@
 -- PartSlots                a kept cell held against the parts of a field line
 -- PartRules                what is tested of the expressions of a field line is what the rules ask
 -- PartBytes                the bytes that are written of the parts of a field line are its record
+-- LineCounts               what the expressions of a field line read is counted
 -- SplitSteps               the pieces of a text from a place on
 -- LineEnds                 the first byte that is not printable, and the line feed
 -- RowTests                 the row of a line, as the code tests it
@@ -39,6 +40,7 @@
 -- RowShown                 the cells that a row shows, by the pieces of its line
 -- RecordSizes              the lengths of what is stored of a line, by its parts
 -- RecordLaws               what is written of a line is its record
+-- RecordNumbers            the records of fields get their numbers
 -- TableLaws                what is written of all lines is the table, and its length
 -- HeldNames                names held by value: rule 9 of a line, and the record that is written of it
 -- Holding                  what the code writes of a field line stands in for the field that the fold keeps
@@ -101,6 +103,7 @@ pub mod RecordLaws
 pub mod PartSlots
 pub mod PartRules
 pub mod PartBytes
+pub mod LineCounts
 pub mod TableLaws
 pub mod HeldNames
 pub mod Holding
@@ -109,6 +112,7 @@ pub mod HeadSteps
 pub mod HeldArrays
 pub mod RowSteps
 pub mod FieldSteps
+pub mod RecordNumbers
 pub mod EndSteps
 pub mod LineWalk
 pub mod LineForms

@@ -183,7 +183,7 @@ module _ (f : fold.Found) (r : Reading) (x : Form) (c : Counts f r) where
   -- the rest field is this one, or was listed before
   pub rests-here : {names : Names} {n : ℕ} {s : List ℕ} {v : LineBytes} (p : Parts)
       → PartsHeld names n s x v p
-      → (r .rested || eqb (p .kind) 4) ≡ (any isRest (faces (f .judged .fields)) || isRest x)
+      → (r .rested || eqb (p .kind) 14) ≡ (any isRest (faces (f .judged .fields)) || isRest x)
   rests-here {names} {n} {s} {v} p is =
       rw (c .rested, rest-kind names n (x .width) (p .kind) (p .bits) (held (p .width) (v .width)) (is .width)) refl
 

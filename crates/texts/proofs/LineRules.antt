@@ -19,12 +19,12 @@ use Rattle.texts.proofs.StoredSteps.{some-length}
 
 module _ (names : Names) (n : ℕ) where
   pub fixed-kind : (v : Width (List ℕ)) (k b : ℕ) (t : TreeBytes) → WidthHeld names n v k b t
-      → eqb k 2 ≡ isFixedWidth v
+      → eqb k 12 ≡ isFixedWidth v
   fixed-kind (fixed m) k b t h = rw (h .0) refl
   fixed-kind (measured u v) k b t h = rw (h .0) refl
   fixed-kind rest k b t h = rw (h .0) refl
 
-  pub rest-kind : (v : Width (List ℕ)) (k b : ℕ) (t : TreeBytes) → WidthHeld names n v k b t → eqb k 4 ≡ isRestWidth v
+  pub rest-kind : (v : Width (List ℕ)) (k b : ℕ) (t : TreeBytes) → WidthHeld names n v k b t → eqb k 14 ≡ isRestWidth v
   rest-kind (fixed m) k b t h = rw (h .0) refl
   rest-kind (measured u v) k b t h = rw (h .0) refl
   rest-kind rest k b t h = rw (h .0) refl

@@ -24,15 +24,15 @@ use Rattle.text_laws.proofs.Steadiness.{steady-start, steady-line}
 use Rattle.texts.specs.HeldNames.{Names}
 use Rattle.texts.specs.LineEnds.{printableLength}
 use Rattle.texts.specs.Noted.{noteOf}
-use Rattle.texts.specs.States.{begunWith, Room, Begun, Holds, LineStep}
+use Rattle.texts.specs.States.{begunWith, Room, Begun, NoneCounted, Area, area, Holds, LineStep}
 use Rattle.texts.specs.declared.states.Reading.{Reading}
 use Rattle.texts.proofs.LineEnds.{feed-end, feed-here, allowed-end, allowed-feed, allowed-other}
 use Rattle.texts.proofs.SplitSteps.{piece-at, rest-at, piece-none}
 use Rattle.texts.proofs.StateSteps.{empty-nil, filled-nil}
 
 -- behind the lines up to a place
-pub record Walking (t : List ℕ) (at : ℕ) (r : Reading) (cells table : List ℕ) (labels : List (List ℕ)) (names : Names) :
-    Type 0 where
+pub record Walking (t : List ℕ) (at : ℕ) (r : Reading) (cells : List ℕ) (table : Area) (labels : List (List ℕ))
+    (names : Names) : Type 0 where
   pub found : fold.Found
   pub steady : Steady found
   pub holds : Holds found r cells table labels names
@@ -55,10 +55,10 @@ room-begun = record {
   told = refl;
 }
 
-pub walking-start : (t cells table : List ℕ) (labels : List (List ℕ)) (names : Names) → Begun labels names
-    → Walking t 0 begunWith cells table labels names
+pub walking-start : (t cells table counts : List ℕ) (labels : List (List ℕ)) (names : Names) → NoneCounted counts
+    → Begun labels names → Walking t 0 begunWith cells (area table counts) labels names
 unfolding joined any noteOf
-walking-start t cells table labels names room = record {
+walking-start t cells table counts labels names none-yet room = record {
   found = fold.start;
   steady = steady-start;
   holds = record {
@@ -74,7 +74,13 @@ walking-start t cells table labels names room = record {
       lowest = refl;
     };
     slots = record { stored = refl; end = refl; next = refl };
-    records = record { fields = []; stands = record { seen = refl; exact = λ e. refl }; stored = refl; end = refl };
+    records = record {
+      fields = [];
+      stands = record { seen = refl; exact = λ e. refl };
+      stored = refl;
+      end = refl;
+      numbers = none-yet;
+    };
     named = record {
       label = λ i y e. absurd (let z : _≡_ {A = ℕ} 0 1 = cc in omega arith);
       name = λ i y e. absurd (let z : _≡_ {A = ℕ} 0 1 = cc in omega arith);
@@ -86,9 +92,9 @@ walking-start t cells table labels names room = record {
   bytes = refl;
 }
 
-module _ (t : List ℕ) (at i : ℕ) (r : Reading) {cells table : List ℕ} {labels : List (List ℕ)} {names : Names}
+module _ (t : List ℕ) (at i : ℕ) (r : Reading) {cells : List ℕ} {table : Area} {labels : List (List ℕ)} {names : Names}
     (w : Walking t at r cells table labels names) (first : i ≡ at + printableLength (drop at t)) where
-  pub walking-next : i < length t → getD t i 0 ≡ lineFeed → (q : Reading) {cells′ table′ : List ℕ}
+  pub walking-next : i < length t → getD t i 0 ≡ lineFeed → (q : Reading) {cells′ : List ℕ} {table′ : Area}
       {labels′ : List (List ℕ)} {names′ : Names}
       → LineStep (take (i - at) (drop at t)) r q cells cells′ table table′ labels labels′ names names′
       → Walking t (i + 1) q cells′ table′ labels′ names′

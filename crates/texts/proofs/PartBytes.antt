@@ -9,14 +9,13 @@ use native.Mathlib.Nat.{sub-zero}
 use lib.ListN.{length, take, length-append}
 use lib.Seq.{length-take-le}
 use lib.Dec.{eqb}
-use borrow.Author.Tests.{ne-eqb}
+use borrow.Author.Tests.{ne-eqb, lt-ltb}
 use Rattle.writing.specs.Writes.{Writes}
 use Rattle.writing.proofs.Writing.{writes-none, writes-join}
 use Rattle.rules.specs.Limits.{textMost, storedMost}
 use Rattle.rules.specs.Trees.{Tree, le2, storedTree}
 use Rattle.rules.specs.Fields.{Width, fixed, measured, rest, Form}
 use Rattle.rules.specs.Stored.{storedFieldIn, counted, kindNumber, storedWidth, storedName, storedMaybe, fieldBody}
-use Rattle.rules.specs.Stored.{storedField}
 use Rattle.text_laws.specs.Resolving.{renameTree, renameWidth}
 use Rattle.writing.specs.Puts.{placed, put}
 use Rattle.texts.specs.HeldNames.{Names}
@@ -25,6 +24,7 @@ use Rattle.texts.specs.StoredTrees.{lookUp, TreeBytes, held, StoredIs}
 use Rattle.texts.specs.HeldParts.{MaybeHeld, WidthHeld, LineBytes, PartsHeld}
 use Rattle.texts.specs.HeldRecords.{treeBytes, widthBytes, widthSize, nameBytes}
 use Rattle.texts.specs.HeldRecords.{bodyBytes, fieldSize, fieldBytes, Writable, BytesRoom}
+use Rattle.texts.specs.States.{recordMost, plainField, isShortRecord}
 use Rattle.texts.specs.declared.line_parts.Parts.{Parts}
 use Rattle.texts.proofs.TreeTypes.{partOf, part-span, part-length}
 use Rattle.texts.proofs.PartSteps.{short-text}
@@ -34,7 +34,7 @@ use Rattle.texts.proofs.RecordLaws.{two-writes, counted-writes, two-end
 -- ── the bytes are those of the record ──
 
 -- the stored form is not too long, and there is room for it
-held-bytes : (names : Names) (n : ℕ) (v : Tree (List ℕ)) (t : TreeBytes) → StoredIs names n v t
+pub held-bytes : (names : Names) (n : ℕ) (v : Tree (List ℕ)) (t : TreeBytes) → StoredIs names n v t
     → t .len ≤ length (t .bytes) → take (t .len) (t .bytes) ≡ storedTree (λ i. i) (renameTree (lookUp names n) v)
 held-bytes names n v t h le =
     h .bytes (omega (arith, h .len, le)) ∙ sym (stored-renamed (lookUp names n) v)
@@ -63,7 +63,7 @@ width-kind names n rest kind bits t h = h .0
 -- ── what is written, part by part ──
 
 pub size-sum : (p : Parts)
-    → fieldSize p ≡ 12 + p .label + p .short .len + widthSize p + p .constraint .len + p .condition .len
+    → fieldSize p ≡ 14 + p .label + p .short .len + widthSize p + p .constraint .len + p .condition .len
 unfolding fieldSize
 size-sum p = refl
 
@@ -76,21 +76,21 @@ writable-text p w le = record {
   condition = w .condition;
 }
 
-pub size-fixed : (p : Parts) → p .kind ≡ 2 → widthSize p ≡ 2
+pub size-fixed : (p : Parts) → p .kind ≡ 12 → widthSize p ≡ 2
 unfolding widthSize
 size-fixed p e = rw e refl
 
-pub size-measured : (p : Parts) → p .kind ≡ 3 → widthSize p ≡ 4 + p .width .len
+pub size-measured : (p : Parts) → p .kind ≡ 13 → widthSize p ≡ 4 + p .width .len
 unfolding widthSize
 size-measured p e = rw e refl
 
-pub size-rest : (p : Parts) → (p .kind ≡ 2 → ⊥) → (p .kind ≡ 3 → ⊥) → widthSize p ≡ 0
+pub size-rest : (p : Parts) → (p .kind ≡ 12 → ⊥) → (p .kind ≡ 13 → ⊥) → widthSize p ≡ 0
 unfolding widthSize
-size-rest p e f = rw (ne-eqb (p .kind) 2 e, ne-eqb (p .kind) 3 f) refl
+size-rest p e f = rw (ne-eqb (p .kind) 12 e, ne-eqb (p .kind) 13 f) refl
 
 pub width-bound : (p : Parts) → p .width .len ≤ storedMost → widthSize p ≤ 4 + storedMost
 unfolding widthSize
-width-bound p le = go (eqb (p .kind) 2) (eqb (p .kind) 3)
+width-bound p le = go (eqb (p .kind) 12) (eqb (p .kind) 13)
   where
     go : (a b : Bool) → cond a 2 (cond b (4 + p .width .len) 0) ≤ 4 + storedMost
     go true b = omega arith
@@ -107,40 +107,40 @@ tree-put len b {before} {after} {at} {next} le room e =
     (omega (arith, w .end, counted-length (take len b), l), w)
 
 module _ (p : Parts) (b : List ℕ) where
-  bytes-fixed : p .kind ≡ 2 → le2 (p .bits) ≡ widthBytes b p
+  bytes-fixed : p .kind ≡ 12 → le2 (p .bits) ≡ widthBytes b p
   unfolding widthBytes
   bytes-fixed e = rw e refl
 
-  bytes-measured : p .kind ≡ 3 → le2 (p .bits) ++ treeBytes (p .width .len) b ≡ widthBytes b p
+  bytes-measured : p .kind ≡ 13 → le2 (p .bits) ++ treeBytes (p .width .len) b ≡ widthBytes b p
   unfolding widthBytes
   bytes-measured e = rw e refl
 
-  bytes-rest : (p .kind ≡ 2 → ⊥) → (p .kind ≡ 3 → ⊥) → [] ≡ widthBytes b p
+  bytes-rest : (p .kind ≡ 12 → ⊥) → (p .kind ≡ 13 → ⊥) → [] ≡ widthBytes b p
   unfolding widthBytes
-  bytes-rest e f = rw (ne-eqb (p .kind) 2 e, ne-eqb (p .kind) 3 f) refl
+  bytes-rest e f = rw (ne-eqb (p .kind) 12 e, ne-eqb (p .kind) 13 f) refl
 
 module _ (p : Parts) (b : List ℕ) {before : List ℕ} {at : ℕ} where
-  pub width-fixed : {after : List ℕ} {next : ℕ} → p .kind ≡ 2 → at + widthSize p ≤ length before
+  pub width-fixed : {after : List ℕ} {next : ℕ} → p .kind ≡ 12 → at + widthSize p ≤ length before
       → placed next after ≡ put before at (le2 (p .bits))
       → (next ≡ at + widthSize p) × Writes before at (widthBytes b p) after next
   width-fixed k room e =
       let w = two-writes (p .bits) (omega (arith, size-fixed p k, room)) e in
       (omega (arith, size-fixed p k, two-end (p .bits) w), rw (← bytes-fixed p b k) w)
 
-  pub width-two : {mid : List ℕ} {next : ℕ} → p .kind ≡ 3 → at + widthSize p ≤ length before
+  pub width-two : {mid : List ℕ} {next : ℕ} → p .kind ≡ 13 → at + widthSize p ≤ length before
       → placed next mid ≡ put before at (le2 (p .bits))
       → Writes before at (le2 (p .bits)) mid next × (next + (2 + p .width .len) ≤ length mid)
   width-two k room e =
       let w = two-writes (p .bits) (omega (arith, size-measured p k, room)) e in
       (w, omega (arith, size-measured p k, two-end (p .bits) w, w .kept, room))
 
-  pub width-measured : {mid after : List ℕ} {next end : ℕ} → p .kind ≡ 3 → Writes before at (le2 (p .bits)) mid next
+  pub width-measured : {mid after : List ℕ} {next end : ℕ} → p .kind ≡ 13 → Writes before at (le2 (p .bits)) mid next
       → end ≡ next + (2 + p .width .len) → Writes mid next (treeBytes (p .width .len) b) after end
       → (end ≡ at + widthSize p) × Writes before at (widthBytes b p) after end
   width-measured k w e u =
       (omega (arith, size-measured p k, two-end (p .bits) w, e), rw (← bytes-measured p b k) (writes-join w u))
 
-  pub width-rest : (p .kind ≡ 2 → ⊥) → (p .kind ≡ 3 → ⊥)
+  pub width-rest : (p .kind ≡ 12 → ⊥) → (p .kind ≡ 13 → ⊥)
       → (at ≡ at + widthSize p) × Writes before at (widthBytes b p) before at
   width-rest e f = (omega (arith, size-rest p e f), rw (← bytes-rest p b e f) (writes-none before at))
 
@@ -228,7 +228,7 @@ module _ (names : Names) (n : ℕ) (line : List ℕ) (x : Form) (v : LineBytes) 
       ++ (counted (storedMaybe (indexed names n x .constraint))
       ++ counted (storedMaybe (indexed names n x .condition))))
 
-  size-is : fieldSize p ≡ 4 + length (fieldBody (indexed names n x))
+  size-is : fieldSize p ≡ 6 + length (fieldBody (indexed names n x))
   unfolding fieldBody
   size-is =
       let a = counted (x .label) in
@@ -253,8 +253,17 @@ module _ (names : Names) (n : ℕ) (line : List ℕ) (x : Form) (v : LineBytes) 
         maybe-length names n (x .condition) (held (p .condition) (v .condition)) (h .condition),
       )
 
-  pub record-bytes : fieldBytes line v p ≡ storedField (indexed names n x)
+  pub record-bytes : fieldBytes line v p ≡ plainField (indexed names n x)
   unfolding storedFieldIn
   record-bytes =
       let kind = width-kind names n (x .width) (p .kind) (p .bits) (held (p .width) (v .width)) (h .width) in
-      ap₂ (λ (m : ℕ) (l : List ℕ). le2 m ++ l) size-is (ap₂ (λ (k : ℕ) (l : List ℕ). le2 k ++ l) kind body-is)
+      let body = fieldBody (indexed names n x) in
+      let size : fieldSize p ≡ 4 + length (le2 0 ++ body) =
+      omega (arith, size-is, length-append (le2 0) body, two-length 0) in
+      ap₂ (λ (m : ℕ) (l : List ℕ). le2 m ++ l) size
+      (ap₂ (λ (k : ℕ) (l : List ℕ). le2 k ++ (le2 0 ++ l)) kind body-is)
+
+  pub record-short : fieldSize p ≤ recordMost → isShortRecord (indexed names n x) ≡ true
+  record-short le =
+      let body = fieldBody (indexed names n x) in
+      lt-ltb (6 + length body) 65536 (omega (arith, size-is, le))

@@ -35,15 +35,15 @@ module _ (name s : List ℕ) (p : Parts) where
       ∙ sym (rw (ap (λ (n : ℕ). same name (take n s)) (sym (sub-zero (p .label))) ∙ h) refl)
 
 module _ (long : Bool) (bits : ℕ) (p : Parts) where
-  pub place-long : (p .kind ≡ 2 → ⊥) → long ≡ isPlacedBy long bits p
-  place-long n = rw (ne-eqb (p .kind) 2 n) refl
+  pub place-long : (p .kind ≡ 12 → ⊥) → long ≡ isPlacedBy long bits p
+  place-long n = rw (ne-eqb (p .kind) 12 n) refl
 
-  pub place-fixed : p .kind ≡ 2 → (not long && eqb bits (p .bits)) ≡ isPlacedBy long bits p
-  place-fixed e = rw (eq-eqb (p .kind) 2 e) refl
+  pub place-fixed : p .kind ≡ 12 → (not long && eqb bits (p .bits)) ≡ isPlacedBy long bits p
+  place-fixed e = rw (eq-eqb (p .kind) 12 e) refl
 
 width-is : (names : Names) (n : ℕ) (c : Slot) (v : Width (List ℕ)) (kind b : ℕ) (t : TreeBytes)
     → WidthHeld names n v kind b t
-    → cond (eqb kind 2) (not (c .long) && eqb (c .bits) b) (c .long) ≡ isPlaceFor c v
+    → cond (eqb kind 12) (not (c .long) && eqb (c .bits) b) (c .long) ≡ isPlaceFor c v
 width-is names n c (fixed m) kind b t h = rw (h .0, h .1) refl
 width-is names n c (measured u m) kind b t h = rw (h .0) refl
 width-is names n c rest kind b t h = rw (h .0) refl

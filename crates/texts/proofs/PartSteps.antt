@@ -76,7 +76,7 @@ module _ (a : Names) (n : ℕ) (s : List ℕ) (label : ℕ) (name : Span) (kind 
   }
 
   own-held : (x : Form) → NamesRoom (n + 1) b → take label s ≡ x .label → ShortIs s (x .short) name
-      → eqb kind 2 ≡ isFixed x → HeldAs b n x
+      → eqb kind 12 ≡ isFixed x → HeldAs b n x
   own-held x h p q e = record {
     short = ap (λ (l : List (List ℕ)). getD l n []) (put .shorts)
         ∙ getD-set-same (a .shorts) n _ [] (omega (arith, long .0, h .0))

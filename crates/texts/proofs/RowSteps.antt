@@ -27,7 +27,7 @@ use Rattle.texts.specs.Noted.{noteOf}
 use Rattle.texts.specs.Slots.{storedSlot, RowedAs}
 use Rattle.texts.specs.declared.slots.Rowed.{Rowed}
 use Rattle.texts.specs.declared.slots.Rowed.the-variants as rowed
-use Rattle.texts.specs.States.{note, changed, withHead, slotMost, Holds}
+use Rattle.texts.specs.States.{note, changed, withHead, slotMost, Area, Holds}
 use Rattle.texts.specs.declared.states.Stage.the-variants as at
 use Rattle.texts.specs.declared.states.Reading.{Reading}
 use Rattle.texts.proofs.StateSteps.{next-line}
@@ -106,8 +106,8 @@ writes-front {before} {after} {at} {next} {w} le k =
     sym (take-take at next after e) ∙ ap (take at) (k .text)
     ∙ ap (λ (m : ℕ). take m (take at before ++ w)) (sym n) ∙ take-append-seam (take at before) w
 
-module _ (f : fold.Found) (r : Reading) {cells table after : List ℕ} {labels : List (List ℕ)} {names : Names} {next : ℕ}
-    (h : Holds f r cells table labels names) (none-yet : f .judged .fields ≡ []) (row : Row)
+module _ (f : fold.Found) (r : Reading) {cells after : List ℕ} {table : Area} {labels : List (List ℕ)} {names : Names}
+    {next : ℕ} (h : Holds f r cells table labels names) (none-yet : f .judged .fields ≡ []) (row : Row)
     (writes : Writes cells (r .slots) (joined storedSlot (slotsIn row)) after next) where
   -- the cell of the first field stands at the start
   first-cell : (cs : List Slot) → r .cell ≡ length (joined storedSlot (take (length (f .judged .fields)) cs))
@@ -151,6 +151,7 @@ module _ (f : fold.Found) (r : Reading) {cells table after : List ℕ} {labels :
           stands = h .records .stands;
           stored = h .records .stored;
           end = h .records .end;
+          numbers = h .records .numbers;
         };
         named = h .named;
       })
@@ -190,6 +191,7 @@ module _ (f : fold.Found) (r : Reading) {cells table after : List ℕ} {labels :
           };
           stored = h .records .stored;
           end = h .records .end;
+          numbers = h .records .numbers;
         };
         named = h .named;
       })

@@ -14,7 +14,7 @@ use Rattle.text_laws.specs.Fold as fold
 use Rattle.texts.specs.HeldNames.{Names}
 use Rattle.texts.specs.Noted.{noteOf}
 use Rattle.texts.specs.States.{note, changed, madeWrong, expected, isTold, Room, Taken}
-use Rattle.texts.specs.States.{stageOf, Holds, LineStep}
+use Rattle.texts.specs.States.{stageOf, Area, Holds, LineStep}
 use Rattle.text_laws.specs.Steady.{Steady}
 use Rattle.texts.specs.declared.notes.Note.{Note}
 use Rattle.texts.specs.declared.states.Stage.{Stage}
@@ -67,7 +67,7 @@ taken-expect false r s h = taken-wrong r h
 
 -- ── what is held ──
 
-module _ (f : fold.Found) (r : Reading) {cells table : List ℕ} {labels : List (List ℕ)} {names : Names}
+module _ (f : fold.Found) (r : Reading) {cells : List ℕ} {table : Area} {labels : List (List ℕ)} {names : Names}
     (h : Holds f r cells table labels names) where
   pub next-line : r .lines + 1 ≡ suc (f .lines)
   next-line = let e = h .counts .lines in omega (arith, e)
@@ -93,6 +93,7 @@ module _ (f : fold.Found) (r : Reading) {cells table : List ℕ} {labels : List 
       stands = h .records .stands;
       stored = h .records .stored;
       end = h .records .end;
+      numbers = h .records .numbers;
     };
     named = h .named;
   }
@@ -121,6 +122,7 @@ module _ (f : fold.Found) (r : Reading) {cells table : List ℕ} {labels : List 
       };
       stored = h .records .stored;
       end = h .records .end;
+      numbers = h .records .numbers;
     };
     named = h .named;
   }
@@ -139,7 +141,7 @@ module _ (f : fold.Found) (r : Reading) {cells table : List ℕ} {labels : List 
 
 module _ (r : Reading) (l : List ℕ) (s : Stage) (told : r .stage ≡ s) where
   -- what is held behind it, by what the fold makes of a line at that stage
-  pub at-stage : {q : Reading} {cells cells′ table table′ : List ℕ} {labels labels′ : List (List ℕ)}
+  pub at-stage : {q : Reading} {cells cells′ : List ℕ} {table table′ : Area} {labels labels′ : List (List ℕ)}
       {names names′ : Names}
       → ((f : fold.Found) → Steady f → f .stage ≡ stageOf s → Holds f r cells table labels names
       → Holds (fold.linedAt (stageOf s) f l) q cells′ table′ labels′ names′)
@@ -150,8 +152,8 @@ module _ (r : Reading) (l : List ℕ) (s : Stage) (told : r .stage ≡ s) where
       subst (λ (z : fold.Stage). Holds (fold.linedAt z f l) q cells′ table′ labels′ names′) (sym e) (step f k e h)
 
   -- a line that must be a certain one, which may go by W
-  pub expect-step : (want : ℕ → List ℕ) (next : Stage) (right : Bool) {cells table : List ℕ}
-      {labels : List (List ℕ)} {names : Names} → Room r → right ≡ same l (want (r .width))
+  pub expect-step : (want : ℕ → List ℕ) (next : Stage) (right : Bool) {cells : List ℕ}
+      {table : Area} {labels : List (List ℕ)} {names : Names} → Room r → right ≡ same l (want (r .width))
       → ((f : fold.Found) → fold.linedAt (stageOf s) f l ≡ fold.expect (want (f .width)) (stageOf next) f l)
       → Taken r (expected right r next)
       × LineStep l r (expected right r next) cells cells table table labels labels names names

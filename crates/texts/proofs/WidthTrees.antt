@@ -52,7 +52,7 @@ fixed-large bits next r lt h =
     let p : 1 ≤ bits = omega arith in
     refused bits next r (h .0) (rw (le-leb 1 bits p, lt-leb bits fixedMost lt) refl)
 
-pub fixed-here : (bits next : ℕ) (r : Measure) → (bits ≡ 0 → ⊥) → bits ≤ fixedMost → Plain 2 bits next r
+pub fixed-here : (bits next : ℕ) (r : Measure) → (bits ≡ 0 → ⊥) → bits ≤ fixedMost → Plain 12 bits next r
     → FixedFor bits next r
 fixed-here bits next r z le h names n s b =
     let p : 1 ≤ bits = omega (arith, z) in (
@@ -90,18 +90,18 @@ module _ (s : List ℕ) (at : ℕ) (t : StoredTree) (u next : ℕ) (lo : at ≤ 
   measured-as : (names : Names) (n : ℕ) (b : List ℕ) (v : Tree (List ℕ)) → isUnit u ≡ true
       → StoredIs names n v (held t b) → isNumber v ≡ false
       → MeasureFor names n s (keep (isWidth (measured u v)) (measured u v) (drop next s)) b
-      (record { kind = 3; bits = u; next = next; tree = t })
+      (record { kind = 13; bits = u; next = next; tree = t })
   measured-as names n b v y h k = rw (y, k) (record {
     wrong = λ e. absurd (omega (arith, e));
     there = λ _. record { width = measured u v; isRead = refl; stored = (refl, refl, h) };
   })
 
   pub sized-other : (eqb (t .depth) 1 && eqb (t .len) 5) ≡ false → isUnit u ≡ true
-      → MeasureWithin s at (record { kind = 3; bits = u; next = next; tree = t })
-      × SizedFor s at t u next (record { kind = 3; bits = u; next = next; tree = t })
+      → MeasureWithin s at (record { kind = 13; bits = u; next = next; tree = t })
+      × SizedFor s at t u next (record { kind = 13; bits = u; next = next; tree = t })
   sized-other y i = ((λ _. (lo, hi)), same)
     where
-      same : SizedFor s at t u next (record { kind = 3; bits = u; next = next; tree = t })
+      same : SizedFor s at t u next (record { kind = 13; bits = u; next = next; tree = t })
       same names n c (num m) q h e =
           absurd (not-both (eqb (t .depth) 1 && eqb (t .len) 5)
           (one-single m (t .depth) (t .len) (sym (h .deep)) (sym (h .len))) y)
@@ -141,7 +141,7 @@ module _ (names : Names) (n : ℕ) (s : List ℕ) (at : ℕ) (t : StoredTree) (b
 
 module _ (names : Names) (n : ℕ) (s : List ℕ) (at : ℕ) (le : at ≤ length s) (r : Measure) (b : List ℕ)
   where
-    pub width-rest : begins (bytes "variable") (drop at s) ≡ true → Plain 4 0 (at + 8) r
+    pub width-rest : begins (bytes "variable") (drop at s) ≡ true → Plain 14 0 (at + 8) r
         → MeasureWithin s at r × MeasureFor names n s (readWidth (drop at s)) b r
     width-rest y h =
         let l = literal-at (bytes "variable") s at le y in

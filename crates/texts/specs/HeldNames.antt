@@ -57,7 +57,7 @@ pub record OwnPut (before : Names) (n : ℕ) (s : List ℕ) (label : ℕ) (short
   where
     pub shorts : after .shorts ≡ set (before .shorts) n (padTo shortMost (spanIn s short))
     pub words : after .words ≡ set (before .words) n (heldWord (take label s))
-    pub marks : after .marks ≡ set (before .marks) n (cond (eqb kind 2) 1 0)
+    pub marks : after .marks ≡ set (before .marks) n (cond (eqb kind 12) 1 0)
 
 -- ── names that clash ──
 

@@ -75,9 +75,9 @@ pub record EndsFor (names : Names) (n : ℕ) (s : List ℕ) (at : ℕ) (b c : Li
 
 -- kinds as in a table; the bits of a fixed width, or of the unit
 abbrev pub WidthHeld : Names → ℕ → Width (List ℕ) → ℕ → ℕ → TreeBytes → Type 0
-WidthHeld names n (fixed m) kind bits t = (kind ≡ 2) × (bits ≡ m) × (t .len ≡ 0)
-WidthHeld names n (measured u v) kind bits t = (kind ≡ 3) × (bits ≡ u) × StoredIs names n v t
-WidthHeld names n rest kind bits t = (kind ≡ 4) × (bits ≡ 0) × (t .len ≡ 0)
+WidthHeld names n (fixed m) kind bits t = (kind ≡ 12) × (bits ≡ m) × (t .len ≡ 0)
+WidthHeld names n (measured u v) kind bits t = (kind ≡ 13) × (bits ≡ u) × StoredIs names n v t
+WidthHeld names n rest kind bits t = (kind ≡ 14) × (bits ≡ 0) × (t .len ≡ 0)
 
 pub record MeasureAs (names : Names) (n : ℕ) (s : List ℕ) (g : Got (Width (List ℕ))) (b : List ℕ)
     (r : Measure) : Type 0 where

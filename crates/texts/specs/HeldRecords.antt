@@ -14,6 +14,8 @@ use Rattle.rules.specs.Fields.{Form}
 use Rattle.rules.specs.Frames.{Slot}
 use Rattle.rules.specs.Spelling.{shows}
 use Rattle.rules.specs.Stored.{counted}
+use Rattle.references.specs.Scans.{references}
+use Rattle.references.specs.Tallies.{tallied}
 use Rattle.texts.specs.PartPlaces.{spanIn}
 use Rattle.texts.specs.Slots.{storedSlot}
 use Rattle.texts.specs.HeldNames.{Names}
@@ -43,10 +45,10 @@ treeBytes len b = counted (take len b)
 
 unfoldable pub widthBytes : List ℕ → Parts → List ℕ
 widthBytes b p =
-    cond (eqb (p .kind) 2) (le2 (p .bits)) (cond (eqb (p .kind) 3) (le2 (p .bits) ++ treeBytes (p .width .len) b) [])
+    cond (eqb (p .kind) 12) (le2 (p .bits)) (cond (eqb (p .kind) 13) (le2 (p .bits) ++ treeBytes (p .width .len) b) [])
 
 unfoldable pub widthSize : Parts → ℕ
-widthSize p = cond (eqb (p .kind) 2) 2 (cond (eqb (p .kind) 3) (4 + p .width .len) 0)
+widthSize p = cond (eqb (p .kind) 12) 2 (cond (eqb (p .kind) 13) (4 + p .width .len) 0)
 
 abbrev pub nameBytes : List ℕ → Parts → List ℕ
 nameBytes line p = counted (take (p .label) line) ++ counted (spanIn line (p .short))
@@ -58,10 +60,20 @@ bodyBytes line b p =
 
 -- the length of a field's record
 unfoldable pub fieldSize : Parts → ℕ
-fieldSize p = 12 + p .label + p .short .len + widthSize p + p .constraint .len + p .condition .len
+fieldSize p = 14 + p .label + p .short .len + widthSize p + p .constraint .len + p .condition .len
 
+-- the record, with the number 0
 abbrev pub fieldBytes : List ℕ → LineBytes → Parts → List ℕ
-fieldBytes line b p = le2 (fieldSize p) ++ (le2 (p .kind) ++ bodyBytes line b p)
+fieldBytes line b p = le2 (fieldSize p) ++ (le2 (p .kind) ++ (le2 0 ++ bodyBytes line b p))
+
+-- what the expressions of the field of an index read, counted
+abbrev pub treeTallied : ℕ → ℕ → List ℕ → List ℕ → List ℕ
+treeTallied own len b counts = tallied own counts (references (take len b))
+
+abbrev pub lineTallied : ℕ → LineBytes → Parts → List ℕ → List ℕ
+lineTallied own b p counts =
+    treeTallied own (p .condition .len) (b .condition)
+    (treeTallied own (p .constraint .len) (b .constraint) (treeTallied own (p .width .len) (b .width) counts))
 
 -- label and short name lie within m bytes, and the stored forms are not too long
 pub record Writable (m : ℕ) (p : Parts) : Type 0 where
@@ -85,7 +97,7 @@ isNamedBy name s p = same name (take (p .label) s) || same name (spanIn s (p .sh
 
 -- a fixed field has a bit cell of its width, any other a long row
 abbrev pub isPlacedBy : Bool → ℕ → Parts → Bool
-isPlacedBy long bits p = cond (eqb (p .kind) 2) (not long && eqb bits (p .bits)) long
+isPlacedBy long bits p = cond (eqb (p .kind) 12) (not long && eqb bits (p .bits)) long
 
 -- whether the cell that is kept at a place is one for the field of the line
 abbrev pub PartShows : List ℕ → ℕ → List ℕ → Parts → Bool → Type 0

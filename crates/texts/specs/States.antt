@@ -13,9 +13,11 @@ use Rattle.rules.specs.Answers.{Answer, ofText}
 use Rattle.rules.specs.Limits.{textMost, fieldsMost, labelMost}
 use Rattle.rules.specs.Fields.{Field, Form, isRest, trees}
 use Rattle.rules.specs.Trees.{le2, isSmall}
-use Rattle.rules.specs.Stored.{counted, recordOf, storedField}
+use Rattle.rules.specs.Stored.{counted, recordOf, fieldBody, storedField}
 use Rattle.rules.specs.Promises.{leaves}
 use Rattle.names.specs.Repeats.{padTo}
+use Rattle.references.specs.Numbers.{numbered}
+use Rattle.references.specs.Counted.{Counted}
 use Rattle.rules.specs.Frames.{Slot}
 use Rattle.rules.specs.Within.{keepsNames, keepsTypes, keepsRest, nameReadable}
 use Rattle.text_laws.specs.Lowest.{lower, broken}
@@ -124,7 +126,7 @@ abbrev pub rowMost : ℕ
 rowMost = 195
 
 abbrev pub recordMost : ℕ
-recordMost = 424
+recordMost = 426
 
 -- room for all cells and one row more, and for NAME and all records
 abbrev pub slotsMost : ℕ
@@ -190,12 +192,35 @@ pub record Slots (f : fold.Found) (r : Reading) (cells : List ℕ) : Type 0 wher
   pub end : r .slots ≡ length (joined storedSlot (f .cells))
   pub next : r .cell ≡ length (joined storedSlot (take (length (f .judged .fields)) (f .cells)))
 
+-- NAME and records, and how often each field is read
+pub record Area : Type 0 where
+  pub bytes : List ℕ
+  pub counts : List ℕ
+
+abbrev pub area : List ℕ → List ℕ → Area
+area bytes counts = record { bytes = bytes; counts = counts }
+
+-- a record with the number 0
+abbrev pub plainField : Field ℕ → List ℕ
+plainField f = storedField 0 f
+
+-- its length fits into two bytes
+abbrev pub isShortRecord : Field ℕ → Bool
+isShortRecord f = ltb (6 + length (fieldBody f)) 65536
+
+-- by the counts the records of fields can be numbered
+pub record Numbers (fields : List (Field ℕ)) (counts : List ℕ) : Type 0 where
+  pub short : all isShortRecord fields ≡ true
+  pub counted : Counted fields counts
+  pub room : fieldsMost ≤ length counts
+
 -- NAME, and records of fields that may stand in for those of the fold
-pub record Records (f : fold.Found) (r : Reading) (table : List ℕ) : Type 0 where
+pub record Records (f : fold.Found) (r : Reading) (table : Area) : Type 0 where
   pub fields : List (Field ℕ)
   pub stands : StandIn (f .judged) fields
-  pub stored : take (r .end) table ≡ f .name ++ joined storedField fields
-  pub end : r .end ≡ length (f .name ++ joined storedField fields)
+  pub stored : take (r .end) (table .bytes) ≡ f .name ++ joined plainField fields
+  pub end : r .end ≡ length (f .name ++ joined plainField fields)
+  pub numbers : Numbers fields (table .counts)
 
 -- the names of fields, by value
 pub record Named (forms : List Form) (labels : List (List ℕ)) (names : Names) : Type 0 where
@@ -203,15 +228,15 @@ pub record Named (forms : List Form) (labels : List (List ℕ)) (names : Names) 
   pub name : (i : ℕ) (y : Form) → getElem? forms i ≡ some y → HeldAs names i y
   pub room : (fieldsMost ≤ length labels) × NamesRoom fieldsMost names
 
-pub record Holds (f : fold.Found) (r : Reading) (cells table : List ℕ) (labels : List (List ℕ)) (names : Names)
-    : Type 0 where
+pub record Holds (f : fold.Found) (r : Reading) (cells : List ℕ) (table : Area) (labels : List (List ℕ))
+    (names : Names) : Type 0 where
   pub counts : Counts f r
   pub slots : Slots f r cells
   pub records : Records f r table
   pub named : Named (faces (f .judged .fields)) labels names
 
 -- one line of the head, with the buffers of cells and of records before and behind it
-abbrev pub HeadStep : (fold.Found → fold.Found) → Reading → Reading → List ℕ → List ℕ → List ℕ → List ℕ → Type 0
+abbrev pub HeadStep : (fold.Found → fold.Found) → Reading → Reading → List ℕ → List ℕ → Area → Area → Type 0
 HeadStep step r q cells cells′ table table′ =
     (f : fold.Found) (labels : List (List ℕ)) (names : Names) → Steady f → isHead (f .stage) ≡ true
     → Holds f r cells table labels names → Holds (step f) q cells′ table′ labels names
@@ -262,19 +287,19 @@ abbrev pub PartsRoom : List ℕ → LineBytes → Parts → Type 0
 PartsRoom line b p = Writable (length line) p × (fieldSize p ≤ recordMost) × BytesRoom b
 
 -- behind a field line
-abbrev pub FieldStep : List ℕ → Reading → Reading → List ℕ → List ℕ → List ℕ → List (List ℕ) → List (List ℕ) → Names
+abbrev pub FieldStep : List ℕ → Reading → Reading → List ℕ → Area → Area → List (List ℕ) → List (List ℕ) → Names
     → Names → Type 0
 FieldStep line r q cells table table′ labels labels′ names names′ =
-    (length table′ ≡ length table)
+    (length (table′ .bytes) ≡ length (table .bytes))
     × ((f : fold.Found) → Steady f → Holds f r cells table labels names
     → Holds (fold.withField f line) q cells table′ labels′ names′)
 
 -- the same for a line of small expressions with the parts p, whose own names are held, where not too many lines have
 -- come
-abbrev pub FormStep : List ℕ → LineBytes → Parts → Reading → Reading → List ℕ → List ℕ → List ℕ → List (List ℕ)
+abbrev pub FormStep : List ℕ → LineBytes → Parts → Reading → Reading → List ℕ → Area → Area → List (List ℕ)
     → List (List ℕ) → List (List ℕ) → List (List ℕ) → Type 0
 FormStep line b p r q cells table table′ labels labels′ shorts words =
-    (length table′ ≡ length table)
+    (length (table′ .bytes) ≡ length (table .bytes))
     × ((f : fold.Found) (x : Form) (marks : List ℕ) → Steady f → isFull (f .judged) ≡ false
     → Holds f r cells table labels (namesOf shorts words marks) → readForm line ≡ some x
     → all isSmall (trees x) ≡ true → PartsHeld (namesOf shorts words marks) (r .fields) line x b p
@@ -306,25 +331,30 @@ lastNote at.FieldLine r whole = cond whole (lower (noteOf (r .note)) (noteOf (re
 lastNote at.Lost r whole = noteOf (r .note)
 
 -- the table that is put into an output
-abbrev pub TableStep : Reading → List ℕ → List ℕ → List ℕ → ℕ → Type 0
+abbrev pub TableStep : Reading → Area → List ℕ → List ℕ → ℕ → Type 0
 TableStep r table out out′ n =
-    Writes out 0 (recordOf 1 (le2 (r .width) ++ (le2 (r .fields) ++ counted (take (r .name) table)))
-    ++ (take (r .end - r .name) (drop (r .name) table) ++ recordOf 5 [])) out′ n
+    Writes out 0 (recordOf 1 (le2 (r .width) ++ (le2 (r .fields) ++ counted (take (r .name) (table .bytes))))
+    ++ (numbered (r .fields) (table .counts) (take (r .end - r .name) (drop (r .name) (table .bytes)))
+    ++ recordOf 5 [])) out′ n
 
 -- the answer at the end
-abbrev pub EndStep : Reading → Bool → List ℕ → List ℕ → List ℕ → TextAnswer → Type 0
+abbrev pub EndStep : Reading → Bool → Area → List ℕ → List ℕ → TextAnswer → Type 0
 EndStep r whole table out out′ a =
     (k : fold.Kept) (cells : List ℕ) (labels : List (List ℕ)) (names : Names) → isEmpty (k .line) ≡ whole
     → Holds (k .found) r cells table labels names → leaves (ofText a) out′ ≡ fold.finish k out
 
 -- behind a line
-abbrev pub LineStep : List ℕ → Reading → Reading → List ℕ → List ℕ → List ℕ → List ℕ → List (List ℕ) → List (List ℕ)
+abbrev pub LineStep : List ℕ → Reading → Reading → List ℕ → List ℕ → Area → Area → List (List ℕ) → List (List ℕ)
     → Names → Names → Type 0
 LineStep line r q cells cells′ table table′ labels labels′ names names′ =
-    (length cells′ ≡ length cells) × (length table′ ≡ length table)
+    (length cells′ ≡ length cells) × (length (table′ .bytes) ≡ length (table .bytes))
     × ((f : fold.Found) → Steady f → Holds f r cells table labels names
     → Holds (fold.lined f line) q cells′ table′ labels′ names′)
 
 -- arrays for the names of all fields
 abbrev pub Begun : List (List ℕ) → Names → Type 0
 Begun labels names = (fieldsMost ≤ length labels) × NamesRoom fieldsMost names
+
+-- the counts for all fields, where there is none yet
+abbrev pub NoneCounted : List ℕ → Type 0
+NoneCounted counts = Numbers [] counts

@@ -19,14 +19,14 @@ ghost use lib.ListN.{length};
 ghost use Rattle.rules.specs.Limits.{textMost, labelMost};
 ghost use Rattle.text_laws.specs.FrameReader.{readTens, readRow};
 ghost use Rattle.text_laws.specs.Fold.{rowOrBlank, openingName, withName, withWidth, withRow, linedAt};
-ghost use Rattle.texts.specs.States.{slotsMost, Room, Taken, HeadStep};
+ghost use Rattle.texts.specs.States.{slotsMost, Room, Taken, Area, area, HeadStep};
 
 // The opening line: NAME is put at the start of the table.
 pub(crate) fn take_opening(mut r: Reading, line: &[u8], table: &mut [u8]) -> Reading
     requires { ⌜ Room r × (r .lines ≤ textMost) × (labelMost ≤ length (now table)) ⌝ }
     ensures room { λ q. ⌜ Taken r q ⌝ }
-    ensures step { λ q. ⌜ ((cells : List ℕ) → HeadStep (λ f. withName f (openingName (now (line .entry)))) r q
-        cells cells (now (table .entry)) (now (table .exit))) ⌝ }
+    ensures step { λ q. ⌜ ((cells counts : List ℕ) → HeadStep (λ f. withName f (openingName (now (line .entry))))
+        r q cells cells (area (now (table .entry)) counts) (area (now (table .exit)) counts)) ⌝ }
 {
     let from = article(line);
     if from == 0 {
@@ -47,8 +47,8 @@ pub(crate) fn take_opening(mut r: Reading, line: &[u8], table: &mut [u8]) -> Rea
 pub(crate) fn take_ruler(mut r: Reading, line: &[u8]) -> Reading
     requires { ⌜ Room r × (r .lines ≤ textMost) ⌝ }
     ensures room { λ q. ⌜ Taken r q ⌝ }
-    ensures step { λ q. ⌜ ((cells table : List ℕ) → HeadStep (λ f. withWidth f (readTens (now (line .entry)))) r q
-        cells cells table table) ⌝ }
+    ensures step { λ q. ⌜ ((cells : List ℕ) (table : Area) → HeadStep (λ f. withWidth f (readTens
+        (now (line .entry)))) r q cells cells table table) ⌝ }
 {
     let w = ruler_width(line);
     if w == 0 {
@@ -63,7 +63,7 @@ pub(crate) fn take_ruler(mut r: Reading, line: &[u8]) -> Reading
 pub(crate) fn take_row(mut r: Reading, line: &[u8], cells: &mut [u8]) -> Reading
     requires { ⌜ Room r × (r .lines ≤ textMost) × (slotsMost ≤ length (now cells)) ⌝ }
     ensures room { λ q. ⌜ Taken r q ⌝ }
-    ensures step { λ q. ⌜ ((table : List ℕ) → HeadStep (λ f. withRow f (readRow (f .width) (now (line .entry)))) r q
+    ensures step { λ q. ⌜ ((table : Area) → HeadStep (λ f. withRow f (readRow (f .width) (now (line .entry)))) r q
         (now (cells .entry)) (now (cells .exit)) table table) ⌝ }
 {
     let from = r.slots;
@@ -87,7 +87,7 @@ pub(crate) fn take_row(mut r: Reading, line: &[u8], cells: &mut [u8]) -> Reading
 pub(crate) fn take_row_or_blank(r: Reading, line: &[u8], cells: &mut [u8]) -> Reading
     requires { ⌜ Room r × (r .lines ≤ textMost) × (slotsMost ≤ length (now cells)) ⌝ }
     ensures room { λ q. ⌜ Taken r q ⌝ }
-    ensures step { λ q. ⌜ ((table : List ℕ) → HeadStep (λ f. linedAt rowOrBlank f (now (line .entry))) r q
+    ensures step { λ q. ⌜ ((table : Area) → HeadStep (λ f. linedAt rowOrBlank f (now (line .entry))) r q
         (now (cells .entry)) (now (cells .exit)) table table) ⌝ }
 {
     if line.len() == 0 {

@@ -1,5 +1,6 @@
 // Names of fields, held by value: short names, labels that may be read, and marks, 1 where a field is fixed. The first
 // field that may be read by a name.
+use crate::kinds::FIXED;
 use crate::name_starts::BUCKETS;
 use crate::name_starts::put_start;
 use crate::name_starts::walk_start;
@@ -37,9 +38,9 @@ fn held_word(classes: &[u8; 256], w: &[u8]) -> [u8; SHORT_MOST]
 
 // 1 for a fixed field.
 fn mark_of(kind: usize) -> u8
-    ensures { λ r. ⌜ r ≡ cond (eqb kind 2) 1 0 ⌝ }
+    ensures { λ r. ⌜ r ≡ cond (eqb kind 12) 1 0 ⌝ }
 {
-    if kind == 2 { 1 } else { 0 }
+    if kind == FIXED { 1 } else { 0 }
 }
 
 // The names of a line and whether its field is fixed, held as those of index n.

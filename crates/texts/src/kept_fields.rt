@@ -1,5 +1,6 @@
 // Field lines: their names are held, their rules tested, their records written.
 use crate::form_rules::later_rule;
+use crate::line_counts::keep_field;
 use crate::line_parts::Parts;
 use crate::line_parts::parts_of;
 use crate::line_rules::rests;
@@ -7,7 +8,6 @@ use crate::name_clashes::held_label;
 use crate::name_starts::BUCKETS;
 use crate::notes::Note;
 use crate::notes::lower;
-use crate::part_records::put_field;
 use crate::part_tests::sizes_kept;
 use crate::shown_slots::slot_end;
 use crate::states::Reading;
@@ -39,6 +39,7 @@ ghost use Rattle.texts.specs.States.{
   isFullAs,
   lineRefused,
   NextCell,
+  area,
   LineRoom,
   PartsRoom,
   FieldStep,
@@ -117,6 +118,7 @@ fn take_form(
     second: &[u8],
     cells: &[u8],
     table: &mut [u8],
+    counts: &mut [u16],
     labels: &mut [[u8; LABEL_MOST]; FIELDS_MOST],
     shorts: &[[u8; SHORT_MOST]; FIELDS_MOST],
     words: &[[u8; SHORT_MOST]; FIELDS_MOST],
@@ -126,8 +128,8 @@ fn take_form(
     ensures room { λ q. ⌜ Taken r q ⌝ }
     ensures step { λ q. ⌜ FormStep (now (line .entry))
         (bytesOf (now (wide .entry)) (now (first .entry)) (now (second .entry))) p r q (now (cells .entry))
-        (now (table .entry)) (now (table .exit)) (now (labels .entry)) (now (labels .exit)) (now (shorts .entry))
-        (now (words .entry)) ⌝ }
+        (area (now (table .entry)) (now (counts .entry))) (area (now (table .exit)) (now (counts .exit)))
+        (now (labels .entry)) (now (labels .exit)) (now (shorts .entry)) (now (words .entry)) ⌝ }
 {
     let n = r.fields;
     hold_label(line, p.label, n, labels);
@@ -135,7 +137,7 @@ fn take_form(
     let a = lower(r.note, b);
     if is_open(a) {
         let at = r.end;
-        let end = put_field(table, at, line, p, wide, first, second);
+        let end = keep_field(table, at, line, p, wide, first, second, n, counts);
         let cell = next_cell(r, cells);
         let rested = rests(p, r.rested);
         r.end = end;
@@ -155,6 +157,7 @@ pub(crate) fn take_field(
     line: &[u8],
     cells: &[u8],
     table: &mut [u8],
+    counts: &mut [u16],
     labels: &mut [[u8; LABEL_MOST]; FIELDS_MOST],
     shorts: &mut [[u8; SHORT_MOST]; FIELDS_MOST],
     words: &mut [[u8; SHORT_MOST]; FIELDS_MOST],
@@ -163,8 +166,9 @@ pub(crate) fn take_field(
 ) -> Reading
     requires { ⌜ LineRoom r (now line) (now cells) (now table) × Starts (now starts) (now shorts) (now words) ⌝ }
     ensures room { λ q. ⌜ Taken r q ⌝ }
-    ensures step { λ q. ⌜ FieldStep (now (line .entry)) r q (now (cells .entry)) (now (table .entry))
-        (now (table .exit)) (now (labels .entry)) (now (labels .exit))
+    ensures step { λ q. ⌜ FieldStep (now (line .entry)) r q (now (cells .entry))
+        (area (now (table .entry)) (now (counts .entry))) (area (now (table .exit)) (now (counts .exit)))
+        (now (labels .entry)) (now (labels .exit))
         (namesOf (now (shorts .entry)) (now (words .entry)) (now (marks .entry)))
         (namesOf (now (shorts .exit)) (now (words .exit)) (now (marks .exit))) ⌝ }
     ensures starts { λ q. ⌜ Starts (now (starts .exit)) (now (shorts .exit)) (now (words .exit)) ⌝ }
@@ -201,6 +205,7 @@ pub(crate) fn take_field(
             &second,
             cells,
             table,
+            counts,
             labels,
             shorts,
             words,

@@ -4,7 +4,8 @@
 // field lines       labels, units, widths, width_trees, clause_trees, line_parts
 // expressions       leaves, numbers, signs, atoms, stored_nodes, chains, stored_trees
 // names             held_names, name_starts, name_clashes
-// rules, records    part_tests, part_slots, line_rules, form_rules, part_records, kept_fields
+// rules, records    kinds, part_tests, part_slots, line_rules, form_rules, part_records, line_counts,
+//                   kept_fields
 // what is kept      states, notes
 // specs/ holds definitions that mirror what the code does, proofs/ the theorems on them.
 mod atoms;
@@ -14,8 +15,10 @@ mod form_rules;
 mod head_lines;
 mod held_names;
 mod kept_fields;
+mod kinds;
 mod labels;
 mod leaves;
+mod line_counts;
 mod line_parts;
 mod line_rules;
 mod line_steps;

@@ -1,4 +1,6 @@
 // Fields behind the rest field.
+use crate::kinds::FIXED;
+use crate::kinds::REST;
 use crate::line_parts::Parts;
 ghost use mathlib.Core.Bool.{_&&_, _||_, not};
 ghost use mathlib.Core.Path.{_≡_};
@@ -6,10 +8,10 @@ ghost use lib.Dec.{eqb};
 
 // Behind the rest field stands one that is not fixed or has a condition.
 pub(crate) fn misplaced(p: Parts, rested: bool) -> bool
-    ensures { λ r. ⌜ r ≡ (rested && not (eqb (p .kind) 2 && eqb (p .condition .len) 0)) ⌝ }
+    ensures { λ r. ⌜ r ≡ (rested && not (eqb (p .kind) 12 && eqb (p .condition .len) 0)) ⌝ }
 {
     if rested {
-        if p.kind == 2 {
+        if p.kind == FIXED {
             let condition = p.condition;
             return condition.len != 0;
         }
@@ -20,10 +22,10 @@ pub(crate) fn misplaced(p: Parts, rested: bool) -> bool
 
 // The line is the rest field's, or the rest field was listed before it.
 pub(crate) fn rests(p: Parts, rested: bool) -> bool
-    ensures { λ r. ⌜ r ≡ (rested || eqb (p .kind) 4) ⌝ }
+    ensures { λ r. ⌜ r ≡ (rested || eqb (p .kind) 14) ⌝ }
 {
     if rested {
         return true;
     }
-    p.kind == 4
+    p.kind == REST
 }

@@ -16,7 +16,7 @@ use rules::LABEL_MOST;
 use rules::SHORT_MOST;
 ghost use Rattle.texts.specs.HeldNames.{namesOf};
 ghost use Rattle.texts.specs.NameStarts.{Starts};
-ghost use Rattle.texts.specs.States.{LineRoom, Taken, LineStep};
+ghost use Rattle.texts.specs.States.{area, LineRoom, Taken, LineStep};
 
 // What is kept behind one more line.
 pub(crate) fn take_line(
@@ -24,6 +24,7 @@ pub(crate) fn take_line(
     line: &[u8],
     cells: &mut [u8],
     table: &mut [u8],
+    counts: &mut [u16],
     labels: &mut [[u8; LABEL_MOST]; FIELDS_MOST],
     shorts: &mut [[u8; SHORT_MOST]; FIELDS_MOST],
     words: &mut [[u8; SHORT_MOST]; FIELDS_MOST],
@@ -33,7 +34,8 @@ pub(crate) fn take_line(
     requires { ⌜ LineRoom r (now line) (now cells) (now table) × Starts (now starts) (now shorts) (now words) ⌝ }
     ensures room { λ q. ⌜ Taken r q ⌝ }
     ensures step { λ q. ⌜ LineStep (now (line .entry)) r q (now (cells .entry)) (now (cells .exit))
-        (now (table .entry)) (now (table .exit)) (now (labels .entry)) (now (labels .exit))
+        (area (now (table .entry)) (now (counts .entry))) (area (now (table .exit)) (now (counts .exit)))
+        (now (labels .entry)) (now (labels .exit))
         (namesOf (now (shorts .entry)) (now (words .entry)) (now (marks .entry)))
         (namesOf (now (shorts .exit)) (now (words .exit)) (now (marks .exit))) ⌝ }
     ensures starts { λ q. ⌜ Starts (now (starts .exit)) (now (shorts .exit)) (now (words .exit)) ⌝ }
@@ -51,12 +53,30 @@ pub(crate) fn take_line(
         Stage::RowOrBlank => { take_row_or_blank(r, line, cells) }
         Stage::WhereLine => { expect(r, same_words(line, b"where:"), Stage::LastBlank) }
         Stage::LastBlank => { expect(r, line.len() == 0, Stage::FirstField) }
-        Stage::FirstField => {
-            take_field(r, line, cells, table, labels, shorts, words, marks, starts)
-        }
-        Stage::FieldLine => {
-            take_field(r, line, cells, table, labels, shorts, words, marks, starts)
-        }
+        Stage::FirstField => take_field(
+            r,
+            line,
+            cells,
+            table,
+            counts,
+            labels,
+            shorts,
+            words,
+            marks,
+            starts,
+        ),
+        Stage::FieldLine => take_field(
+            r,
+            line,
+            cells,
+            table,
+            counts,
+            labels,
+            shorts,
+            words,
+            marks,
+            starts,
+        ),
         Stage::Lost => { r }
     }
 }

@@ -1,4 +1,6 @@
 // The record of a field line, written from its parts.
+use crate::kinds::FIXED;
+use crate::kinds::MEASURED;
 use crate::line_parts::Parts;
 use writing::puts::put_counted;
 use writing::puts::put_two;
@@ -34,10 +36,10 @@ fn put_width(out: &mut [u8], at: usize, p: Parts, wide: &[u8]) -> usize
     ensures end { λ r. ⌜ r ≡ at + widthSize p ⌝ }
     ensures bytes { λ r. ⌜ Writes (now (out .entry)) at (widthBytes (now (wide .entry)) p) (now (out .exit)) r ⌝ }
 {
-    if p.kind == 2 {
+    if p.kind == FIXED {
         return put_two(out, at, p.bits);
     }
-    if p.kind == 3 {
+    if p.kind == MEASURED {
         let next = put_two(out, at, p.bits);
         let width = p.width;
         return put_tree(out, next, width.len, wide);
@@ -59,7 +61,7 @@ fn put_names(out: &mut [u8], at: usize, line: &[u8], p: Parts) -> usize
     put_counted(out, next, &line[from..to])
 }
 
-// All that stands behind the record's length and kind.
+// All that stands behind the record's length, kind and number.
 fn put_body(
     out: &mut [u8],
     at: usize,
@@ -69,9 +71,9 @@ fn put_body(
     first: &[u8],
     second: &[u8],
 ) -> usize
-    requires { ⌜ Writable (length (now line)) p × (at + fieldSize p ≤ length (now out) + 4)
+    requires { ⌜ Writable (length (now line)) p × (at + fieldSize p ≤ length (now out) + 6)
         × BytesRoom (bytesOf (now wide) (now first) (now second)) ⌝ }
-    ensures end { λ r. ⌜ r + 4 ≡ at + fieldSize p ⌝ }
+    ensures end { λ r. ⌜ r + 6 ≡ at + fieldSize p ⌝ }
     ensures bytes { λ r. ⌜ Writes (now (out .entry)) at (bodyBytes (now (line .entry))
         (bytesOf (now (wide .entry)) (now (first .entry)) (now (second .entry))) p) (now (out .exit)) r ⌝ }
 {
@@ -88,10 +90,10 @@ fn width_size(p: Parts) -> usize
     requires { ⌜ p .width .len ≤ storedMost ⌝ }
     ensures { λ r. ⌜ (r ≡ widthSize p) × (r ≤ 4 + storedMost) ⌝ }
 {
-    if p.kind == 2 {
+    if p.kind == FIXED {
         return 2;
     }
-    if p.kind == 3 {
+    if p.kind == MEASURED {
         let width = p.width;
         return 4 + width.len;
     }
@@ -106,11 +108,11 @@ fn field_size(p: Parts) -> usize
     let short = p.short;
     let constraint = p.constraint;
     let condition = p.condition;
-    let names = 12 + p.label + short.len;
+    let names = 14 + p.label + short.len;
     names + width_size(p) + constraint.len + condition.len
 }
 
-// The whole record.
+// The whole record, with the number 0.
 pub(crate) fn put_field(
     out: &mut [u8],
     at: usize,
@@ -128,5 +130,6 @@ pub(crate) fn put_field(
 {
     let size = put_two(out, at, field_size(p));
     let kind = put_two(out, size, p.kind);
-    put_body(out, kind, line, p, wide, first, second)
+    let number = put_two(out, kind, 0);
+    put_body(out, number, line, p, wide, first, second)
 }

@@ -1,4 +1,5 @@
 // A kept cell held against the parts of a field line.
+use crate::kinds::FIXED;
 use crate::line_parts::Parts;
 use crate::shown_slots::slot_end;
 use crate::shown_slots::wide;
@@ -27,7 +28,7 @@ fn is_name_in(name: &[u8], line: &[u8], p: Parts) -> bool
 fn is_place_in(long: bool, bits: usize, p: Parts) -> bool
     ensures { λ r. ⌜ r ≡ isPlacedBy long bits p ⌝ }
 {
-    if p.kind != 2 {
+    if p.kind != FIXED {
         return long;
     }
     if long {

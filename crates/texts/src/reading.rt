@@ -7,6 +7,7 @@ use crate::text_bytes::line_end;
 use crate::text_ends::end_text;
 use rules::FIELDS_MOST;
 use rules::LABEL_MOST;
+use rules::RECORD_MOST;
 use rules::SHORT_MOST;
 use rules::TEXT_MOST;
 use rules::TextAnswer;
@@ -17,12 +18,12 @@ ghost use Rattle.rules.specs.Limits.{textMost};
 ghost use Rattle.rules.specs.Promises.{ReadsText, leaves};
 ghost use Rattle.texts.specs.HeldNames.{namesOf};
 ghost use Rattle.texts.specs.NameStarts.{Starts};
-ghost use Rattle.texts.specs.States.{slotsMost, recordsMost, Begun};
+ghost use Rattle.texts.specs.States.{slotsMost, recordsMost, Begun, NoneCounted};
 
 // Room for the cells of all fields and of one row more, and for NAME and the records of all fields.
 const SLOTS_ROOM: usize = 43 * FIELDS_MOST + 195;
 
-const RECORDS_ROOM: usize = LABEL_MOST + 424 * FIELDS_MOST;
+const RECORDS_ROOM: usize = LABEL_MOST + RECORD_MOST * FIELDS_MOST;
 
 // The lines of a text, one by one, with room for what is kept of them.
 fn read_lines(
@@ -30,6 +31,7 @@ fn read_lines(
     out: &mut [u8],
     cells: &mut [u8],
     table: &mut [u8],
+    counts: &mut [u16],
     labels: &mut [[u8; LABEL_MOST]; FIELDS_MOST],
     shorts: &mut [[u8; SHORT_MOST]; FIELDS_MOST],
     words: &mut [[u8; SHORT_MOST]; FIELDS_MOST],
@@ -37,7 +39,8 @@ fn read_lines(
     starts: &mut [u8; BUCKETS],
 ) -> TextAnswer
     requires { ⌜ (length (now text) ≤ textMost) × (slotsMost ≤ length (now cells))
-        × (recordsMost ≤ length (now table)) × Begun (now labels) (namesOf (now shorts) (now words) (now marks))
+        × (recordsMost ≤ length (now table)) × NoneCounted (now counts)
+        × Begun (now labels) (namesOf (now shorts) (now words) (now marks))
         × Starts (now starts) (now shorts) (now words) ⌝ }
     ensures { λ r. ⌜ ReadsText (now (text .entry)) (now (out .entry)) (leaves (ofText r) (now (out .exit))) ⌝ }
 {
@@ -46,7 +49,7 @@ fn read_lines(
     loop {
         let e = line_end(text, at);
         if e == text.len() {
-            return end_text(r, at == e, table, out);
+            return end_text(r, at == e, table, counts, out);
         }
         if text[e] != b'\n' {
             return TextAnswer::BadByte;
@@ -56,6 +59,7 @@ fn read_lines(
             &text[at..e],
             cells,
             table,
+            counts,
             labels,
             shorts,
             words,
@@ -73,6 +77,7 @@ fn read_short(text: &[u8], out: &mut [u8]) -> TextAnswer
 {
     let mut cells = [0u8; SLOTS_ROOM];
     let mut table = [0u8; RECORDS_ROOM];
+    let mut counts = [0u16; FIELDS_MOST];
     let mut labels = [[0u8; LABEL_MOST]; FIELDS_MOST];
     let mut shorts = [[0u8; SHORT_MOST]; FIELDS_MOST];
     let mut words = [[0u8; SHORT_MOST]; FIELDS_MOST];
@@ -83,6 +88,7 @@ fn read_short(text: &[u8], out: &mut [u8]) -> TextAnswer
         out,
         &mut cells,
         &mut table,
+        &mut counts,
         &mut labels,
         &mut shorts,
         &mut words,

@@ -3,6 +3,7 @@ use crate::notes::Note;
 use crate::notes::lower;
 use crate::states::Reading;
 use crate::states::Stage;
+use references::numbers::put_numbers;
 use rules::TextAnswer;
 use writing::puts::put;
 use writing::puts::put_counted;
@@ -18,10 +19,11 @@ ghost use Rattle.writing.specs.Writes.{Writes};
 ghost use Rattle.rules.specs.Limits.{textMost};
 ghost use Rattle.rules.specs.Trees.{le2};
 ghost use Rattle.rules.specs.Stored.{counted, recordOf};
+ghost use Rattle.references.specs.Numbers.{numbered};
 ghost use Rattle.text_laws.specs.Lowest.{lower};
 ghost use Rattle.texts.specs.Noted.{noteOf};
 ghost use Rattle.texts.specs.States.{recordsMost, Room, isTold, earlyNote, remainNote, lastNote, TableStep};
-ghost use Rattle.texts.specs.States.{EndStep};
+ghost use Rattle.texts.specs.States.{area, EndStep};
 
 // A refusal as an answer.
 fn answer_of(a: Note) -> TextAnswer
@@ -118,23 +120,43 @@ fn put_head(out: &mut [u8], w: usize, n: usize, name: &[u8]) -> usize
     put_counted(out, count, name)
 }
 
+// The records of fields, each with its number.
+fn put_records(out: &mut [u8], at: usize, records: &[u8], n: usize, counts: &[u16]) -> usize
+    requires { ⌜ at + length (now records) ≤ length (now out) ⌝ }
+    ensures end { λ r. ⌜ r ≡ at + length (now (records .entry)) ⌝ }
+    ensures bytes { λ r. ⌜ Writes (now (out .entry)) at (numbered n (now (counts .entry)) (now (records .entry)))
+        (now (out .exit)) r ⌝ }
+{
+    let end = put(out, at, records);
+    put_numbers(&mut out[at..end], n, counts);
+    end
+}
+
 // The table into an output that has room for it.
-fn put_table(r: Reading, table: &[u8], out: &mut [u8]) -> usize
+fn put_table(r: Reading, table: &[u8], counts: &[u16], out: &mut [u8]) -> usize
     requires { ⌜ Room r × (recordsMost ≤ length (now table)) × (14 + r .end ≤ length (now out)) ⌝ }
-    ensures { λ n. ⌜ TableStep r (now (table .entry)) (now (out .entry)) (now (out .exit)) n ⌝ }
+    ensures { λ n. ⌜ TableStep r (area (now (table .entry)) (now (counts .entry))) (now (out .entry))
+        (now (out .exit)) n ⌝ }
 {
     let name = r.name;
     let end = r.end;
     let head = put_head(out, r.width, r.fields, &table[0..name]);
-    let body = put(out, head, &table[name..end]);
+    let body = put_records(out, head, &table[name..end], r.fields, counts);
     let size = put_two(out, body, 4);
     put_two(out, size, 5)
 }
 
 // The answer to a text, and its table in the output where it has one.
-pub(crate) fn end_text(r: Reading, whole: bool, table: &[u8], out: &mut [u8]) -> TextAnswer
+pub(crate) fn end_text(
+    r: Reading,
+    whole: bool,
+    table: &[u8],
+    counts: &[u16],
+    out: &mut [u8],
+) -> TextAnswer
     requires { ⌜ Room r × (r .lines ≤ textMost) × (recordsMost ≤ length (now table)) ⌝ }
-    ensures { λ a. ⌜ EndStep r whole (now (table .entry)) (now (out .entry)) (now (out .exit)) a ⌝ }
+    ensures { λ a. ⌜ EndStep r whole (area (now (table .entry)) (now (counts .entry))) (now (out .entry))
+        (now (out .exit)) a ⌝ }
 {
     let last = last_note(r, whole);
     if last.number != 0 {
@@ -144,6 +166,6 @@ pub(crate) fn end_text(r: Reading, whole: bool, table: &[u8], out: &mut [u8]) ->
     if out.len() < size {
         return TextAnswer::NoRoom;
     }
-    put_table(r, table, out);
+    put_table(r, table, counts, out);
     TextAnswer::Accepted(size)
 }

@@ -1,4 +1,7 @@
 // The width of a field line, its expression in its stored form.
+use crate::kinds::FIXED;
+use crate::kinds::MEASURED;
+use crate::kinds::REST;
 use crate::name_starts::BUCKETS;
 use crate::phrases::starts_at;
 use crate::stored_nodes::no_tree;
@@ -56,7 +59,7 @@ fn fixed_width(bits: usize, next: usize) -> Measure
     if bits > FIXED_MOST {
         return plain(0, 0, 0);
     }
-    plain(2, bits, next)
+    plain(FIXED, bits, next)
 }
 
 // The width of the expression at `at` with its unit, before the place `next`.
@@ -70,7 +73,7 @@ fn sized(classes: &[u8; 256], s: &[u8], at: usize, t: StoredTree, u: u8, next: u
         return fixed_width(times(u, m), next);
     }
     Measure {
-        kind: 3,
+        kind: MEASURED,
         bits: u as usize,
         next: next,
         tree: t,
@@ -123,7 +126,7 @@ pub(crate) fn width_at(
         n (now (s .entry)) (readWidth (drop at (now (s .entry)))) (now (out .exit)) r ⌝ }
 {
     if starts_at(s, at, b"variable") {
-        return plain(4, 0, at + 8);
+        return plain(REST, 0, at + 8);
     }
     measure_at(classes, s, at, shorts, words, marks, starts, n, out)
 }

@@ -7,7 +7,7 @@ use Rattle.base.specs.Bytes.{bytes}
 use Rattle.rules.specs.Promises.{leaves, ReadsText}
 use Rattle.rules.specs.Cases.{lentRun}
 use Rattle.rules.specs.Marked.{bladeReport, m1, m1Listing, tagText, tagTable}
-use Rattle.rules.specs.Pages.{m3, tagLines}
+use Rattle.rules.specs.Pages.{m3, tagLines, oldTagTable}
 use Rattle.laws.specs.Wrong.{
   Claim,
   checks,
@@ -22,6 +22,8 @@ use Rattle.laws.specs.Wrong.{
   m1Entries,
   counts,
   tellsKind,
+  countsReaders,
+  convertsWith,
   placesShort,
   readsPartly,
 }
@@ -43,7 +45,7 @@ abbrev pub wrongReplies : List Claim
 wrongReplies =
     -- a table: no length for a good one; a place for it
     checks bladeReport (replyAnswer (reply 0 0 0))
-    ∷ checks bladeReport (replyAnswer (reply 0 1 201))
+    ∷ checks bladeReport (replyAnswer (reply 0 1 215))
     -- a packet: bytes for bits; number and place exchanged; the table read in its place
     ∷ reads bladeReport m1 (replyAnswer (reply 0 0 8)) (runOf m1Entries)
     ∷ reads bladeReport [] (replyAnswer (reply 1 24 0)) lentRun
@@ -62,17 +64,25 @@ wrongReplies =
     ∷ finds bladeReport (bytes "X") (replyAnswer (reply 31 0 0))
     -- a label: the record's place; start and length exchanged; the first field's for every field
     ∷ placesLabel bladeReport 0 (spanPart (span 22 7))
-    ∷ placesLabel bladeReport 0 (spanPart (span 7 28))
-    ∷ placesLabel bladeReport 1 (spanPart (span 28 7))
+    ∷ placesLabel bladeReport 0 (spanPart (span 7 30))
+    ∷ placesLabel bladeReport 1 (spanPart (span 30 7))
     -- the number of fields: as the place; counted from 0
     ∷ counts bladeReport (replyAnswer (reply 0 7 0))
     ∷ counts bladeReport (replyAnswer (reply 0 0 6))
     -- a kind: as the number; as the place
-    ∷ tellsKind bladeReport 5 (replyAnswer (reply 3 0 0))
-    ∷ tellsKind bladeReport 5 (replyAnswer (reply 0 3 0))
+    ∷ tellsKind bladeReport 5 (replyAnswer (reply 13 0 0))
+    ∷ tellsKind bladeReport 5 (replyAnswer (reply 0 13 0))
+    -- how often a field is read: as the number; as the place; 30 with the index as its place
+    ∷ countsReaders bladeReport 1 (replyAnswer (reply 1 0 0))
+    ∷ countsReaders bladeReport 1 (replyAnswer (reply 0 1 0))
+    ∷ countsReaders bladeReport 7 (replyAnswer (reply 30 7 0))
+    -- an old table: no length; 11 and 21 exchanged
+    ∷ convertsWith 46 oldTagTable (replyAnswer (reply 0 0 0)) tagTable
+    ∷ convertsWith 45 oldTagTable (replyAnswer (reply 21 0 0)) (replicate 45 9)
+    ∷ convertsWith 46 tagTable (replyAnswer (reply 11 0 0)) (replicate 46 9)
     -- a short name: start and length exchanged; the label
-    ∷ placesShort bladeReport 0 (spanPart (span 1 37))
-    ∷ placesShort bladeReport 0 (spanPart (span 28 7))
+    ∷ placesShort bladeReport 0 (spanPart (span 1 39))
+    ∷ placesShort bladeReport 0 (spanPart (span 30 7))
     -- a packet as far as it goes: no count; the count as the length
     ∷ readsPartly bladeReport m3 (partialAnswer (partial 24 7 0 0)) (runOf m1Six) 0
     ∷ readsPartly bladeReport m3 (partialAnswer (partial 24 7 6 6)) (runOf m1Six) 6
@@ -80,6 +90,6 @@ wrongReplies =
 
 -- a text: accepted with nothing written; the table written, and its length left out; 2 told as 3
 pub record WrongTextReplies : Type 0 where
-  pub nothing : ReadsText tagText (replicate 44 9) (leaves (replyAnswer (reply 0 0 44)) (replicate 44 9)) → ⊥
-  pub lengthless : ReadsText tagText (replicate 44 9) (leaves (replyAnswer (reply 0 0 0)) tagTable) → ⊥
+  pub nothing : ReadsText tagText (replicate 46 9) (leaves (replyAnswer (reply 0 0 46)) (replicate 46 9)) → ⊥
+  pub lengthless : ReadsText tagText (replicate 46 9) (leaves (replyAnswer (reply 0 0 0)) tagTable) → ⊥
   pub renumbered : ReadsText (tagLines 1 ++ (0x7F ∷ [])) [] (leaves (replyAnswer (reply 3 0 0)) []) → ⊥

@@ -1,13 +1,16 @@
 // The library's entries for programs in C and other languages.
 mod replies;
 
+use crate::replies::conversion_reply;
 use crate::replies::field_reply;
 use crate::replies::listing_reply;
 use crate::replies::packet_reply;
 use crate::replies::table_reply;
 use crate::replies::text_reply;
+use packets::conversions::convert_table;
 use packets::listing::list_packet;
 use packets::lookups::count_fields;
+use packets::lookups::count_readers;
 use packets::lookups::field_index;
 use packets::lookups::field_kind;
 use packets::lookups::label_place;
@@ -31,6 +34,8 @@ ghost use Rattle.rules.specs.Promises.{
   PlacesShort,
   CountsFields,
   TellsKind,
+  CountsReaders,
+  ConvertsTable,
 };
 ghost use Rattle.umarekoza.specs.Exports.{replyAnswer, spanPart, partialAnswer};
 
@@ -151,6 +156,24 @@ pub extern "C" fn umarekoza_field_kind(table: &[u8], index: usize) -> Reply
     ensures { λ r. ⌜ TellsKind (now (table .entry)) index (replyAnswer r) ⌝ }
 {
     field_reply(field_kind(table, index))
+}
+
+// The field of an index: the length is the number of references to it in other fields' expressions.
+#[no_mangle]
+pub extern "C" fn umarekoza_count_readers(table: &[u8], index: usize) -> Reply
+    ensures { λ r. ⌜ CountsReaders (now (table .entry)) index (replyAnswer r) ⌝ }
+{
+    field_reply(count_readers(table, index))
+}
+
+// An old table, whose records keep no number, becomes the table of the same description at the output's start: the
+// length is the new table's.
+#[no_mangle]
+pub extern "C" fn umarekoza_convert_table(table: &[u8], out: &mut [u8]) -> Reply
+    ensures { λ r. ⌜ ConvertsTable (now (table .entry)) (now (out .entry)) (leaves (replyAnswer r)
+        (now (out .exit))) ⌝ }
+{
+    conversion_reply(convert_table(table, out))
 }
 
 // A packet is read by a table as far as it goes: four numbers for each field before the first refused one.

@@ -3,6 +3,7 @@ use crate::Reply;
 use packets::answers::amount_of;
 use packets::answers::number_of;
 use packets::answers::place_of;
+use rules::ConversionAnswer;
 use rules::FieldAnswer;
 use rules::ListingAnswer;
 use rules::PacketAnswer;
@@ -10,7 +11,7 @@ use rules::TableAnswer;
 use rules::TextAnswer;
 ghost use mathlib.Core.Path.{_≡_};
 ghost use Prim.Native.Nat.{_<_};
-ghost use Rattle.rules.specs.Answers.{accepted, refused, ofTable, ofPacket, ofText, ofField, ofListing};
+ghost use Rattle.rules.specs.Answers.{accepted, refused, ofTable, ofPacket, ofText, ofField, ofListing, ofConversion};
 ghost use Rattle.umarekoza.specs.Exports.{replyAnswer};
 
 fn accept(n: usize) -> Reply
@@ -93,5 +94,15 @@ pub(crate) fn listing_reply(answer: ListingAnswer) -> Reply
     match answer {
         ListingAnswer::Written(n) => accept(n),
         ListingAnswer::NoRoom => refuse(11, 0),
+    }
+}
+
+pub(crate) fn conversion_reply(answer: ConversionAnswer) -> Reply
+    ensures { λ r. ⌜ replyAnswer r ≡ ofConversion answer ⌝ }
+{
+    match answer {
+        ConversionAnswer::Converted(n) => accept(n),
+        ConversionAnswer::NotGood => refuse(21, 0),
+        ConversionAnswer::NoRoom => refuse(11, 0),
     }
 }

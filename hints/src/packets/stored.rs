@@ -54,7 +54,7 @@ impl Tree {
     }
 }
 
-/// The fields of a table; none if it is not stored as document 01 says.
+/// The fields of a table; none if it is not stored as documents 01 and 02 say.
 pub fn fields_of(table: &[u8]) -> Option<Vec<StoredField>> {
     let mut cursor = Cursor { rest: table };
     let mut head = cursor.record()?;
@@ -103,12 +103,14 @@ impl<'a> Cursor<'a> {
         self.take(length)
     }
 
+    /// The field of a record behind its kind; how often it is read plays no part.
     fn field(&mut self, kind: usize) -> Option<StoredField> {
+        self.number()?;
         let (label, short) = (self.part()?.to_vec(), self.part()?.to_vec());
         let width = match kind {
-            2 => StoredWidth::Fixed(self.number()? as u32),
-            3 => StoredWidth::Measured { unit: self.number()? as u32, tree: self.expression()?? },
-            4 => StoredWidth::Rest,
+            12 => StoredWidth::Fixed(self.number()? as u32),
+            13 => StoredWidth::Measured { unit: self.number()? as u32, tree: self.expression()?? },
+            14 => StoredWidth::Rest,
             _ => return None,
         };
         let (constraint, condition) = (self.expression()?, self.expression()?);

@@ -99,7 +99,7 @@ error[29]: the width of `Data` divides by zero: `8 / C` is 8 / 0
  = note: let this field be `present only when C != 0`
 ";
     let rest = [&[8, 0, 8, 0][..], &EIGHT_BY_C, &[0, 0, 0, 0]].concat();
-    told(&flagged(3, &rest), &[1, 0], &NONE, (29, 3), due);
+    told(&flagged(13, &rest), &[1, 0], &NONE, (29, 3), due);
     let due = "\
 error[29]: the condition of `Data` divides by zero: `F % (C * 2)` is 1 % 0
  --> packet.bin, field 3: Data
@@ -108,7 +108,7 @@ error[29]: the condition of `Data` divides by zero: `F % (C * 2)` is 1 % 0
  = note: write `present only when C * 2 != 0 && F % (C * 2) == 0`
 ";
     let rest = [&[8, 0, 0, 0, 17, 0, 0x20][..], &F_BY_TWICE_C, &[1, 0, 0, 0, 0]].concat();
-    told(&flagged(2, &rest), &[1, 0], &NONE, (29, 3), due);
+    told(&flagged(12, &rest), &[1, 0], &NONE, (29, 3), due);
     let due = "\
 error[29]: the constraint of `Data` divides by zero: `8 / C` is 8 / 0
  --> packet.bin, field 3: Data
@@ -117,7 +117,7 @@ error[29]: the constraint of `Data` divides by zero: `8 / C` is 8 / 0
  = note: write `C != 0 && 8 / C > D`
 ";
     let rest = [&[8, 0, 11, 0, 0x24][..], &EIGHT_BY_C, &[2, 2, 0, 0]].concat();
-    told(&flagged(2, &rest), &[1, 0, 5], &NONE, (29, 3), due);
+    told(&flagged(12, &rest), &[1, 0, 5], &NONE, (29, 3), due);
     let due = "\
 error[29]: the width of `Data` divides by zero: `C / 0` is 1 / 0
  --> packet.bin, field 3: Data
@@ -125,7 +125,7 @@ error[29]: the width of `Data` divides by zero: `C / 0` is 1 / 0
  = note: `C` (Count) is 1
  = note: the divisor is 0 in every packet
 ";
-    told(&flagged(3, &[8, 0, 8, 0, 0x13, 2, 1, 1, 0, 0, 0, 0, 0, 0, 0, 0]), &[1, 1], &PRESENT, (29, 3), due);
+    told(&flagged(13, &[8, 0, 8, 0, 0x13, 2, 1, 1, 0, 0, 0, 0, 0, 0, 0, 0]), &[1, 1], &PRESENT, (29, 3), due);
 }
 
 /// A fault of an operand goes before a zero divisor.
@@ -140,7 +140,7 @@ error[27]: the width of `Data` leaves the range: `C - 2` is 1 - 2, below 0
 ";
     let width = [0x13, 0x11, 2, 1, 1, 2, 0, 0, 0, 1, 0, 0, 0, 0];
     let rest = [&[8, 0, 14, 0][..], &width, &[0, 0, 0, 0]].concat();
-    told(&flagged(3, &rest), &[1, 1], &PRESENT, (27, 3), due);
+    told(&flagged(13, &rest), &[1, 1], &PRESENT, (27, 3), due);
 }
 
 #[test]
@@ -154,7 +154,7 @@ error[27]: the width of `Data` leaves the range: `2 ^ (C + 31)` is 2 ^ 32, over 
 ";
     let width = [0x15, 1, 2, 0, 0, 0, 0x10, 2, 1, 1, 31, 0, 0, 0];
     let rest = [&[1, 0, 14, 0][..], &width, &[0, 0, 0, 0]].concat();
-    told(&flagged(3, &rest), &[1, 1], &PRESENT, (27, 3), due);
+    told(&flagged(13, &rest), &[1, 1], &PRESENT, (27, 3), due);
 }
 
 /// Powers are written without parentheses on the right, and with them on the left.
@@ -173,7 +173,7 @@ fn powers_written_out() {
         let message = format!("error[25]: the constraint of `Data` does not hold: `{constraint}`");
         let notes = " = note: `F` (Flag) is 1, `C` (Count) is 1, `D` (Data) is 0\n";
         let due = format!("{message}\n --> packet.bin, field 3: Data\n{notes}");
-        told(&flagged(2, rest), &[1, 1, 0], &PRESENT, (25, 3), &due);
+        told(&flagged(12, rest), &[1, 1, 0], &PRESENT, (25, 3), &due);
     };
     written(&rule([0x15, 0x15], false), "2 ^ F ^ C < D");
     written(&rule([0x15, 0x15], true), "(2 ^ F) ^ C < D");

@@ -2,7 +2,8 @@
 
 use umarekoza_hints::{packet_hint, plain_packet, Verdict};
 
-/// The records of a table: fields, each by its kind, label, short name and what follows these.
+/// The records of a table: fields, each by its kind, label, short name and what follows these. How often they are read,
+/// here 0, plays no part.
 fn table(fields: &[(u8, &str, &str, &[u8])]) -> Vec<u8> {
     let counted = |bytes: &[u8]| [&(bytes.len() as u16).to_le_bytes()[..], bytes].concat();
     let record = |kind: u8, body: &[u8]| {
@@ -11,7 +12,7 @@ fn table(fields: &[(u8, &str, &str, &[u8])]) -> Vec<u8> {
     };
     let head = [&[16, 0, fields.len() as u8, 0][..], &counted(b"Test")].concat();
     let field = |(kind, label, short, rest): &(u8, &str, &str, &[u8])| {
-        record(*kind, &[&counted(label.as_bytes())[..], &counted(short.as_bytes()), rest].concat())
+        record(*kind, &[&[0, 0], &counted(label.as_bytes())[..], &counted(short.as_bytes()), rest].concat())
     };
     let fields: Vec<u8> = fields.iter().flat_map(field).collect();
     [record(1, &head), fields, record(5, b"")].concat()
@@ -26,13 +27,13 @@ fn blade() -> Vec<u8> {
 pub fn blade_with(readings: &[u8]) -> Vec<u8> {
     let readings = [&[8, 0, readings.len() as u8, 0][..], readings, &[0, 0, 0, 0]].concat();
     table(&[
-        (2, "Version", "V", &[2, 0, 8, 0, 0x20, 2, 0, 1, 1, 0, 0, 0, 0, 0]),
-        (2, "On Loan", "L", &[1, 0, 0, 0, 0, 0]),
-        (2, "Cells", "N", &[5, 0, 8, 0, 0x23, 2, 2, 1, 20, 0, 0, 0, 0, 0]),
-        (2, "Blade", "", &[8, 0, 0, 0, 0, 0]),
-        (2, "Borrower", "Bor", &[16, 0, 0, 0, 8, 0, 0x20, 2, 1, 1, 1, 0, 0, 0]),
-        (3, "Readings", "", &readings),
-        (2, "Sum", "", &[16, 0, 0, 0, 0, 0]),
+        (12, "Version", "V", &[2, 0, 8, 0, 0x20, 2, 0, 1, 1, 0, 0, 0, 0, 0]),
+        (12, "On Loan", "L", &[1, 0, 0, 0, 0, 0]),
+        (12, "Cells", "N", &[5, 0, 8, 0, 0x23, 2, 2, 1, 20, 0, 0, 0, 0, 0]),
+        (12, "Blade", "", &[8, 0, 0, 0, 0, 0]),
+        (12, "Borrower", "Bor", &[16, 0, 0, 0, 8, 0, 0x20, 2, 1, 1, 1, 0, 0, 0]),
+        (13, "Readings", "", &readings),
+        (12, "Sum", "", &[16, 0, 0, 0, 0, 0]),
     ])
 }
 
@@ -83,9 +84,9 @@ error[24]: `Readings` needs 16 bits from bit 32 on, 8 are left
 #[test]
 fn bits_that_the_fields_behind_the_rest_need() {
     let table = table(&[
-        (2, "Kind", "K", &[16, 0, 0, 0, 0, 0]),
-        (4, "Data", "", &[0, 0, 0, 0]),
-        (2, "Sum", "", &[16, 0, 0, 0, 0, 0]),
+        (12, "Kind", "K", &[16, 0, 0, 0, 0, 0]),
+        (14, "Data", "", &[0, 0, 0, 0]),
+        (12, "Sum", "", &[16, 0, 0, 0, 0, 0]),
     ]);
     let due = "\
 error[24]: the fields behind `Data` need 16 bits from bit 16 on, 8 are left
@@ -110,7 +111,7 @@ error[28]: 8 bits are left over from bit 64 on: 1 byte
 #[test]
 fn bits_that_are_less_than_a_byte() {
     let table =
-        table(&[(2, "Count", "C", &[16, 0, 0, 0, 0, 0]), (3, "Data", "", &[1, 0, 2, 0, 2, 0, 0, 0, 0, 0])]);
+        table(&[(12, "Count", "C", &[16, 0, 0, 0, 0, 0]), (13, "Data", "", &[1, 0, 2, 0, 2, 0, 0, 0, 0, 0])]);
     let due = "\
 error[28]: 3 bits are left over from bit 21 on: less than a byte
  --> packet.bin
@@ -159,7 +160,7 @@ error[25]: the constraint of `Cells` does not hold: `N <= 20`
 fn a_constraint_that_reads_by_labels() {
     let is_zero = |index: u8| [0x20, 2, index, 1, 0, 0, 0, 0];
     let rule = [&[8, 0, 17, 0, 0x31][..], &is_zero(1), &is_zero(0), &[0, 0]].concat();
-    let table = table(&[(2, "SYN", "", &[8, 0, 0, 0, 0, 0]), (2, "FIN", "", &rule)]);
+    let table = table(&[(12, "SYN", "", &[8, 0, 0, 0, 0, 0]), (12, "FIN", "", &rule)]);
     let due = "\
 error[25]: the constraint of `FIN` does not hold: `FIN == 0 || SYN == 0`
  --> packet.bin, field 2: FIN
@@ -171,8 +172,8 @@ error[25]: the constraint of `FIN` does not hold: `FIN == 0 || SYN == 0`
 /// A flag, a number that is there if the flag is set, and a field of this kind and rest.
 pub fn flagged(kind: u8, rest: &[u8]) -> Vec<u8> {
     table(&[
-        (2, "Flag", "F", &[8, 0, 0, 0, 0, 0]),
-        (2, "Count", "C", &[8, 0, 0, 0, 8, 0, 0x20, 2, 0, 1, 1, 0, 0, 0]),
+        (12, "Flag", "F", &[8, 0, 0, 0, 0, 0]),
+        (12, "Count", "C", &[8, 0, 0, 0, 8, 0, 0x20, 2, 0, 1, 1, 0, 0, 0]),
         (kind, "Data", "D", rest),
     ])
 }
@@ -190,7 +191,7 @@ error[26]: the width of `Data` reads `C`, which is absent: `C`
  = note: `C` (Count) is absent
  = note: let this field be `present only when F == 1`
 ";
-    told(&flagged(3, &[8, 0, 2, 0, 2, 1, 0, 0, 0, 0]), &[0], &ABSENT, (26, 3), due);
+    told(&flagged(13, &[8, 0, 2, 0, 2, 1, 0, 0, 0, 0]), &[0], &ABSENT, (26, 3), due);
     let due = "\
 error[26]: the condition of `Data` reads `C`, which is absent: `C > 0 || F == 2`
  --> packet.bin, field 3: Data
@@ -199,14 +200,14 @@ error[26]: the condition of `Data` reads `C`, which is absent: `C > 0 || F == 2`
 ";
     let either = [0x31, 0x24, 2, 1, 1, 0, 0, 0, 0, 0x20, 2, 0, 1, 2, 0, 0, 0];
     let rest = [&[8, 0, 0, 0, 17, 0][..], &either].concat();
-    told(&flagged(2, &rest), &[0], &ABSENT, (26, 3), due);
+    told(&flagged(12, &rest), &[0], &ABSENT, (26, 3), due);
     let due = "\
 error[26]: the constraint of `Data` reads `C`, which is absent: `D < C`
  --> packet.bin, field 3: Data
  = note: `D` (Data) is 5, `C` (Count) is absent
  = note: write `!(F == 1) || D < C`
 ";
-    told(&flagged(2, &[8, 0, 5, 0, 0x22, 2, 2, 2, 1, 0, 0]), &[0, 5], &ABSENT, (26, 3), due);
+    told(&flagged(12, &[8, 0, 5, 0, 0x22, 2, 2, 2, 1, 0, 0]), &[0, 5], &ABSENT, (26, 3), due);
 }
 
 #[test]
@@ -219,7 +220,7 @@ error[27]: the width of `Data` leaves the range: `C - 2` is 1 - 2, below 0
  = note: `C` (Count) is 1
  = note: let this field be `present only when C >= 2`
 ";
-    told(&flagged(3, &[&[8, 0, 8, 0][..], &less, &[0, 0, 0, 0]].concat()), &[1, 1], &PRESENT, (27, 3), due);
+    told(&flagged(13, &[&[8, 0, 8, 0][..], &less, &[0, 0, 0, 0]].concat()), &[1, 1], &PRESENT, (27, 3), due);
     let due = "\
 error[27]: the condition of `Data` leaves the range: `C - 2` is 1 - 2, below 0
  --> packet.bin, field 3: Data
@@ -228,7 +229,7 @@ error[27]: the condition of `Data` leaves the range: `C - 2` is 1 - 2, below 0
  = note: write `present only when C >= 2 && C - 2 == 0`
 ";
     let rest = [&[8, 0, 0, 0, 14, 0, 0x20][..], &less, &[1, 0, 0, 0, 0]].concat();
-    told(&flagged(2, &rest), &[1, 1], &PRESENT, (27, 3), due);
+    told(&flagged(12, &rest), &[1, 1], &PRESENT, (27, 3), due);
     let due = "\
 error[27]: the constraint of `Data` leaves the range: `D * 4294967295` is 5 * 4294967295, over 4,294,967,295
  --> packet.bin, field 3: Data
@@ -237,7 +238,7 @@ error[27]: the constraint of `Data` leaves the range: `D * 4294967295` is 5 * 42
  = note: keep `D` small by a constraint
 ";
     let rest = [8, 0, 11, 0, 0x24, 0x12, 2, 2, 1, 255, 255, 255, 255, 2, 1, 0, 0];
-    told(&flagged(2, &rest), &[1, 1, 5], &PRESENT, (27, 3), due);
+    told(&flagged(12, &rest), &[1, 1, 5], &PRESENT, (27, 3), due);
 }
 
 #[test]

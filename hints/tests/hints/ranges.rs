@@ -53,9 +53,9 @@ fn a_shown_line_has_a_character_for_each_byte() {
 #[test]
 fn an_output_that_is_too_short() {
     let due = "\
-error[11]: the output is too short: the page's table has 201 bytes
+error[11]: the output is too short: the page's table has 215 bytes
  --> page.txt
- = note: give it room for 201 bytes
+ = note: give it room for 215 bytes
 ";
     assert_eq!(told_of(BLADE.as_bytes(), 11, 0), due);
 }

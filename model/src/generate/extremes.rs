@@ -6,6 +6,7 @@ use super::words::Names;
 use super::{Rng, EARLIER_PACKET};
 use crate::descriptions::{Description, Field, Width};
 use crate::frames::{border, tens_ruler, units_ruler, FORMATTED, WHERE};
+use crate::names::is_short_name;
 use crate::reading::LONGEST_PACKET;
 use crate::rules::{MOST_FIXED_BITS, ROW_BITS};
 use crate::texts::LONGEST_TEXT;
@@ -27,6 +28,27 @@ pub fn longest<'a>(rng: &mut Rng, names: &'a Names) -> Description<'a> {
         }
     });
     Description { name: &names.name, row_bits, fields: fields.collect() }
+}
+
+/// Fields of a byte of which a few are read by all later ones, as often as their expressions have room for.
+pub fn much_read<'a>(rng: &mut Rng, names: &'a Names) -> Description<'a> {
+    let named = names.labels.iter().zip(&names.shorts);
+    let readable =
+        |(_, (label, short)): &(usize, (&Vec<u8>, &Option<Vec<u8>>))| short.is_some() || is_short_name(label);
+    let most = rng.between(1, 3);
+    let read: Vec<usize> =
+        named.clone().enumerate().filter(readable).map(|(index, _)| index).take(most).collect();
+    let (present, own) = (rng.one_in(2), rng.one_in(4));
+    let fields = named.enumerate().map(|(index, (label, short))| {
+        let is_read = short.is_some() || is_short_name(label);
+        let mut earlier: Vec<usize> = read.iter().copied().filter(|read| *read < index).collect();
+        let condition = (present && !earlier.is_empty()).then(|| Growth::new(&[]).names(rng, &earlier));
+        earlier.extend((own && is_read).then_some(index));
+        let constraint = (!earlier.is_empty()).then(|| Growth::new(&[]).names(rng, &earlier));
+        let width = Width::Fixed(8);
+        Field { label, short: short.as_deref(), width, constraint, condition }
+    });
+    Description { name: &names.name, row_bits: 8, fields: fields.collect() }
 }
 
 /// A rest field, early, among fixed fields of as many bits as may be.

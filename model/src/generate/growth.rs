@@ -139,6 +139,22 @@ impl<'a> Growth<'a> {
         Tree { nodes: self.nodes }
     }
 
+    /// A comparison of two sums of as many of these fields as can be stored, which holds of equal values.
+    pub fn names(mut self, rng: &mut Rng, fields: &[usize]) -> Tree<usize> {
+        let (left, right) = (self.sum_of(rng, fields, 20), self.sum_of(rng, fields, 20));
+        self.push(Node::Two(rng.pick([Op::Eq, Op::Le, Op::Ge]), left, right));
+        Tree { nodes: self.nodes }
+    }
+
+    fn sum_of(&mut self, rng: &mut Rng, fields: &[usize], leaves: usize) -> usize {
+        if leaves <= 1 {
+            return self.push(Node::Name(fields[rng.below(fields.len())]));
+        }
+        let left = self.sum_of(rng, fields, leaves / 2);
+        let right = self.sum_of(rng, fields, leaves - leaves / 2);
+        self.push(Node::Two(Op::Add, left, right))
+    }
+
     /// A number as long as one can be stored: ten products of two numbers, 119 bytes. It is small.
     pub fn longest_number(mut self, rng: &mut Rng) -> Tree<usize> {
         self.products(rng, 10);

@@ -83,7 +83,7 @@ pub fn names_in(table: &[u8]) -> Option<Vec<[Range<usize>; 2]>> {
     let mut at = number(0)?;
     let mut names = Vec::new();
     while number(at + 2)? != 5 {
-        let label = at + 6..at + 6 + number(at + 4)?;
+        let label = at + 8..at + 8 + number(at + 6)?;
         let short = label.end + 2..label.end + 2 + number(label.end)?;
         table.get(short.clone())?;
         names.push([label, short]);

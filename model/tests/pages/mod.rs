@@ -1,4 +1,5 @@
 //! Texts of a few field lines, and tables put together from records.
+#![allow(dead_code)]
 
 use umarekoza_model::{write_table, Refusal};
 
@@ -32,10 +33,15 @@ pub fn counted(part: &[u8]) -> Vec<u8> {
     [&[part.len() as u8, 0], part].concat()
 }
 
-/// The record of a fixed field of 8 bits, without a condition.
+/// The record of a fixed field of 8 bits, without a condition, which other fields do not read.
 pub fn fixed(label: &str, short: &str, constraint: &[u8]) -> Vec<u8> {
+    read_fixed(0, label, short, constraint)
+}
+
+/// The same of a field that other fields read so often.
+pub fn read_fixed(readers: u8, label: &str, short: &str, constraint: &[u8]) -> Vec<u8> {
     let names = [counted(label.as_bytes()), counted(short.as_bytes())].concat();
-    record(2, &[&names, &[8, 0], &counted(constraint), &[0, 0]])
+    record(12, &[&[readers, 0], &names, &[8, 0], &counted(constraint), &[0, 0]])
 }
 
 pub fn table(fields: &[Vec<u8>]) -> Vec<u8> {

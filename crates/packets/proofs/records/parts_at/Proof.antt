@@ -1,6 +1,3 @@
-use mathlib.Core.Path.{_≡_, refl, sym, _∙_}
-use native.Mathlib.Omega.{arith}
-use borrow.Author.Tests.{eq-eqb, ne-eqb}
 use Rattle.packets.specs.Parts.{partsAt}
 use borrow.Author.Needs.{needs}
 use Rattle.packets.proofs.records.parts_at.Statement.{statement}
@@ -16,6 +13,12 @@ add-two-at c = search needs
 
 two-at-requires : tie.Need-two-at-requires
 two-at-requires c κs = search needs
+
+add-two-at-2 : tie.Need-add-two-at-2
+add-two-at-2 c = search needs
+
+two-at-requires-2 : tie.Need-two-at-requires-2
+two-at-requires-2 c κs = search needs
 
 add-span-at : tie.Need-add-span-at
 add-span-at c = search needs
@@ -56,7 +59,8 @@ returns c =
       c .before .before .before .before .before .width-parts .ensures .is,
       c .before .before .before .before .before .before .before .span-at2 .ensures .is,
       c .before .before .before .before .before .before .before .before .before .span-at .ensures .is,
-      c .before .before .before .before .before .before .before .before .before .before .two-at .ensures .0,
+      c .before .before .before .before .before .before .before .before .before .before .two-at2 .ensures .0,
+      c .before .before .before .before .before .before .before .before .before .before .before .two-at .ensures .0,
     )
 
 pub parts-at-spec : {M : Type 1} → statement M
@@ -65,6 +69,8 @@ parts-at-spec =
     (tie.spec
     add-two-at
     two-at-requires
+    add-two-at-2
+    two-at-requires-2
     add-span-at
     span-at-requires
     add-span-at-2

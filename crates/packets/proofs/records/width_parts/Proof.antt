@@ -1,4 +1,3 @@
-use mathlib.Core.Path.{_≡_, refl, sym, _∙_}
 use native.Mathlib.Omega.{arith}
 use borrow.Author.Tests.{eq-eqb, ne-eqb}
 use Rattle.packets.specs.Parts.{widthAt}
@@ -19,7 +18,7 @@ add-t11 c = search needs
 returns : tie.Need-returns
 unfolding widthAt
 returns c = record {
-  is = rw (eq-eqb (c .before .before .before .args .kind) 2 (c .before .if1 .taken), c .two-at .ensures .0);
+  is = rw (eq-eqb (c .before .before .before .args .kind) 12 (c .before .if1 .taken), c .two-at .ensures .0);
   small = omega arith;
 }
 
@@ -39,10 +38,10 @@ returns-2 : tie.Need-returns-2
 unfolding widthAt
 returns-2 c = record {
   is = rw (
-    ne-eqb (c .before .before .before .before .before .before .args .kind) 2
+    ne-eqb (c .before .before .before .before .before .before .args .kind) 12
         (c .before .before .before .before .if1 .left),
     eq-eqb
-        (c .before .before .before .before .before .before .args .kind) 3 (c .before .before .before .if2 .taken),
+        (c .before .before .before .before .before .before .args .kind) 13 (c .before .before .before .if2 .taken),
     c .before .before .two-at2 .ensures .0,
     c .before .span-at .ensures .is,
   );
@@ -53,9 +52,9 @@ returns-3 : tie.Need-returns-3
 unfolding widthAt
 returns-3 c = record {
   is = rw (
-    ne-eqb (c .before .before .before .args .kind) 2 (c .before .if1 .left),
+    ne-eqb (c .before .before .before .args .kind) 12 (c .before .if1 .left),
     ne-eqb
-        (c .before .before .before .args .kind) 3 (c .if2 .left),
+        (c .before .before .before .args .kind) 13 (c .if2 .left),
   );
   small = omega arith;
 }

@@ -14,7 +14,7 @@ measured-at-requires c κs = search needs
 
 returns : tie.Need-returns
 unfolding extentAt
-returns c = rw (eq-eqb _ 3 (c .before .if1 .taken)) (c .measured-at .ensures)
+returns c = rw (eq-eqb _ 13 (c .before .if1 .taken)) (c .measured-at .ensures)
 
 rest-at-requires : tie.Need-rest-at-requires
 rest-at-requires c κs = search needs
@@ -25,7 +25,7 @@ returns-2 c =
     let if1 = c .before .before .before .if1 in
     let if2 = c .before .if2 in
     let rest-at = c .rest-at in
-    rw (ne-eqb _ 3 (if1 .left), eq-eqb _ 4 (if2 .taken)) (rest-at .ensures)
+    rw (ne-eqb _ 13 (if1 .left), eq-eqb _ 14 (if2 .taken)) (rest-at .ensures)
 
 fixed-bits-requires : tie.Need-fixed-bits-requires
 fixed-bits-requires c κs = search needs
@@ -36,7 +36,7 @@ returns-3 c =
     let if1 = c .before .before .before .if1 in
     let if2 = c .before .if2 in
     let fixed-bits = c .fixed-bits in
-    rw (ne-eqb _ 3 (if1 .left), ne-eqb _ 4 (if2 .left), fixed-bits .ensures .0)
+    rw (ne-eqb _ 13 (if1 .left), ne-eqb _ 14 (if2 .left), fixed-bits .ensures .0)
 
 pub extent-at-spec : {M : Type 1} → statement M
 extent-at-spec =

@@ -12,15 +12,15 @@ bits-at-requires c κs = search needs
 
 returns : tie.Need-returns
 unfolding numberOf
-returns c = rw (eq-eqb _ 2 (c .before .before .if1 .taken), le-leb _ 32 (c .before .if2 .taken)) (c .bits-at .ensures)
+returns c = rw (eq-eqb _ 12 (c .before .before .if1 .taken), le-leb _ 32 (c .before .if2 .taken)) (c .bits-at .ensures)
 
 returns-2 : tie.Need-returns-2
 unfolding numberOf
-returns-2 c = rw (eq-eqb _ 2 (c .before .if1 .taken), lt-leb _ 32 (c .if2 .left))
+returns-2 c = rw (eq-eqb _ 12 (c .before .if1 .taken), lt-leb _ 32 (c .if2 .left))
 
 returns-3 : tie.Need-returns-3
 unfolding numberOf
-returns-3 c = rw (ne-eqb _ 2 (c .if1 .left))
+returns-3 c = rw (ne-eqb _ 12 (c .if1 .left))
 
 pub number-of-spec : {M : Type 1} → statement M
 number-of-spec = tie.close (tie.spec bits-at-requires returns returns-2 returns-3)

@@ -105,7 +105,7 @@ returns-4 c =
           let rested : keepsRest (faces (f .judged .fields)) x ≡ false =
           not-flip (keepsRest (faces (f .judged .fields)) x) (sym (rest-is f k (now (a .line)) x e _
           (a .r .fields) v (a .p) p)
-          ∙ ap (λ (b : Bool). b && not (eqb (a .p .kind) 2 && eqb (a .p .condition .len) 0)) (sym (n .rested))
+          ∙ ap (λ (b : Bool). b && not (eqb (a .p .kind) 12 && eqb (a .p .condition .len) 0)) (sym (n .rested))
           ∙ sym (c .before .misplaced .ensures) ∙ c .if4 .taken) in
           sym (later-is f (a .r) x n true true true false shown unique typed rested)),
     )
@@ -132,7 +132,7 @@ returns-5 c =
           let rested : keepsRest (faces (f .judged .fields)) x ≡ true =
           not-flip (keepsRest (faces (f .judged .fields)) x) (sym (rest-is f k (now (a .line)) x e _
           (a .r .fields) v (a .p) p)
-          ∙ ap (λ (b : Bool). b && not (eqb (a .p .kind) 2 && eqb (a .p .condition .len) 0)) (sym (n .rested))
+          ∙ ap (λ (b : Bool). b && not (eqb (a .p .kind) 12 && eqb (a .p .condition .len) 0)) (sym (n .rested))
           ∙ sym (c .before .misplaced .ensures) ∙ c .if4 .left) in
           sym (later-is f (a .r) x n true true true true shown unique typed rested)),
     )

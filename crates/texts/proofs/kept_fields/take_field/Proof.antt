@@ -33,13 +33,13 @@ is-full-requires c κs = search needs
 
 too-many-requires : tie.Need-too-many-requires
 too-many-requires c κs =
-    let c1 = c .before .before .before .before .before in
+    let c1 = c .before .before .before .before .before .before in
     c1 .pre .0 .1
 
 returns : tie.Need-returns
 unfolding noteOf
 returns c =
-    let c1 = c .before .before .before .before .before .before in
+    let c1 = c .before .before .before .before .before .before .before in
     let r = c1 .args .r in
     rw (c .too-many .ensures) (
       taken-onward r at.FieldLine (note 4 0) refl (c1 .pre .0 .0),
@@ -70,7 +70,7 @@ parts-of-requires c κs =
     let c1 = c .before .before .before .before .before .before .before .before in
     let c2 = c1 .before in
     let c3 = c2 .before in
-    let c4 = c3 .before .before .before .before in
+    let c4 = c3 .before .before .before .before .before in
     let few = full-room (c4 .args .r) (sym (c3 .is-full .ensures) ∙ c2 .if1 .left) in (
       c4 .pre .0 .2,
       omega (
@@ -83,10 +83,10 @@ parts-of-requires c κs =
 
 refuse-line-requires : tie.Need-refuse-line-requires
 refuse-line-requires c κs =
-    let c1 = c .before .before .before .before .before .before .before .before .before .before .before .before
-    .before .before .before in
+    let c1 = c .before .before .before .before .before .before .before .before .before .before .before .before .before
+    .before .before in
     let c2 = c1 .before in
-    let c3 = c2 .before .before .before .before in (
+    let c3 = c2 .before .before .before .before .before in (
       c3 .pre .0 .0,
       c3 .pre .0 .1,
       full-room (c3 .args .r) (sym (c2 .is-full .ensures) ∙ c1 .if1 .left),
@@ -99,7 +99,7 @@ returns-2 c =
     let c1 = c .before .before .before .before .before .before in
     let c2 = c1 .before .before .before .before .before .before .before .before .before .before in
     let c3 = c2 .before in
-    let c4 = c3 .before .before .before .before in
+    let c4 = c3 .before .before .before .before .before in
     let r = c4 .args .r in
     let l = now (c4 .args .line) in
     let p = c1 .parts-of .result in
@@ -131,13 +131,13 @@ slice-aggregate-take-form-3 c = search needs
 
 take-form-requires : tie.Need-take-form-requires
 take-form-requires c κs =
-    let c1 = c .before .before .before .before .before .before .before in
+    let c1 = c .before .before .before .before .before .before .before .before in
     let c2 = c1 .before in
     let c3 = c2 .before in
     let c4 = c3 .before .before .before .before .before in
     let c5 = c4 .before .before .before .before .before .before .before .before .before .before in
     let c6 = c5 .before in
-    let c7 = c6 .before .before .before .before in
+    let c7 = c6 .before .before .before .before .before in
     let r = c7 .args .r in
     let l = now (c7 .args .line) in
     let p = c4 .parts-of .result in
@@ -160,22 +160,26 @@ take-form-requires c κs =
 same-length : tie.Need-same-length
 same-length c = search needs
 
+same-length-2 : tie.Need-same-length-2
+same-length-2 c = search needs
+
 returns-3 : tie.Need-returns-3
 returns-3 c =
-    let c1 = c .before .before .before .before .before .before .before .before .before .before in
+    let c1 = c .before .before .before .before .before .before .before .before .before .before .before .before .before
+    in
     let c2 = c1 .before in
     let c3 = c2 .before in
     let c4 = c3 .before .before .before .before .before in
     let c5 = c4 .before .before .before .before .before .before .before .before .before .before in
     let c6 = c5 .before in
-    let c7 = c6 .before .before .before .before in
+    let c7 = c6 .before .before .before .before .before in
     let r = c7 .args .r in
     let l = now (c7 .args .line) in
     let p = c4 .parts-of .result in
     let o = c4 .parts-of .ensures in
     let x = form-some _ (r .fields) l (readForm l) _ p (o .1 .0) (c3 .if2 .left) in
     let small = sym (c2 .sizes-kept .ensures _ (r .fields) l (x .0) _ (x .2)) ∙ c1 .if3 .taken in
-    let q = c .before .before .take-form .ensures in (
+    let q = c .before .before .before .before .take-form .ensures in (
       q .0,
       (
         (
@@ -190,10 +194,10 @@ returns-3 c =
 
 refuse-line-requires-2 : tie.Need-refuse-line-requires-2
 refuse-line-requires-2 c κs =
-    let c1 = c .before .before .before .before .before .before .before .before .before .before .before .before
-    .before .before .before .before .before in
+    let c1 = c .before .before .before .before .before .before .before .before .before .before .before .before .before
+    .before .before .before .before in
     let c2 = c1 .before in
-    let c3 = c2 .before .before .before .before in (
+    let c3 = c2 .before .before .before .before .before in (
       c3 .pre .0 .0,
       c3 .pre .0 .1,
       full-room (c3 .args .r) (sym (c2 .is-full .ensures) ∙ c1 .if1 .left),
@@ -207,7 +211,7 @@ returns-4 c =
     let c2 = c1 .before .before .before .before .before in
     let c3 = c2 .before .before .before .before .before .before .before .before .before .before in
     let c4 = c3 .before in
-    let c5 = c4 .before .before .before .before in
+    let c5 = c4 .before .before .before .before .before in
     let r = c5 .args .r in
     let l = now (c5 .args .line) in
     let p = c2 .parts-of .result in
@@ -249,6 +253,7 @@ take-field-spec =
     slice-aggregate-take-form-3
     take-form-requires
     same-length
+    same-length-2
     returns-3
     refuse-line-requires-2
     returns-4)

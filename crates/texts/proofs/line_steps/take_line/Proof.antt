@@ -28,7 +28,7 @@ enum-told c = search needs
 
 take-opening-requires : tie.Need-take-opening-requires
 take-opening-requires c κs =
-    let c1 = c .before .before .before .before .before .before in (
+    let c1 = c .before .before .before .before .before .before .before in (
       c1 .pre .0 .0,
       c1 .pre .0 .1,
       omega (arith, c1 .pre .0 .4),
@@ -38,40 +38,40 @@ enum-told-2 : tie.Need-enum-told-2
 enum-told-2 c = search needs
 
 expect-requires : tie.Need-expect-requires
-expect-requires c κs = c .before .before .before .before .before .pre .0 .1
+expect-requires c κs = c .before .before .before .before .before .before .pre .0 .1
 
 enum-told-3 : tie.Need-enum-told-3
 enum-told-3 c = search needs
 
 take-ruler-requires : tie.Need-take-ruler-requires
 take-ruler-requires c κs =
-    let c1 = c .before .before .before .before .before in
+    let c1 = c .before .before .before .before .before .before in
     (c1 .pre .0 .0, c1 .pre .0 .1)
 
 enum-told-4 : tie.Need-enum-told-4
 enum-told-4 c = search needs
 
 is-units-requires : tie.Need-is-units-requires
-is-units-requires c κs = c .before .before .before .before .before .pre .0 .0 .width
+is-units-requires c κs = c .before .before .before .before .before .before .pre .0 .0 .width
 
 expect-requires-2 : tie.Need-expect-requires-2
-expect-requires-2 c κs = c .before .before .before .before .before .before .pre .0 .1
+expect-requires-2 c κs = c .before .before .before .before .before .before .before .pre .0 .1
 
 enum-told-5 : tie.Need-enum-told-5
 enum-told-5 c = search needs
 
 is-border-requires : tie.Need-is-border-requires
-is-border-requires c κs = c .before .before .before .before .before .pre .0 .0 .width
+is-border-requires c κs = c .before .before .before .before .before .before .pre .0 .0 .width
 
 expect-requires-3 : tie.Need-expect-requires-3
-expect-requires-3 c κs = c .before .before .before .before .before .before .pre .0 .1
+expect-requires-3 c κs = c .before .before .before .before .before .before .before .pre .0 .1
 
 enum-told-6 : tie.Need-enum-told-6
 enum-told-6 c = search needs
 
 take-row-requires : tie.Need-take-row-requires
 take-row-requires c κs =
-    let c1 = c .before .before .before .before .before .before in (
+    let c1 = c .before .before .before .before .before .before .before in (
       c1 .pre .0 .0,
       c1 .pre .0 .1,
       c1 .pre .0 .3,
@@ -81,17 +81,17 @@ enum-told-7 : tie.Need-enum-told-7
 enum-told-7 c = search needs
 
 is-border-requires-2 : tie.Need-is-border-requires-2
-is-border-requires-2 c κs = c .before .before .before .before .before .pre .0 .0 .width
+is-border-requires-2 c κs = c .before .before .before .before .before .before .pre .0 .0 .width
 
 expect-requires-4 : tie.Need-expect-requires-4
-expect-requires-4 c κs = c .before .before .before .before .before .before .pre .0 .1
+expect-requires-4 c κs = c .before .before .before .before .before .before .before .pre .0 .1
 
 enum-told-8 : tie.Need-enum-told-8
 enum-told-8 c = search needs
 
 take-row-or-blank-requires : tie.Need-take-row-or-blank-requires
 take-row-or-blank-requires c κs =
-    let c1 = c .before .before .before .before .before .before in (
+    let c1 = c .before .before .before .before .before .before .before in (
       c1 .pre .0 .0,
       c1 .pre .0 .1,
       c1 .pre .0 .3,
@@ -107,20 +107,21 @@ same-words-requires : tie.Need-same-words-requires
 same-words-requires c κs = search needs
 
 expect-requires-5 : tie.Need-expect-requires-5
-expect-requires-5 c κs = c .before .before .before .before .before .before .before .pre .0 .1
+expect-requires-5 c κs = c .before .before .before .before .before .before .before .before .pre .0 .1
 
 enum-told-10 : tie.Need-enum-told-10
 enum-told-10 c = search needs
 
 expect-requires-6 : tie.Need-expect-requires-6
-expect-requires-6 c κs = c .before .before .before .before .before .pre .0 .1
+expect-requires-6 c κs = c .before .before .before .before .before .before .pre .0 .1
 
 enum-told-11 : tie.Need-enum-told-11
 enum-told-11 c = search needs
 
 take-field-requires : tie.Need-take-field-requires
 take-field-requires c κs =
-    let c1 = c .before .before .before .before .before .before .before .before .before .before .before .before in
+    let c1 = c .before .before .before .before .before .before .before .before .before .before .before .before .before
+    .before in
     c1 .pre
 
 enum-told-12 : tie.Need-enum-told-12
@@ -128,7 +129,8 @@ enum-told-12 c = search needs
 
 take-field-requires-2 : tie.Need-take-field-requires-2
 take-field-requires-2 c κs =
-    let c1 = c .before .before .before .before .before .before .before .before .before .before .before .before in
+    let c1 = c .before .before .before .before .before .before .before .before .before .before .before .before .before
+    .before in
     c1 .pre
 
 enum-told-13 : tie.Need-enum-told-13
@@ -141,15 +143,15 @@ returns : tie.Need-returns
 unfolding fold.linedAt
 returns c =
     let c1 = c .before .before .before .before in
-    let c2 = c1 .before .before .before .before .before in
+    let c2 = c1 .before .before .before .before .before .before in
     let held = at-stage (c2 .args .r) (now (c2 .args .line)) at.Opening (c1 .enum-told .given .1) in
     let q = c .before .before .take-opening .ensures in
-    (q .0, ((refl, search needs, held (λ f k e h. q .1 _ f _ _ k (ap isHead e) h)), c2 .pre .1))
+    (q .0, ((refl, search needs, held (λ f k e h. q .1 _ _ f _ _ k (ap isHead e) h)), c2 .pre .1))
 
 returns-2 : tie.Need-returns-2
 unfolding fold.linedAt
 returns-2 c =
-    let c1 = c .before .before .before .before .before .before in
+    let c1 = c .before .before .before .before .before .before .before in
     let r = c1 .args .r in
     let l = now (c1 .args .line) in
     let told = c .before .enum-told2 .given .1 in
@@ -159,7 +161,7 @@ returns-2 c =
 returns-3 : tie.Need-returns-3
 unfolding fold.linedAt
 returns-3 c =
-    let c1 = c .before .before .before .before .before .before in
+    let c1 = c .before .before .before .before .before .before .before in
     let held = at-stage (c1 .args .r) (now (c1 .args .line)) at.TensRuler (c .before .enum-told3 .given .1) in
     let q = c .take-ruler .ensures in
     (q .0, ((refl, refl, held (λ f k e h. q .1 _ _ f _ _ k (ap isHead e) h)), c1 .pre .1))
@@ -167,7 +169,7 @@ returns-3 c =
 returns-4 : tie.Need-returns-4
 unfolding fold.linedAt
 returns-4 c =
-    let c1 = c .before .before .before .before .before .before .before in
+    let c1 = c .before .before .before .before .before .before .before .before in
     let r = c1 .args .r in
     let l = now (c1 .args .line) in
     let told = c .before .before .enum-told4 .given .1 in
@@ -178,7 +180,7 @@ returns-4 c =
 returns-5 : tie.Need-returns-5
 unfolding fold.linedAt
 returns-5 c =
-    let c1 = c .before .before .before .before .before .before .before in
+    let c1 = c .before .before .before .before .before .before .before .before in
     let r = c1 .args .r in
     let l = now (c1 .args .line) in
     let told = c .before .before .enum-told5 .given .1 in
@@ -193,7 +195,7 @@ returns-6 : tie.Need-returns-6
 unfolding fold.linedAt
 returns-6 c =
     let c1 = c .before .before .before .before in
-    let c2 = c1 .before .before .before .before .before in
+    let c2 = c1 .before .before .before .before .before .before in
     let held = at-stage (c2 .args .r) (now (c2 .args .line)) at.FirstRow (c1 .enum-told6 .given .1) in
     let q = c .before .before .take-row .ensures in
     (q .0, ((search needs, refl, held (λ f k e h. q .1 _ f _ _ k (ap isHead e) h)), c2 .pre .1))
@@ -201,7 +203,7 @@ returns-6 c =
 returns-7 : tie.Need-returns-7
 unfolding fold.linedAt
 returns-7 c =
-    let c1 = c .before .before .before .before .before .before .before in
+    let c1 = c .before .before .before .before .before .before .before .before in
     let r = c1 .args .r in
     let l = now (c1 .args .line) in
     let told = c .before .before .enum-told7 .given .1 in
@@ -216,7 +218,7 @@ returns-8 : tie.Need-returns-8
 unfolding fold.linedAt
 returns-8 c =
     let c1 = c .before .before .before .before in
-    let c2 = c1 .before .before .before .before .before in
+    let c2 = c1 .before .before .before .before .before .before in
     let held = at-stage (c2 .args .r) (now (c2 .args .line)) at.RowOrBlank (c1 .enum-told8 .given .1) in
     let q = c .before .before .take-row-or-blank .ensures in
     (q .0, ((search needs, refl, held (λ f k e h. q .1 _ f _ _ k (ap isHead e) h)), c2 .pre .1))
@@ -225,7 +227,7 @@ returns-9 : tie.Need-returns-9
 unfolding fold.linedAt
 returns-9 c =
     let c1 = c .before .before .before in
-    let c2 = c1 .before .before .before .before .before in
+    let c2 = c1 .before .before .before .before .before .before in
     let r = c2 .args .r in
     let l = now (c2 .args .line) in
     let told = c1 .enum-told9 .given .1 in
@@ -236,7 +238,7 @@ returns-9 c =
 returns-10 : tie.Need-returns-10
 unfolding fold.linedAt
 returns-10 c =
-    let c1 = c .before .before .before .before .before .before in
+    let c1 = c .before .before .before .before .before .before .before in
     let r = c1 .args .r in
     let l = now (c1 .args .line) in
     let told = c .before .enum-told10 .given .1 in
@@ -252,10 +254,11 @@ same-length-5 c = search needs
 returns-11 : tie.Need-returns-11
 unfolding fold.linedAt
 returns-11 c =
-    let c1 = c .before .before .before .before .before .before .before .before .before .before in
-    let c2 = c1 .before .before .before .before .before in
+    let c1 = c .before .before .before .before .before .before .before .before .before .before .before .before .before
+    in
+    let c2 = c1 .before .before .before .before .before .before in
     let held = at-stage (c2 .args .r) (now (c2 .args .line)) at.FirstField (c1 .enum-told11 .given .1) in
-    let q = c .before .before .take-field .ensures in
+    let q = c .before .before .before .before .take-field .ensures in
     (q .0, ((refl, q .1 .0 .0, held (λ f k e h. q .1 .0 .1 f k h)), q .1 .1))
 
 same-length-6 : tie.Need-same-length-6
@@ -264,19 +267,26 @@ same-length-6 c = search needs
 same-length-7 : tie.Need-same-length-7
 same-length-7 c = search needs
 
+same-length-8 : tie.Need-same-length-8
+same-length-8 c = search needs
+
+same-length-9 : tie.Need-same-length-9
+same-length-9 c = search needs
+
 returns-12 : tie.Need-returns-12
 unfolding fold.linedAt
 returns-12 c =
-    let c1 = c .before .before .before .before .before .before .before .before .before .before in
-    let c2 = c1 .before .before .before .before .before in
+    let c1 = c .before .before .before .before .before .before .before .before .before .before .before .before .before
+    in
+    let c2 = c1 .before .before .before .before .before .before in
     let held = at-stage (c2 .args .r) (now (c2 .args .line)) at.FieldLine (c1 .enum-told12 .given .1) in
-    let q = c .before .before .take-field2 .ensures in
+    let q = c .before .before .before .before .take-field2 .ensures in
     (q .0, ((refl, q .1 .0 .0, held (λ f k e h. q .1 .0 .1 f k h)), q .1 .1))
 
 returns-13 : tie.Need-returns-13
 unfolding fold.linedAt
 returns-13 c =
-    let c1 = c .before .before .before .before .before in
+    let c1 = c .before .before .before .before .before .before in
     let held = at-stage (c1 .args .r) (now (c1 .args .line)) at.Lost (c .enum-told13 .given .1) in
     ((c1 .pre .0 .0, omega arith), ((refl, refl, held (λ f k e h. h)), c1 .pre .1))
 
@@ -289,4 +299,5 @@ take-line-spec =
     enum-told-9 slice-aggregate-same-words same-words-requires expect-requires-5 enum-told-10 expect-requires-6
     enum-told-11 take-field-requires enum-told-12 take-field-requires-2 enum-told-13 same-length returns returns-2
     returns-3 returns-4 returns-5 same-length-2 returns-6 returns-7 same-length-3 returns-8 returns-9 returns-10
-    same-length-4 same-length-5 returns-11 same-length-6 same-length-7 returns-12 returns-13)
+    same-length-4 same-length-5 same-length-6 returns-11 same-length-7 same-length-8 same-length-9 returns-12
+    returns-13)

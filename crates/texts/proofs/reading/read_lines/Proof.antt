@@ -7,7 +7,7 @@ use lib.ListN.{length, drop, length-drop}
 use lib.Seq.{length-take-le}
 use Rattle.texts.specs.HeldNames.{namesOf}
 use Rattle.texts.specs.NameStarts.{Starts}
-use Rattle.texts.specs.States.{Room}
+use Rattle.texts.specs.States.{Room, area}
 use Rattle.texts.proofs.LineWalk.{
   Walking,
   room-begun,
@@ -28,27 +28,28 @@ use Rattle.texts.proofs.text_bytes.line_end.Reads as line-end-reads
 use Rattle.texts.proofs.text_ends.end_text.Reads as end-text-reads
 
 abbrev Inv-loop : tie.InvT-loop
-Inv-loop text out₀ cells₀ table₀ labels₀ shorts₀ words₀ marks₀ starts₀ r₀ at₀ out cells table labels shorts words
-    marks starts r at =
+Inv-loop text out₀ cells₀ table₀ counts₀ labels₀ shorts₀ words₀ marks₀ starts₀ r₀ at₀ out cells table counts labels
+    shorts words marks starts r at =
     (at ≤ length text) ×
     (r .lines ≤ at) ×
     (out ≡ out₀) ×
     (length cells ≡ length cells₀) ×
     (length table ≡ length table₀) ×
     Room r ×
-    Walking text at r cells table labels (namesOf shorts words marks) ×
-    Starts starts shorts words
+    Walking text at r cells (area table counts) labels (namesOf shorts words marks) ×
+    Starts starts shorts words ×
+    (length counts ≡ length counts₀)
 
 abbrev μ-loop : tie.MeasureT-loop
-μ-loop text out₀ cells₀ table₀ labels₀ shorts₀ words₀ marks₀ starts₀ r₀ at₀ out cells table labels shorts words marks
-    starts r at = length text - at
+μ-loop text out₀ cells₀ table₀ counts₀ labels₀ shorts₀ words₀ marks₀ starts₀ r₀ at₀ out cells table counts labels
+    shorts words marks starts r at = length text - at
 
 begin-requires : tie.Need-begin-requires Inv-loop μ-loop
 begin-requires c κs = search needs
 
 loop-holds : tie.Need-loop-holds Inv-loop μ-loop
 loop-holds c =
-    let c1 = c .before .before .before .before .before in
+    let c1 = c .before .before .before .before .before .before in
     let p = c1 .pre in
     rw (c .begin .ensures) (
       omega arith,
@@ -57,8 +58,9 @@ loop-holds c =
       refl,
       refl,
       room-begun,
-      walking-start (now (c1 .args .text)) _ _ _ _ (p .3),
-      p .4,
+      walking-start (now (c1 .args .text)) _ _ _ _ _ (p .3) (p .4),
+      p .5,
+      refl,
     )
 
 line-end-requires : tie.Need-line-end-requires Inv-loop μ-loop
@@ -66,8 +68,8 @@ line-end-requires c κs = search needs
 
 end-text-requires : tie.Need-end-text-requires Inv-loop μ-loop
 end-text-requires c κs =
-    let c1 = c .before .before .before .before in
-    let c2 = c1 .before .before .before .before .before .before in
+    let c1 = c .before .before .before .before .before in
+    let c2 = c1 .before .before .before .before .before .before .before in
     let p = c2 .pre in
     let v = c1 .loop in (
       v .inv .5,
@@ -86,10 +88,10 @@ same-length-3 c = search needs
 
 returns : tie.Need-returns Inv-loop μ-loop
 returns c =
-    let c1 = c .before .before .before .before .before in
+    let c1 = c .before .before .before .before .before .before in
     let c2 = c1 .before in
     let c3 = c2 .before in
-    let c4 = c3 .before .before .before .before .before .before in
+    let c4 = c3 .before .before .before .before .before .before .before in
     let t = now (c4 .args .text) in
     let p = c4 .pre in
     let v = c3 .loop in
@@ -112,11 +114,17 @@ same-length-5 c = search needs
 same-length-6 : tie.Need-same-length-6 Inv-loop μ-loop
 same-length-6 c = search needs
 
+same-length-7 : tie.Need-same-length-7 Inv-loop μ-loop
+same-length-7 c = search needs
+
+same-length-8 : tie.Need-same-length-8 Inv-loop μ-loop
+same-length-8 c = search needs
+
 returns-2 : tie.Need-returns-2 Inv-loop μ-loop
 returns-2 c =
     let c1 = c .before .before .before in
     let c2 = c1 .before in
-    let c3 = c2 .before .before .before .before .before .before in
+    let c3 = c2 .before .before .before .before .before .before .before in
     let t = now (c3 .args .text) in
     let p = c3 .pre in
     let v = c2 .loop in
@@ -136,9 +144,9 @@ part-take-line-end c = search needs
 
 take-line-requires : tie.Need-take-line-requires Inv-loop μ-loop
 take-line-requires c κs =
-    let c1 = c .before .before .before .before .before .before .before .before .before .before .before in
+    let c1 = c .before .before .before .before .before .before .before .before .before .before .before .before in
     let c2 = c1 .before in
-    let c3 = c2 .before .before .before .before .before .before in
+    let c3 = c2 .before .before .before .before .before .before .before in
     let t = now (c3 .args .text) in
     let p = c3 .pre in
     let v = c2 .loop in
@@ -157,17 +165,17 @@ take-line-requires c κs =
 
 add-at : tie.Need-add-at Inv-loop μ-loop
 add-at c =
-    let c1 = c .before .before .before .before .before .before .before .before .before .before .before .before
-    .before .before .before .before in
-    let c2 = c1 .before .before .before .before .before .before .before in
+    let c1 = c .before .before .before .before .before .before .before .before .before .before .before .before .before
+    .before .before .before .before .before .before in
+    let c2 = c1 .before .before .before .before .before .before .before .before in
     let q = c1 .line-end .ensures .0 .1 in
     let p = c2 .pre in
     omega (arith, q, p .0)
 
 loop-less : tie.Need-loop-less Inv-loop μ-loop
 loop-less c =
-    let c1 = c .before .before .before .before .before .before .before .before .before .before .before .before
-    .before .before .before in
+    let c1 = c .before .before .before .before .before .before .before .before .before .before .before .before .before
+    .before .before .before .before .before in
     let c2 = c1 .before in
     let q = c2 .line-end .ensures .0 in
     let n = c1 .if1 .left in
@@ -175,12 +183,12 @@ loop-less c =
 
 loop-again : tie.Need-loop-again Inv-loop μ-loop
 loop-again c =
-    let c1 = c .before .before .before .before in
-    let c2 = c1 .before .before .before .before .before .before .before .before .before in
+    let c1 = c .before .before .before .before .before .before in
+    let c2 = c1 .before .before .before .before .before .before .before .before .before .before in
     let c3 = c2 .before .before in
     let c4 = c3 .before in
     let c5 = c4 .before in
-    let c6 = c5 .before .before .before .before .before .before in
+    let c6 = c5 .before .before .before .before .before .before .before in
     let t = now (c6 .args .text) in
     let v = c5 .loop in
     let e = c4 .line-end in
@@ -197,6 +205,7 @@ loop-again c =
       walking-next t (v .at) (e .result) (v .r) (v .inv .6) (e .ensures .1) lt f
           (c1 .take-line .result) (q .1 .0),
       q .1 .1,
+      (let k = c1 .take-line .kept .1 .1 .1 .1 .0 in omega (arith, k, v .inv .8)),
     )
 
 pub read-lines-spec : {M : Type 1} → statement M
@@ -212,11 +221,13 @@ read-lines-spec =
     same-length
     same-length-2
     same-length-3
+    same-length-4
     returns
     shared-slice-read-if2
-    same-length-4
     same-length-5
     same-length-6
+    same-length-7
+    same-length-8
     returns-2
     sub-take-line
     part-take-line-start

@@ -1,0 +1,10 @@
+-- ScanLaws    from one code to the next, and stored trees scanned
+-- TallyLaws   what is counted at each index
+-- NumberLaws  numbers in two bytes, and numbers put into records
+-- Counted     fields counted one by one, and the numbers that are put by the counts
+-- RuledOut    no promise allows an answer of specs/Wrong
+pub mod ScanLaws
+pub mod TallyLaws
+pub mod NumberLaws
+pub mod Counted
+pub mod RuledOut

@@ -1,0 +1,37 @@
+-- No promise allows an answer of specs/Wrong: each has other numbers, by one computation.
+use mathlib.Core.Path.{_≡_, refl}
+use mathlib.Core.Bool.{Bool, true, cond, not}
+use mathlib.Core.List.{List, [], _∷_}
+use Prim.Native.Nat.{ℕ}
+use Rattle.base.specs.Lists.{all, any, joined, same}
+use Rattle.base.proofs.Lists.{every-passes, other-numbers}
+use Rattle.rules.specs.Trees.{le2}
+use Rattle.references.specs.Scans.{behind, codesFrom, indexIn, references, hasAdded}
+use Rattle.references.specs.Tallies.{tallied}
+use Rattle.laws.specs.Places.{twoAt}
+use Rattle.references.specs.Numbers.{numbered}
+use Rattle.references.specs.Wrong.{Claim, tallies, finds, numbers, Claimed, AllFalse, wrong}
+
+-- ── answers as numbers ──
+
+abbrev flag : Bool → List ℕ
+flag b = cond b 1 0 ∷ []
+
+abbrev bytes : List ℕ → List ℕ
+bytes l = l
+
+-- ── other numbers ──
+
+abbrev differs : Claim → Bool
+differs (tallies e own before after) = not (same after (tallied own before (references e)))
+differs (finds e r) = not (same (flag r) (flag (hasAdded e)))
+differs (numbers s n counts after) = not (same after (numbered n counts s))
+
+one-false : (c : Claim) → differs c ≡ true → Claimed c → ⊥
+one-false (tallies e own before after) d = other-numbers bytes after (tallied own before (references e)) d
+one-false (finds e r) d = other-numbers flag r (hasAdded e) d
+one-false (numbers s n counts after) d = other-numbers bytes after (numbered n counts s) d
+
+pub ruled-out : AllFalse wrong
+unfolding all any joined same le2 behind codesFrom indexIn references hasAdded tallied twoAt numbered
+ruled-out = every-passes differs one-false wrong refl
