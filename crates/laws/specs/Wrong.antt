@@ -313,8 +313,12 @@ wrongAnswers =
     ∷ tellsKind bladeReport 0 (accepted 1)
     ∷ tellsKind bladeReport 7 (accepted 5)
     ∷ tellsKind bladeReport 0 (refused 30 0)
+    ∷ []
+
+abbrev wrongShorts : List Claim
+wrongShorts =
     -- a short name: the empty part; the label; the neighbour's; its own bytes from elsewhere; the label for none
-    ∷ shorts bladeReport 0 [] 0
+    shorts bladeReport 0 [] 0
     ∷ shorts bladeReport 0 (bytes "Version") 30
     ∷ shorts bladeReport 0 (bytes "L") 71
     ∷ shorts bladeReport 0 (bytes "V") 30
@@ -323,9 +327,13 @@ wrongAnswers =
     ∷ placesShort bladeReport 0 (partFrom 0 0)
     ∷ placesShort bladeReport 0 (partFrom 37 3)
     ∷ placesShort bladeReport 3 (partFrom 123 0)
+    ∷ []
+
+abbrev wrongPartly : List Claim
+wrongPartly =
     -- read as far as it goes: nothing written; the refused field counted; its numbers written, also where it breaks its
     -- constraint; accepted; nothing where bits are left over
-    ∷ readsPartly bladeReport m3 (refused 24 7) lentRun 0
+    readsPartly bladeReport m3 (refused 24 7) lentRun 0
     ∷ readsPartly bladeReport m3 (refused 24 7) (runOf m1Six) 7
     ∷ readsPartly bladeReport m3 (refused 24 7) (runOf (m1Six ++ (absent ∷ []))) 6
     ∷ readsPartly bladeReport (0x55 ∷ 0x07 ∷ []) (refused 25 3)
@@ -337,4 +345,5 @@ wrongAnswers =
 abbrev pub wrong : List Claim
 wrong =
     wrongTables
-    ++ (wrongReadings ++ (wrongListings ++ (wrongParts ++ (wrongLookups ++ (wrongLabels ++ wrongAnswers)))))
+    ++ (wrongReadings ++ (wrongListings ++ (wrongParts ++ (wrongLookups ++ (wrongLabels
+    ++ (wrongAnswers ++ (wrongShorts ++ wrongPartly)))))))

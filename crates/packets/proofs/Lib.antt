@@ -4,7 +4,8 @@
 -- TreeValues                        a stored tree's value
 -- PartsLaws, RecordLaws             the parts of a record and the field stored there
 -- FieldBounds, TableHead            sizes of a field within the limits; a stored table's first record
--- FieldSteps, WalkSteps, NameSteps, CountSteps, TableSteps, RightSteps   what the code that checks a table is told at its steps
+-- FieldSteps, WalkSteps, NameSteps, CountSteps   what the code that checks a table's fields is told at its steps
+-- TableSteps, RightSteps            and the code that checks a whole table
 -- PartBytes, FieldParts, FieldTests, FieldOrder  a field's record: tests and rules
 -- WalkLaws, NameLaws, CountLaws, TableParts, TableLaws   all fields, names, numbers, the whole table: tests and rules
 -- BitLaws, StepLaws, PacketWalk     bits, one field of a packet, and all

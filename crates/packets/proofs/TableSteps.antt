@@ -50,6 +50,10 @@ head-is s h =
       name = and-right (between 1 (twoAt s 6) fieldsMost) _ d;
     }
 
+-- the field records begin within the table
+pub head-inside : (s : List ℕ) → headTest s ≡ true → (n : ℕ) → n ≡ twoAt s 0 → n ≤ length s
+head-inside s h n e = let is = head-is s h in omega (arith, is .size, is .end, e)
+
 pub row-positive : (w : ℕ) → isRowWidth w ≡ true → 0 < w
 row-positive w h =
     or-true (eqb w 8) (eqb w 16 || eqb w 32)

@@ -34,7 +34,7 @@ use Rattle.texts.specs.States.{Area, plainField, isShortRecord, Counts, 
 use Rattle.texts.specs.declared.notes.Note.{Note}
 use Rattle.texts.specs.declared.states.Stage.the-variants as at
 use Rattle.texts.specs.declared.states.Reading.{Reading}
-use Rattle.texts.proofs.StateSteps.{next-line}
+use Rattle.texts.proofs.StateSteps.{records-kept, next-line}
 use Rattle.texts.proofs.HeldArrays.{named-front, named-face}
 use Rattle.texts.proofs.Holding.{writes}
 use Rattle.texts.proofs.LineForms.{named-kept}
@@ -100,16 +100,10 @@ module _ (f : fold.Found) (r : Reading) {cells : List ℕ} {table : Area} {label
       next = h .slots .next
           ∙ ap (λ (l : List (Field ℕ)). length (joined storedSlot (take (length l) (f .cells)))) (sym e);
     };
-    records = record {
-      fields = h .records .fields;
-      stands = record {
-        seen = h .records .stands .seen ∙ ap faces (sym e);
-        exact = λ z. h .records .stands .exact (low z) ∙ sym e;
-      };
-      stored = h .records .stored;
-      end = h .records .end;
-      numbers = h .records .numbers;
-    };
+    records = records-kept (h .records) (record {
+      seen = h .records .stands .seen ∙ ap faces (sym e);
+      exact = λ z. h .records .stands .exact (low z) ∙ sym e;
+    }) refl refl;
     named = subst (λ (l : List (Field ℕ)). Named (faces l) labels names) (sym e) (h .named);
   }
 

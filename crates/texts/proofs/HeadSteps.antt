@@ -30,7 +30,7 @@ use Rattle.texts.specs.declared.states.Reading.{Reading}
 use Rattle.writing.specs.Puts.{placed, put}
 use Rattle.writing.proofs.PutLaws.{put-writes}
 use Rattle.texts.proofs.FrameLeaves.{name-short, take-rest}
-use Rattle.texts.proofs.StateSteps.{next-line}
+use Rattle.texts.proofs.StateSteps.{records-kept, next-line}
 
 -- ── the opening line ──
 
@@ -174,13 +174,7 @@ module _ (f : fold.Found) (r : Reading) {cells : List ℕ} {table : Area} {label
       lowest = h .counts .lowest;
     };
     slots = record { stored = h .slots .stored; end = h .slots .end; next = h .slots .next };
-    records = record {
-      fields = h .records .fields;
-      stands = h .records .stands;
-      stored = h .records .stored;
-      end = h .records .end;
-      numbers = h .records .numbers;
-    };
+    records = records-kept (h .records) (h .records .stands) refl refl;
     named = h .named;
   }
 

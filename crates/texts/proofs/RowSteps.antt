@@ -30,7 +30,7 @@ use Rattle.texts.specs.declared.slots.Rowed.the-variants as rowed
 use Rattle.texts.specs.States.{note, changed, withHead, slotMost, Area, Holds}
 use Rattle.texts.specs.declared.states.Stage.the-variants as at
 use Rattle.texts.specs.declared.states.Reading.{Reading}
-use Rattle.texts.proofs.StateSteps.{next-line}
+use Rattle.texts.proofs.StateSteps.{records-kept, next-line}
 
 -- ── how long stored cells are ──
 
@@ -146,13 +146,7 @@ module _ (f : fold.Found) (r : Reading) {cells after : List ℕ} {table : Area} 
               omega (arith, writes .end, e, q, m));
           next = first-cell (f .cells ++ slotsIn row);
         };
-        records = record {
-          fields = h .records .fields;
-          stands = h .records .stands;
-          stored = h .records .stored;
-          end = h .records .end;
-          numbers = h .records .numbers;
-        };
+        records = records-kept (h .records) (h .records .stands) refl refl;
         named = h .named;
       })
 
@@ -183,15 +177,9 @@ module _ (f : fold.Found) (r : Reading) {cells after : List ℕ} {table : Area} 
           end = h .slots .end;
           next = h .slots .next;
         };
-        records = record {
-          fields = h .records .fields;
-          stands = record {
-            seen = h .records .stands .seen;
-            exact = λ e. absurd (Option·none-ne-some (refused 4 0) (sym e));
-          };
-          stored = h .records .stored;
-          end = h .records .end;
-          numbers = h .records .numbers;
-        };
+        records = records-kept (h .records) (record {
+          seen = h .records .stands .seen;
+          exact = λ e. absurd (Option·none-ne-some (refused 4 0) (sym e));
+        }) refl refl;
         named = h .named;
       })

@@ -14,8 +14,8 @@ use Rattle.text_laws.specs.Fold as fold
 use Rattle.texts.specs.HeldNames.{Names}
 use Rattle.texts.specs.Noted.{noteOf}
 use Rattle.texts.specs.States.{note, changed, madeWrong, expected, isTold, Room, Taken}
-use Rattle.texts.specs.States.{stageOf, Area, Holds, LineStep}
-use Rattle.text_laws.specs.Steady.{Steady}
+use Rattle.texts.specs.States.{stageOf, Area, Records, Holds, LineStep}
+use Rattle.text_laws.specs.Steady.{StandIn, Steady}
 use Rattle.texts.specs.declared.notes.Note.{Note}
 use Rattle.texts.specs.declared.states.Stage.{Stage}
 use Rattle.texts.specs.declared.states.Stage.the-variants as at
@@ -67,6 +67,17 @@ taken-expect false r s h = taken-wrong r h
 
 -- ── what is held ──
 
+-- the records, where no byte of them changed
+pub records-kept : {f g : fold.Found} {r q : Reading} {table : Area} (h : Records f r table)
+    → StandIn (g .judged) (h .fields) → g .name ≡ f .name → q .end ≡ r .end → Records g q table
+records-kept h stands name end = record {
+  fields = h .fields;
+  stands = stands;
+  stored = rw (name, end) (h .stored);
+  end = rw (name, end) (h .end);
+  numbers = h .numbers;
+}
+
 module _ (f : fold.Found) (r : Reading) {cells : List ℕ} {table : Area} {labels : List (List ℕ)} {names : Names}
     (h : Holds f r cells table labels names) where
   pub next-line : r .lines + 1 ≡ suc (f .lines)
@@ -88,13 +99,7 @@ module _ (f : fold.Found) (r : Reading) {cells : List ℕ} {table : Area} {label
       lowest = h .counts .lowest;
     };
     slots = record { stored = h .slots .stored; end = h .slots .end; next = h .slots .next };
-    records = record {
-      fields = h .records .fields;
-      stands = h .records .stands;
-      stored = h .records .stored;
-      end = h .records .end;
-      numbers = h .records .numbers;
-    };
+    records = records-kept (h .records) (h .records .stands) refl refl;
     named = h .named;
   }
 
@@ -114,16 +119,10 @@ module _ (f : fold.Found) (r : Reading) {cells : List ℕ} {table : Area} {label
       lowest = ap (λ (p : ℕ). some (refused 3 p)) next-line;
     };
     slots = record { stored = h .slots .stored; end = h .slots .end; next = h .slots .next };
-    records = record {
-      fields = h .records .fields;
-      stands = record {
-        seen = h .records .stands .seen;
-        exact = λ e. absurd (Option·none-ne-some (refused 3 (suc (f .lines))) (sym e));
-      };
-      stored = h .records .stored;
-      end = h .records .end;
-      numbers = h .records .numbers;
-    };
+    records = records-kept (h .records) (record {
+      seen = h .records .stands .seen;
+      exact = λ e. absurd (Option·none-ne-some (refused 3 (suc (f .lines))) (sym e));
+    }) refl refl;
     named = h .named;
   }
 

@@ -41,8 +41,8 @@ partial n p l k = record { number = n; place = p; length = l; count = k }
 abbrev pub span : ℕ → ℕ → Span
 span o l = record { offset = o; length = l }
 
-abbrev pub wrongReplies : List Claim
-wrongReplies =
+abbrev ofPackets : List Claim
+ofPackets =
     -- a table: no length for a good one; a place for it
     checks bladeReport (replyAnswer (reply 0 0 0))
     ∷ checks bladeReport (replyAnswer (reply 0 1 215))
@@ -58,8 +58,15 @@ wrongReplies =
     ∷ placesPart bladeReport m1 5 (spanPart (span 32 16))
     ∷ placesPart bladeReport m1 5 (spanPart (span 2 4))
     ∷ placesPart bladeReport m1 5 (spanPart (span 0 0))
+    -- a packet as far as it goes: no count; the count as the length
+    ∷ readsPartly bladeReport m3 (partialAnswer (partial 24 7 0 0)) (runOf m1Six) 0
+    ∷ readsPartly bladeReport m3 (partialAnswer (partial 24 7 6 6)) (runOf m1Six) 6
+    ∷ []
+
+abbrev ofTables : List Claim
+ofTables =
     -- a field by name: the index as the place; 11 or 31 for a name that no field has
-    ∷ finds bladeReport (bytes "N") (replyAnswer (reply 0 2 0))
+    finds bladeReport (bytes "N") (replyAnswer (reply 0 2 0))
     ∷ finds bladeReport (bytes "X") (replyAnswer (reply 11 0 0))
     ∷ finds bladeReport (bytes "X") (replyAnswer (reply 31 0 0))
     -- a label: the record's place; start and length exchanged; the first field's for every field
@@ -83,10 +90,10 @@ wrongReplies =
     -- a short name: start and length exchanged; the label
     ∷ placesShort bladeReport 0 (spanPart (span 1 39))
     ∷ placesShort bladeReport 0 (spanPart (span 30 7))
-    -- a packet as far as it goes: no count; the count as the length
-    ∷ readsPartly bladeReport m3 (partialAnswer (partial 24 7 0 0)) (runOf m1Six) 0
-    ∷ readsPartly bladeReport m3 (partialAnswer (partial 24 7 6 6)) (runOf m1Six) 6
     ∷ []
+
+abbrev pub wrongReplies : List Claim
+wrongReplies = ofPackets ++ ofTables
 
 -- a text: accepted with nothing written; the table written, and its length left out; 2 told as 3
 pub record WrongTextReplies : Type 0 where

@@ -5,7 +5,7 @@ use lib.ListN.{length, length-drop}
 use denote.Ref.{now}
 use borrow.Author.Tests.{not-true, not-false}
 use Rattle.packets.specs.Conversions.{widenedMost}
-use Rattle.packets.proofs.TableSteps.{head-is}
+use Rattle.packets.proofs.TableSteps.{head-inside}
 use Rattle.packets.proofs.WidenSteps.{
   Widening,
   widen-start,
@@ -46,27 +46,18 @@ two-at-requires-2 c κs = search needs
 
 sub-put : tie.Need-sub-put Inv-loop μ-loop
 sub-put c =
-    let is = head-is (now (c .before .before .before .before .before .args .table)) (c .before .before .before
-    .before .before .pre .0) in
-    let head : c .before .two-at2 .result ≤ length (now (c .before .before .before .before .before .args .table)) =
-    omega (arith, is .size, is .end, c .before .two-at2 .ensures .0) in
-    omega (arith, head)
+    let e = c .before .before .before .before .before in
+    omega (arith, head-inside (now (e .args .table)) (e .pre .0) _ (c .before .two-at2 .ensures .0))
 
 part-put-start : tie.Need-part-put-start Inv-loop μ-loop
 part-put-start c =
-    let is = head-is (now (c .before .before .before .before .before .args .table)) (c .before .before .before
-    .before .before .pre .0) in
-    let head : c .before .two-at2 .result ≤ length (now (c .before .before .before .before .before .args .table)) =
-    omega (arith, is .size, is .end, c .before .two-at2 .ensures .0) in
-    omega (arith, head)
+    let e = c .before .before .before .before .before in
+    omega (arith, head-inside (now (e .args .table)) (e .pre .0) _ (c .before .two-at2 .ensures .0))
 
 part-put-end : tie.Need-part-put-end Inv-loop μ-loop
 part-put-end c =
-    let is = head-is (now (c .before .before .before .before .before .args .table)) (c .before .before .before
-    .before .before .pre .0) in
-    let head : c .before .two-at2 .result ≤ length (now (c .before .before .before .before .before .args .table)) =
-    omega (arith, is .size, is .end, c .before .two-at2 .ensures .0) in
-    omega (arith, head)
+    let e = c .before .before .before .before .before in
+    omega (arith, head-inside (now (e .args .table)) (e .pre .0) _ (c .before .two-at2 .ensures .0))
 
 put-requires : tie.Need-put-requires Inv-loop μ-loop
 put-requires c κs = search needs
@@ -74,9 +65,8 @@ put-requires c κs = search needs
 loop-holds : tie.Need-loop-holds Inv-loop μ-loop
 loop-holds c =
     let c₈ = c .before .before .before .before .before .before .before .before in
-    let is = head-is (now (c₈ .before .args .table)) (c₈ .before .pre .0) in
-    let head : c .before .before .before .before .before .two-at2 .result ≤ length (now (c₈ .before .args .table)) =
-    omega (arith, is .size, is .end, c .before .before .before .before .before .two-at2 .ensures .0) in
+    let head = head-inside (now (c₈ .before .args .table)) (c₈ .before .pre .0) _
+    (c .before .before .before .before .before .two-at2 .ensures .0) in
     let room = c₈ .before .pre .3 in
     let low = c₈ .before .pre .2 in
     let w = widen-start (now (c₈ .before .args .table)) (now (c₈ .before .args .out)) _ _ _ _ (c .before .before
