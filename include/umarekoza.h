@@ -1,12 +1,12 @@
 /* Umarekoza: packet diagrams as tables, and packets read by them.
 
    Link libumarekoza.a (x86-64 Linux). Numbers, places and bytes are those of document 01 with the limits, names,
-   operators and field records that document 02 gives; 29, for a zero divisor, and 30, for a name or index that no field
-   has, are 02's.
+   operators and field records that document 02 gives; 29, for a zero divisor, 30, for a name, an index or a run that
+   no field has and for records of no bytes, 31, for a field that is still read, and 34, for fields that do not go together, are 02's.
 
    Each function has a proved promise, which holds for all bytes and lengths: it settles the answer, and what every
    lent buffer holds afterwards. A buffer that is not written is left as it was, and so is any byte beyond what is
-   written. Nothing is kept between calls, and no memory is allocated.
+   written. What writes begins at the start of its buffer. Nothing is kept between calls, and no memory is allocated.
 
    No promise covers the caller's side:
    - each pointer is valid for its length (in bytes; for a run in numbers), and a run is aligned as uint32_t is;
@@ -113,6 +113,26 @@ struct umarekoza_answer umarekoza_count_readers(const uint8_t *table, size_t tab
    is not good by the rules for old ones (1 to 64 fields, no `/`, `%` and `^`, records of kinds 2 to 4 without a number,
    names as in force), 11 at 0 if the new table does not fit. Then out is unchanged. */
 struct umarekoza_answer umarekoza_convert_table(const uint8_t *table, size_t table_len, uint8_t *out, size_t out_len);
+
+/* Writes the table of a good one without a run of its fields at the start of out, from the index first to the index
+   last, both from 0 and both of the run: the fields behind it get lower indexes, and each reference to one of these becomes that
+   to its new index. Accepted: the new table's length. Refused: 21 at 0 (the table), 30 at 0 if first is over last or
+   last is no field's index, 31 at the first field outside the run that reads one in it, counted from 1 by the numbering
+   of the table as it is, 34 at 0 if the fields that are left make no good table for another reason (none is left, or
+   their widths do not fit the rows), 11 at 0 if the new table does not fit. Then out is unchanged. */
+struct umarekoza_answer umarekoza_cut_fields(const uint8_t *table, size_t table_len, size_t first, size_t last,
+                                             uint8_t *out, size_t out_len);
+
+/* Writes the table of a good one with further fields at the start of out: those of the records, which are whole ones of
+   kinds 12, 13 and 14, one behind the other and nothing else, before the field of the index, from 0, or behind the last
+   one where the index is the number of fields. The fields from the index on get higher ones, and each reference to one of
+   these becomes that to its new index. References in the records are by the numbering of the new table; the numbers of
+   readers in them may be any, and the new table has the right ones. Accepted: the new table's length. Refused: 21 at 0
+   (the table), 30 at 0 if records_len is 0 or the index is over the number of fields, 34 at 0 if the records are not
+   such ones or the fields make no good table together, 11 at 0 if the new table does not fit. Then out is unchanged.
+   Cutting out what was put in gives the bytes of the old table again, if there is room. */
+struct umarekoza_answer umarekoza_put_fields(const uint8_t *table, size_t table_len, size_t index,
+                                             const uint8_t *records, size_t records_len, uint8_t *out, size_t out_len);
 
 /* Reads a packet by a table as umarekoza_read_packet does, with the same answers, as far as it goes: the run gets the
    numbers of the fields before the first refused one, all of them where bits are left over (28) or the packet is

@@ -1,12 +1,7 @@
 /* The header as a C program sees it: the sizes, and each function with an accepted and a refused answer and with NULL
    and length 0 for each buffer. Texts, tables, packets and answers are those of document 01, numbers 29 and 30 those of
-   02. */
-#include <stdio.h>
-#include <string.h>
-
-#include "umarekoza.h"
-
-#define BYTES(string) (const uint8_t *)(string), sizeof(string) - 1
+   02. Fields cut out and put in: edits.c. */
+#include "cases.h"
 
 static const char tag[] =
     "A Tag is formatted as follows:\n"
@@ -31,31 +26,6 @@ static const uint8_t old_tag_table[44] = {
     0x0D, 0x00, 0x01, 0x00, 0x08, 0x00, 0x01, 0x00, 0x03, 0x00, 0x54, 0x61, 0x67, 0x1B, 0x00,
     0x02, 0x00, 0x04, 0x00, 0x4B, 0x69, 0x6E, 0x64, 0x01, 0x00, 0x4B, 0x08, 0x00, 0x08, 0x00,
     0x20, 0x02, 0x00, 0x01, 0x07, 0x00, 0x00, 0x00, 0x00, 0x00, 0x04, 0x00, 0x05, 0x00};
-
-static const char blade[] =
-    "A Blade Report is formatted as follows:\n"
-    "\n"
-    " 0                   1\n"
-    " 0 1 2 3 4 5 6 7 8 9 0 1 2 3 4 5\n"
-    "+-+-+-+-+-+-+-+-+-+-+-+-+-+-+-+-+\n"
-    "| V |L|  Cells  |     Blade     |\n"
-    "+-+-+-+-+-+-+-+-+-+-+-+-+-+-+-+-+\n"
-    "|           Borrower            |\n"
-    "+-+-+-+-+-+-+-+-+-+-+-+-+-+-+-+-+\n"
-    ":            Readings           :\n"
-    "+-+-+-+-+-+-+-+-+-+-+-+-+-+-+-+-+\n"
-    "|             Sum               |\n"
-    "+-+-+-+-+-+-+-+-+-+-+-+-+-+-+-+-+\n"
-    "\n"
-    "where:\n"
-    "\n"
-    "Version (V): 2 bits; V == 1.\n"
-    "On Loan (L): 1 bit.\n"
-    "Cells (N): 5 bits; N <= 20.\n"
-    "Blade: 1 byte.\n"
-    "Borrower (Bor): 2 bytes; present only when L == 1.\n"
-    "Readings: N bytes.\n"
-    "Sum: 2 bytes.\n";
 
 /* The Tag with a constraint that divides by its field. */
 static const char third[] =
@@ -100,24 +70,9 @@ static const char m1_listing[] =
 static const uint32_t m1_numbers[28] = {
     1, 0, 2, 1, 1, 2, 1, 1, 1, 3, 5, 2, 1, 8, 8, 7, 1, 16, 16, 300, 1, 32, 16, 0, 1, 48, 16, 9};
 
-/* The blade report's table, written by the library: its records have 22, 32, 24, 30, 21, 35, 28, 19 and 4 bytes. */
-static uint8_t table[215];
-static const size_t table_len = 215;
-
-static int failed;
-
-static void expect(int holds, const char *what)
-{
-    if (!holds) {
-        printf("failed: %s\n", what);
-        failed = 1;
-    }
-}
-
-static int is(struct umarekoza_answer a, uint32_t number, uint32_t place, uint64_t length)
-{
-    return a.number == number && a.place == place && a.length == length;
-}
+/* The blade report's table, written by the library. */
+static uint8_t table[BLADE_LEN];
+static const size_t table_len = BLADE_LEN;
 
 static int reads(struct umarekoza_partial a, uint32_t number, uint32_t place, uint64_t length, uint64_t count)
 {
@@ -127,16 +82,6 @@ static int reads(struct umarekoza_partial a, uint32_t number, uint32_t place, ui
 static int lies(struct umarekoza_span s, uint64_t offset, uint64_t length)
 {
     return s.offset == offset && s.length == length;
-}
-
-/* Whether all bytes from here to there are 9. */
-static int nines(const void *buffer, size_t from, size_t to)
-{
-    const uint8_t *bytes = (const uint8_t *)buffer;
-    for (; from < to; from++)
-        if (bytes[from] != 9)
-            return 0;
-    return 1;
 }
 
 /* Buffers that the header says are always enough. */

@@ -11,13 +11,16 @@ Writes crates/runs/data/marked_texts    texts of text_requests.py
        crates/runs/data/tables1 ..      requests `table` of the vectors
        crates/runs/data/readers1 ..     requests `readers` and `convert` of the vectors
        crates/runs/data/packets1 ..     requests `read`, `part` and `list` of the vectors
+       crates/runs/data/marked_edits    fields of the blade report and of a small table cut out and put in
+       crates/runs/data/edits1 ..       as many fields as may be, and requests `cut` and `put` of the vectors
        crates/runs/stdout               the answers due to these files, in this order, in which main names them
 No answer comes from a run of the program: those of M1 to M10 are document 01's, those of R-5 and R-7 document 02's,
-those at the limits follow from how their tables and packets are built, as does a marked text's table, the others are
-the vectors'.
+those at the limits follow from how their tables and packets are built, as does a marked text's table and what fields
+that are cut out or put in leave, the others are the vectors'.
 """
 import sys
 
+import edit_requests
 import packet_requests
 import text_requests
 
@@ -39,4 +42,5 @@ def write(files):
 
 if len(sys.argv) != 2:
     sys.exit(__doc__)
-write({**text_requests.files(sys.argv[1]), **packet_requests.files(sys.argv[1])})
+parts = (text_requests, packet_requests, edit_requests)
+write({name: cases for part in parts for name, cases in part.files(sys.argv[1]).items()})

@@ -8,9 +8,11 @@ from runs import (
     BLADE, OLD_TAG, TAG, both, fixed, full, full_table, number, packed, rest, spelled, split, stored, table, tcp,
 )  # fmt: skip
 
-VECTORS = ("base2", "large", "r5", "packets", "r10", "r7")
+VECTORS = ("base2", "large", "r4", "r5", "packets", "r10", "r7")
 KINDS = {"tables": ("table",), "readers": ("readers", "convert"), "packets": ("read", "part", "list")}
-SHORT = {"tables": 420, "readers": 420, "packets": 500}  # every request of at most so many bytes is taken
+ALL_KINDS = {**KINDS, "edits": ("cut", "put")}
+# Every request of at most so many bytes is taken.
+SHORT = {"tables": 420, "readers": 420, "packets": 500, "edits": 500}
 SHORT_R10 = 6000  # of r10.tsv of so many
 LEAST = 30  # so many of each kind of request and answer are taken, as far as there are, whatever their length
 
@@ -190,7 +192,7 @@ def group(request, answer):
 # The short requests, more where a group has few, and the longest of each kind.
 def chosen(vectors, name):
     cases, short, longest = [], set(), {}
-    for file, *case in stored(vectors, VECTORS, KINDS[name]):
+    for file, *case in stored(vectors, VECTORS, ALL_KINDS[name]):
         kind = case[0].split(" ")[0]
         cases.append(tuple(case))
         if len(case[0]) <= (SHORT_R10 if file == "r10" else SHORT[name]):

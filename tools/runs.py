@@ -1,4 +1,6 @@
-"""What packet_requests.py and text_requests.py share: the stored form, the vectors, and files of requests."""
+"""What text_requests.py, packet_requests.py and edit_requests.py share: the stored form, the vectors, and files of
+requests.
+"""
 import struct
 
 ROOM = 65536  # no file of requests is longer
@@ -69,9 +71,12 @@ def table(name, w, *fields):
     return head + b"".join(records) + record(5, b"")
 
 
-BLADE = table(
-    b"Blade Report",
-    16,
+# The records of fields, each with this number.
+def records(fields, number):
+    return b"".join(record(kind, two(number) + body) for kind, body, _ in fields)
+
+
+BLADE_FIELDS = (
     fixed(b"Version", b"V", 2, both("==", field(0), number(1))),
     fixed(b"On Loan", b"L", 1),
     fixed(b"Cells", b"N", 5, both("<=", field(2), number(20))),
@@ -80,6 +85,7 @@ BLADE = table(
     measured(b"Readings", b"", 8, field(2)),
     fixed(b"Sum", b"", 16),
 )
+BLADE = table(b"Blade Report", 16, *BLADE_FIELDS)
 FLAGS = (b"CWR", b"ECE", b"URG", b"ACK", b"PSH", b"RST", b"SYN", b"FIN")
 
 

@@ -24,11 +24,18 @@ impl Case {
 
     /// `fields` fields of a byte, four in a row and each with a constraint, on a page of about `length` bytes.
     pub fn constrained(fields: usize, length: usize) -> Self {
-        let bare = constrained_page(fields, 0).len();
+        let bare = constrained_page(fields, 0, 1).len();
         let remark = length.saturating_sub(bare) / fields;
-        let page = constrained_page(fields, remark);
+        let page = constrained_page(fields, remark, 1);
         let name = format!("{fields} fields with constraints, {} bytes of text", page.len());
         Case::new(&name, page, (0..fields).map(|field| (3 * field % 251) as u8).collect())
+    }
+
+    /// The same of fields each of which reads itself alone, without remarks.
+    pub fn alone(fields: usize) -> Self {
+        let name = format!("{fields} fields that read themselves");
+        let packet = (0..fields).map(|field| (3 * field % 251) as u8).collect();
+        Case::new(&name, constrained_page(fields, 0, 0), packet)
     }
 
     /// A packet of `length` bytes, nearly all of them in one measured field.
@@ -42,7 +49,8 @@ impl Case {
     }
 }
 
-fn constrained_page(fields: usize, remark: usize) -> String {
+/// A page of fields that read themselves, and the field so many before.
+fn constrained_page(fields: usize, remark: usize, before: usize) -> String {
     let names: Vec<String> = (0..fields).map(|field| format!("F{field}")).collect();
     let rows: Vec<String> = names
         .chunks(4)
@@ -50,7 +58,7 @@ fn constrained_page(fields: usize, remark: usize) -> String {
         .collect();
     let mut lines = String::new();
     for (field, name) in names.iter().enumerate() {
-        let earlier = &names[field.saturating_sub(1)];
+        let earlier = &names[field.saturating_sub(before)];
         let line = format!("Field {field} ({name}): 1 byte; {name} <= 250 && {earlier} * 2 + 1 > 0.");
         lines += &match remark {
             0 => line + "\n",
@@ -90,7 +98,7 @@ mod tests {
 
     #[test]
     fn cases_are_accepted() {
-        let mut cases = vec![Case::blade()];
+        let mut cases = vec![Case::blade(), Case::alone(FIELDS_MOST)];
         for doubling in 0..5 {
             cases.push(Case::constrained(8 << doubling, 1024 << doubling));
             cases.push(Case::long((512 << doubling).min(PACKET_MOST)));

@@ -1,12 +1,14 @@
 //! Prints how long the library takes against the model and against a plain C reader, how its times grow as
-//! sizes double, and what looking up names takes. UMAREKOZA_ROUNDS is the number of rounds, 21 if not set.
-//! Where another library is linked (UMAREKOZA_BEFORE_DIR), prints the ratios to its times too.
+//! sizes double, what cutting fields out and putting them in takes, and what looking up names takes.
+//! UMAREKOZA_ROUNDS is the number of rounds, 21 if not set. Where another library is linked (UMAREKOZA_BEFORE_DIR),
+//! prints the ratios to its times too.
 
 #[cfg(before)]
 mod before;
 mod calls;
 mod cases;
 mod checks;
+mod edits;
 mod folder;
 mod libraries;
 mod lookups;
@@ -35,6 +37,7 @@ fn main() {
     ratios(rounds);
     println!("\nGrowth of the library's times as sizes double; 2 is linear.\n");
     growth(rounds);
+    edits::print(rounds);
     if let Some(before) = &BEFORE {
         println!("\nAgainst the library of UMAREKOZA_BEFORE_DIR.\n");
         against(before, rounds);

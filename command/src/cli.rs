@@ -32,6 +32,8 @@ pub fn command() -> Command {
             bytes(),
             check(),
             readers(),
+            cut(),
+            put(),
             convert(),
             explain(),
             man(),
@@ -81,12 +83,54 @@ fn output() -> Arg {
     path(output).help("The file of the table; `-` is standard output, unless that is a terminal")
 }
 
+fn cut() -> Command {
+    Command::new("cut")
+        .about("Write the table of a page or table without some of its fields")
+        .arg(file("source", "SOURCE", "The page or table"))
+        .arg(field("first", "FIELD", "The field to cut out, or the first of a run").required(true))
+        .arg(field("last", "LAST", "The last field of the run"))
+        .args(edit_options())
+        .args(sorts())
+        .after_help(OF_CUT)
+}
+
+const OF_CUT: &str = "Later fields get the indexes that they then have, in what reads them too. A field that is left \
+                      may not read one that is cut out: that is refused by 31, with all fields that read one.";
+
+fn put() -> Command {
+    Command::new("put")
+        .about("Write the table of a page or table with the fields of another one put in")
+        .arg(file("into", "INTO", "The table that they are put into, or its page"))
+        .arg(file("from", "FROM", "The page or table whose fields are put in, all of them"))
+        .arg(field("before", "FIELD", "Put them before this field of INTO, not at the end").long("before"))
+        .args(edit_options())
+        .arg(flag("page", "INTO and FROM are pages, whatever they begin with").conflicts_with("table"))
+        .arg(flag("table", "INTO and FROM are tables, whatever they begin with"))
+        .after_help(OF_PUT)
+}
+
+const OF_PUT: &str = "The fields of FROM read each other as before: what they read is renumbered, from the index on \
+                      where the first of them is put. Later fields of INTO get the indexes that they then have, in \
+                      what reads them too. NAME and the width of rows are those of INTO, whose rows the fields fill.";
+
+/// Where a changed table goes, or that it is only told.
+fn edit_options() -> Vec<Arg> {
+    vec![
+        output().required(false).required_unless_present("dry-run"),
+        flag("dry-run", "Write nothing, and print what would change"),
+        flag("json", "With --dry-run, print that as an object of JSON").requires("dry-run"),
+    ]
+}
+
+fn field(id: &'static str, name: &'static str, help: &'static str) -> Arg {
+    Arg::new(id).value_name(name).value_parser(OsStringValueParser::new()).help(help)
+}
+
 fn readers() -> Command {
-    let field = Arg::new("field").value_name("FIELD").value_parser(OsStringValueParser::new());
     Command::new("readers")
         .about("Say how many places read each field: references in the expressions of other fields")
         .arg(file("source", "SOURCE", "The page or table"))
-        .arg(field.help("Print the number of that field alone"))
+        .arg(field("field", "FIELD", "Print the number of that field alone"))
         .args(sorts())
 }
 
@@ -98,24 +142,17 @@ fn read() -> Command {
         .args(packet_options())
         .arg(flag("lines", LINES))
         .arg(flag("json", "Print an object of JSON for each packet, one a line").conflicts_with("field"))
-        .arg(
-            Arg::new("field")
-                .long("field")
-                .value_name("FIELD")
-                .value_parser(OsStringValueParser::new())
-                .help(
-                    "Print that field alone, a line for each packet: its value, or the bytes of a long field",
-                ),
-        )
+        .arg(field("field", "FIELD", ALONE).long("field"))
 }
 
+const ALONE: &str = "Print that field alone, a line for each packet: its value, or the bytes of a long field";
+
 fn bytes() -> Command {
-    let field = Arg::new("field").value_name("FIELD").required(true).value_parser(OsStringValueParser::new());
     Command::new("bytes")
         .about("Write the bytes of a field")
         .arg(file("source", "SOURCE", "The page or table"))
         .arg(file("packets", "PACKET", "The packet"))
-        .arg(field.help("The field"))
+        .arg(field("field", "FIELD", "The field").required(true))
         .args(packet_options())
         .arg(flag("to-hex", "Write the bytes in hexadecimal, on a line"))
 }

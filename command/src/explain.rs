@@ -10,7 +10,7 @@ use crate::packets::Name;
 use crate::sources::Source;
 use std::ffi::OsStr;
 use umarekoza::{Field, Refusal};
-use umarekoza_hints::{packet_hint, page_hint, Hint, Verdict};
+use umarekoza_hints::{cut_hint, packet_hint, page_hint, put_hint, EditHint, Hint, Verdict};
 
 /// What is said of a table that is good no longer, and how to mend it.
 pub const OLD: &str = "this is an old table: its records do not keep how often a field is read";
@@ -84,11 +84,59 @@ pub fn field_of(fields: &[Described], refusal: Refusal) -> Option<&str> {
 
 /// Explains that there is no such field, with the labels that there are.
 pub fn field(input: &Input, fields: &[Described], field: &OsStr, refusal: Refusal) {
+    draw(&no_field(input, fields, field, refusal));
+}
+
+/// The same, to be drawn.
+pub fn no_field(input: &Input, fields: &[Described], field: &OsStr, refusal: Refusal) -> Told {
     let near = nearest(fields, &field.to_string_lossy()).map(|near| format!("did you mean `{near}`?"));
     let labels: Vec<&str> = fields.iter().map(|field| field.label.as_str()).collect();
     let labels = format!("the labels are: {}", labels.join(", "));
     let place = format!("{input}, field `{}`", shown(field.as_encoded_bytes()));
-    draw(&meaning(place, refusal, near.into_iter().chain([labels]).collect()));
+    meaning(place, refusal, near.into_iter().chain([labels]).collect())
+}
+
+/// What is said of fields that cannot be cut out.
+pub fn cut(
+    input: &Input,
+    fields: &[Described],
+    (first, last): (usize, usize),
+    table: &[u8],
+    refusal: Refusal,
+) -> Told {
+    let label = |index: usize| fields.get(index).map_or("", |field| field.label.as_str());
+    let run = match first == last {
+        true => label(first).to_string(),
+        false => format!("{} to {}", label(first), label(last)),
+    };
+    if refusal.number == 30 && last < first {
+        let (start, end) = (label(first), label(last));
+        let note =
+            format!("`{start}` has the index {first}, `{end}` {last}: give the first field, then the last");
+        return bare(format!("{input}, {run}"), refusal, "the run ends before it begins", vec![note]);
+    }
+    let place = match field_of(fields, refusal) {
+        Some(label) => format!("{input}, field {}: {label}", refusal.place),
+        None => format!("{input}, without {run}"),
+    };
+    edited(place, cut_hint(table, first, last, verdict(refusal)))
+}
+
+/// What is said of fields that cannot be put in.
+pub fn put(
+    (into, from): (&Input, &Input),
+    index: usize,
+    table: &[u8],
+    records: &[u8],
+    refusal: Refusal,
+) -> Told {
+    let place = format!("{into}, with the fields of {from}");
+    edited(place, put_hint(table, index, records, verdict(refusal)))
+}
+
+fn edited(place: String, hint: EditHint) -> Told {
+    let EditHint { number, message, notes, .. } = hint;
+    Told { number, message, place, mark: None, notes, below: Vec::new() }
 }
 
 /// Says why a field has no bytes to write.

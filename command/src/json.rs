@@ -1,5 +1,6 @@
 //! Answers as objects of JSON.
 
+use crate::draw::Told;
 use crate::explain::{field_of, OLD};
 use crate::fields::{reading, whole_bytes, Described};
 use crate::hex::written;
@@ -66,6 +67,15 @@ pub fn source(source: &Source, table: &Result<Vec<u8>, Refusal>) -> Value {
         object.insert("meaning".to_string(), json!(OLD));
     }
     object.insert("kind".to_string(), json!(source.kind()));
+    Value::Object(object)
+}
+
+/// Fields that cannot be cut out or put in, with the label of the field that still reads and what is said of that.
+pub fn edit(name: &str, refusal: Refusal, field: Option<&str>, told: &Told) -> Value {
+    let mut object = refused(name, refusal);
+    object.insert("field".to_string(), json!(field));
+    object.insert("message".to_string(), json!(told.message));
+    object.insert("notes".to_string(), json!(told.notes));
     Value::Object(object)
 }
 

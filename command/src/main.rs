@@ -3,17 +3,21 @@
 //!
 //! `cli` has the verbs and options, and `requests` reads a command line by them. `inputs` reads files, `folders`
 //! what is in folders, `sources` pages and tables, `packets` packets, `hex` and `dump` those that are written in
-//! hexadecimal. `table`, `read`, `bytes`, `check`, `watch`, `readers`, `convert` and `numbers` are the verbs, `man` and
-//! clap_complete make the man page and the completions. `explain` says what a refusal means, `draw` draws that, `json`
-//! says answers for programs, `fields` finds fields, `names` shows names. `outputs` and `replace` write results, with
-//! `progress` beside them.
+//! hexadecimal. `table`, `read`, `bytes`, `check`, `watch`, `readers`, `cut`, `put`, `convert` and `numbers` are the
+//! verbs, `man` and clap_complete make the man page and the completions. `edits` is what `cut` and `put` share,
+//! `changes` says what they change, `records` has the fields of a table as they are put in. `explain` says what a
+//! refusal means, `draw` draws that, `json` says answers for programs, `fields` finds fields, `names` shows names.
+//! `outputs` and `replace` write results, with `progress` beside them.
 
 mod bytes;
+mod changes;
 mod check;
 mod cli;
 mod convert;
+mod cut;
 mod draw;
 mod dump;
+mod edits;
 mod explain;
 mod fields;
 mod folders;
@@ -26,8 +30,10 @@ mod numbers;
 mod outputs;
 mod packets;
 mod progress;
+mod put;
 mod read;
 mod readers;
+mod records;
 mod replace;
 mod requests;
 mod sources;
@@ -77,6 +83,8 @@ fn run() -> Result<Status, Failure> {
         Request::Table { page, table } => table::run(&page, table.as_deref()),
         Request::Convert { old, table } => convert::run(&old, table.as_deref()),
         Request::Readers { source, field } => readers::run(&source, field.as_deref()),
+        Request::Cut { source, first, last, to } => cut::run(&source, &first, last.as_deref(), &to),
+        Request::Put { into, from, before, to } => put::run(&into, &from, before.as_deref(), &to),
         Request::Read { source, packets, form } => read::run(&source, &packets, &form),
         Request::Bytes { source, packets, field, as_hex } => bytes::run(&source, &packets, &field, as_hex),
         Request::Check { files, deep, sort, json } => check::run(&files, deep, sort, json),

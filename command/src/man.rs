@@ -27,12 +27,14 @@ pub fn page() -> String {
 /// What clap adds to the verbs.
 const OTHERS: [&str; 2] = ["umarekoza help [VERB]", "umarekoza --version"];
 
-const EXAMPLES: [&str; 6] = [
+const EXAMPLES: [&str; 8] = [
     "umarekoza check page.txt",
     "umarekoza read --hex page.txt packet.hex",
     "umarekoza read --json --lines page.txt packets.txt",
     "umarekoza bytes page.txt packet.bin Readings",
     "umarekoza readers page.txt Cells",
+    "umarekoza cut page.txt Borrower -o shorter.table",
+    "umarekoza put shorter.table grade.txt --before Sum --dry-run",
     "umarekoza convert old.table -o new.table",
 ];
 
@@ -44,7 +46,8 @@ fn verb_section(verb: &Command) -> String {
         let help = arg.get_help().map(ToString::to_string).unwrap_or_default();
         section += &format!(".TP\n{}{}", line(&argument(arg)), line(&help));
     }
-    section
+    let more = verb.get_after_help().map(|more| format!(".PP\n{}", line(&more.to_string())));
+    section + &more.unwrap_or_default()
 }
 
 /// How an argument or option is written.

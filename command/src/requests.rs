@@ -26,6 +26,20 @@ pub enum Request {
         source: SourceName,
         field: Option<OsString>,
     },
+    /// One field without a last one.
+    Cut {
+        source: SourceName,
+        first: OsString,
+        last: Option<OsString>,
+        to: Delivery,
+    },
+    /// At the end where no field is named.
+    Put {
+        into: SourceName,
+        from: SourceName,
+        before: Option<OsString>,
+        to: Delivery,
+    },
     Read {
         source: SourceName,
         packets: Packets,
@@ -53,6 +67,14 @@ pub enum Request {
     },
     Man,
     Completions(Shell),
+}
+
+/// What becomes of a changed table.
+pub enum Delivery {
+    /// It is written to a file, or to standard output.
+    Written(Option<PathBuf>),
+    /// What would change is told, for a person or as JSON.
+    Told { json: bool },
 }
 
 /// How a packet's fields are printed.
@@ -83,6 +105,18 @@ fn request_of(verb: &str, matches: &ArgMatches) -> Request {
         "table" => Request::Table { page: input(matches, "page"), table: output(matches) },
         "convert" => Request::Convert { old: input(matches, "old"), table: output(matches) },
         "readers" => Request::Readers { source: source(matches), field: matches.get_one("field").cloned() },
+        "cut" => Request::Cut {
+            source: source(matches),
+            first: matches.get_one::<OsString>("first").cloned().unwrap_or_default(),
+            last: matches.get_one("last").cloned(),
+            to: delivery(matches),
+        },
+        "put" => Request::Put {
+            into: SourceName { input: input(matches, "into"), sort: sort(matches) },
+            from: SourceName { input: input(matches, "from"), sort: sort(matches) },
+            before: matches.get_one("before").cloned(),
+            to: delivery(matches),
+        },
         "read" => Request::Read { source: source(matches), packets: packets(matches), form: form(matches) },
         "bytes" => Request::Bytes {
             source: source(matches),
@@ -112,6 +146,13 @@ fn request_of(verb: &str, matches: &ArgMatches) -> Request {
 /// The file of a table; none for standard output.
 fn output(matches: &ArgMatches) -> Option<PathBuf> {
     matches.get_one::<PathBuf>("output").filter(|path| path.as_os_str() != "-").cloned()
+}
+
+fn delivery(matches: &ArgMatches) -> Delivery {
+    if matches.get_flag("dry-run") {
+        return Delivery::Told { json: matches.get_flag("json") };
+    }
+    Delivery::Written(output(matches))
 }
 
 fn source(matches: &ArgMatches) -> SourceName {
@@ -153,6 +194,7 @@ fn one_standard_input(request: &Request) -> Result<(), Failure> {
         Request::Read { source, packets, .. } | Request::Bytes { source, packets, .. } => {
             packets.inputs.iter().chain([&source.input]).collect()
         }
+        Request::Put { into, from, .. } => vec![&into.input, &from.input],
         Request::Check { files, .. } => files.iter().collect(),
         _ => Vec::new(),
     };

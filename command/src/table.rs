@@ -2,7 +2,7 @@
 
 use crate::inputs::Input;
 use crate::replace::replace;
-use crate::sources::{Sort, SourceName};
+use crate::sources::{Sort, Source, SourceName};
 use crate::{explain, outputs, Failure, Status};
 use std::fs::{self, Metadata};
 use std::io::{self, IsTerminal};
@@ -12,12 +12,19 @@ use umarekoza::Refusal;
 
 pub fn run(page: &Input, table: Option<&Path>) -> Result<Status, Failure> {
     let source = SourceName { input: page.clone(), sort: Sort::Page }.read()?;
-    if table.is_some_and(|table| is_same(page, table)) {
+    not_to_its_page(&source, table)?;
+    not_to_a_terminal(table)?;
+    deliver(umarekoza::table_of(&source.bytes), table, |refusal| explain::source(&source, refusal))
+}
+
+/// Fails where a table would take the place of a page that it is made of.
+pub fn not_to_its_page(source: &Source, table: Option<&Path>) -> Result<(), Failure> {
+    if source.is_page() && table.is_some_and(|table| is_same(&source.input, table)) {
+        let page = &source.input;
         let message = format!("{page}: the table would take the place of its page; choose another name");
         return Err(Failure::Said(message));
     }
-    not_to_a_terminal(table)?;
-    deliver(umarekoza::table_of(&source.bytes), table, |refusal| explain::source(&source, refusal))
+    Ok(())
 }
 
 /// Fails where a table would go to standard output and that is a terminal.

@@ -11,7 +11,7 @@ use std::os::unix::ffi::OsStrExt;
 #[test]
 fn wrong_arguments() {
     let place = Place::new("arguments");
-    let cases: [(&[&str], &str); 15] = [
+    let cases: [(&[&str], &str); 21] = [
         (&[], "requires a subcommand"),
         (&["rd", "page", "m1"], "The subcommand 'rd' wasn't recognized"),
         (&["table", "page"], "--output <TABLE>"),
@@ -25,6 +25,12 @@ fn wrong_arguments() {
         (&["check"], "<FILE>..."),
         (&["check", "--hex", "page"], "'--hex' which wasn't expected"),
         (&["read", "page", "m1", "-o", "a"], "'-o' which wasn't expected"),
+        (&["cut", "page", "-o", "a"], "<FIELD>"),
+        (&["cut", "page", "Sum"], "--output <TABLE>"),
+        (&["cut", "page", "0", "1", "2", "-o", "a"], "'2' which wasn't expected"),
+        (&["put", "page", "-o", "a"], "<FROM>"),
+        (&["put", "page", "page"], "--output <TABLE>"),
+        (&["put", "page", "page", "Sum", "-o", "a"], "'Sum' which wasn't expected"),
         (&["explain", "x"], "'x'"),
         (&["completions", "csh"], "'csh' isn't a valid value"),
     ];
@@ -122,6 +128,8 @@ fn standard_output_that_is_full_or_closed() {
         &["bytes", "page", "m1", "Sum"],
         &["check", "page"],
         &["table", "page", "-o", "-"],
+        &["cut", "page", "Sum", "-o", "-"],
+        &["cut", "page", "Sum", "--dry-run"],
         &["--help"],
     ] {
         let full = File::options().write(true).open("/dev/full").unwrap();

@@ -4,10 +4,10 @@ mod common;
 
 use common::*;
 
-const VERBS: [&str; 9] =
-    ["table", "read", "bytes", "check", "readers", "convert", "explain", "man", "completions"];
-const OPTIONS: [&str; 9] =
-    ["output", "hex", "lines", "json", "field", "page", "table", "to-hex", "recursive"];
+const VERBS: [&str; 11] =
+    ["table", "read", "bytes", "check", "readers", "cut", "put", "convert", "explain", "man", "completions"];
+const OPTIONS: [&str; 11] =
+    ["output", "hex", "lines", "json", "field", "page", "table", "to-hex", "recursive", "before", "dry-run"];
 
 #[test]
 fn help_of_each_verb() {
@@ -38,8 +38,8 @@ fn what_a_number_means() {
     let known = |number: u32| {
         all.contains(&format!("{number}: ")) && place.run(&["explain", &number.to_string()]).status == 0
     };
-    assert!((1..=11).chain(21..=30).all(known));
-    let numbers = "1, 2, 3, 4, 5, 6, 7, 8, 9, 10, 11, 21, 22, 23, 24, 25, 26, 27, 28, 29, 30";
+    assert!((1..=11).chain(21..=31).chain([34]).all(known));
+    let numbers = "1, 2, 3, 4, 5, 6, 7, 8, 9, 10, 11, 21, 22, 23, 24, 25, 26, 27, 28, 29, 30, 31, 34";
     let unknown = format!("umarekoza: no refusal has the number 12; the numbers are {numbers}\n");
     place.run(&["explain", "12"]).left(2, "", &unknown);
 }
@@ -55,6 +55,7 @@ fn the_man_page_has_each_verb_and_option() {
     for verb in VERBS {
         assert!(page.contains(&format!("\n.SS {verb}\n")), "{verb}");
     }
+    assert!(page.contains("what they read is renumbered, from the index on"), "{page}");
     for option in OPTIONS {
         assert!(page.contains(&format!("\\-\\-{}", option.replace('-', "\\-"))), "{option}");
     }
@@ -83,6 +84,8 @@ fn bash_completes() {
     };
     complete("umarekoza re", 1).accepted("read readers\n");
     complete("umarekoza co", 1).accepted("convert completions\n");
+    complete("umarekoza cut ''", 2).accepted("-o -h --output --dry-run --json --page --table --help\n");
+    complete("umarekoza put --b", 2).accepted("--before\n");
     complete("umarekoza convert ''", 2).accepted("-o -h --output --help\n");
     complete("umarekoza read --j", 2).accepted("--json\n");
     complete("umarekoza check --r", 2).accepted("--recursive\n");

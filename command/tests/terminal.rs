@@ -39,8 +39,13 @@ fn on_a_terminal_with(place: &Place, which: &str, changes: &[&str], arguments: &
 #[test]
 fn a_table_is_not_written_to_a_terminal() {
     let place = Place::new("terminal");
-    let seen = on_a_terminal(&place, "stdout", &["table", "page", "-o", "-"]);
-    assert_eq!(seen, "2 '' 'umarekoza: a table is not written to a terminal: `-o FILE` writes a file\\n'\n");
+    for verb in [&["table", "page"][..], &["cut", "page", "Sum"], &["put", "page", "page"]] {
+        let seen = on_a_terminal(&place, "stdout", &[verb, &["-o", "-"]].concat());
+        let due = "2 '' 'umarekoza: a table is not written to a terminal: `-o FILE` writes a file\\n'\n";
+        assert_eq!(seen, due, "{verb:?}");
+    }
+    let told = on_a_terminal(&place, "stdout", &["cut", "page", "Sum", "--dry-run"]);
+    assert!(told.starts_with("0 'cut out: Sum, index 6\\r\\n"), "{told}");
 }
 
 #[test]

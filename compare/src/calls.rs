@@ -157,6 +157,42 @@ impl Calls {
         self.counted(found, format_args!("convert_table to {room}"))
     }
 
+    /// The length is the new table's.
+    pub fn cut_fields(
+        &mut self,
+        table: &[u8],
+        (first, last): (usize, usize),
+        room: usize,
+        due: &Settled<Vec<u8>>,
+    ) -> Result<(), Wrong> {
+        let (mut table, mut out) = (self.lent(table), self.room(room));
+        let due_answer = self.due(due, |table| table.len() as u64);
+        let call = self.exports.cut_fields;
+        // SAFETY: what is lent is valid for its length.
+        let answer = unsafe { call(table.start(), table.len(), first, last, out.start(), out.len()) };
+        let found = same(answer, due_answer).and(wrote(&out, due.as_deref())).and(kept(&[&table]));
+        self.counted(found, format_args!("cut_fields {first} to {last} to {room}"))
+    }
+
+    /// The length is the new table's.
+    pub fn put_fields(
+        &mut self,
+        (table, records): (&[u8], &[u8]),
+        index: usize,
+        room: usize,
+        due: &Settled<Vec<u8>>,
+    ) -> Result<(), Wrong> {
+        let (mut table, mut records, mut out) = (self.lent(table), self.lent(records), self.room(room));
+        let due_answer = self.due(due, |table| table.len() as u64);
+        let call = self.exports.put_fields;
+        let (table_at, records_at) = (table.start(), records.start());
+        // SAFETY: what is lent is valid for its length.
+        let answer =
+            unsafe { call(table_at, table.len(), index, records_at, records.len(), out.start(), out.len()) };
+        let found = same(answer, due_answer).and(wrote(&out, due.as_deref())).and(kept(&[&table, &records]));
+        self.counted(found, format_args!("put_fields before {index} to {room}"))
+    }
+
     /// The length is the bit total, the count that of the fields in the run.
     pub fn read_partly(
         &mut self,

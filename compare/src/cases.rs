@@ -1,14 +1,16 @@
-//! Cases: a text, a table with a packet, or a table for the converter.
+//! Cases: a text, a table with a packet, a table for the converter, or a table with fields to be cut out or put in.
 
 use std::fmt;
 use umarekoza::PACKET_MOST;
-use umarekoza_model::generate::{old_table, packet, table, tail, text, Rng};
+use umarekoza_model::generate::{cut, old_table, packet, put, table, tail, text, Cut, Put, Rng};
 use umarekoza_model::protocol::to_hex;
 
 pub enum Case {
     Text(Vec<u8>),
     Packet { table: Vec<u8>, packet: Vec<u8> },
     Old(Vec<u8>),
+    Cut(Cut),
+    Put(Put),
 }
 
 impl Case {
@@ -22,13 +24,28 @@ impl Case {
             let table = if rng.one_in(50) { noise(rng) } else { old_table(rng) };
             return Case::Old(table);
         }
-        if rng.one_in(250) {
+        if rng.one_in(4) {
+            return Case::edit(rng);
+        }
+        if rng.one_in(120) {
             let (table, packet) = tail(rng);
             return Case::Packet { table, packet };
         }
         let table = if rng.one_in(50) { noise(rng) } else { table(rng) };
-        let packet = if rng.one_in(100) { long_packet(rng) } else { packet(rng, &table) };
+        let packet = if rng.one_in(60) { long_packet(rng) } else { packet(rng, &table) };
         Case::Packet { table, packet }
+    }
+
+    /// Fields to be cut out or put in; now and then a table or records that are random bytes.
+    fn edit(rng: &mut Rng) -> Self {
+        let (is_noise, by_noise) = (rng.one_in(30), rng.one_in(50));
+        if rng.one_in(2) {
+            let cut = cut(rng);
+            return Case::Cut(if is_noise { Cut { table: noise(rng), ..cut } } else { cut });
+        }
+        let put = put(rng);
+        let put = if by_noise { Put { records: noise(rng), ..put } } else { put };
+        Case::Put(if is_noise { Put { table: noise(rng), ..put } } else { put })
     }
 }
 
@@ -38,6 +55,10 @@ impl fmt::Display for Case {
             Case::Text(text) => write!(to, "text {}", to_hex(text)),
             Case::Packet { table, packet } => write!(to, "table {} packet {}", to_hex(table), to_hex(packet)),
             Case::Old(table) => write!(to, "old table {}", to_hex(table)),
+            Case::Cut(Cut { table, first, last }) => write!(to, "cut {first} {last} {}", to_hex(table)),
+            Case::Put(Put { table, index, records }) => {
+                write!(to, "put {index} {} {}", to_hex(table), to_hex(records))
+            }
         }
     }
 }
@@ -56,14 +77,17 @@ fn long_packet(rng: &mut Rng) -> Vec<u8> {
 
 #[cfg(test)]
 mod tests {
-    use super::Case;
+    use super::{Case, Cut, Put};
     use std::ops::RangeInclusive;
     use umarekoza::RUN_MOST;
     use umarekoza_model::generate::Rng;
-    use umarekoza_model::{check_table, convert_table, count_fields, read_packet, write_table, Refusal};
+    use umarekoza_model::{
+        check_table, convert_table, count_fields, cut_fields, put_fields, read_packet, write_table, Refusal,
+    };
 
     /// A text or a table, an old one too, with its number of fields, or a packet with its number of bytes, and whether
-    /// it is accepted. Of texts refused for their number of fields it is 129.
+    /// it is accepted. Of texts refused for their number of fields it is 129; of a table into which fields are put it
+    /// is that of the longer one.
     type Seen = (&'static str, usize, bool);
 
     /// The number of fields that a table's head has.
@@ -74,6 +98,15 @@ mod tests {
     fn seen(case: &Case) -> Vec<Seen> {
         match case {
             Case::Old(table) => vec![("old", stated(table), convert_table(table, usize::MAX).is_ok())],
+            Case::Cut(Cut { table, first, last }) => {
+                vec![("cut", stated(table), cut_fields(table, *first, *last, usize::MAX).is_ok())]
+            }
+            Case::Put(Put { table, index, records }) => {
+                match put_fields(table, *index, records, usize::MAX) {
+                    Ok(longer) => vec![("put", stated(&longer), true)],
+                    Err(_) => vec![("put", stated(table), false)],
+                }
+            }
             Case::Text(text) => match write_table(text, usize::MAX) {
                 Ok(table) => vec![("text", count_fields(&table).unwrap(), true)],
                 Err(Refusal { number: 4, .. }) => vec![("text", 129, false)],
@@ -96,13 +129,15 @@ mod tests {
     }
 
     /// What is at the limits of fields and packets, 128 and 8,191, and at those of document 01, 64 and 2,048.
-    const FAR: [(&str, RangeInclusive<usize>, bool); 9] = [
+    const FAR: [(&str, RangeInclusive<usize>, bool); 11] = [
         ("text", 65..=128, true),
         ("text", 129..=129, false),
         ("table", 65..=128, true),
         ("table", 129..=258, false),
         ("old", 2..=64, true),
         ("old", 65..=128, false),
+        ("cut", 65..=128, true),
+        ("put", 65..=128, true),
         ("packet", 2_047..=2_049, true),
         ("packet", 8_190..=8_191, true),
         ("packet", 8_192..=16_384, false),
@@ -132,8 +167,17 @@ mod tests {
             accepted("packet", bytes);
         }
         accepted("old", 64);
-        let refused =
-            [("table", 129), ("table", 130), ("table", 256), ("table", 257), ("packet", 8_192), ("old", 65)];
+        accepted("cut", 128);
+        accepted("put", 128);
+        let refused = [
+            ("table", 129),
+            ("table", 130),
+            ("table", 256),
+            ("table", 257),
+            ("packet", 8_192),
+            ("old", 65),
+            ("put", 128),
+        ];
         for (what, number) in refused {
             assert!(seen.contains(&(what, number, false)), "no refused {what} of {number}");
         }

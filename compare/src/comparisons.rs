@@ -4,7 +4,7 @@ use crate::calls::{Calls, Settled, Wrong};
 use crate::cases::Case;
 use umarekoza::{FIELDS_MOST, LISTING_MOST, RUN_MOST, TABLE_MOST};
 use umarekoza_model as model;
-use umarekoza_model::generate::Rng;
+use umarekoza_model::generate::{records, Cut, Put, Rng};
 
 /// What is due where an output is shorter than what is written there.
 const TOO_SHORT: Settled<Vec<u8>> = Err(model::Refusal { number: 11, place: 0 });
@@ -24,14 +24,25 @@ pub fn compare(calls: &mut Calls, case: &Case) -> Result<(), Wrong> {
             compare_table(calls, table)?;
             compare_conversion(calls, table)
         }
+        Case::Cut(cut) => compare_cut(calls, cut),
+        Case::Put(put) => compare_put(calls, put),
     }
 }
 
 fn compare_text(calls: &mut Calls, text: &[u8]) -> Result<(), Wrong> {
     let fits = model::write_table(text, usize::MAX);
+    each_room(calls, &fits, |calls, room, due| calls.write_table(text, room, due))
+}
+
+/// Calls with outputs of several lengths, and with what is due for each where `fits` is due with room enough.
+fn each_room(
+    calls: &mut Calls,
+    fits: &Settled<Vec<u8>>,
+    call: impl Fn(&mut Calls, usize, &Settled<Vec<u8>>) -> Result<(), Wrong>,
+) -> Result<(), Wrong> {
     let needed = fits.as_ref().map_or(calls.rng.below(100), Vec::len);
     for room in rooms(&mut calls.rng, needed, TABLE_MOST) {
-        calls.write_table(text, room, if fits.is_ok() && room < needed { &TOO_SHORT } else { &fits })?;
+        call(calls, room, if fits.is_ok() && room < needed { &TOO_SHORT } else { fits })?;
     }
     Ok(())
 }
@@ -66,11 +77,31 @@ fn compare_readers(calls: &mut Calls, table: &[u8]) -> Result<(), Wrong> {
 /// A table that is converted is compared once more as it then is.
 fn compare_conversion(calls: &mut Calls, table: &[u8]) -> Result<(), Wrong> {
     let fits = model::convert_table(table, usize::MAX);
-    let needed = fits.as_ref().map_or(calls.rng.below(100), Vec::len);
-    for room in rooms(&mut calls.rng, needed, TABLE_MOST) {
-        calls.convert_table(table, room, if fits.is_ok() && room < needed { &TOO_SHORT } else { &fits })?;
-    }
+    each_room(calls, &fits, |calls, room, due| calls.convert_table(table, room, due))?;
     fits.map_or(Ok(()), |converted| compare_table(calls, &converted))
+}
+
+/// Fields that are cut out are put in again, with any numbers in their records: the table is then what it was.
+fn compare_cut(calls: &mut Calls, cut: &Cut) -> Result<(), Wrong> {
+    let Cut { table, first, last } = cut;
+    let fits = model::cut_fields(table, *first, *last, usize::MAX);
+    each_room(calls, &fits, |calls, room, due| calls.cut_fields(table, (*first, *last), room, due))?;
+    let Ok(left) = fits else { return Ok(()) };
+    compare_readers(calls, &left)?;
+    let records = records(&mut calls.rng, table, *first, *last);
+    calls.put_fields((&left, &records), *first, table.len(), &Ok(table.clone()))
+}
+
+/// Fields that are put in are cut out again: the table is then what it was.
+fn compare_put(calls: &mut Calls, put: &Put) -> Result<(), Wrong> {
+    let Put { table, index, records } = put;
+    let fits = model::put_fields(table, *index, records, usize::MAX);
+    each_room(calls, &fits, |calls, room, due| calls.put_fields((table, records), *index, room, due))?;
+    let Ok(longer) = fits else { return Ok(()) };
+    compare_readers(calls, &longer)?;
+    let fields = |table: &[u8]| model::count_fields(table).unwrap_or(0);
+    let last = index + fields(&longer) - fields(table) - 1;
+    calls.cut_fields(&longer, (*index, last), table.len(), &Ok(table.clone()))
 }
 
 fn compare_reading(calls: &mut Calls, table: &[u8], packet: &[u8]) -> Result<(), Wrong> {

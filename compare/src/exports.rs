@@ -38,6 +38,8 @@ type List = unsafe extern "C" fn(*const u8, usize, *const u8, usize, *mut u8, us
 type Part = unsafe extern "C" fn(*const u8, usize, *const u8, usize, usize) -> Span;
 type Name = unsafe extern "C" fn(*const u8, usize, usize) -> Span;
 type Kind = unsafe extern "C" fn(*const u8, usize, usize) -> Answer;
+type Cut = unsafe extern "C" fn(*const u8, usize, usize, usize, *mut u8, usize) -> Answer;
+type Put = unsafe extern "C" fn(*const u8, usize, usize, *const u8, usize, *mut u8, usize) -> Answer;
 type ReadPartly = unsafe extern "C" fn(*const u8, usize, *const u8, usize, *mut u32, usize) -> Partial;
 
 /// The functions that are compared with the model.
@@ -55,6 +57,8 @@ pub struct Exports {
     pub field_kind: Kind,
     pub count_readers: Kind,
     pub convert_table: Write,
+    pub cut_fields: Cut,
+    pub put_fields: Put,
     pub read_partly: ReadPartly,
 }
 
@@ -72,6 +76,8 @@ pub const LIBRARY: Exports = Exports {
     field_kind: umarekoza_field_kind,
     count_readers: umarekoza_count_readers,
     convert_table: umarekoza_convert_table,
+    cut_fields: umarekoza_cut_fields,
+    put_fields: umarekoza_put_fields,
     read_partly: umarekoza_read_partly,
 };
 
@@ -92,6 +98,10 @@ extern "C" {
     fn umarekoza_field_kind(table: *const u8, table_len: usize, index: usize) -> Answer;
     fn umarekoza_count_readers(table: *const u8, table_len: usize, index: usize) -> Answer;
     fn umarekoza_convert_table(table: *const u8, table_len: usize, out: *mut u8, out_len: usize) -> Answer;
+    fn umarekoza_cut_fields(table: *const u8, table_len: usize, first: usize, last: usize,
+                            out: *mut u8, out_len: usize) -> Answer;
+    fn umarekoza_put_fields(table: *const u8, table_len: usize, index: usize,
+                            records: *const u8, records_len: usize, out: *mut u8, out_len: usize) -> Answer;
     fn umarekoza_read_partly(table: *const u8, table_len: usize, packet: *const u8, packet_len: usize,
                              run: *mut u32, run_len: usize) -> Partial;
 }

@@ -6,13 +6,15 @@ use crate::comparisons::compare;
 use std::fs;
 use std::path::Path;
 use umarekoza::LISTING_MOST;
+use umarekoza_model::generate::{Cut, Put};
 use umarekoza_model::protocol::from_hex;
 use umarekoza_model::{Reading, Refusal};
 
 /// The files of stored cases.
-pub const FILES: [&str; 11] = [
+pub const FILES: [&str; 12] = [
     "base2.tsv",
     "large.tsv",
+    "r4.tsv",
     "r5.tsv",
     "tables.tsv",
     "packets.tsv",
@@ -54,6 +56,14 @@ fn case(words: &[&str]) -> Option<Case> {
             Case::Packet { table: from_hex(table)?, packet: Vec::new() }
         }
         ["convert", _, table] => Case::Old(from_hex(table)?),
+        ["cut", first, last, _, table] => {
+            let (first, last) = (first.parse().ok()?, last.parse().ok()?);
+            Case::Cut(Cut { table: from_hex(table)?, first, last })
+        }
+        ["put", index, _, table, records] => {
+            let (table, records) = (from_hex(table)?, from_hex(records)?);
+            Case::Put(Put { table, index: index.parse().ok()?, records })
+        }
         ["read", _, table, packet] | ["part", _, table, packet] | ["list", table, packet] => {
             Case::Packet { table: from_hex(table)?, packet: from_hex(packet)? }
         }
@@ -91,6 +101,15 @@ fn compare_stored(calls: &mut Calls, words: &[&str], answer: &str) -> Option<Res
         }
         ["convert", room, table] => {
             calls.convert_table(&from_hex(table)?, room.parse().ok()?, &settled(answer, from_hex)?)
+        }
+        ["cut", first, last, room, table] => {
+            let (run, room) = ((first.parse().ok()?, last.parse().ok()?), room.parse().ok()?);
+            calls.cut_fields(&from_hex(table)?, run, room, &settled(answer, from_hex)?)
+        }
+        ["put", index, room, table, records] => {
+            let (table, records) = (from_hex(table)?, from_hex(records)?);
+            let (index, room) = (index.parse().ok()?, room.parse().ok()?);
+            calls.put_fields((&table, &records), index, room, &settled(answer, from_hex)?)
         }
         _ => return None,
     })

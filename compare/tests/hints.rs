@@ -102,7 +102,7 @@ fn hints_for_pages_agree_with_the_stored_cases() {
             refused += 1;
         }
     }
-    assert_eq!(refused, 1321);
+    assert_eq!(refused, 1319);
 }
 
 /// A wrong verdict gets the number's meaning alone, at its line.

@@ -109,6 +109,33 @@ wrong!(count_readers, answered, table m *const u8; index -> Answer);
 wrong!(convert_table, answered, table m *const u8, out n *mut u8; -> Answer);
 wrong!(read_partly, told_partly, table m *const u8, packet n *const u8, run o *mut u32; -> Partial);
 
+unsafe extern "C" fn cut_fields(
+    table: *const u8,
+    m: usize,
+    first: usize,
+    last: usize,
+    out: *mut u8,
+    n: usize,
+) -> Answer {
+    let answer = (LIBRARY.cut_fields)(table, m, first, last, out, n);
+    spoil("cut_fields", &[bytes(table, m), bytes(out, n)]);
+    answered("cut_fields", answer)
+}
+
+unsafe extern "C" fn put_fields(
+    table: *const u8,
+    m: usize,
+    index: usize,
+    records: *const u8,
+    n: usize,
+    out: *mut u8,
+    o: usize,
+) -> Answer {
+    let answer = (LIBRARY.put_fields)(table, m, index, records, n, out, o);
+    spoil("put_fields", &[bytes(table, m), bytes(records, n), bytes(out, o)]);
+    answered("put_fields", answer)
+}
+
 const EXPORTS: Exports = Exports {
     write_table,
     check_table,
@@ -122,6 +149,8 @@ const EXPORTS: Exports = Exports {
     field_kind,
     count_readers,
     convert_table,
+    cut_fields,
+    put_fields,
     read_partly,
 };
 
@@ -149,6 +178,8 @@ fn wrong_programs_are_noticed() {
         ("list_packet", 3),
         ("read_partly", 3),
         ("convert_table", 2),
+        ("cut_fields", 2),
+        ("put_fields", 3),
     ];
     for (call, buffers) in with_buffers.into_iter().chain(with_output) {
         let of_answer = if SPANS.contains(&call) { &OF_SPANS[..] } else { &OF_ANSWERS };

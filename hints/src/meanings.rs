@@ -11,7 +11,7 @@ pub fn meaning_of(number: u32) -> Meaning {
     })
 }
 
-const MEANINGS: [(u32, &str, &str); 21] = [
+const MEANINGS: [(u32, &str, &str); 23] = [
     (1, "the page is too long", "a page has at most 16,384 bytes"),
     (
         2,
@@ -57,4 +57,6 @@ const MEANINGS: [(u32, &str, &str); 21] = [
     (28, "bits are left over behind the last field", "the packet is longer than the page says"),
     (29, "an expression of this field divides by zero", "test the divisor first"),
     (30, "no field has this name or index", "give a label, a short name or an index from 0"),
+    (31, "this field is left, and reads one that is to be cut out", "cut it out too, or mend the page"),
+    (34, "the fields that there would be make no good table", "docs/RULES.md has the rules on fields"),
 ];

@@ -1,18 +1,16 @@
 //! The hint for a refused packet: which bits are missing or left over, or which rule is broken by which values.
 
 mod mends;
-mod stored;
 mod values;
-mod written;
 
 use crate::hint::Verdict;
 use crate::limits::PACKET_MOST;
 use crate::meanings::meaning_of;
 use crate::operators::Broken;
 use crate::shown::{counted, quoted, shown, shown_name, spelled};
-use stored::{fields_of, StoredField, StoredWidth, Tree};
+use crate::stored::{fields_of, StoredField, StoredWidth, Tree};
+use crate::written::{name_of, written};
 use values::{value_of, Fault};
-use written::{name_of, written};
 
 /// What is said of a refused packet.
 #[derive(Clone, Debug, Default, PartialEq, Eq)]

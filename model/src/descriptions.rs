@@ -58,4 +58,13 @@ impl<'a, N> Field<'a, N> {
         };
         width.into_iter().chain(&self.constraint).chain(&self.condition)
     }
+
+    /// The same, to be changed.
+    pub fn trees_mut(&mut self) -> impl Iterator<Item = &mut Tree<N>> {
+        let width = match &mut self.width {
+            Width::Measured { tree, .. } => Some(tree),
+            _ => None,
+        };
+        width.into_iter().chain(&mut self.constraint).chain(&mut self.condition)
+    }
 }

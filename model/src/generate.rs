@@ -4,10 +4,12 @@
 //! `layouts` and `words` choose rows and names, `growth` the trees, `steps` some at the edges of `/`, `%` and `^`,
 //! `fields` the description; `spelling` writes it as one of its texts; `bends` breaks a rule of a description,
 //! `clashes` those on equal names, `numbers` makes tables with wrong numbers and old ones, `edits` changes bytes and
-//! lines; `fitting` makes packets for a table. `extremes` makes what stands at the far ends of the limits.
+//! lines; `fitting` makes packets for a table; `runs` chooses fields, `cuts` to cut them out and `puts` to put them in.
+//! `extremes` makes what stands at the far ends of the limits.
 
 mod bends;
 mod clashes;
+mod cuts;
 mod edits;
 mod extremes;
 mod fields;
@@ -15,15 +17,21 @@ mod fitting;
 mod growth;
 mod layouts;
 mod numbers;
+mod puts;
 #[cfg(test)]
 mod reached;
 #[cfg(test)]
+mod reached_edits;
+#[cfg(test)]
 mod reached_numbers;
 mod rng;
+mod runs;
 mod spelling;
 mod steps;
 mod words;
 
+pub use cuts::{cut, Cut};
+pub use puts::{put, records, Put};
 pub use rng::Rng;
 
 use crate::descriptions::Description;

@@ -1,8 +1,8 @@
 //! The requests of the oracle and their answers, a line each; see `vectors/README.md`.
 
 use crate::{
-    check_table, convert_table, count_readers, field_bytes, list_packet, read_packet, write_table, Reading,
-    Refusal,
+    check_table, convert_table, count_readers, cut_fields, field_bytes, list_packet, put_fields, read_packet,
+    write_table, Reading, Refusal,
 };
 
 /// The answer to a request; `bad request` to a line that is none.
@@ -13,10 +13,7 @@ pub fn answer(request: &str) -> String {
 
 fn answer_words(words: &[&str]) -> Option<String> {
     let answer = match *words {
-        ["text", room, text] => {
-            let written = write_table(&from_hex(text)?, room.parse().ok()?);
-            settled(written.map(|table| format!("ok {}", to_hex(&table))))
-        }
+        ["text", room, text] => table_line(write_table(&from_hex(text)?, room.parse().ok()?)),
         ["table", table] => settled(check_table(&from_hex(table)?).map(|()| "ok".to_string())),
         ["read", run_len, table, packet] => {
             let read = read_packet(&from_hex(table)?, &from_hex(packet)?, run_len.parse().ok()?);
@@ -31,9 +28,14 @@ fn answer_words(words: &[&str]) -> Option<String> {
             let count = count_readers(&from_hex(table)?, index.parse().ok()?);
             settled(count.map(|count| format!("ok {count}")))
         }
-        ["convert", room, table] => {
-            let converted = convert_table(&from_hex(table)?, room.parse().ok()?);
-            settled(converted.map(|table| format!("ok {}", to_hex(&table))))
+        ["convert", room, table] => table_line(convert_table(&from_hex(table)?, room.parse().ok()?)),
+        ["cut", first, last, room, table] => {
+            let (first, last, room) = (first.parse().ok()?, last.parse().ok()?, room.parse().ok()?);
+            table_line(cut_fields(&from_hex(table)?, first, last, room))
+        }
+        ["put", index, room, table, records] => {
+            let (index, room) = (index.parse().ok()?, room.parse().ok()?);
+            table_line(put_fields(&from_hex(table)?, index, &from_hex(records)?, room))
         }
         _ => return None,
     };
@@ -42,6 +44,10 @@ fn answer_words(words: &[&str]) -> Option<String> {
 
 fn settled(answer: Result<String, Refusal>) -> String {
     answer.unwrap_or_else(|Refusal { number, place }| format!("refused {number} {place}"))
+}
+
+fn table_line(written: Result<Vec<u8>, Refusal>) -> String {
+    settled(written.map(|table| format!("ok {}", to_hex(&table))))
 }
 
 fn reading_line(reading: &Reading) -> String {

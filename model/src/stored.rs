@@ -28,11 +28,18 @@ pub fn encode_with(edition: &Edition, description: &Description, numbers: &[usiz
         put_number(body, description.fields.len());
         put_part(body, description.name);
     });
-    for (field, number) in description.fields.iter().zip(numbers) {
-        put_field(&mut table, edition, field, *number);
-    }
+    table.extend(encode_fields(edition, &description.fields, numbers));
     record(&mut table, END, |_| {});
     table
+}
+
+/// The records of fields by an edition, with these numbers, one for each, where it keeps them.
+pub fn encode_fields(edition: &Edition, fields: &[Field<usize>], numbers: &[usize]) -> Vec<u8> {
+    let mut records = Vec::with_capacity(64 * fields.len());
+    for (field, number) in fields.iter().zip(numbers) {
+        put_field(&mut records, edition, field, *number);
+    }
+    records
 }
 
 /// Adds a record: its length, its kind and the body that `put` adds.
@@ -128,15 +135,32 @@ pub fn decode<'a>(edition: &Edition, table: &'a [u8]) -> Option<Decoded<'a>> {
     }
     let (mut fields, mut numbers) = (Vec::new(), Vec::new());
     for _ in 0..count {
-        let (kind, mut body) = take_record(&mut rest)?;
-        if edition.keeps_numbers {
-            numbers.push(take_number(&mut body)?);
-        }
-        fields.push(take_field(sort_of(edition, kind)?, body)?);
+        let (number, field) = take_field_record(edition, &mut rest)?;
+        numbers.extend(number);
+        fields.push(field);
     }
     let (kind, body) = take_record(&mut rest)?;
     let ended = kind == END && body.is_empty() && rest.is_empty();
     ended.then_some(Decoded { description: Description { name, row_bits, fields }, numbers })
+}
+
+/// The fields of records, whole ones and nothing else, whatever numbers they keep.
+pub fn decode_fields<'a>(edition: &Edition, records: &'a [u8]) -> Option<Vec<Field<'a, usize>>> {
+    let (mut rest, mut fields) = (records, Vec::new());
+    while !rest.is_empty() {
+        fields.push(take_field_record(edition, &mut rest)?.1);
+    }
+    Some(fields)
+}
+
+/// The number, where the edition keeps one, and the field of the next record.
+fn take_field_record<'a>(
+    edition: &Edition,
+    rest: &mut &'a [u8],
+) -> Option<(Option<usize>, Field<'a, usize>)> {
+    let (kind, mut body) = take_record(rest)?;
+    let number = if edition.keeps_numbers { Some(take_number(&mut body)?) } else { None };
+    Some((number, take_field(sort_of(edition, kind)?, body)?))
 }
 
 /// The kind and body of the next record.

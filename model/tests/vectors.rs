@@ -25,6 +25,11 @@ fn large() {
 }
 
 #[test]
+fn r4() {
+    agrees("r4.tsv", 400);
+}
+
+#[test]
 fn r5() {
     agrees("r5.tsv", 300);
 }

@@ -10,8 +10,8 @@ from umarekoza import Refusal
 VECTORS = Path(__file__).resolve().parents[2] / "vectors"
 # How many lines each file has.
 FILES = {
-    "base2": 200, "large": 24, "r5": 300, "tables": 512, "packets": 494, "spelled": 94, "edge": 395, "mutated": 550,
-    "r10": 47, "r2": 181, "r7": 187,
+    "base2": 200, "large": 24, "r4": 400, "r5": 300, "tables": 512, "packets": 494, "spelled": 94, "edge": 395,
+    "mutated": 550, "r10": 47, "r2": 181, "r7": 187,
 }  # fmt: skip
 
 
@@ -60,8 +60,19 @@ def convert(room, stored):
     return "ok " + out[: umarekoza.convert_table(from_hex(stored), out)].hex()
 
 
+def cut(first, last, room, stored):
+    out = bytearray(int(room))
+    return "ok " + out[: umarekoza.cut_fields(from_hex(stored), int(first), int(last), out)].hex()
+
+
+def put(index, room, stored, records):
+    out = bytearray(int(room))
+    return "ok " + out[: umarekoza.put_fields(from_hex(stored), int(index), from_hex(records), out)].hex()
+
+
 CALLS = {
     "text": text, "table": table, "read": read, "part": part, "list": listed, "readers": readers, "convert": convert,
+    "cut": cut, "put": put,
 }  # fmt: skip
 
 

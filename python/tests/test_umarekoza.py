@@ -144,6 +144,43 @@ class Marked(unittest.TestCase):
         self.refused(21, 0, umarekoza.converted, b"no table")
         self.assertRaises(ValueError, umarekoza.convert_table, out, out)
 
+    def test_fields_cut_out_and_put_in(self):
+        # The records of Borrower, and the table of the page without it.
+        borrower = TABLE[129:164]
+        page = BLADE.replace(b"|           Borrower            |\n+-+-+-+-+-+-+-+-+-+-+-+-+-+-+-+-+\n", b"")
+        shorter = umarekoza.table_of(page.replace(b"Borrower (Bor): 2 bytes; present only when L == 1.\n", b""))
+        self.assertEqual(umarekoza.without_fields(TABLE, 4, 4), shorter)
+        self.assertEqual(umarekoza.with_fields(shorter, 4, borrower), TABLE)
+        self.assertEqual(umarekoza.with_fields(shorter, 4, borrower[:4] + b"\xee\xee" + borrower[6:]), TABLE)
+        for first, last in ((0, 7), (1, 0), (7, 7), (0, 2**64), (2**80, 2**80)):
+            self.refused(30, 0, umarekoza.without_fields, TABLE, first, last)
+        self.refused(31, 5, umarekoza.without_fields, TABLE, 1, 1)
+        self.refused(31, 6, umarekoza.without_fields, TABLE, 0, 4)
+        self.refused(34, 0, umarekoza.without_fields, TABLE, 0, 6)
+        self.refused(21, 0, umarekoza.without_fields, b"", 0, 0)
+        for index, records in ((7, borrower), (4, b""), (2**64, borrower)):
+            self.refused(30, 0, umarekoza.with_fields, shorter, index, records)
+        for index, records in ((3, borrower), (4, borrower[:-1]), (4, 2 * borrower), (4, TAG_TABLE)):
+            self.refused(34, 0, umarekoza.with_fields, shorter, index, records)
+        self.refused(21, 0, umarekoza.with_fields, b"", 0, borrower)
+
+    def test_outputs_of_cut_and_put(self):
+        borrower, out = TABLE[129:164], bytearray(b"\xee" * 220)
+        self.refused(11, 0, umarekoza.cut_fields, TABLE, 4, 4, memoryview(out)[:179])
+        self.refused(31, 6, umarekoza.cut_fields, TABLE, 2, 2, out)
+        self.assertEqual(out, b"\xee" * 220)
+        self.assertEqual(umarekoza.cut_fields(TABLE, 4, 4, out), 180)
+        shorter = bytes(out[:180])
+        self.assertEqual(out[180:], b"\xee" * 40)
+        out = bytearray(b"\xee" * 220)
+        self.refused(11, 0, umarekoza.put_fields, shorter, 4, borrower, memoryview(out)[:214])
+        self.assertEqual(out, b"\xee" * 220)
+        self.assertEqual(umarekoza.put_fields(shorter, 4, borrower, out), 215)
+        self.assertEqual(out, TABLE + b"\xee" * 5)
+        self.assertRaises(ValueError, umarekoza.cut_fields, out, 4, 4, out)
+        self.assertRaises(ValueError, umarekoza.put_fields, shorter, 4, memoryview(out)[:35], out)
+        self.assertRaises(ValueError, umarekoza.cut_fields, TABLE, -1, 4, out)
+
     def test_labels_are_names_too(self):
         self.assertEqual(umarekoza.table_of(BLADE.replace(b"Readings: N", b"Readings: Cells")), TABLE)
         self.refused(9, 22, umarekoza.table_of, BLADE.replace(b"Readings: N", b"Readings: Sum"))

@@ -1,6 +1,6 @@
 """Packet diagrams as a person writes them, turned into field tables, and packets read by a table: calls of the proved
-library by ctypes. Document 01 has the rules, the numbers and the places; only 29, for a zero
-divisor, and 30, for a field that is not there, are document 02's.
+library by ctypes. Document 01 has the rules, the numbers and the places; only 29, for a zero divisor, 30, for a field
+that is not there, 31, for a field that is still read, and 34, for fields that do not go together, are document 02's.
 
 A text, table, packet or name is anything with the bytes of one: bytes, bytearray, memoryview, mmap; none is copied. A
 name may be a str too. What is written to is a bytearray or another buffer that may be written, and for a run one of
@@ -28,9 +28,9 @@ from ._calls import Refusal
 
 __all__ = [
     "FIELDS_MOST", "Field", "Kind", "LISTING_MOST", "PACKET_MOST", "RUN_MOST", "Refusal", "TABLE_MOST", "TEXT_MOST",
-    "VERSION", "check_table", "convert_table", "converted", "count_fields", "count_readers", "field_bytes",
-    "field_kind", "field_label", "field_short", "fields_of", "find_field", "list_packet", "listing", "read_packet",
-    "read_partly", "table_of", "write_table",
+    "VERSION", "check_table", "convert_table", "converted", "count_fields", "count_readers", "cut_fields",
+    "field_bytes", "field_kind", "field_label", "field_short", "fields_of", "find_field", "list_packet", "listing",
+    "put_fields", "read_packet", "read_partly", "table_of", "with_fields", "without_fields", "write_table",
 ]  # fmt: skip
 
 VERSION = "0.1.0"
@@ -162,6 +162,43 @@ def converted(old):
     """The new table of an old one, as bytes. Refuses by 21."""
     out = bytearray(TABLE_MOST)
     return bytes(memoryview(out)[: convert_table(old, out)])
+
+
+def cut_fields(table, first, last, out):
+    """Writes the table of a good one without its fields from the index first to the index last, both cut out, to the
+    start of out and answers its length. Later fields get the indexes that they then have, in what reads them too.
+
+    Refuses by 21; by 30 if first is over last or last is no field's index; by 31 at the first field that is left and
+    reads one that is cut out, counted from 1 as the table is; by 34 if what is left is no good table for another
+    reason; by 11 if out is too short.
+    """
+    return _calls.cut_fields(table, first, last, out)
+
+
+def without_fields(table, first, last):
+    """The table of a good one without its fields from the index first to the index last, as bytes. Refuses by 21, 30,
+    31 and 34."""
+    out = bytearray(TABLE_MOST)
+    return bytes(memoryview(out)[: cut_fields(table, first, last, out)])
+
+
+def put_fields(table, index, records, out):
+    """Writes the table of a good one with the fields of records before the field of an index, or behind the last one
+    where the index is the number of fields, to the start of out and answers its length. Later fields get the indexes
+    that they then have, in what reads them too. References in the records are by the numbering of the new table; the
+    numbers of readers in them may be any, and the new table has the right ones.
+
+    Refuses by 21; by 30 if there are no records or the index is over the number of fields; by 34 if the records are no
+    whole ones of fields or the fields are no good table together; by 11 if out is too short.
+    """
+    return _calls.put_fields(table, index, records, out)
+
+
+def with_fields(table, index, records):
+    """The table of a good one with the fields of records before the field of an index, or behind the last one, as
+    bytes. Refuses by 21, 30 and 34."""
+    out = bytearray(TABLE_MOST)
+    return bytes(memoryview(out)[: put_fields(table, index, records, out)])
 
 
 def field_short(table, index):

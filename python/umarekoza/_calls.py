@@ -7,7 +7,7 @@ from ._buffers import Lent, index_of
 
 
 class Refusal(Exception):
-    """A refusal: its number, and its place (a line of a text, a field of a packet, or 0)."""
+    """A refusal: its number, and its place (a line of a text, a field of a packet or table, or 0)."""
 
     def __init__(self, number, place):
         super().__init__(number, place)
@@ -39,11 +39,19 @@ class _Span(ctypes.Structure):
 _library = ctypes.CDLL(os.environ.get("UMAREKOZA_LIBRARY") or "libumarekoza.so.0")
 
 
-def _entry(name, answer, buffers, index=False):
+_BUFFER = [ctypes.c_void_p, ctypes.c_size_t]
+_NUMBER = [ctypes.c_size_t]
+
+
+def _declared(name, answer, arguments):
     function = getattr(_library, "umarekoza_" + name)
     function.restype = answer
-    function.argtypes = [ctypes.c_void_p, ctypes.c_size_t] * buffers + [ctypes.c_size_t] * index
+    function.argtypes = arguments
     return function
+
+
+def _entry(name, answer, buffers, index=False):
+    return _declared(name, answer, _BUFFER * buffers + _NUMBER * index)
 
 
 _write_table = _entry("write_table", _Answer, 2)
@@ -59,6 +67,8 @@ _field_kind = _entry("field_kind", _Answer, 1, index=True)
 _count_readers = _entry("count_readers", _Answer, 1, index=True)
 _convert_table = _entry("convert_table", _Answer, 2)
 _read_partly = _entry("read_partly", _Partial, 3)
+_cut_fields = _declared("cut_fields", _Answer, _BUFFER + 2 * _NUMBER + _BUFFER)
+_put_fields = _declared("put_fields", _Answer, _BUFFER + _NUMBER + 2 * _BUFFER)
 
 
 def write_table(text, out):
@@ -135,6 +145,20 @@ def convert_table(old, out):
         old, out = lent.reads(old), lent.writes(out)
         lent.see_that_none_overlap()
         return _convert_table(*old, *out).settled()
+
+
+def cut_fields(table, first, last, out):
+    with Lent() as lent:
+        table, out = lent.reads(table), lent.writes(out)
+        lent.see_that_none_overlap()
+        return _cut_fields(*table, index_of(first), index_of(last), *out).settled()
+
+
+def put_fields(table, index, records, out):
+    with Lent() as lent:
+        table, records, out = lent.reads(table), lent.reads(records), lent.writes(out)
+        lent.see_that_none_overlap()
+        return _put_fields(*table, index_of(index), *records, *out).settled()
 
 
 def part(whole, span):

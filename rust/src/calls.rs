@@ -106,6 +106,23 @@ mod library {
             out: *mut u8,
             out_len: usize,
         ) -> Answer;
+        pub fn umarekoza_cut_fields(
+            table: *const u8,
+            table_len: usize,
+            first: usize,
+            last: usize,
+            out: *mut u8,
+            out_len: usize,
+        ) -> Answer;
+        pub fn umarekoza_put_fields(
+            table: *const u8,
+            table_len: usize,
+            index: usize,
+            records: *const u8,
+            records_len: usize,
+            out: *mut u8,
+            out_len: usize,
+        ) -> Answer;
         pub fn umarekoza_read_partly(
             table: *const u8,
             table_len: usize,
@@ -182,6 +199,21 @@ pub fn convert_table(table: &[u8], out: &mut [u8]) -> Answer {
     let (out, room) = (out.as_mut_ptr(), out.len());
     // SAFETY: both pointers are valid for their lengths, and `out` is lent for the call alone.
     unsafe { library::umarekoza_convert_table(table.as_ptr(), table.len(), out, room) }
+}
+
+pub fn cut_fields(table: &[u8], first: usize, last: usize, out: &mut [u8]) -> Answer {
+    let (out, room) = (out.as_mut_ptr(), out.len());
+    // SAFETY: both pointers are valid for their lengths, and `out` is lent for the call alone.
+    unsafe { library::umarekoza_cut_fields(table.as_ptr(), table.len(), first, last, out, room) }
+}
+
+pub fn put_fields(table: &[u8], index: usize, records: &[u8], out: &mut [u8]) -> Answer {
+    let (out, room) = (out.as_mut_ptr(), out.len());
+    let (table_at, records_at) = (table.as_ptr(), records.as_ptr());
+    // SAFETY: all pointers are valid for their lengths, and `out` is lent for the call alone.
+    unsafe {
+        library::umarekoza_put_fields(table_at, table.len(), index, records_at, records.len(), out, room)
+    }
 }
 
 pub fn read_partly(table: &[u8], packet: &[u8], run: &mut [u32]) -> Partial {

@@ -1,6 +1,6 @@
 //! Packet diagrams as a person writes them, turned into field tables, and packets read by a table: safe calls of
 //! the proved static library `libumarekoza.a`. Document 01 has the rules, the numbers and the places; [`Refusal`]
-//! names the two numbers that it does not have.
+//! names the four numbers that it does not have.
 //!
 //! Every function answers for every input and panics for none. Functions that write to a lent slice change no
 //! byte of it where they refuse, and nothing beyond what they write where they accept; [`read_partly`] alone writes
@@ -45,12 +45,14 @@
 #![warn(missing_docs)]
 
 mod calls;
+mod edits;
 mod limits;
 mod meanings;
 mod packets;
 mod refusal;
 mod tables;
 
+pub use edits::{cut_fields, put_fields, with_fields, without_fields};
 pub use limits::{FIELDS_MOST, LISTING_MOST, PACKET_MOST, RUN_MOST, TABLE_MOST, TEXT_MOST};
 pub use meanings::{meanings, Meaning};
 pub use packets::{field_bytes, fields_of, list_packet, listing, read_packet, read_partly, Field};

@@ -16,7 +16,7 @@ pub fn meanings() -> &'static [Meaning] {
     &MEANINGS
 }
 
-const MEANINGS: [Meaning; 21] = [
+const MEANINGS: [Meaning; 23] = [
     Meaning {
         number: 1,
         what: "the page is longer than 16,384 bytes",
@@ -130,6 +130,18 @@ const MEANINGS: [Meaning; 21] = [
         what: "no field has this name or index",
         mend: "give a label, a short name or an index from 0",
     },
+    Meaning {
+        number: 31,
+        what: "this field is left, and reads one that is to be cut out",
+        mend: "cut it out too, or write its expression on the page without that field",
+    },
+    Meaning {
+        number: 34,
+        what: "the fields that there would be make no good table",
+        mend: "at least 1 field and at most 128, no name twice, widths that fill the rows, references to \
+               earlier fixed fields only, and one field of `variable` width at most, with fixed ones \
+               behind it: cut out or put in more fields at once, or mend the page and write its table again",
+    },
 ];
 
 #[cfg(test)]
@@ -148,7 +160,7 @@ mod tests {
     #[test]
     fn every_number_has_one_meaning() {
         let numbers: Vec<u32> = meanings().iter().map(|meaning| meaning.number).collect();
-        let expected: Vec<u32> = (1..=11).chain(21..=30).collect();
+        let expected: Vec<u32> = (1..=11).chain(21..=31).chain([34]).collect();
         assert_eq!(numbers, expected);
     }
 

@@ -2,8 +2,9 @@ use crate::{meanings, Meaning};
 use std::error::Error;
 use std::fmt;
 
-/// A refusal: its number, and its place (a line of a text, a field of a packet, or 0). Both are document 01's; only
-/// 29, for a zero divisor, and 30, for a name or index that no field has, are document 02's.
+/// A refusal: its number, and its place (a line of a text, a field of a packet or table, or 0). Both are document 01's;
+/// only 29, for a zero divisor, 30, for a name, an index or a run that no field has, 31, for a field that is still
+/// read, and 34, for fields that do not go together, are document 02's.
 ///
 /// ```
 /// let refusal = umarekoza::Refusal { number: 24, place: 7 };
@@ -11,7 +12,7 @@ use std::fmt;
 /// ```
 #[derive(Clone, Copy, Debug, PartialEq, Eq, Hash)]
 pub struct Refusal {
-    /// The number: 1 to 11 or 21 to 30.
+    /// The number: 1 to 11, 21 to 31, or 34.
     pub number: u32,
     /// The line or field, counted from 1, or 0.
     pub place: u32,

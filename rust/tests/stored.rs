@@ -5,9 +5,10 @@ use std::path::Path;
 use umarekoza::*;
 
 /// The files, and how many lines each has.
-const FILES: [(&str, usize); 11] = [
+const FILES: [(&str, usize); 12] = [
     ("base2.tsv", 200),
     ("large.tsv", 24),
+    ("r4.tsv", 400),
     ("r5.tsv", 300),
     ("tables.tsv", 512),
     ("packets.tsv", 494),
@@ -62,18 +63,22 @@ fn read(run_len: usize, table: &[u8], packet: &[u8]) -> Result<String, Refusal> 
     Ok(line)
 }
 
-/// The answer to `convert`; with room enough, `converted` gives the same.
-fn renewed(room: usize, old: &[u8]) -> String {
+/// The answer to what writes a good table to an output of so many bytes; with room enough, `whole` gives the same.
+fn made(
+    room: usize,
+    write: impl Fn(&mut [u8]) -> Result<usize, Refusal>,
+    whole: impl Fn() -> Result<Vec<u8>, Refusal>,
+) -> String {
     let mut out = vec![0; room];
-    let renewed = convert_table(old, &mut out).map(|length| out[..length].to_vec());
-    match &renewed {
+    let made = write(&mut out).map(|length| out[..length].to_vec());
+    match &made {
         Err(refusal) => assert!(out.iter().all(|byte| *byte == 0), "{refusal}"),
         Ok(table) => assert_eq!(check_table(table), Ok(())),
     }
-    if !matches!(renewed, Err(Refusal { number: 11, .. })) {
-        assert_eq!(converted(old), renewed);
+    if !matches!(made, Err(Refusal { number: 11, .. })) {
+        assert_eq!(whole(), made);
     }
-    settled(renewed.map(|table| format!("ok {}", hex(&table))))
+    settled(made.map(|table| format!("ok {}", hex(&table))))
 }
 
 fn answer(request: &str) -> String {
@@ -97,7 +102,20 @@ fn answer(request: &str) -> String {
         ["readers", index, table] => {
             settled(count_readers(&bytes(table), number(index)).map(|count| format!("ok {count}")))
         }
-        ["convert", room, table] => renewed(number(room), &bytes(table)),
+        ["convert", room, table] => {
+            let old = bytes(table);
+            made(number(room), |out| convert_table(&old, out), || converted(&old))
+        }
+        ["cut", first, last, room, table] => {
+            let (first, last, table) = (number(first), number(last), bytes(table));
+            let whole = || without_fields(&table, first, last);
+            made(number(room), |out| cut_fields(&table, first, last, out), whole)
+        }
+        ["put", index, room, table, records] => {
+            let (index, table, records) = (number(index), bytes(table), bytes(records));
+            let whole = || with_fields(&table, index, &records);
+            made(number(room), |out| put_fields(&table, index, &records, out), whole)
+        }
         _ => panic!("no request: {request}"),
     }
 }

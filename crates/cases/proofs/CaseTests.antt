@@ -19,6 +19,7 @@ use Rattle.rules.specs.Fields.{Description}
 use Rattle.rules.specs.Within.{Within}
 use Rattle.rules.specs.Stored.{stored, Good}
 use Rattle.rules.specs.Editions.{current, uncounted}
+use Rattle.rules.specs.Edits.{cut}
 use Rattle.rules.specs.Expressions.{SpellsTree}
 use Rattle.rules.specs.Lines.{Unresolved}
 use Rattle.rules.specs.Frames.{isFrame}
@@ -43,6 +44,10 @@ use Rattle.rules.specs.Promises.{
   readersAnswer,
   CountsReaders,
   ConvertsTable,
+  cutOutcome,
+  CutsFields,
+  putOutcome,
+  PutsFields,
   listing,
   ReadsText,
 }
@@ -56,6 +61,8 @@ use Rattle.rules.specs.Cases.{
   finds,
   labels,
   readBy,
+  cuts,
+  puts,
   exceeds,
   values,
   faults,
@@ -80,6 +87,7 @@ use Rattle.laws.proofs.WithinTest.{isWithin, within, outside}
 use Rattle.laws.proofs.Unique.{stored-unique}
 use Rattle.laws.proofs.GoodTest.{told-by, answerIn, table-told}
 use Rattle.laws.proofs.Allowed.{good-stored, labelAt, convertedIn}
+use Rattle.laws.proofs.EditsTold.{cutTold, by-cut, putTold, by-put}
 use Rattle.laws.proofs.RuledOut.{answerNumbers, numbers, placeNumbers}
 use Rattle.text_laws.specs.Reader.{Out, fail, got, expr}
 use Rattle.text_laws.proofs.ReaderUnique.{tree-unique, found-whole}
@@ -195,6 +203,20 @@ converted table out o h old =
     outcome-same o (convertedIn table out) h
     ∙ told-by uncounted table (λ d. delivered (stored d) out) (leaves notGood out) old
 
+cut-from : (d : Description) (first last : ℕ) (out : List ℕ) (o : Outcome) → Within d
+    → same (numbers o) (numbers (cutTold first last d out)) ≡ true → CutsFields (stored d) first last out o
+cut-from d first last out o w h good limited =
+    outcome-same o (cutTold first last d out) h
+    ∙ by-cut first last out d (limited (cut first last d))
+    ∙ sym (by-stored d w (λ c. cutOutcome first last c (limited (cut first last c)) out) _ good)
+
+put-into : (d : Description) (at : ℕ) (bytes out : List ℕ) (o : Outcome) → Within d
+    → same (numbers o) (numbers (putTold at bytes d out)) ≡ true → PutsFields (stored d) at bytes out o
+put-into d at bytes out o w h good joins =
+    outcome-same o (putTold at bytes d out) h
+    ∙ by-put at bytes out d (joins d)
+    ∙ sym (by-stored d w (λ c. putOutcome at bytes c (joins c) out) _ good)
+
 -- ── texts ──
 
 abbrev pub isAnswer : Answer → Option Answer → Bool
@@ -243,6 +265,8 @@ isRight (finds d name a) =
     isWithin d && same (answerNumbers a) (answerNumbers (firstNamed name 0 (d .fields)))
 isRight (labels d i label start) = isWithin d && isLabelAt d i label start
 isRight (readBy d i a) = isWithin d && same (answerNumbers a) (answerNumbers (readersAnswer (d .fields) i))
+isRight (cuts d first last out o) = isWithin d && same (numbers o) (numbers (cutTold first last d out))
+isRight (puts d at bytes out o) = isWithin d && same (numbers o) (numbers (putTold at bytes d out))
 isRight (exceeds d) = not (isWithin d)
 isRight (values s t n) = isTree t (readWhole s) && isValueOf n (evaluate noFields t)
 isRight (faults s t n) = isTree t (readWhole s) && isFaultOf n (evaluate noFields t)
@@ -274,6 +298,8 @@ right (hands d packet i part) h = fitting d _ (λ w e. part-same _ _ e) h
 right (finds d name a) h = fitting d _ (λ w e. found-in d name a w e) h
 right (labels d i label start) h = fitting d _ (λ w e. label-in d i label start w e) h
 right (readBy d i a) h = fitting d _ (λ w e. readers-in d i a w e) h
+right (cuts d first last out o) h = fitting d _ (λ w e. cut-from d first last out o w e) h
+right (puts d at bytes out o) h = fitting d _ (λ w e. put-into d at bytes out o w e) h
 right (exceeds d) h = outside d (not-true (isWithin d) h)
 right (values s t n) h = both _ _ (found-only s t) (value-of n (evaluate noFields t)) h
 right (faults s t n) h =

@@ -53,11 +53,14 @@ use Rattle.laws.specs.Wrong.{
   countsReaders,
   countsReadersIn,
   convertsWith,
+  cutsWith,
+  putsWith,
   Claimed,
 }
 use Rattle.laws.proofs.WithinTest.{within}
 use Rattle.laws.proofs.GoodTest.{told-by, table-told}
 use Rattle.laws.proofs.Allowed.{labelAt, shortAt}
+use Rattle.laws.proofs.EditsTold.{cut-told, put-told}
 use Rattle.laws.proofs.RuledOut.{claimed, given, isFitting}
 use Rattle.cases.specs.Promised.{AllSo}
 use Rattle.cases.proofs.CaseTests.{answer-from, outcome-from, part-from, by-stored}
@@ -129,6 +132,10 @@ claim-so (countsReadersIn table i a) h e = λ good.
 claim-so (convertsWith n table a after) h e = λ old.
     ap outcome-from e ∙ told-by uncounted table (λ d. delivered (stored d) (replicate n 9))
     (leaves notGood (replicate n 9)) old
+claim-so (cutsWith n table first last a after) h e = λ good fits.
+    ap outcome-from e ∙ cut-told table first last (replicate n 9) good fits
+claim-so (putsWith n table at records a after) h e = λ good joins.
+    ap outcome-from e ∙ put-told table at records (replicate n 9) good joins
 
 abbrev pub isSo : Claim → Bool
 isSo c = isFitting c && same (claimed c) (given c)

@@ -22,6 +22,8 @@ use Rattle.rules.specs.Trees.{depth, le2, le4, storedTree, isInRange, hasOperat
 use Rattle.rules.specs.Values.{power, apply, decides, evaluateBy}
 use Rattle.rules.specs.Within.{rowsFit}
 use Rattle.rules.specs.References.{treeReads, fieldReads, times, readers}
+use Rattle.rules.specs.Edits as Edits
+use Rattle.rules.specs.Edits.{renumberedTree, renumbered, closed, cut, put, firstReader}
 use Rattle.rules.specs.Stored.{storedIn, storedWith, recordsIn, storedFieldIn, fieldBody, headBody}
 use Rattle.rules.specs.Frames.{tens, units, border, cellText, rowLines, isFrame, headLines, cells}
 use Rattle.rules.specs.Spelling.{mismatch}
@@ -115,6 +117,7 @@ use Rattle.laws.specs.WrongLimits.{entriesOf, linesOf}
 use Rattle.laws.specs.WrongOperators as Wrong
 use Rattle.laws.specs.WrongNumbers.{doubled}
 use Rattle.laws.proofs.Readers as Tables
+use Rattle.laws.proofs.Joining.{readRecords, numberAt}
 use Rattle.laws.proofs.WithinTest.{within}
 use Rattle.base.proofs.Also.{_also_}
 use Rattle.cases.specs.LinesOfAText.{linesOfAText}
@@ -124,6 +127,7 @@ use Rattle.cases.specs.Names.{names}
 use Rattle.cases.specs.Quotients.{quotients}
 use Rattle.cases.specs.StoredTable.{storedTable}
 use Rattle.cases.specs.Readers as Counted
+use Rattle.cases.specs.Edits.{edits}
 use Rattle.cases.specs.Spelling.{spelling}
 use Rattle.cases.specs.ReadingAPacket.{readingAPacket}
 use Rattle.cases.specs.RefusalNumbers.{refusalNumbers}
@@ -150,7 +154,7 @@ unfolding digits all any same lastIs sum joined tabulate firstBreak operator ope
     sameTree formsOf seen Tables.readTwo Tables.readFour Tables.readCounted Tables.codeIn Tables.codeOf
     Tables.readAfter Tables.readTree Tables.treeOf Tables.readFixed Tables.readMeasured Tables.readWidth
     Tables.fieldFrom Tables.readField Tables.readFields Tables.describedIn entriesOf linesOf Wrong.powers
-    Wrong.quotients doubled
+    Wrong.quotients doubled renumberedTree renumbered closed Edits.opened cut put firstReader readRecords numberAt
 cases-hold = (
   -- M4, the fifth of the list, for every byte
   in-order (take 4 marked) (drop 4 marked) (all-right (take 4 marked) refl)
@@ -164,6 +168,7 @@ cases-hold = (
     quotients = all-right quotients refl;
     tables = all-right storedTable refl;
     readers = all-right Counted.readers refl;
+    edits = all-right edits refl;
     spelling = all-right spelling refl;
     packets = all-right readingAPacket refl;
     refusals = all-right refusalNumbers refl;

@@ -6,6 +6,7 @@
 -- Quotients        quotients, remainders and powers, everywhere
 -- StoredTable      tables, and what is looked up in them
 -- Readers          how often a field is read by others, and old tables
+-- Edits            fields that are cut out and put in
 -- Spelling         texts that spell a description
 -- ReadingAPacket   packets, and what is handed out
 -- RefusalNumbers   numbers and places of refusals
@@ -18,6 +19,7 @@ pub mod Names
 pub mod Quotients
 pub mod StoredTable
 pub mod Readers
+pub mod Edits
 pub mod Spelling
 pub mod ReadingAPacket
 pub mod RefusalNumbers

@@ -1,6 +1,7 @@
 -- Right answers: for each sort of claim of which laws/specs/Wrong, WrongLimits, WrongNames, WrongOperators,
--- WrongNumbers and WrongRecords list false ones, one that holds, so that none of those is false for want of an answer.
--- [01, The blade report, marked cases and listing] [02, R-10] [02, R-2] [02, R-7] [02, R-5]
+-- WrongNumbers, WrongRecords, WrongEdits and WrongPuts list false ones, one that holds, so that none of those is false
+-- for want of an answer.
+-- [01, The blade report, marked cases and listing] [02, R-10] [02, R-2] [02, R-4] [02, R-7] [02, R-5]
 use mathlib.Core.List.{List, [], _∷_, _++_, map}
 use lib.ListN.{length, replicate, set}
 use Rattle.base.specs.Bytes.{bytes}
@@ -45,6 +46,8 @@ use Rattle.laws.specs.Wrong.{
   listsWith,
   countsReaders,
   countsReadersIn,
+  cutsWith,
+  putsWith,
   Claimed,
   runOf,
   outputOf,
@@ -68,7 +71,7 @@ use Rattle.laws.specs.WrongOperators.{
   one,
   lacks,
 }
-use Rattle.laws.specs.WrongNumbers.{often, manyTimes, twice, numbered, old, becomes, keepsOld}
+use Rattle.laws.specs.WrongNumbers.{often, manyTimes, twice, numbered, old, nines, becomes, keepsOld}
 use Rattle.laws.specs.WrongRecords.{
   chained,
   longRecord,
@@ -79,6 +82,8 @@ use Rattle.laws.specs.WrongRecords.{
   oldRestKind,
   cutLength,
 }
+use Rattle.laws.specs.WrongEdits.{five, four, pair, letters, cutTo, cutStops}
+use Rattle.laws.specs.WrongPuts.{newRecord, lastRecord, newSecond, putTo, putStops}
 
 -- a label that is read, and one that is another's short name [02, R-2]
 abbrev inNames : List Claim
@@ -215,6 +220,29 @@ inUncounted =
     ∷ readsIn uncounted 30 (old withRest) (fives 2049) (refused 22 0) lentRun
     ∷ []
 
+-- fields that are cut out and put in; 21 before all else [02, R-4]
+abbrev inEdits : List Claim
+inEdits =
+    cutTo five 2 2 four
+    ∷ cutStops five 1 1 31 4
+    ∷ cutStops letters 0 1 34 0
+    ∷ cutStops letters 1 0 30 0
+    ∷ cutsWith 34 (stored letters) 0 0 (refused 11 0) (nines 34)
+    ∷ cutsWith 200 (numbered pair 0 0) 1 1 (refused 21 0) (nines 200)
+    ∷ cutsWith 200 (numbered pair 0 0) 1 0 (refused 21 0) (nines 200)
+    ∷ cutsWith 60 (old letters) 0 0 (refused 21 0) (nines 60)
+    ∷ cutsWith 9 (old letters) 0 0 (refused 21 0) (nines 9)
+    ∷ cutsWith 200 [] 0 0 (refused 21 0) (nines 200)
+    ∷ putTo pair 1 newRecord newSecond
+    ∷ putStops pair 1 lastRecord 34
+    ∷ putStops pair 3 newRecord 30
+    ∷ putsWith 84 (stored pair) 1 newRecord (refused 11 0) (nines 84)
+    ∷ putsWith 200 (numbered pair 0 0) 1 newRecord (refused 21 0) (nines 200)
+    ∷ putsWith 200 (numbered pair 0 0) 9 newRecord (refused 21 0) (nines 200)
+    ∷ putsWith 200 (old pair) 1 [] (refused 21 0) (nines 200)
+    ∷ putsWith 200 (old pair) 1 lastRecord (refused 21 0) (nines 200)
+    ∷ []
+
 abbrev inAll : List Claim
 inAll =
     checks bladeReport (accepted 215)
@@ -255,7 +283,8 @@ inAll =
 
 abbrev pub promised : List Claim
 promised =
-    inAll ++ (inNames ++ (inOperators ++ (inNumbers ++ (inConverted ++ (inRecords ++ inUncounted)))))
+    inAll
+    ++ (inNames ++ (inOperators ++ (inNumbers ++ (inConverted ++ (inRecords ++ (inEdits ++ inUncounted))))))
 
 abbrev pub AllSo : List Claim → Type 0
 AllSo = Every Claimed

@@ -1,7 +1,7 @@
 -- Worked cases: how often a field is read by others, the numbers that records keep, and old tables. [02, R-5]
 use mathlib.Core.List.{List, [], _∷_, _++_, map}
 use Prim.Native.Nat.{ℕ}
-use lib.ListN.{length, replicate, set}
+use lib.ListN.{length, set}
 use Rattle.base.specs.Bytes.{bytes}
 use Rattle.rules.specs.declared.Op.the-variants.{Div, Rem, Pow}
 use Rattle.rules.specs.Fields.{Description}
@@ -13,7 +13,7 @@ use Rattle.rules.specs.Marked.{bladeReport, tag, tagTable}
 use Rattle.rules.specs.Pages.{allKinds, withRest, bladeText, oldTagTable}
 use Rattle.laws.specs.WrongLimits.{fieldsOf}
 use Rattle.laws.specs.WrongOperators.{sized}
-use Rattle.laws.specs.WrongNumbers.{often, manyTimes, numbered, old, mixed}
+use Rattle.laws.specs.WrongNumbers.{often, manyTimes, numbered, old, mixed, nines}
 use Rattle.laws.specs.WrongRecords.{chained}
 use Rattle.text_laws.specs.WrongTextNumbers as texts
 
@@ -23,41 +23,41 @@ use Rattle.text_laws.specs.WrongTextNumbers as texts
 abbrev bladeHead : List ℕ
 bladeHead = 0x16 ∷ 0x00 ∷ 0x01 ∷ 0x00 ∷ 0x10 ∷ 0x00 ∷ 0x07 ∷ 0x00 ∷ 0x0C ∷ 0x00 ∷ bytes "Blade Report"
 
-abbrev versionBody : List ℕ
+abbrev pub versionBody : List ℕ
 versionBody =
     (0x07 ∷ 0x00 ∷ bytes "Version")
     ++ (0x01 ∷ 0x00 ∷ 0x56 ∷ 0x02 ∷ 0x00
     ∷ 0x08 ∷ 0x00 ∷ 0x20 ∷ 0x02 ∷ 0x00 ∷ 0x01 ∷ 0x01 ∷ 0x00 ∷ 0x00 ∷ 0x00 ∷ 0x00 ∷ 0x00 ∷ [])
 
-abbrev loanBody : List ℕ
+abbrev pub loanBody : List ℕ
 loanBody =
     (0x07 ∷ 0x00 ∷ bytes "On Loan") ++ (0x01 ∷ 0x00 ∷ 0x4C ∷ 0x01 ∷ 0x00 ∷ 0x00 ∷ 0x00 ∷ 0x00 ∷ 0x00 ∷ [])
 
-abbrev cellsBody : List ℕ
+abbrev pub cellsBody : List ℕ
 cellsBody =
     (0x05 ∷ 0x00 ∷ bytes "Cells")
     ++ (0x01 ∷ 0x00 ∷ 0x4E ∷ 0x05 ∷ 0x00
     ∷ 0x08 ∷ 0x00 ∷ 0x23 ∷ 0x02 ∷ 0x02 ∷ 0x01 ∷ 0x14 ∷ 0x00 ∷ 0x00 ∷ 0x00 ∷ 0x00 ∷ 0x00 ∷ [])
 
-abbrev bladeBody : List ℕ
+abbrev pub bladeBody : List ℕ
 bladeBody = (0x05 ∷ 0x00 ∷ bytes "Blade") ++ (0x00 ∷ 0x00 ∷ 0x08 ∷ 0x00 ∷ 0x00 ∷ 0x00 ∷ 0x00 ∷ 0x00 ∷ [])
 
-abbrev borrowerBody : List ℕ
+abbrev pub borrowerBody : List ℕ
 borrowerBody =
     (0x08 ∷ 0x00 ∷ bytes "Borrower")
     ++ (0x03 ∷ 0x00 ∷ 0x42 ∷ 0x6F ∷ 0x72 ∷ 0x10 ∷ 0x00 ∷ 0x00 ∷ 0x00
     ∷ 0x08 ∷ 0x00 ∷ 0x20 ∷ 0x02 ∷ 0x01 ∷ 0x01 ∷ 0x01 ∷ 0x00 ∷ 0x00 ∷ 0x00 ∷ [])
 
-abbrev readingsBody : List ℕ
+abbrev pub readingsBody : List ℕ
 readingsBody =
     (0x08 ∷ 0x00 ∷ bytes "Readings")
     ++ (0x00 ∷ 0x00 ∷ 0x08 ∷ 0x00 ∷ 0x02 ∷ 0x00 ∷ 0x02 ∷ 0x02 ∷ 0x00 ∷ 0x00 ∷ 0x00 ∷ 0x00 ∷ [])
 
-abbrev sumBody : List ℕ
+abbrev pub sumBody : List ℕ
 sumBody = (0x03 ∷ 0x00 ∷ bytes "Sum") ++ (0x00 ∷ 0x00 ∷ 0x10 ∷ 0x00 ∷ 0x00 ∷ 0x00 ∷ 0x00 ∷ 0x00 ∷ [])
 
 -- its table, 215 bytes; and the old one, 201 bytes
-abbrev bladeTable : List ℕ
+abbrev pub bladeTable : List ℕ
 bladeTable =
     bladeHead
     ++ ((0x20 ∷ 0x00 ∷ 0x0C ∷ 0x00 ∷ 0x00 ∷ 0x00 ∷ versionBody)
@@ -82,9 +82,6 @@ oldBladeTable =
     ++ (0x04 ∷ 0x00 ∷ 0x05 ∷ 0x00 ∷ []))))))))
 
 -- ── short ways to write a case ──
-
-abbrev nines : ℕ → List ℕ
-nines n = replicate n 9
 
 -- the bytes become these, in an output of n bytes; they are refused, and the output is as it was
 abbrev becomes : ℕ → List ℕ → List ℕ → Case

@@ -1,5 +1,6 @@
--- All worked cases hold: a list for each section of 01, for names [02, R-2], for how often a field is read [02, R-5]
--- and for quotients, remainders and powers [02, R-7], of what M1 to M10 leave open, so that no definition is hollow.
+-- All worked cases hold: a list for each section of 01, for names [02, R-2], for fields that are cut out and put in
+-- [02, R-4], for how often a field is read [02, R-5] and for quotients, remainders and powers [02, R-7], of what M1 to
+-- M10 leave open, so that no definition is hollow.
 use Rattle.rules.specs.Cases.{AllHold}
 use Rattle.cases.specs.LinesOfAText.{linesOfAText}
 use Rattle.cases.specs.Expressions.{expressions}
@@ -8,6 +9,7 @@ use Rattle.cases.specs.Names.{names}
 use Rattle.cases.specs.Quotients.{quotients}
 use Rattle.cases.specs.StoredTable.{storedTable}
 use Rattle.cases.specs.Readers.{readers}
+use Rattle.cases.specs.Edits.{edits}
 use Rattle.cases.specs.Spelling.{spelling}
 use Rattle.cases.specs.ReadingAPacket.{readingAPacket}
 use Rattle.cases.specs.RefusalNumbers.{refusalNumbers}
@@ -22,6 +24,7 @@ pub record Worked : Type 0 where
   pub quotients : AllHold quotients
   pub tables : AllHold storedTable
   pub readers : AllHold readers
+  pub edits : AllHold edits
   pub spelling : AllHold spelling
   pub packets : AllHold readingAPacket
   pub refusals : AllHold refusalNumbers

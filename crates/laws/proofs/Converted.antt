@@ -1,13 +1,11 @@
 -- What converting an old table gives, and that a number must be the true one. [02, R-5]
 use mathlib.Core.Path.{_≡_, refl, ap, sym, _∙_}
-use mathlib.Core.Bool.{Bool, true, false, cond, not}
+use mathlib.Core.Bool.{true, not}
 use mathlib.Core.Option.{none}
 use mathlib.Core.List.{List, [], _∷_, _++_}
 use Prim.Native.Nat.{ℕ, suc, _+_, _*_}
 use native.Mathlib.Omega.{arith}
-use lib.Dec.{ltb}
-use lib.ListN.{length, take, drop, length-append}
-use lib.Seq.{take-append-seam}
+use lib.ListN.{length, take, length-append}
 use borrow.Author.Tests.{lt-ltb, le-ltb}
 use Rattle.rules.specs.Operators.{isAdded}
 use Rattle.rules.specs.Trees.{le2, hasOperators}
@@ -20,14 +18,15 @@ use Rattle.rules.specs.Within.{keepsOperatorsIn}
 use Rattle.rules.specs.References.{readers}
 use Rattle.rules.specs.Stored.{recordOf, kindIn, fieldBody, headBody, storedFieldIn, recordsIn, records}
 use Rattle.rules.specs.Stored.{storedWith, storedIn, stored, GoodIn, Good}
-use Rattle.rules.specs.Answers.{accepted, refused}
-use Rattle.rules.specs.Promises.{Outcome, leaves, overlaid, delivered, packetOutcomeIn, ReadsPacket, ConvertsTable}
+use Rattle.rules.specs.Answers.{accepted}
+use Rattle.rules.specs.Promises.{Outcome, leaves, delivered, packetOutcomeIn, ReadsPacket, ConvertsTable}
 use Rattle.rules.specs.Results.{RecordKept, ConvertedGood, ConvertedBytes, OldReading, ConvertedReads}
 use Rattle.rules.specs.Results.{OldConverted, OldExactly}
 use Rattle.laws.proofs.OperatorLaws.{Widens}
 use Rattle.laws.proofs.Earlier.{within-by, within-more, reading-like, outcome-more}
 use Rattle.laws.proofs.Unique.{stored-unique}
 use Rattle.laws.proofs.Decidable.{good-decidable-in}
+use Rattle.laws.proofs.Delivered.{not-refused, written-at-start}
 
 pub uncounted-widens : Widens uncounted current
 uncounted-widens = record {
@@ -50,20 +49,6 @@ record-kept n f = (refl, ap (λ (k : ℕ). recordOf k (le2 n ++ fieldBody f)) (t
 
 module _ (table out : List ℕ) where
   -- what was accepted was written: the table of the description
-  converted-as : (d : Description) (n : ℕ) (after : List ℕ) → leaves (accepted n) after ≡ delivered (stored d) out
-      → (take n after ≡ stored d) × (n ≡ length (stored d))
-  unfolding delivered
-  converted-as d n after h = go (ltb (length out) (length (stored d))) h
-    where
-      go : (b : Bool) → leaves (accepted n) after
-          ≡ cond b (leaves (refused 11 0) out) (leaves (accepted (length (stored d))) (overlaid (stored d) out))
-          → (take n after ≡ stored d) × (n ≡ length (stored d))
-      go true e = absurd (let z : _≡_ {A = ℕ} 0 11 = ap (λ (o : Outcome). o .answer .number) e in omega arith)
-      go false e =
-          let size : n ≡ length (stored d) = ap (λ (o : Outcome). o .answer .amount) e in
-          let bytes : after ≡ overlaid (stored d) out = ap (λ (o : Outcome). o .buffer) e in
-          (rw (size, bytes) (take-append-seam (stored d) (drop (length (stored d)) out)), size)
-
   was-good : (n : ℕ) (after : List ℕ) → ConvertsTable table out (leaves (accepted n) after)
       → (old : GoodIn uncounted table) × (take n after ≡ stored (old .description))
       × (n ≡ length (stored (old .description)))
@@ -72,9 +57,10 @@ module _ (table out : List ℕ) where
       go : Dec (GoodIn uncounted table)
           → (old : GoodIn uncounted table) × (take n after ≡ stored (old .description))
           × (n ≡ length (stored (old .description)))
-      go (yes old) = let q = converted-as (old .description) n after (p (yes old)) in (old, q .0, q .1)
-      go (no bad) =
-          absurd (let z : _≡_ {A = ℕ} 0 21 = ap (λ (o : Outcome). o .answer .number) (p (no bad)) in omega arith)
+      go (yes old) =
+          let q = written-at-start (stored (old .description)) out after n (p (yes old)) in
+          (old, q .2, q .0)
+      go (no bad) = absurd (not-refused n 20 0 after out (p (no bad)))
 
 -- the table of an old description is good
 becomes : {table : List ℕ} (new : List ℕ) (old : GoodIn uncounted table) → new ≡ stored (old .description)

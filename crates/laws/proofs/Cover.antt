@@ -42,7 +42,7 @@ use Rattle.laws.proofs.Readings.{accepted-fields}
 -- ── one field ──
 
 -- an absent field takes nothing; a present one starts at the place, and the next place is behind it
-abbrev Placed : ℕ → Step → Type 0
+abbrev pub Placed : ℕ → Step → Type 0
 Placed place (step e next) =
     ((e ≡ absent) × (next ≡ place)) ⊎ ((e .present ≡ 1) × (e .offset ≡ place) × (next ≡ place + e .width))
 Placed place (stop f) = Unit {0}
@@ -65,7 +65,7 @@ present-placed packet entries place f n =
     (λ c. cond (eqb c 0) (stop ConstraintFalse) (step e (place + n)))
     (λ c. either place (eqb c 0) (stop ConstraintFalse) (step e (place + n)) tt (inr (refl, refl, refl))))
 
-field-placed : (packet : List ℕ) (entries : List Entry) (place later : ℕ) (f : Field ℕ)
+pub field-placed : (packet : List ℕ) (entries : List Entry) (place later : ℕ) (f : Field ℕ)
     → Placed place (readField packet entries place later f)
 unfolding readFieldIn
 field-placed packet entries place later f =
@@ -78,10 +78,10 @@ field-placed packet entries place later f =
 -- ── all fields ──
 
 -- the entries that come behind the first ones
-record Behind (entries : List Entry) (place : ℕ) (packet : List ℕ) (all : List Entry) : Type 0 where
-  more : List Entry
-  joined : all ≡ entries ++ more
-  ordered : InOrder place more (bitTotal packet)
+pub record Behind (entries : List Entry) (place : ℕ) (packet : List ℕ) (all : List Entry) : Type 0 where
+  pub more : List Entry
+  pub joined : all ≡ entries ++ more
+  pub ordered : InOrder place more (bitTotal packet)
 
 at-end : (packet : List ℕ) (entries all : List Entry) (place : ℕ) (b : Bool) → eqb place (bitTotal packet) ≡ b
     → cond b (complete entries) leftOver ≡ complete all → Behind entries place packet all
@@ -102,7 +102,7 @@ cons-behind packet entries all place next e (inr p) w = record {
   ordered = inr (p .0, p .1, rw (p .2) at (w .ordered));
 }
 
-fields-behind : (packet : List ℕ) (entries all : List Entry) (place : ℕ) (fs : List (Field ℕ))
+pub fields-behind : (packet : List ℕ) (entries all : List Entry) (place : ℕ) (fs : List (Field ℕ))
     → readFields packet entries place fs ≡ complete all → Behind entries place packet all
 unfolding readFieldsIn
 fields-behind packet entries all place [] h = at-end packet entries all place (eqb place (bitTotal packet)) refl h

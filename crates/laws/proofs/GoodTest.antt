@@ -14,7 +14,7 @@ use Rattle.rules.specs.Within.{WithinIn}
 use Rattle.rules.specs.Stored.{storedIn, GoodIn}
 use Rattle.rules.specs.Answers.{Answer, accepted}
 use Rattle.rules.specs.Promises.{notGood, byTable}
-use Rattle.laws.proofs.WithinTest.{isWithinIn, within-in, outside-in}
+use Rattle.laws.proofs.WithinTest.{isWithinIn, within-in, inside-in}
 use Rattle.laws.proofs.Readers.{describedIn}
 use Rattle.laws.proofs.Decidable.{described-good}
 
@@ -27,19 +27,12 @@ module _ (e : Edition) (table : List ℕ) where
       let q = and-true (isWithinIn e (describedIn e table)) (same (storedIn e (describedIn e table)) table) h in
       record { description = describedIn e table; within = within-in e _ (q .0); isStored = same-true _ _ (q .1) }
 
-  inside : (d : Description) → WithinIn e d → isWithinIn e d ≡ true
-  inside d w = go (isWithinIn e d) refl
-    where
-      go : (b : Bool) → isWithinIn e d ≡ b → b ≡ true
-      go true q = refl
-      go false q = absurd (outside-in e d q w)
-
   good-failed : isGoodIn ≡ false → GoodIn e table → ⊥
   good-failed h g =
       let q : g .description ≡ describedIn e table = described-good e table g in
       let s = subst (λ (d : Description). storedIn e d ≡ table) q (g .isStored) in
       not-both isGoodIn
-      (and-both _ _ (inside _ (subst (WithinIn e) q (g .within)))
+      (and-both _ _ (inside-in e _ (subst (WithinIn e) q (g .within)))
       (ap (λ (l : List ℕ). same l table) s ∙ same-self table)) h
 
   -- what the test tells is what is promised, whatever the decision

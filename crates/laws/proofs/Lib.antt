@@ -12,7 +12,31 @@
 -- Without       what an edition without the operators of codes 0x13 to 0x15 gives stays
 -- Counting      how often a field is read fits into two bytes, and may be counted field by field
 -- Numbers       a record keeps the true number, an old table none
+-- Delivered     what an output holds where it was accepted
 -- Converted     what converting an old table gives
+-- Renumbering     indexes of fields cut out and put in, and back
+-- Runs            fields before, in and behind a run
+-- RenumberedLaws  a field with other indexes has the form and the sizes that it had
+-- RunReads        which fields read a run
+-- CutPut          descriptions: cutting what was put in, and putting in what was cut, give the old one
+-- Joining         whether records can be put in is decidable, and their fields are the only ones
+-- CutRefers       what the fields outside a run read without it
+-- EditsDone       what accepted cuts and accepted records come from, and that what is written is good
+-- EditsSettled    cutting and putting in have one outcome each
+-- EditsTold       what they give, by tests of the bytes
+-- Undone          tables: cutting what was put in, and putting in what was cut, give the old bytes
+-- RenumberedReads  a field with other indexes reads to the same entry
+-- RenumberedTypes  a field with other indexes keeps its types
+-- ReadSteps       in an accepted packet each field was read to its entry
+-- SpreadLaws      entries at the indexes that their fields had before a run was cut
+-- CutReads        a cut never changes what the remaining fields mean
+-- FieldSizes      how long a field's record is
+-- RecordsJoined   records one behind the other, and with numbers that are alike
+-- Whole           records that stand in bytes: where they end, and whose they are
+-- ReadsBelow      the fields read indexes of the description's fields only
+-- CutCandidate    the bytes that cutting builds
+-- CutLimits       what is left after a cut keeps the limits, where fields are left and the rows fit
+-- PutCandidate    the bytes that putting in builds
 -- Powers        a power by at most 32 products
 -- GoodTest      good, by one test of a table's bytes
 -- Readings      what an accepted packet's entries come from
@@ -39,7 +63,31 @@ pub mod Earlier
 pub mod Without
 pub mod Counting
 pub mod Numbers
+pub mod Delivered
 pub mod Converted
+pub mod Renumbering
+pub mod Runs
+pub mod RenumberedLaws
+pub mod RunReads
+pub mod CutPut
+pub mod Joining
+pub mod CutRefers
+pub mod EditsDone
+pub mod EditsSettled
+pub mod EditsTold
+pub mod Undone
+pub mod RenumberedReads
+pub mod RenumberedTypes
+pub mod ReadSteps
+pub mod SpreadLaws
+pub mod CutReads
+pub mod FieldSizes
+pub mod RecordsJoined
+pub mod Whole
+pub mod ReadsBelow
+pub mod CutCandidate
+pub mod CutLimits
+pub mod PutCandidate
 pub mod Powers
 pub mod GoodTest
 pub mod Readings

@@ -27,6 +27,7 @@ use Rattle.rules.specs.Trees.{depth, le2, le4, storedTree, isInRange, hasOperat
 use Rattle.rules.specs.Values.{power, apply, decides, evaluateBy}
 use Rattle.rules.specs.Within.{rowsFit}
 use Rattle.rules.specs.References.{treeReads, fieldReads, times, readers}
+use Rattle.rules.specs.Edits.{renumberedTree, renumbered, closed, opened, cut, put, firstReader}
 use Rattle.rules.specs.Stored.{storedIn, storedWith, recordsIn, storedFieldIn, stored, fieldBody, headBody}
 use Rattle.rules.specs.Reading.{
   Part,
@@ -90,6 +91,8 @@ use Rattle.laws.proofs.Allowed.{
   convertedIn,
   converted-only,
 }
+use Rattle.laws.proofs.Joining.{readRecords, numberAt}
+use Rattle.laws.proofs.EditsTold.{cutIn, cut-only, putIn, put-only}
 use Rattle.laws.specs.Wrong.{
   Claim,
   checks,
@@ -115,6 +118,8 @@ use Rattle.laws.specs.Wrong.{
   countsReaders,
   countsReadersIn,
   convertsWith,
+  cutsWith,
+  putsWith,
   Claimed,
   AllFalse,
   wrong,
@@ -124,6 +129,8 @@ use Rattle.laws.specs.WrongNames.{wrongNames}
 use Rattle.laws.specs.WrongOperators.{powers, quotients, wrongOperators}
 use Rattle.laws.specs.WrongNumbers.{doubled, wrongNumbers}
 use Rattle.laws.specs.WrongRecords.{wrongRecords}
+use Rattle.laws.specs.WrongEdits.{wrongEdits}
+use Rattle.laws.specs.WrongPuts.{wrongPuts}
 
 -- ── of other numbers it is false ──
 
@@ -170,6 +177,8 @@ claimed (partlyWith m d packet a after n) = partlyNumbers (leavesPartly a after 
 claimed (countsReaders d i a) = answerNumbers a
 claimed (countsReadersIn table i a) = answerNumbers a
 claimed (convertsWith n table a after) = numbers (leaves a after)
+claimed (cutsWith n table first last a after) = numbers (leaves a after)
+claimed (putsWith n table at records a after) = numbers (leaves a after)
 
 abbrev pub given : Claim → List ℕ
 given (checks d r) = answerNumbers (accepted (length (stored d)))
@@ -195,6 +204,8 @@ given (partlyWith m d packet a after n) = partlyNumbers (partlyOutcome d packet 
 given (countsReaders d i a) = answerNumbers (readersAnswer (d .fields) i)
 given (countsReadersIn table i a) = answerNumbers (readersIn table i)
 given (convertsWith n table a after) = numbers (convertedIn table (replicate n 9))
+given (cutsWith n table first last a after) = numbers (cutIn table first last (replicate n 9))
+given (putsWith n table at records a after) = numbers (putIn table at records (replicate n 9))
 
 -- what is claimed of a table is of the table of a description within the limits
 abbrev pub isFitting : Claim → Bool
@@ -221,6 +232,8 @@ isFitting (partlyWith m d packet a after n) = isWithin d
 isFitting (countsReaders d i a) = isWithin d
 isFitting (countsReadersIn table i a) = true
 isFitting (convertsWith n table a after) = true
+isFitting (cutsWith n table first last a after) = true
+isFitting (putsWith n table at records a after) = true
 
 two-parts : {m n : ℕ} {s t : List ℕ} → (s ≡ t) × (m ≡ n) → m ∷ s ≡ n ∷ t
 two-parts {n = n} {s = s} q = ap (λ (k : ℕ). k ∷ s) (q .1) ∙ ap (λ (l : List ℕ). n ∷ l) (q .0)
@@ -254,6 +267,10 @@ claim-only (countsReaders d i a) h p = ap answerNumbers (readers-only d i a (wit
 claim-only (countsReadersIn table i a) h p = ap answerNumbers (readers-only-in table i a p)
 claim-only (convertsWith n table a after) h p =
     ap numbers (converted-only table (replicate n 9) (leaves a after) p)
+claim-only (cutsWith n table first last a after) h p =
+    ap numbers (cut-only table first last (replicate n 9) (leaves a after) p)
+claim-only (putsWith n table at records a after) h p =
+    ap numbers (put-only table at records (replicate n 9) (leaves a after) p)
 
 abbrev pub isOther : Claim → Bool
 isOther c = isFitting c && not (same (claimed c) (given c))
@@ -267,7 +284,8 @@ pub all-out : (cs : List Claim) → all isOther cs ≡ true → AllFalse cs
 all-out = every-passes isOther ruled-out
 
 abbrev pub everyClaim : List Claim
-everyClaim = wrong ++ (wrongLimits ++ (wrongNames ++ (wrongOperators ++ (wrongNumbers ++ wrongRecords))))
+everyClaim = wrong ++ (wrongLimits ++ (wrongNames ++ (wrongOperators ++ (wrongNumbers
+    ++ (wrongRecords ++ (wrongEdits ++ wrongPuts))))))
 
 -- each wrong program's answer is ruled out
 pub all-ruled-out : AllFalse everyClaim
@@ -279,5 +297,6 @@ unfolding digits all any same lastIs sum joined firstBreak operator operators is
     entriesBefore partlyOutcome manyFields notTimes andTimes entriesOf linesOf powers quotients doubled
     Tables.readTwo Tables.readFour Tables.readCounted Tables.codeIn Tables.codeOf Tables.readAfter Tables.readTree
     Tables.treeOf Tables.readFixed Tables.readMeasured Tables.readWidth Tables.fieldFrom Tables.readField
-    Tables.readFields Tables.describedIn
+    Tables.readFields Tables.describedIn renumberedTree renumbered closed opened cut put firstReader readRecords
+    numberAt
 all-ruled-out = all-out everyClaim refl

@@ -1,18 +1,22 @@
 -- What the promises rule out for all inputs. Of reading a packet: an invented bit total, a run that a refusal changes,
 -- 21 for a good table, and anything else for a table that is not good. Of how often a field is read: 21 for a good
--- table. Of converting: an output that a refusal changes, 21 for an old table that was good.
+-- table. Of converting, and of cutting and putting in: an output that a refusal changes, 21 for a good table; and a
+-- place other than 31's.
 use mathlib.Core.Path.{_≡_, refl, sym, ap, _∙_}
-use mathlib.Core.Bool.{Bool, true, false, cond, _&&_, not}
+use mathlib.Core.Bool.{Bool, true, false, cond, _&&_, _||_, not}
 use mathlib.Core.List.{List}
+use mathlib.Core.Option.{Option, none, some}
 use Prim.Native.Nat.{ℕ, _*_, _<_}
 use native.Mathlib.Omega.{arith}
 use lib.Dec.{ltb}
 use lib.ListN.{length}
+use Rattle.base.specs.Lists.{isEmpty}
 use Rattle.rules.specs.declared.PacketAnswer.{PacketAnswer}
 use Rattle.rules.specs.declared.ConversionAnswer.{ConversionAnswer}
 use Rattle.rules.specs.Fields.{Description}
 use Rattle.rules.specs.Within.{Within}
-use Rattle.rules.specs.Editions.{uncounted}
+use Rattle.rules.specs.Editions.{current, uncounted}
+use Rattle.rules.specs.Edits.{cut, put, firstReader}
 use Rattle.rules.specs.References.{readers}
 use Rattle.rules.specs.Stored.{stored, GoodIn, Good}
 use Rattle.rules.specs.Reading.{Reading, complete, refusing, isTooLong, reading, bitTotal}
@@ -32,9 +36,19 @@ use Rattle.rules.specs.Promises.{
   delivered,
   CountsReaders,
   ConvertsTable,
+  isRun,
+  unlessRead,
+  byLimits,
+  cutOutcome,
+  CutsFields,
+  Joins,
+  byRecords,
+  putOutcome,
+  PutsFields,
 }
 use Rattle.laws.proofs.Readings.{Told, reading-told}
-use Rattle.laws.proofs.Decidable.{good-decidable, good-decidable-in}
+use Rattle.laws.proofs.Decidable.{within-decidable, good-decidable, good-decidable-in}
+use Rattle.laws.proofs.Joining.{joins-decidable}
 use Rattle.laws.proofs.Allowed.{table-only, outcome-only, readers-only}
 
 -- ── outcomes ──
@@ -129,18 +143,22 @@ good-counted d i w p =
 
 -- ── an old table converted ── [02, R-5]
 
--- accepted, or the output as it was; and not refused by 21
+-- accepted, or the output as it was; not refused by 21; and no place but 31's
 record Delivers (out : List ℕ) (o : Outcome) : Type 0 where
   keeps : (o .answer .number ≡ 0 → ⊥) → o .buffer ≡ out
   good : o .answer .number ≡ 21 → ⊥
+  place : (o .answer .number ≡ 31 → ⊥) → o .answer .place ≡ 0
+
+refuses : (out : List ℕ) (n : ℕ) → (n ≡ 21 → ⊥) → Delivers out (leaves (refused n 0) out)
+refuses out n other = record { keeps = λ e. refl; good = other; place = λ e. refl }
 
 delivers : (w out : List ℕ) → Delivers out (delivered w out)
 unfolding delivered
 delivers w out =
     either (Delivers out) (ltb (length out) (length w)) (leaves (refused 11 0) out)
     (leaves (accepted (length w)) (overlaid w out))
-    (record { keeps = λ e. refl; good = λ e. omega arith })
-    (record { keeps = λ e. absurd (e refl); good = λ e. omega arith })
+    (refuses out 11 (λ e. omega arith))
+    (record { keeps = λ e. absurd (e refl); good = λ e. omega arith; place = λ e. refl })
 
 module _ (table out after : List ℕ) where
   -- a refusal changes nothing
@@ -164,3 +182,134 @@ module _ (table out after : List ℕ) where
   pub not-old-only : (r : ConversionAnswer) → (GoodIn uncounted table → ⊥)
       → ConvertsTable table out (leaves (ofConversion r) after) → leaves (ofConversion r) after ≡ leaves notGood out
   not-old-only r bad p = p (no bad)
+
+-- ── fields cut out and put in ── [02, R-4]
+
+limits-delivers : (d : Description) (fits : Dec (Within d)) (out : List ℕ) → Delivers out (byLimits fits out)
+limits-delivers d (yes w) out = delivers (stored d) out
+limits-delivers d (no beyond) out = refuses out 34 (λ e. omega arith)
+
+unread-delivers : (r : Option ℕ) (out : List ℕ) (o : Outcome) → Delivers out o → Delivers out (unlessRead r out o)
+unread-delivers none out o p = p
+unread-delivers (some i) out o p =
+    record { keeps = λ e. refl; good = λ e. omega arith; place = λ e. absurd (e refl) }
+
+cut-delivers : (first last : ℕ) (d : Description) (fits : Dec (Within (cut first last d))) (out : List ℕ)
+    → Delivers out (cutOutcome first last d fits out)
+unfolding cutOutcome
+cut-delivers first last d fits out =
+    either (Delivers out) (isRun first last (d .fields))
+    (unlessRead (firstReader first last (d .fields)) out (byLimits fits out)) (leaves (refused 30 0) out)
+    (unread-delivers (firstReader first last (d .fields)) out (byLimits fits out)
+    (limits-delivers (cut first last d) fits out))
+    (refuses out 30 (λ e. omega arith))
+
+records-delivers : (at : ℕ) (bytes : List ℕ) (d : Description) (joins : Dec (Joins at bytes d)) (out : List ℕ)
+    → Delivers out (byRecords joins out)
+records-delivers at bytes d (yes j) out = delivers (stored (put at (j .fields) d)) out
+records-delivers at bytes d (no none-do) out = refuses out 34 (λ e. omega arith)
+
+put-delivers : (at : ℕ) (bytes : List ℕ) (d : Description) (joins : Dec (Joins at bytes d)) (out : List ℕ)
+    → Delivers out (putOutcome at bytes d joins out)
+unfolding putOutcome
+put-delivers at bytes d joins out =
+    either (Delivers out) (isEmpty bytes || ltb (length (d .fields)) at) (leaves (refused 30 0) out)
+    (byRecords joins out) (refuses out 30 (λ e. omega arith)) (records-delivers at bytes d joins out)
+
+-- putting in is never 31
+put-other : (at : ℕ) (bytes : List ℕ) (d : Description) (joins : Dec (Joins at bytes d)) (out : List ℕ)
+    → putOutcome at bytes d joins out .answer .number ≡ 31 → ⊥
+unfolding putOutcome delivered
+put-other at bytes d joins out =
+    either (λ (o : Outcome). o .answer .number ≡ 31 → ⊥) (isEmpty bytes || ltb (length (d .fields)) at)
+    (leaves (refused 30 0) out) (byRecords joins out) (λ e. omega arith) (go joins)
+  where
+    go : (c : Dec (Joins at bytes d)) → byRecords c out .answer .number ≡ 31 → ⊥
+    go (yes j) =
+        let w = stored (put at (j .fields) d) in
+        either (λ (o : Outcome). o .answer .number ≡ 31 → ⊥) (ltb (length out) (length w))
+        (leaves (refused 11 0) out) (leaves (accepted (length w)) (overlaid w out)) (λ e. omega arith)
+        (λ e. omega arith)
+    go (no none-do) = λ e. omega arith
+
+-- an outcome by a table, of which the description gives such an outcome
+module _ (table out after : List ℕ) (result : Description → Outcome) (a : Answer)
+    (fair : (d : Description) → Delivers out (result d)) where
+  abbrev ByIts : Dec (Good table) → Type 0
+  ByIts good = leaves a after ≡ byTable good result (leaves notGood out)
+
+  edit-keeps : (a .number ≡ 0 → ⊥) → (good : Dec (Good table)) → ByIts good → after ≡ out
+  edit-keeps n (yes g) e =
+      ap (λ (o : Outcome). o .buffer) e
+      ∙ fair (g .description) .keeps (λ z. n (ap (λ (o : Outcome). o .answer .number) e ∙ z))
+  edit-keeps n (no bad) e = ap (λ (o : Outcome). o .buffer) e
+
+  edit-place : (a .number ≡ 31 → ⊥) → (good : Dec (Good table)) → ByIts good → a .place ≡ 0
+  edit-place n (yes g) e =
+      ap (λ (o : Outcome). o .answer .place) e
+      ∙ fair (g .description) .place (λ z. n (ap (λ (o : Outcome). o .answer .number) e ∙ z))
+  edit-place n (no bad) e = ap (λ (o : Outcome). o .answer .place) e
+
+  edit-good : (g : Good table) → ByIts (yes g) → a .number ≡ 21 → ⊥
+  edit-good g e z = fair (g .description) .good (sym (ap (λ (o : Outcome). o .answer .number) e) ∙ z)
+
+module _ (table out after : List ℕ) (a : Answer) where
+  module _ (first last : ℕ) (p : CutsFields table first last out (leaves a after)) where
+    abbrev cutResult : Description → Outcome
+    cutResult d = cutOutcome first last d (within-decidable current (cut first last d)) out
+
+    cut-fair : (d : Description) → Delivers out (cutResult d)
+    cut-fair d = cut-delivers first last d (within-decidable current (cut first last d)) out
+
+    -- a refusal changes nothing
+    pub cut-keeps : (a .number ≡ 0 → ⊥) → after ≡ out
+    cut-keeps n =
+        let good = good-decidable table in
+        edit-keeps table out after cutResult a cut-fair n good (p good (within-decidable current))
+
+    -- no place but that of 31
+    pub cut-place : (a .number ≡ 31 → ⊥) → a .place ≡ 0
+    cut-place n =
+        let good = good-decidable table in
+        edit-place table out after cutResult a cut-fair n good (p good (within-decidable current))
+
+    -- 21 for a good table
+    pub good-cut : Good table → a .number ≡ 21 → ⊥
+    good-cut g = edit-good table out after cutResult a cut-fair g (p (yes g) (within-decidable current))
+
+    -- a table that is not good is 21, and the output as it was
+    pub bad-cut-only : (Good table → ⊥) → leaves a after ≡ leaves notGood out
+    bad-cut-only bad = p (no bad) (within-decidable current)
+
+  module _ (at : ℕ) (bytes : List ℕ) (p : PutsFields table at bytes out (leaves a after)) where
+    abbrev putResult : Description → Outcome
+    putResult d = putOutcome at bytes d (joins-decidable at bytes d) out
+
+    put-fair : (d : Description) → Delivers out (putResult d)
+    put-fair d = put-delivers at bytes d (joins-decidable at bytes d) out
+
+    -- the same of putting in, which is never 31
+    pub put-keeps : (a .number ≡ 0 → ⊥) → after ≡ out
+    put-keeps n =
+        let good = good-decidable table in
+        edit-keeps table out after putResult a put-fair n good (p good (joins-decidable at bytes))
+
+    pub put-unread : a .number ≡ 31 → ⊥
+    put-unread z = go (good-decidable table) (p (good-decidable table) (joins-decidable at bytes))
+      where
+        go : (good : Dec (Good table)) → leaves a after ≡ byTable good putResult (leaves notGood out) → ⊥
+        go (yes g) e =
+            put-other at bytes (g .description) (joins-decidable at bytes (g .description)) out
+            (sym (ap (λ (o : Outcome). o .answer .number) e) ∙ z)
+        go (no bad) e = omega (arith, ap (λ (o : Outcome). o .answer .number) e, z)
+
+    pub put-place : a .place ≡ 0
+    put-place =
+        let good = good-decidable table in
+        edit-place table out after putResult a put-fair put-unread good (p good (joins-decidable at bytes))
+
+    pub good-put : Good table → a .number ≡ 21 → ⊥
+    good-put g = edit-good table out after putResult a put-fair g (p (yes g) (joins-decidable at bytes))
+
+    pub bad-put-only : (Good table → ⊥) → leaves a after ≡ leaves notGood out
+    bad-put-only bad = p (no bad) (joins-decidable at bytes)

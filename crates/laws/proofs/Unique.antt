@@ -11,7 +11,8 @@ use Rattle.base.specs.Lists.{between}
 use Rattle.base.proofs.Breaks.{and-true, or-true}
 use Rattle.rules.specs.Editions.{Edition}
 use Rattle.rules.specs.Fields.{Description}
-use Rattle.rules.specs.Within.{isRowWidth, WithinIn}
+use Rattle.rules.specs.Names.{isLabel}
+use Rattle.rules.specs.Within.{isRowWidth, keepsForm, keepsSize, Keeps, WithinIn}
 use Rattle.rules.specs.References.{readers}
 use Rattle.rules.specs.Stored.{headBody, storedWith, storedIn}
 use Rattle.rules.specs.Results.{StoredUnique}
@@ -35,20 +36,39 @@ count-bound e n h =
           (e .few),
     )
 
+-- a description that is stored truly, within the limits or not
+pub record Sound (d : Description) : Type 0 where
+  pub name : isLabel (d .name) ≡ true
+  pub row : isRowWidth (d .rowWidth) ≡ true
+  pub count : length (d .fields) < 65536
+  pub form : Keeps keepsForm (d .fields)
+  pub size : Keeps keepsSize (d .fields)
+
 -- whatever the numbers are
-pub described-with : (e : Edition) (numbers : ℕ → ℕ) (d : Description) → WithinIn e d
+pub described-sound : (e : Edition) (numbers : ℕ → ℕ) (d : Description) → Sound d
     → describedIn e (storedWith e numbers d) ≡ d
 unfolding describedIn storedWith headBody
-described-with e numbers d w =
-    let name : length (d .name) < 65536 = omega (arith, label-length (d .name) (w .name)) in
+described-sound e numbers d s =
+    let name : length (d .name) < 65536 = omega (arith, label-length (d .name) (s .name)) in
     simp (
       append-assoc,
       skip-le2,
-      readTwo-le2 (d .rowWidth) (row-bound (d .rowWidth) (w .row)),
-      readTwo-le2 (length (d .fields)) (count-bound e (length (d .fields)) (w .count)),
+      readTwo-le2 (d .rowWidth) (row-bound (d .rowWidth) (s .row)),
+      readTwo-le2 (length (d .fields)) (s .count),
       readCounted-counted (d .name) name,
-      readFields-stored e numbers 0 [] (d .fields) (w .form) (w .size),
+      readFields-stored e numbers 0 [] (d .fields) (s .form) (s .size),
     )
+
+pub described-with : (e : Edition) (numbers : ℕ → ℕ) (d : Description) → WithinIn e d
+    → describedIn e (storedWith e numbers d) ≡ d
+described-with e numbers d w =
+    described-sound e numbers d (record {
+      name = w .name;
+      row = w .row;
+      count = count-bound e (length (d .fields)) (w .count);
+      form = w .form;
+      size = w .size;
+    })
 
 pub described-stored : (e : Edition) (d : Description) → WithinIn e d → describedIn e (storedIn e d) ≡ d
 unfolding storedIn

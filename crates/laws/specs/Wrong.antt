@@ -42,6 +42,8 @@ use Rattle.rules.specs.Promises.{
   TellsKind,
   CountsReaders,
   ConvertsTable,
+  CutsFields,
+  PutsFields,
 }
 use Rattle.rules.specs.Cases.{lentRun, named, unnamed, entry}
 use Rattle.rules.specs.Marked.{bladeReport, m1, m1Listing}
@@ -92,6 +94,9 @@ pub data Claim : Type 0 where
   countsReadersIn : List ℕ → ℕ → Answer → Claim
   -- the answer where any bytes are converted, and what an output of so many 9s holds then [02, R-5]
   convertsWith : ℕ → List ℕ → Answer → List ℕ → Claim
+  -- and where a run of a table's fields is cut out, or records are put in before the field of an index [02, R-4]
+  cutsWith : ℕ → List ℕ → ℕ → ℕ → Answer → List ℕ → Claim
+  putsWith : ℕ → List ℕ → ℕ → List ℕ → Answer → List ℕ → Claim
 
 -- by the edition in force
 abbrev pub checksBytes : List ℕ → Answer → Claim
@@ -135,6 +140,8 @@ Claimed (partlyWith m d packet a after n) = ReadsPartly (stored d) packet (repli
 Claimed (countsReaders d i a) = CountsReaders (stored d) i a
 Claimed (countsReadersIn table i a) = CountsReaders table i a
 Claimed (convertsWith n table a after) = ConvertsTable table (replicate n 9) (leaves a after)
+Claimed (cutsWith n table first last a after) = CutsFields table first last (replicate n 9) (leaves a after)
+Claimed (putsWith n table at records a after) = PutsFields table at records (replicate n 9) (leaves a after)
 
 abbrev pub AllFalse : List Claim → Type 0
 AllFalse = Every (λ c. Claimed c → ⊥)

@@ -124,7 +124,7 @@ mixed = take 52 (old bladeReport) ++ drop 54 (stored bladeReport)
 abbrev pub accepts : List ℕ → Claim
 accepts table = checksBytes table (accepted (length table))
 
-abbrev nines : ℕ → List ℕ
+abbrev pub nines : ℕ → List ℕ
 nines n = replicate n 9
 
 -- the bytes become a table, in an output of n bytes; they are refused, and the output is as it was

@@ -35,13 +35,13 @@ use Rattle.writing.specs.Delivery.{deliveryAnswer}
 use Rattle.packets.specs.TableTest.{headTest}
 use Rattle.packets.specs.declared.conversions.Widened.{Widened}
 use Rattle.packets.specs.declared.conversions.Widened.the-variants.{Bytes, Bad}
-use Rattle.packets.specs.Conversions.{oldMost, widenFrom, widenTable, WidensTo, NumbersTable, addsFrom}
-use Rattle.packets.proofs.FieldBounds.{field-sizes, body-size}
+use Rattle.packets.specs.Conversions.{oldMost, widenFrom, widenTable, WidensTo, NumbersTable, addsAny}
+use Rattle.laws.proofs.FieldSizes.{field-sizes, body-size}
 use Rattle.packets.proofs.TableSteps.{head-is}
 use Rattle.packets.proofs.TableParts.{head-length, HeadOf, head-found, whole-stands, stored-length}
 use Rattle.packets.proofs.TableHead.{head-count, fields-stand}
 use Rattle.packets.proofs.WidenLaws.{widen-records, widen-back}
-use Rattle.packets.proofs.AddedLaws.{isPlainField, adds-stored}
+use Rattle.packets.proofs.PlainLaws.{isPlainField, adds-stored}
 
 -- ── an old good table ──
 
@@ -292,26 +292,26 @@ module _ (table out : List ℕ) where
           (within-more uncounted current uncounted-widens (old .description) (old .within))
 
       -- what is found of its operators
-      adds-are : addsFrom after (twoAt after 6) (twoAt after 0) ≡ not (all isPlainField (c .fields))
+      adds-are : addsAny after ≡ not (all isPlainField (c .fields))
       adds-are =
           let within = right .1 in
           let st = right .3 in
           rw (head-count c after st within)
-          (adds-stored (readers (c .fields)) 0 after [] (c .fields) (twoAt after 0) (length after) (recordOf 5 [])
+          (adds-stored (readers (c .fields)) after (c .fields) (twoAt after 0) (length after) (recordOf 5 [])
           (within .form) (within .size) (stored-length c within after st) (fields-stand c after st within))
 
       all-plain : (old : GoodIn uncounted table) → all isPlainField (c .fields) ≡ true
       all-plain old =
           rw (same old) (kept-plain [] (old .description .fields) (old .within .operators))
 
-      pub refused-added : addsFrom after (twoAt after 6) (twoAt after 0) ≡ true → Refused
+      pub refused-added : addsAny after ≡ true → Refused
       refused-added h =
           refused-by (λ old.
           not-both (all isPlainField (c .fields)) (all-plain old)
           (not-true (all isPlainField (c .fields)) (sym adds-are ∙ h)))
 
       pub accepted-old : IsBytes table → length table ≤ oldMost → headTest table ≡ true → twoAt table 6 ≤ 64
-          → addsFrom after (twoAt after 6) (twoAt after 0) ≡ false → ConvertsTable table out (delivered after out)
+          → addsAny after ≡ false → ConvertsTable table out (delivered after out)
       accepted-old b low test few h (yes old) =
           ap (λ (l : List ℕ). delivered l out) (sym (right .3) ∙ ap stored (same old))
       accepted-old b low test few h (no bad) =
@@ -361,7 +361,7 @@ module _ (table out w : List ℕ) (is : widenTable table ≡ some w) (after : Li
   pub by-shape : x ≡ false → ConvertsTable table out (leaves (ofConversion ConversionAnswer.NotGood) out)
   by-shape f = refused-shape table out w is after (known false f)
 
-  module _ (t : x ≡ true) {y : Bool} (added : y ≡ addsFrom after (twoAt after 6) (twoAt after 0)) where
+  module _ (t : x ≡ true) {y : Bool} (added : y ≡ addsAny after) where
     pub by-added : y ≡ true → ConvertsTable table out (leaves (ofConversion ConversionAnswer.NotGood) out)
     by-added f = refused-added table out w is after (known true t) (sym added ∙ f)
 

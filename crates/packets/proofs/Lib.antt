@@ -14,7 +14,8 @@
 -- WriteLaws, LinesWritten           writing one byte, and one line, behind the other
 -- LinesStored, ListingTexts, ListingStored   what is written by a table is its description's listing
 -- LookupSteps, LookupStored, LookupPromises   records by index and fields by name
--- AddedLaws, WidenLaws, WidenSteps, NumberedLaws, ConvertPromises   old tables converted
+-- HavingLaws, ShiftSteps, ShiftLaws   what is looked for in a table's expressions, and other indexes put into them
+-- PlainLaws, WidenLaws, WidenSteps, NumberedLaws, ConvertPromises   old tables converted
 pub mod Products
 pub mod TreeSteps
 pub mod TreeTypes
@@ -60,7 +61,16 @@ pub mod ListingStored
 pub mod LookupSteps
 pub mod LookupStored
 pub mod LookupPromises
-pub mod AddedLaws
+pub mod HavingLaws
+pub mod ShiftSteps
+pub mod ShiftLaws
+pub mod CutPromises
+pub mod EditWrites
+pub mod EditBytes
+pub mod CutBytes
+pub mod PutBytes
+pub mod PutPromises
+pub mod PlainLaws
 pub mod WidenLaws
 pub mod WidenSteps
 pub mod NumberedLaws

@@ -184,3 +184,18 @@ module _ (numbers : ℕ → ℕ) (s : List ℕ) (end : ℕ) (r : List ℕ) (shor
         parts-are = rw e (ih .parts-are);
         is-low = rw e (ih .is-low);
       }
+
+  -- the place behind so many records
+  pub place-upto : (k : ℕ) (fs before : List (Field ℕ)) (i place : ℕ) → firstBreak keepsForm before fs ≡ none
+      → firstBreak keepsSize before fs ≡ none → Stands s place (records numbers k fs ++ r) end → i ≤ length fs
+      → placeFrom s i place ≡ place + length (records numbers k (take i fs))
+  unfolding placeFrom recordsIn
+  place-upto k fs before zero place hf hs p le = omega arith
+  place-upto k [] before (suc i) place hf hs p le = absurd (omega arith)
+  place-upto k (f ∷ fs) before (suc i) place hf hs p le =
+      let w = front k f fs before place hf hs p in
+      let here = storedField (numbers k) f in
+      let ih = place-upto (suc k) fs (before ++ (f ∷ [])) i (place + length here) (w .formed) (w .sized) (w .more)
+      (omega arith) in
+      rw (le-ltb tableMost place (w .low), w .next)
+      (ih ∙ omega (arith, length-append here (records numbers (suc k) (take i fs))))

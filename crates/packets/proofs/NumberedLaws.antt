@@ -27,7 +27,7 @@ use Rattle.packets.specs.Parts.{tableMost}
 use Rattle.packets.specs.CountsTest.{readsFrom, Tallied}
 use Rattle.packets.specs.TableTest.{headTest, fieldsTest, shapeTest}
 use Rattle.packets.specs.Conversions.{NumbersTable}
-use Rattle.packets.proofs.FieldBounds.{field-sizes, body-size}
+use Rattle.laws.proofs.FieldSizes.{field-sizes, body-size}
 use Rattle.packets.proofs.TableLaws.{shape-sound, shape-complete, standing, standing-kept}
 
 -- the records' lengths fit into two bytes

@@ -42,7 +42,7 @@ use Rattle.packets.specs.StoredTrees.{marked, checkAt}
 use Rattle.packets.specs.Parts.{ending}
 use Rattle.packets.specs.PartsStand.{In}
 use Rattle.packets.specs.FieldTest.{bytesIn, endsAs, treeTest, maybeTest}
-use Rattle.packets.proofs.FieldBounds.{small-length}
+use Rattle.laws.proofs.FieldSizes.{small-length}
 use Rattle.packets.proofs.TreeTypes.{same-type-true, same-type-self}
 use Rattle.packets.proofs.TreeSound.{check-sound}
 use Rattle.packets.proofs.TreeComplete.{check-complete}

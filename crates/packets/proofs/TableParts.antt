@@ -30,7 +30,7 @@ use Rattle.packets.specs.FieldTest.{bytesIn}
 use Rattle.packets.specs.TableTest.{headTest, lastTest}
 use Rattle.packets.proofs.PartsLaws.{counted-in, counted-build}
 use Rattle.packets.proofs.RecordLaws.{two-front, front-two, moved}
-use Rattle.packets.proofs.FieldBounds.{length-counted, field-sizes, body-size, record-size}
+use Rattle.laws.proofs.FieldSizes.{length-counted, field-sizes, body-size, record-size}
 use Rattle.packets.proofs.PartBytes.{bytes-stand, bytes-are, in-length}
 use Rattle.packets.proofs.TableSteps.{HeadIs}
 use Rattle.rules.specs.Editions.{current}

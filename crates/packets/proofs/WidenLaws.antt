@@ -22,7 +22,7 @@ use Rattle.rules.specs.Within.{keepsForm, keepsSize}
 use Rattle.rules.specs.Stored.{kindIn, fieldBody, storedFieldIn, recordsIn, records}
 use Rattle.references.proofs.NumberLaws.{two-mod}
 use Rattle.packets.specs.Conversions.{oldMost, widened, isOld, widenFrom}
-use Rattle.packets.proofs.FieldBounds.{field-sizes, body-size}
+use Rattle.laws.proofs.FieldSizes.{field-sizes, body-size}
 
 -- ── an old record ──
 

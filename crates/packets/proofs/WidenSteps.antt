@@ -27,7 +27,7 @@ behind-four : (r : List ℕ) → 4 ≤ length r → take (length r - 4) (drop 4 
 behind-four r le = take-all (length r - 4) (drop 4 r) (omega (arith, length-drop 4 r))
 
 -- a number that was put
-two-put : (n : ℕ) {a b : List ℕ} {at next : ℕ} → at + 2 ≤ length a → placed next b ≡ put a at (le2 n)
+pub two-put : (n : ℕ) {a b : List ℕ} {at next : ℕ} → at + 2 ≤ length a → placed next b ≡ put a at (le2 n)
     → Writes a at (le2 n) b next × (next ≡ at + 2) × (length b ≡ length a)
 two-put n room e =
     let size = length-le2 n in
@@ -57,7 +57,7 @@ abbrev pub Widening : List ℕ → ℕ → ℕ → ℕ → List ℕ → ℕ → 
 Widening table n i at out to =
     widenTable table ≡ Option·map (λ (l : List ℕ). take to out ++ l) (widenFrom (n - i) (drop at table))
 
-two-there : (s : List ℕ) (a b : ℕ) → twoAt (drop a s) b ≡ twoAt s (a + b)
+pub two-there : (s : List ℕ) (a b : ℕ) → twoAt (drop a s) b ≡ twoAt s (a + b)
 unfolding twoAt
 two-there s a b =
     let e : a + (b + 1) ≡ a + b + 1 = omega arith in

@@ -1,7 +1,7 @@
 -- Old tables with a number put into each record. This mirrors the code of src/conversions.rt: no public promise rests
 -- on this file.
 use mathlib.Core.Path.{_≡_}
-use mathlib.Core.Bool.{Bool, true, false, cond, _&&_, _||_}
+use mathlib.Core.Bool.{Bool, true, false, cond, _&&_}
 use mathlib.Core.List.{List, _++_}
 use mathlib.Core.Option.{Option, none, some, Option·map}
 use Prim.Native.Nat.{ℕ, zero, suc, _+_, _*_}
@@ -15,13 +15,10 @@ use Rattle.rules.specs.Editions.{current}
 use Rattle.rules.specs.Fields.{Description}
 use Rattle.rules.specs.Within.{Within}
 use Rattle.rules.specs.Stored.{storedWith, stored}
-use Rattle.references.specs.Scans.{hasAdded}
-use Rattle.writing.specs.declared.spans.Span.{Span}
+use Rattle.references.specs.declared.scans.Wanted.the-variants.{Added}
 use Rattle.packets.specs.declared.conversions.Widened.{Widened}
 use Rattle.packets.specs.declared.conversions.Widened.the-variants.{Bytes, Bad}
-use Rattle.packets.specs.declared.records.Parts.{Parts}
-use Rattle.packets.specs.Parts.{tableMost, partsAt}
-use Rattle.packets.specs.Lookups.{isMissing}
+use Rattle.packets.specs.Expressions.{havingFrom}
 
 -- no old good table is longer, nor what it becomes
 abbrev pub oldMost : ℕ
@@ -71,13 +68,5 @@ NumbersTable false before after =
 
 -- ── operators that the old rules do not know ──
 
-unfoldable pub partAdds : List ℕ → Span → Bool
-partAdds s p = cond (isMissing s p) false (hasAdded (take (p .len) (drop (p .at) s)))
-
-abbrev pub recordAdds : List ℕ → Parts → Bool
-recordAdds s p = partAdds s (p .tree) || (partAdds s (p .constraint) || partAdds s (p .condition))
-
-unfoldable pub addsFrom : List ℕ → ℕ → ℕ → Bool
-addsFrom s zero place = false
-addsFrom s (suc n) place =
-    cond (ltb tableMost place) false (recordAdds s (partsAt s place) || addsFrom s n (partsAt s place .next))
+abbrev pub addsAny : List ℕ → Bool
+addsAny s = ltb (havingFrom Added s 0 (twoAt s 6) (twoAt s 0)) (twoAt s 6)

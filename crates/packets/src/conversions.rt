@@ -1,18 +1,15 @@
 // Old tables, whose records keep no number, converted.
-use crate::records::Parts;
-use crate::records::parts_at;
+use crate::expressions::first_having;
 use crate::records::two_at;
 use crate::tables::is_head;
 use crate::tables::number_table;
-use references::scans::has_added;
+use references::scans::Wanted;
 use rules::ConversionAnswer;
 use rules::LABEL_MOST;
 use rules::RECORD_MOST;
-use rules::TABLE_MOST;
 use writing::delivery::deliver;
 use writing::puts::put;
 use writing::puts::put_two;
-use writing::spans::Span;
 ghost use mathlib.Core.Path.{_≡_};
 ghost use mathlib.Core.Bool.{true};
 ghost use mathlib.Core.Option.{some};
@@ -30,9 +27,7 @@ ghost use Rattle.packets.specs.Conversions.{
   widened,
   widenTable,
   WidensTo,
-  partAdds,
-  recordAdds,
-  addsFrom,
+  addsAny,
 };
 
 // The fields that an old table may have; no old good table is longer than OLD_MOST, nor what it becomes than the room.
@@ -101,56 +96,12 @@ fn widen(table: &[u8], out: &mut [u8]) -> Widened
     Widened::Bytes(end)
 }
 
-// An expression has an operator that the old rules do not know.
-fn part_adds(table: &[u8], p: Span) -> bool
-    ensures { λ r. ⌜ r ≡ partAdds (now (table .entry)) p ⌝ }
-{
-    let start = p.at;
-    let len = p.len;
-    if len == 0 {
-        return false;
-    }
-    if table.len() < start {
-        return false;
-    }
-    if table.len() - start < len {
-        return false;
-    }
-    let end = start + len;
-    has_added(&table[start..end])
-}
-
-fn record_adds(table: &[u8], parts: Parts) -> bool
-    ensures { λ r. ⌜ r ≡ recordAdds (now (table .entry)) parts ⌝ }
-{
-    if part_adds(table, parts.tree) {
-        return true;
-    }
-    if part_adds(table, parts.constraint) {
-        return true;
-    }
-    part_adds(table, parts.condition)
-}
-
-// Some expression of the fields has one.
+// Some expression of the fields has an operator that the old rules do not know.
 fn adds_operators(table: &[u8]) -> bool
-    ensures { λ r. ⌜ r ≡ addsFrom (now (table .entry)) (twoAt (now (table .entry)) 6) (twoAt (now (table .entry)) 0) ⌝ }
+    ensures { λ r. ⌜ r ≡ addsAny (now (table .entry)) ⌝ }
 {
     let n = two_at(table, 6);
-    let mut place = two_at(table, 0);
-    let mut k = 0;
-    while k < n {
-        if TABLE_MOST < place {
-            return false;
-        }
-        let parts = parts_at(table, place);
-        if record_adds(table, parts) {
-            return true;
-        }
-        place = parts.next;
-        k += 1;
-    }
-    false
+    first_having(table, Wanted::Added) < n
 }
 
 // What a table was widened to: it gets the true numbers and is delivered.

@@ -35,7 +35,7 @@ enum FieldRecord {
 }
 
 // The place behind n records.
-fn place_behind(table: &[u8], n: usize) -> usize
+pub(crate) fn place_behind(table: &[u8], n: usize) -> usize
     ensures { λ r. ⌜ r ≡ placeFrom (now (table .entry)) n (twoAt (now (table .entry)) 0) ⌝ }
 {
     let mut place = two_at(table, 0);

@@ -5,21 +5,28 @@ use mathlib.Core.List.{List, [], _∷_, _++_}
 use Prim.Native.Nat.{ℕ}
 use lib.ListN.{replicate}
 use Rattle.base.specs.Lists.{Every}
-use Rattle.references.specs.Scans.{references, hasAdded}
+use Rattle.references.specs.Scans.{references, hasCode}
+use Rattle.references.specs.declared.scans.Wanted.{Wanted}
+use Rattle.references.specs.declared.scans.Wanted.the-variants.{Added, Run}
+use Rattle.references.specs.declared.renumbering.Shift.{Shift}
+use Rattle.references.specs.Renumbered.{newIndex, renumberedBytes}
 use Rattle.references.specs.Tallies.{tallied}
 use Rattle.references.specs.Numbers.{numbered}
 
 pub data Claim : Type 0 where
   -- an expression, the own index, the counts before and after
   tallies : List ℕ → ℕ → List ℕ → List ℕ → Claim
-  -- an expression, and whether it has `/`, `%` or `^`
-  finds : List ℕ → Bool → Claim
+  -- what is looked for, an expression, and whether it is there
+  finds : Wanted → List ℕ → Bool → Claim
+  -- how indexes change, an expression before and after
+  renumbers : Shift → List ℕ → List ℕ → Claim
   -- records, how many, their numbers, and the records after
   numbers : List ℕ → ℕ → List ℕ → List ℕ → Claim
 
 abbrev pub Claimed : Claim → Type 0
 Claimed (tallies e own before after) = after ≡ tallied own before (references e)
-Claimed (finds e r) = r ≡ hasAdded e
+Claimed (finds w e r) = r ≡ hasCode w e
+Claimed (renumbers shift before after) = after ≡ renumberedBytes (newIndex shift) before
 Claimed (numbers s n counts after) = after ≡ numbered n counts s
 
 abbrev pub AllFalse : List Claim → Type 0
@@ -38,6 +45,7 @@ wrongTallies =
     -- bytes of a number taken for codes; an index taken for a code
     ∷ tallies (1 ∷ 2 ∷ 1 ∷ 0 ∷ 0 ∷ []) 0 none (0 ∷ 1 ∷ 0 ∷ [])
     ∷ tallies (0x20 ∷ 2 ∷ 2 ∷ 2 ∷ 1 ∷ []) 0 none (0 ∷ 1 ∷ 2 ∷ [])
+    ∷ tallies (0x20 ∷ 2 ∷ 1 ∷ 2 ∷ 2 ∷ []) 0 none (0 ∷ 1 ∷ 0 ∷ [])
     -- what comes behind a number, or behind `!`, passed over
     ∷ tallies (0x20 ∷ 1 ∷ 7 ∷ 0 ∷ 0 ∷ 0 ∷ 2 ∷ 1 ∷ []) 0 none none
     ∷ tallies (0x32 ∷ 0x20 ∷ 2 ∷ 1 ∷ 2 ∷ 2 ∷ []) 0 none none
@@ -61,19 +69,67 @@ wrongTallies =
 abbrev wrongFinds : List Claim
 wrongFinds =
     -- a code found inside a number, and in an index
-    finds (1 ∷ 0x13 ∷ 0 ∷ 0 ∷ 0 ∷ []) true
-    ∷ finds (2 ∷ 0x14 ∷ []) true
+    finds Added (1 ∷ 0x13 ∷ 0 ∷ 0 ∷ 0 ∷ []) true
+    ∷ finds Added (2 ∷ 0x14 ∷ []) true
     -- one missed behind a field, and behind a number
-    ∷ finds (0x20 ∷ 2 ∷ 0 ∷ 0x13 ∷ 2 ∷ 0 ∷ 2 ∷ 0 ∷ []) false
-    ∷ finds (0x20 ∷ 1 ∷ 7 ∷ 0 ∷ 0 ∷ 0 ∷ 0x14 ∷ 2 ∷ 0 ∷ 2 ∷ 0 ∷ []) false
+    ∷ finds Added (0x20 ∷ 2 ∷ 0 ∷ 0x13 ∷ 2 ∷ 0 ∷ 2 ∷ 0 ∷ []) false
+    ∷ finds Added (0x20 ∷ 1 ∷ 7 ∷ 0 ∷ 0 ∷ 0 ∷ 0x14 ∷ 2 ∷ 0 ∷ 2 ∷ 0 ∷ []) false
     -- `^` not looked for; `*` and `==` taken for added ones
-    ∷ finds (0x15 ∷ 2 ∷ 0 ∷ 2 ∷ 0 ∷ []) false
-    ∷ finds (0x12 ∷ 2 ∷ 0 ∷ 2 ∷ 0 ∷ []) true
-    ∷ finds (0x20 ∷ 2 ∷ 0 ∷ 2 ∷ 0 ∷ []) true
+    ∷ finds Added (0x15 ∷ 2 ∷ 0 ∷ 2 ∷ 0 ∷ []) false
+    ∷ finds Added (0x12 ∷ 2 ∷ 0 ∷ 2 ∷ 0 ∷ []) true
+    ∷ finds Added (0x20 ∷ 2 ∷ 0 ∷ 2 ∷ 0 ∷ []) true
     -- the code behind `^` taken for one; a number that is cut off; no bytes
-    ∷ finds (0x16 ∷ 2 ∷ 0 ∷ 2 ∷ 0 ∷ []) true
-    ∷ finds (1 ∷ 0x13 ∷ []) true
-    ∷ finds [] true
+    ∷ finds Added (0x16 ∷ 2 ∷ 0 ∷ 2 ∷ 0 ∷ []) true
+    ∷ finds Added (1 ∷ 0x13 ∷ []) true
+    ∷ finds Added [] true
+    -- a run: one behind its end found, one before it, its first and its last missed
+    ∷ finds (Run 2 4) (2 ∷ 5 ∷ []) true
+    ∷ finds (Run 2 4) (2 ∷ 1 ∷ []) true
+    ∷ finds (Run 2 4) (2 ∷ 2 ∷ []) false
+    ∷ finds (Run 2 4) (2 ∷ 4 ∷ []) false
+    -- in the right operand, behind a number and behind `!` missed
+    ∷ finds (Run 2 4) (0x20 ∷ 2 ∷ 0 ∷ 2 ∷ 3 ∷ []) false
+    ∷ finds (Run 2 4) (0x20 ∷ 1 ∷ 9 ∷ 9 ∷ 9 ∷ 9 ∷ 2 ∷ 3 ∷ []) false
+    ∷ finds (Run 2 4) (0x32 ∷ 0x20 ∷ 2 ∷ 3 ∷ 2 ∷ 0 ∷ []) false
+    -- in the bytes of a number, and without its index found; an operator taken for it
+    ∷ finds (Run 2 4) (1 ∷ 2 ∷ 3 ∷ 0 ∷ 0 ∷ []) true
+    ∷ finds (Run 0 4) (2 ∷ []) true
+    ∷ finds (Run 0 99) (0x13 ∷ 1 ∷ 7 ∷ 0 ∷ 0 ∷ 0 ∷ 1 ∷ 2 ∷ 0 ∷ 0 ∷ 0 ∷ []) true
+    -- behind a field's index that is a number's code missed
+    ∷ finds (Run 5 5) (0x20 ∷ 2 ∷ 1 ∷ 2 ∷ 5 ∷ []) false
+    -- in an empty run found, and in one of which a byte holds the rest alone
+    ∷ finds (Run 3 2) (2 ∷ 3 ∷ []) true
+    ∷ finds (Run 256 256) (2 ∷ 0 ∷ []) true
+    ∷ []
+
+-- down by two behind a run from 3 on, and up by two from 3 on
+abbrev down : Shift
+down = record { from = 3; by = 2; up = false }
+
+abbrev up : Shift
+up = record { from = 3; by = 2; up = true }
+
+abbrev wrongRenumbers : List Claim
+wrongRenumbers =
+    -- left as it was; changed before the run; the first one changed not; the other way
+    renumbers down (2 ∷ 5 ∷ []) (2 ∷ 5 ∷ [])
+    ∷ renumbers down (2 ∷ 3 ∷ []) (2 ∷ 3 ∷ [])
+    ∷ renumbers down (2 ∷ 2 ∷ []) (2 ∷ 0 ∷ [])
+    ∷ renumbers up (2 ∷ 3 ∷ []) (2 ∷ 3 ∷ [])
+    ∷ renumbers up (2 ∷ 5 ∷ []) (2 ∷ 3 ∷ [])
+    -- only the first operand; only the last; the bytes of a number changed; a code behind a number passed over
+    ∷ renumbers up (0x20 ∷ 2 ∷ 4 ∷ 2 ∷ 3 ∷ []) (0x20 ∷ 2 ∷ 6 ∷ 2 ∷ 3 ∷ [])
+    ∷ renumbers up (0x20 ∷ 2 ∷ 4 ∷ 2 ∷ 3 ∷ []) (0x20 ∷ 2 ∷ 4 ∷ 2 ∷ 5 ∷ [])
+    ∷ renumbers up (1 ∷ 2 ∷ 4 ∷ 0 ∷ 0 ∷ []) (1 ∷ 2 ∷ 6 ∷ 0 ∷ 0 ∷ [])
+    ∷ renumbers up (0x20 ∷ 1 ∷ 2 ∷ 4 ∷ 0 ∷ 0 ∷ 2 ∷ 4 ∷ []) (0x20 ∷ 1 ∷ 2 ∷ 4 ∷ 0 ∷ 0 ∷ 2 ∷ 4 ∷ [])
+    -- an index taken for a code; an operator of a like number changed; a code without its index changed
+    ∷ renumbers up (0x20 ∷ 2 ∷ 1 ∷ 2 ∷ 9 ∷ []) (0x20 ∷ 2 ∷ 1 ∷ 2 ∷ 9 ∷ [])
+    ∷ renumbers (record { from = 1; by = 1; up = true }) (0x20 ∷ 2 ∷ 1 ∷ 2 ∷ 9 ∷ []) (0x20 ∷ 2 ∷ 2 ∷ 3 ∷ 9 ∷ [])
+    ∷ renumbers up (0x20 ∷ 2 ∷ 0 ∷ 2 ∷ 1 ∷ []) (0x22 ∷ 2 ∷ 0 ∷ 2 ∷ 1 ∷ [])
+    ∷ renumbers (record { from = 0; by = 2; up = true }) (0x32 ∷ 2 ∷ []) (0x32 ∷ 4 ∷ [])
+    -- one below zero taken for 255, and one over 255 for 255
+    ∷ renumbers (record { from = 0; by = 2; up = false }) (2 ∷ 1 ∷ []) (2 ∷ 255 ∷ [])
+    ∷ renumbers up (2 ∷ 254 ∷ []) (2 ∷ 255 ∷ [])
     ∷ []
 
 -- a record of eight bytes and one of six; the numbers 258 and 3
@@ -121,4 +177,4 @@ wrongNumbers =
     ∷ []
 
 abbrev pub wrong : List Claim
-wrong = wrongTallies ++ (wrongFinds ++ wrongNumbers)
+wrong = wrongTallies ++ (wrongFinds ++ (wrongRenumbers ++ wrongNumbers))

@@ -1,18 +1,27 @@
-// Stored expressions, scanned from one code to the next: the fields that they read are counted.
+// Stored expressions, scanned from one code to the next: what they have is found, and the fields that they read are
+// counted.
 ghost use mathlib.Core.Path.{_≡_};
 ghost use mathlib.Core.List.{[], _∷_};
 ghost use Prim.Native.Nat.{_≤_, _<_};
 ghost use lib.ListN.{length, drop};
-ghost use Rattle.references.specs.Scans.{codesFrom, references, isAddedCode, hasAdded};
+ghost use Rattle.base.specs.Lists.{between};
+ghost use Rattle.references.specs.declared.scans.Wanted.the-variants.{Run};
+ghost use Rattle.references.specs.Scans.{codesFrom, references, isAddedCode, isWanted, hasCode};
 ghost use Rattle.references.specs.Tallies.{oneMore, tallied};
 
 // The first bytes of a stored number and of a stored field.
 const NUMBER_CODE: u8 = 1;
 
-const FIELD_CODE: u8 = 2;
+pub(crate) const FIELD_CODE: u8 = 2;
+
+// What is looked for: `/`, `%` or `^`, or a field of a run that is read, by the run's first and last index.
+pub enum Wanted {
+    Added,
+    Run(usize, usize),
+}
 
 // The place of the code behind the one at a place, or the end.
-fn next_code(expression: &[u8], at: usize) -> usize
+pub(crate) fn next_code(expression: &[u8], at: usize) -> usize
     requires { ⌜ at < length (now expression) ⌝ }
     ensures { λ r. ⌜ (codesFrom 0 (drop at (now (expression .entry)))
         ≡ drop at (now (expression .entry)) ∷ codesFrom 0 (drop r (now (expression .entry))))
@@ -44,13 +53,47 @@ fn is_added(code: u8) -> bool
     code <= 0x15
 }
 
-// Whether a stored expression has `/`, `%` or `^`.
-pub fn has_added(expression: &[u8]) -> bool
-    ensures { λ r. ⌜ r ≡ hasAdded (now (expression .entry)) ⌝ }
+fn is_between(index: u8, first: usize, last: usize) -> bool
+    ensures { λ r. ⌜ r ≡ between first index last ⌝ }
+{
+    let i = index as usize;
+    if i < first {
+        return false;
+    }
+    i <= last
+}
+
+// A field of a run is read at a place.
+fn reads_run(expression: &[u8], at: usize, first: usize, last: usize) -> bool
+    requires { ⌜ at < length (now expression) ⌝ }
+    ensures { λ r. ⌜ r ≡ isWanted (Run first last) (drop at (now (expression .entry))) ⌝ }
+{
+    if expression[at] != FIELD_CODE {
+        return false;
+    }
+    if expression.len() - at < 2 {
+        return false;
+    }
+    is_between(expression[at + 1], first, last)
+}
+
+fn is_wanted(expression: &[u8], at: usize, wanted: Wanted) -> bool
+    requires { ⌜ at < length (now expression) ⌝ }
+    ensures { λ r. ⌜ r ≡ isWanted wanted (drop at (now (expression .entry))) ⌝ }
+{
+    match wanted {
+        Wanted::Added => is_added(expression[at]),
+        Wanted::Run(first, last) => reads_run(expression, at, first, last),
+    }
+}
+
+// Whether what is looked for stands in a stored expression.
+pub fn has_code(expression: &[u8], wanted: Wanted) -> bool
+    ensures { λ r. ⌜ r ≡ hasCode wanted (now (expression .entry)) ⌝ }
 {
     let mut at = 0;
     while at < expression.len() {
-        if is_added(expression[at]) {
+        if is_wanted(expression, at, wanted) {
             return true;
         }
         at = next_code(expression, at);

@@ -1,4 +1,4 @@
--- Which fields the expressions of a field read, and how often a field is read. [02, R-5]
+-- Which fields the expressions of a field read, and how often a field is read. [02, R-4] [02, R-5]
 use mathlib.Core.Bool.{cond}
 use mathlib.Core.List.{List, [], _∷_, _++_}
 use Prim.Native.Nat.{ℕ, suc}

@@ -1,4 +1,5 @@
-// The seven kinds of request: `text`, `table`, `read`, `part`, `list`, `readers` and `convert`.
+// The nine kinds of request: `text`, `table`, `read`, `part`, `list`, `readers`, `convert`, `cut` and `put`.
+use crate::edits::answer_edit;
 use crate::lent::output;
 use crate::lent::room_for;
 use crate::lent::run;
@@ -150,7 +151,7 @@ fn answer_words(kind: u8, words: &[u8]) {
     }
 }
 
-// A request, known by its first letter; `text` by its second, `readers` by its fifth.
+// A request, known by its first letter; `text`, `cut` and `put` by their second too, `readers` by its fifth.
 pub(crate) fn answer_line(line: &[u8]) {
     if line.len() < 5 {
         return;
@@ -168,6 +169,10 @@ pub(crate) fn answer_line(line: &[u8]) {
             answer_words(b'e', words);
             return;
         }
+    }
+    if line[1] == b'u' {
+        answer_edit(line[0], words);
+        return;
     }
     answer_words(line[0], words);
 }

@@ -1,4 +1,5 @@
 // Runs the library on the requests of its data folder, one to a line, and prints an answer line for each.
+mod edits;
 mod kinds;
 mod lent;
 mod packet_answers;
@@ -48,7 +49,6 @@ fn run_texts() {
     run_file(b"texts9");
     run_file(b"texts10");
     run_file(b"texts11");
-    run_file(b"texts12");
 }
 
 fn run_limits() {
@@ -79,10 +79,19 @@ fn run_packets() {
     run_file(b"packets12");
 }
 
+fn run_edits() {
+    run_file(b"marked_edits");
+    run_file(b"edits1");
+    run_file(b"edits2");
+    run_file(b"edits3");
+    run_file(b"edits4");
+}
+
 fn main() {
     run_texts();
     run_file(b"marked_packets");
     run_limits();
     run_tables();
     run_packets();
+    run_edits();
 }

@@ -8,6 +8,7 @@ use crate::printing::show_end;
 use crate::printing::show_number;
 use crate::printing::show_refusal;
 use rules::ConversionAnswer;
+use rules::EditAnswer;
 use rules::Fault;
 use rules::FieldAnswer;
 use rules::ListingAnswer;
@@ -56,7 +57,7 @@ pub(crate) fn show_readers(answer: FieldAnswer) {
 }
 
 // The new table, beyond which nothing is to change.
-fn show_converted(out: &[u8], n: usize) {
+fn show_new(out: &[u8], n: usize) {
     show(b"ok ");
     show_bytes(out, n);
     show_end(unchanged(out, n));
@@ -65,9 +66,21 @@ fn show_converted(out: &[u8], n: usize) {
 pub(crate) fn show_conversion(answer: ConversionAnswer, out: &[u8]) {
     let same = unchanged(out, 0);
     match answer {
-        ConversionAnswer::Converted(n) => show_converted(out, n),
+        ConversionAnswer::Converted(n) => show_new(out, n),
         ConversionAnswer::NotGood => show_refusal(21, 0, same),
         ConversionAnswer::NoRoom => show_refusal(11, 0, same),
+    }
+}
+
+pub(crate) fn show_edit(answer: EditAnswer, out: &[u8]) {
+    let same = unchanged(out, 0);
+    match answer {
+        EditAnswer::Edited(n) => show_new(out, n),
+        EditAnswer::NotGood => show_refusal(21, 0, same),
+        EditAnswer::NoFields => show_refusal(30, 0, same),
+        EditAnswer::StillRead(place) => show_refusal(31, place, same),
+        EditAnswer::BeyondLimits => show_refusal(34, 0, same),
+        EditAnswer::NoRoom => show_refusal(11, 0, same),
     }
 }
 

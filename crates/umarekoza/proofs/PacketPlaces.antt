@@ -126,7 +126,7 @@ module _ (packet : List ℕ) where
       go false = reading-low d
 
 -- no place is beyond the fields, whatever a decision gives
-low-by : (table : List ℕ) (a : Answer) (v : Dec (Good table) → ℕ) → ((good : Dec (Good table)) → a .place ≡ v good)
+pub low-by : (table : List ℕ) (a : Answer) (v : Dec (Good table) → ℕ) → ((good : Dec (Good table)) → a .place ≡ v good)
     → ((g : Good table) → v (yes g) ≤ length (g .description .fields)) → ((b : Good table → ⊥) → v (no b) ≡ 0)
     → a .place ≤ fieldsMost
 low-by table a v is low none = go (good-decidable table)

@@ -2,9 +2,10 @@
 -- (proofs/RuledOutReplies).
 use mathlib.Core.List.{List, [], _∷_, _++_}
 use Prim.Native.Nat.{ℕ}
-use lib.ListN.{length, replicate}
+use lib.ListN.{length, replicate, drop}
 use Rattle.base.specs.Bytes.{bytes}
-use Rattle.rules.specs.Promises.{leaves, ReadsText}
+use Rattle.rules.specs.Stored.{stored}
+use Rattle.rules.specs.Promises.{leaves, overlaid, ReadsText}
 use Rattle.rules.specs.Cases.{lentRun}
 use Rattle.rules.specs.Marked.{bladeReport, m1, m1Listing, tagText, tagTable}
 use Rattle.rules.specs.Pages.{m3, tagLines, oldTagTable}
@@ -24,9 +25,14 @@ use Rattle.laws.specs.Wrong.{
   tellsKind,
   countsReaders,
   convertsWith,
+  cutsWith,
+  putsWith,
   placesShort,
   readsPartly,
 }
+use Rattle.laws.specs.WrongNumbers.{nines}
+use Rattle.laws.specs.WrongEdits.{ifOne, five, four, pair, letters}
+use Rattle.laws.specs.WrongPuts.{given}
 use Rattle.umarekoza.specs.declared.Reply.{Reply}
 use Rattle.umarekoza.specs.declared.Span.{Span}
 use Rattle.umarekoza.specs.declared.Partial.{Partial}
@@ -63,6 +69,10 @@ ofPackets =
     ∷ readsPartly bladeReport m3 (partialAnswer (partial 24 7 6 6)) (runOf m1Six) 6
     ∷ []
 
+-- the record of a field that four has not and five has
+abbrev gap : List ℕ
+gap = given (ifOne "Gap" 0 ∷ [])
+
 abbrev ofTables : List Claim
 ofTables =
     -- a field by name: the index as the place; 11 or 31 for a name that no field has
@@ -87,6 +97,15 @@ ofTables =
     ∷ convertsWith 46 oldTagTable (replyAnswer (reply 0 0 0)) tagTable
     ∷ convertsWith 45 oldTagTable (replyAnswer (reply 21 0 0)) (replicate 45 9)
     ∷ convertsWith 46 tagTable (replyAnswer (reply 11 0 0)) (replicate 46 9)
+    -- fields cut out: no length; number and place exchanged; 34 told as 31; first and last exchanged
+    ∷ cutsWith 200 (stored five) 2 2 (replyAnswer (reply 0 0 0)) (overlaid (stored four) (nines 200))
+    ∷ cutsWith 200 (stored pair) 0 0 (replyAnswer (reply 2 31 0)) (nines 200)
+    ∷ cutsWith 200 (stored letters) 0 1 (replyAnswer (reply 31 0 0)) (nines 200)
+    ∷ cutsWith 200 (stored five) 3 4 (replyAnswer (reply 30 0 0)) (nines 200)
+    -- fields put in: no length; the records in the table's place; 34 told as 30
+    ∷ putsWith 200 (stored four) 2 gap (replyAnswer (reply 0 0 0)) (overlaid (stored five) (nines 200))
+    ∷ putsWith 200 (stored four) 2 gap (replyAnswer (reply 21 0 0)) (nines 200)
+    ∷ putsWith 200 (stored four) 2 (drop 1 gap) (replyAnswer (reply 30 0 0)) (nines 200)
     -- a short name: start and length exchanged; the label
     ∷ placesShort bladeReport 0 (spanPart (span 1 39))
     ∷ placesShort bladeReport 0 (spanPart (span 30 7))

@@ -2,12 +2,15 @@
 mod replies;
 
 use crate::replies::conversion_reply;
+use crate::replies::edit_reply;
 use crate::replies::field_reply;
 use crate::replies::listing_reply;
 use crate::replies::packet_reply;
 use crate::replies::table_reply;
 use crate::replies::text_reply;
 use packets::conversions::convert_table;
+use packets::edits::cut_fields;
+use packets::edits::put_fields;
 use packets::listing::list_packet;
 use packets::lookups::count_fields;
 use packets::lookups::count_readers;
@@ -36,11 +39,14 @@ ghost use Rattle.rules.specs.Promises.{
   TellsKind,
   CountsReaders,
   ConvertsTable,
+  CutsFields,
+  PutsFields,
 };
 ghost use Rattle.umarekoza.specs.Exports.{replyAnswer, spanPart, partialAnswer};
 
 // Number 0 is acceptance, with place 0 and the length that is answered; else the number and place of the refusal, with
-// length 0. They are document 01's; 29, for a zero divisor, and 30, for a name or index that no field has, are 02's.
+// length 0. They are document 01's; 29, for a zero divisor, 30, for a name, index or run that no field has or records
+// of no bytes, 31, for a field that is still read, and 34, for fields that do not go together, are 02's.
 #[repr(C)]
 pub struct Reply {
     pub number: u32,
@@ -174,6 +180,36 @@ pub extern "C" fn umarekoza_convert_table(table: &[u8], out: &mut [u8]) -> Reply
         (now (out .exit))) ⌝ }
 {
     conversion_reply(convert_table(table, out))
+}
+
+// A run of a table's fields is cut out, by the indexes of its first and its last field: the table without it at the
+// output's start, and the length is its.
+#[no_mangle]
+pub extern "C" fn umarekoza_cut_fields(
+    table: &[u8],
+    first: usize,
+    last: usize,
+    out: &mut [u8],
+) -> Reply
+    ensures { λ r. ⌜ CutsFields (now (table .entry)) first last (now (out .entry)) (leaves (replyAnswer r)
+        (now (out .exit))) ⌝ }
+{
+    edit_reply(cut_fields(table, first, last, out))
+}
+
+// The fields of records are put in before the field of an index, or at the end: the table with them at the output's
+// start, and the length is its.
+#[no_mangle]
+pub extern "C" fn umarekoza_put_fields(
+    table: &[u8],
+    index: usize,
+    records: &[u8],
+    out: &mut [u8],
+) -> Reply
+    ensures { λ r. ⌜ PutsFields (now (table .entry)) index (now (records .entry)) (now (out .entry))
+        (leaves (replyAnswer r) (now (out .exit))) ⌝ }
+{
+    edit_reply(put_fields(table, index, records, out))
 }
 
 // A packet is read by a table as far as it goes: four numbers for each field before the first refused one.

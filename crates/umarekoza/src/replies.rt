@@ -4,6 +4,7 @@ use packets::answers::amount_of;
 use packets::answers::number_of;
 use packets::answers::place_of;
 use rules::ConversionAnswer;
+use rules::EditAnswer;
 use rules::FieldAnswer;
 use rules::ListingAnswer;
 use rules::PacketAnswer;
@@ -11,7 +12,8 @@ use rules::TableAnswer;
 use rules::TextAnswer;
 ghost use mathlib.Core.Path.{_≡_};
 ghost use Prim.Native.Nat.{_<_};
-ghost use Rattle.rules.specs.Answers.{accepted, refused, ofTable, ofPacket, ofText, ofField, ofListing, ofConversion};
+ghost use Rattle.rules.specs.Answers.{accepted, refused, ofTable, ofPacket, ofText, ofField, ofListing};
+ghost use Rattle.rules.specs.Answers.{ofConversion, ofEdit};
 ghost use Rattle.umarekoza.specs.Exports.{replyAnswer};
 
 fn accept(n: usize) -> Reply
@@ -104,5 +106,19 @@ pub(crate) fn conversion_reply(answer: ConversionAnswer) -> Reply
         ConversionAnswer::Converted(n) => accept(n),
         ConversionAnswer::NotGood => refuse(21, 0),
         ConversionAnswer::NoRoom => refuse(11, 0),
+    }
+}
+
+pub(crate) fn edit_reply(answer: EditAnswer) -> Reply
+    requires { ⌜ ofEdit answer .place < 4294967296 ⌝ }
+    ensures { λ r. ⌜ replyAnswer r ≡ ofEdit answer ⌝ }
+{
+    match answer {
+        EditAnswer::Edited(n) => accept(n),
+        EditAnswer::NotGood => refuse(21, 0),
+        EditAnswer::NoFields => refuse(30, 0),
+        EditAnswer::StillRead(place) => refuse(31, place),
+        EditAnswer::BeyondLimits => refuse(34, 0),
+        EditAnswer::NoRoom => refuse(11, 0),
     }
 }

@@ -1,4 +1,4 @@
--- A text delivered at the start of an output. [01, Refusal numbers]
+-- A text delivered at the start of an output. [01, Refusal numbers] [02, R-4]
 use mathlib.Core.Bool.{Bool, true, false}
 use mathlib.Core.List.{List}
 use Prim.Native.Nat.{ℕ}

@@ -1,8 +1,8 @@
 //! What to write instead of an expression that faults.
 
-use super::stored::{StoredField, Tree};
-use super::written::{name_of, written};
 use crate::operators::{Operator, OPERATORS};
+use crate::stored::{StoredField, Tree};
+use crate::written::{name_of, written};
 
 fn operator(symbol: &str) -> Option<Operator> {
     OPERATORS.into_iter().find(|operator| operator.symbol == symbol)

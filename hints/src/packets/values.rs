@@ -1,7 +1,7 @@
 //! The value of a stored expression, or the step at which it faults.
 
-use super::stored::Tree;
 use crate::operators::Broken;
+use crate::stored::Tree;
 
 /// What ends an evaluation.
 #[derive(Clone, Copy, Debug)]

@@ -44,7 +44,7 @@ fn packets_are_told_as_documented() {
 
 #[test]
 fn every_number_has_an_example() {
-    for number in (1..=11).chain(24..=29) {
+    for number in (1..=11).chain(24..=31).chain([34]) {
         assert!(PAGES.contains(&format!("\n\n    error[{number}]: ")), "{number}");
     }
 }

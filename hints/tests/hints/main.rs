@@ -1,8 +1,9 @@
-//! What is told of refused pages and packets, whole and written by hand.
+//! What is told of refused pages, packets, cuts and puttings-in, whole and written by hand.
 
 mod characters;
 mod common;
 mod documented;
+mod edits;
 mod examples;
 mod expressions;
 mod field_lines;

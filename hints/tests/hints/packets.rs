@@ -4,7 +4,7 @@ use umarekoza_hints::{packet_hint, plain_packet, Verdict};
 
 /// The records of a table: fields, each by its kind, label, short name and what follows these. How often they are read,
 /// here 0, plays no part.
-fn table(fields: &[(u8, &str, &str, &[u8])]) -> Vec<u8> {
+pub fn table(fields: &[(u8, &str, &str, &[u8])]) -> Vec<u8> {
     let counted = |bytes: &[u8]| [&(bytes.len() as u16).to_le_bytes()[..], bytes].concat();
     let record = |kind: u8, body: &[u8]| {
         let length = (body.len() + 4) as u16;

@@ -1,12 +1,12 @@
 //! Tables with wrong numbers, tables of mixed forms, and old tables [02, R-5].
 
 use super::Rng;
-use crate::descriptions::{Description, Field, Width};
+use crate::descriptions::{Description, Field};
 use crate::editions::{Edition, CURRENT, UNCOUNTED};
 use crate::operators::Op;
 use crate::references::readers;
 use crate::stored::{encode, encode_in, encode_with};
-use crate::trees::{Node, Tree};
+use crate::trees::Node;
 
 /// An old table keeps `/`, `%` and `^` one time in so many.
 const ADDED: usize = 8;
@@ -101,12 +101,7 @@ pub fn old(rng: &mut Rng, description: &Description) -> Vec<u8> {
 
 /// Puts other operators of arithmetic in the place of those that document 01 does not have.
 fn without_added(rng: &mut Rng, field: &mut Field<usize>) {
-    let width = match &mut field.width {
-        Width::Measured { tree, .. } => Some(tree),
-        _ => None,
-    };
-    let trees = width.into_iter().chain(&mut field.constraint).chain(&mut field.condition);
-    for node in trees.flat_map(|tree: &mut Tree<usize>| &mut tree.nodes) {
+    for node in field.trees_mut().flat_map(|tree| &mut tree.nodes) {
         if let Node::Two(op @ (Op::Div | Op::Rem | Op::Pow), ..) = node {
             *op = rng.pick([Op::Add, Op::Sub, Op::Mul]);
         }
