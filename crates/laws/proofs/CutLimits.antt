@@ -1,6 +1,6 @@
 -- What a cut leaves keeps the limits, where a field is left and the rows fit. [02, R-4]
 use mathlib.Core.Path.{_≡_, refl, ap, sym, subst, _∙_}
-use mathlib.Core.Bool.{Bool, true, false, _&&_, not}
+use mathlib.Core.Bool.{Bool, true, _&&_, not}
 use mathlib.Core.List.{List, [], _∷_, _++_, map, map-append, append-assoc, append-nil}
 use mathlib.Core.Option.{none}
 use Prim.Native.Nat.{ℕ, suc, _+_, _≤_, _<_}
@@ -18,6 +18,7 @@ use Rattle.rules.specs.Edits.{renumbered, closed, runLength, remaining, cut, re
 use Rattle.rules.specs.Promises.{isRun}
 use Rattle.rules.specs.EditResults.{CutLimits}
 use Rattle.laws.proofs.OperatorLaws.{keeps-known}
+use Rattle.laws.proofs.NamesStay.{not-more}
 use Rattle.laws.proofs.Renumbering.{closed-low}
 use Rattle.laws.proofs.Runs.{Split, remaining-between, split-run}
 use Rattle.laws.proofs.RunReads.{kept-parts, kept-append, away, none-reads}
@@ -66,11 +67,6 @@ module _ {A : Type 0} (p : A → Bool) where
   any-stays change stays [] = refl
   any-stays change stays (x ∷ l) = rw (stays x, any-stays change stays l)
 
--- where a test fails, so does one that it follows from
-not-weaker : (a b : Bool) → (b ≡ true → a ≡ true) → not a ≡ true → not b ≡ true
-not-weaker a true f h = rw (f refl) at h
-not-weaker a false f h = refl
-
 -- ── fields xs, a run gs from first to last, and fields ys ──
 
 module _ (first last : ℕ) where
@@ -92,7 +88,7 @@ module _ (first last : ℕ) where
   names-left : (f : Field ℕ) (b c : List (Field ℕ)) → Left f b c → keepsNames b f ≡ true → keepsNames c (move f) ≡ true
   unfolding renumbered
   names-left f b c l h =
-      not-weaker (any (clash f) b) (any (clash f) c)
+      not-more (any (clash f) b) (any (clash f) c)
       (l .fewer (clash f) (λ x. clash-stays (closed first (runLength first last)) f x)) h
 
   rests-left : (f : Field ℕ) (b c : List (Field ℕ)) → Left f b c → keepsRest b f ≡ true → keepsRest c (move f) ≡ true
@@ -102,7 +98,7 @@ module _ (first last : ℕ) where
       rw (fixed-stays g f, condition-stays g f)
       (or-true (not (any isRest b)) alone
       (λ e. or-left (not (any isRest c)) alone
-      (not-weaker (any isRest b) (any isRest c) (l .fewer isRest (rest-stays g)) e))
+      (not-more (any isRest b) (any isRest c) (l .fewer isRest (rest-stays g)) e))
       (or-right (not (any isRest c)) alone) h)
 
   types-left : (f : Field ℕ) (b c : List (Field ℕ)) → away first last f ≡ true → Left f b c

@@ -114,7 +114,7 @@ like-clash f g h =
     (listOf (f .short)) e))
     h
 
-not-more : (a b : Bool) → (b ≡ true → a ≡ true) → not a ≡ true → not b ≡ true
+pub not-more : (a b : Bool) → (b ≡ true → a ≡ true) → not a ≡ true → not b ≡ true
 not-more a true f h = absurd (not-both (not a) h (rw (f refl)))
 not-more a false f h = refl
 

@@ -50,30 +50,24 @@ module _ (first last : ℕ) where
   abbrev pub away : Field ℕ → Bool
   away f = not (readsRun first last f)
 
-  -- the fields l behind the fields before are no part of the run, or all of them are
-  abbrev Outside : List (Field ℕ) → List (Field ℕ) → Type 0
-  Outside before l = (i : ℕ) → length before ≤ i → i < length before + length l → between first i last ≡ false
+  -- the fields l behind the fields before are all a part of the run, or none of them is
+  abbrev Parts : Bool → List (Field ℕ) → List (Field ℕ) → Type 0
+  Parts part before l = (i : ℕ) → length before ≤ i → i < length before + length l → between first i last ≡ part
 
-  abbrev Inside : List (Field ℕ) → List (Field ℕ) → Type 0
-  Inside before l = (i : ℕ) → length before ≤ i → i < length before + length l → between first i last ≡ true
+  parts-behind : (part : Bool) (before : List (Field ℕ)) (f : Field ℕ) (l : List (Field ℕ))
+      → Parts part before (f ∷ l) → Parts part (before ++ (f ∷ [])) l
+  parts-behind part before f l h i p q =
+      let longer = length-append before (f ∷ []) in
+      h i (omega (arith, longer, p)) (omega (arith, longer, q))
 
-  kept-away : (before l : List (Field ℕ)) → Outside before l → firstBreak keepsAway before l ≡ none → all away l ≡ true
+  kept-away : (before l : List (Field ℕ)) → Parts false before l → firstBreak keepsAway before l ≡ none → all away l ≡ true
   unfolding all
   kept-away before [] out h = refl
   kept-away before (f ∷ l) out h =
       let e = firstBreak-cons keepsAway before f l h in
       let here = out (length before) (omega arith) (omega arith) in
       and-both (away f) (all away l) (rw here at (e .0))
-      (kept-away (before ++ (f ∷ [])) l (λ i p q. out i (go i p) (gone i q)) (e .1))
-    where
-      longer : length (before ++ (f ∷ [])) ≡ length before + 1
-      longer = length-append before (f ∷ [])
-
-      go : (i : ℕ) → length (before ++ (f ∷ [])) ≤ i → length before ≤ i
-      go i p = omega (arith, longer)
-
-      gone : (i : ℕ) → i < length (before ++ (f ∷ [])) + length l → i < length before + suc (length l)
-      gone i q = omega (arith, longer)
+      (kept-away (before ++ (f ∷ [])) l (parts-behind false before f l out) (e .1))
 
   away-kept : (before l : List (Field ℕ)) → all away l ≡ true → firstBreak keepsAway before l ≡ none
   unfolding all firstBreak
@@ -83,22 +77,13 @@ module _ (first last : ℕ) where
       (or-right (between first (length before) last) (away f) (and-left (away f) (all away l) h))
       (away-kept (before ++ (f ∷ [])) l (and-right (away f) (all away l) h))
 
-  inside-kept : (before l : List (Field ℕ)) → Inside before l → firstBreak keepsAway before l ≡ none
+  inside-kept : (before l : List (Field ℕ)) → Parts true before l → firstBreak keepsAway before l ≡ none
   unfolding firstBreak
   inside-kept before [] h = refl
   inside-kept before (f ∷ l) h =
       kept-cons keepsAway before f l
       (or-left (between first (length before) last) (away f) (h (length before) (omega arith) (omega arith)))
-      (inside-kept (before ++ (f ∷ [])) l (λ i p q. h i (go i p) (gone i q)))
-    where
-      longer : length (before ++ (f ∷ [])) ≡ length before + 1
-      longer = length-append before (f ∷ [])
-
-      go : (i : ℕ) → length (before ++ (f ∷ [])) ≤ i → length before ≤ i
-      go i p = omega (arith, longer)
-
-      gone : (i : ℕ) → i < length (before ++ (f ∷ [])) + length l → i < length before + suc (length l)
-      gone i q = omega (arith, longer)
+      (inside-kept (before ++ (f ∷ [])) l (parts-behind true before f l h))
 
   -- a run gs between xs and ys
   module _ (xs gs ys : List (Field ℕ)) (start : length xs ≡ first) (end : suc last ≡ first + length gs) where

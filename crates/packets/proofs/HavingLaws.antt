@@ -1,5 +1,5 @@
 -- What is looked for is found in a stored table where its description has it.
-use mathlib.Core.Path.{_≡_, refl, sym, subst, ap, ap₂, _∙_}
+use mathlib.Core.Path.{_≡_, refl, sym, subst, ap₂, _∙_}
 use mathlib.Core.Bool.{Bool, true, false, cond, _&&_, _||_, not}
 use mathlib.Core.List.{List, [], _∷_, _++_, append-assoc}
 use mathlib.Core.Option.{Option, none, some}
@@ -16,7 +16,7 @@ use Rattle.rules.specs.Fields.{Width, fixed, measured, rest, Field, widthTrees,
 use Rattle.rules.specs.Within.{keepsForm, keepsSize}
 use Rattle.rules.specs.Stored.{kindNumber, storedExpression, storedMaybe, storedField, records, recordsIn}
 use Rattle.references.specs.declared.scans.Wanted.{Wanted}
-use Rattle.references.proofs.ScanLaws.{treeHas, has-stored}
+use Rattle.references.proofs.ScanLaws.{any-append, treeHas, has-stored}
 use Rattle.writing.specs.declared.spans.Span.{Span}
 use Rattle.packets.specs.Parts.{tableMost, ending, widthAt, partsAt}
 use Rattle.packets.specs.PartsStand.{In, WidthStands, PartsStand}
@@ -101,17 +101,6 @@ module _ (w : Wanted) (s : List ℕ) where
   width-has at (measured u t) k i = maybe-has _ (some t) (i .1)
   width-has at rest k i = rw k (part-none _ refl)
 
-  any-append : (l m : List (Tree ℕ)) → any (treeHas w) (l ++ m) ≡ (any (treeHas w) l || any (treeHas w) m)
-  unfolding any
-  any-append [] m = refl
-  any-append (t ∷ l) m =
-      ap (λ (b : Bool). treeHas w t || b) (any-append l m)
-      ∙ or-assoc (treeHas w t) (any (treeHas w) l) (any (treeHas w) m)
-    where
-      or-assoc : (a b c : Bool) → (a || (b || c)) ≡ ((a || b) || c)
-      or-assoc true b c = refl
-      or-assoc false b c = refl
-
   record-has : (at : ℕ) (f : Field ℕ) → PartsStand s (partsAt s at) f → recordHas w s (partsAt s at) ≡ fieldHas w f
   unfolding partsAt
   record-has at f q =
@@ -122,8 +111,8 @@ module _ (w : Wanted) (s : List ℕ) where
         width-has at (f .width) (q .kind) (q .width),
         maybe-has _ (f .constraint) (q .constraint),
         maybe-has _ (f .condition) (q .condition),
-        any-append v (c ++ d),
-        any-append c d,
+        any-append (treeHas w) v (c ++ d),
+        any-append (treeHas w) c d,
       ) refl
 
 -- ── all fields ──

@@ -1,19 +1,18 @@
 -- The text of a listing: its lines and the bit total, or the refusal.
 use mathlib.Core.Path.{_≡_, refl, sym, _∙_, ap}
 use mathlib.Core.List.{List, [], _∷_, _++_, append-assoc, append-nil}
-use Prim.Native.Nat.{ℕ, zero, suc, _+_, _*_, _<_, _≤_}
+use Prim.Native.Nat.{ℕ, zero, suc, _+_, _*_, _≤_}
 use mathlib.Core.Bool.{Bool, true, false, cond}
 use native.Mathlib.Omega.{arith}
 use lib.Dec.{ltb}
 use lib.ListN.{length, length-append}
 use Rattle.base.specs.Lists.{joined}
-use Rattle.rules.specs.Fields.{Field, Description}
+use Rattle.rules.specs.Fields.{Description}
 use Rattle.rules.specs.Reading.{Entry, Reading, complete, refusing, reading, bitTotal}
-use Rattle.rules.specs.Cover.{Kept}
 use Rattle.rules.specs.Listing.{refusedLine, entryLines, bitsLine, linesText}
-use Rattle.rules.specs.Answers.{faultNumber}
 use Rattle.rules.specs.Promises.{readingAnswer, readingLines, listing}
 use Rattle.laws.proofs.Conditions.{conditions-kept}
+use Rattle.laws.proofs.RunCover.{kept-length}
 use Rattle.packets.specs.Parts.{tableMost, partsAt}
 use Rattle.packets.specs.LineTexts.{lineText, linesFrom}
 use Rattle.packets.proofs.LinesWritten.{line-length}
@@ -61,12 +60,6 @@ accepted-entries (complete es) t packet e = (es, refl)
 accepted-entries (refusing a) t packet e = absurd (omega (arith, e, t .0))
 
 -- an entry for each field
-kept-length : (before : List Entry) (fs : List (Field ℕ)) (es : List Entry) → Kept before fs es → length es ≡ length fs
-kept-length before [] [] k = refl
-kept-length before [] (e ∷ es) k = absurd k
-kept-length before (f ∷ fs) [] k = absurd k
-kept-length before (f ∷ fs) (e ∷ es) k = ap suc (kept-length (before ++ (e ∷ [])) fs es (k .1))
-
 pub entries-length : (d : Description) (packet : List ℕ) (es : List Entry) → reading d packet ≡ complete es
     → length es ≡ length (d .fields)
 entries-length d packet es h = kept-length [] (d .fields) es (conditions-kept d packet es h)

@@ -211,7 +211,7 @@ added-front (two o a b) r =
     (either (isAdded o) (knows a) (knows b) (hasCode Added r))
 added-front (negation a) r = has-cons Added notCode (storedExpression a ++ r) ∙ added-front a r
 
-any-append : (p : ℕ → Bool) (l m : List ℕ) → any p (l ++ m) ≡ (any p l || any p m)
+pub any-append : {A : Type 0} (p : A → Bool) (l m : List A) → any p (l ++ m) ≡ (any p l || any p m)
 unfolding any
 any-append p [] m = refl
 any-append p (x ∷ l) m = ap (λ (b : Bool). p x || b) (any-append p l m) ∙ or-assoc (p x) (any p l) (any p m)
