@@ -1,6 +1,6 @@
 /* Umarekoza: packet diagrams as tables, and packets read by them.
 
-   Link libumarekoza.a (x86-64 Linux). Numbers, places and bytes are those of document 01 with the limits, names,
+   Link libumarekoza.a (x86-64 Linux). Numbers, places and bytes are those of document 01 with the rows, limits, names,
    operators and field records that document 02 gives; 29, for a zero divisor, 30, for a name, an index or a run that
    no field has and for records of no bytes, 31, for a field that is still read, and 34, for fields that do not go together, are 02's.
 

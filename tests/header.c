@@ -16,6 +16,21 @@ static const char tag[] =
     "\n"
     "Kind (K): 1 byte; K == 7.\n";
 
+/* The same with a row of two lines. */
+static const char two_lines[] =
+    "A Tag is formatted as follows:\n"
+    "\n"
+    " 0\n"
+    " 0 1 2 3 4 5 6 7\n"
+    "+-+-+-+-+-+-+-+-+\n"
+    "|               |\n"
+    "|       K       |\n"
+    "+-+-+-+-+-+-+-+-+\n"
+    "\n"
+    "where:\n"
+    "\n"
+    "Kind (K): 1 byte; K == 7.\n";
+
 static const uint8_t tag_table[46] = {
     0x0D, 0x00, 0x01, 0x00, 0x08, 0x00, 0x01, 0x00, 0x03, 0x00, 0x54, 0x61, 0x67, 0x1D, 0x00, 0x0C,
     0x00, 0x00, 0x00, 0x04, 0x00, 0x4B, 0x69, 0x6E, 0x64, 0x01, 0x00, 0x4B, 0x08, 0x00, 0x08, 0x00,
@@ -122,6 +137,9 @@ static void write_table(void)
     expect(is(umarekoza_write_table(BYTES(tag), out, 64), 0, 0, 46), "the Tag text");
     expect(memcmp(out, tag_table, 46) == 0, "the Tag table");
     expect(nines(out, 46, 64), "what lies beyond the table");
+    memset(out, 9, sizeof out);
+    expect(is(umarekoza_write_table(BYTES(two_lines), out, 64), 0, 0, 46), "the text of a row of two lines");
+    expect(memcmp(out, tag_table, 46) == 0, "the table of a row of two lines");
     expect(is(umarekoza_write_table(BYTES(blade), table, table_len), 0, 0, table_len), "the blade report's text");
 }
 

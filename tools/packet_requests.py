@@ -121,7 +121,7 @@ def marked_numbers():
 
 # The published TCP header reads SYN and FIN by their labels, which have no short names beside them.
 def marked_flags():
-    header = tcp(False).hex()
+    header = tcp().hex()
     yield "table " + header, "ok"
     yield "read 76 %s %s" % (header, bytes.fromhex(SYN).hex()), SYN_READ
     yield "read 76 %s %s" % (header, bytes.fromhex(SYN_FIN).hex()), "refused 25 14"

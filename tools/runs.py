@@ -89,9 +89,8 @@ BLADE = table(b"Blade Report", 16, *BLADE_FIELDS)
 FLAGS = (b"CWR", b"ECE", b"URG", b"ACK", b"PSH", b"RST", b"SYN", b"FIN")
 
 
-# The source document's TCP header as far as document 01 takes it: a row is one line, and what has no fixed width stands
-# in long rows. A flag has its first letter as short name, so that a cell of one bit can show it, or none, as published.
-def tcp(letters):
+# The source document's TCP header as far as documents 01 and 02 take it: what has no fixed width stands in long rows.
+def tcp():
     no_fin_and_syn = both("||", both("==", field(13), number(0)), both("==", field(12), number(0)))
     rules = [b""] * 7 + [no_fin_and_syn]
     more = both(">", field(4), number(5))
@@ -105,7 +104,7 @@ def tcp(letters):
         fixed(b"Acknowledgment Number", b"", 32),
         fixed(b"Data Offset", b"DOffset", 4, both(">=", field(4), number(5))),
         fixed(b"Reserved", b"Rsrvd", 4, both("==", field(5), number(0))),
-        *(fixed(flag, flag[:1] if letters else b"", 1, rule) for flag, rule in zip(FLAGS, rules)),
+        *(fixed(flag, b"", 1, rule) for flag, rule in zip(FLAGS, rules)),
         fixed(b"Window Size", b"", 16),
         fixed(b"Checksum", b"", 16),
         fixed(b"Urgent Pointer", b"", 16),

@@ -1,13 +1,14 @@
 """The requests of crates/runs on texts, with their answers: the Tag and the blade report of document 01, a TCP header
 and a QUIC long header, with outputs that are exactly long enough, too short and longer; texts of as many fields as may
-be, and of more; and those of the vectors.
+be, and of more, of rows of several lines too; and those of the vectors.
 """
 from runs import BLADE, TAG, both, field, fixed, full, full_table, measured, number, packed, spelled, stored, table, tcp
 
-VECTORS = ("base2", "large", "r5", "spelled", "edge", "mutated", "r10", "r2", "r7")
-# So many texts of each group are taken, the shortest, and the longest accepted one: of r5.tsv, of r2.tsv, of r7.tsv and
-# of the others.
+VECTORS = ("base2", "large", "r1", "r5", "spelled", "edge", "mutated", "r10", "r2", "r7")
+# So many texts of each group are taken, the shortest, and the longest accepted one: of r1.tsv, of r5.tsv, of
+# r2.tsv, of r7.tsv and of the others.
 TAKEN_OF = {
+    "r1": {"ok": 40, "many": 4, "refused 3": 70, "refused 7": 8, "refused 4": 4, "refused 11": 4},
     "r5": {"ok": 18, "many": 5},
     "r2": {"refused 8": 16, "refused 9": 8, "refused 5": 8, "refused 11": 4},
     "r7": {"refused 5": 10, "refused 6": 3, "refused 9": 8, "refused 11": 4},
@@ -32,16 +33,22 @@ LONG_HEADER = table(
     measured(b"Source Connection ID", b"SCID", 8, field(8)),
 )
 
+# Texts: NAME and W, the rows, `+` for each border below one, and the field lines.
 TAG_TEXT = """Tag 8
 |       K       |
++
 
 Kind (K): 1 byte; K == 7.
 """
 BLADE_TEXT = """Blade Report 16
 | V |L|  Cells  |     Blade     |
++
 |           Borrower            |
++
 :            Readings           :
++
 |             Sum               |
++
 
 Version (V): 2 bits; V == 1.
 On Loan (L): 1 bit.
@@ -52,13 +59,22 @@ Readings: N bytes.
 Sum: 2 bytes.
 """
 TCP_TEXT = """TCP Header 32
-|          Source Port          |        Destination Port       |
+|          Source Port          |       Destination Port        |
++
 |                        Sequence Number                        |
-|                     Acknowledgment Number                     |
-|DOffset| Rsrvd |C|E|U|A|P|R|S|F|          Window Size          |
-|            Checksum           |         Urgent Pointer        |
++
+|                    Acknowledgment Number                      |
++
+|  Data |       |C|E|U|A|P|R|S|F|                               |
+| Offset| Rsrvd |W|C|R|C|S|S|Y|I|         Window Size           |
+|       |       |R|E|G|K|H|T|N|N|                               |
++
+|           Checksum            |         Urgent Pointer        |
++
 :                            Options                            :
++
 :                            Payload                            :
++
 
 Source Port: 16 bits. A fixed-width field, whose full label is shown in the diagram.
 Destination Port: 2 bytes.
@@ -66,14 +82,14 @@ Sequence Number: 32 bits.
 Acknowledgment Number: 4 bytes.
 Data Offset (DOffset): 4 bits; DOffset >= 5. The header's length in words of 32 bits.
 Reserved (Rsrvd): 4 bits; Rsrvd == 0.
-CWR (C): 1 bit.
-ECE (E): 1 bit.
-URG (U): 1 bit.
-ACK (A): 1 bit.
-PSH (P): 1 bit.
-RST (R): 1 bit.
-SYN (S): 1 bit.
-FIN (F): 1 bit; (FIN == 0) || (SYN == 0).
+CWR: 1 bit.
+ECE: 1 bit.
+URG: 1 bit.
+ACK: 1 bit.
+PSH: 1 bit.
+RST: 1 bit.
+SYN: 1 bit.
+FIN: 1 bit; (FIN == 0) || (SYN == 0).
 Window Size: 16 bits.
 Checksum: 16 bits.
 Urgent Pointer: 16 bits.
@@ -82,11 +98,17 @@ Payload: variable. What is left of the packet.
 """
 LONG_HEADER_TEXT = """Long Header 8
 |H|F| T | R | P |
++
 :      VID      :
++
 |      DLen     |
++
 :      DCID     :
++
 |      SLen     |
++
 :      SCID     :
++
 
 Header Form (H): 1 bit; H == 1.
 Fixed Bit (F): 1 bit; F == 1.
@@ -111,17 +133,14 @@ def whole(short):
     for i in range(0, w, 10):
         tens[2 * i + 1] = str(i // 10)
     border = "+" + "-+" * w
-    rows = []
-    for row in lines[:gap]:
-        assert len(row) == 2 * w + 1
-        rows += [row, border]
+    rows = [border if row == "+" else row for row in lines[:gap]]
     rulers = ["".join(tens).rstrip(), "".join(" %d" % (i % 10) for i in range(w)), border]
     opening = ["A %s is formatted as follows:" % name, ""]
     return "\n".join(opening + rulers + rows + ["", "where:", ""] + lines[gap + 1 :]).encode()
 
 
 def marked():
-    for short, due in ((TAG_TEXT, TAG), (BLADE_TEXT, BLADE), (TCP_TEXT, tcp(True)), (LONG_HEADER_TEXT, LONG_HEADER)):
+    for short, due in ((TAG_TEXT, TAG), (BLADE_TEXT, BLADE), (TCP_TEXT, tcp()), (LONG_HEADER_TEXT, LONG_HEADER)):
         for size in (len(due), len(due) - 1, 57344) + ((0, len(due) + 1) if due == TAG else ()):
             answer = "ok " + due.hex() if len(due) <= size else "refused 11 0"
             yield "text %d %s" % (size, spelled(whole(short))), answer
@@ -132,9 +151,36 @@ def full_text(cells, lines):
     rows = []
     for at in range(0, cells, 16):
         row = full(cells)[at : at + 16]
-        rows.append("|%s|" % "|".join(label.decode().center(2 * bits - 1) for label, bits in row))
+        rows += ["|%s|" % "|".join(label.decode().center(2 * bits - 1) for label, bits in row), "+"]
     told = ["%s: %d bits." % (label.decode(), bits) for label, bits in full(lines)]
     return whole("\n".join(["Full 32"] + rows + [""] + told + [""]))
+
+
+# 128 fields of a bit, and the rows that have their labels downwards.
+FLAG_LABELS = ["F%03d" % i for i in range(128)]
+FLAG_TABLE = table(b"Flags", 32, *(fixed(label.encode(), b"", 1) for label in FLAG_LABELS))
+FLAG_ROWS = [["|%s|" % "|".join(letters) for letters in zip(*FLAG_LABELS[at : at + 32])] for at in (0, 32, 64, 96)]
+
+
+# The text of these fields, with other lines in its last row, which begins at line 21; the field lines at 29.
+def flags_text(last):
+    rows = [line for row in FLAG_ROWS[:3] + [last] for line in row + ["+"]]
+    return whole("\n".join(["Flags 32"] + rows + [""] + ["%s: 1 bit." % label for label in FLAG_LABELS] + [""]))
+
+
+def flags():
+    last, blank = FLAG_ROWS[3], "| " * 32 + "|"
+    yield "text %d %s" % (len(FLAG_TABLE), flags_text(last).hex()), "ok " + FLAG_TABLE.hex()
+    yield "text %d %s" % (len(FLAG_TABLE) - 1, flags_text(last).hex()), "refused 11 0"
+    wrong = (
+        (last + [blank], 3, 25),
+        (last[:2] + [last[2][:16] + " " + last[2][17:]] + last[3:], 3, 23),
+        ([line[:-2] + " |" for line in last], 3, 24),
+        ([line[:-2] + " |" for line in last] + [blank], 3, 24),
+        (last[:3] + [blank], 7, 29 + 96),
+    )
+    for rows, number, line in wrong:
+        yield "text 57344 %s" % flags_text(rows).hex(), "refused %d %d" % (number, line)
 
 
 # Texts of 64, 65 and 128 fields, and of 129 cells or lines.
@@ -145,6 +191,7 @@ def limits():
     yield "text %d %s" % (len(due) - 1, full_text(128, 128).hex()), "refused 11 0"
     for cells, lines in ((129, 129), (129, 128), (128, 129), (129, 1), (1, 129)):
         yield "text 57344 %s" % full_text(cells, lines).hex(), "refused 4 0"
+    yield from flags()
 
 
 # `ok`, or `refused N`; of over 64 fields `many`.

@@ -38,6 +38,20 @@ impl Case {
         Case::new(&name, constrained_page(fields, 0, 0), packet)
     }
 
+    /// `fields` fields of a bit whose names stand downwards, in rows of four lines.
+    pub fn flags(fields: usize) -> Self {
+        let names: Vec<String> = (0..fields).map(|field| format!("F{field:03}")).collect();
+        let line = |names: &[String], letter: usize| {
+            row(&names.iter().map(|name| (&name[letter..=letter], 1)).collect::<Vec<_>>())
+        };
+        let lines = |names: &[String]| [0, 1, 2, 3].map(|letter| line(names, letter)).join("\n");
+        let rows: Vec<String> = names.chunks(32).map(lines).collect();
+        let told: String = names.iter().map(|name| format!("{name}: 1 bit.\n")).collect();
+        let page = page(&rows, &told);
+        let name = format!("{fields} flags downwards, {} bytes of text", page.len());
+        Case::new(&name, page, vec![0xA5; fields / 8])
+    }
+
     /// A packet of `length` bytes, nearly all of them in one measured field.
     pub fn long(length: usize) -> Self {
         let rows = [row(&[("Length", 16), ("Blade", 16)]), row_of("Samples"), row(&[("Sum", 32)])];
@@ -98,7 +112,7 @@ mod tests {
 
     #[test]
     fn cases_are_accepted() {
-        let mut cases = vec![Case::blade(), Case::alone(FIELDS_MOST)];
+        let mut cases = vec![Case::blade(), Case::alone(FIELDS_MOST), Case::flags(FIELDS_MOST)];
         for doubling in 0..5 {
             cases.push(Case::constrained(8 << doubling, 1024 << doubling));
             cases.push(Case::long((512 << doubling).min(PACKET_MOST)));

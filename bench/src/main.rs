@@ -84,7 +84,7 @@ fn ratios(rounds: usize) {
         let mut calls = [read(&NOW, case), read(&NOW, case), model_read(case), plain, constrained];
         ratio_row("read_packet", case, &mut calls, rounds);
     }
-    for case in [&blade, &half, &fields] {
+    for case in [&blade, &half, &fields, &Case::flags(FIELDS_MOST)] {
         let mut calls = [write(&NOW, case), write(&NOW, case), model_write(case)];
         ratio_row("write_table", case, &mut calls, rounds);
     }

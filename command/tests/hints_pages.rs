@@ -16,6 +16,8 @@ mod fields;
 mod frames;
 #[path = "../../hints/tests/hints/names.rs"]
 mod names;
+#[path = "../../hints/tests/hints/rows.rs"]
+mod rows;
 #[path = "common/mod.rs"]
 mod runs;
 

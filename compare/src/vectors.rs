@@ -11,9 +11,10 @@ use umarekoza_model::protocol::from_hex;
 use umarekoza_model::{Reading, Refusal};
 
 /// The files of stored cases.
-pub const FILES: [&str; 12] = [
+pub const FILES: [&str; 13] = [
     "base2.tsv",
     "large.tsv",
+    "r1.tsv",
     "r4.tsv",
     "r5.tsv",
     "tables.tsv",

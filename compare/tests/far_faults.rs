@@ -327,7 +327,7 @@ const WRONG: [(&str, &str, Exports); 24] = [
 #[test]
 fn faults_at_the_far_ends_are_noticed() {
     for (call, fault, exports) in WRONG {
-        let wrong = generated(Settings { cases: 20_000, seed: 1 }, exports).err();
+        let wrong = generated(Settings { cases: 40_000, seed: 1 }, exports).err();
         let wrong = wrong.unwrap_or_else(|| panic!("{call}, {fault}: not noticed"));
         assert!(wrong.contains(&format!(": {call}")), "{call}, {fault}: {wrong}");
     }

@@ -14,6 +14,8 @@ mod naming;
 mod operators;
 #[path = "../../model/src/references.rs"]
 mod references;
+#[path = "../../model/src/rows.rs"]
+mod rows;
 #[path = "../../model/src/widths.rs"]
 mod widths;
 

@@ -12,6 +12,8 @@ mod naming;
 mod operators;
 #[path = "../../model/src/references.rs"]
 mod references;
+#[path = "../../model/src/rows.rs"]
+mod rows;
 #[path = "../../model/src/widths.rs"]
 mod widths;
 
@@ -60,7 +62,7 @@ fn label(line: &[u8]) -> &[u8] {
 }
 
 fn written(rule: Option<Rule>, text: &[u8], room: usize) -> Result<Vec<u8>, Refusal> {
-    let lines = frames::frame(text).map_or(Vec::new(), |frame| frame.field_lines);
+    let lines = frames::frame(text, rows::ROW_LINES).map_or(Vec::new(), |frame| frame.field_lines);
     let labels: Vec<&[u8]> = lines.into_iter().map(label).collect();
     by_rule(rule, &labels, || texts::write_table(text, room))
 }

@@ -17,6 +17,8 @@ mod operators;
 mod reading;
 #[path = "../../model/src/references.rs"]
 mod references;
+#[path = "../../model/src/rows.rs"]
+mod rows;
 
 use changed_model::*;
 use operators as widths;
@@ -180,7 +182,7 @@ fn wrong_rules_on_operators_are_noticed() {
             BYTES => Exports { field_bytes, ..LIBRARY },
             _ => Exports { list_packet, ..LIBRARY },
         };
-        is_noticed(compared(Some(rule), 10_000, exports), call, rule);
+        is_noticed(compared(Some(rule), 20_000, exports), call, rule);
     }
 }
 

@@ -12,6 +12,8 @@ mod naming;
 #[allow(dead_code)]
 #[path = "../../model/src/operators.rs"]
 mod operators;
+#[path = "../../model/src/rows.rs"]
+mod rows;
 #[path = "../../model/src/widths.rs"]
 mod widths;
 

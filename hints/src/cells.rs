@@ -5,7 +5,7 @@ use crate::field_lines::{FieldLine, Width};
 use crate::fields::{Field, Fields};
 use crate::limits::FIELDS_MOST;
 use crate::lines::Lines;
-use crate::rows::Cell;
+use crate::rows::{Cell, Part};
 use crate::shown::{counted, quoted};
 use crate::trees::Tree;
 
@@ -13,8 +13,9 @@ use crate::trees::Tree;
 pub fn too_many(cells: &[Cell], fields: &Fields) -> Option<Mistake> {
     let count =
         |number: usize, thing: &str| format!("{}, at most {FIELDS_MOST}", counted(number as u64, thing));
-    let (spot, line, found, thing) = if let Some(cell) = cells.get(FIELDS_MOST) {
-        (cell.text.clone(), cell.line, count(cells.len(), "cell"), "cell")
+    let first_part = cells.get(FIELDS_MOST).and_then(|cell| cell.parts.first());
+    let (spot, line, found, thing) = if let Some(part) = first_part {
+        (part.spot.clone(), part.line, count(cells.len(), "cell"), "cell")
     } else {
         let field = fields.lines.get(FIELDS_MOST)?;
         (0..field.line.len(), field.number, count(fields.lines.len(), "field line"), "field line")
@@ -48,14 +49,10 @@ struct Page<'a> {
 }
 
 impl Page<'_> {
-    fn text(&self, cell: &Cell) -> &[u8] {
-        &self.lines.ended[cell.line - 1][cell.text.clone()]
-    }
-
     /// A cell in words.
     fn told(&self, index: usize, cell: &Cell) -> String {
         let width = cell.bits.map_or("a row between `:`".to_string(), |bits| counted(bits as u64, "bit"));
-        format!("cell {} (line {}): {}, {width}", index + 1, cell.line, quoted(self.text(cell)))
+        format!("cell {} ({}): {}, {width}", index + 1, place(cell), quoted(&cell.text))
     }
 
     fn counts(&self) -> Option<String> {
@@ -70,8 +67,8 @@ impl Page<'_> {
             return Some(Fault::new(0..field.line.len(), message, "no cell").note_if(self.counts()));
         };
         let told = self.told(index, cell);
-        if field.called(form, self.text(cell)).is_none() {
-            return Some(self.misnamed(field, form, &told));
+        if field.called(form, &cell.text).is_none() {
+            return Some(self.misnamed(field, form, &told, cell));
         }
         let fault = match (&form.width, cell.bits) {
             (Width::Fixed(bits), Some(cell_bits)) if *bits as usize == cell_bits => return None,
@@ -101,7 +98,7 @@ impl Page<'_> {
     }
 
     /// A line whose names the cell does not show.
-    fn misnamed(&self, field: &Field, form: &FieldLine, told: &str) -> Fault {
+    fn misnamed(&self, field: &Field, form: &FieldLine, told: &str, cell: &Cell) -> Fault {
         let label = field.part(&form.label);
         let short = form.short.as_ref().map(|short| field.part(short));
         let own = match short {
@@ -109,20 +106,24 @@ impl Page<'_> {
             None => quoted(label),
         };
         let message = format!("{told}; this line: {own}");
-        let shows = |cell: &Cell| field.called(form, self.text(cell)).is_some();
+        let shows = |cell: &Cell| field.called(form, &cell.text).is_some();
         let elsewhere = self.cells.iter().enumerate().find(|(_, cell)| shows(cell));
         let place = elsewhere.map(|(index, cell)| {
-            format!(
-                "cell {} (line {}) shows this field: cells and lines have one order",
-                index + 1,
-                cell.line
-            )
+            format!("cell {} ({}) shows this field: cells and lines have one order", index + 1, place(cell))
         });
         let spot = form.label.start..form.short.as_ref().map_or(form.label.end, |short| short.end + 1);
         Fault::new(spot, message, "another name than its cell shows")
             .note_if(place)
+            .note_if(self.line_alone(field, form, cell))
             .note_if(self.counts())
             .note("a cell shows its field's label or short name, letter for letter")
+    }
+
+    /// The line of a cell of several lines that alone shows a field.
+    fn line_alone(&self, field: &Field, form: &FieldLine, cell: &Cell) -> Option<String> {
+        let text = |part: &Part| &self.lines.ended[part.line - 1][part.spot.clone()];
+        let part = cell.parts.iter().find(|part| field.called(form, text(part)).is_some())?;
+        Some(format!("line {} alone shows this field: a border stands between two rows", part.line))
     }
 
     /// The first cell that has no line.
@@ -132,6 +133,14 @@ impl Page<'_> {
         let message = format!("no field line for {}", self.told(index, cell));
         let fault = Fault::new(0..1, message, "a field line is missing here").note_if(self.counts());
         Some(fault.at(7, self.lines.ended.len() + 1))
+    }
+}
+
+/// The line of a cell, or the lines of its row.
+fn place(cell: &Cell) -> String {
+    match cell.lines {
+        (first, last) if first == last => format!("line {first}"),
+        (first, last) => format!("lines {first} to {last}"),
     }
 }
 

@@ -7,10 +7,10 @@
 //! meaning is told.
 //!
 //! In reading order: `limits`; `hint` is what is answered, `faults` what is found; `characters` (2), `frame_lines`,
-//! `rows`, `frames` (3), `names`, `operators`, `trees`, `expressions`, `expression_faults`, `field_lines`,
-//! `unreadable`, `fields` (5), `sizes` (6, 8, 10), `cells` (4, 7), `reads` (9) find it, `pages` puts it together,
-//! `plain` writes it out. `stored` takes a table apart and `written` writes its expressions; `packets` is for packets,
-//! `edits` for fields cut out and put in.
+//! `rows`, `row_faults`, `frames` (3), `names`, `operators`, `trees`, `expressions`, `expression_faults`,
+//! `field_lines`, `unreadable`, `fields` (5), `sizes` (6, 8, 10), `cells` (4, 7), `reads` (9) find it, `pages` puts
+//! it together, `plain` writes it out. `stored` takes a table apart and `written` writes its expressions; `packets`
+//! is for packets, `edits` for fields cut out and put in.
 
 mod cells;
 mod characters;
@@ -32,6 +32,7 @@ mod packets;
 mod pages;
 mod plain;
 mod reads;
+mod row_faults;
 mod rows;
 mod shown;
 mod sizes;

@@ -4,6 +4,8 @@
 pub const TEXT_MOST: usize = 16_384;
 pub const FIELDS_MOST: usize = 128;
 pub const PACKET_MOST: usize = 8_191;
+/// Lines of a row between `|`.
+pub const ROW_LINES: usize = 4;
 /// Bytes of a label and of a short name.
 pub const LABEL_MOST: usize = 40;
 pub const SHORT_MOST: usize = 8;

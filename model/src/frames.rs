@@ -4,27 +4,23 @@
 use crate::lines::Lines;
 use crate::names::is_label;
 use crate::refusals::Refusal;
+use crate::rows::{take_row, Cell};
 use crate::rules::ROW_BITS;
 
 pub const FORMATTED: &[u8] = b" is formatted as follows:";
 pub const WHERE: &[u8] = b"where:";
 
-/// A cell: its text without outer spaces, and its bits, none in a long row.
-pub struct Cell<'a> {
-    pub text: &'a [u8],
-    pub bits: Option<u32>,
-}
-
 pub struct Frame<'a> {
     pub name: &'a [u8],
     pub row_bits: u32,
-    pub cells: Vec<Cell<'a>>,
+    pub cells: Vec<Cell>,
     /// The number of the first field line, from 1.
     pub first_line: u32,
     pub field_lines: Vec<&'a [u8]>,
 }
 
-pub fn frame(text: &[u8]) -> Result<Frame<'_>, Refusal> {
+/// The frame of a text, by a limit of so many lines to a bit row.
+pub fn frame(text: &[u8], row_lines: usize) -> Result<Frame<'_>, Refusal> {
     let mut lines = Lines::new(text);
     let Some(name) = opening_name(lines.required()?) else { return lines.wrong() };
     lines.exactly(b"")?;
@@ -35,7 +31,7 @@ pub fn frame(text: &[u8]) -> Result<Frame<'_>, Refusal> {
     lines.exactly(&units_ruler(row_bits))?;
     let border = border(row_bits);
     lines.exactly(&border)?;
-    let cells = rows(&mut lines, row_bits, &border)?;
+    let cells = rows(&mut lines, row_bits, &border, row_lines)?;
     lines.exactly(WHERE)?;
     lines.exactly(b"")?;
     let first_line = lines.taken + 1;
@@ -71,46 +67,16 @@ pub fn border(row_bits: u32) -> Vec<u8> {
 }
 
 /// The cells of all rows, up to the empty line that ends them.
-fn rows<'a>(lines: &mut Lines<'a>, row_bits: u32, border: &[u8]) -> Result<Vec<Cell<'a>>, Refusal> {
+fn rows(lines: &mut Lines, row_bits: u32, border: &[u8], row_lines: usize) -> Result<Vec<Cell>, Refusal> {
     let mut cells = Vec::new();
     loop {
-        let row = lines.required()?;
-        if row.is_empty() && !cells.is_empty() {
+        let first = lines.required()?;
+        if first.is_empty() && !cells.is_empty() {
             return Ok(cells);
         }
-        if row_cells(row, row_bits, &mut cells).is_none() {
-            return lines.wrong();
-        }
+        cells.extend(take_row(lines, first, row_bits, row_lines)?);
         lines.exactly(border)?;
     }
-}
-
-/// Adds the cells of a row.
-fn row_cells<'a>(row: &'a [u8], row_bits: u32, cells: &mut Vec<Cell<'a>>) -> Option<()> {
-    if row.len() != 2 * row_bits as usize + 1 {
-        return None;
-    }
-    let inner = &row[1..row.len() - 1];
-    match (row[0], row[row.len() - 1]) {
-        (b':', b':') => cells.push(Cell { text: cell_text(inner)?, bits: None }),
-        (b'|', b'|') => {
-            for part in inner.split(|byte| *byte == b'|') {
-                // Bars at even columns have an odd number of columns between them.
-                if part.len() % 2 == 0 {
-                    return None;
-                }
-                cells.push(Cell { text: cell_text(part)?, bits: Some(part.len() as u32 / 2 + 1) });
-            }
-        }
-        _ => return None,
-    }
-    Some(())
-}
-
-/// The text of a cell without outer spaces, if it is a label.
-fn cell_text(cell: &[u8]) -> Option<&[u8]> {
-    let text = cell.trim_ascii();
-    is_label(text).then_some(text)
 }
 
 /// One or more field lines, to the end of the text.

@@ -2,20 +2,22 @@
 //! the same cases.
 //!
 //! `layouts` and `words` choose rows and names, `growth` the trees, `steps` some at the edges of `/`, `%` and `^`,
-//! `fields` the description; `spelling` writes it as one of its texts; `bends` breaks a rule of a description,
-//! `clashes` those on equal names, `numbers` makes tables with wrong numbers and old ones, `edits` changes bytes and
-//! lines; `fitting` makes packets for a table; `runs` chooses fields, `cuts` to cut them out and `puts` to put them in.
-//! `extremes` makes what stands at the far ends of the limits.
+//! `fields` the description; `spelling` writes it as one of its texts, `drawing` its rows; `bends` breaks a rule of a
+//! description, `clashes` those on equal names, `numbers` makes tables with wrong numbers and old ones, `edits`
+//! changes bytes and lines, `misdrawn` rows; `fitting` makes packets for a table; `runs` chooses fields, `cuts` to
+//! cut them out and `puts` to put them in. `extremes` makes what stands at the far ends of the limits.
 
 mod bends;
 mod clashes;
 mod cuts;
+mod drawing;
 mod edits;
 mod extremes;
 mod fields;
 mod fitting;
 mod growth;
 mod layouts;
+mod misdrawn;
 mod numbers;
 mod puts;
 #[cfg(test)]
@@ -24,6 +26,8 @@ mod reached;
 mod reached_edits;
 #[cfg(test)]
 mod reached_numbers;
+#[cfg(test)]
+mod reached_rows;
 mod rng;
 mod runs;
 mod spelling;
@@ -35,8 +39,10 @@ pub use puts::{put, records, Put};
 pub use rng::Rng;
 
 use crate::descriptions::Description;
+use crate::rows::ROW_LINES;
 use crate::rules::MOST_FIELDS;
 use crate::stored::encode;
+use drawing::row_lines;
 use layouts::{full_layout, layout, many, tall_layout, too_many, Layout, Slot};
 use spelling::{spell, Manner};
 use words::Names;
@@ -65,18 +71,20 @@ pub fn text(rng: &mut Rng) -> Vec<u8> {
     }
     let (layout, names) = plan(rng, true);
     let description = fields::description(rng, &layout, &names);
+    let lines = layout.row_lines;
     if rng.one_in(2) {
-        return spelled(rng, &description);
+        return spelled(rng, &description, lines);
     }
-    match rng.below(10) {
-        0 | 1 => edits::edit_bytes(spelled(rng, &description), rng, &edits::TEXT_BYTES),
-        2 => edits::edit_lines(spelled(rng, &description), rng),
+    match rng.below(16) {
+        0 | 1 => edits::edit_bytes(spelled(rng, &description, lines), rng, &edits::TEXT_BYTES),
+        2 => edits::edit_lines(spelled(rng, &description, lines), rng),
         3 | 4 => {
-            let manner = Manner::wrong(rng);
+            let manner = Manner::wrong(rng, lines);
             spell(rng, &description, &description, manner)
         }
-        5 if rng.one_in(2) => too_many_fields(rng),
-        _ => bent_text(rng, &description),
+        5 => too_many_fields(rng),
+        6..=8 => misdrawn::misdraw(spelled(rng, &description, ROW_LINES), rng),
+        _ => bent_text(rng, &description, lines),
     }
 }
 
@@ -84,7 +92,7 @@ pub fn text(rng: &mut Rng) -> Vec<u8> {
 pub fn spelled_text(rng: &mut Rng) -> (Vec<u8>, Vec<u8>) {
     let (layout, names) = plan(rng, true);
     let description = fields::description(rng, &layout, &names);
-    (spelled(rng, &description), encode(&description))
+    (spelled(rng, &description, layout.row_lines), encode(&description))
 }
 
 /// A table: about half of them are good, the others have broken rules or changed bytes.
@@ -188,7 +196,7 @@ fn much_read_table(rng: &mut Rng) -> Vec<u8> {
 /// Names for up to `most` fields of a byte, each in a row of its own.
 fn much_read_names(rng: &mut Rng, most: usize) -> Names {
     let slots = vec![Slot::Fixed(8); rng.between(most / 2, most)];
-    Names::random(rng, &Layout { row_bits: 8, slots }, true)
+    Names::random(rng, &Layout::new(8, slots), true)
 }
 
 /// A table of more fields than there may be.
@@ -209,9 +217,10 @@ fn far_text(rng: &mut Rng) -> Vec<u8> {
         5 => return much_read_text(rng),
         _ => long_table_text(rng),
     };
-    match rng.below(4) {
+    match rng.below(5) {
         0 => edits::edit_bytes(text, rng, &edits::TEXT_BYTES),
         1 => edits::edit_lines(text, rng),
+        2 => misdrawn::misdraw(text, rng),
         _ => text,
     }
 }
@@ -223,7 +232,7 @@ fn long_table_text(rng: &mut Rng) -> Vec<u8> {
         Names::longest(rng, count)
     } else {
         let slots = vec![Slot::Measured; rng.between(70, 80)];
-        Names::random(rng, &Layout { row_bits: 8, slots }, true)
+        Names::random(rng, &Layout::new(8, slots), true)
     };
     let description = extremes::longest(rng, &names);
     spell(rng, &description, &description, Manner::PLAIN)
@@ -241,7 +250,8 @@ fn tall_text(rng: &mut Rng) -> Vec<u8> {
     let layout = tall_layout(rng, 8, MOST_FIELDS);
     let names = Names::random(rng, &layout, true);
     let description = fields::description(rng, &layout, &names);
-    bent_text(rng, &description)
+    let lines = row_lines(rng);
+    bent_text(rng, &description, lines)
 }
 
 /// Rows of `count` fields, of several cells or of one.
@@ -255,18 +265,19 @@ fn wide_or_tall(rng: &mut Rng, count: usize) -> Layout {
 
 /// Rows and names; with `shown`, each field has a name that its cell has room for.
 fn plan(rng: &mut Rng, shown: bool) -> (Layout, Names) {
-    let layout = if rng.one_in(if shown { 20 } else { 40 }) {
+    let mut layout = if rng.one_in(if shown { 20 } else { 40 }) {
         let count = many(rng);
         wide_or_tall(rng, count)
     } else {
         layout(rng)
     };
+    layout.row_lines = row_lines(rng);
     let names = Names::random(rng, &layout, shown);
     (layout, names)
 }
 
-fn spelled(rng: &mut Rng, description: &Description) -> Vec<u8> {
-    let text = spell(rng, description, description, Manner::default());
+fn spelled(rng: &mut Rng, description: &Description, row_lines: usize) -> Vec<u8> {
+    let text = spell(rng, description, description, Manner::of_rows(row_lines));
     if rng.one_in(60) {
         return edits::padded(text, rng);
     }
@@ -276,27 +287,30 @@ fn spelled(rng: &mut Rng, description: &Description) -> Vec<u8> {
 /// A text of more fields than there may be, or of too many cells or lines only.
 fn too_many_fields(rng: &mut Rng) -> Vec<u8> {
     let count = too_many(rng);
-    let layout = wide_or_tall(rng, count);
+    let mut layout = wide_or_tall(rng, count);
+    layout.row_lines = row_lines(rng);
     let names = Names::random(rng, &layout, true);
     let description = fields::description(rng, &layout, &names);
+    let manner = Manner::of_rows(layout.row_lines);
     let mut fewer = description.clone();
     fewer.fields.truncate(MOST_FIELDS - rng.below(2));
     match rng.below(4) {
-        0 => spell(rng, &description, &fewer, Manner::default()),
-        1 => spell(rng, &fewer, &description, Manner::default()),
-        _ => spelled(rng, &description),
+        0 => spell(rng, &description, &fewer, manner),
+        1 => spell(rng, &fewer, &description, manner),
+        _ => spelled(rng, &description, layout.row_lines),
     }
 }
 
 /// A text whose lines, and at times cells, are those of a description with broken rules.
-fn bent_text(rng: &mut Rng, description: &Description) -> Vec<u8> {
+fn bent_text(rng: &mut Rng, description: &Description, row_lines: usize) -> Vec<u8> {
     let mut told = description.clone();
+    let manner = Manner::of_rows(row_lines);
     if clashed(rng, &mut told, 5) {
-        return spell(rng, &told, &told, Manner::default());
+        return spell(rng, &told, &told, manner);
     }
     bent(rng, &mut told);
     let drawn = if rng.one_in(2) { &told } else { description };
-    spell(rng, drawn, &told, Manner::default())
+    spell(rng, drawn, &told, manner)
 }
 
 /// Gives fields of a description equal names, or breaks other rules of it.

@@ -1,13 +1,13 @@
-//! A model of document 01 and of requests of document 02, written from them and from the
-//! readings of their open points in `docs/DECISIONS.md`, not from the library: it reads description texts, writes,
-//! checks, converts and edits field tables, reads packets by a table and lists them. Every function answers for every
-//! input.
+//! A model of document 01 and of requests of document 02, written from them and from
+//! the readings of their open points in `docs/DECISIONS.md`, not from the library: it reads description texts,
+//! writes, checks, converts and edits field tables, reads packets by a table and lists them. Every function answers
+//! for every input.
 //!
 //! In reading order: `names`, `operators`, `trees`, `expressions`, `descriptions`, `naming`, `widths`, `editions`,
-//! `rules` say what a description is; `lines`, `frames`, `field_lines`, `matching`, `texts` read a text; `references`,
-//! `stored`, `tables`, `conversion` hold the stored form; `renumbering`, `editing` cut fields out of a table and put
-//! them in; `evaluation`, `reading`, `listing`, `lookups` use a table. `generate` makes random cases, and `protocol`
-//! answers the requests of the oracle.
+//! `rules` say what a description is; `lines`, `rows`, `frames`, `field_lines`, `matching`, `texts` read a text;
+//! `references`, `stored`, `tables`, `conversion` hold the stored form; `renumbering`, `editing` cut fields out of a
+//! table and put them in; `evaluation`, `reading`, `listing`, `lookups` use a table. `generate` makes random cases,
+//! and `protocol` answers the requests of the oracle.
 
 mod conversion;
 mod descriptions;
@@ -30,6 +30,7 @@ mod reading;
 mod references;
 mod refusals;
 mod renumbering;
+mod rows;
 mod rules;
 mod stored;
 mod tables;
@@ -44,4 +45,4 @@ pub use lookups::{count_fields, count_readers, field_kind, field_label, field_sh
 pub use reading::{field_bytes, read_packet, read_partly, Partly, Reading};
 pub use refusals::Refusal;
 pub use tables::check_table;
-pub use texts::write_table;
+pub use texts::{write_table, write_table_by};

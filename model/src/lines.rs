@@ -16,11 +16,16 @@ impl<'a> Lines<'a> {
         Lines { rest: text, taken: 0 }
     }
 
+    /// The next line that ends in LF, without it; it is not taken.
+    pub fn peek(&self) -> Option<&'a [u8]> {
+        let length = self.rest.iter().position(|byte| *byte == b'\n')?;
+        Some(&self.rest[..length])
+    }
+
     /// The next line that ends in LF, without it.
     pub fn next(&mut self) -> Option<&'a [u8]> {
-        let length = self.rest.iter().position(|byte| *byte == b'\n')?;
-        let line = &self.rest[..length];
-        self.rest = &self.rest[length + 1..];
+        let line = self.peek()?;
+        self.rest = &self.rest[line.len() + 1..];
         self.taken += 1;
         Some(line)
     }

@@ -6,6 +6,7 @@ use crate::frames::{frame, Frame};
 use crate::matching::first_mismatch;
 use crate::naming::{first_repeat, read_names};
 use crate::refusals::{refused, Refusal};
+use crate::rows::ROW_LINES;
 use crate::rules::{first_after_rest, reads_right, trees_small, MOST_FIELDS};
 use crate::stored::encode;
 use crate::trees::{Node, Tree};
@@ -14,7 +15,12 @@ pub const LONGEST_TEXT: usize = 16_384;
 
 /// The table of the description that `text` spells, for an output of `room` bytes.
 pub fn write_table(text: &[u8], room: usize) -> Result<Vec<u8>, Refusal> {
-    let table = encode(&description(text)?);
+    write_table_by(ROW_LINES, text, room)
+}
+
+/// The same by a limit of so many lines to a bit row: by that of document 01, 1, and else by all rules in force.
+pub fn write_table_by(row_lines: usize, text: &[u8], room: usize) -> Result<Vec<u8>, Refusal> {
+    let table = encode(&description(text, row_lines)?);
     if room < table.len() {
         return refused(11, 0);
     }
@@ -22,14 +28,14 @@ pub fn write_table(text: &[u8], room: usize) -> Result<Vec<u8>, Refusal> {
 }
 
 /// The description that a text spells.
-pub fn description(text: &[u8]) -> Result<Description<'_>, Refusal> {
+fn description(text: &[u8], row_lines: usize) -> Result<Description<'_>, Refusal> {
     if text.len() > LONGEST_TEXT {
         return refused(1, 0);
     }
     if !text.iter().all(|byte| matches!(byte, b' '..=b'~' | b'\n')) {
         return refused(2, 0);
     }
-    let frame = frame(text)?;
+    let frame = frame(text, row_lines)?;
     if frame.cells.len() > MOST_FIELDS || frame.field_lines.len() > MOST_FIELDS {
         return refused(4, 0);
     }

@@ -189,6 +189,13 @@ class Marked(unittest.TestCase):
         self.assertEqual((umarekoza.find_field(both, "Blade"), umarekoza.field_short(both, 3)), (3, "Blade"))
         self.refused(21, 0, umarekoza.check_table, TABLE.replace(b"\x03\0Bor", b"\x03\0Sum"))
 
+    def test_rows_of_several_lines(self):
+        row, blank = b"| V |L|  Cells  |     Blade     |\n", b"|   | |         |               |\n"
+        self.assertEqual(umarekoza.table_of(BLADE.replace(row, blank + row + blank)), TABLE)
+        self.refused(3, 10, umarekoza.table_of, BLADE.replace(row, row + 4 * blank))
+        self.refused(3, 7, umarekoza.table_of, BLADE.replace(row, row + blank.replace(b"| |", b"|  ")))
+        self.refused(3, 7, umarekoza.table_of, BLADE.replace(row, blank + blank))
+
     def test_an_index_is_never_taken_for_another(self):
         for index in (7, 2**63, 2**64, 2**64 + 4, 2**80):
             self.assertIsNone(umarekoza.field_label(TABLE, index))

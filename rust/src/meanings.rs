@@ -33,8 +33,9 @@ const MEANINGS: [Meaning; 23] = [
         what: "this line is not what a page has at this place",
         mend: "in order: `A NAME is formatted as follows:`, an empty line, two rulers, a border, rows \
                with a border below each, an empty line, `where:`, an empty line, field lines. A row is \
-               as long as its border, has bars at even columns only (counted from 0) and a label in each \
-               cell",
+               one line between `:`, or 1 to 4 lines between `|` with the same bars in each. A line of it \
+               is as long as its border and has bars at even columns only (counted from 0), and each cell \
+               has a label: downwards in a cell of one bit, else line by line",
     },
     Meaning {
         number: 4,

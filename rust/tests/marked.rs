@@ -1,5 +1,5 @@
-//! The marked cases M1 to M10 of document 01, as many fields and bytes as may be, labels as names, empty slices, and
-//! what lent slices hold afterwards.
+//! The marked cases M1 to M10 of document 01, as many fields and bytes as may be, labels as names, rows of several
+//! lines, empty slices, and what lent slices hold afterwards.
 
 use umarekoza::*;
 
@@ -198,6 +198,23 @@ fn labels_are_names_too() {
     let short = clash.windows(5).position(|part| part == b"\x03\0Bor").unwrap() + 2;
     clash[short..short + 3].copy_from_slice(b"Sum");
     assert_eq!(check_table(&clash), refused(21, 0));
+}
+
+#[test]
+fn rows_of_several_lines() {
+    let row = "| V |L|  Cells  |     Blade     |";
+    let with = |lines: [&str; 3]| blade_with(row, &lines.join("\n"));
+    let (blank, first) = ("|   | |         |               |", "|   |L|  Cells  |     Blade     |");
+    assert_eq!(with([first, "| V | |         |               |", blank]), Ok(blade()));
+    assert_eq!(with([row, blank, "|   | |     |   |               |"]), refused(3, 8));
+    assert_eq!(with([first, blank, blank]), refused(3, 8));
+    assert_eq!(with([first, blank, "| V | |     |   |               |"]), refused(3, 7));
+    assert_eq!(with([row, blank, "|   | |  More   |               |"]), refused(7, 21));
+    assert_eq!(blade_with(row, &[&[row][..], &[blank; 4]].concat().join("\n")), refused(3, 10));
+    let long = ":            Readings           :";
+    assert_eq!(blade_with(long, &[long, ":                               :"].join("\n")), refused(3, 11));
+    let tcp = table_of(include_bytes!("../../examples/pages/tcp.txt")).unwrap();
+    assert_eq!((find_field(&tcp, b"FIN"), field_short(&tcp, 13)), (Ok(13), None));
 }
 
 #[test]

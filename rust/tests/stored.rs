@@ -5,16 +5,17 @@ use std::path::Path;
 use umarekoza::*;
 
 /// The files, and how many lines each has.
-const FILES: [(&str, usize); 12] = [
+const FILES: [(&str, usize); 13] = [
     ("base2.tsv", 200),
     ("large.tsv", 24),
+    ("r1.tsv", 300),
     ("r4.tsv", 400),
     ("r5.tsv", 300),
     ("tables.tsv", 512),
     ("packets.tsv", 494),
     ("spelled.tsv", 94),
-    ("edge.tsv", 395),
-    ("mutated.tsv", 550),
+    ("edge.tsv", 394),
+    ("mutated.tsv", 540),
     ("r10.tsv", 47),
     ("r2.tsv", 181),
     ("r7.tsv", 187),

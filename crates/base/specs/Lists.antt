@@ -16,6 +16,11 @@ unfoldable pub any : {A : Type 0} → (A → Bool) → List A → Bool
 any p [] = false
 any p (x ∷ l) = p x || any p l
 
+-- those that pass the test
+unfoldable pub only : {A : Type 0} → (A → Bool) → List A → List A
+only p [] = []
+only p (x ∷ l) = cond (p x) (x ∷ only p l) (only p l)
+
 -- the two lists are equal
 unfoldable pub same : List ℕ → List ℕ → Bool
 same [] [] = true

@@ -2,7 +2,7 @@
 use mathlib.Core.Path.{refl}
 use lib.ListN.{take, drop}
 use Rattle.base.specs.Bytes.{digits}
-use Rattle.base.specs.Lists.{all, any, same, lastIs, sum, joined, tabulate, firstBreak}
+use Rattle.base.specs.Lists.{all, any, only, same, lastIs, sum, joined, tabulate, firstBreak}
 use Rattle.rules.specs.Operators.{operator, operators}
 use Rattle.rules.specs.Names.{
   isLetter,
@@ -25,9 +25,10 @@ use Rattle.rules.specs.References.{treeReads, fieldReads, times, readers}
 use Rattle.rules.specs.Edits as Edits
 use Rattle.rules.specs.Edits.{renumberedTree, renumbered, closed, cut, put, firstReader}
 use Rattle.rules.specs.Stored.{storedIn, storedWith, recordsIn, storedFieldIn, fieldBody, headBody}
-use Rattle.rules.specs.Frames.{tens, units, border, cellText, rowLines, isFrame, headLines, cells}
+use Rattle.rules.specs.Rows.{leftTrim, keepEnd, rightTrim, bySpaces, cellText, areFitted, columns, rowLines}
+use Rattle.rules.specs.Frames.{tens, units, border, isDrawnIn, headLines, cells}
 use Rattle.rules.specs.Spelling.{mismatch}
-use Rattle.rules.specs.Refusals.{ruleBroken}
+use Rattle.rules.specs.Refusals.{unlabelledLine, ruleBroken}
 use Rattle.rules.specs.Reading.{bitsAt, valueIn, readFieldIn, readFieldsIn, readingIn, fieldsBefore, entriesBefore}
 use Rattle.rules.specs.Listing.{entryLines, linesText}
 use Rattle.rules.specs.Answers.{faultNumber, ofTable, ofPacket, ofText, ofField, ofListing, ofConversion}
@@ -86,12 +87,12 @@ use Rattle.text_laws.specs.FrameReader.{
   onFirst,
   pieces,
   rest,
-  lead,
-  leftTrim,
-  keepEnd,
-  rightTrim,
-  cellOf,
   keepRow,
+  stripsOf,
+  rowOf,
+  readLong,
+  withStrips,
+  moreRow,
   longOf,
   readRow,
   closing,
@@ -106,7 +107,12 @@ use Rattle.text_laws.specs.FrameReader.{
   rightFrom,
   rightLines,
   whole,
+  rowOrBorder,
+  readDrawn,
+  ifLabelled,
   readFrame,
+  reach,
+  placeOf,
 }
 use Rattle.text_laws.specs.Resolving.{firstIndex, renameTree, resolve}
 use Rattle.cases.proofs.SameTree.{sameTree}
@@ -120,7 +126,6 @@ use Rattle.laws.proofs.Readers as Tables
 use Rattle.laws.proofs.Joining.{readRecords, numberAt}
 use Rattle.laws.proofs.WithinTest.{within}
 use Rattle.base.proofs.Also.{_also_}
-use Rattle.cases.specs.LinesOfAText.{linesOfAText}
 use Rattle.cases.specs.Expressions.{expressions}
 use Rattle.cases.specs.Fields.{fields}
 use Rattle.cases.specs.Names.{names}
@@ -128,12 +133,11 @@ use Rattle.cases.specs.Quotients.{quotients}
 use Rattle.cases.specs.StoredTable.{storedTable}
 use Rattle.cases.specs.Readers as Counted
 use Rattle.cases.specs.Edits.{edits}
-use Rattle.cases.specs.Spelling.{spelling}
 use Rattle.cases.specs.ReadingAPacket.{readingAPacket}
-use Rattle.cases.specs.RefusalNumbers.{refusalNumbers}
 use Rattle.cases.specs.Listing.{listings}
 use Rattle.cases.specs.Promised.{promised}
 use Rattle.cases.specs.Worked.{Worked}
+use Rattle.cases.proofs.WorkedTexts.{texts-hold}
 use Rattle.cases.proofs.CaseTests.{all-right, in-order}
 use Rattle.cases.proofs.ClaimTests.{all-so}
 
@@ -141,17 +145,19 @@ cases-hold : AllHold marked × Worked
 unfolding digits all any same lastIs sum joined tabulate firstBreak operator operators isLetter isDigit isSpace
     isPrintable isAllowed isWordByte isLabelByte noTwoSpaces isLabel reserved isReserved isShort depth le2 le4
     storedTree isInRange hasType hasOperators power apply decides evaluateBy rowsFit treeReads fieldReads times
-    readers storedIn storedWith recordsIn storedFieldIn fieldBody headBody tens units border cellText rowLines
-    isFrame headLines cells mismatch ruleBroken bitsAt valueIn readFieldIn readFieldsIn readingIn fieldsBefore
+    readers storedIn storedWith recordsIn storedFieldIn fieldBody headBody tens units border only leftTrim keepEnd
+    rightTrim bySpaces cellText areFitted columns rowLines unlabelledLine isDrawnIn headLines cells mismatch
+    ruleBroken bitsAt valueIn readFieldIn readFieldsIn readingIn fieldsBefore
     entriesBefore entryLines linesText faultNumber ofTable ofPacket ofText ofField ofListing ofConversion delivered
     readingAnswer packetOutcomeIn partlyOutcome firstNamed readingLines manyFields notTimes andTimes after manyRows
     manyLines firstOf insert longestFirst order skip skipBehind operatorAt word behind scan wordValue isNumeral
     isNumberWord andThen leaf close inside atom step expr more Lines.readField literal begins labelEnds labelText
     labelBehind readLabel readClosedName readShort readTree unitOf readUnit readMeasure readWidth readPhrase
     readMaybe isCondition isConstraint readConstraint readCondition isRemark readForm Frames.readName Frames.step
-    onFirst pieces rest lead leftTrim keepEnd rightTrim cellOf keepRow longOf readRow closing readTens onName
-    onWidth onRow rowOrEnd opened onSame run rightFrom rightLines whole readFrame firstIndex renameTree resolve
-    sameTree formsOf seen Tables.readTwo Tables.readFour Tables.readCounted Tables.codeIn Tables.codeOf
+    onFirst pieces rest keepRow stripsOf longOf readLong rowOf readRow withStrips moreRow closing readTens onName
+    onWidth onRow rowOrEnd opened onSame rowOrBorder run rightFrom rightLines whole readDrawn ifLabelled readFrame
+    reach placeOf firstIndex renameTree resolve sameTree formsOf seen Tables.readTwo Tables.readFour
+    Tables.readCounted Tables.codeIn Tables.codeOf
     Tables.readAfter Tables.readTree Tables.treeOf Tables.readFixed Tables.readMeasured Tables.readWidth
     Tables.fieldFrom Tables.readField Tables.readFields Tables.describedIn entriesOf linesOf Wrong.powers
     Wrong.quotients doubled renumberedTree renumbered closed Edits.opened cut put firstReader readRecords numberAt
@@ -161,7 +167,8 @@ cases-hold = (
       ((within bladeReport refl, λ b. refl)
       also all-right (drop 5 marked) refl),
   record {
-    lines = all-right linesOfAText refl;
+    lines = texts-hold .0;
+    rows = texts-hold .1;
     expressions = all-right expressions refl;
     fields = all-right fields refl;
     names = all-right names refl;
@@ -169,9 +176,9 @@ cases-hold = (
     tables = all-right storedTable refl;
     readers = all-right Counted.readers refl;
     edits = all-right edits refl;
-    spelling = all-right spelling refl;
+    spelling = texts-hold .2;
     packets = all-right readingAPacket refl;
-    refusals = all-right refusalNumbers refl;
+    refusals = texts-hold .3;
     listings = all-right listings refl;
     promises = all-so promised refl;
   },

@@ -1,5 +1,6 @@
 -- Worked           all worked cases hold: a list for each section of 01
 -- LinesOfAText     frames, labels and short names
+-- Rows             rows of several lines
 -- Expressions      trees: spelling, values, limits
 -- Fields           how many fields, their names, widths and rows
 -- Names            which names may be read, and which clash
@@ -13,6 +14,7 @@
 -- Listing          listings
 -- Promised         right answers, one for each sort of claim
 pub mod LinesOfAText
+pub mod Rows
 pub mod Expressions
 pub mod Fields
 pub mod Names

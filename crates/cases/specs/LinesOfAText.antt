@@ -3,25 +3,24 @@ use mathlib.Core.List.{List, [], _∷_, _++_}
 use mathlib.Core.Option.{none, some}
 use lib.ListN.{replicate}
 use Rattle.base.specs.Bytes.{bytes}
-use Rattle.rules.specs.Frames.{bitRow, longRow}
 use Rattle.rules.specs.Cases.{Case, fits, exceeds, unframed}
 use Rattle.rules.specs.Pages.{called}
-use Rattle.rules.specs.Sheets.{cell, bitsOf, longOf, framed}
+use Rattle.rules.specs.Sheets.{cell, lineOf, colonLine, bitsOf, longOf, framed}
 
 abbrev frames : List Case
 frames =
     -- no frame: NAME, W, rows, lines, the text of a cell and its blanks, the width of a row
     unframed (framed "Sheet-" 8 (bitsOf "A" ∷ []) (bytes "line" ∷ []))
-    ∷ unframed (framed "Sheet" 24 (bitRow (cell 24 23 "A" 23 ∷ []) ∷ []) (bytes "line" ∷ []))
+    ∷ unframed (framed "Sheet" 24 (lineOf (cell 24 23 "A" 23 ∷ []) ∷ []) (bytes "line" ∷ []))
     ∷ unframed (framed "Sheet" 8 [] (bytes "line" ∷ []))
     ∷ unframed (framed "Sheet" 8 (bitsOf "A" ∷ []) [])
     ∷ unframed (framed "Sheet" 8 (bitsOf "A" ∷ []) (bytes "line\n" ∷ []))
     ∷ unframed (framed "Sheet" 8 (bitsOf "-" ∷ []) (bytes "line" ∷ []))
     ∷ unframed (framed "Sheet" 8 (longOf " " ∷ []) (bytes "line" ∷ []))
-    ∷ unframed (framed "Sheet" 8 (bitRow (cell 8 7 "A" 6 ∷ []) ∷ []) (bytes "line" ∷ []))
-    ∷ unframed (framed "Sheet" 8 (longRow (cell 8 7 "A" 8) ∷ []) (bytes "line" ∷ []))
-    ∷ unframed (framed "Sheet" 8 (bitRow (cell 4 3 "A" 3 ∷ []) ∷ []) (bytes "line" ∷ []))
-    ∷ unframed (framed "Sheet" 8 (longRow (cell 16 15 "A" 15) ∷ []) (bytes "line" ∷ []))
+    ∷ unframed (framed "Sheet" 8 (lineOf (cell 8 7 "A" 6 ∷ []) ∷ []) (bytes "line" ∷ []))
+    ∷ unframed (framed "Sheet" 8 (colonLine (cell 8 7 "A" 8) ∷ []) (bytes "line" ∷ []))
+    ∷ unframed (framed "Sheet" 8 (lineOf (cell 4 3 "A" 3 ∷ []) ∷ []) (bytes "line" ∷ []))
+    ∷ unframed (framed "Sheet" 8 (colonLine (cell 16 15 "A" 15) ∷ []) (bytes "line" ∷ []))
     ∷ []
 
 abbrev names : List Case

@@ -74,7 +74,7 @@ behindRest row line = pageText
 -- where the lines of a frame have these forms
 abbrev rules : List Case
 rules =
-    -- 6: depth, stored form; the first line has the number 9 and 2 for each row
+    -- 6: depth, stored form; the first line has the number 9 and 2 for each row of one line
     breaks (sheet (bitsOf "A" ∷ []) 1) (requiring "A" (notTimes 11 oneIsOne) ∷ []) (refused 6 11)
     ∷ breaks (sheet (bitsOf "A" ∷ bitsOf "B" ∷ []) 2) (plain "A" ∷ depending "B" (long 2) ∷ []) (refused 6 14)
     -- 7: another name, order or width, the other of the two rows; cells that remain; a line without a cell

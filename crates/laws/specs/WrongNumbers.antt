@@ -89,6 +89,7 @@ listed d numbers = storedWith current (λ i. getD numbers i 0) d
 -- of the kinds 2 to 4, with numbers; of the kinds 12 to 14, without
 abbrev pub oldKinds : Edition
 oldKinds = record {
+  rowLines = current .rowLines;
   fields = current .fields;
   few = current .few;
   packet = current .packet;
@@ -101,6 +102,7 @@ oldKinds = record {
 
 abbrev pub unnumbered : Edition
 unnumbered = record {
+  rowLines = current .rowLines;
   fields = current .fields;
   few = current .few;
   packet = current .packet;

@@ -4,11 +4,13 @@ use mathlib.Core.Bool.{Bool, true, false, cond, not}
 use Prim.Native.Nat.{ℕ, _+_}
 use lib.Dec.{ltb, leb}
 use Rattle.rules.specs.declared.Op.{Op}
-use Rattle.rules.specs.Limits.{fieldsMost, packetMost}
+use Rattle.rules.specs.Limits.{fieldsMost, packetMost, rowLinesMost}
 use Rattle.rules.specs.Operators.{isAdded}
 use Rattle.rules.specs.Values.{Meaning, apply}
 
 pub record Edition : Type 0 where
+  -- how many lines a bit row may have
+  pub rowLines : ℕ
   -- how many fields there may be; an index takes one byte
   pub fields : ℕ
   pub few : leb fields 256 ≡ true
@@ -23,9 +25,10 @@ pub record Edition : Type 0 where
   -- a field's record keeps how often the field is read
   pub keepsReaders : Bool
 
--- [01, The stored table] [02, R-5] [02, R-7] [02, R-10]
+-- [01, The stored table] [02, R-1] [02, R-5] [02, R-7] [02, R-10]
 abbrev pub current : Edition
 current = record {
+  rowLines = rowLinesMost;
   fields = fieldsMost;
   few = refl;
   packet = packetMost;
@@ -40,6 +43,7 @@ current = record {
 -- [01, Fields] [01, Refusal numbers] [02, R-10]
 abbrev pub earlier : Edition
 earlier = record {
+  rowLines = current .rowLines;
   fields = 64;
   few = refl;
   packet = 2048;
@@ -50,9 +54,24 @@ earlier = record {
   keepsReaders = current .keepsReaders;
 }
 
+-- rows of one line, as document 01 draws them, all else as in force [01, The lines of a text] [02, R-1]
+abbrev pub oneLine : Edition
+oneLine = record {
+  rowLines = 1;
+  fields = current .fields;
+  few = current .few;
+  packet = current .packet;
+  knows = current .knows;
+  means = current .means;
+  fixedKind = current .fixedKind;
+  short = current .short;
+  keepsReaders = current .keepsReaders;
+}
+
 -- without `/`, `%` and `^`, all else as in force; what it would make of these is anything [02, R-7]
 abbrev pub withoutAdded : Meaning → Edition
 withoutAdded means = record {
+  rowLines = current .rowLines;
   fields = current .fields;
   few = current .few;
   packet = current .packet;
@@ -67,6 +86,7 @@ withoutAdded means = record {
 -- records of the kinds 2 to 4 that keep no number; names as in force [01, The stored table] [02, R-2] [02, R-5]
 abbrev pub uncounted : Edition
 uncounted = record {
+  rowLines = current .rowLines;
   fields = earlier .fields;
   few = earlier .few;
   packet = earlier .packet;
@@ -80,6 +100,7 @@ uncounted = record {
 -- with such records, all else as in force [02, R-5]
 abbrev pub withoutReaders : Edition
 withoutReaders = record {
+  rowLines = current .rowLines;
   fields = current .fields;
   few = current .few;
   packet = current .packet;

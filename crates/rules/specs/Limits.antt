@@ -8,6 +8,10 @@ use lib.Dec.{leb}
 abbrev pub textMost : ℕ
 textMost = 16384
 
+-- [02, R-1] lines of a bit row
+abbrev pub rowLinesMost : ℕ
+rowLinesMost = 4
+
 -- fields, bytes of a packet [01, Fields] [01, Refusal numbers] [02, R-10]
 abbrev pub fieldsMost : ℕ
 fieldsMost = 128
@@ -56,4 +60,5 @@ limits =
     ∷ depthMost
     ∷ storedMost
     ∷ fixedMost
+    ∷ rowLinesMost
     ∷ []

@@ -3,10 +3,10 @@
 use mathlib.Core.Path.{_≡_}
 use mathlib.Core.Bool.{true, false, cond}
 use mathlib.Core.List.{List, [], _∷_, _++_}
-use mathlib.Core.Option.{Option, some, Option·map}
-use Prim.Native.Nat.{ℕ, zero, suc, _+_, _≤_, _<_}
-use lib.Dec.{eqb}
-use lib.ListN.{length, getD}
+use mathlib.Core.Option.{Option, none, some, Option·map}
+use Prim.Native.Nat.{ℕ, zero, suc, _+_, _-_, _≤_, _<_}
+use lib.Dec.{ltb, eqb}
+use lib.ListN.{length, getD, take}
 use Rattle.base.specs.Lists.{all, Each, firstBreak, orElse}
 use Rattle.rules.specs.Answers.{Answer, refused}
 use Rattle.rules.specs.Limits.{textMost}
@@ -15,7 +15,8 @@ use Rattle.rules.specs.Names.{isAllowed, lineFeed}
 use Rattle.rules.specs.Fields.{Form}
 use Rattle.rules.specs.Within.{keepsSize, keepsNames, keepsTypes, keepsRest, nameReadable}
 use Rattle.rules.specs.Lines.{SpellsFieldIn, Unresolved}
-use Rattle.rules.specs.Frames.{Frame, isFrame, frameText, FrameOf, lineNumber, cells, isOverfullIn}
+use Rattle.rules.specs.Rows.{Row, bitRow, longRow, rowLines, isLabelled}
+use Rattle.rules.specs.Frames.{Frame, isDrawnIn, topLines, frameText, FrameOfIn, lineNumber, cells, isOverfullIn}
 use Rattle.rules.specs.Spelling.{mismatch}
 
 -- ── 3: lines ──
@@ -31,18 +32,46 @@ firstLines k [] = []
 firstLines zero (b ∷ t) = []
 firstLines (suc k) (b ∷ t) = b ∷ firstLines (cond (eqb b lineFeed) k (suc k)) t
 
--- the first k lines begin the text of some frame
-pub record Begins (text : List ℕ) (k : ℕ) : Type 0 where
+-- the first k lines begin the text of a frame that is drawn right, by an edition
+pub record BeginsIn (e : Edition) (text : List ℕ) (k : ℕ) : Type 0 where
   pub frame : Frame
-  pub isFramed : isFrame frame ≡ true
+  pub drawn : isDrawnIn e frame ≡ true
   pub behind : List ℕ
   pub isText : frameText frame ≡ firstLines k text ++ behind
 
--- k is the greatest number of whole lines that begin the text of a frame
-pub record RightLines (text : List ℕ) (k : ℕ) : Type 0 where
+-- k is the greatest number of whole lines that begin such a text
+pub record RightLinesIn (e : Edition) (text : List ℕ) (k : ℕ) : Type 0 where
   pub there : k ≤ lineCount text
-  pub begins : Begins text k
-  pub most : (j : ℕ) → k < j → j ≤ lineCount text → Begins text j → ⊥
+  pub begins : BeginsIn e text k
+  pub most : (j : ℕ) → k < j → j ≤ lineCount text → BeginsIn e text j → ⊥
+
+-- the first n lines of a row
+abbrev pub cutRow : ℕ → Row → Row
+cutRow n (bitRow bits lines) = bitRow bits (take n lines)
+cutRow n (longRow bits s) = longRow bits s
+
+-- of rows whose first one stands behind n lines, those that begin in the first k lines, as far as they stand there
+unfoldable pub rowsWithin : ℕ → ℕ → List Row → List Row
+rowsWithin k n [] = []
+rowsWithin k n (r ∷ rows) =
+    cond (ltb n k) (cutRow (k - n) r ∷ rowsWithin k (n + suc (length (rowLines r))) rows) []
+
+-- the last line of the first row with a cell whose text is no label
+unfoldable pub unlabelledLine : ℕ → List Row → Option ℕ
+unlabelledLine n [] = none
+unlabelledLine n (r ∷ rows) =
+    cond (isLabelled r) (unlabelledLine (n + suc (length (rowLines r))) rows) (some (n + length (rowLines r)))
+
+abbrev pub orBehind : ℕ → Option ℕ → ℕ
+orBehind k none = suc k
+orBehind k (some p) = p
+
+-- where the first k lines begin the text of the frame, and no more do: the last line there of the first row in them
+-- with a cell whose text is no label, or else the line behind them
+abbrev pub wrongLine : ℕ → Frame → ℕ
+wrongLine k f =
+    let n = length (topLines f) in
+    orBehind k (unlabelledLine n (rowsWithin k n (f .rows)))
 
 -- ── 5: forms ──
 
@@ -80,22 +109,28 @@ pub record Plain (text : List ℕ) : Type 0 where
 -- the text of a frame that is not overfull, by an edition
 pub record FramedIn (e : Edition) (text : List ℕ) (f : Frame) : Type 0 where
   pub plain : Plain text
-  pub isFrameOf : FrameOf text f
+  pub isFrameOf : FrameOfIn e text f
   pub few : isOverfullIn e f ≡ false
 
 -- 01's number and place for a text that is refused, whatever the output, by an edition
 pub data RefusesIn (e : Edition) (text : List ℕ) : Answer → Type 0 where
   long : textMost < length text → RefusesIn e text (refused 1 0)
   byte : length text ≤ textMost → all isAllowed text ≡ false → RefusesIn e text (refused 2 0)
-  line : {k : ℕ} → Plain text → ((f : Frame) → FrameOf text f → ⊥) → RightLines text k
-      → RefusesIn e text (refused 3 (suc k))
-  many : {f : Frame} → Plain text → FrameOf text f → isOverfullIn e f ≡ true → RefusesIn e text (refused 4 0)
+  line : {k : ℕ} → Plain text → ((f : Frame) → FrameOfIn e text f → ⊥) → (r : RightLinesIn e text k)
+      → RefusesIn e text (refused 3 (wrongLine k (r .begins .frame)))
+  many : {f : Frame} → Plain text → FrameOfIn e text f → isOverfullIn e f ≡ true → RefusesIn e text (refused 4 0)
   form : {f : Frame} {i : ℕ} → FramedIn e text f → FirstFormlessIn e (f .lines) i
       → RefusesIn e text (refused 5 (lineNumber f i))
   rule : {f : Frame} {a : Answer} (forms : List Form) → FramedIn e text f
       → Each (SpellsFieldIn Unresolved e) forms (f .lines) → ruleBroken f forms ≡ some a → RefusesIn e text a
 
 -- by the edition in force
+abbrev pub Begins : List ℕ → ℕ → Type 0
+Begins text k = BeginsIn current text k
+
+abbrev pub RightLines : List ℕ → ℕ → Type 0
+RightLines text k = RightLinesIn current text k
+
 abbrev pub Formless : List ℕ → Type 0
 Formless l = FormlessIn current l
 

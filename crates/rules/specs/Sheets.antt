@@ -1,6 +1,6 @@
 -- Frames of 8 bits a row, and forms of their lines, for the worked cases.
 use mathlib.Core.Bool.{false}
-use mathlib.Core.List.{List, [], _∷_}
+use mathlib.Core.List.{List, [], _∷_, _++_, map}
 use mathlib.Core.Option.{none, some}
 use Prim.Native.Nat.{ℕ}
 use Prim.Native.String.{String}
@@ -9,19 +9,43 @@ use Rattle.base.specs.Bytes.{bytes}
 use Rattle.rules.specs.declared.Op.the-variants.{Eq, Add}
 use Rattle.rules.specs.Trees.{Tree, num, read, two}
 use Rattle.rules.specs.Fields.{fixed, measured, rest, Form}
-use Rattle.rules.specs.Frames.{Cell, Row, bitRow, longRow, Frame}
+use Rattle.rules.specs.Rows.{Row, bitRow, longRow}
+use Rattle.rules.specs.Frames.{Frame}
 use Rattle.rules.specs.Cases.{unnamed, named}
 
+-- some bits, and what stands there in one line
+pub record Strip : Type 0 where
+  pub bits : ℕ
+  pub text : List ℕ
+
 -- some bits that show a text with blanks before and behind it
-abbrev pub cell : ℕ → ℕ → String → ℕ → Cell
-cell bits before text behind = record { bits = bits; before = before; text = bytes text; behind = behind }
+abbrev pub cell : ℕ → ℕ → String → ℕ → Strip
+cell bits before text behind = record {
+  bits = bits;
+  text = replicate before 32 ++ (bytes text ++ replicate behind 32);
+}
+
+-- rows of one line
+abbrev pub lineOf : List Strip → Row
+lineOf ss = bitRow (map (λ s. s .bits) ss) (map (λ s. s .text) ss ∷ [])
+
+abbrev pub colonLine : Strip → Row
+colonLine s = longRow (s .bits) (s .text)
+
+-- a row of several lines
+abbrev pub linesOf : List ℕ → List (List String) → Row
+linesOf bits lines = bitRow bits (map (map bytes) lines)
+
+-- n lines of one cell
+abbrev pub many : ℕ → String → List (List String)
+many n s = replicate n (s ∷ [])
 
 -- a bit row and a long row that show one letter
 abbrev pub bitsOf : String → Row
-bitsOf l = bitRow (cell 8 7 l 7 ∷ [])
+bitsOf l = lineOf (cell 8 7 l 7 ∷ [])
 
 abbrev pub longOf : String → Row
-longOf l = longRow (cell 8 7 l 7)
+longOf l = colonLine (cell 8 7 l 7)
 
 -- a name, W, rows and lines
 abbrev pub framed : String → ℕ → List Row → List (List ℕ) → Frame

@@ -49,6 +49,9 @@ fn run_texts() {
     run_file(b"texts9");
     run_file(b"texts10");
     run_file(b"texts11");
+    run_file(b"texts12");
+    run_file(b"texts13");
+    run_file(b"texts14");
 }
 
 fn run_limits() {
@@ -60,6 +63,7 @@ fn run_limits() {
 
 fn run_tables() {
     run_file(b"tables1");
+    run_file(b"tables2");
     run_file(b"readers1");
     run_file(b"readers2");
 }
@@ -75,8 +79,6 @@ fn run_packets() {
     run_file(b"packets8");
     run_file(b"packets9");
     run_file(b"packets10");
-    run_file(b"packets11");
-    run_file(b"packets12");
 }
 
 fn run_edits() {

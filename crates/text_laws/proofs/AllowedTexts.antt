@@ -1,44 +1,27 @@
 -- The bytes of a text that spells a description are allowed.
 use mathlib.Core.Path.{_≡_, refl}
 use mathlib.Core.Bool.{Bool, true, false, cond, _||_}
-use mathlib.Core.List.{List, [], _∷_, _++_}
+use mathlib.Core.List.{List, [], _∷_, _++_, map}
 use Prim.Native.Nat.{ℕ, zero, suc, _+_, _*_, _-_, _/_, _%_, _≤_, _<_}
 use native.Mathlib.Omega.{arith}
 use lib.Dec.{eqb}
-use lib.ListN.{length, replicate}
 use borrow.Author.Tests.{eqb-true}
 use Rattle.base.specs.Bytes.{bytes}
-use Rattle.base.specs.Lists.{all, joined, sum, tabulate, Each}
-use Rattle.base.proofs.Lists.{and-left, and-both, or-left, true-between, all-append, all-weaken}
+use Rattle.base.specs.Lists.{all, joined, tabulate, Each}
+use Rattle.base.proofs.Lists.{and-right, and-both, or-left, true-between, all-append, all-weaken}
 use Rattle.base.proofs.Breaks.{or-true, all-cons}
+use Rattle.rules.specs.Limits.{rowLinesMost}
 use Rattle.rules.specs.Names.{isPrintable, isAllowed, isLabel, isShort, lineFeed}
 use Rattle.rules.specs.Fields.{Field, Description}
 use Rattle.rules.specs.Within.{isRowWidth}
 use Rattle.rules.specs.Lines.{SpellsField}
-use Rattle.rules.specs.Frames.{
-  tensAt,
-  tens,
-  unitsAt,
-  units,
-  borderAt,
-  border,
-  Cell,
-  cellText,
-  isCell,
-  Row,
-  bitRow,
-  longRow,
-  rowLines,
-  isRow,
-  Frame,
-  article,
-  headLines,
-  ended,
-  frameText,
-  FrameOf,
-}
+use Rattle.rules.specs.Rows.{Cell, cellText, Row, bitRow, longRow, barLine, rowLines, isDrawnRow, columns, isLabelled}
+use Rattle.rules.specs.Frames.{tensAt, tens, unitsAt, units, borderAt, border, isDrawn, Frame, article, headLines}
+use Rattle.rules.specs.Frames.{ended, frameText, FrameOf}
 use Rattle.rules.specs.Spelling.{Spells, NameOf}
 use Rattle.text_laws.proofs.NamedRules.{name-short}
+use Rattle.text_laws.proofs.CellTexts.{cell-all, columns-all}
+use Rattle.text_laws.proofs.RowReader.{drawn-fitted}
 use Rattle.text_laws.proofs.Resolve.{frame-parts}
 use Rattle.text_laws.proofs.AllowedLines.{printable, printable-both, label-is-printable, field-printable}
 use Rattle.text_laws.proofs.FormedLines.{formed-lines}
@@ -90,48 +73,55 @@ row-width-most w h = or-true (eqb w 8) (eqb w 16 || eqb w 32) (small 8 (omega ar
 
 -- ── rows ──
 
-blanks-printable : (n : ℕ) → printable (replicate n 32) ≡ true
+cells-printable : (cs : List Cell) → all (λ c. isLabel (cellText c)) cs ≡ true
+    → all (λ c. all printable (c .lines)) cs ≡ true
 unfolding all
-blanks-printable zero = refl
-blanks-printable (suc n) = and-both (isPrintable 32) (printable (replicate n 32)) space-printable (blanks-printable n)
-
-cell-printable : (c : Cell) → isCell c ≡ true → printable (cellText c) ≡ true
-unfolding cellText
-cell-printable c h =
-    printable-both (replicate (c .before) 32) (c .text ++ replicate (c .behind) 32) (blanks-printable (c .before))
-    (printable-both (c .text) (replicate (c .behind) 32)
-    (label-is-printable (c .text)
-    (and-left (isLabel (c .text)) (eqb (c .before + length (c .text) + c .behind + 1) (2 * c .bits)) h))
-    (blanks-printable (c .behind)))
-
-cells-printable : (cs : List Cell) → all isCell cs ≡ true → printable (joined (λ c. cellText c ++ bytes "|") cs) ≡ true
-unfolding all joined isPrintable
 cells-printable [] h = refl
 cells-printable (c ∷ cs) h =
-    let k = all-cons isCell c cs h in
-    printable-both (cellText c ++ bytes "|") (joined (λ c. cellText c ++ bytes "|") cs)
-    (printable-both (cellText c) (bytes "|") (cell-printable c (k .0)) refl) (cells-printable cs (k .1))
+    let k = all-cons (λ c. isLabel (cellText c)) c cs h in
+    and-both (all printable (c .lines)) (all (λ c. all printable (c .lines)) cs)
+    (cell-all isPrintable space-printable c (label-is-printable (cellText c) (k .0))) (cells-printable cs (k .1))
 
-row-printable : (w : ℕ) (r : Row) → isRow w r ≡ true → all printable (rowLines r) ≡ true
+strips-printable : (ss : List (List ℕ)) → all printable ss ≡ true → printable (joined (λ s. s ++ bytes "|") ss) ≡ true
+unfolding all joined isPrintable
+strips-printable [] h = refl
+strips-printable (s ∷ ss) h =
+    let k = all-cons printable s ss h in
+    printable-both (s ++ bytes "|") (joined (λ s. s ++ bytes "|") ss)
+    (printable-both s (bytes "|") (k .0) refl) (strips-printable ss (k .1))
+
+bars-printable : (lines : List (List (List ℕ))) → all (all printable) lines ≡ true
+    → all printable (map barLine lines) ≡ true
+unfolding all isPrintable
+bars-printable [] h = refl
+bars-printable (ss ∷ lines) h =
+    let k = all-cons (all printable) ss lines h in
+    and-both (printable (barLine ss)) (all printable (map barLine lines))
+    (printable-both (bytes "|") (joined (λ s. s ++ bytes "|") ss) refl (strips-printable ss (k .0)))
+    (bars-printable lines (k .1))
+
+row-printable : (w : ℕ) (r : Row) → isDrawnRow rowLinesMost w r ≡ true → isLabelled r ≡ true → all printable
+    (rowLines r) ≡ true
 unfolding all rowLines isPrintable
-row-printable w (bitRow cs) h =
-    and-both (printable (bytes "|" ++ joined (λ c. cellText c ++ bytes "|") cs)) true
-    (printable-both (bytes "|") (joined (λ c. cellText c ++ bytes "|") cs) refl
-    (cells-printable cs (and-left (all isCell cs) (eqb (sum (λ c. c .bits) cs) w) h))) refl
-row-printable w (longRow c) h =
-    and-both (printable (bytes ":" ++ (cellText c ++ bytes ":"))) true
-    (printable-both (bytes ":") (cellText c ++ bytes ":") refl
-    (printable-both (cellText c) (bytes ":") (cell-printable c (and-left (isCell c) (eqb (c .bits) w) h)) refl)) refl
+row-printable w (bitRow bits lines) d h =
+    bars-printable lines (columns-all printable bits lines (drawn-fitted w bits lines d)
+    (cells-printable (columns bits lines) h))
+row-printable w (longRow n s) d h =
+    let c : Cell = record { bits = n; lines = s ∷ [] } in
+    let k = all-cons printable s [] (all-cons (λ c. all printable (c .lines)) c [] (cells-printable (c ∷ []) h) .0) in
+    and-both (printable (bytes ":" ++ (s ++ bytes ":"))) true
+    (printable-both (bytes ":") (s ++ bytes ":") refl (printable-both s (bytes ":") (k .0) refl)) refl
 
-rows-printable : (w : ℕ) (rows : List Row) → all (isRow w) rows ≡ true
+rows-printable : (w : ℕ) (rows : List Row) → all (isDrawnRow rowLinesMost w) rows ≡ true → all isLabelled rows ≡ true
     → all printable (joined (λ r. rowLines r ++ (border w ∷ [])) rows) ≡ true
 unfolding all joined
-rows-printable w [] h = refl
-rows-printable w (r ∷ rows) h =
-    let k = all-cons (isRow w) r rows h in
+rows-printable w [] d h = refl
+rows-printable w (r ∷ rows) d h =
+    let k = all-cons (isDrawnRow rowLinesMost w) r rows d in
+    let m = all-cons isLabelled r rows h in
     all-append printable (rowLines r ++ (border w ∷ [])) (joined (λ r. rowLines r ++ (border w ∷ [])) rows)
-    (all-append printable (rowLines r) (border w ∷ []) (row-printable w r (k .0))
-    (and-both (printable (border w)) true (border-printable w) refl)) (rows-printable w rows (k .1))
+    (all-append printable (rowLines r) (border w ∷ []) (row-printable w r (k .0) (m .0))
+    (and-both (printable (border w)) true (border-printable w) refl)) (rows-printable w rows (k .1) (m .1))
 
 -- ── the whole ──
 
@@ -150,7 +140,8 @@ head-printable text f h =
     let rows : all printable (joined (λ r. rowLines r ++ (border (f .rowWidth) ∷ [])) (f .rows)
     ++ ([] ∷ bytes "where:" ∷ [] ∷ [])) ≡ true =
     all-append printable (joined (λ r. rowLines r ++ (border (f .rowWidth) ∷ [])) (f .rows))
-    ([] ∷ bytes "where:" ∷ [] ∷ []) (rows-printable (f .rowWidth) (f .rows) (p .2)) refl in
+    ([] ∷ bytes "where:" ∷ [] ∷ []) (rows-printable (f .rowWidth) (f .rows) (p .2)
+    (and-right (isDrawn f) (all isLabelled (f .rows)) (h .isFramed))) refl in
     rw (
       opening,
       tens-printable (f .rowWidth) (row-width-most (f .rowWidth) (p .1)),

@@ -20,6 +20,7 @@ use Rattle.rules.specs.Spelling.{Spells}
 use Rattle.rules.specs.Answers.{Answer, refused}
 use Rattle.rules.specs.Refusals.{
   RightLines,
+  wrongLine,
   Formless,
   FirstFormless,
   ruleBroken,
@@ -78,7 +79,8 @@ module _ (text out : List ℕ) where
 
   abbrev Third : Outcome → Type 0
   Third o =
-      ((k : ℕ) × ((f : Frame) → FrameOf text f → ⊥) × RightLines text k × (o ≡ leaves (refused 3 (suc k)) out))
+      ((k : ℕ) × ((f : Frame) → FrameOf text f → ⊥) × (r : RightLines text k)
+      × (o ≡ leaves (refused 3 (wrongLine k (r .begins .frame))) out))
       ⊎ ((f : Frame) × FrameOf text f × Fourth f o)
 
   abbrev Second : Outcome → Type 0
@@ -91,7 +93,8 @@ module _ (text out : List ℕ) where
 module _
     (frame-unique : (t : List ℕ) (f g : Frame) → FrameOf t f → FrameOf t g → f ≡ g)
     (form-unique : (l : List ℕ) (x y : Form) → SpellsField Unresolved x l → SpellsField Unresolved y l → x ≡ y)
-    (right-unique : (t : List ℕ) (j k : ℕ) → RightLines t j → RightLines t k → j ≡ k)
+    (place-unique : (t : List ℕ) (j k : ℕ) (x : RightLines t j) (y : RightLines t k)
+    → wrongLine j (x .begins .frame) ≡ wrongLine k (y .begins .frame))
   where
     -- ── forms ──
 
@@ -176,7 +179,7 @@ module _
 
       only-third : (o p : Outcome) → Third text out o → Third text out p → o ≡ p
       only-third o p (inl x) (inl y) =
-          x .3 ∙ ap (λ (k : ℕ). leaves (refused 3 (suc k)) out) (right-unique text (x .0) (y .0) (x .2) (y .2))
+          x .3 ∙ ap (λ (p : ℕ). leaves (refused 3 p) out) (place-unique text (x .0) (y .0) (x .2) (y .2))
           ∙ sym (y .3)
       only-third o p (inl x) (inr y) = absurd (x .1 (y .0) (y .1))
       only-third o p (inr x) (inl y) = absurd (y .1 (x .0) (x .1))

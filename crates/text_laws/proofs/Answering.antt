@@ -17,50 +17,31 @@ use Rattle.rules.specs.Names.{isAllowed, lineFeed}
 use Rattle.rules.specs.Fields.{Form, Description}
 use Rattle.rules.specs.Stored.{stored}
 use Rattle.rules.specs.Lines.{SpellsField, Unresolved}
-use Rattle.rules.specs.Frames.{Row, Frame, frameText, FrameOf, headLines, slotsIn, cells, isOverfull}
-use Rattle.rules.specs.Refusals.{ruleBroken, Plain, Framed, Refuses, long, byte, line, many}
-use Rattle.rules.specs.Refusals.{form, rule}
+use Rattle.rules.specs.Rows.{Row}
+use Rattle.rules.specs.Frames.{Frame, frameText, FrameOf, headLines, slotsIn, cells, isOverfull}
+use Rattle.rules.specs.Refusals.{ruleBroken, Plain, Framed, Refuses, long, byte, line, many, form, rule}
 use Rattle.rules.specs.Promises.{Outcome, leaves, delivered, ReadsText, spelled, refuses}
-use Rattle.text_laws.specs.FrameReader.{
-  rest,
-  linesOf,
-  Top,
-  State,
-  begun,
-  named,
-  spaced,
-  ruled,
-  counted,
-  bordered,
-  rowed,
-}
-use Rattle.text_laws.specs.FrameReader.{
-  closed,
-  headed,
-  filled,
-  onState,
-  run,
-  rightFrom,
-  rightLines,
-  whole,
-  readFrame,
-}
+use Rattle.text_laws.specs.FrameReader.{rest, linesOf, Top, State, begun, named, spaced, ruled, counted}
+use Rattle.text_laws.specs.FrameReader.{bordered, rowed, closed, headed, filled, rightLines, whole, readFrame}
+use Rattle.text_laws.specs.FrameReader.{strictRun, stopAt, strictPlace}
 use Rattle.text_laws.specs.Resolving.{resolve, described}
 use Rattle.text_laws.proofs.SplitLaws.{lines-joined}
 use Rattle.text_laws.proofs.FrameRun.{frame-kept, frameLines, lines-are-lines}
-use Rattle.text_laws.proofs.FrameRight.{right-all, right-lines}
-use Rattle.text_laws.proofs.FrameExact.{frame-sound, frame-none}
+use Rattle.text_laws.proofs.FrameRight.{right-lines}
+use Rattle.text_laws.proofs.FramePlace.{place-right}
+use Rattle.text_laws.proofs.StrictTexts.{strict-place, strict-read, strict-unread, strict-end}
+use Rattle.text_laws.proofs.FrameExact.{frame-sound, frame-none, frame-drawn}
 use Rattle.text_laws.proofs.NamedTypes.{rules-kept}
 use Rattle.text_laws.proofs.Resolve.{resolved-spells}
 use Rattle.text_laws.specs.Lowest.{lower}
 use Rattle.text_laws.specs.Judging.{face}
-use Rattle.text_laws.specs.Fold.{Stage, fieldLine, Found, start, Kept, fresh}
-use Rattle.text_laws.specs.Fold.{lined, kept, early, uncelled, lowestAt, foundDescription, outcome}
-use Rattle.text_laws.specs.Fold.{finish}
+use Rattle.text_laws.specs.Fold.{Stage, fieldLine, Found, start, Kept, fresh, lined, kept, early, uncelled}
+use Rattle.text_laws.specs.Fold.{lowestAt, foundDescription, outcome, finish}
 use Rattle.text_laws.proofs.Lowests.{Above, lower-stays}
 use Rattle.text_laws.proofs.Resolved.{folded, folded-faces, folded-all}
 use Rattle.text_laws.proofs.Judges.{Spelled, Judges, all-kept, over-size, no-form-at}
-use Rattle.text_laws.proofs.Heads.{Fills, fits, spills, stageOf, Stands, start-stands, Ran, run-stands}
+use Rattle.text_laws.proofs.HeadFills.{Fills, fits, spills}
+use Rattle.text_laws.proofs.Heads.{stageOf, Stands, start-stands, stands-blamed, Ran, run-stands}
 use Rattle.text_laws.proofs.Fed.{kept-lines, Lost, too-long, bad-bytes}
 use Rattle.text_laws.proofs.Ended.{remaining, rules-found}
 
@@ -166,59 +147,70 @@ module _ (text out : List ℕ) (plain : Plain text) (f : Frame) (isFrameOf : Fra
 frame-lines : (text : List ℕ) (f : Frame) → FrameOf text f → linesOf text ≡ headLines f ++ f .lines
 unfolding frameText
 frame-lines text f h =
-    ap linesOf (sym (h .isText)) ∙ lines-joined (frameLines f) (lines-are-lines f (frame-kept f (h .isFramed)))
+    ap linesOf (sym (h .isText)) ∙ lines-joined (frameLines f) (lines-are-lines f (frame-kept f (frame-drawn text f h
+    .drawn)))
 
 module _ (text out : List ℕ) (plain : Plain text) (g : Found) (r : List ℕ) (isRest : rest lineFeed text ≡ r) where
   abbrev Ends : Option Answer → Type 0
   Ends o = ReadsText text out (outcome g out o)
 
   -- 3
-  wrong-line : (o : Option Answer) → o ≡ some (refused 3 (suc (rightLines text))) → readFrame text ≡ none → Ends o
-  wrong-line o e n = subst Ends (sym e) (refuses (line plain (frame-none text n) (right-lines text)))
+  wrong-line : (o : Option Answer) → o ≡ some (refused 3 (strictPlace 0 begun (linesOf text))) → readFrame text ≡ none
+      → Ends o
+  wrong-line o e n =
+      subst Ends
+      (ap (λ (p : ℕ). some (refused 3 p)) (place-right text (rightLines text) (right-lines text) ∙ strict-place text)
+      ∙ sym e)
+      (refuses (line plain (frame-none text n) (right-lines text)))
 
   -- no frame is read
-  no-frame : (o : Option State) → run begun (linesOf text) ≡ o → onState none whole o ≡ none → readFrame text ≡ none
-  unfolding readFrame
-  no-frame o e h = rw (e, h) (go (isEmpty (rest lineFeed text)))
+  no-frame : (q : State) → strictRun begun (linesOf text) ≡ some q → whole q ≡ none → readFrame text ≡ none
+  no-frame q e h =
+      strict-read text q e
+      ∙ ap (λ (o : Option Frame). cond (isEmpty (rest lineFeed text)) o none) h
+      ∙ go (isEmpty (rest lineFeed text))
     where
       go : (b : Bool) → cond {A = Option Frame} b none none ≡ none
       go true = refl
       go false = refl
 
-  no-end : isEmpty r ≡ false → readFrame text ≡ none
-  unfolding readFrame
-  no-end e = rw (isRest, e) refl
+  no-end : (q : State) → strictRun begun (linesOf text) ≡ some q → isEmpty r ≡ false → readFrame text ≡ none
+  no-end q e h = strict-read text q e ∙ rw (isRest, h) refl
 
-  module _ (q : State) (isRun : run begun (linesOf text) ≡ some q) (h : Stands (rightFrom begun (linesOf text)) q g)
-    where
-      -- the text ends early
-      ends-early : readFrame text ≡ none → lowestAt (stageOf q) r g ≡ early g → Ends (lowestAt (g .stage) r g)
-      unfolding rightLines
-      ends-early n e =
-          wrong-line (lowestAt (g .stage) r g)
-          (ap (λ (s : Stage). lowestAt s r g) (h .stage) ∙ e ∙ ap (λ (k : ℕ). some (refused 3 (suc k))) (h .lines)) n
+  module _ (q : State) (isRun : strictRun begun (linesOf text) ≡ some q) (h : Stands (length (linesOf text)) q g) where
+    -- the text ends early
+    ends-early : readFrame text ≡ none → lowestAt (stageOf q) r g ≡ early g → Ends (lowestAt (g .stage) r g)
+    ends-early n e =
+        let z : 0 + length (linesOf text) ≡ length (linesOf text) = omega arith in
+        wrong-line (lowestAt (g .stage) r g)
+        (ap (λ (s : Stage). lowestAt s r g) (h .stage)
+        ∙ e
+        ∙ ap (λ (k : ℕ). some (refused 3 k))
+        (stands-blamed (length (linesOf text)) q g h
+        ∙ sym (strict-end (linesOf text) 0 begun q isRun ∙ ap (λ (n : ℕ). stopAt n q) z)))
+        n
 
-      early-state : whole q ≡ none → lowestAt (stageOf q) r g ≡ early g → Ends (lowestAt (g .stage) r g)
-      early-state n e = ends-early (no-frame (some q) isRun n) e
+    early-state : whole q ≡ none → lowestAt (stageOf q) r g ≡ early g → Ends (lowestAt (g .stage) r g)
+    early-state n e = ends-early (no-frame q isRun n) e
 
   -- a frame
   by-frame : (t : Top) (rows : List Row) (m : List ℕ) (ms : List (List ℕ))
-      → run begun (linesOf text) ≡ some (filled t rows (m ∷ ms)) → r ≡ []
-      → Stands (rightFrom begun (linesOf text)) (filled t rows (m ∷ ms)) g
+      → strictRun begun (linesOf text) ≡ some (filled t rows (m ∷ ms)) → r ≡ []
+      → Stands (length (linesOf text)) (filled t rows (m ∷ ms)) g
       → Ends (lower (g .judged .lowest) (uncelled g))
-  unfolding readFrame whole cells
+  unfolding whole cells
   by-frame t rows m ms e k h =
       let f : Frame = record { an = t .an; name = t .name; rowWidth = t .rowWidth; rows = rows; lines = m ∷ ms } in
-      let isFrameOf : FrameOf text f = frame-sound text f (rw (isRest, k, e) refl) in
-      let n : rightFrom begun (linesOf text) ≡ length (headLines f ++ (m ∷ ms)) =
-      right-all (linesOf text) begun (filled t rows (m ∷ ms)) e ∙ ap length (frame-lines text f isFrameOf) in
+      let isFrameOf : FrameOf text f = frame-sound text f
+      (strict-read text (filled t rows (m ∷ ms)) e ∙ rw (isRest, k) refl) in
+      let n : length (linesOf text) ≡ length (headLines f ++ (m ∷ ms)) = ap length (frame-lines text f isFrameOf) in
       let all-lines : length (headLines f ++ (m ∷ ms)) ≡ length (headLines f) + length (m ∷ ms) =
       length-append (headLines f) (m ∷ ms) in
       let from : h .from ≡ length (headLines f) = let c = h .counts in omega (arith, c, n, all-lines) in
       by-fields text out plain f isFrameOf g (h .name) (h .width) (h .lines ∙ n ∙ all-lines)
       (subst (λ (p : ℕ). Fills (joined slotsIn rows) (suc p) (m ∷ ms) (g .cells) (g .judged)) from (h .fills))
 
-  by-state : (q : State) → run begun (linesOf text) ≡ some q → Stands (rightFrom begun (linesOf text)) q g
+  by-state : (q : State) → strictRun begun (linesOf text) ≡ some q → Stands (length (linesOf text)) q g
       → Ends (lowestAt (g .stage) r g)
   unfolding lowestAt whole
   by-state begun e h = early-state begun e h refl refl
@@ -240,25 +232,24 @@ module _ (text out : List ℕ) (plain : Plain text) (g : Found) (r : List ℕ) (
           ap₂ (λ (x : Stage) (l : List ℕ). lowestAt x l g) (h .stage) k in
           subst Ends (sym o) (by-frame t rows m ms e k h)
       go (b ∷ s) k =
-          ends-early (filled t rows (m ∷ ms)) e h (no-end (rw k refl)) (ap (λ (l : List ℕ). lowestAt fieldLine l g) k)
+          ends-early (filled t rows (m ∷ ms)) e h
+          (no-end (filled t rows (m ∷ ms)) e (rw k refl)) (ap (λ (l : List ℕ). lowestAt fieldLine l g) k)
 
-  by-run : (o : Option State) → run begun (linesOf text) ≡ o → Ran 0 (rightFrom begun (linesOf text)) o g
-      → Ends (lowestAt (g .stage) r g)
-  unfolding lowestAt rightLines
+  by-run : (o : Option State) → strictRun begun (linesOf text) ≡ o
+      → Ran (0 + length (linesOf text)) (strictPlace 0 begun (linesOf text)) o g → Ends (lowestAt (g .stage) r g)
+  unfolding lowestAt
   by-run none e h =
-      let z : 0 + rightFrom begun (linesOf text) ≡ rightFrom begun (linesOf text) = omega arith in
-      wrong-line (lowestAt (g .stage) r g)
-      (ap (λ (s : Stage). lowestAt s r g) (h .0) ∙ h .1 ∙ ap (λ (k : ℕ). some (refused 3 (suc k))) z)
-      (no-frame none e refl)
+      wrong-line (lowestAt (g .stage) r g) (ap (λ (s : Stage). lowestAt s r g) (h .0) ∙ h .1) (strict-unread text e)
   by-run (some q) e h =
-      let z : 0 + rightFrom begun (linesOf text) ≡ rightFrom begun (linesOf text) = omega arith in
+      let z : 0 + length (linesOf text) ≡ length (linesOf text) = omega arith in
       by-state q e (subst (λ (n : ℕ). Stands n q g) z h)
 
 plain-answers : (text out : List ℕ) → Plain text → ReadsText text out (finish (kept text) out)
 unfolding finish
 plain-answers text out plain =
     subst (λ (k : Kept). ReadsText text out (finish k out)) (sym (kept-lines text (plain .bytes) (plain .size)))
-    (by-run text out plain (foldl lined start (linesOf text)) (rest lineFeed text) refl (run begun (linesOf text)) refl
+    (by-run text out plain (foldl lined start (linesOf text)) (rest lineFeed text) refl
+    (strictRun begun (linesOf text)) refl
     (run-stands (linesOf text) 0 begun start start-stands))
 
 -- ── the main law ──

@@ -1,7 +1,7 @@
 -- What is kept has a fixed size: the bounds that the code's buffers need.
 use mathlib.Core.Path.{_≡_, refl, ap, ap₂, _∙_}
 use mathlib.Core.Bool.{Bool, true, false, cond, _&&_}
-use mathlib.Core.List.{List, [], _∷_, _++_, map, foldl}
+use mathlib.Core.List.{List, [], _∷_, _++_, foldl}
 use mathlib.Core.Option.{Option, none, some, Option·map}
 use Prim.Native.Nat.{ℕ, suc, _-_, _≤_, _<_, max}
 use native.Mathlib.Omega.{arith}
@@ -9,29 +9,32 @@ use lib.Dec.{ltb, leb, eqb}
 use lib.ListN.{length, length-append, take, drop}
 use borrow.Author.Tests.{ltb-true, ltb-false, leb-true, leb-false}
 use Rattle.base.specs.Bytes.{bytes}
-use Rattle.base.specs.Lists.{all, listOf, same}
+use Rattle.base.specs.Lists.{all, listOf, same, ifAny}
 use Rattle.base.proofs.Lists.{and-left, and-right, and-both, all-append, not-both, or-false-right}
 use Rattle.rules.specs.Answers.{Answer, refused}
-use Rattle.rules.specs.Limits.{textMost, fieldsMost, labelMost}
+use Rattle.rules.specs.Limits.{textMost, fieldsMost, labelMost, rowLinesMost}
 use Rattle.rules.specs.Names.{isLabel, isAllowed, lineFeed}
 use Rattle.rules.specs.Operators.{code}
 use Rattle.rules.specs.Trees.{Tree, num, read, two, negation, depth, storedTree, isInRange, isSmall, isNumber}
 use Rattle.rules.specs.Fields.{Width, fixed, measured, rest, Field, Form, trees, widthTrees}
 use Rattle.rules.specs.Within.{isWidth, isFormed, keepsSize}
-use Rattle.rules.specs.Frames.{Cell, Row, bitRow, longRow, isCell, isRow, Slot, slotsIn, tens, units, border}
-use Rattle.text_laws.specs.FrameReader.{readName, readTens, readRow, closing}
+use Rattle.rules.specs.Rows.{Row, rowLines, isDrawnRow, isLabelled}
+use Rattle.rules.specs.Frames.{Slot, slotsIn, tens, units, border}
+use Rattle.text_laws.specs.FrameReader.{readName, readTens, readRow, moreRow, closing}
 use Rattle.text_laws.specs.LineReader.{readForm}
 use Rattle.text_laws.specs.Resolving.{indexOf, renameTree, renameWidth, renameField}
 use Rattle.text_laws.proofs.FormExact.{form-sound}
-use Rattle.text_laws.proofs.RowReader.{Reads, row-sound}
 use Rattle.text_laws.specs.Lowest.{lower, broken}
-use Rattle.text_laws.specs.Judging.{faces, resolvedIn, rules, Judged, isOpen, isMany, isFull, many}
-use Rattle.text_laws.specs.Judging.{withForm, judge}
-use Rattle.text_laws.specs.Fold.{Stage, opening, blank, tensRuler, unitsRuler, topBorder, firstRow, rowBorder}
-use Rattle.text_laws.specs.Fold.{rowOrBlank, whereLine, lastBlank, firstField, fieldLine, lost, Found}
-use Rattle.text_laws.specs.Fold.{Kept, fresh, onward, losing, wrong, expect, openingName, withName, withWidth}
-use Rattle.text_laws.specs.Fold.{withRow, withField, linedAt, lined, put, over, fed, kept}
+use Rattle.text_laws.specs.Judging.{faces, resolvedIn, rules, Judged, isOpen, isMany, isFull, many, withForm}
+use Rattle.text_laws.specs.Judging.{judge}
+use Rattle.text_laws.proofs.RowReader.{Reads, row-sound, more-sound}
+use Rattle.text_laws.specs.Fold.{Stage, opening, blank, tensRuler, unitsRuler, topBorder, firstRow, inRow}
+use Rattle.text_laws.specs.Fold.{rowOrBlank, whereLine, lastBlank, firstField, fieldLine, lost, Found, Kept}
+use Rattle.text_laws.specs.Fold.{fresh, onward, losing, blamed, wrong, withLine, withCells, onMore, withMore}
+use Rattle.text_laws.specs.Fold.{expect, openingName, withName, withWidth, withRow, withField, linedAt, lined}
+use Rattle.text_laws.specs.Fold.{put, over, fed, kept}
 use Rattle.text_laws.specs.Steady.{isKept, FewFields, Small}
+use Rattle.text_laws.proofs.CellTexts.{row-labels}
 
 -- ── names resolved in whatever way: the same form and size ──
 
@@ -173,21 +176,22 @@ few-judge cells p j l h = go (isFull j) refl
 
 -- ── lines ──
 
-small-same : (f g : Found) → f .name ≡ g .name → f .width ≡ g .width → f .cells ≡ g .cells → FewFields (g .judged)
-    → Small f → Small g
-small-same f g name width cells h s = record {
+small-same : (f g : Found) → f .name ≡ g .name → f .width ≡ g .width → f .cells ≡ g .cells
+    → ifAny (isDrawnRow rowLinesMost (g .width)) (g .row) ≡ true → FewFields (g .judged) → Small f → Small g
+small-same f g name width cells row h s = record {
   name = rw name at (s .name);
   width = rw width at (s .width);
+  row = row;
   cells = rw cells at (s .cells);
   texts = rw cells at (s .texts);
   judged = h;
 }
 
 small-onward : (s : Stage) (f : Found) → Small f → Small (onward s f)
-small-onward s f h = small-same f (onward s f) refl refl refl (h .judged) h
+small-onward s f h = small-same f (onward s f) refl refl refl (h .row) (h .judged) h
 
 small-losing : (a : Answer) (f : Found) → Small f → Small (losing a f)
-small-losing a f h = small-same f (losing a f) refl refl refl
+small-losing a f h = small-same f (losing a f) refl refl refl (h .row)
     (record { count = h .judged .count; fields = h .judged .fields; formed = h .judged .formed }) h
 
 small-expect : (w : List ℕ) (s : Stage) (f : Found) (l : List ℕ) → Small f → Small (expect w s f l)
@@ -195,7 +199,7 @@ small-expect w s f l h = go (same l w)
   where
     go : (b : Bool) → Small (cond b (onward s f) (wrong f))
     go true = small-onward s f h
-    go false = small-losing (refused 3 (suc (f .lines))) f h
+    go false = small-losing (refused 3 (blamed (f .row) (f .lines))) f h
 
 label-short : (w : List ℕ) → isLabel w ≡ true → length w ≤ labelMost
 unfolding isLabel
@@ -228,10 +232,11 @@ opening-label l = go (same (take 3 l) (bytes "An ")) (same (take 2 l) (bytes "A 
     go false false = tt
 
 small-name : (f : Found) (o : Option (List ℕ)) → Labels o → Small f → Small (withName f o)
-small-name f none k h = small-losing (refused 3 (suc (f .lines))) f h
+small-name f none k h = small-losing (refused 3 (blamed (f .row) (f .lines))) f h
 small-name f (some n) k h = record {
   name = label-short n k;
   width = h .width;
+  row = h .row;
   cells = h .cells;
   texts = h .texts;
   judged = h .judged;
@@ -245,6 +250,7 @@ small-tens f l h = go (same l (tens 8)) (same l (tens 16)) (same l (tens 32))
     some-width w le = record {
       name = h .name;
       width = le;
+      row = refl;
       cells = h .cells;
       texts = h .texts;
       judged = h .judged;
@@ -254,46 +260,25 @@ small-tens f l h = go (same l (tens 8)) (same l (tens 16)) (same l (tens 32))
     go true b c = some-width 8 (omega arith)
     go false true c = some-width 16 (omega arith)
     go false false true = some-width 32 (omega arith)
-    go false false false = small-losing (refused 3 (suc (f .lines))) f h
+    go false false false = small-losing (refused 3 (blamed (f .row) (f .lines))) f h
 
--- a row's cells show labels
-cells-labels : (cs : List Cell) → all isCell cs ≡ true
-    → all (λ (c : Slot). isLabel (c .text)) (map (λ (c : Cell). record {
-      long = false;
-      bits = c .bits;
-      text =
-          c .text;
-    }) cs)
-    ≡ true
-unfolding all
-cells-labels [] h = refl
-cells-labels (c ∷ cs) h =
-    let k : isCell c ≡ true = and-left (isCell c) (all isCell cs) h in
-    rw (and-left (isLabel (c .text)) _ k, cells-labels cs (and-right (isCell c) (all isCell cs) h)) refl
-
-pub row-labels : (w : ℕ) (r : Row) → isRow w r ≡ true → all (λ c. isLabel (c .text)) (slotsIn r) ≡ true
-unfolding all
-row-labels w (bitRow cs) h = cells-labels cs (and-left (all isCell cs) _ h)
-row-labels w (longRow c) h =
-    let k : isCell c ≡ true = and-left (isCell c) (eqb (c .bits) w) h in
-    rw (and-left (isLabel (c .text)) _ k) refl
-
-small-row : (w : ℕ) (l : List ℕ) (f : Found) (o : Option Row) → Reads w l o → Small f → Small (withRow f o)
-small-row w l f none k h = small-losing (refused 3 (suc (f .lines))) f h
-small-row w l f (some r) k h = go (ltb fieldsMost (length (f .cells ++ slotsIn r))) refl
+small-ended : (f : Found) (r : Row) → isLabelled r ≡ true → Small f → Small (withCells f (f .cells ++ slotsIn r))
+small-ended f r k h = go (ltb fieldsMost (length (f .cells ++ slotsIn r))) refl
   where
     go : (b : Bool) → ltb fieldsMost (length (f .cells ++ slotsIn r)) ≡ b
         → Small (record {
           lines = suc (f .lines);
-          stage = rowBorder;
+          stage = rowOrBlank;
           name = f .name;
           width = f .width;
+          row = none;
           cells = cond b (f .cells) (f .cells ++ slotsIn r);
           judged = cond b (many (f .judged)) (f .judged);
         })
     go true e = record {
       name = h .name;
       width = h .width;
+      row = refl;
       cells = h .cells;
       texts = h .texts;
       judged = record { count = h .judged .count; fields = h .judged .fields; formed = h .judged .formed };
@@ -301,14 +286,37 @@ small-row w l f (some r) k h = go (ltb fieldsMost (length (f .cells ++ slotsIn r
     go false e = record {
       name = h .name;
       width = h .width;
+      row = refl;
       cells = ltb-false fieldsMost (length (f .cells ++ slotsIn r)) e;
-      texts = all-append (λ c. isLabel (c .text)) (f .cells) (slotsIn r) (h .texts) (row-labels w r (k .0));
+      texts = all-append (λ c. isLabel (c .text)) (f .cells) (slotsIn r) (h .texts) (row-labels r k);
       judged = h .judged;
     }
 
+small-wrong : (f : Found) → Small f → Small (wrong f)
+small-wrong f h = small-losing (refused 3 (blamed (f .row) (f .lines))) f h
+
+small-row : (f : Found) (ls : List (List ℕ)) (o : Option Row) → Reads (f .width) ls o → Small f → Small (withRow f o)
+small-row f ls none k h = small-wrong f h
+small-row f ls (some r) k h = small-same f (withLine f r) refl refl refl (k .0) (h .judged) h
+
+small-more : (f : Found) (l : List ℕ) (o : Option Row) → Small f → Small (withMore f l o)
+small-more f l none h = small-wrong f h
+small-more f l (some r) h = go (moreRow (f .width) r l) (more-sound (f .width) r l)
+  where
+    on : (a : Bool) → isLabelled r ≡ a → (b : Bool)
+        → Small (cond a (cond b (withCells f (f .cells ++ slotsIn r)) (wrong f)) (wrong f))
+    on true e true = small-ended f r e h
+    on true e false = small-wrong f h
+    on false e b = small-wrong f h
+
+    go : (o : Option Row) → Reads (f .width) (rowLines r ++ (l ∷ [])) o → Small (onMore f (f .width) r l o)
+    go none k = on (isLabelled r) refl (same l (border (f .width)))
+    go (some x) k = small-same f (withLine f x) refl refl refl (k .0) (h .judged) h
+
 small-field : (f : Found) (l : List ℕ) → Small f → Small (withField f l)
 small-field f l h =
-    small-same f (withField f l) refl refl refl (few-judge (f .cells) (suc (f .lines)) (f .judged) l (h .judged)) h
+    small-same f (withField f l) refl refl refl (h .row)
+    (few-judge (f .cells) (suc (f .lines)) (f .judged) l (h .judged)) h
 
 pub small-line : (s : Stage) (f : Found) (l : List ℕ) → Small f → Small (linedAt s f l)
 unfolding linedAt
@@ -317,11 +325,11 @@ small-line blank f l h = small-expect [] tensRuler f l h
 small-line tensRuler f l h = small-tens f l h
 small-line unitsRuler f l h = small-expect (units (f .width)) topBorder f l h
 small-line topBorder f l h = small-expect (border (f .width)) firstRow f l h
-small-line firstRow f l h = small-row (f .width) l f (readRow (f .width) l) (row-sound (f .width) l) h
-small-line rowBorder f l h = small-expect (border (f .width)) rowOrBlank f l h
+small-line firstRow f l h = small-row f (l ∷ []) (readRow (f .width) l) (row-sound (f .width) l) h
+small-line inRow f l h = small-more f l (f .row) h
 small-line rowOrBlank f [] h = small-onward whereLine f h
 small-line rowOrBlank f (b ∷ l) h =
-    small-row (f .width) (b ∷ l) f (readRow (f .width) (b ∷ l)) (row-sound (f .width) (b ∷ l)) h
+    small-row f ((b ∷ l) ∷ []) (readRow (f .width) (b ∷ l)) (row-sound (f .width) (b ∷ l)) h
 small-line whereLine f l h = small-expect (bytes "where:") lastBlank f l h
 small-line lastBlank f l h = small-expect [] firstField f l h
 small-line firstField f l h = small-field f l h
@@ -378,6 +386,7 @@ kept-bounded t = bounded-all t fresh (record {
   found = record {
     name = omega arith;
     width = omega arith;
+    row = refl;
     cells = omega arith;
     texts = refl;
     judged = record { count = omega arith; fields = omega arith; formed = refl };

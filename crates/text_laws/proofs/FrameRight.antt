@@ -8,15 +8,16 @@ use Prim.Native.Nat.{ℕ, zero, suc, _≤_, _<_}
 use native.Mathlib.Omega.{arith}
 use lib.Dec.{ltb}
 use lib.ListN.{length, take, drop, take-append-drop}
-use lib.Seq.{take-length}
 use borrow.Author.Tests.{ltb-true, ltb-false}
 use Rattle.base.specs.Lists.{all, joined}
 use Rattle.base.proofs.Lists.{all-front}
 use Rattle.base.proofs.Joined.{joined-append}
 use Rattle.rules.specs.Names.{lineFeed}
 use Rattle.rules.specs.Frames.{isLine, ended, Frame, frameText}
-use Rattle.rules.specs.Refusals.{lineCount, Begins, RightLines}
-use Rattle.text_laws.specs.FrameReader.{linesOf, State, begun, filled, step, onState, run, rightFrom, rightLines}
+use Rattle.rules.specs.Rows.{Row}
+use Rattle.rules.specs.Refusals.{lineCount, firstLines, Begins, RightLines}
+use Rattle.text_laws.specs.FrameReader.{linesOf, State, begun, filled, step, onState, run, rightFrom}
+use Rattle.text_laws.specs.FrameReader.{rightLines}
 use Rattle.text_laws.proofs.SplitLaws.{pieces-joined, pieces-are-free, lines-joined, lineCount-lines}
 use Rattle.text_laws.proofs.SplitLaws.{firstLines-lines}
 use Rattle.text_laws.proofs.FrameStates.{stateLines, Reached}
@@ -63,20 +64,9 @@ right-most (l ∷ ls) s (suc j) lt le = go (step s l) (right-most ls) lt
     go none f h = refl
     go (some q) f h = f q j (omega arith) (omega arith)
 
--- all of them, where the reader comes to the end
-pub right-all : (ls : List (List ℕ)) (s q : State) → run s ls ≡ some q → rightFrom s ls ≡ length ls
-right-all ls s q e = go (ltb (rightFrom s ls) (length ls)) refl
-  where
-    go : (x : Bool) → ltb (rightFrom s ls) (length ls) ≡ x → rightFrom s ls ≡ length ls
-    go true p =
-        let m = right-most ls s (length ls) (ltb-true (rightFrom s ls) (length ls) p) (omega arith) in
-        let n : run s ls ≡ none = rw (take-length ls) at m in
-        absurd (let z : _≡_ {A = ℕ} 0 1 = cc in omega arith)
-    go false p = let m = ltb-false (rightFrom s ls) (length ls) p in let n = right-there ls s in omega arith
-
 -- ── lines that are read begin a frame, and the other way round ──
 
-run-append : (a b : List (List ℕ)) (s : State) → run s (a ++ b) ≡ onState none (λ q. run q b) (run s a)
+pub run-append : (a b : List (List ℕ)) (s : State) → run s (a ++ b) ≡ onState none (λ q. run q b) (run s a)
 unfolding run
 run-append [] b s = refl
 run-append (l ∷ a) b s = go (step s l) (run-append a b)
@@ -86,10 +76,21 @@ run-append (l ∷ a) b s = go (step s l) (run-append a b)
     go none f = refl
     go (some q) f = f q
 
-take-lines : (k : ℕ) (t : List ℕ) → all isLine (take k (linesOf t)) ≡ true
+pub take-lines : (k : ℕ) (t : List ℕ) → all isLine (take k (linesOf t)) ≡ true
 take-lines k t =
     all-front isLine (take k (linesOf t)) (drop k (linesOf t))
     (rw (take-append-drop k (linesOf t)) (pieces-are-free lineFeed t))
+
+-- the text of a frame that begins with the lines of a state
+pub ahead-text : (p : Row → Bool) (t : List ℕ) (k : ℕ) (q : State) → k ≤ lineCount t
+    → stateLines q ≡ take k (linesOf t) → (a : Ahead p (stateLines q))
+    → frameText (a .frame) ≡ firstLines k t ++ joined ended (a .behind)
+unfolding frameText
+ahead-text p t k q le e a =
+    ap (joined ended) (a .isBegun ∙ ap (λ (m : List (List ℕ)). m ++ a .behind) e)
+    ∙ joined-append ended (take k (linesOf t)) (a .behind)
+    ∙ ap (λ (m : List ℕ). m ++ joined ended (a .behind))
+    (sym (firstLines-lines k t (rw (lineCount-lines t) at le)))
 
 pub run-begins : (t : List ℕ) (k : ℕ) (q : State) → k ≤ lineCount t → run begun (take k (linesOf t)) ≡ some q
     → Begins t k
@@ -98,23 +99,19 @@ run-begins t k q le e = begin (ahead q (r .0) (rw (r .1) (take-lines k t)))
     r : Reached (take k (linesOf t)) (some q)
     r = rw e at (run-sound (take k (linesOf t)) begun [] tt refl)
 
-    begin : Ahead (stateLines q) → Begins t k
+    begin : Ahead (λ r. true) (stateLines q) → Begins t k
     begin a = record {
       frame = a .frame;
-      isFramed = kept-frame (a .frame) (a .kept);
+      drawn = kept-frame (a .frame) (a .kept);
       behind = joined ended (a .behind);
-      isText = unfold frameText in
-          (ap (joined ended) (a .isBegun ∙ ap (λ (m : List (List ℕ)). m ++ a .behind) (r .1))
-          ∙ joined-append ended (take k (linesOf t)) (a .behind)
-          ∙ ap (λ (m : List ℕ). m ++ joined ended (a .behind))
-          (sym (firstLines-lines k t (rw (lineCount-lines t) at le))));
+      isText = ahead-text (λ r. true) t k q le (r .1) a;
     }
 
 pub begins-run : (t : List ℕ) (k : ℕ) → k ≤ lineCount t → Begins t k → run begun (take k (linesOf t)) ≡ none → ⊥
 unfolding frameText
 begins-run t k le b e =
     let f : Frame = b .frame in
-    let kept = frame-kept f (b .isFramed) in
+    let kept = frame-kept f (b .drawn) in
     let ls : List (List ℕ) = take k (linesOf t) in
     let text : frameText f ≡ joined ended ls ++ b .behind
     = b .isText ∙ ap (λ (m : List ℕ). m ++ b .behind) (firstLines-lines k t (rw (lineCount-lines t) at le)) in

@@ -8,12 +8,14 @@ use Rattle.base.specs.Bytes.{bytes}
 use Rattle.base.specs.Lists.{all, same, isEmpty, joined}
 use Rattle.base.proofs.Lists.{same-true, all-append, all-back}
 use Rattle.base.proofs.Joined.{joined-append, joined-one}
+use Rattle.rules.specs.Limits.{rowLinesMost}
 use Rattle.rules.specs.Names.{isLabel}
-use Rattle.rules.specs.Frames.{tens, units, border, Row, rowLines, isRow, isLine}
-use Rattle.text_laws.specs.FrameReader.{readRow, readTens, Top, State, begun, named, spaced, ruled, counted}
-use Rattle.text_laws.specs.FrameReader.{bordered, rowed, closed, headed, filled, onWidth, onRow, rowOrEnd}
-use Rattle.text_laws.specs.FrameReader.{onSame, step, onState, run}
-use Rattle.text_laws.proofs.RowReader.{rowLine, rowLines-one, Reads, row-sound}
+use Rattle.rules.specs.Rows.{Row, rowLines, isDrawnRow}
+use Rattle.rules.specs.Frames.{tens, units, border, isLine}
+use Rattle.text_laws.specs.FrameReader.{readRow, moreRow, readTens, Top, State, begun, named, spaced, ruled}
+use Rattle.text_laws.specs.FrameReader.{counted, bordered, rowed, closed, headed, filled, onWidth, onRow}
+use Rattle.text_laws.specs.FrameReader.{rowOrEnd, onSame, rowOrBorder, step, onState, run}
+use Rattle.text_laws.proofs.RowReader.{Reads, row-sound, more-sound}
 use Rattle.text_laws.proofs.FrameStates.{openingLine, pairs, framed, stateLines, IsTop, AreRows, Sane, Reached}
 use Rattle.text_laws.proofs.FrameTop.{opened-sound, Widths, tens-sound}
 
@@ -26,17 +28,17 @@ framed-more h rows m n =
     (sym (append-assoc (pairs (h .rowWidth) rows) m n))
 
 pub pairs-row : (w : ℕ) (rows : List Row) (r : Row) (m : List (List ℕ))
-    → pairs w (rows ++ (r ∷ [])) ++ m ≡ pairs w rows ++ (rowLine r ∷ border w ∷ m)
+    → pairs w (rows ++ (r ∷ [])) ++ m ≡ pairs w rows ++ (rowLines r ++ (border w ∷ m))
 pairs-row w rows r m =
     rw (
       joined-append (λ q. rowLines q ++ (border w ∷ [])) rows (r ∷ []),
       joined-one (λ q. rowLines q ++ (border w ∷ [])) r,
-      rowLines-one r,
     )
-    (append-assoc (pairs w rows) (rowLine r ∷ border w ∷ []) m)
+    (append-assoc (pairs w rows) (rowLines r ++ (border w ∷ [])) m
+    ∙ ap (λ (k : List (List ℕ)). pairs w rows ++ k) (append-assoc (rowLines r) (border w ∷ []) m))
 
 pub framed-row : (h : Top) (rows : List Row) (r : Row) (m : List (List ℕ))
-    → framed h (rows ++ (r ∷ [])) m ≡ framed h rows (rowLine r ∷ border (h .rowWidth) ∷ m)
+    → framed h (rows ++ (r ∷ [])) m ≡ framed h rows (rowLines r ++ (border (h .rowWidth) ∷ m))
 framed-row h rows r m =
     ap {B = List (List ℕ)}
     (λ p. openingLine (h .an) (h .name) ∷ [] ∷ tens (h .rowWidth) ∷ units (h .rowWidth) ∷ border (h .rowWidth) ∷ p)
@@ -67,12 +69,12 @@ on-width an n l h (some w) p =
     ((h, p .0), ap {B = List (List ℕ)} (λ m. openingLine an n ∷ [] ∷ m ∷ []) (p .1))
 
 on-row : (h : Top) (rows : List Row) (l : List ℕ) → IsTop h → AreRows h rows → (o : Option Row)
-    → Reads (h .rowWidth) l o → Reached (framed h rows [] ++ (l ∷ [])) (onRow h rows o)
+    → Reads (h .rowWidth) (l ∷ []) o → Reached (framed h rows [] ++ (l ∷ [])) (onRow h rows o)
 unfolding onRow
 on-row h rows l t a none p = tt
 on-row h rows l t a (some r) p = (
   (t, a, p .0),
-  ap (λ (m : List ℕ). framed h rows (m ∷ [])) (p .1) ∙ framed-more h rows [] (l ∷ []),
+  ap (λ (m : List (List ℕ)). framed h rows m) (p .1) ∙ framed-more h rows [] (l ∷ []),
 )
 
 row-or-end : (h : Top) (rows : List Row) (l : List ℕ) → IsTop h → AreRows h rows
@@ -86,10 +88,24 @@ row-or-end h rows [] t a = go (isEmpty rows) refl
     go true e = tt
     go false e = ((t, a, e), framed-more h rows [] ([] ∷ []))
 
-pub more-rows : (h : Top) (rows : List Row) (r : Row) → AreRows h rows → isRow (h .rowWidth) r ≡ true
+pub more-rows : (h : Top) (rows : List Row) (r : Row) → AreRows h rows → isDrawnRow rowLinesMost (h .rowWidth) r ≡ true
     → AreRows h (rows ++ (r ∷ []))
 unfolding all
-more-rows h rows r a p = all-append (isRow (h .rowWidth)) rows (r ∷ []) a (rw p)
+more-rows h rows r a p = all-append (isDrawnRow rowLinesMost (h .rowWidth)) rows (r ∷ []) a (rw p)
+
+-- in a row
+row-or-border : (t : Top) (rows : List Row) (r : Row) (l : List ℕ) → Sane (rowed t rows r) → (o : Option Row)
+    → Reads (t .rowWidth) (rowLines r ++ (l ∷ [])) o
+    → Reached (stateLines (rowed t rows r) ++ (l ∷ [])) (rowOrBorder t rows r l o)
+unfolding rowOrBorder
+row-or-border t rows r l h none p =
+    on-same (border (t .rowWidth)) (bordered t (rows ++ (r ∷ []))) l (stateLines (rowed t rows r))
+    (h .0, more-rows t rows r (h .1) (h .2))
+    (framed-row t rows r [] ∙ framed-more t rows (rowLines r) (border (t .rowWidth) ∷ []))
+row-or-border t rows r l h (some x) p = (
+  (h .0, h .1, p .0),
+  ap (λ (m : List (List ℕ)). framed t rows m) (p .1) ∙ framed-more t rows (rowLines r) (l ∷ []),
+)
 
 pub step-sound : (s : State) (l : List ℕ) → Sane s → Reached (stateLines s ++ (l ∷ [])) (step s l)
 unfolding step all joined
@@ -100,9 +116,7 @@ step-sound (ruled t) l h = on-same (units (t .rowWidth)) (counted t) l (stateLin
 step-sound (counted t) l h = on-same (border (t .rowWidth)) (bordered t []) l (stateLines (counted t)) (h, refl) refl
 step-sound (bordered t rows) l h = row-or-end t rows l (h .0) (h .1)
 step-sound (rowed t rows r) l h =
-    on-same (border (t .rowWidth)) (bordered t (rows ++ (r ∷ []))) l (stateLines (rowed t rows r))
-    (h .0, more-rows t rows r (h .1) (h .2))
-    (framed-row t rows r [] ∙ framed-more t rows (rowLine r ∷ []) (border (t .rowWidth) ∷ []))
+    row-or-border t rows r l h (moreRow (t .rowWidth) r l) (more-sound (t .rowWidth) r l)
 step-sound (closed t rows) l h =
     on-same (bytes "where:") (headed t rows) l (stateLines (closed t rows)) h
     (framed-more t rows ([] ∷ []) (bytes "where:" ∷ []))

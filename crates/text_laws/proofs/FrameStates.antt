@@ -9,12 +9,13 @@ use borrow.Author.Tests.{eqb-true}
 use Rattle.base.specs.Bytes.{bytes}
 use Rattle.base.specs.Lists.{all, isEmpty, joined}
 use Rattle.base.proofs.Lists.{not-both}
+use Rattle.rules.specs.Limits.{rowLinesMost}
 use Rattle.rules.specs.Names.{isLabel}
 use Rattle.rules.specs.Within.{isRowWidth}
-use Rattle.rules.specs.Frames.{tens, units, border, Row, rowLines, isRow, article}
+use Rattle.rules.specs.Rows.{Row, rowLines, isDrawnRow}
+use Rattle.rules.specs.Frames.{tens, units, border, article}
 use Rattle.text_laws.specs.FrameReader.{closing, Top, State, begun, named, spaced, ruled, counted, bordered}
 use Rattle.text_laws.specs.FrameReader.{rowed, closed, headed, filled}
-use Rattle.text_laws.proofs.RowReader.{rowLine}
 
 abbrev pub openingLine : Bool → List ℕ → List ℕ
 openingLine an n = article an ++ (n ++ closing)
@@ -36,7 +37,7 @@ stateLines (spaced an n) = openingLine an n ∷ [] ∷ []
 stateLines (ruled h) = openingLine (h .an) (h .name) ∷ [] ∷ tens (h .rowWidth) ∷ []
 stateLines (counted h) = openingLine (h .an) (h .name) ∷ [] ∷ tens (h .rowWidth) ∷ units (h .rowWidth) ∷ []
 stateLines (bordered h rows) = framed h rows []
-stateLines (rowed h rows r) = framed h rows (rowLine r ∷ [])
+stateLines (rowed h rows r) = framed h rows (rowLines r)
 stateLines (closed h rows) = framed h rows ([] ∷ [])
 stateLines (headed h rows) = framed h rows ([] ∷ bytes "where:" ∷ [])
 stateLines (filled h rows ls) = framed h rows ([] ∷ bytes "where:" ∷ [] ∷ ls)
@@ -45,7 +46,7 @@ abbrev pub IsTop : Top → Type 0
 IsTop h = (isLabel (h .name) ≡ true) × (isRowWidth (h .rowWidth) ≡ true)
 
 abbrev pub AreRows : Top → List Row → Type 0
-AreRows h rows = all (isRow (h .rowWidth)) rows ≡ true
+AreRows h rows = all (isDrawnRow rowLinesMost (h .rowWidth)) rows ≡ true
 
 abbrev pub Sane : State → Type 0
 Sane begun = Unit {0}
@@ -54,7 +55,7 @@ Sane (spaced an n) = isLabel n ≡ true
 Sane (ruled h) = IsTop h
 Sane (counted h) = IsTop h
 Sane (bordered h rows) = IsTop h × AreRows h rows
-Sane (rowed h rows r) = IsTop h × AreRows h rows × (isRow (h .rowWidth) r ≡ true)
+Sane (rowed h rows r) = IsTop h × AreRows h rows × (isDrawnRow rowLinesMost (h .rowWidth) r ≡ true)
 Sane (closed h rows) = IsTop h × AreRows h rows × (isEmpty rows ≡ false)
 Sane (headed h rows) = IsTop h × AreRows h rows × (isEmpty rows ≡ false)
 Sane (filled h rows ls) = IsTop h × AreRows h rows × (isEmpty rows ≡ false)

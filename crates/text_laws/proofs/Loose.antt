@@ -12,29 +12,19 @@ use Rattle.rules.specs.Answers.{Answer, refused}
 use Rattle.rules.specs.Limits.{textMost, fieldsMost}
 use Rattle.rules.specs.Names.{isAllowed, lineFeed}
 use Rattle.rules.specs.Fields.{Field, Form}
-use Rattle.rules.specs.Frames.{Row, Slot, slotsIn, units, border}
-use Rattle.text_laws.specs.FrameReader.{readTens, readRow}
+use Rattle.rules.specs.Rows.{Row, isLabelled}
+use Rattle.rules.specs.Frames.{Slot, slotsIn, units, border}
+use Rattle.text_laws.specs.FrameReader.{readTens, readRow, moreRow}
 use Rattle.text_laws.specs.LineReader.{readForm}
 use Rattle.text_laws.specs.Resolving.{indexOf}
 use Rattle.text_laws.specs.Lowest.{lower, broken}
-use Rattle.text_laws.specs.Judging.{
-  face,
-  faces,
-  resolvedIn,
-  rules,
-  Judged,
-  isOpen,
-  isFull,
-  many,
-  grown,
-  withRules,
-}
-use Rattle.text_laws.specs.Judging.{withForm, judge}
-use Rattle.text_laws.specs.Fold.{Stage, opening, blank, tensRuler, unitsRuler, topBorder, firstRow, rowBorder}
+use Rattle.text_laws.specs.Judging.{face, faces, resolvedIn, rules, Judged, isOpen, isFull, many, grown}
+use Rattle.text_laws.specs.Judging.{withRules, withForm, judge}
+use Rattle.text_laws.specs.Fold.{Stage, opening, blank, tensRuler, unitsRuler, topBorder, firstRow, inRow}
 use Rattle.text_laws.specs.Fold.{rowOrBlank, whereLine, lastBlank, firstField, fieldLine, lost, Found, Kept}
-use Rattle.text_laws.specs.Fold.{onward, losing, wrong, expect, openingName, withName, withWidth}
-use Rattle.text_laws.specs.Fold.{withRow, withField, linedAt, lined, put, over, fed, early, uncelled}
-use Rattle.text_laws.specs.Fold.{lowestAt, lowestOf, outcome, finish}
+use Rattle.text_laws.specs.Fold.{onward, losing, blamed, wrong, expect, openingName, withName, withWidth}
+use Rattle.text_laws.specs.Fold.{withCells, withRow, onMore, withMore, withField, linedAt, lined, put, over}
+use Rattle.text_laws.specs.Fold.{fed, early, uncelled, lowestAt, lowestOf, outcome, finish}
 use Rattle.text_laws.specs.Steady.{StandIn}
 use Rattle.text_laws.proofs.Faces.{renamed-face}
 
@@ -49,6 +39,7 @@ foundWith f fs = record {
   stage = f .stage;
   name = f .name;
   width = f .width;
+  row = f .row;
   cells = f .cells;
   judged = otherFields (f .judged) fs;
 }
@@ -138,33 +129,54 @@ module _ (f : Found) (fs : List (Field ℕ)) (h : StandIn (f .judged) fs) where
       go : (t : Bool) → Moves (cond t (onward s f) (wrong f)) (cond t (onward s (foundWith f fs)) (wrong
           (foundWith f fs)))
       go true = moves-onward s
-      go false = moves-losing (refused 3 (suc (f .lines)))
+      go false = moves-losing (refused 3 (blamed (f .row) (f .lines)))
 
   moves-name : (o : Option (List ℕ)) → Moves (withName f o) (withName (foundWith f fs) o)
-  moves-name none = moves-losing (refused 3 (suc (f .lines)))
+  moves-name none = moves-losing (refused 3 (blamed (f .row) (f .lines)))
   moves-name (some n) = (fs, h, refl)
 
   moves-width : (o : Option ℕ) → Moves (withWidth f o) (withWidth (foundWith f fs) o)
-  moves-width none = moves-losing (refused 3 (suc (f .lines)))
+  moves-width none = moves-losing (refused 3 (blamed (f .row) (f .lines)))
   moves-width (some w) = (fs, h, refl)
 
   moves-row : (o : Option Row) → Moves (withRow f o) (withRow (foundWith f fs) o)
-  moves-row none = moves-losing (refused 3 (suc (f .lines)))
-  moves-row (some r) = go (ltb fieldsMost (length (f .cells ++ slotsIn r)))
+  moves-row none = moves-losing (refused 3 (blamed (f .row) (f .lines)))
+  moves-row (some r) = (fs, h, refl)
+
+  moves-cells : (cs : List Slot) → Moves (withCells f cs) (withCells (foundWith f fs) cs)
+  moves-cells cs = go (ltb fieldsMost (length cs))
     where
-      row : Bool → Judged → Found
-      row t j = record {
+      ended : Bool → Judged → Found
+      ended t j = record {
         lines = suc (f .lines);
-        stage = rowBorder;
+        stage = rowOrBlank;
         name = f .name;
         width = f .width;
-        cells = cond t (f .cells) (f .cells ++ slotsIn r);
+        row = none;
+        cells = cond t (f .cells) cs;
         judged = cond t (many j) j;
       }
 
-      go : (t : Bool) → Moves (row t (f .judged)) (row t (otherFields (f .judged) fs))
+      go : (t : Bool) → Moves (ended t (f .judged)) (ended t (otherFields (f .judged) fs))
       go true = (fs, record { seen = h .seen; exact = λ e. absurd (Option·none-ne-some (refused 4 0) (sym e)) }, refl)
       go false = (fs, h, refl)
+
+  moves-on : (w : ℕ) (r : Row) (l : List ℕ) (o : Option Row)
+      → Moves (onMore f w r l o) (onMore (foundWith f fs) w r l o)
+  moves-on w r l (some x) = (fs, h, refl)
+  moves-on w r l none = go (isLabelled r) (same l (border w))
+    where
+      ended : Bool → Bool → Found → Found
+      ended a b q = cond a (cond b (withCells q (f .cells ++ slotsIn r)) (wrong q)) (wrong q)
+
+      go : (a b : Bool) → Moves (ended a b f) (ended a b (foundWith f fs))
+      go true true = moves-cells (f .cells ++ slotsIn r)
+      go true false = moves-losing (refused 3 (blamed (f .row) (f .lines)))
+      go false b = moves-losing (refused 3 (blamed (f .row) (f .lines)))
+
+  moves-more : (l : List ℕ) (o : Option Row) → Moves (withMore f l o) (withMore (foundWith f fs) l o)
+  moves-more l none = moves-losing (refused 3 (blamed (f .row) (f .lines)))
+  moves-more l (some r) = moves-on (f .width) r l (moreRow (f .width) r l)
 
   moves-field : (l : List ℕ) → Moves (withField f l) (withField (foundWith f fs) l)
   moves-field l =
@@ -176,6 +188,7 @@ module _ (f : Found) (fs : List (Field ℕ)) (h : StandIn (f .judged) fs) where
           stage = fieldLine;
           name = f .name;
           width = f .width;
+          row = f .row;
           cells = f .cells;
           judged = j;
         }) (g .2),
@@ -190,7 +203,7 @@ moves-line tensRuler f fs l h = moves-width f fs h (readTens l)
 moves-line unitsRuler f fs l h = moves-expect f fs h (units (f .width)) topBorder l
 moves-line topBorder f fs l h = moves-expect f fs h (border (f .width)) firstRow l
 moves-line firstRow f fs l h = moves-row f fs h (readRow (f .width) l)
-moves-line rowBorder f fs l h = moves-expect f fs h (border (f .width)) rowOrBlank l
+moves-line inRow f fs l h = moves-more f fs h l (f .row)
 moves-line rowOrBlank f fs [] h = moves-onward f fs h whereLine
 moves-line rowOrBlank f fs (b ∷ l) h = moves-row f fs h (readRow (f .width) (b ∷ l))
 moves-line whereLine f fs l h = moves-expect f fs h (bytes "where:") lastBlank l
@@ -245,7 +258,7 @@ lowest-with tensRuler l f fs h = refl
 lowest-with unitsRuler l f fs h = refl
 lowest-with topBorder l f fs h = refl
 lowest-with firstRow l f fs h = refl
-lowest-with rowBorder l f fs h = refl
+lowest-with inRow l f fs h = refl
 lowest-with rowOrBlank l f fs h = refl
 lowest-with whereLine l f fs h = refl
 lowest-with lastBlank l f fs h = refl
@@ -259,19 +272,19 @@ lowest-with lost l f fs h = refl
 -- where nothing was refused at the end, nothing was before
 pub lowest-clear : (s : Stage) (l : List ℕ) (f : Found) → lowestAt s l f ≡ none → f .judged .lowest ≡ none
 unfolding lowestAt
-lowest-clear opening l f e = absurd (Option·none-ne-some (refused 3 (suc (f .lines))) (sym e))
-lowest-clear blank l f e = absurd (Option·none-ne-some (refused 3 (suc (f .lines))) (sym e))
-lowest-clear tensRuler l f e = absurd (Option·none-ne-some (refused 3 (suc (f .lines))) (sym e))
-lowest-clear unitsRuler l f e = absurd (Option·none-ne-some (refused 3 (suc (f .lines))) (sym e))
-lowest-clear topBorder l f e = absurd (Option·none-ne-some (refused 3 (suc (f .lines))) (sym e))
-lowest-clear firstRow l f e = absurd (Option·none-ne-some (refused 3 (suc (f .lines))) (sym e))
-lowest-clear rowBorder l f e = absurd (Option·none-ne-some (refused 3 (suc (f .lines))) (sym e))
-lowest-clear rowOrBlank l f e = absurd (Option·none-ne-some (refused 3 (suc (f .lines))) (sym e))
-lowest-clear whereLine l f e = absurd (Option·none-ne-some (refused 3 (suc (f .lines))) (sym e))
-lowest-clear lastBlank l f e = absurd (Option·none-ne-some (refused 3 (suc (f .lines))) (sym e))
-lowest-clear firstField l f e = absurd (Option·none-ne-some (refused 3 (suc (f .lines))) (sym e))
+lowest-clear opening l f e = absurd (Option·none-ne-some (refused 3 (blamed (f .row) (f .lines))) (sym e))
+lowest-clear blank l f e = absurd (Option·none-ne-some (refused 3 (blamed (f .row) (f .lines))) (sym e))
+lowest-clear tensRuler l f e = absurd (Option·none-ne-some (refused 3 (blamed (f .row) (f .lines))) (sym e))
+lowest-clear unitsRuler l f e = absurd (Option·none-ne-some (refused 3 (blamed (f .row) (f .lines))) (sym e))
+lowest-clear topBorder l f e = absurd (Option·none-ne-some (refused 3 (blamed (f .row) (f .lines))) (sym e))
+lowest-clear firstRow l f e = absurd (Option·none-ne-some (refused 3 (blamed (f .row) (f .lines))) (sym e))
+lowest-clear inRow l f e = absurd (Option·none-ne-some (refused 3 (blamed (f .row) (f .lines))) (sym e))
+lowest-clear rowOrBlank l f e = absurd (Option·none-ne-some (refused 3 (blamed (f .row) (f .lines))) (sym e))
+lowest-clear whereLine l f e = absurd (Option·none-ne-some (refused 3 (blamed (f .row) (f .lines))) (sym e))
+lowest-clear lastBlank l f e = absurd (Option·none-ne-some (refused 3 (blamed (f .row) (f .lines))) (sym e))
+lowest-clear firstField l f e = absurd (Option·none-ne-some (refused 3 (blamed (f .row) (f .lines))) (sym e))
 lowest-clear fieldLine [] f e = lower-left (f .judged .lowest) (uncelled f) e
-lowest-clear fieldLine (b ∷ l) f e = absurd (Option·none-ne-some (refused 3 (suc (f .lines))) (sym e))
+lowest-clear fieldLine (b ∷ l) f e = absurd (Option·none-ne-some (refused 3 (blamed (f .row) (f .lines))) (sym e))
 lowest-clear lost l f e = e
 
 pub finish-with : (k : Kept) (fs : List (Field ℕ)) (out : List ℕ) → StandIn (k .found .judged) fs

@@ -21,7 +21,9 @@ use Rattle.rules.specs.Fields.{Width, fixed, measured, rest, Field, Form, isFix
 use Rattle.rules.specs.Within.{Within, isRowWidth, keepsForm, keepsNames, keepsTypes, widthHasType, nameReadable}
 use Rattle.rules.specs.Lines.{SpellsField, Unresolved}
 use Rattle.laws.proofs.OperatorLaws.{keeps-known}
-use Rattle.rules.specs.Frames.{Frame, FrameOf, isFrame, isRow, isLine, cells, isOverfull}
+use Rattle.rules.specs.Limits.{rowLinesMost}
+use Rattle.rules.specs.Rows.{isDrawnRow, isLabelled}
+use Rattle.rules.specs.Frames.{Frame, FrameOf, isDrawn, isDrawnIn, isLine, cells, isOverfull}
 use Rattle.rules.specs.Spelling.{Spells, NameOf, shows}
 use Rattle.rules.specs.Refusals.{ruleBroken}
 use Rattle.text_laws.specs.Resolving.{
@@ -142,11 +144,13 @@ parts a b c d e g h =
 pub frame-parts : (text : List ℕ) (f : Frame) → FrameOf text f
     → (isLabel (f .name) ≡ true)
     × (isRowWidth (f .rowWidth) ≡ true)
-    × (all (isRow (f .rowWidth)) (f .rows) ≡ true)
+    × (all (isDrawnRow rowLinesMost (f .rowWidth)) (f .rows) ≡ true)
     × (not (isEmpty (f .lines)) ≡ true)
-unfolding isFrame
+unfolding isDrawnIn
 frame-parts text f h = parts (isLabel (f .name)) (isRowWidth (f .rowWidth)) (not (isEmpty (f .rows)))
-    (all (isRow (f .rowWidth)) (f .rows)) (not (isEmpty (f .lines))) (all isLine (f .lines)) (h .isFramed)
+    (all (isDrawnRow rowLinesMost (f .rowWidth)) (f .rows)) (not (isEmpty (f .lines)))
+    (all isLine (f .lines))
+    (and-left (isDrawn f) (all isLabelled (f .rows)) (h .isFramed))
 
 module _ (text : List ℕ) (f : Frame) (forms : List Form) (frame : FrameOf text f) (few : isOverfull f ≡ false)
     (spelled : Each (SpellsField Unresolved) forms (f .lines)) (kept : Kept f forms) where

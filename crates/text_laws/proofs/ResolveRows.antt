@@ -2,26 +2,28 @@
 use mathlib.Core.Path.{_≡_, refl, sym, _∙_}
 use mathlib.Core.Bool.{true, false}
 use mathlib.Core.List.{List, [], _∷_, _++_, map}
-use Prim.Native.Nat.{ℕ, _+_, _*_, _%_, _≤_, _<_}
+use Prim.Native.Nat.{ℕ, _+_, _%_, _≤_, _<_}
 use native.Mathlib.Omega.{arith}
 use native.Mathlib.Nat.{mod-add-mod, mod-eq-of-lt, mod-self, zero-mod}
 use lib.Dec.{leb, eqb}
-use lib.ListN.{length}
-use borrow.Author.Tests.{eqb-true, eq-eqb, le-leb}
+use borrow.Author.Tests.{eqb-true, eq-eqb, le-leb, ltb-true}
 use Rattle.base.specs.Lists.{all, any, same, joined, sum, Each}
-use Rattle.base.proofs.Lists.{and-left, and-right, and-both, not-both}
+use Rattle.base.proofs.Lists.{and-right, and-both, not-both}
 use Rattle.base.proofs.Breaks.{all-cons}
-use Rattle.rules.specs.Names.{isLabel}
+use Rattle.rules.specs.Limits.{rowLinesMost}
 use Rattle.rules.specs.Fields.{Width, fixed, measured, rest, Field, fieldNames}
 use Rattle.rules.specs.Within.{rowsFit, widths}
-use Rattle.rules.specs.Frames.{Cell, Row, bitRow, longRow, isCell, isRow, Slot, slotsIn}
+use Rattle.rules.specs.Rows.{Cell, cellText, Row, bitRow, longRow, areFitted, isDrawnRow, columns}
+use Rattle.rules.specs.Frames.{Slot, slotsIn}
 use Rattle.rules.specs.Spelling.{isPlaceFor, shows}
+use Rattle.text_laws.proofs.CellTexts.{hasBits, columns-sum, columns-bits}
+use Rattle.text_laws.proofs.RowReader.{drawn-sum, drawn-tall, drawn-fitted}
 
 abbrev bitCell : Cell → Slot
-bitCell c = record { long = false; bits = c .bits; text = c .text }
+bitCell c = record { long = false; bits = c .bits; text = cellText c }
 
 abbrev longCell : Cell → Slot
-longCell c = record { long = true; bits = c .bits; text = c .text }
+longCell c = record { long = true; bits = c .bits; text = cellText c }
 
 -- ── one field ──
 
@@ -46,13 +48,6 @@ fit-long w place c rest l h e k =
 place-of : (c : Slot) (x : Field ℕ) → shows c x ≡ true → isPlaceFor c (x .width) ≡ true
 place-of c x h = and-right (any (same (c .text)) (fieldNames x)) (isPlaceFor c (x .width)) h
 
--- a cell has a bit
-some-bits : (c : Cell) → isCell c ≡ true → 0 < c .bits
-some-bits c h =
-    let e = eqb-true (c .before + length (c .text) + c .behind + 1) (2 * c .bits)
-    (and-right (isLabel (c .text)) (eqb (c .before + length (c .text) + c .behind + 1) (2 * c .bits)) h) in
-    omega arith
-
 -- ── rows ──
 
 -- what fits from the start of a row on
@@ -63,15 +58,15 @@ Fits w cs =
 
 -- from p bits behind the start of a bit row on
 fit-row : (w : ℕ) (more : List Slot) → Fits w more → (cs : List Cell) (p place : ℕ) (fields : List (Field ℕ))
-    → all isCell cs ≡ true → p + sum (λ c. c .bits) cs ≡ w → place % w ≡ p % w
+    → all hasBits cs ≡ true → p + sum (λ c. c .bits) cs ≡ w → place % w ≡ p % w
     → Each (λ c x. shows c x ≡ true) (map bitCell cs ++ more) fields → rowsFit w place (widths fields) ≡ true
 unfolding sum
 fit-row w more f [] p place fields h e m s =
     f place fields (m ∙ (let q : p ≡ w = omega arith in rw q (mod-self w))) s
 fit-row w more f (c ∷ cs) p place [] h e m s = absurd s
 fit-row w more f (c ∷ cs) p place (x ∷ fields) h e m s =
-    let k = all-cons isCell c cs h in
-    let some : 0 < c .bits = some-bits c (k .0) in
+    let k = all-cons hasBits c cs h in
+    let some : 0 < c .bits = ltb-true 0 (c .bits) (k .0) in
     let below : p < w = omega arith in
     let at : place % w ≡ p = m ∙ mod-eq-of-lt below in
     let next : (place + c .bits) % w ≡ (p + c .bits) % w =
@@ -79,17 +74,22 @@ fit-row w more f (c ∷ cs) p place (x ∷ fields) h e m s =
     fit-bits w place c (x .width) (widths fields) (place-of (bitCell c) x (s .0)) (rw at (omega arith))
     (fit-row w more f cs (p + c .bits) (place + c .bits) fields (k .1) (omega arith) next (s .1))
 
-pub rows-fit : (w : ℕ) (rows : List Row) → all (isRow w) rows ≡ true → Fits w (joined slotsIn rows)
+pub rows-fit : (w : ℕ) (rows : List Row) → all (isDrawnRow rowLinesMost w) rows ≡ true → Fits w (joined slotsIn rows)
 unfolding joined rowsFit
 rows-fit w [] h place [] e s = eq-eqb (place % w) 0 e
 rows-fit w [] h place (x ∷ fields) e s = absurd s
-rows-fit w (bitRow cs ∷ rows) h place fields e s =
-    let k = all-cons (isRow w) (bitRow cs) rows h in
-    let total : sum (λ c. c .bits) cs ≡ w =
-    eqb-true (sum (λ c. c .bits) cs) w (and-right (all isCell cs) (eqb (sum (λ c. c .bits) cs) w) (k .0)) in
-    fit-row w (joined slotsIn rows) (rows-fit w rows (k .1)) cs 0 place fields
-    (and-left (all isCell cs) (eqb (sum (λ c. c .bits) cs) w) (k .0)) (omega arith) (e ∙ sym (zero-mod w)) s
-rows-fit w (longRow c ∷ rows) h place [] e s = absurd s
-rows-fit w (longRow c ∷ rows) h place (x ∷ fields) e s =
+rows-fit w (bitRow bits [] ∷ rows) h place fields e s =
+    let k = all-cons (isDrawnRow rowLinesMost w) (bitRow bits []) rows h in
+    absurd (not-both false (drawn-tall w bits [] (k .0)) refl)
+rows-fit w (bitRow bits (ss ∷ lines) ∷ rows) h place fields e s =
+    let k = all-cons (isDrawnRow rowLinesMost w) (bitRow bits (ss ∷ lines)) rows h in
+    let total : sum (λ c. c .bits) (columns bits (ss ∷ lines)) ≡ w =
+    columns-sum bits (ss ∷ lines) ∙ eqb-true (sum (λ n. n) bits) w (drawn-sum w bits (ss ∷ lines) (k .0)) in
+    let f = all-cons (areFitted bits) ss lines (drawn-fitted w bits (ss ∷ lines) (k .0)) in
+    fit-row w (joined slotsIn rows) (rows-fit w rows (k .1)) (columns bits (ss ∷ lines)) 0 place fields
+    (columns-bits bits ss (ss ∷ lines) (f .0)) (omega (arith, total)) (e ∙ sym (zero-mod w)) s
+rows-fit w (longRow n l ∷ rows) h place [] e s = absurd s
+rows-fit w (longRow n l ∷ rows) h place (x ∷ fields) e s =
+    let c : Cell = record { bits = n; lines = l ∷ [] } in
     fit-long w place c (x .width) (widths fields) (place-of (longCell c) x (s .0)) e
-    (rows-fit w rows (all-cons (isRow w) (longRow c) rows h .1) place fields e (s .1))
+    (rows-fit w rows (all-cons (isDrawnRow rowLinesMost w) (longRow n l) rows h .1) place fields e (s .1))

@@ -1,19 +1,17 @@
--- A cell is made of its characters: the spaces at both ends are counted, and a label has none there.
+-- Labels, and spaces at the ends of a line.
 use mathlib.Core.Path.{_≡_, refl, ap, sym, _∙_}
 use mathlib.Core.Bool.{Bool, true, false, cond, _&&_, not}
 use mathlib.Core.List.{List, [], _∷_, _++_}
-use Prim.Native.Nat.{ℕ, zero, suc, _+_, _*_, _-_, _/_}
-use native.Mathlib.Omega.{arith}
+use Prim.Native.Nat.{ℕ, zero, suc, _+_, _-_}
 use lib.Dec.{leb, eqb}
-use lib.ListN.{length, length-append, replicate, length-replicate}
+use lib.ListN.{length, replicate}
 use borrow.Author.Tests.{eqb-true, ne-eqb}
 use Rattle.base.specs.Lists.{all, headIs, lastIs}
-use Rattle.base.proofs.Lists.{and-left, and-right, all-append, all-weaken, not-both}
+use Rattle.base.proofs.Lists.{and-left, and-right, all-weaken, not-both}
 use Rattle.rules.specs.Limits.{labelMost}
 use Rattle.rules.specs.Names.{lineFeed, isLabel, isLabelByte, isWordByte, isLetter, isDigit, isSpace, hasWordEnds}
 use Rattle.rules.specs.Names.{noTwoSpaces}
-use Rattle.rules.specs.Frames.{Cell, cellText, isCell}
-use Rattle.text_laws.specs.FrameReader.{lead, leftTrim, keepEnd, rightTrim, cellOf}
+use Rattle.rules.specs.Rows.{leftTrim, keepEnd, rightTrim}
 use Rattle.text_laws.proofs.SplitLaws.{isFree}
 
 -- ── what a label is ──
@@ -34,7 +32,7 @@ label-ends w h =
 pub label-head : (w : List ℕ) → isLabel w ≡ true → headIs isWordByte w ≡ true
 label-head w h = and-left (headIs isWordByte w) (lastIs isWordByte w) (label-ends w h)
 
-label-last : (w : List ℕ) → isLabel w ≡ true → lastIs isWordByte w ≡ true
+pub label-last : (w : List ℕ) → isLabel w ≡ true → lastIs isWordByte w ≡ true
 label-last w h = and-right (headIs isWordByte w) (lastIs isWordByte w) (label-ends w h)
 
 word-no-space : (c : ℕ) → isWordByte c ≡ true → isSpace c ≡ false
@@ -43,7 +41,12 @@ word-no-space c h = ne-eqb c 32 (λ e. not-both (isWordByte 32) (ap isWordByte (
 
 -- ── spaces off ──
 
-left-split : (s : List ℕ) → replicate (lead s) 32 ++ leftTrim s ≡ s
+-- the number of spaces in front
+unfoldable pub lead : List ℕ → ℕ
+lead [] = 0
+lead (c ∷ s) = cond (isSpace c) (suc (lead s)) 0
+
+pub left-split : (s : List ℕ) → replicate (lead s) 32 ++ leftTrim s ≡ s
 unfolding lead leftTrim isSpace
 left-split [] = refl
 left-split (c ∷ s) = go (eqb c 32) refl (left-split s)
@@ -53,7 +56,7 @@ left-split (c ∷ s) = go (eqb c 32) refl (left-split s)
     go true e h = let q : c ≡ 32 = eqb-true c 32 e in cc
     go false e h = refl
 
-right-some : (s : List ℕ) → (j : ℕ) × (rightTrim s ++ replicate j 32 ≡ s)
+pub right-some : (s : List ℕ) → (j : ℕ) × (rightTrim s ++ replicate j 32 ≡ s)
 unfolding rightTrim keepEnd isSpace
 right-some [] = (0, refl)
 right-some (c ∷ s) = let w = right-some s in go (rightTrim s) (w .0) (w .1)
@@ -67,28 +70,9 @@ right-some (c ∷ s) = let w = right-some s in go (rightTrim s) (w .0) (w .1)
     go [] j e = end (eqb c 32) refl j e
     go (d ∷ t) j e = (j, ap (λ (l : List ℕ). c ∷ l) e)
 
-right-split : (s : List ℕ) → rightTrim s ++ replicate (length s - length (rightTrim s)) 32 ≡ s
-right-split s =
-    let w = right-some s in
-    let n : length (rightTrim s) + w .0 ≡ length s
-    = simp (length-append, length-replicate) at (ap length (w .1)) in
-    let q : length s - length (rightTrim s) ≡ w .0 = omega arith in
-    rw q (w .1)
-
--- a cell's text is what it was made of
-pub cellText-of : (s : List ℕ) → cellText (cellOf s) ≡ s
-unfolding cellText cellOf
-cellText-of s = ap (λ (l : List ℕ). replicate (lead s) 32 ++ l) (right-split (leftTrim s)) ∙ left-split s
-
 -- ── the spaces around a label ──
 
-lead-pad : (i : ℕ) (w z : List ℕ) → headIs isWordByte w ≡ true → lead (replicate i 32 ++ (w ++ z)) ≡ i
-unfolding lead isSpace
-lead-pad zero [] z h = absurd (not-both false h refl)
-lead-pad zero (c ∷ w) z h = rw (word-no-space c h)
-lead-pad (suc i) w z h = ap suc (lead-pad i w z h)
-
-left-pad : (i : ℕ) (w z : List ℕ) → headIs isWordByte w ≡ true → leftTrim (replicate i 32 ++ (w ++ z)) ≡ w ++ z
+pub left-pad : (i : ℕ) (w z : List ℕ) → headIs isWordByte w ≡ true → leftTrim (replicate i 32 ++ (w ++ z)) ≡ w ++ z
 unfolding leftTrim isSpace
 left-pad zero [] z h = absurd (not-both false h refl)
 left-pad zero (c ∷ w) z h = rw (word-no-space c h)
@@ -104,44 +88,13 @@ unfolding rightTrim
 right-pad [] j = right-spaces j
 right-pad (c ∷ s) j = ap (keepEnd c) (right-pad s j)
 
-right-last : (s : List ℕ) → lastIs isWordByte s ≡ true → rightTrim s ≡ s
+pub right-last : (s : List ℕ) → lastIs isWordByte s ≡ true → rightTrim s ≡ s
 unfolding rightTrim keepEnd lastIs
 right-last [] h = refl
 right-last (c ∷ []) h = rw (word-no-space c h)
 right-last (c ∷ d ∷ s) h = rw (right-last (d ∷ s) h)
 
-pub length-cell : (c : Cell) → length (cellText c) ≡ c .before + (length (c .text) + c .behind)
-unfolding cellText
-length-cell c = simp (length-append, length-replicate) refl
-
--- and the cell of a cell's text is that cell
-pub cellOf-text : (c : Cell) → isCell c ≡ true → cellOf (cellText c) ≡ c
-unfolding cellOf
-cellOf-text c h = λ i. record { bits = n i; before = b i; text = t i; behind = e i }
-  where
-    name : isLabel (c .text) ≡ true
-    name = and-left (isLabel (c .text)) (eqb (c .before + length (c .text) + c .behind + 1) (2 * c .bits)) h
-
-    size : c .before + length (c .text) + c .behind + 1 ≡ 2 * c .bits
-    size = eqb-true (c .before + length (c .text) + c .behind + 1) (2 * c .bits)
-        (and-right (isLabel (c .text)) (eqb (c .before + length (c .text) + c .behind + 1) (2 * c .bits)) h)
-
-    n : (length (cellText c) + 1) / 2 ≡ c .bits
-    n = omega (arith, length-cell c, size)
-
-    b : lead (cellText c) ≡ c .before
-    b = unfold cellText in lead-pad (c .before) (c .text) (replicate (c .behind) 32) (label-head (c .text) name)
-
-    l : leftTrim (cellText c) ≡ c .text ++ replicate (c .behind) 32
-    l = unfold cellText in left-pad (c .before) (c .text) (replicate (c .behind) 32) (label-head (c .text) name)
-
-    t : rightTrim (leftTrim (cellText c)) ≡ c .text
-    t = ap rightTrim l ∙ right-pad (c .text) (c .behind) ∙ right-last (c .text) (label-last (c .text) name)
-
-    e : length (leftTrim (cellText c)) - length (rightTrim (leftTrim (cellText c))) ≡ c .behind
-    e = omega (arith, simp (length-append, length-replicate) at (ap length l), ap length t)
-
--- ── bytes that no label and no cell holds ──
+-- ── bytes that no label holds ──
 
 pub bar : isLabelByte 124 ≡ false
 unfolding isLabelByte isWordByte isLetter isDigit isSpace
@@ -166,13 +119,3 @@ label-free e f w h = all-weaken isLabelByte (λ b. not (eqb b e)) other w (label
   where
     other : (b : ℕ) → isLabelByte b ≡ true → not (eqb b e) ≡ true
     other b p = rw (ne-eqb b e (λ q. not-both (isLabelByte b) p (ap isLabelByte q ∙ f)))
-
-pub cell-free : (e : ℕ) → isLabelByte e ≡ false → (c : Cell) → isCell c ≡ true → isFree e (cellText c) ≡ true
-unfolding cellText
-cell-free e f c h =
-    all-append (λ b. not (eqb b e)) (replicate (c .before) 32) (c .text ++ replicate (c .behind) 32)
-    (spaces-free e f (c .before))
-    (all-append (λ b. not (eqb b e)) (c .text) (replicate (c .behind) 32)
-    (label-free e f (c .text)
-    (and-left (isLabel (c .text)) (eqb (c .before + length (c .text) + c .behind + 1) (2 * c .bits)) h))
-    (spaces-free e f (c .behind)))

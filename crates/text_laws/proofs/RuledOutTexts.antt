@@ -7,7 +7,7 @@ use mathlib.Core.List.{List, [], _∷_, _++_}
 use Prim.Native.Nat.{ℕ}
 use Rattle.base.proofs.Lists.{every-passes, other-numbers}
 use Rattle.base.specs.Bytes.{digits}
-use Rattle.base.specs.Lists.{all, any, same, lastIs, sum, joined, tabulate, firstBreak}
+use Rattle.base.specs.Lists.{all, any, only, same, lastIs, sum, joined, tabulate, firstBreak}
 use Rattle.rules.specs.Operators.{operator, operators}
 use Rattle.rules.specs.Names.{
   isLetter,
@@ -26,9 +26,10 @@ use Rattle.rules.specs.Names.{
 use Rattle.rules.specs.Trees.{depth, le2, le4, storedTree, isInRange, hasType}
 use Rattle.rules.specs.References.{treeReads, fieldReads, times, readers}
 use Rattle.rules.specs.Stored.{storedIn, storedWith, recordsIn, storedFieldIn, fieldBody, headBody}
-use Rattle.rules.specs.Frames.{tens, units, border, cellText, rowLines, headLines, cells}
+use Rattle.rules.specs.Rows.{leftTrim, keepEnd, rightTrim, bySpaces, cellText, areFitted, columns, rowLines}
+use Rattle.rules.specs.Frames.{tens, units, border, headLines, cells}
 use Rattle.rules.specs.Spelling.{mismatch}
-use Rattle.rules.specs.Refusals.{ruleBroken}
+use Rattle.rules.specs.Refusals.{unlabelledLine, ruleBroken}
 use Rattle.rules.specs.Answers.{ofText}
 use Rattle.rules.specs.Promises.{delivered}
 use Rattle.rules.specs.Pages.{notTimes}
@@ -85,12 +86,12 @@ use Rattle.text_laws.specs.FrameReader.{
   onFirst,
   pieces,
   rest,
-  lead,
-  leftTrim,
-  keepEnd,
-  rightTrim,
-  cellOf,
   keepRow,
+  stripsOf,
+  rowOf,
+  readLong,
+  withStrips,
+  moreRow,
   longOf,
   readRow,
   closing,
@@ -105,7 +106,12 @@ use Rattle.text_laws.specs.FrameReader.{
   rightFrom,
   rightLines,
   whole,
+  rowOrBorder,
+  readDrawn,
+  ifLabelled,
   readFrame,
+  reach,
+  placeOf,
 }
 use Rattle.text_laws.specs.Resolving.{firstIndex, renameTree, resolve}
 use Rattle.rules.specs.Fields.{Description}
@@ -121,6 +127,7 @@ use Rattle.text_laws.specs.WrongTexts.{Claim, reads, Claimed, AllFalse, 
 use Rattle.text_laws.specs.WrongTextNames.{wrongTextNames}
 use Rattle.text_laws.specs.WrongTextOperators.{wrongTextOperators}
 use Rattle.text_laws.specs.WrongTextNumbers.{wrongTextNumbers}
+use Rattle.text_laws.specs.WrongTextRows.{wrongTextRows}
 use Rattle.text_laws.proofs.TextResults.{text-unique}
 use Rattle.text_laws.proofs.TextSeen.{formsOf, seen, outcomeOf, outcome-is}
 
@@ -143,23 +150,27 @@ ruled-out (reads text out r after) h p = other (outcome-is text out) h p
 abbrev barredText : List ℕ
 barredText = tagLines 1 ++ (0x7F ∷ [])
 
+abbrev everyText : List Claim
+everyText = wrongTexts ++ (wrongTextNames ++ (wrongTextOperators ++ (wrongTextNumbers ++ wrongTextRows)))
+
 record Computed : Type 0 where
   spelled : seen tagText ≡ inr tag
   barred : seen barredText ≡ inl (refused 2 0)
-  others : all isOther (wrongTexts ++ (wrongTextNames ++ (wrongTextOperators ++ wrongTextNumbers))) ≡ true
+  others : all isOther everyText ≡ true
 
 computed : Computed
 unfolding digits all any same lastIs sum joined tabulate firstBreak operator operators isLetter isDigit isSpace
     isPrintable isAllowed isWordByte isLabelByte noTwoSpaces isLabel reserved isReserved isShort depth le2 le4
     storedTree isInRange hasType treeReads fieldReads times readers storedIn storedWith recordsIn storedFieldIn
-    fieldBody headBody tens units border cellText rowLines headLines cells mismatch ruleBroken ofText delivered
-    notTimes after firstOf insert longestFirst order skip skipBehind operatorAt word behind scan wordValue isNumeral
+    fieldBody headBody tens units border only leftTrim keepEnd rightTrim bySpaces cellText areFitted columns rowLines
+    unlabelledLine headLines cells mismatch ruleBroken ofText delivered notTimes after firstOf insert longestFirst
+    order skip skipBehind operatorAt word behind scan wordValue isNumeral
     isNumberWord andThen leaf close inside atom step expr more Lines.readField literal begins labelEnds labelText
     labelBehind readLabel readClosedName readShort readTree unitOf readUnit readMeasure readWidth readPhrase
     readMaybe isCondition isConstraint readConstraint readCondition isRemark readForm Frames.readName Frames.step
-    onFirst pieces rest lead leftTrim keepEnd rightTrim cellOf keepRow longOf readRow closing readTens onName
-    onWidth onRow rowOrEnd opened onSame run rightFrom rightLines whole readFrame firstIndex renameTree resolve
-    formsOf seen manyFields manyRows manyLines powers doubled
+    onFirst pieces rest keepRow stripsOf longOf readLong rowOf readRow withStrips moreRow closing readTens onName
+    onWidth onRow rowOrEnd opened onSame rowOrBorder run rightFrom rightLines whole readDrawn ifLabelled readFrame
+    reach placeOf firstIndex renameTree resolve formsOf seen manyFields manyRows manyLines powers doubled
 computed = record { spelled = refl; barred = refl; others = refl }
 
 -- the outcomes of two texts
@@ -173,8 +184,8 @@ pub barred-known : {out : List ℕ} → ReadsText (tagLines 1 ++ (0x7F ∷ [])) 
 barred-known {out} = known barredText out (inl (refused 2 0)) (computed .barred)
 
 -- each wrong program's answer is ruled out
-pub texts-ruled-out : AllFalse (wrongTexts ++ (wrongTextNames ++ (wrongTextOperators ++ wrongTextNumbers)))
+pub texts-ruled-out : AllFalse everyText
 texts-ruled-out =
     every-passes isOther ruled-out
-    (wrongTexts ++ (wrongTextNames ++ (wrongTextOperators ++ wrongTextNumbers)))
+    everyText
     (computed .others)

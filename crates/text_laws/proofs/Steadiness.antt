@@ -1,6 +1,8 @@
--- What is kept stays steady: its bounds, no name repeated where nothing was refused, no field before the field lines.
-use mathlib.Core.Path.{_≡_, refl, ap, sym, _∙_}
-use mathlib.Core.Bool.{Bool, true, false, cond}
+-- What is kept stays steady: its bounds, no name repeated where nothing was refused, no field before the field lines,
+-- no
+-- row outside of rows.
+use mathlib.Core.Path.{_≡_, refl, ap, sym, subst, _∙_}
+use mathlib.Core.Bool.{Bool, true, false, cond, not}
 use mathlib.Core.List.{List, [], _∷_, _++_}
 use mathlib.Core.Option.{Option, none, some, Option·none-ne-some}
 use Prim.Native.Nat.{ℕ, suc}
@@ -8,24 +10,25 @@ use native.Mathlib.Omega.{arith}
 use lib.Dec.{ltb}
 use lib.ListN.{length}
 use Rattle.base.specs.Bytes.{bytes}
-use Rattle.base.specs.Lists.{all, same, isEmpty, firstBreak}
+use Rattle.base.specs.Lists.{all, same, isEmpty, isNone, firstBreak}
 use Rattle.base.proofs.Lists.{not-both}
 use Rattle.rules.specs.Answers.{Answer, refused}
 use Rattle.rules.specs.Limits.{fieldsMost}
 use Rattle.rules.specs.Fields.{Form}
 use Rattle.rules.specs.Within.{keepsSize, keepsNames, keepsTypes, keepsRest, nameReadable}
-use Rattle.rules.specs.Frames.{Row, Slot, units, border, slotsIn}
-use Rattle.text_laws.specs.FrameReader.{readTens, readRow}
+use Rattle.rules.specs.Rows.{Row, isLabelled}
+use Rattle.rules.specs.Frames.{Slot, units, border, slotsIn}
+use Rattle.text_laws.specs.FrameReader.{readTens, readRow, moreRow}
 use Rattle.text_laws.specs.LineReader.{readForm}
 use Rattle.text_laws.specs.Resolving.{indexOf}
 use Rattle.text_laws.specs.Lowest.{lower, broken}
 use Rattle.text_laws.specs.Judging.{face, faces, resolvedIn, showsCell, rules, Judged, isFull, many, withForm}
 use Rattle.text_laws.specs.Judging.{judge}
-use Rattle.text_laws.specs.Fold.{Stage, opening, blank, tensRuler, unitsRuler, topBorder, firstRow, rowBorder}
+use Rattle.text_laws.specs.Fold.{Stage, opening, blank, tensRuler, unitsRuler, topBorder, firstRow, inRow}
 use Rattle.text_laws.specs.Fold.{rowOrBlank, whereLine, lastBlank, firstField, fieldLine, lost, Found, start}
-use Rattle.text_laws.specs.Fold.{onward, losing, wrong, expect, openingName, withName, withWidth, withRow}
-use Rattle.text_laws.specs.Fold.{linedAt, lined}
-use Rattle.text_laws.specs.Steady.{Clear, isHead, Steady}
+use Rattle.text_laws.specs.Fold.{onward, blamed, wrong, expect, openingName, withName, withWidth, withRow}
+use Rattle.text_laws.specs.Fold.{withCells, onMore, withMore, linedAt, lined}
+use Rattle.text_laws.specs.Steady.{Clear, isHead, rowGoes, Steady}
 use Rattle.text_laws.proofs.Bounds.{small-line}
 use Rattle.text_laws.proofs.Faces.{renamed-face}
 use Rattle.text_laws.proofs.Loose.{lower-left, faces-append}
@@ -94,7 +97,7 @@ Stays f = Clear (f .judged) × (isHead (f .stage) ≡ true → f .judged .fields
 module _ (f : Found) (clear : Clear (f .judged)) where
   stays-wrong : Stays (wrong f)
   stays-wrong = (
-    λ e. absurd (Option·none-ne-some (refused 3 (suc (f .lines))) (sym e)),
+    λ e. absurd (Option·none-ne-some (refused 3 (blamed (f .row) (f .lines))) (sym e)),
     λ e. absurd (not-both false e refl),
   )
 
@@ -116,13 +119,29 @@ module _ (f : Found) (clear : Clear (f .judged)) where
 
     stays-row : (o : Option Row) → Stays (withRow f o)
     stays-row none = stays-wrong
-    stays-row (some r) = go (ltb fieldsMost (length (f .cells ++ slotsIn r)))
+    stays-row (some r) = (clear, λ e. no-fields)
+
+    stays-cells : (cs : List Slot) → Stays (withCells f cs)
+    stays-cells cs = go (ltb fieldsMost (length cs))
       where
         go : (b : Bool)
             → Clear (cond b (many (f .judged)) (f .judged))
-            × (isHead rowBorder ≡ true → cond b (many (f .judged)) (f .judged) .fields ≡ [])
+            × (isHead rowOrBlank ≡ true → cond b (many (f .judged)) (f .judged) .fields ≡ [])
         go true = (λ e. absurd (Option·none-ne-some (refused 4 0) (sym e)), λ e. no-fields)
         go false = (clear, λ e. no-fields)
+
+    stays-on : (w : ℕ) (r : Row) (l : List ℕ) (o : Option Row) → Stays (onMore f w r l o)
+    stays-on w r l (some x) = (clear, λ e. no-fields)
+    stays-on w r l none = go (isLabelled r) (same l (border w))
+      where
+        go : (a b : Bool) → Stays (cond a (cond b (withCells f (f .cells ++ slotsIn r)) (wrong f)) (wrong f))
+        go true true = stays-cells (f .cells ++ slotsIn r)
+        go true false = stays-wrong
+        go false b = stays-wrong
+
+    stays-more : (l : List ℕ) (o : Option Row) → Stays (withMore f l o)
+    stays-more l none = stays-wrong
+    stays-more l (some r) = stays-on (f .width) r l (moreRow (f .width) r l)
 
     stays-blank : (l : List ℕ) → Stays (cond (isEmpty l) (onward whereLine f) (withRow f (readRow (f .width) l)))
     stays-blank l = go (isEmpty l)
@@ -144,7 +163,7 @@ stays-line tensRuler f l c h k = stays-width f c (h refl) (readTens l)
 stays-line unitsRuler f l c h k = stays-expect f c (h refl) (units (f .width)) topBorder l
 stays-line topBorder f l c h k = stays-expect f c (h refl) (border (f .width)) firstRow l
 stays-line firstRow f l c h k = stays-row f c (h refl) (readRow (f .width) l)
-stays-line rowBorder f l c h k = stays-expect f c (h refl) (border (f .width)) rowOrBlank l
+stays-line inRow f l c h k = stays-more f c (h refl) l (f .row)
 stays-line rowOrBlank f l c h k = stays-blank f c (h refl) l
 stays-line whereLine f l c h k = stays-expect f c (h refl) (bytes "where:") lastBlank l
 stays-line lastBlank f l c h k = stays-expect f c (h refl) [] firstField l
@@ -152,10 +171,77 @@ stays-line firstField f l c h k = stays-field f c l
 stays-line fieldLine f l c h k = stays-field f c l
 stays-line lost f l c h k = (c, k)
 
+-- ── a row exactly inside of rows ──
+
+abbrev Goes : Found → Type 0
+Goes f = rowGoes (f .stage) (f .row) ≡ true
+
+module _ (f : Found) where
+  goes-row : (o : Option Row) → Goes (withRow f o)
+  goes-row none = refl
+  goes-row (some r) = refl
+
+  goes-on : (w : ℕ) (r : Row) (l : List ℕ) (o : Option Row) → Goes (onMore f w r l o)
+  goes-on w r l (some x) = refl
+  goes-on w r l none = go (isLabelled r) (same l (border w))
+    where
+      go : (a b : Bool) → Goes (cond a (cond b (withCells f (f .cells ++ slotsIn r)) (wrong f)) (wrong f))
+      go true true = refl
+      go true false = refl
+      go false b = refl
+
+  goes-more : (l : List ℕ) (o : Option Row) → Goes (withMore f l o)
+  goes-more l none = refl
+  goes-more l (some r) = goes-on (f .width) r l (moreRow (f .width) r l)
+
+  module _ (no-row : isNone (f .row) ≡ true) where
+    goes-expect : (w : List ℕ) (s : Stage) (l : List ℕ) → rowGoes s (f .row) ≡ isNone (f .row) → Goes (expect w s f l)
+    goes-expect w s l e = go (same l w)
+      where
+        go : (b : Bool) → Goes (cond b (onward s f) (wrong f))
+        go true = e ∙ no-row
+        go false = refl
+
+    goes-name : (o : Option (List ℕ)) → Goes (withName f o)
+    goes-name none = refl
+    goes-name (some n) = no-row
+
+    goes-width : (o : Option ℕ) → Goes (withWidth f o)
+    goes-width none = refl
+    goes-width (some w) = refl
+
+    goes-blank : (l : List ℕ) → Goes (cond (isEmpty l) (onward whereLine f) (withRow f (readRow (f .width) l)))
+    goes-blank l = go (isEmpty l)
+      where
+        go : (b : Bool) → Goes (cond b (onward whereLine f) (withRow f (readRow (f .width) l)))
+        go true = no-row
+        go false = goes-row (readRow (f .width) l)
+
+goes-line : (s : Stage) (f : Found) (l : List ℕ) → rowGoes s (f .row) ≡ true → Goes f → Goes (linedAt s f l)
+unfolding linedAt
+goes-line opening f l h k = goes-name f h (openingName l)
+goes-line blank f l h k = goes-expect f h [] tensRuler l refl
+goes-line tensRuler f l h k = goes-width f h (readTens l)
+goes-line unitsRuler f l h k = goes-expect f h (units (f .width)) topBorder l refl
+goes-line topBorder f l h k = goes-expect f h (border (f .width)) firstRow l refl
+goes-line firstRow f l h k = goes-row f (readRow (f .width) l)
+goes-line inRow f l h k = goes-more f l (f .row)
+goes-line rowOrBlank f l h k = goes-blank f h l
+goes-line whereLine f l h k = goes-expect f h (bytes "where:") lastBlank l refl
+goes-line lastBlank f l h k = goes-expect f h [] firstField l refl
+goes-line firstField f l h k = h
+goes-line fieldLine f l h k = h
+goes-line lost f l h k = k
+
 pub steady-line : (f : Found) (l : List ℕ) → Steady f → Steady (lined f l)
 steady-line f l h =
     let s = stays-line (f .stage) f l (h .clear) (h .head) (h .head) in
-    record { small = small-line (f .stage) f l (h .small); clear = s .0; head = s .1 }
+    record {
+      small = small-line (f .stage) f l (h .small);
+      clear = s .0;
+      head = s .1;
+      row = goes-line (f .stage) f l (h .row) (h .row);
+    }
 
 pub steady-start : Steady start
 unfolding all firstBreak
@@ -163,10 +249,30 @@ steady-start = record {
   small = record {
     name = omega arith;
     width = omega arith;
+    row = refl;
     cells = omega arith;
     texts = refl;
     judged = record { count = omega arith; fields = omega arith; formed = refl };
   };
   clear = λ e. refl;
   head = λ e. refl;
+  row = refl;
 }
+
+-- ── where there is a row ──
+
+pub none-is : (o : Option Row) → isNone o ≡ true → o ≡ none
+none-is none k = refl
+none-is (some r) k = absurd (not-both false k refl)
+
+pub no-row : {f : Found} (s : Stage) → Steady f → f .stage ≡ s → ((o : Option Row) → rowGoes s o ≡ isNone o)
+    → f .row ≡ none
+no-row {f} s h e g =
+    none-is (f .row) (sym (g (f .row)) ∙ subst (λ (z : Stage). rowGoes z (f .row) ≡ true) e (h .row))
+
+pub some-row : {f : Found} → Steady f → f .stage ≡ inRow → (r : Row) × (f .row ≡ some r)
+some-row {f} h e = some-is (f .row) (subst (λ (z : Stage). rowGoes z (f .row) ≡ true) e (h .row))
+  where
+    some-is : (o : Option Row) → not (isNone o) ≡ true → (r : Row) × (o ≡ some r)
+    some-is none k = absurd (not-both false k refl)
+    some-is (some r) k = (r, refl)

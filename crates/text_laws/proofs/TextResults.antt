@@ -9,19 +9,19 @@ use Rattle.rules.specs.Results.{SpellingUnique, TextTotal, TextUnique}
 use Rattle.laws.proofs.Settled as Settled
 use Rattle.text_laws.proofs.FormExact.{form-unique}
 use Rattle.text_laws.proofs.FrameExact.{frame-unique}
-use Rattle.text_laws.proofs.FrameRight.{right-unique}
+use Rattle.text_laws.proofs.FramePlace.{place-unique}
 use Rattle.text_laws.proofs.Answered as Answered
 use Rattle.text_laws.proofs.TextSeen.{seen, outcomeOf, outcome-is}
 use Rattle.rules.specs.Answers.{ofText}
 
 pub spelling-unique : SpellingUnique
-spelling-unique = Answered.spelling-unique frame-unique form-unique right-unique
+spelling-unique = Answered.spelling-unique frame-unique form-unique place-unique
 
 pub text-total : TextTotal
 text-total text out = (outcomeOf (seen text) out, outcome-is text out)
 
 pub text-unique : TextUnique
-text-unique = Answered.text-unique frame-unique form-unique right-unique
+text-unique = Answered.text-unique frame-unique form-unique place-unique
 
 pub text-settled : (text out : List ℕ) (a b : TextAnswer) (after other : List ℕ)
     → ReadsText text out (leaves (ofText a) after)

@@ -1,5 +1,5 @@
 -- What a text is, computed: the answer of its refusal, or the description that it spells.
-use mathlib.Core.Path.{_≡_, refl, sym, _∙_}
+use mathlib.Core.Path.{_≡_, refl, sym, subst, _∙_}
 use mathlib.Core.Bool.{Bool, true, false}
 use mathlib.Core.Logic.{_⊎_, inl, inr}
 use mathlib.Core.List.{List, [], _∷_}
@@ -23,11 +23,12 @@ use Rattle.rules.specs.Refusals.{FormlessIn, FirstFormlessIn, ruleBroken, Plain
 use Rattle.rules.specs.Refusals.{long, byte, line, many, form, rule}
 use Rattle.rules.specs.Promises.{Outcome, leaves, delivered, ReadsText, spelled, refuses}
 use Rattle.text_laws.specs.LineReader.{readForm}
-use Rattle.text_laws.specs.FrameReader.{rightLines, readFrame}
+use Rattle.text_laws.specs.FrameReader.{rightLines, readFrame, placeOf}
 use Rattle.text_laws.specs.Resolving.{described}
 use Rattle.text_laws.proofs.FormExact.{form-sound, form-complete}
 use Rattle.text_laws.proofs.FrameExact.{frame-sound, frame-none}
 use Rattle.text_laws.proofs.FrameRight.{right-lines}
+use Rattle.text_laws.proofs.FramePlace.{place-right}
 use Rattle.text_laws.proofs.Resolve.{resolved-spells}
 
 -- ── the forms of lines ──
@@ -86,7 +87,7 @@ byCount f true = inl (refused 4 0)
 byCount f false = byForms f (formsOf (f .lines))
 
 abbrev byFrame : List ℕ → Option Frame → Answer ⊎ Description
-byFrame text none = inl (refused 3 (suc (rightLines text)))
+byFrame text none = inl (refused 3 (placeOf text))
 byFrame text (some f) = byCount f (isOverfull f)
 
 abbrev byBytes : List ℕ → Bool → Answer ⊎ Description
@@ -125,7 +126,10 @@ count-seen text f p h false e =
     forms-seen text f (record { plain = p; isFrameOf = h; few = e }) (formsOf (f .lines)) (formed (f .lines))
 
 frame-seen : (text : List ℕ) → Plain text → (o : Option Frame) → readFrame text ≡ o → Seen text (byFrame text o)
-frame-seen text p none e = line p (frame-none text e) (right-lines text)
+frame-seen text p none e =
+    let r = right-lines text in
+    subst (λ (n : ℕ). Refuses text (refused 3 n)) (place-right text (rightLines text) r)
+    (line p (frame-none text e) r)
 frame-seen text p (some f) e = count-seen text f p (frame-sound text f e) (isOverfull f) refl
 
 bytes-seen : (text : List ℕ) → length text ≤ textMost → (b : Bool) → all isAllowed text ≡ b

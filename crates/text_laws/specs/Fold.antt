@@ -12,10 +12,11 @@ use Rattle.rules.specs.Answers.{Answer, refused}
 use Rattle.rules.specs.Limits.{textMost, fieldsMost}
 use Rattle.rules.specs.Names.{isAllowed, lineFeed}
 use Rattle.rules.specs.Fields.{Description}
-use Rattle.rules.specs.Frames.{Row, Slot, units, border, slotsIn}
+use Rattle.rules.specs.Rows.{Row, isLabelled}
+use Rattle.rules.specs.Frames.{Slot, units, border, slotsIn}
 use Rattle.rules.specs.Stored.{stored}
 use Rattle.rules.specs.Promises.{Outcome, leaves, delivered}
-use Rattle.text_laws.specs.FrameReader.{readName, readTens, readRow}
+use Rattle.text_laws.specs.FrameReader.{readName, readTens, readRow, moreRow}
 use Rattle.text_laws.specs.Lowest.{lower}
 use Rattle.text_laws.specs.Judging.{Judged, many, judge}
 
@@ -29,7 +30,8 @@ pub data Stage : Type 0 where
   unitsRuler : Stage
   topBorder : Stage
   firstRow : Stage
-  rowBorder : Stage
+  -- a further line of a row, or its border
+  inRow : Stage
   rowOrBlank : Stage
   whereLine : Stage
   lastBlank : Stage
@@ -46,7 +48,9 @@ pub record Found : Type 0 where
   -- NAME and W, once they are read
   pub name : List ℕ
   pub width : ℕ
-  -- no more than there may be
+  -- the row that is not ended
+  pub row : Option Row
+  -- of the rows that are, no more than there may be
   pub cells : List Slot
   pub judged : Judged
 
@@ -62,7 +66,7 @@ abbrev pub unjudged : Judged
 unjudged = record { count = 0; fields = []; lowest = none }
 
 abbrev pub start : Found
-start = record { lines = 0; stage = opening; name = []; width = 0; cells = []; judged = unjudged }
+start = record { lines = 0; stage = opening; name = []; width = 0; row = none; cells = []; judged = unjudged }
 
 abbrev pub fresh : Kept
 fresh = record { size = 0; line = []; found = start }
@@ -76,6 +80,7 @@ onward s f = record {
   stage = s;
   name = f .name;
   width = f .width;
+  row = f .row;
   cells = f .cells;
   judged = f .judged;
 }
@@ -90,13 +95,19 @@ losing a f = record {
   stage = lost;
   name = f .name;
   width = f .width;
+  row = f .row;
   cells = f .cells;
   judged = noted a (f .judged);
 }
 
--- 3 at this line
+-- behind n lines: the next one, or the last one of a row with a cell that is no label
+abbrev pub blamed : Option Row → ℕ → ℕ
+blamed none n = suc n
+blamed (some r) n = cond (isLabelled r) (suc n) n
+
+-- 3 where this line is wrong
 abbrev pub wrong : Found → Found
-wrong f = losing (refused 3 (suc (f .lines))) f
+wrong f = losing (refused 3 (blamed (f .row) (f .lines))) f
 
 -- the line that must be this one
 abbrev pub expect : List ℕ → Stage → Found → List ℕ → Found
@@ -114,6 +125,7 @@ withName f (some n) = record {
   stage = blank;
   name = n;
   width = f .width;
+  row = f .row;
   cells = f .cells;
   judged = f .judged;
 }
@@ -125,24 +137,48 @@ withWidth f (some w) = record {
   stage = unitsRuler;
   name = f .name;
   width = w;
+  row = none;
   cells = f .cells;
   judged = f .judged;
 }
 
--- cells with those of one more row, or 4
-abbrev pub withCells : Found → List Slot → Found
-withCells f cs = record {
+-- in a row
+abbrev pub withLine : Found → Row → Found
+withLine f r = record {
   lines = suc (f .lines);
-  stage = rowBorder;
+  stage = inRow;
   name = f .name;
   width = f .width;
-  cells = cond (ltb fieldsMost (length cs)) (f .cells) cs;
-  judged = cond (ltb fieldsMost (length cs)) (many (f .judged)) (f .judged);
+  row = some r;
+  cells = f .cells;
+  judged = f .judged;
 }
 
 abbrev pub withRow : Found → Option Row → Found
 withRow f none = wrong f
-withRow f (some r) = withCells f (f .cells ++ slotsIn r)
+withRow f (some r) = withLine f r
+
+-- cells with those of the row that ends, or 4
+abbrev pub withCells : Found → List Slot → Found
+withCells f cs = record {
+  lines = suc (f .lines);
+  stage = rowOrBlank;
+  name = f .name;
+  width = f .width;
+  row = none;
+  cells = cond (ltb fieldsMost (length cs)) (f .cells) cs;
+  judged = cond (ltb fieldsMost (length cs)) (many (f .judged)) (f .judged);
+}
+
+-- a further line of a row, or its border if all cells say labels
+abbrev pub onMore : Found → ℕ → Row → List ℕ → Option Row → Found
+onMore f w r l none =
+    cond (isLabelled r) (cond (same l (border w)) (withCells f (f .cells ++ slotsIn r)) (wrong f)) (wrong f)
+onMore f w r l (some x) = withLine f x
+
+abbrev pub withMore : Found → List ℕ → Option Row → Found
+withMore f l none = wrong f
+withMore f l (some r) = onMore f (f .width) r l (moreRow (f .width) r l)
 
 abbrev pub withField : Found → List ℕ → Found
 withField f l = record {
@@ -150,6 +186,7 @@ withField f l = record {
   stage = fieldLine;
   name = f .name;
   width = f .width;
+  row = f .row;
   cells = f .cells;
   judged = judge (f .cells) (suc (f .lines)) (f .judged) l;
 }
@@ -161,7 +198,7 @@ linedAt tensRuler f l = withWidth f (readTens l)
 linedAt unitsRuler f l = expect (units (f .width)) topBorder f l
 linedAt topBorder f l = expect (border (f .width)) firstRow f l
 linedAt firstRow f l = withRow f (readRow (f .width) l)
-linedAt rowBorder f l = expect (border (f .width)) rowOrBlank f l
+linedAt inRow f l = withMore f l (f .row)
 linedAt rowOrBlank f l = cond (isEmpty l) (onward whereLine f) (withRow f (readRow (f .width) l))
 linedAt whereLine f l = expect (bytes "where:") lastBlank f l
 linedAt lastBlank f l = expect [] firstField f l
@@ -198,9 +235,9 @@ kept t = foldl fed fresh t
 
 -- ── the end ──
 
--- 3 behind the last line
+-- 3 where the text ends early
 abbrev pub early : Found → Option Answer
-early f = some (refused 3 (suc (f .lines)))
+early f = some (refused 3 (blamed (f .row) (f .lines)))
 
 -- 7 where cells remain
 abbrev pub uncelled : Found → Option Answer
@@ -215,7 +252,7 @@ lowestAt tensRuler l f = early f
 lowestAt unitsRuler l f = early f
 lowestAt topBorder l f = early f
 lowestAt firstRow l f = early f
-lowestAt rowBorder l f = early f
+lowestAt inRow l f = early f
 lowestAt rowOrBlank l f = early f
 lowestAt whereLine l f = early f
 lowestAt lastBlank l f = early f

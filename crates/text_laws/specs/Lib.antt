@@ -1,6 +1,7 @@
 -- Reader       a reader of expressions as a function
 -- LineReader   a reader of one field line
 -- FrameReader  a text into lines, a line into cells, and a frame line by line
+-- Bars         the bars of two lines, compared column by column
 -- Resolving    names resolved to indexes
 -- Lowest       the lowest number so far, at its first line
 -- Judging      what is kept of field lines, and what a line does to it
@@ -10,10 +11,12 @@
 -- WrongTextNames  of those that are wrong about names
 -- WrongTextOperators  of those that are wrong about quotients, remainders and powers
 -- WrongTextNumbers  of those that are wrong about how often a field is read
+-- WrongTextRows  of those that are wrong about rows of several lines
 -- The readers are helpers of code and proofs; no public promise rests on them.
 pub mod Reader
 pub mod LineReader
 pub mod FrameReader
+pub mod Bars
 pub mod Resolving
 pub mod Lowest
 pub mod Judging
@@ -23,3 +26,4 @@ pub mod WrongTexts
 pub mod WrongTextNames
 pub mod WrongTextOperators
 pub mod WrongTextNumbers
+pub mod WrongTextRows

@@ -3,15 +3,15 @@ use mathlib.Core.Path.{_≡_, refl, ap, ap₂, sym, subst, _∙_}
 use mathlib.Core.Bool.{Bool, true, false, cond, _||_, not}
 use mathlib.Core.List.{List, [], _++_, append-assoc, append-nil}
 use mathlib.Core.Option.{Option, none, some}
-use Prim.Native.Nat.{ℕ, suc, _+_, _-_, _≤_, _<_}
+use Prim.Native.Nat.{ℕ, suc, _+_, _*_, _-_, _≤_, _<_}
 use native.Mathlib.Omega.{arith}
 use lib.Dec.{ltb, eqb}
 use lib.ListN.{length, take, drop, length-append, length-drop, take-append-drop}
 use lib.Seq.{take-append-seam, drop-append-seam, length-take-le}
 use native.Mathlib.Nat.{sub-zero}
 use borrow.Author.Tests.{lt-ltb, le-ltb, eq-eqb, ne-eqb, eqb-true}
-use Rattle.base.specs.Lists.{isEmpty, joined, between}
-use Rattle.base.proofs.Lists.{and-left, and-right, between-true}
+use Rattle.base.specs.Lists.{isEmpty, joined, between, ifAny, isNone}
+use Rattle.base.proofs.Lists.{and-left, and-right, between-true, not-both}
 use Rattle.writing.specs.Writes.{Writes}
 use Rattle.writing.proofs.Writing.{writes-join}
 use Rattle.rules.specs.Answers.{Answer, accepted, refused}
@@ -20,34 +20,29 @@ use Rattle.rules.specs.References.{readers}
 use Rattle.rules.specs.Fields.{Field}
 use Rattle.rules.specs.Stored.{counted, recordOf, records, storedWith, storedIn, headBody, stored}
 use Rattle.rules.specs.Promises.{leaves, overlaid, delivered}
+use Rattle.rules.specs.Limits.{rowLinesMost}
+use Rattle.rules.specs.Rows.{Row, isDrawnRow, isLabelled}
 use Rattle.references.specs.Numbers.{numbered}
 use Rattle.text_laws.specs.Lowest.{lower}
 use Rattle.text_laws.specs.Fold as fold
+use Rattle.text_laws.specs.Steady.{rowGoes, Steady}
 use Rattle.text_laws.proofs.Loose.{lowest-clear}
+use Rattle.text_laws.proofs.Steadiness.{none-is}
 use Rattle.texts.specs.HeldNames.{Names}
 use Rattle.texts.specs.Noted.{noteOf}
-use Rattle.texts.specs.States.{
-  note,
-  isTold,
-  Room,
-  Counts,
-  Holds,
-  stageOf,
-  earlyNote,
-  remainNote,
-  lastNote,
-  TableStep,
-  Area,
-  area,
-  plainField,
-  Numbers,
-}
+use Rattle.texts.specs.RowPlaces.{RowKept}
+use Rattle.texts.specs.Slots.{areLabels}
+use Rattle.texts.specs.Changes.{note}
+use Rattle.texts.specs.States.{isTold, Room, Counts, Holds, stageOf, earlyNote, rowNote, remainNote, lastNote}
+use Rattle.texts.specs.States.{TableStep, Area, area, plainField, Numbers}
 use Rattle.texts.specs.declared.notes.Note.{Note}
 use Rattle.texts.specs.declared.states.Stage.{Stage}
 use Rattle.texts.specs.declared.states.Stage.the-variants as at
 use Rattle.texts.specs.declared.states.Reading.{Reading}
 use Rattle.writing.specs.Puts.{placed, put}
 use Rattle.texts.proofs.LineForms.{told-lower}
+use Rattle.texts.proofs.RowShown.{row-labels-like}
+use Rattle.texts.proofs.StateSteps.{blamed-outside}
 use Rattle.texts.proofs.RecordLaws.{two-writes, two-end}
 use Rattle.texts.proofs.RecordNumbers.{records-length, numbered-all}
 use Rattle.texts.proofs.TableLaws.{head-end}
@@ -56,17 +51,35 @@ use Rattle.texts.proofs.RecordSizes.{two-length, counted-length}
 -- ── the lowest refusal ──
 
 module _ (f : fold.Found) (r : Reading) (c : Counts f r) where
-  early-is : noteOf (earlyNote r) ≡ fold.early f
+  next-line : r .lines + 1 ≡ suc (f .lines)
+  next-line = let q = c .lines in omega (arith, q)
+
+  early-is : f .row ≡ none → noteOf (earlyNote r) ≡ fold.early f
   unfolding noteOf
-  early-is = let n : r .lines + 1 ≡ suc (f .lines) = (let q = c .lines in omega (arith, q)) in
-      ap (λ (p : ℕ). some (refused 3 p)) n
+  early-is e = ap (λ (p : ℕ). some (refused 3 p)) (next-line ∙ sym (blamed-outside (f .row) (f .lines) e))
+
+  -- in a row
+  row-is : (row : List ℕ) (o : Option Row) → not (isNone o) ≡ true
+      → ifAny (isDrawnRow rowLinesMost (f .width)) o ≡ true → RowKept o (r .width) (r .row) row
+      → noteOf (rowNote r row) ≡ some (refused 3 (fold.blamed o (f .lines)))
+  unfolding noteOf
+  row-is row none g d k = absurd (not-both false g refl)
+  row-is row (some x) g d k =
+      ap (λ (b : Bool). noteOf (cond b (earlyNote r) (note 3 (r .lines))))
+      (row-labels-like row (r .row) (r .width) x
+      (subst (λ (w : ℕ). isDrawnRow rowLinesMost w x ≡ true) (sym (c .width)) d) (k .lines))
+      ∙ go (isLabelled x)
+    where
+      go : (b : Bool) → noteOf (cond b (earlyNote r) (note 3 (r .lines)))
+          ≡ some (refused 3 (cond b (suc (f .lines)) (f .lines)))
+      go true = ap (λ (p : ℕ). some (refused 3 p)) next-line
+      go false = ap (λ (p : ℕ). some (refused 3 p)) (c .lines)
 
   remain-is : noteOf (remainNote r) ≡ fold.uncelled f
   unfolding noteOf
   remain-is =
-      let n : r .lines + 1 ≡ suc (f .lines) = (let q = c .lines in omega (arith, q)) in
       go (ltb (r .fields) (r .cells))
-      ∙ ap (λ (p : ℕ). cond (ltb (r .fields) (r .cells)) (some (refused 7 p)) none) n
+      ∙ ap (λ (p : ℕ). cond (ltb (r .fields) (r .cells)) (some (refused 7 p)) none) next-line
       ∙ ap₂ {C = Option Answer} (λ (a b : ℕ). cond (ltb a b) (some (refused 7 (suc (f .lines)))) none) (c .fields)
       (c .cells)
     where
@@ -75,47 +88,55 @@ module _ (f : fold.Found) (r : Reading) (c : Counts f r) where
       go true = refl
       go false = refl
 
-  fields-is : (l : List ℕ) (whole : Bool) → isEmpty l ≡ whole
+  fields-is : f .row ≡ none → (l : List ℕ) (whole : Bool) → isEmpty l ≡ whole
       → cond whole (lower (noteOf (r .note)) (noteOf (remainNote r))) (noteOf (earlyNote r))
       ≡ cond (isEmpty l) (lower (f .judged .lowest) (fold.uncelled f)) (fold.early f)
-  fields-is l whole e = rw (e, c .lowest, remain-is, early-is) refl
+  fields-is o l whole e = rw (e, c .lowest, remain-is, early-is o) refl
 
-  last-at : (s : Stage) (l : List ℕ) (whole : Bool) → isEmpty l ≡ whole
-      → lastNote s r whole ≡ fold.lowestAt (stageOf s) l f
-  unfolding lastNote fold.lowestAt
-  last-at at.Opening l w e = early-is
-  last-at at.Blank l w e = early-is
-  last-at at.TensRuler l w e = early-is
-  last-at at.UnitsRuler l w e = early-is
-  last-at at.TopBorder l w e = early-is
-  last-at at.FirstRow l w e = early-is
-  last-at at.RowBorder l w e = early-is
-  last-at at.RowOrBlank l w e = early-is
-  last-at at.WhereLine l w e = early-is
-  last-at at.LastBlank l w e = early-is
-  last-at at.FirstField l w e = early-is
-  last-at at.FieldLine l w e = fields-is l w e
-  last-at at.Lost l w e = c .lowest
+  module _ (k : Steady f) (row : List ℕ) (kept : RowKept (f .row) (r .width) (r .row) row) where
+    last-at : (s : Stage) (l : List ℕ) (whole : Bool) → isEmpty l ≡ whole → rowGoes (stageOf s) (f .row) ≡ true
+        → lastNote s r whole row ≡ fold.lowestAt (stageOf s) l f
+    unfolding lastNote fold.lowestAt
+    last-at at.Opening l w e g = early-is (none-is (f .row) g)
+    last-at at.Blank l w e g = early-is (none-is (f .row) g)
+    last-at at.TensRuler l w e g = early-is (none-is (f .row) g)
+    last-at at.UnitsRuler l w e g = early-is (none-is (f .row) g)
+    last-at at.TopBorder l w e g = early-is (none-is (f .row) g)
+    last-at at.FirstRow l w e g = early-is (none-is (f .row) g)
+    last-at at.InRow l w e g = row-is row (f .row) g (k .small .row) kept
+    last-at at.RowOrBlank l w e g = early-is (none-is (f .row) g)
+    last-at at.WhereLine l w e g = early-is (none-is (f .row) g)
+    last-at at.LastBlank l w e g = early-is (none-is (f .row) g)
+    last-at at.FirstField l w e g = early-is (none-is (f .row) g)
+    last-at at.FieldLine l w e g = fields-is (none-is (f .row) g) l w e
+    last-at at.Lost l w e g = c .lowest
 
-  pub last-is : (l : List ℕ) (whole : Bool) → isEmpty l ≡ whole
-      → lastNote (r .stage) r whole ≡ fold.lowestAt (f .stage) l f
-  last-is l whole e = last-at (r .stage) l whole e ∙ ap (λ (s : fold.Stage). fold.lowestAt s l f) (c .stage)
+    pub last-is : (l : List ℕ) (whole : Bool) → isEmpty l ≡ whole
+        → lastNote (r .stage) r whole row ≡ fold.lowestAt (f .stage) l f
+    last-is l whole e =
+        last-at (r .stage) l whole e (subst (λ (s : fold.Stage). rowGoes s (f .row) ≡ true) (sym (c .stage)) (k .row))
+        ∙ ap (λ (s : fold.Stage). fold.lowestAt s l f) (c .stage)
 
 -- it can be told
-pub last-told : (s : Stage) (r : Reading) (whole : Bool) → Room r → isTold (lastNote s r whole) ≡ true
+pub last-told : (s : Stage) (r : Reading) (whole : Bool) (row : List ℕ) → Room r
+    → isTold (lastNote s r whole row) ≡ true
 unfolding lastNote noteOf
-last-told at.Opening r w h = refl
-last-told at.Blank r w h = refl
-last-told at.TensRuler r w h = refl
-last-told at.UnitsRuler r w h = refl
-last-told at.TopBorder r w h = refl
-last-told at.FirstRow r w h = refl
-last-told at.RowBorder r w h = refl
-last-told at.RowOrBlank r w h = refl
-last-told at.WhereLine r w h = refl
-last-told at.LastBlank r w h = refl
-last-told at.FirstField r w h = refl
-last-told at.FieldLine r w h = go w
+last-told at.Opening r w row h = refl
+last-told at.Blank r w row h = refl
+last-told at.TensRuler r w row h = refl
+last-told at.UnitsRuler r w row h = refl
+last-told at.TopBorder r w row h = refl
+last-told at.FirstRow r w row h = refl
+last-told at.InRow r w row h = go (areLabels row (r .row) (2 * r .width + 1))
+  where
+    go : (b : Bool) → isTold (noteOf (cond b (earlyNote r) (note 3 (r .lines)))) ≡ true
+    go true = refl
+    go false = refl
+last-told at.RowOrBlank r w row h = refl
+last-told at.WhereLine r w row h = refl
+last-told at.LastBlank r w row h = refl
+last-told at.FirstField r w row h = refl
+last-told at.FieldLine r w row h = go w
   where
     left : (b : Bool) → isTold (noteOf (cond b (note 7 (r .lines + 1)) (note 0 0))) ≡ true
     left true = refl
@@ -125,7 +146,7 @@ last-told at.FieldLine r w h = go w
         → isTold (cond b (lower (noteOf (r .note)) (noteOf (remainNote r))) (noteOf (earlyNote r))) ≡ true
     go true = told-lower (noteOf (r .note)) (noteOf (remainNote r)) (h .told) (left (ltb (r .fields) (r .cells)))
     go false = refl
-last-told at.Lost r w h = h .told
+last-told at.Lost r w row h = h .told
 
 pub note-refused : (a : Note) → (a .number ≡ 0 → ⊥) → noteOf a ≡ some (refused (a .number) (a .place))
 unfolding noteOf

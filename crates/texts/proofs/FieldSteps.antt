@@ -29,7 +29,8 @@ use Rattle.texts.specs.Noted.{noteOf}
 use Rattle.texts.specs.HeldNames as held
 use Rattle.texts.specs.Slots.{storedSlot}
 use Rattle.texts.specs.Resolved.{indexed}
-use Rattle.texts.specs.States.{note, changed, withLine, lineRefused, lineKept, isFullAs, NamedWith}
+use Rattle.texts.specs.Changes.{note, changed, withLine}
+use Rattle.texts.specs.States.{lineRefused, lineKept, isFullAs, NamedWith}
 use Rattle.texts.specs.States.{Area, plainField, isShortRecord, Counts, Named, Holds}
 use Rattle.texts.specs.declared.notes.Note.{Note}
 use Rattle.texts.specs.declared.states.Stage.the-variants as at
@@ -72,6 +73,7 @@ fieldFound f j = record {
   stage = fold.fieldLine;
   name = f .name;
   width = f .width;
+  row = f .row;
   cells = f .cells;
   judged = j;
 }
@@ -88,6 +90,7 @@ module _ (f : fold.Found) (r : Reading) {cells : List ℕ} {table : Area} {label
       stage = refl;
       width = h .counts .width;
       name = h .counts .name;
+      row = h .counts .row;
       cells = h .counts .cells;
       count = c;
       fields = h .counts .fields ∙ ap length (sym e);
@@ -234,6 +237,7 @@ module _ (f : fold.Found) (r : Reading) {cells : List ℕ} {table after : Area} 
         stage = refl;
         width = h .counts .width;
         name = h .counts .name;
+        row = h .counts .row;
         cells = h .counts .cells;
         count = (let q = h .counts .count in omega (arith, q, c));
         fields = (let q = h .counts .fields in let z = ap length e in omega (arith, q, n, z));

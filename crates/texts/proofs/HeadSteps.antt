@@ -16,6 +16,7 @@ use Rattle.base.proofs.Lists.{and-left, and-right, not-both}
 use Rattle.base.proofs.Scans.{same-length}
 use Rattle.rules.specs.Limits.{fieldsMost, labelMost}
 use Rattle.rules.specs.Names.{isLabel}
+use Rattle.rules.specs.Rows.{Row}
 use Rattle.rules.specs.Frames.{tens}
 use Rattle.text_laws.specs.FrameReader.{closing, readName, readTens}
 use Rattle.text_laws.specs.Judging.{faces, Judged}
@@ -24,7 +25,9 @@ use Rattle.rules.specs.Fields.{Field}
 use Rattle.text_laws.specs.Fold as fold
 use Rattle.texts.specs.HeldNames.{Names}
 use Rattle.texts.specs.FramePlaces.{isSome, widthOr, nameBehind}
-use Rattle.texts.specs.States.{changed, withHead, slotMost, Room, Area, area, Numbers, Holds}
+use Rattle.texts.specs.RowPlaces.{linesIn}
+use Rattle.texts.specs.Changes.{changed, withHead, withLines}
+use Rattle.texts.specs.States.{slotMost, Room, Area, area, Numbers, Holds}
 use Rattle.texts.specs.declared.states.Stage.the-variants as at
 use Rattle.texts.specs.declared.states.Reading.{Reading}
 use Rattle.writing.specs.Puts.{placed, put}
@@ -139,6 +142,7 @@ module _ (f : fold.Found) (r : Reading) {cells : List ℕ} {table : Area} {label
       stage = refl;
       width = h .counts .width;
       name = omega (arith, w .end);
+      row = h .counts .row;
       cells = h .counts .cells;
       count = h .counts .count;
       fields = h .counts .fields;
@@ -158,15 +162,16 @@ module _ (f : fold.Found) (r : Reading) {cells : List ℕ} {table : Area} {label
   }
 
   -- W
-  pub holds-width : (w : ℕ)
+  pub holds-width : f .row ≡ none → (w : ℕ)
       → Holds (fold.withWidth f (some w)) (changed (withHead r w (r .name) (r .end) (r .cells) (r .slots))
       (r .lines + 1) at.UnitsRuler (r .note)) cells table labels names
-  holds-width w = record {
+  holds-width outside w = record {
     counts = record {
       lines = next-line f r h;
       stage = refl;
       width = refl;
       name = h .counts .name;
+      row = h .counts .row ∙ ap (λ (o : Option Row). length (linesIn o)) outside;
       cells = h .counts .cells;
       count = h .counts .count;
       fields = h .counts .fields;
@@ -212,6 +217,7 @@ pub room-width : (r : Reading) (w : ℕ) → Room r → w ≤ 32
 room-width r w h le = record {
   width = le;
   name = h .name;
+  row = h .row;
   front = h .front;
   cells = h .cells;
   slots = h .slots;
@@ -227,6 +233,7 @@ pub room-name : (r : Reading) (k : ℕ) → Room r → k ≤ labelMost
 room-name r k h le = record {
   width = h .width;
   name = le;
+  row = h .row;
   front = omega arith;
   cells = h .cells;
   slots = h .slots;
@@ -239,11 +246,12 @@ room-name r k h le = record {
 
 pub room-row : (r : Reading) (n next : ℕ) → Room r → r .cells + n ≤ fieldsMost
     → next ≤ slotMost * (r .cells + n) → r .slots ≤ next
-    → Room (changed (withHead r (r .width) (r .name) (r .end) (r .cells + n) next) (r .lines + 1)
-    at.RowBorder (r .note))
+    → Room (changed (withHead (withLines r 0) (r .width) (r .name) (r .end) (r .cells + n) next) (r .lines + 1)
+    at.RowOrBlank (r .note))
 room-row r n next h few le more = record {
   width = h .width;
   name = h .name;
+  row = omega arith;
   front = h .front;
   cells = few;
   slots = le;

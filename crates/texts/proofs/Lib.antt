@@ -9,7 +9,9 @@
 -- FieldWords, FieldNames   phrases, units, labels and short names at a place of a text
 -- FieldClauses             constraint and condition at a place of a text
 -- FrameLeaves              pieces, rulers and the opening line, as the code reads them
--- RowLeaves                cells and long rows, as the code reads them
+-- TrimLaws                 blanks taken off both ends of a text
+-- RowLeaves                long rows, as the code reads them
+-- BarLaws                  a further line of a row, and the lines of a row
 -- TreeTypes                the types of a line's expressions, by the stored forms that the code makes
 -- NoteLaws                 the lower of two notes
 -- HeldClashes              a field's names held against those of earlier fields
@@ -37,7 +39,8 @@
 -- SlotLaws                 a cell as it is kept, and whether it is one for the field of a line
 -- SlotRows                 the cells of a row that is read, and cells put one behind the other
 -- CellNames                a cell held against a field line
--- RowShown                 the cells that a row shows, by the pieces of its line
+-- CellSteps                the text of a cell, line by line
+-- RowShown                 the cells of a row by its kept lines
 -- RecordSizes              the lengths of what is stored of a line, by its parts
 -- RecordLaws               what is written of a line is its record
 -- RecordNumbers            the records of fields get their numbers
@@ -47,6 +50,8 @@
 -- StateSteps               what the code keeps behind a right line and behind a wrong one
 -- HeldArrays               names held in arrays, and one more
 -- RowSteps                 what the code keeps behind a row
+-- RowLines                 the lines of a row as they are kept
+-- MoreSteps                what the code keeps behind a line in a row
 -- FormRules                the rules 7 to 10 of a line, by what the code tests of it
 -- SlotPlaces               where the kept cells stand
 -- LineForms                one field line: its form, its names as they are held, room for it
@@ -73,6 +78,7 @@ pub mod FieldWords
 pub mod FieldNames
 pub mod FieldClauses
 pub mod FrameLeaves
+pub mod TrimLaws
 pub mod RowLeaves
 pub mod TreeTypes
 pub mod NoteLaws
@@ -93,8 +99,10 @@ pub mod FieldParts
 pub mod PartSteps
 pub mod SplitSteps
 pub mod LineEnds
+pub mod BarLaws
 pub mod RowTests
 pub mod CellNames
+pub mod CellSteps
 pub mod RowShown
 pub mod SlotLaws
 pub mod SlotRows
@@ -111,6 +119,8 @@ pub mod StateSteps
 pub mod HeadSteps
 pub mod HeldArrays
 pub mod RowSteps
+pub mod RowLines
+pub mod MoreSteps
 pub mod FieldSteps
 pub mod RecordNumbers
 pub mod EndSteps

@@ -2,16 +2,17 @@
 use mathlib.Core.Path.{_≡_, refl, ap, sym, _∙_}
 use mathlib.Core.Bool.{Bool, true, false, cond}
 use mathlib.Core.List.{List, [], _∷_}
-use Prim.Native.Nat.{ℕ, suc, _+_, _≤_, _<_}
+use Prim.Native.Nat.{ℕ, suc, _+_, _-_, _≤_, _<_}
 use native.Mathlib.Omega.{arith}
 use native.Mathlib.Numerals.{add-one}
 use lib.Dec.{eqb}
-use lib.ListN.{length, drop, getD, length-drop}
+use lib.ListN.{length, take, drop, getD, length-drop}
 use lib.Seq.{drop-cons, drop-drop, drop-length, getD-drop}
 use borrow.Author.Tests.{le-leb, lt-leb, ne-eqb, eq-eqb}
 use Rattle.base.specs.Lists.{all}
 use Rattle.base.proofs.Lists.{between-true, true-between, or-right}
 use Rattle.rules.specs.Names.{isPrintable, isAllowed, lineFeed}
+use Rattle.rules.specs.Frames.{isLine}
 use Rattle.texts.specs.FramePlaces.{upTo}
 use Rattle.texts.specs.LineEnds.{printableLength}
 use Rattle.texts.proofs.ExprLeaves.{all-step, all-stop, all-end}
@@ -131,3 +132,21 @@ module _ (s : List ℕ) (at i : ℕ) (first : i ≡ at + printableLength (drop a
       ap (λ (n : ℕ). isPrintable (getD s n 0)) first
       ∙ ap isPrintable (sym (getD-drop at s (printableLength (drop at s)) 0)) ∙ p in
       part-allowed ∙ all-stop isAllowed s i lt (bad-byte (getD s i 0) q n)
+
+-- ── a line ──
+
+front-line : (s : List ℕ) → isLine (take (printableLength s) s) ≡ true
+unfolding printableLength all
+front-line [] = refl
+front-line (b ∷ s) = go (isPrintable b) refl (front-line s)
+  where
+    go : (x : Bool) → isPrintable b ≡ x → isLine (take (printableLength s) s) ≡ true
+        → isLine (take (cond x (suc (printableLength s)) 0) (b ∷ s)) ≡ true
+    go true e h = rw (feed-other b e) h
+    go false e h = refl
+
+pub printable-line : (s : List ℕ) (at i : ℕ) → i ≡ at + printableLength (drop at s)
+    → isLine (take (i - at) (drop at s)) ≡ true
+printable-line s at i e =
+    let n : i - at ≡ printableLength (drop at s) = omega (arith, e) in
+    ap (λ (m : ℕ). isLine (take m (drop at s))) n ∙ front-line (drop at s)

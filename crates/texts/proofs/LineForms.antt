@@ -27,7 +27,8 @@ use Rattle.texts.specs.HeldNames.{Names, HeldAs, Kept}
 use Rattle.texts.specs.HeldParts.{WidthHeld, LineBytes, PartsHeld, PartsFor}
 use Rattle.texts.specs.HeldRecords.{isSmallAs, fieldSize, Writable}
 use Rattle.texts.specs.Noted.{noteOf}
-use Rattle.texts.specs.States.{note, Named, NamedWith, laterNote, isTold, isFullAs, lineRefused, lineKept}
+use Rattle.texts.specs.Changes.{note}
+use Rattle.texts.specs.States.{Named, NamedWith, laterNote, isTold, isFullAs, lineRefused, lineKept}
 use Rattle.texts.specs.States.{recordMost, Room, Counts}
 use Rattle.texts.specs.declared.notes.Note.{Note}
 use Rattle.texts.specs.StoredTrees.{TreeBytes, held}
@@ -231,6 +232,7 @@ pub room-refused : (r : Reading) (a : Note) → Room r → r .count < fieldsMost
 room-refused r a h lt t = record {
   width = h .width;
   name = h .name;
+  row = h .row;
   front = h .front;
   cells = h .cells;
   slots = h .slots;
@@ -247,6 +249,7 @@ pub room-kept : (r : Reading) (cell end : ℕ) (rested : Bool) (a : Note) → Ro
 room-kept r cell end rested a h lt le up most t = record {
   width = h .width;
   name = h .name;
+  row = h .row;
   front = (let q = h .front in omega (arith, q, up));
   cells = h .cells;
   slots = h .slots;

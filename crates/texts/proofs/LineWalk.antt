@@ -24,17 +24,20 @@ use Rattle.text_laws.proofs.Steadiness.{steady-start, steady-line}
 use Rattle.texts.specs.HeldNames.{Names}
 use Rattle.texts.specs.LineEnds.{printableLength}
 use Rattle.texts.specs.Noted.{noteOf}
-use Rattle.texts.specs.States.{begunWith, Room, Begun, NoneCounted, Area, area, Holds, LineStep}
+use Rattle.texts.specs.RowPlaces.{RowKept}
+use Rattle.texts.specs.Changes.{begunWith}
+use Rattle.texts.specs.States.{Room, Begun, NoneCounted, Area, area, Holds, LineStep}
 use Rattle.texts.specs.declared.states.Reading.{Reading}
 use Rattle.texts.proofs.LineEnds.{feed-end, feed-here, allowed-end, allowed-feed, allowed-other}
 use Rattle.texts.proofs.SplitSteps.{piece-at, rest-at, piece-none}
-use Rattle.texts.proofs.StateSteps.{empty-nil, filled-nil}
+use Rattle.texts.proofs.StateSteps.{empty-nil, filled-nil, kept-outside}
 
 -- behind the lines up to a place
-pub record Walking (t : List ℕ) (at : ℕ) (r : Reading) (cells : List ℕ) (table : Area) (labels : List (List ℕ))
-    (names : Names) : Type 0 where
+pub record Walking (t : List ℕ) (at : ℕ) (r : Reading) (cells row : List ℕ) (table : Area)
+    (labels : List (List ℕ)) (names : Names) : Type 0 where
   pub found : fold.Found
   pub steady : Steady found
+  pub kept : RowKept (found .row) (r .width) (r .row) row
   pub holds : Holds found r cells table labels names
   pub runs : foldl fold.lined fold.start (linesOf t) ≡ foldl fold.lined found (linesOf (drop at t))
   pub behind : rest lineFeed t ≡ rest lineFeed (drop at t)
@@ -45,6 +48,7 @@ unfolding noteOf
 room-begun = record {
   width = omega arith;
   name = omega arith;
+  row = omega arith;
   front = omega arith;
   cells = omega arith;
   slots = omega arith;
@@ -55,18 +59,20 @@ room-begun = record {
   told = refl;
 }
 
-pub walking-start : (t cells table counts : List ℕ) (labels : List (List ℕ)) (names : Names) → NoneCounted counts
-    → Begun labels names → Walking t 0 begunWith cells (area table counts) labels names
+pub walking-start : (t cells row table counts : List ℕ) (labels : List (List ℕ)) (names : Names) → NoneCounted counts
+    → Begun labels names → Walking t 0 begunWith cells row (area table counts) labels names
 unfolding joined any noteOf
-walking-start t cells table counts labels names none-yet room = record {
+walking-start t cells row table counts labels names none-yet room = record {
   found = fold.start;
   steady = steady-start;
+  kept = kept-outside refl refl;
   holds = record {
     counts = record {
       lines = refl;
       stage = refl;
       width = refl;
       name = refl;
+      row = refl;
       cells = refl;
       count = refl;
       fields = refl;
@@ -92,46 +98,49 @@ walking-start t cells table counts labels names none-yet room = record {
   bytes = refl;
 }
 
-module _ (t : List ℕ) (at i : ℕ) (r : Reading) {cells : List ℕ} {table : Area} {labels : List (List ℕ)} {names : Names}
-    (w : Walking t at r cells table labels names) (first : i ≡ at + printableLength (drop at t)) where
-  pub walking-next : i < length t → getD t i 0 ≡ lineFeed → (q : Reading) {cells′ : List ℕ} {table′ : Area}
-      {labels′ : List (List ℕ)} {names′ : Names}
-      → LineStep (take (i - at) (drop at t)) r q cells cells′ table table′ labels labels′ names names′
-      → Walking t (i + 1) q cells′ table′ labels′ names′
-  walking-next lt feed q step =
-      let l = take (i - at) (drop at t) in
-      let e = feed-here t at i first lt feed in
-      record {
-        found = fold.lined (w .found) l;
-        steady = steady-line (w .found) l (w .steady);
-        holds = step .2 (w .found) (w .steady) (w .holds);
-        runs = w .runs ∙ ap (foldl fold.lined (w .found)) (piece-at lineFeed t at i e lt);
-        behind = w .behind ∙ rest-at lineFeed t at i e lt;
-        bytes = w .bytes ∙ allowed-feed t at i first lt feed;
-      }
+module _ (t : List ℕ) (at i : ℕ) (r : Reading) {cells row : List ℕ} {table : Area} {labels : List (List ℕ)}
+    {names : Names} (w : Walking t at r cells row table labels names) (first : i ≡ at + printableLength (drop at t))
+  where
+    pub walking-next : i < length t → getD t i 0 ≡ lineFeed → (q : Reading) {cells′ row′ : List ℕ} {table′ : Area}
+        {labels′ : List (List ℕ)} {names′ : Names}
+        → LineStep (take (i - at) (drop at t)) r q cells cells′ row row′ table table′ labels labels′ names names′
+        → Walking t (i + 1) q cells′ row′ table′ labels′ names′
+    walking-next lt feed q step =
+        let l = take (i - at) (drop at t) in
+        let e = feed-here t at i first lt feed in
+        let h = step .3 (w .found) (w .steady) (w .kept) (w .holds) in
+        record {
+          found = fold.lined (w .found) l;
+          steady = steady-line (w .found) l (w .steady);
+          kept = h .1;
+          holds = h .0;
+          runs = w .runs ∙ ap (foldl fold.lined (w .found)) (piece-at lineFeed t at i e lt);
+          behind = w .behind ∙ rest-at lineFeed t at i e lt;
+          bytes = w .bytes ∙ allowed-feed t at i first lt feed;
+        }
 
-  -- no whole line is left
-  walking-end : at ≤ length t → i ≤ length t → length t ≤ i → length t ≤ textMost
-      → fold.kept t ≡ record { size = length t; line = drop at t; found = w .found }
-  walking-end le le′ ge small =
-      let p = piece-none lineFeed t at i (feed-end t at i first ge le′) le le′ ge in
-      let f : foldl fold.lined fold.start (linesOf t) ≡ w .found =
-      w .runs ∙ ap (foldl fold.lined (w .found)) (p .0) in
-      kept-lines t (w .bytes ∙ allowed-end t at i first ge le′) small
-      ∙ ap₂ {C = fold.Kept} (λ (l : List ℕ) (g : fold.Found). record { size = length t; line = l; found = g })
-      (w .behind ∙ p .1) f
+    -- no whole line is left
+    walking-end : at ≤ length t → i ≤ length t → length t ≤ i → length t ≤ textMost
+        → fold.kept t ≡ record { size = length t; line = drop at t; found = w .found }
+    walking-end le le′ ge small =
+        let p = piece-none lineFeed t at i (feed-end t at i first ge le′) le le′ ge in
+        let f : foldl fold.lined fold.start (linesOf t) ≡ w .found =
+        w .runs ∙ ap (foldl fold.lined (w .found)) (p .0) in
+        kept-lines t (w .bytes ∙ allowed-end t at i first ge le′) small
+        ∙ ap₂ {C = fold.Kept} (λ (l : List ℕ) (g : fold.Found). record { size = length t; line = l; found = g })
+        (w .behind ∙ p .1) f
 
-  pub walking-reads : at ≤ length t → i ≤ length t → length t ≤ i → length t ≤ textMost → (out : List ℕ) (o : Outcome)
-      → o ≡ fold.finish (record { size = length t; line = drop at t; found = w .found }) out → ReadsText t out o
-  walking-reads le le′ ge small out o e =
-      subst (ReadsText t out)
-      (ap (λ (k : fold.Kept). fold.finish k out) (walking-end le le′ ge small) ∙ sym e) (kept-answers t out)
+    pub walking-reads : at ≤ length t → i ≤ length t → length t ≤ i → length t ≤ textMost → (out : List ℕ) (o : Outcome)
+        → o ≡ fold.finish (record { size = length t; line = drop at t; found = w .found }) out → ReadsText t out o
+    walking-reads le le′ ge small out o e =
+        subst (ReadsText t out)
+        (ap (λ (k : fold.Kept). fold.finish k out) (walking-end le le′ ge small) ∙ sym e) (kept-answers t out)
 
-  -- a byte that is not allowed
-  pub walking-stops : i < length t → (getD t i 0 ≡ lineFeed → ⊥) → length t ≤ textMost → (out : List ℕ)
-      → ReadsText t out (leaves (ofText TextAnswer.BadByte) out)
-  unfolding ofText
-  walking-stops lt other small out = refuses (byte small (w .bytes ∙ allowed-other t at i first lt other))
+    -- a byte that is not allowed
+    pub walking-stops : i < length t → (getD t i 0 ≡ lineFeed → ⊥) → length t ≤ textMost → (out : List ℕ)
+        → ReadsText t out (leaves (ofText TextAnswer.BadByte) out)
+    unfolding ofText
+    walking-stops lt other small out = refuses (byte small (w .bytes ∙ allowed-other t at i first lt other))
 
 pub empty-end : (t : List ℕ) (at : ℕ) → at ≤ length t → isEmpty (drop at t) ≡ eqb at (length t)
 empty-end t at le = go (eqb at (length t)) refl

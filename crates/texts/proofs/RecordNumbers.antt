@@ -21,7 +21,7 @@ use Rattle.references.specs.Numbers.{numbered}
 use Rattle.references.proofs.NumberLaws.{numbered-records}
 use Rattle.references.proofs.Counted.{counted-numbers}
 use Rattle.texts.specs.States.{plainField, Numbers}
-use Rattle.texts.proofs.RowSteps.{writes-front}
+use Rattle.texts.proofs.SlotRows.{writes-keep}
 
 -- ── by the counts ──
 
@@ -85,7 +85,7 @@ module _ (out s : List ℕ) (at : ℕ) {mid : List ℕ} {end : ℕ} (room : at +
       let same : part ≡ numbered n counts s = is ∙ ap (numbered n counts) there in
       let m : length part ≡ length s = long ∙ ap length there in
       let k = length-take-le at out (omega (arith, room)) in
-      let front : take at mid ≡ take at out = writes-front (omega (arith, room)) w in
+      let front : take at mid ≡ take at out = writes-keep (omega (arith, room)) w in
       let z = length-append (take at out) part in
       let whole : putMid at (end - at) mid part ≡ (take at out ++ part) ++ drop end mid =
       ap₂ {C = List ℕ} (λ (a b : List ℕ). a ++ (part ++ b)) front (post-is at end mid le)

@@ -1,21 +1,21 @@
 -- A cell as it is kept: its bytes, and whether it is one for the field of a line.
 use mathlib.Core.Path.{_≡_, refl, ap, sym, _∙_}
 use mathlib.Core.Bool.{Bool, true, false}
-use mathlib.Core.List.{List, [], _∷_, _++_}
+use mathlib.Core.List.{List, [], _∷_, _++_, append-assoc}
 use Prim.Native.Nat.{ℕ, _+_, _-_, _/_, _≤_, _<_}
 use native.Mathlib.Omega.{arith}
 use lib.Dec.{eqb}
 use lib.ListN.{length, take, drop, getD, length-drop, length-append}
-use lib.Seq.{getD-drop, drop-drop, take-append-seam, length-take-le}
+use lib.Seq.{getD-drop, drop-drop, drop-at, take-append-seam, take-append-le, take-take, take-add, length-take-le}
 use Rattle.writing.specs.Writes.{Writes}
-use Rattle.writing.proofs.Writing.{writes-join}
 use Rattle.rules.specs.Frames.{Slot}
 use Rattle.rules.specs.Values.{yesNo}
 use Rattle.writing.specs.Puts.{placed, put}
 use Rattle.writing.proofs.PutLaws.{put-writes}
-use Rattle.text_laws.specs.FrameReader.{leftTrim, rightTrim}
-use Rattle.texts.specs.Slots.{slotOf, storedSlot}
-use Rattle.texts.proofs.FrameLeaves.{take-rest}
+use Rattle.rules.specs.Rows.{cellText}
+use Rattle.texts.specs.RowPlaces.{cellAt, slotAt}
+use Rattle.texts.specs.Slots.{storedSlot}
+use Rattle.texts.proofs.CellSteps.{length-four}
 
 -- ── its bytes ──
 
@@ -70,45 +70,50 @@ module _ (cells : List ℕ) (at len : ℕ) (room : at + 3 ≤ length cells) (is 
       → at + 3 + len ≡ at + length (storedSlot c)
   end-some c behind e = omega (arith, is, slot-size cells at c behind e, slot-length c)
 
--- ── a cell that is put, with its name behind the spaces in front ──
+-- ── a cell that is put: its text first, then what stands in front of it ──
 
-module _ (chars : List ℕ) (long : Bool) (from len : ℕ) (l : drop from chars ≡ leftTrim chars)
-    (h : len ≤ length (take (length chars - from) (drop from chars)))
-    (t : take len (take (length chars - from) (drop from chars)) ≡ rightTrim (take (length chars - from) (drop from
-    chars)))
-  where
-    text-is : take (from + len - from) (drop from chars) ≡ rightTrim (leftTrim chars)
-    text-is =
-        let e : from + len - from ≡ len = omega arith in
-        let w : take (length chars - from) (drop from chars) ≡ drop from chars = take-rest from chars in
-        ap (λ (n : ℕ). take n (drop from chars)) e ∙ ap (take len) (sym w) ∙ t ∙ ap rightTrim (w ∙ l)
+-- a text that is put in front of one that is there
+writes-front : {before mid after : List ℕ} {at end next : ℕ} (w u : List ℕ) → at + length w ≤ length before
+    → Writes before (at + length w) u mid end → Writes mid at w after next → Writes before at (w ++ u) after end
+writes-front {before} {mid} {after} {at} {end} {next} w u room p q =
+    let k : ℕ = at + length w in
+    let n : next ≡ k = q .end in
+    let e : end ≡ k + length u = p .end in
+    let l : length (take k before) ≡ k = length-take-le k before room in
+    let t : take (k + length u) mid ≡ take k before ++ u = rw e at (p .text) in
+    let back : take (length u) (drop k mid) ≡ u =
+    sym (drop-at (take k mid) (take (length u) (drop k mid)) k (length-take-le k mid (omega (arith, p .kept, room))))
+    ∙ ap (drop k) (sym (take-add k (length u) mid) ∙ t) ∙ drop-at (take k before) u k l in
+    let front : take at mid ≡ take at before =
+    sym (take-take at (k + length u) mid (omega arith)) ∙ ap (take at) t
+    ∙ take-append-le at (take k before) u (omega (arith, l)) ∙ take-take at k before (omega arith) in
+    let beyond : drop k after ≡ drop k mid = rw n at (q .beyond) in
+    let written : take k after ≡ take at mid ++ w = rw n at (q .text) in
+    record {
+      text = rw (e, take-add k (length u) after, written, front, beyond, back) (append-assoc (take at before) w u);
+      end = omega (arith, e, length-append w u);
+      kept = q .kept ∙ p .kept;
+      beyond =
+          rw e (sym (drop-drop (length u) k after) ∙ ap (drop (length u)) beyond ∙ drop-drop (length u) k mid)
+          ∙ p .beyond;
+    }
 
-    text-length : length (rightTrim (leftTrim chars)) ≡ len
-    text-length =
-        let w : take (length chars - from) (drop from chars) ≡ drop from chars = take-rest from chars in
-        let le : len ≤ length (drop from chars) = omega (arith, h, ap length w) in
-        let e : from + len - from ≡ len = omega arith in
-        ap length (sym text-is) ∙ ap (λ (n : ℕ). length (take n (drop from chars))) e
-        ∙ length-take-le len (drop from chars) le
+module _ (row : List ℕ) (n a b : ℕ) where
+  abbrev text : List ℕ
+  text = cellText (cellAt row n a (b - a))
 
-    abbrev pub slotHead : List ℕ
-    slotHead = yesNo long ∷ (length chars + 1) / 2 ∷ len ∷ []
+  -- the numbers in front fit a byte
+  pub text-byte : {before mid : List ℕ} {at end : ℕ} → n ≤ 4 → 0 < a → a ≤ b → b < 65
+      → Writes before at text mid end → end - at < 256
+  text-byte {before} {mid} {at} {end} le lt le′ lt′ w = omega (arith, w .end, length-four row a (b - a) n le)
 
-    slot-parts : slotHead ++ rightTrim (leftTrim chars) ≡ storedSlot (slotOf long chars)
-    unfolding storedSlot
-    slot-parts = rw text-length refl
-
-    pub slot-put : {before mid after : List ℕ} {at next end : ℕ} → from ≤ length chars
-        → at + (3 + length chars) ≤ length before
-        → placed next mid ≡ put before at slotHead
-        → placed end after ≡ put mid next (take (from + len - from) (drop from chars))
-        → Writes before at (storedSlot (slotOf long chars)) after end
-    slot-put {before} {mid} {after} {at} {next} {end} le room p q =
-        let w : take (length chars - from) (drop from chars) ≡ drop from chars = take-rest from chars in
-        let n : from + len ≤ length chars = omega (arith, h, le, ap length w, length-drop from chars) in
-        let front : Writes before at slotHead mid next = put-writes {w = slotHead} (omega arith) p in
-        let v : placed end after ≡ put mid next (rightTrim (leftTrim chars)) = rw text-is at q in
-        let back : Writes mid next (rightTrim (leftTrim chars)) after end =
-        put-writes {w = rightTrim (leftTrim chars)} (omega (arith, front .end, front .kept, text-length, n, room)) v
-        in
-        rw (← slot-parts) (writes-join front back)
+  pub slot-put : (long : Bool) {before mid after : List ℕ} {at end next x : ℕ} → at + 3 ≤ length before
+      → Writes before (at + 3) text mid end → x ≡ yesNo long
+      → placed next after ≡ put mid at (x ∷ (b - a + 1) / 2 ∷ (end - (at + 3)) ∷ [])
+      → Writes before at (storedSlot (slotAt long row n a (b - a))) after end
+  unfolding storedSlot
+  slot-put long {before} {mid} {after} {at} {end} {next} {x} room w y p =
+      let l : end - (at + 3) ≡ length text = omega (arith, w .end) in
+      let head : List ℕ = yesNo long ∷ (b - a + 1) / 2 ∷ length text ∷ [] in
+      let q : placed next after ≡ put mid at head = rw (y, l) at p in
+      writes-front head text room w (put-writes {w = head} (omega (arith, w .kept, room)) q)

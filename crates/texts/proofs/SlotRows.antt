@@ -1,173 +1,239 @@
--- The cells of a row that is read, and cells put one behind the other.
-use mathlib.Core.Path.{_≡_, refl, ap, sym, _∙_}
-use mathlib.Core.Bool.{Bool, true, false, false≢true}
-use mathlib.Core.List.{List, [], _∷_, _++_, map, append-assoc, append-nil}
-use mathlib.Core.Option.{Option, none, some}
-use Prim.Native.Nat.{ℕ, _+_, _*_, _-_, _≤_, _<_}
+-- The cells of the kept lines of a row, put one behind the other.
+use mathlib.Core.Path.{_≡_, refl, ap, sym, _∙_, subst}
+use mathlib.Core.Bool.{Bool, true, false, _&&_, and-false}
+use mathlib.Core.List.{List, [], _∷_, _++_, append-assoc, append-nil}
+use Prim.Native.Nat.{ℕ, suc, _+_, _*_, _-_, _≤_, _<_}
 use native.Mathlib.Omega.{arith}
+use native.Mathlib.Nat.{sub-zero}
 use lib.Dec.{eqb}
-use lib.ListN.{length, take, drop, getD, length-append, length-drop, drop-of-length-le}
-use borrow.Author.Tests.{eqb-true, eqb-false}
-use Rattle.base.specs.Lists.{all, joined, sum}
-use Rattle.writing.specs.Writes.{Writes}
-use Rattle.base.proofs.Lists.{and-left, and-right}
+use lib.ListN.{length, take, drop, getD, length-append, length-take, length-drop, drop-of-length-le, take-append-drop}
+use lib.Seq.{getD-take, drop-at, take-take, take-append-le, length-take-le}
+use Rattle.base.specs.Lists.{all, isEmpty, joined}
 use Rattle.base.proofs.Joined.{joined-append, joined-one}
-use Rattle.writing.proofs.Writing.{writes-none, writes-join}
+use Rattle.writing.specs.Writes.{Writes}
+use Rattle.writing.proofs.Writing.{writes-none, writes-join, writes-inside}
 use Rattle.rules.specs.Names.{isLabel}
-use Rattle.rules.specs.Frames.{Cell, cellText, isCell, Row, bitRow, longRow, isRow, Slot, slotsIn}
-use Rattle.text_laws.specs.FrameReader.{pieces, rest, cellOf, readRow}
-use Rattle.text_laws.proofs.RowCells.{length-cell}
-use Rattle.text_laws.proofs.RowReader.{barred, rowLine, Reads, row-sound}
-use Rattle.texts.specs.FramePlaces.{upTo, isSome}
-use Rattle.texts.specs.Slots.{slotOf, slotsOf, storedSlot, PutAs, RowedAs}
-use Rattle.texts.specs.declared.slots.Rowed.{Rowed}
+use Rattle.rules.specs.Frames.{Slot}
+use Rattle.names.specs.Classes.{classTable}
+use Rattle.names.specs.LentNames.{isLabelIn}
+use Rattle.names.proofs.LentLaws.{label-in}
+use Rattle.text_laws.specs.FrameReader.{pieces, rest}
+use Rattle.texts.specs.FramePlaces.{upTo}
+use Rattle.texts.specs.RowPlaces.{slotAt, slotsFrom, slotsAt}
+use Rattle.texts.specs.Slots.{storedSlot, RowedBy, areLabels, RowedAs}
 use Rattle.texts.specs.declared.slots.Rowed.the-variants as rowed
-use Rattle.texts.proofs.RowLeaves.{cell-size}
-use Rattle.texts.proofs.RowShown.{row-shown}
-use Rattle.texts.proofs.SlotLaws.{slot-length}
+use Rattle.texts.proofs.CellSteps.{length-four}
+use Rattle.texts.proofs.SlotLaws.{slot-length, slot-text}
 use Rattle.texts.proofs.SplitSteps.{piece-at, piece-length, rest-at, piece-none}
 
--- ── the line of a row ──
+-- ── what is written ──
 
-cell-length : (c : Cell) → isCell c ≡ true → length (cellText c) + 1 ≡ 2 * c .bits
-cell-length c h =
-    let n = c .before + length (c .text) + c .behind + 1 in
-    let q = eqb-true n (2 * c .bits) (and-right (isLabel (c .text)) (eqb n (2 * c .bits)) h) in
-    omega (arith, q, length-cell c)
+-- what stood before the place stays
+pub writes-keep : {before after : List ℕ} {at next : ℕ} {w : List ℕ} → at ≤ length before
+    → Writes before at w after next → take at after ≡ take at before
+writes-keep {before} {after} {at} {next} {w} le p =
+    let l : length (take at before) ≡ at = length-take-le at before le in
+    sym (take-take at next after (omega (arith, p .end))) ∙ ap (take at) (p .text)
+    ∙ take-append-le at (take at before) w (omega (arith, l)) ∙ take-take at at before (omega arith)
 
-barred-length : (cs : List Cell) → all isCell cs ≡ true → length (barred cs) ≡ 2 * sum (λ c. c .bits) cs
-unfolding all joined sum
-barred-length [] h = refl
-barred-length (c ∷ cs) h =
-    let p = cell-length c (and-left (isCell c) (all isCell cs) h) in
-    let q = barred-length cs (and-right (isCell c) (all isCell cs) h) in
-    omega (arith, p, q, length-append (cellText c ++ (124 ∷ [])) (barred cs), length-append (cellText c) (124 ∷ []))
+-- what is written stands at the place
+pub writes-there : {before after : List ℕ} {at next : ℕ} {w : List ℕ} → at ≤ length before
+    → Writes before at w after next → drop at after ≡ w ++ drop next after
+writes-there {before} {after} {at} {next} {w} le p =
+    ap (drop at) (sym (take-append-drop next after) ∙ ap (λ (l : List ℕ). l ++ drop next after) (p .text)
+    ∙ append-assoc (take at before) w (drop next after))
+    ∙ drop-at (take at before) (w ++ drop next after) at (length-take-le at before le)
 
-row-length : (w : ℕ) (r : Row) → isRow w r ≡ true → length (rowLine r) ≡ 1 + 2 * w
-row-length w (bitRow cs) h =
-    let p = barred-length cs (and-left (all isCell cs) (eqb (sum (λ c. c .bits) cs) w) h) in
-    let q = eqb-true (sum (λ c. c .bits) cs) w (and-right (all isCell cs) (eqb (sum (λ c. c .bits) cs) w) h) in
-    omega (arith, p, q)
-row-length w (longRow c) h =
-    let p = cell-length c (and-left (isCell c) (eqb (c .bits) w) h) in
-    let q = eqb-true (c .bits) w (and-right (isCell c) (eqb (c .bits) w) h) in
-    omega (arith, p, q, length-append (cellText c) (58 ∷ []))
+-- ── the cells from a column on ──
 
-pub record RowRead (w : ℕ) (l : List ℕ) (r : Row) : Type 0 where
-  pub isRead : readRow w l ≡ some r
-  pub cells : slotsIn r ≡ slotsOf l 1
-  pub noRest : rest (getD l 0 0) (drop 1 l) ≡ []
-  pub size : length l ≡ 1 + 2 * w
+-- what is left of the row decides: each part is ended, and its text is a label
+abbrev leftLabels : List ℕ → ℕ → ℕ → ℕ → Bool
+leftLabels row n size from =
+    isEmpty (rest (getD row 0 0) (drop from (take size row)))
+    && all (λ c. isLabel (c .text)) (slotsAt row n size from)
 
-pub row-read : (w : ℕ) (l : List ℕ) → isSome (readRow w l) ≡ true → (r : Row) × RowRead w l r
-row-read w l h = go (readRow w l) refl (row-sound w l) h
+-- the end of a part, as the code finds it
+pub end-is : (row : List ℕ) (size from to : ℕ) → 0 < size
+    → to ≡ from + upTo (getD (take (size - 0) row) 0 0) (drop from (take (size - 0) row))
+    → to ≡ from + upTo (getD row 0 0) (drop from (take size row))
+end-is row size from to lt e = rw (sub-zero size, getD-take size row 0 0 lt) at e
+
+-- the cell from a column to the next bar is put behind the cells
+pub record OnePut (row : List ℕ) (n size : ℕ) (cells : List ℕ) (next from to : ℕ) (after : List ℕ) (end : ℕ)
+    : Type 0 where
+  pub fits : size ≤ length row
+  pub isEnd : to ≡ from + upTo (getD row 0 0) (drop from (take size row))
+  pub inside : to < size
+  pub room : next ≤ length cells
+  pub writes : Writes cells next (storedSlot (slotAt (eqb (getD row 0 0) 58) row n from (to - from))) after end
+
+-- as the code has it
+pub one-put : (row : List ℕ) (n size from to : ℕ) {cells after : List ℕ} {next end : ℕ} → size ≤ length row
+    → 0 < size → to ≡ from + upTo (getD (take (size - 0) row) 0 0) (drop from (take (size - 0) row))
+    → to < size → next ≤ length cells
+    → Writes cells next (storedSlot (slotAt (eqb (getD (take (size - 0) row) 0 0) 58) row n from (to - from))) after
+    end
+    → OnePut row n size cells next from to after end
+one-put row n size from to fits lt e inside room w = record {
+  fits = fits;
+  isEnd = end-is row size from to lt e;
+  inside = inside;
+  room = room;
+  writes = rw (sub-zero size, getD-take size row 0 0 lt) at w;
+}
+
+module _ {row : List ℕ} {n size : ℕ} {cells : List ℕ} {next from to : ℕ} {after : List ℕ} {end : ℕ}
+    (o : OnePut row n size cells next from to after end)
   where
-    go : (o : Option Row) → readRow w l ≡ o → Reads w l o → isSome o ≡ true → (r : Row) × RowRead w l r
-    go none e s h = absurd (false≢true h)
-    go (some r) e s h =
-        let q = row-shown w r (s .0) in (
-          r,
-          record {
-            isRead = e;
-            cells = q .cells ∙ ap (λ (m : List ℕ). slotsOf m 1) (s .1);
-            noRest = ap (λ (m : List ℕ). rest (getD m 0 0) (drop 1 m)) (sym (s .1)) ∙ q .noRest;
-            size = sym (ap length (s .1)) ∙ row-length w r (s .0);
-          },
-        )
+    abbrev put : Slot
+    put = slotAt (eqb (getD row 0 0) 58) row n from (to - from)
+
+    -- where its text stands
+    pub text-place : (next + 3 ≤ end) × (end ≤ length after)
+    text-place = (
+      omega (arith, o .writes .end, slot-length put),
+      omega (arith, writes-inside (o .writes) (o .room), o .writes .kept),
+    )
+
+    -- and whether that is a label
+    pub label-there : (classes : List ℕ) → classes ≡ classTable
+        → isLabelIn classes (take (end - (next + 3)) (drop (next + 3) after)) ≡ isLabel (put .text)
+    label-there classes known =
+        let k : end - (next + 3) ≡ length (put .text) = omega (arith, o .writes .end, slot-length put) in
+        let t : take (end - (next + 3)) (drop (next + 3) after) ≡ put .text =
+        rw k (slot-text after next put (drop end after) (writes-there (o .room) (o .writes))) in
+        label-in classes known (take (end - (next + 3)) (drop (next + 3) after)) ∙ ap isLabel t
+
+module _ (row : List ℕ) (n size from to : ℕ) (fits : size ≤ length row) where
+  abbrev IsEnd : Type 0
+  IsEnd = to ≡ from + upTo (getD row 0 0) (drop from (take size row))
+
+  whole : length (take size row) ≡ size
+  whole = length-take-le size row fits
+
+  abbrev cell : Slot
+  cell = slotAt (eqb (getD row 0 0) 58) row n from (to - from)
+
+  slots-step : IsEnd → to < size → slotsAt row n size from ≡ cell ∷ slotsAt row n size (to + 1)
+  unfolding slotsFrom
+  slots-step e lt =
+      let l : to < length (take size row) = omega (arith, whole) in
+      let k = piece-length (getD row 0 0) (take size row) from to e l in
+      let s : from + suc (to - from) ≡ to + 1 = omega (arith, e) in
+      rw (piece-at (getD row 0 0) (take size row) from to e l, k, s) refl
+
+  left-step : IsEnd → to < size → leftLabels row n size from
+      ≡ (isEmpty (rest (getD row 0 0) (drop (to + 1) (take size row)))
+      && (isLabel (cell .text) && all (λ c. isLabel (c .text)) (slotsAt row n size (to + 1))))
+  unfolding all
+  left-step e lt =
+      let l : to < length (take size row) = omega (arith, whole) in
+      rw (slots-step e lt, rest-at (getD row 0 0) (take size row) from to e l) refl
+
+  -- no bar stands behind it
+  left-open : IsEnd → from < size → size ≤ to → to ≤ size → leftLabels row n size from ≡ false
+  left-open e lt ge le =
+      let q = piece-none (getD row 0 0) (take size row) from to e (omega (arith, whole)) (omega (arith, whole))
+      (omega (arith, whole)) .1 in
+      rw q (go (drop from (take size row)) (omega (arith, whole, length-drop from (take size row))))
+    where
+      go : (s : List ℕ) → 0 < length s → (isEmpty s && all (λ c. isLabel (c .text)) (slotsAt row n size from)) ≡ false
+      go [] lt = absurd (omega arith)
+      go (b ∷ s) lt = refl
+
+none-left : (row : List ℕ) (n size from : ℕ) → size ≤ from
+    → (slotsAt row n size from ≡ []) × (leftLabels row n size from ≡ true)
+unfolding pieces rest slotsFrom all
+none-left row n size from le =
+    let e : drop from (take size row) ≡ [] =
+    drop-of-length-le (take size row) {i = from} (omega (arith, length-take size row)) in
+    (rw e refl, rw e refl)
 
 -- ── cells put one behind the other ──
 
-slot-most : (long : Bool) (s : List ℕ) → length (storedSlot (slotOf long s)) ≤ 3 + length s
-unfolding cellOf
-slot-most long s = omega (arith, slot-length (slotOf long s), cell-size s)
-
--- the cells before the place from of the line are put, and their number is n
-pub record Putting (before : List ℕ) (at : ℕ) (line cells : List ℕ) (next from n : ℕ) : Type 0 where
+-- the cells before the column from are put, and their number is many
+pub record Putting (before : List ℕ) (at : ℕ) (row : List ℕ) (n size : ℕ) (cells : List ℕ) (next from many : ℕ)
+    : Type 0 where
   pub done : List Slot
-  pub all : slotsOf line 1 ≡ done ++ slotsOf line from
-  pub count : length done ≡ n
+  pub isAll : slotsAt row n size 1 ≡ done ++ slotsAt row n size from
+  pub count : length done ≡ many
   pub writes : Writes before at (joined storedSlot done) cells next
-  pub noRest : rest (getD line 0 0) (drop from line) ≡ []
-  pub near : next ≤ at + 3 * from
-  pub few : n ≤ from
+  pub tells : areLabels row n size ≡ leftLabels row n size from
+  pub near : next + 7 * (size - from) ≤ at + 7 * size
+  pub few : many ≤ from
 
-pub putting-start : (before line : List ℕ) (at : ℕ) → rest (getD line 0 0) (drop 1 line) ≡ []
-    → Putting before at line before at 1 0
+pub putting-start : (before row : List ℕ) (at n size : ℕ) → Putting before at row n size before at 1 0
 unfolding joined
-putting-start before line at h = record {
+putting-start before row at n size = record {
   done = [];
-  all = refl;
+  isAll = refl;
   count = refl;
   writes = writes-none before at;
-  noRest = h;
+  tells = refl;
   near = omega arith;
   few = omega arith;
 }
 
-module _ {before cells : List ℕ} {at next from n : ℕ} {line : List ℕ} (p : Putting before at line cells next from n)
+module _ {before cells row : List ℕ} {at n size next from many : ℕ}
+    (p : Putting before at row n size cells next from many) (room : at ≤ length before)
   where
-    -- a bar stands behind the cell
-    pub bar-there : (to : ℕ) → to ≡ from + upTo (getD line 0 0) (drop from line) → from < length line
-        → to ≤ length line → to < length line
-    bar-there to e lt le = go (eqb to (length line)) refl
-      where
-        go : (b : Bool) → eqb to (length line) ≡ b → to < length line
-        go true q =
-            let k = eqb-true to (length line) q in
-            let z = piece-none (getD line 0 0) line from to e (omega arith) le (omega arith) .1 in
-            absurd (omega (arith, ap length (sym z ∙ p .noRest), length-drop from line))
-        go false q = let k = eqb-false to (length line) q in omega (arith, k)
+    wrong : {w after : List ℕ} {end : ℕ} → Writes before at w after end → leftLabels row n size from ≡ false
+        → RowedAs row n size before at after rowed.Wrong
+    wrong {w} {after} {end} v e =
+        subst (λ (b : Bool). RowedBy b before at (slotsAt row n size 1) after rowed.Wrong) (sym (p .tells ∙ e))
+        (refl, writes-keep room v, v .kept)
 
-    pub putting-next : (to : ℕ) (after : List ℕ) (end : ℕ) (long : Bool)
-        → to ≡ from + upTo (getD line 0 0) (drop from line) → from < length line → to < length line
-        → long ≡ eqb (getD line 0 0) 58
-        → Writes cells next (storedSlot (slotOf long (take (to - from) (drop from line)))) after end
-        → Putting before at line after end (to + 1) (n + 1)
-    putting-next to after end long e lt le l w =
-        let c : Slot = slotOf (eqb (getD line 0 0) 58) (take (to - from) (drop from line)) in
-        let v : Writes cells next (storedSlot c) after end = rw l at w in
-        let m = slot-most (eqb (getD line 0 0) 58) (take (to - from) (drop from line)) in
-        record {
-          done = p .done ++ (c ∷ []);
-          all = p .all
-              ∙ ap (λ (ps : List (List ℕ)). p .done ++ map (slotOf (eqb (getD line 0 0) 58)) ps)
-              (piece-at (getD line 0 0) line from to e le)
-              ∙ sym (append-assoc (p .done) (c ∷ []) (slotsOf line (to + 1)));
-          count = length-append (p .done) (c ∷ []) ∙ omega (arith, p .count);
-          writes =
-              rw (joined-append storedSlot (p .done) (c ∷ []), joined-one storedSlot c) (writes-join (p .writes) v);
-          noRest = sym (rest-at (getD line 0 0) line from to e le) ∙ p .noRest;
-          near = omega (arith, p .near, m, v .end, piece-length (getD line 0 0) line from to e le, e);
-          few = omega (arith, p .few, e);
-        }
+    pub putting-open : (to : ℕ) → size ≤ length row
+        → to ≡ from + upTo (getD row 0 0) (drop from (take size row)) → from < size → size ≤ to → to ≤ size
+        → RowedAs row n size before at cells rowed.Wrong
+    putting-open to fits e lt ge le = wrong (p .writes) (left-open row n size from to fits e lt ge le)
 
-    none-left : length line ≤ from → pieces (getD line 0 0) (drop from line) ≡ []
-    unfolding pieces
-    none-left le = rw (drop-of-length-le line {i = from} le) refl
-
-    pub putting-end : length line ≤ from → PutAs before at (slotsOf line 1) cells (rowed.Put next n)
+    pub putting-end : size ≤ from → RowedAs row n size before at cells (rowed.Put next many)
     putting-end le =
-        let w : slotsOf line 1 ≡ p .done =
-        p .all ∙ ap (λ (ps : List (List ℕ)). p .done ++ map (slotOf (eqb (getD line 0 0) 58)) ps) (none-left le)
-        ∙ append-nil (p .done) in
-        record {
+        let q = none-left row n size from le in
+        let w : slotsAt row n size 1 ≡ p .done =
+        p .isAll ∙ ap (λ (cs : List Slot). p .done ++ cs) (q .0) ∙ append-nil (p .done) in
+        subst (λ (b : Bool). RowedBy b before at (slotsAt row n size 1) cells (rowed.Put next many))
+        (sym (p .tells ∙ q .1)) (record {
           next = next;
           answer = ap (λ (k : ℕ). rowed.Put next k) (sym (p .count) ∙ ap length (sym w));
           writes = rw w (p .writes);
-        }
+        })
 
--- ── the answer ──
+    module _ {to : ℕ} {after : List ℕ} {end : ℕ} (o : OnePut row n size cells next from to after end) where
+      abbrev one : Slot
+      one = slotAt (eqb (getD row 0 0) 58) row n from (to - from)
 
-pub rowed-put : (w : ℕ) (l before after : List ℕ) (at : ℕ) (r : Rowed) → isSome (readRow w l) ≡ true
-    → PutAs before at (slotsOf l 1) after r → RowedAs (readRow w l) before at after r
-rowed-put w l before after at r h p =
-    let q = row-read w l h in
-    rw (q .1 .isRead) (rw (q .1 .cells) p)
+      more : Writes before at (joined storedSlot (p .done ++ (one ∷ []))) after end
+      more =
+          rw (joined-append storedSlot (p .done) (one ∷ []), joined-one storedSlot one)
+          (writes-join (p .writes) (o .writes))
 
-pub rowed-wrong : (w : ℕ) (l before : List ℕ) (at : ℕ) → isSome (readRow w l) ≡ false
-    → RowedAs (readRow w l) before at before rowed.Wrong
-rowed-wrong w l before at h = go (readRow w l) h
-  where
-    go : (o : Option Row) → isSome o ≡ false → RowedAs o before at before rowed.Wrong
-    go none h = (refl, refl)
-    go (some r) h = absurd (false≢true (sym h))
+      pub putting-wrong : isLabel (one .text) ≡ false → RowedAs row n size before at after rowed.Wrong
+      putting-wrong l =
+          let b : Bool = isEmpty (rest (getD row 0 0) (drop (to + 1) (take size row))) in
+          wrong more (left-step row n size from to (o .fits) (o .isEnd) (o .inside) ∙ rw l (and-false b))
+
+      pub putting-next : isLabel (one .text) ≡ true → n ≤ 4
+          → Putting before at row n size after end (to + 1) (many + 1)
+      putting-next l le =
+          let lt = o .inside in
+          let e = o .isEnd in
+          record {
+            done = p .done ++ (one ∷ []);
+            isAll = p .isAll ∙ ap (λ (cs : List Slot). p .done ++ cs) (slots-step row n size from to (o .fits) e lt)
+                ∙ sym (append-assoc (p .done) (one ∷ []) (slotsAt row n size (to + 1)));
+            count = length-append (p .done) (one ∷ []) ∙ omega (arith, p .count);
+            writes = more;
+            tells = p .tells ∙ left-step row n size from to (o .fits) e lt ∙ rw l refl;
+            near = omega (
+              arith,
+              p .near,
+              o .writes .end,
+              slot-length one,
+              length-four row from (to - from) n le,
+              e,
+              lt,
+            );
+            few = omega (arith, p .few, e);
+          }

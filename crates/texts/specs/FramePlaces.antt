@@ -1,12 +1,14 @@
 -- What the code that reads a frame answers, at places of a text: mirrors the code, no public promise rests on it.
-use mathlib.Core.Bool.{Bool, true, false, cond}
+use mathlib.Core.Bool.{Bool, true, false, cond, _&&_}
 use mathlib.Core.List.{List, [], _∷_, map}
 use mathlib.Core.Option.{Option, none, some}
 use Prim.Native.Nat.{ℕ, suc}
 use lib.Dec.{eqb}
 use lib.ListN.{drop}
-use Rattle.rules.specs.Frames.{tensAt, unitsAt, borderAt, bitRow}
-use Rattle.text_laws.specs.FrameReader.{pieces, rest, cellOf, keepRow, readName}
+use Rattle.base.specs.Lists.{isEmpty}
+use Rattle.rules.specs.Rows.{bitRow}
+use Rattle.rules.specs.Frames.{tensAt, unitsAt, borderAt}
+use Rattle.text_laws.specs.FrameReader.{pieces, rest, bitsOf, keepRow, readName}
 use Rattle.texts.specs.declared.rulers.Ruler.{Ruler}
 use Rattle.texts.specs.declared.rulers.Ruler.the-variants.{Tens, Units, Border}
 
@@ -36,4 +38,5 @@ nameBehind l a = cond (eqb a 0) none (readName (drop a l))
 
 -- cells of w bits stand behind the first bar of a row
 abbrev pub isBits : ℕ → List ℕ → Bool
-isBits w l = isSome (keepRow w (rest 124 l) (bitRow (map cellOf (pieces 124 l))))
+isBits w l =
+    isEmpty (rest 124 l) && isSome (keepRow w (bitRow (map bitsOf (pieces 124 l)) (pieces 124 l ∷ [])))

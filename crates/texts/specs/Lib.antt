@@ -6,6 +6,7 @@
 -- HeldNames  the names of fields as the code holds them
 -- NameStarts  where the walk over the held names begins
 -- Noted  a refusal as the code notes it
+-- RowPlaces  the lines of a row as the code keeps them, and its cells at their columns
 -- Slots  the cells of rows as the code keeps them
 -- StoredTrees  expressions in their stored form, with their types, as the code makes them
 -- HeldParts  the parts of a field line, each expression in its stored form
@@ -13,6 +14,7 @@
 -- Resolved  a field line whose names are looked up among the held ones
 -- StoredPlaces  how stored expressions are made, and what is promised of them at places of a text
 -- Chains  operators that group to the right and wait for their right operand
+-- Changes  what a line changes in the numbers that the code keeps
 -- States  what the code keeps of a text between two lines
 pub mod ExprPlaces
 pub mod FieldPlaces
@@ -22,6 +24,7 @@ pub mod PartPlaces
 pub mod HeldNames
 pub mod NameStarts
 pub mod Noted
+pub mod RowPlaces
 pub mod Slots
 pub mod StoredTrees
 pub mod HeldParts
@@ -29,4 +32,5 @@ pub mod HeldRecords
 pub mod Resolved
 pub mod StoredPlaces
 pub mod Chains
+pub mod Changes
 pub mod States

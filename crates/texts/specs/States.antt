@@ -10,7 +10,7 @@ use Rattle.base.specs.Lists.{all, any, joined, between, isEmpty}
 use Rattle.writing.specs.Writes.{Writes}
 use Rattle.rules.specs.declared.TextAnswer.{TextAnswer}
 use Rattle.rules.specs.Answers.{Answer, ofText}
-use Rattle.rules.specs.Limits.{textMost, fieldsMost, labelMost}
+use Rattle.rules.specs.Limits.{textMost, fieldsMost, labelMost, rowLinesMost}
 use Rattle.rules.specs.Fields.{Field, Form, isRest, trees}
 use Rattle.rules.specs.Trees.{le2, isSmall}
 use Rattle.rules.specs.Stored.{counted, recordOf, fieldBody, storedField}
@@ -18,7 +18,8 @@ use Rattle.rules.specs.Promises.{leaves}
 use Rattle.names.specs.Repeats.{padTo}
 use Rattle.references.specs.Numbers.{numbered}
 use Rattle.references.specs.Counted.{Counted}
-use Rattle.rules.specs.Frames.{Slot}
+use Rattle.rules.specs.Rows.{Row}
+use Rattle.rules.specs.Frames.{Slot, isLine}
 use Rattle.rules.specs.Within.{keepsNames, keepsTypes, keepsRest, nameReadable}
 use Rattle.text_laws.specs.Lowest.{lower, broken}
 use Rattle.text_laws.specs.Judging.{faces, showsCell, isFull}
@@ -29,101 +30,20 @@ use Rattle.texts.specs.HeldNames.{Names, namesOf, NamesRoom, HeldAs}
 use Rattle.texts.specs.HeldParts.{LineBytes, PartsHeld}
 use Rattle.texts.specs.HeldRecords.{fieldSize, Writable, BytesRoom}
 use Rattle.texts.specs.Noted.{noteOf}
-use Rattle.texts.specs.Slots.{storedSlot}
+use Rattle.texts.specs.RowPlaces.{rowRoom, linesIn, RowKept}
+use Rattle.texts.specs.Slots.{rowMost, storedSlot, areLabels}
+use Rattle.texts.specs.Changes.{note, changed, withLine}
 use Rattle.texts.specs.declared.notes.Note.{Note}
 use Rattle.texts.specs.declared.line_parts.Parts.{Parts}
 use Rattle.texts.specs.declared.states.Stage.{Stage}
 use Rattle.texts.specs.declared.states.Stage.the-variants as at
 use Rattle.texts.specs.declared.states.Reading.{Reading}
 
--- ── the numbers ──
-
-abbrev pub note : ℕ → ℕ → Note
-note number place = record { number = number; place = place }
-
-abbrev pub begunWith : Reading
-begunWith = record {
-  lines = 0;
-  stage = at.Opening;
-  width = 0;
-  name = 0;
-  cells = 0;
-  slots = 0;
-  cell = 0;
-  count = 0;
-  fields = 0;
-  end = 0;
-  rested = false;
-  note = note 0 0;
-}
-
--- with other lines, another line that must come, another refusal
-abbrev pub changed : Reading → ℕ → Stage → Note → Reading
-changed r lines s n = record {
-  lines = lines;
-  stage = s;
-  width = r .width;
-  name = r .name;
-  cells = r .cells;
-  slots = r .slots;
-  cell = r .cell;
-  count = r .count;
-  fields = r .fields;
-  end = r .end;
-  rested = r .rested;
-  note = n;
-}
-
--- with other numbers of the head
-abbrev pub withHead : Reading → ℕ → ℕ → ℕ → ℕ → ℕ → Reading
-withHead r width name end cells slots = record {
-  lines = r .lines;
-  stage = r .stage;
-  width = width;
-  name = name;
-  cells = cells;
-  slots = slots;
-  cell = r .cell;
-  count = r .count;
-  fields = r .fields;
-  end = end;
-  rested = r .rested;
-  note = r .note;
-}
-
--- with other numbers of field lines
-abbrev pub withLine : Reading → ℕ → ℕ → ℕ → ℕ → Bool → Reading
-withLine r cell count fields end rested = record {
-  lines = r .lines;
-  stage = r .stage;
-  width = r .width;
-  name = r .name;
-  cells = r .cells;
-  slots = r .slots;
-  cell = cell;
-  count = count;
-  fields = fields;
-  end = end;
-  rested = rested;
-  note = r .note;
-}
-
--- behind a wrong line
-abbrev pub madeWrong : Reading → Reading
-madeWrong r = changed r (r .lines) at.Lost (note 3 (r .lines + 1))
-
--- behind a line that is right or wrong
-abbrev pub expected : Bool → Reading → Stage → Reading
-expected right r s = cond right (changed r (r .lines + 1) s (r .note)) (madeWrong r)
-
 -- ── safe ──
 
--- the most bytes of a stored cell, of the cells of a row, and of a field's record
+-- the most bytes of a stored cell and of a field's record
 abbrev pub slotMost : ℕ
 slotMost = 43
-
-abbrev pub rowMost : ℕ
-rowMost = 195
 
 abbrev pub recordMost : ℕ
 recordMost = 426
@@ -144,6 +64,7 @@ isTold (some a) = between 3 (a .number) 10 && (not (eqb (a .number) 4) || eqb (a
 pub record Room (r : Reading) : Type 0 where
   pub width : r .width ≤ 32
   pub name : r .name ≤ labelMost
+  pub row : r .row ≤ rowLinesMost
   pub front : r .name ≤ r .end
   pub cells : r .cells ≤ fieldsMost
   pub slots : r .slots ≤ slotMost * r .cells
@@ -166,7 +87,7 @@ stageOf at.TensRuler = fold.tensRuler
 stageOf at.UnitsRuler = fold.unitsRuler
 stageOf at.TopBorder = fold.topBorder
 stageOf at.FirstRow = fold.firstRow
-stageOf at.RowBorder = fold.rowBorder
+stageOf at.InRow = fold.inRow
 stageOf at.RowOrBlank = fold.rowOrBlank
 stageOf at.WhereLine = fold.whereLine
 stageOf at.LastBlank = fold.lastBlank
@@ -180,6 +101,7 @@ pub record Counts (f : fold.Found) (r : Reading) : Type 0 where
   pub stage : stageOf (r .stage) ≡ f .stage
   pub width : r .width ≡ f .width
   pub name : r .name ≡ length (f .name)
+  pub row : r .row ≡ length (linesIn (f .row))
   pub cells : r .cells ≡ length (f .cells)
   pub count : r .count ≡ f .judged .count
   pub fields : r .fields ≡ length (f .judged .fields)
@@ -235,11 +157,25 @@ pub record Holds (f : fold.Found) (r : Reading) (cells : List ℕ) (table : Area
   pub records : Records f r table
   pub named : Named (faces (f .judged .fields)) labels names
 
--- one line of the head, with the buffers of cells and of records before and behind it
+-- one line of the head outside of rows, with the buffers of cells and of records before and behind it
 abbrev pub HeadStep : (fold.Found → fold.Found) → Reading → Reading → List ℕ → List ℕ → Area → Area → Type 0
 HeadStep step r q cells cells′ table table′ =
-    (f : fold.Found) (labels : List (List ℕ)) (names : Names) → Steady f → isHead (f .stage) ≡ true
+    (f : fold.Found) (labels : List (List ℕ)) (names : Names) → Steady f → isHead (f .stage) ≡ true → f .row ≡ none
     → Holds f r cells table labels names → Holds (step f) q cells′ table′ labels names
+
+-- the row that is kept behind it
+abbrev pub HeadRow : (fold.Found → fold.Found) → Reading → Reading → List ℕ → Type 0
+HeadRow step r q row = (f : fold.Found) → f .row ≡ none → r .width ≡ f .width → r .row ≡ 0
+    → RowKept (step f .row) (q .width) (q .row) row
+
+-- a line in a row, with the row's lines before and behind it
+abbrev pub RowStep : List ℕ → Reading → Reading → List ℕ → List ℕ → List ℕ → List ℕ → Type 0
+RowStep line r q cells cells′ row row′ =
+    (f : fold.Found) (x : Row) (table : Area) (labels : List (List ℕ)) (names : Names) → Steady f
+    → isHead (f .stage) ≡ true → f .row ≡ some x → RowKept (some x) (r .width) (r .row) row
+    → Holds f r cells table labels names
+    → Holds (fold.withMore f line (some x)) q cells′ table labels names
+    × RowKept (fold.withMore f line (some x) .row) (q .width) (q .row) row′
 
 -- ── a field line ──
 
@@ -282,6 +218,10 @@ LineRoom r line cells table =
     Room r × (r .lines ≤ textMost) × (length line ≤ textMost) × (slotsMost ≤ length cells)
     × (recordsMost ≤ length table)
 
+-- for a line and for the lines of a row
+abbrev pub RowRoom : List ℕ → List ℕ → Type 0
+RowRoom line row = (isLine line ≡ true) × (rowRoom ≤ length row)
+
 -- parts that can be written behind the records
 abbrev pub PartsRoom : List ℕ → LineBytes → Parts → Type 0
 PartsRoom line b p = Writable (length line) p × (fieldSize p ≤ recordMost) × BytesRoom b
@@ -310,25 +250,29 @@ FormStep line b p r q cells table table′ labels labels′ shorts words =
 abbrev pub earlyNote : Reading → Note
 earlyNote r = note 3 (r .lines + 1)
 
+-- in a row: at its last line where a cell is no label
+abbrev pub rowNote : Reading → List ℕ → Note
+rowNote r row = cond (areLabels row (r .row) (2 * r .width + 1)) (earlyNote r) (note 3 (r .lines))
+
 -- 7 where cells remain
 abbrev pub remainNote : Reading → Note
 remainNote r = cond (ltb (r .fields) (r .cells)) (note 7 (r .lines + 1)) (note 0 0)
 
 -- the lowest refusal at the end, by the line that must come next
-unfoldable pub lastNote : Stage → Reading → Bool → Option Answer
-lastNote at.Opening r whole = noteOf (earlyNote r)
-lastNote at.Blank r whole = noteOf (earlyNote r)
-lastNote at.TensRuler r whole = noteOf (earlyNote r)
-lastNote at.UnitsRuler r whole = noteOf (earlyNote r)
-lastNote at.TopBorder r whole = noteOf (earlyNote r)
-lastNote at.FirstRow r whole = noteOf (earlyNote r)
-lastNote at.RowBorder r whole = noteOf (earlyNote r)
-lastNote at.RowOrBlank r whole = noteOf (earlyNote r)
-lastNote at.WhereLine r whole = noteOf (earlyNote r)
-lastNote at.LastBlank r whole = noteOf (earlyNote r)
-lastNote at.FirstField r whole = noteOf (earlyNote r)
-lastNote at.FieldLine r whole = cond whole (lower (noteOf (r .note)) (noteOf (remainNote r))) (noteOf (earlyNote r))
-lastNote at.Lost r whole = noteOf (r .note)
+unfoldable pub lastNote : Stage → Reading → Bool → List ℕ → Option Answer
+lastNote at.Opening r whole row = noteOf (earlyNote r)
+lastNote at.Blank r whole row = noteOf (earlyNote r)
+lastNote at.TensRuler r whole row = noteOf (earlyNote r)
+lastNote at.UnitsRuler r whole row = noteOf (earlyNote r)
+lastNote at.TopBorder r whole row = noteOf (earlyNote r)
+lastNote at.FirstRow r whole row = noteOf (earlyNote r)
+lastNote at.InRow r whole row = noteOf (rowNote r row)
+lastNote at.RowOrBlank r whole row = noteOf (earlyNote r)
+lastNote at.WhereLine r whole row = noteOf (earlyNote r)
+lastNote at.LastBlank r whole row = noteOf (earlyNote r)
+lastNote at.FirstField r whole row = noteOf (earlyNote r)
+lastNote at.FieldLine r whole row = cond whole (lower (noteOf (r .note)) (noteOf (remainNote r))) (noteOf (earlyNote r))
+lastNote at.Lost r whole row = noteOf (r .note)
 
 -- the table that is put into an output
 abbrev pub TableStep : Reading → Area → List ℕ → List ℕ → ℕ → Type 0
@@ -338,18 +282,21 @@ TableStep r table out out′ n =
     ++ recordOf 5 [])) out′ n
 
 -- the answer at the end
-abbrev pub EndStep : Reading → Bool → Area → List ℕ → List ℕ → TextAnswer → Type 0
-EndStep r whole table out out′ a =
+abbrev pub EndStep : Reading → Bool → List ℕ → Area → List ℕ → List ℕ → TextAnswer → Type 0
+EndStep r whole row table out out′ a =
     (k : fold.Kept) (cells : List ℕ) (labels : List (List ℕ)) (names : Names) → isEmpty (k .line) ≡ whole
+    → Steady (k .found) → RowKept (k .found .row) (r .width) (r .row) row
     → Holds (k .found) r cells table labels names → leaves (ofText a) out′ ≡ fold.finish k out
 
 -- behind a line
-abbrev pub LineStep : List ℕ → Reading → Reading → List ℕ → List ℕ → Area → Area → List (List ℕ) → List (List ℕ)
-    → Names → Names → Type 0
-LineStep line r q cells cells′ table table′ labels labels′ names names′ =
-    (length cells′ ≡ length cells) × (length (table′ .bytes) ≡ length (table .bytes))
-    × ((f : fold.Found) → Steady f → Holds f r cells table labels names
-    → Holds (fold.lined f line) q cells′ table′ labels′ names′)
+abbrev pub LineStep : List ℕ → Reading → Reading → List ℕ → List ℕ → List ℕ → List ℕ → Area → Area
+    → List (List ℕ) → List (List ℕ) → Names → Names → Type 0
+LineStep line r q cells cells′ row row′ table table′ labels labels′ names names′ =
+    (length cells′ ≡ length cells) × (length row′ ≡ length row) × (length (table′ .bytes) ≡ length (table .bytes))
+    × ((f : fold.Found) → Steady f → RowKept (f .row) (r .width) (r .row) row
+    → Holds f r cells table labels names
+    → Holds (fold.lined f line) q cells′ table′ labels′ names′
+    × RowKept (fold.lined f line .row) (q .width) (q .row) row′)
 
 -- arrays for the names of all fields
 abbrev pub Begun : List (List ℕ) → Names → Type 0

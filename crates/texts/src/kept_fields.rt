@@ -32,19 +32,8 @@ ghost use Rattle.texts.specs.HeldNames.{namesOf};
 ghost use Rattle.texts.specs.HeldParts.{bytesOf};
 ghost use Rattle.texts.specs.NameStarts.{Starts};
 ghost use Rattle.texts.specs.Noted.{noteOf};
-ghost use Rattle.texts.specs.States.{
-  slotsMost,
-  Room,
-  Taken,
-  isFullAs,
-  lineRefused,
-  NextCell,
-  area,
-  LineRoom,
-  PartsRoom,
-  FieldStep,
-  FormStep,
-};
+ghost use Rattle.texts.specs.States.{slotsMost, Room, Taken, isFullAs, lineRefused, NextCell, area, LineRoom};
+ghost use Rattle.texts.specs.States.{PartsRoom, FieldStep, FormStep};
 
 // Nothing but a 3 could matter now, or a field line too many has come.
 fn is_full(r: Reading) -> bool

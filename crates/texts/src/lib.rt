@@ -1,6 +1,6 @@
 // Texts, read in one pass. The rooms, by what they read:
 // bytes and lines   text_bytes, phrases, reading (the pass), line_steps (a line), text_ends (the end)
-// the frame         openings, rulers, rows, slots, shown_slots, head_lines
+// the frame         openings, rulers, rows, bars, cell_texts, slots, shown_slots, head_lines
 // field lines       labels, units, widths, width_trees, clause_trees, line_parts
 // expressions       leaves, numbers, signs, atoms, stored_nodes, chains, stored_trees
 // names             held_names, name_starts, name_clashes
@@ -9,6 +9,8 @@
 // what is kept      states, notes
 // specs/ holds definitions that mirror what the code does, proofs/ the theorems on them.
 mod atoms;
+mod bars;
+mod cell_texts;
 mod chains;
 mod clause_trees;
 mod form_rules;

@@ -1,4 +1,5 @@
 // One line of a text.
+use crate::head_lines::take_more;
 use crate::head_lines::take_opening;
 use crate::head_lines::take_row;
 use crate::head_lines::take_row_or_blank;
@@ -16,13 +17,14 @@ use rules::LABEL_MOST;
 use rules::SHORT_MOST;
 ghost use Rattle.texts.specs.HeldNames.{namesOf};
 ghost use Rattle.texts.specs.NameStarts.{Starts};
-ghost use Rattle.texts.specs.States.{area, LineRoom, Taken, LineStep};
+ghost use Rattle.texts.specs.States.{area, LineRoom, RowRoom, Taken, LineStep};
 
 // What is kept behind one more line.
 pub(crate) fn take_line(
     r: Reading,
     line: &[u8],
     cells: &mut [u8],
+    row: &mut [u8],
     table: &mut [u8],
     counts: &mut [u16],
     labels: &mut [[u8; LABEL_MOST]; FIELDS_MOST],
@@ -31,9 +33,11 @@ pub(crate) fn take_line(
     marks: &mut [u8; FIELDS_MOST],
     starts: &mut [u8; BUCKETS],
 ) -> Reading
-    requires { ⌜ LineRoom r (now line) (now cells) (now table) × Starts (now starts) (now shorts) (now words) ⌝ }
+    requires { ⌜ LineRoom r (now line) (now cells) (now table) × Starts (now starts) (now shorts) (now words)
+        × RowRoom (now line) (now row) ⌝ }
     ensures room { λ q. ⌜ Taken r q ⌝ }
     ensures step { λ q. ⌜ LineStep (now (line .entry)) r q (now (cells .entry)) (now (cells .exit))
+        (now (row .entry)) (now (row .exit))
         (area (now (table .entry)) (now (counts .entry))) (area (now (table .exit)) (now (counts .exit)))
         (now (labels .entry)) (now (labels .exit))
         (namesOf (now (shorts .entry)) (now (words .entry)) (now (marks .entry)))
@@ -48,9 +52,9 @@ pub(crate) fn take_line(
         Stage::TensRuler => { take_ruler(r, line) }
         Stage::UnitsRuler => { expect(r, is_units(line, w), Stage::TopBorder) }
         Stage::TopBorder => { expect(r, is_border(line, w), Stage::FirstRow) }
-        Stage::FirstRow => { take_row(r, line, cells) }
-        Stage::RowBorder => { expect(r, is_border(line, w), Stage::RowOrBlank) }
-        Stage::RowOrBlank => { take_row_or_blank(r, line, cells) }
+        Stage::FirstRow => { take_row(r, line, row) }
+        Stage::InRow => { take_more(r, line, cells, row) }
+        Stage::RowOrBlank => { take_row_or_blank(r, line, row) }
         Stage::WhereLine => { expect(r, same_words(line, b"where:"), Stage::LastBlank) }
         Stage::LastBlank => { expect(r, line.len() == 0, Stage::FirstField) }
         Stage::FirstField => take_field(

@@ -1,7 +1,9 @@
 // A description text is read in one pass, line by line, and its table is written.
+use crate::cell_texts::ROW_ROOM;
 use crate::line_steps::take_line;
 use crate::name_starts::BUCKETS;
 use crate::name_starts::NO_START;
+use crate::slots::ROW_MOST;
 use crate::states::begin;
 use crate::text_bytes::line_end;
 use crate::text_ends::end_text;
@@ -18,10 +20,11 @@ ghost use Rattle.rules.specs.Limits.{textMost};
 ghost use Rattle.rules.specs.Promises.{ReadsText, leaves};
 ghost use Rattle.texts.specs.HeldNames.{namesOf};
 ghost use Rattle.texts.specs.NameStarts.{Starts};
+ghost use Rattle.texts.specs.RowPlaces.{rowRoom};
 ghost use Rattle.texts.specs.States.{slotsMost, recordsMost, Begun, NoneCounted};
 
 // Room for the cells of all fields and of one row more, and for NAME and the records of all fields.
-const SLOTS_ROOM: usize = 43 * FIELDS_MOST + 195;
+const SLOTS_ROOM: usize = 43 * FIELDS_MOST + ROW_MOST;
 
 const RECORDS_ROOM: usize = LABEL_MOST + RECORD_MOST * FIELDS_MOST;
 
@@ -30,6 +33,7 @@ fn read_lines(
     text: &[u8],
     out: &mut [u8],
     cells: &mut [u8],
+    row: &mut [u8],
     table: &mut [u8],
     counts: &mut [u16],
     labels: &mut [[u8; LABEL_MOST]; FIELDS_MOST],
@@ -39,7 +43,7 @@ fn read_lines(
     starts: &mut [u8; BUCKETS],
 ) -> TextAnswer
     requires { ⌜ (length (now text) ≤ textMost) × (slotsMost ≤ length (now cells))
-        × (recordsMost ≤ length (now table)) × NoneCounted (now counts)
+        × (rowRoom ≤ length (now row)) × (recordsMost ≤ length (now table)) × NoneCounted (now counts)
         × Begun (now labels) (namesOf (now shorts) (now words) (now marks))
         × Starts (now starts) (now shorts) (now words) ⌝ }
     ensures { λ r. ⌜ ReadsText (now (text .entry)) (now (out .entry)) (leaves (ofText r) (now (out .exit))) ⌝ }
@@ -49,7 +53,7 @@ fn read_lines(
     loop {
         let e = line_end(text, at);
         if e == text.len() {
-            return end_text(r, at == e, table, counts, out);
+            return end_text(r, at == e, row, table, counts, out);
         }
         if text[e] != b'\n' {
             return TextAnswer::BadByte;
@@ -58,6 +62,7 @@ fn read_lines(
             r,
             &text[at..e],
             cells,
+            row,
             table,
             counts,
             labels,
@@ -76,6 +81,7 @@ fn read_short(text: &[u8], out: &mut [u8]) -> TextAnswer
     ensures { λ r. ⌜ ReadsText (now (text .entry)) (now (out .entry)) (leaves (ofText r) (now (out .exit))) ⌝ }
 {
     let mut cells = [0u8; SLOTS_ROOM];
+    let mut row = [0u8; ROW_ROOM];
     let mut table = [0u8; RECORDS_ROOM];
     let mut counts = [0u16; FIELDS_MOST];
     let mut labels = [[0u8; LABEL_MOST]; FIELDS_MOST];
@@ -87,6 +93,7 @@ fn read_short(text: &[u8], out: &mut [u8]) -> TextAnswer
         text,
         out,
         &mut cells,
+        &mut row,
         &mut table,
         &mut counts,
         &mut labels,

@@ -1,13 +1,14 @@
-// The lines of rows. The table of the classes is lent.
+// The first line of a row, and the blanks around a text. The table of the classes is lent.
 use crate::text_bytes::part_end;
 use names::classes::is_space_in;
-use names::labels::is_label_in;
+ghost use mathlib.Core.Bool.{true};
 ghost use mathlib.Core.Path.{_≡_};
 ghost use Prim.Native.Nat.{_≤_};
 ghost use lib.ListN.{length, take, drop};
-ghost use Rattle.rules.specs.Frames.{isCell};
+ghost use Rattle.rules.specs.Rows.{leftTrim, rightTrim};
+ghost use Rattle.rules.specs.Frames.{isLine};
 ghost use Rattle.names.specs.Classes.{classTable};
-ghost use Rattle.text_laws.specs.FrameReader.{pieces, rest, leftTrim, rightTrim, cellOf, longOf, readRow};
+ghost use Rattle.text_laws.specs.FrameReader.{pieces, rest, longOf, readRow};
 ghost use Rattle.texts.specs.FramePlaces.{isSome, isBits};
 
 // The place behind the spaces in front.
@@ -40,37 +41,21 @@ pub(crate) fn trimmed(classes: &[u8; 256], s: &[u8]) -> usize
     n
 }
 
-// The characters between two bars are a cell.
-pub(crate) fn is_cell(classes: &[u8; 256], s: &[u8]) -> bool
-    requires { ⌜ now classes ≡ classTable ⌝ }
-    ensures { λ r. ⌜ r ≡ isCell (cellOf (now (s .entry))) ⌝ }
-{
-    if s.len() % 2 == 0 {
-        return false;
-    }
-    let a = spaces_end(classes, s);
-    let n = trimmed(classes, &s[a..]);
-    is_label_in(classes, &s[a..a + n])
-}
-
-// What stands behind the first colon of a long row: a cell of `w` bits, and a colon.
-pub(crate) fn is_long(classes: &[u8; 256], l: &[u8], w: usize) -> bool
-    requires { ⌜ (w ≤ 32) × (now classes ≡ classTable) ⌝ }
+// What stands behind the first colon of a long row: `w` bits, and a colon.
+fn is_long(l: &[u8], w: usize) -> bool
+    requires { ⌜ (w ≤ 32) × (isLine (now l) ≡ true) ⌝ }
     ensures { λ r. ⌜ r ≡ isSome (longOf w (rest 58 (now (l .entry))) (pieces 58 (now (l .entry)))) ⌝ }
 {
     let e = part_end(l, 0, b':');
     if l.len() - e != 1 {
         return false;
     }
-    if l.len() != 2 * w {
-        return false;
-    }
-    is_cell(classes, &l[0..e])
+    l.len() == 2 * w
 }
 
 // What stands behind the first bar of a row: cells of `w` bits together, each with a bar behind it.
-fn is_bits(classes: &[u8; 256], l: &[u8], w: usize) -> bool
-    requires { ⌜ now classes ≡ classTable ⌝ }
+fn is_bits(l: &[u8], w: usize) -> bool
+    requires { ⌜ isLine (now l) ≡ true ⌝ }
     ensures { λ r. ⌜ r ≡ isBits w (now (l .entry)) ⌝ }
 {
     let mut at = 0;
@@ -80,7 +65,7 @@ fn is_bits(classes: &[u8; 256], l: &[u8], w: usize) -> bool
         if e >= l.len() {
             return false;
         }
-        if !is_cell(classes, &l[at..e]) {
+        if (e - at) % 2 == 0 {
             return false;
         }
         bits += (e - at + 1) / 2;
@@ -89,19 +74,19 @@ fn is_bits(classes: &[u8; 256], l: &[u8], w: usize) -> bool
     bits == w
 }
 
-// The line is a row of `w` bits.
-pub(crate) fn is_row(classes: &[u8; 256], line: &[u8], w: usize) -> bool
-    requires { ⌜ (w ≤ 32) × (now classes ≡ classTable) ⌝ }
+// The line is the first one of a row of `w` bits.
+pub(crate) fn is_row(line: &[u8], w: usize) -> bool
+    requires { ⌜ (w ≤ 32) × (isLine (now line) ≡ true) ⌝ }
     ensures { λ r. ⌜ r ≡ isSome (readRow w (now (line .entry))) ⌝ }
 {
     if line.len() == 0 {
         return false;
     }
     if line[0] == b'|' {
-        return is_bits(classes, &line[1..], w);
+        return is_bits(&line[1..], w);
     }
     if line[0] == b':' {
-        return is_long(classes, &line[1..], w);
+        return is_long(&line[1..], w);
     }
     false
 }

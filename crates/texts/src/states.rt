@@ -3,7 +3,7 @@ use crate::notes::Note;
 ghost use mathlib.Core.Path.{_≡_};
 ghost use Prim.Native.Nat.{_+_, _≤_};
 ghost use Rattle.rules.specs.Limits.{textMost};
-ghost use Rattle.texts.specs.States.{note, begunWith, changed, madeWrong, expected};
+ghost use Rattle.texts.specs.Changes.{note, begunWith, changed, madeWrong, madeWrongRow, expected};
 
 // The line that must come next; none where a line was wrong.
 pub(crate) enum Stage {
@@ -13,7 +13,7 @@ pub(crate) enum Stage {
     UnitsRuler,
     TopBorder,
     FirstRow,
-    RowBorder,
+    InRow,
     RowOrBlank,
     WhereLine,
     LastBlank,
@@ -22,14 +22,15 @@ pub(crate) enum Stage {
     Lost,
 }
 
-// Whole lines, the line that must come next, W and the length of NAME; the number of cells, where they end, and where
-// the cell of the next field stands; field lines, fields that are kept of them, where their records end, whether the
-// rest field is one of them; the lowest refusal.
+// Whole lines, the line that must come next, W and the length of NAME; the lines of the row that is not ended; the
+// number of cells, where they end, and where the cell of the next field stands; field lines, fields that are kept of
+// them, where their records end, whether the rest field is one of them; the lowest refusal.
 pub(crate) struct Reading {
     pub lines: usize,
     pub stage: Stage,
     pub width: usize,
     pub name: usize,
+    pub row: usize,
     pub cells: usize,
     pub slots: usize,
     pub cell: usize,
@@ -49,6 +50,7 @@ pub(crate) fn begin() -> Reading
         stage: Stage::Opening,
         width: 0,
         name: 0,
+        row: 0,
         cells: 0,
         slots: 0,
         cell: 0,
@@ -72,6 +74,7 @@ fn staged(r: Reading, s: Stage, n: Note) -> Reading
         stage: s,
         width: r.width,
         name: r.name,
+        row: r.row,
         cells: r.cells,
         slots: r.slots,
         cell: r.cell,
@@ -112,6 +115,17 @@ pub(crate) fn wrong(r: Reading) -> Reading
     let n = Note {
         number: 3,
         place: r.lines + 1,
+    };
+    staged(r, Stage::Lost, n)
+}
+
+// 3 at the last line, which is one of a row with a cell whose text is no label.
+pub(crate) fn wrong_row(r: Reading) -> Reading
+    ensures { λ q. ⌜ q ≡ madeWrongRow r ⌝ }
+{
+    let n = Note {
+        number: 3,
+        place: r.lines,
     };
     staged(r, Stage::Lost, n)
 }

@@ -1,8 +1,12 @@
 // The end of a text: the lowest refusal of all, or the table.
 use crate::notes::Note;
 use crate::notes::lower;
+use crate::slots::ROW_MOST;
+use crate::slots::Rowed;
+use crate::slots::put_row;
 use crate::states::Reading;
 use crate::states::Stage;
+use names::classes::class_table;
 use references::numbers::put_numbers;
 use rules::TextAnswer;
 use writing::puts::put;
@@ -11,7 +15,7 @@ use writing::puts::put_two;
 ghost use mathlib.Core.Bool.{true, false, cond};
 ghost use mathlib.Core.List.{_++_};
 ghost use mathlib.Core.Path.{_≡_};
-ghost use Prim.Native.Nat.{_+_, _≤_};
+ghost use Prim.Native.Nat.{_+_, _≤_, _<_};
 ghost use lib.Dec.{eqb};
 ghost use lib.ListN.{length};
 ghost use Rattle.rules.specs.Answers.{ofText, refused};
@@ -22,8 +26,10 @@ ghost use Rattle.rules.specs.Stored.{counted, recordOf};
 ghost use Rattle.references.specs.Numbers.{numbered};
 ghost use Rattle.text_laws.specs.Lowest.{lower};
 ghost use Rattle.texts.specs.Noted.{noteOf};
-ghost use Rattle.texts.specs.States.{recordsMost, Room, isTold, earlyNote, remainNote, lastNote, TableStep};
-ghost use Rattle.texts.specs.States.{area, EndStep};
+ghost use Rattle.texts.specs.RowPlaces.{rowRoom};
+ghost use Rattle.texts.specs.Slots.{areLabels};
+ghost use Rattle.texts.specs.States.{recordsMost, Room, isTold, earlyNote, rowNote, remainNote, lastNote};
+ghost use Rattle.texts.specs.States.{TableStep, area, EndStep};
 
 // A refusal as an answer.
 fn answer_of(a: Note) -> TextAnswer
@@ -56,6 +62,34 @@ fn early(r: Reading) -> Note
     }
 }
 
+// The text of each cell of `n` kept lines of `size` bytes is a label.
+fn is_labelled(row: &[u8], n: usize, size: usize) -> bool
+    requires { ⌜ (n ≤ 4) × (0 < size) × (size ≤ 65) × (rowRoom ≤ length (now row)) ⌝ }
+    ensures { λ b. ⌜ b ≡ areLabels (now (row .entry)) n size ⌝ }
+{
+    let mut cells = [0u8; ROW_MOST];
+    let classes = class_table();
+    let ended = put_row(&classes, &mut cells, 0, row, n, size);
+    let Rowed::Put(_, _) = ended else {
+        return false;
+    };
+    true
+}
+
+// 3 where a text ends in a row.
+fn row_note(r: Reading, row: &[u8]) -> Note
+    requires { ⌜ Room r × (r .lines ≤ textMost) × (rowRoom ≤ length (now row)) ⌝ }
+    ensures { λ a. ⌜ a ≡ rowNote r (now (row .entry)) ⌝ }
+{
+    if is_labelled(row, r.row, 2 * r.width + 1) {
+        return early(r);
+    }
+    Note {
+        number: 3,
+        place: r.lines,
+    }
+}
+
 // 7 where cells remain.
 fn remaining(r: Reading) -> Note
     requires { ⌜ r .lines ≤ textMost ⌝ }
@@ -85,9 +119,9 @@ fn fields_note(r: Reading, whole: bool) -> Note
 }
 
 // The lowest refusal of a text; `whole` says that its last line is.
-fn last_note(r: Reading, whole: bool) -> Note
-    requires { ⌜ r .lines ≤ textMost ⌝ }
-    ensures { λ a. ⌜ noteOf a ≡ lastNote (r .stage) r whole ⌝ }
+fn last_note(r: Reading, whole: bool, row: &[u8]) -> Note
+    requires { ⌜ Room r × (r .lines ≤ textMost) × (rowRoom ≤ length (now row)) ⌝ }
+    ensures { λ a. ⌜ noteOf a ≡ lastNote (r .stage) r whole (now (row .entry)) ⌝ }
 {
     let stage = r.stage;
     match stage {
@@ -97,7 +131,7 @@ fn last_note(r: Reading, whole: bool) -> Note
         Stage::UnitsRuler => { early(r) }
         Stage::TopBorder => { early(r) }
         Stage::FirstRow => { early(r) }
-        Stage::RowBorder => { early(r) }
+        Stage::InRow => { row_note(r, row) }
         Stage::RowOrBlank => { early(r) }
         Stage::WhereLine => { early(r) }
         Stage::LastBlank => { early(r) }
@@ -150,15 +184,17 @@ fn put_table(r: Reading, table: &[u8], counts: &[u16], out: &mut [u8]) -> usize
 pub(crate) fn end_text(
     r: Reading,
     whole: bool,
+    row: &[u8],
     table: &[u8],
     counts: &[u16],
     out: &mut [u8],
 ) -> TextAnswer
-    requires { ⌜ Room r × (r .lines ≤ textMost) × (recordsMost ≤ length (now table)) ⌝ }
-    ensures { λ a. ⌜ EndStep r whole (area (now (table .entry)) (now (counts .entry))) (now (out .entry))
-        (now (out .exit)) a ⌝ }
+    requires { ⌜ Room r × (r .lines ≤ textMost) × (recordsMost ≤ length (now table))
+        × (rowRoom ≤ length (now row)) ⌝ }
+    ensures { λ a. ⌜ EndStep r whole (now (row .entry)) (area (now (table .entry)) (now (counts .entry)))
+        (now (out .entry)) (now (out .exit)) a ⌝ }
 {
-    let last = last_note(r, whole);
+    let last = last_note(r, whole, row);
     if last.number != 0 {
         return answer_of(last);
     }

@@ -2,6 +2,8 @@
 
 use crate::common::{with, BLADE};
 
+const TCP: &str = include_str!("../../../examples/pages/tcp.txt");
+
 /// Refused pages, each with its number and place; 11 is none that the command can meet.
 pub fn pages() -> Vec<(String, u32, u32)> {
     let remark = "x".repeat(16_385 - BLADE.len() - 1);
@@ -12,6 +14,8 @@ pub fn pages() -> Vec<(String, u32, u32)> {
         page("Sum: 2 bytes.", &format!("Sum: 2 bytes. {remark}"), 1, 0),
         page("Blade: 1", "Blade:\t1", 2, 0),
         page("|  Cells  |     Blade     |", "|  Cells   |    Blade     |", 3, 6),
+        (TCP.replace("|T|N|N|", "|T|N N|"), 3, 14),
+        (TCP.replace("| Offset|", "| Off_et|"), 3, 14),
         (format!("{BLADE}{fields}"), 4, 0),
         page("V == 1", "V = 1", 5, 17),
         page("(L): 1 bit.", "(L): 1 bit; 1+1+1+1+1+1+1+1+1+1+1+1 == L.", 6, 18),

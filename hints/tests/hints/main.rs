@@ -13,6 +13,7 @@ mod names;
 mod operators;
 mod packets;
 mod ranges;
+mod rows;
 
 use umarekoza_hints::{page_hint, plain, Verdict};
 

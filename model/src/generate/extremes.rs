@@ -1,6 +1,7 @@
 //! Cases at the far ends of the limits: the longest tables and listings, very many bits behind a rest field, and
 //! texts of very many lines or very long ones.
 
+use super::drawing::{row, Drawn};
 use super::growth::Growth;
 use super::words::Names;
 use super::{Rng, EARLIER_PACKET};
@@ -8,6 +9,7 @@ use crate::descriptions::{Description, Field, Width};
 use crate::frames::{border, tens_ruler, units_ruler, FORMATTED, WHERE};
 use crate::names::is_short_name;
 use crate::reading::LONGEST_PACKET;
+use crate::rows::ROW_LINES;
 use crate::rules::{MOST_FIXED_BITS, ROW_BITS};
 use crate::texts::LONGEST_TEXT;
 
@@ -93,18 +95,17 @@ fn opening(row_bits: u32) -> Vec<u8> {
     lines.join(&b'\n')
 }
 
-/// A text of so many rows, one cell each, that its length may be that of the longest text.
+/// A text of so many rows, one cell each, that its length may be that of the longest text; at times of several lines.
 pub fn many_rows(rng: &mut Rng) -> Vec<u8> {
     let row_bits = rng.pick([8, 8, 16]);
-    let inner = 2 * row_bits as usize - 1;
+    let columns = 2 * row_bits as usize - 1;
     let mut text = opening(row_bits);
     let most = rng.between(2_000, LONGEST_TEXT - 50);
-    while text.len() + 2 * (inner + 3) <= most {
-        let bar = rng.pick([b'|', b':']);
-        let before = rng.below(inner);
-        text.push(bar);
-        text.extend((0..inner).map(|column| if column == before { b'F' } else { b' ' }));
-        text.extend([bar, b'\n']);
+    let lines = rng.pick([1, 1, ROW_LINES]);
+    while text.len() + (lines + 1) * (columns + 3) <= most {
+        let cell = Drawn { name: b"F", columns, bar: rng.pick([b'|', b':']) };
+        text.extend(row(rng, &[cell], lines).join(&b'\n'));
+        text.push(b'\n');
         text.extend(border(row_bits));
         text.push(b'\n');
     }

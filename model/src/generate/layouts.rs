@@ -13,7 +13,16 @@ pub enum Slot {
 
 pub struct Layout {
     pub row_bits: u32,
+    /// The most lines of a bit row.
+    pub row_lines: usize,
     pub slots: Vec<Slot>,
+}
+
+impl Layout {
+    /// Rows of one line.
+    pub fn new(row_bits: u32, slots: Vec<Slot>) -> Self {
+        Layout { row_bits, row_lines: 1, slots }
+    }
 }
 
 /// A few rows.
@@ -23,7 +32,7 @@ pub fn layout(rng: &mut Rng) -> Layout {
     for _ in 0..rng.between(1, 6) {
         add_row(rng, row_bits, &mut slots, 16);
     }
-    Layout { row_bits, slots }
+    Layout::new(row_bits, slots)
 }
 
 /// As many rows as give exactly `count` fields.
@@ -34,7 +43,7 @@ pub fn full_layout(rng: &mut Rng, count: usize) -> Layout {
         let most = (count - slots.len()).min(12);
         add_row(rng, row_bits, &mut slots, most);
     }
-    Layout { row_bits, slots }
+    Layout::new(row_bits, slots)
 }
 
 /// A number of fields at the limit, at that of document 01 or between them.
@@ -62,7 +71,7 @@ pub fn tall_layout(rng: &mut Rng, row_bits: u32, count: usize) -> Layout {
     while slots.len() < count {
         add_row(rng, row_bits, &mut slots, 1);
     }
-    Layout { row_bits, slots }
+    Layout::new(row_bits, slots)
 }
 
 /// Adds a row of at most `most` fields; after the rest field bit rows only.

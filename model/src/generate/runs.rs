@@ -47,7 +47,7 @@ impl Plan {
             None => many(rng),
         };
         let layout = match rng.below(3) {
-            0 => Layout { row_bits: 8, slots: vec![Slot::Fixed(8); count] },
+            0 => Layout::new(8, vec![Slot::Fixed(8); count]),
             1 => tall_layout(rng, 8, count),
             _ => full_layout(rng, count),
         };

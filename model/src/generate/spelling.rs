@@ -1,5 +1,6 @@
 //! Random texts of a description, with all freedom of [01, Spelling], and with oddities that 01 forbids.
 
+use super::drawing::{row, Drawn, Room};
 use super::Rng;
 use crate::descriptions::{Description, Field, Width};
 use crate::field_lines::{PRESENT, VARIABLE};
@@ -12,10 +13,12 @@ const MOST_OPEN: usize = 12;
 const UNKNOWN: &[u8] = b"Q9q";
 
 /// How a text is spelled.
-#[derive(Clone, Copy, Default)]
+#[derive(Clone, Copy)]
 pub struct Manner {
     /// As shortly as can be.
     plain: bool,
+    /// The most lines of a bit row.
+    row_lines: usize,
     /// What may be wrong.
     parentheses: bool,
     numbers: bool,
@@ -24,14 +27,34 @@ pub struct Manner {
 }
 
 impl Manner {
-    pub const PLAIN: Manner =
-        Manner { plain: true, parentheses: false, numbers: false, widths: false, spaces: false };
+    /// Nothing is wrong, and each row has one line.
+    const RIGHT: Manner = Manner {
+        plain: false,
+        row_lines: 1,
+        parentheses: false,
+        numbers: false,
+        widths: false,
+        spaces: false,
+    };
+    pub const PLAIN: Manner = Manner { plain: true, ..Manner::RIGHT };
+
+    /// Bit rows have up to so many lines.
+    pub fn of_rows(row_lines: usize) -> Self {
+        Manner { row_lines, ..Manner::RIGHT }
+    }
 
     /// One thing may be wrong.
-    pub fn wrong(rng: &mut Rng) -> Self {
+    pub fn wrong(rng: &mut Rng, row_lines: usize) -> Self {
         let kind = rng.below(4);
         let plain = false;
-        Manner { plain, parentheses: kind == 0, numbers: kind == 1, widths: kind == 2, spaces: kind == 3 }
+        Manner {
+            plain,
+            row_lines,
+            parentheses: kind == 0,
+            numbers: kind == 1,
+            widths: kind == 2,
+            spaces: kind == 3,
+        }
     }
 }
 
@@ -75,17 +98,20 @@ impl Speller<'_> {
     }
 
     fn rows(&mut self, drawn: &Description, border: &[u8]) {
-        let mut filled = 0;
-        for field in &drawn.fields {
-            let bar: &[u8] = if field.fixed_bits().is_some() { b"|" } else { b":" };
+        let (mut filled, mut cells) = (0, Vec::new());
+        for (place, field) in drawn.fields.iter().enumerate() {
             let bits = field.fixed_bits().unwrap_or(drawn.row_bits);
-            if filled == 0 {
-                self.put(bar);
-            }
-            self.cell(field, (2 * bits as usize).saturating_sub(1));
-            self.put(bar);
+            let bar = if field.fixed_bits().is_some() { b'|' } else { b':' };
+            let columns = (2 * bits as usize).saturating_sub(1);
+            cells.push(Drawn { name: self.shown(field, columns), columns, bar });
             filled += bits;
-            if filled >= drawn.row_bits {
+            let is_full = filled >= drawn.row_bits;
+            if is_full || place + 1 == drawn.fields.len() {
+                let lines = row(self.rng, &cells, self.manner.row_lines).join(&b'\n');
+                self.put(&lines);
+                cells.clear();
+            }
+            if is_full {
                 filled = 0;
                 self.put(b"\n");
                 self.put(border);
@@ -94,16 +120,16 @@ impl Speller<'_> {
         }
     }
 
-    /// The label or short name among spaces that fill `room`.
-    fn cell(&mut self, field: &Field<usize>, room: usize) {
+    /// The label or short name, as there is room for it in so many columns; a part of one where there is none.
+    fn shown<'f>(&mut self, field: &Field<'f, usize>, columns: usize) -> &'f [u8] {
+        let is_fixed = field.fixed_bits().is_some();
+        let room = Room { columns, lines: if is_fixed { self.manner.row_lines } else { 1 } };
         let other = field.short.unwrap_or(field.label);
         let (first, second) = if self.rng.one_in(2) { (field.label, other) } else { (other, field.label) };
-        let name = if first.len() <= room { first } else { &second[..second.len().min(room)] };
-        let spaces = room - name.len();
-        let before = if self.rng.one_in(2) { spaces / 2 } else { self.rng.between(0, spaces) };
-        self.put(&b" ".repeat(before));
-        self.put(name);
-        self.put(&b" ".repeat(spaces - before));
+        match [first, second].into_iter().find(|name| room.shows(name)) {
+            Some(name) => name,
+            None => &second[..second.len().min(columns)],
+        }
     }
 
     fn field_line(&mut self, field: &Field<usize>) {

@@ -1,5 +1,6 @@
 //! Random names: labels of all forms, and short names.
 
+use super::drawing::Room;
 use super::layouts::{Layout, Slot};
 use super::Rng;
 use crate::names::{is_label, is_short_name, LONGEST_LABEL, LONGEST_SHORT_NAME};
@@ -30,6 +31,8 @@ const WORDS: [&[u8]; 23] = [
     b"x",
 ];
 const TRIES: usize = 400;
+/// Room for every label.
+const ANY: Room = Room { columns: LONGEST_LABEL, lines: 1 };
 /// With more fields than these, names of one letter are left to the cells of one bit.
 const FEW_FIELDS: usize = 24;
 
@@ -43,14 +46,14 @@ impl Names {
     /// Names for a layout, no name that of two fields; with `shown`, the label or the short name of a field fits in
     /// its cell.
     pub fn random(rng: &mut Rng, layout: &Layout, shown: bool) -> Names {
-        let mut names = Names { name: label(rng, LONGEST_LABEL), labels: Vec::new(), shorts: Vec::new() };
+        let mut names = Names { name: label(rng, ANY), labels: Vec::new(), shorts: Vec::new() };
         for slot in &layout.slots {
-            let bits = match slot {
-                Slot::Fixed(bits) => *bits,
-                _ => layout.row_bits,
+            let (bits, lines) = match slot {
+                Slot::Fixed(bits) => (*bits, layout.row_lines),
+                _ => (layout.row_bits, 1),
             };
-            let room = if shown { 2 * bits as usize - 1 } else { LONGEST_LABEL };
-            let single = if layout.slots.len() <= FEW_FIELDS { 2 } else { usize::from(room == 1) };
+            let room = if shown { Room { columns: 2 * bits as usize - 1, lines } } else { ANY };
+            let single = if layout.slots.len() <= FEW_FIELDS { 2 } else { usize::from(room.most() == 1) };
             names.add(rng, room, single);
         }
         names
@@ -71,12 +74,12 @@ impl Names {
 
     /// Adds a new label and a new short name or none, one of which fits in `room`. At most so many of them are of a
     /// `single` letter.
-    fn add(&mut self, rng: &mut Rng, room: usize, single: usize) {
+    fn add(&mut self, rng: &mut Rng, room: Room, single: usize) {
         let mut chosen = (label(rng, room), None);
         for _ in 0..TRIES {
             let by_label = rng.one_in(2);
-            let label = label(rng, if by_label { room } else { LONGEST_LABEL });
-            let longest = if by_label { LONGEST_SHORT_NAME } else { room.min(LONGEST_SHORT_NAME) };
+            let label = label(rng, if by_label { room } else { ANY });
+            let longest = if by_label { LONGEST_SHORT_NAME } else { room.word().min(LONGEST_SHORT_NAME) };
             let short = match rng.below(6) {
                 0 if is_short_name(&label) && label.len() <= longest => Some(label.clone()),
                 1..=3 if by_label => None,
@@ -103,20 +106,37 @@ impl Names {
     }
 }
 
-/// A label of at most `most` bytes.
-fn label(rng: &mut Rng, most: usize) -> Vec<u8> {
-    let most = most.min(LONGEST_LABEL);
+/// A label that there is room for.
+fn label(rng: &mut Rng, room: Room) -> Vec<u8> {
+    let most = room.most().min(LONGEST_LABEL);
     loop {
         let length = if rng.one_in(15) { most } else { rng.between(1, most.min(14)) };
         let label = match rng.below(6) {
+            _ if room.lines > 1 && rng.one_in(2) => broken(rng, room),
             0 | 1 => letters(rng, length),
-            2 | 3 => short_name(rng, most.min(LONGEST_SHORT_NAME)),
+            2 | 3 => short_name(rng, room.word().min(LONGEST_SHORT_NAME)),
             _ => words(rng, most),
         };
-        if is_label(&label) && label.len() <= most {
+        if is_label(&label) && room.shows(&label) {
             return label;
         }
     }
+}
+
+/// Letters that take several lines: downwards in one column, else in words.
+fn broken(rng: &mut Rng, room: Room) -> Vec<u8> {
+    if room.columns == 1 {
+        let length = rng.between(2, room.lines);
+        return letters(rng, length);
+    }
+    let words = rng.between(2, room.lines);
+    let mut label = Vec::new();
+    for word in 0..words {
+        let length = rng.between(1, room.columns.min(9));
+        label.extend(if word > 0 { &b" "[..] } else { b"" });
+        label.extend(letters(rng, length));
+    }
+    label
 }
 
 /// A short name of at most `most` bytes.

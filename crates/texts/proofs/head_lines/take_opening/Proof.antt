@@ -1,6 +1,6 @@
 use mathlib.Core.Path.{sym, _∙_}
 use native.Mathlib.Omega.{arith}
-use Rattle.texts.proofs.StateSteps.{taken-wrong, holds-wrong}
+use Rattle.texts.proofs.StateSteps.{taken-wrong, holds-wrong, blamed-outside}
 use Rattle.texts.proofs.HeadSteps.{behind-none, behind-read, named-line, unnamed-line, name-fits, name-put}
 use Rattle.texts.proofs.HeadSteps.{room-name, holds-name}
 use borrow.Author.Needs.{needs}
@@ -28,7 +28,7 @@ returns c =
     (c .before .if1 .taken) in
     rw (c .wrong .ensures) (
       taken-wrong (a .r) (c .before .before .before .before .before .pre .0),
-      (λ cells counts f labels names k b h. rw e (holds-wrong f (a .r) h)),
+      (λ cells counts f labels names k b o h. rw e (holds-wrong f (a .r) h (blamed-outside (f .row) (f .lines) o))),
     )
 
 sub-is-named : tie.Need-sub-is-named
@@ -108,7 +108,7 @@ returns-2 c =
             .before .before .pre .0) (omega (arith, w .end, n .short)),
         omega arith,
       ),
-      (λ cells counts f labels names k b h. rw e (holds-name f (a .r) h (k .head b) _
+      (λ cells counts f labels names k b o h. rw e (holds-name f (a .r) h (k .head b) _
           (c .before .before .before .before .put .result) w)),
     )
 
@@ -126,7 +126,7 @@ returns-3 c =
     (c .before .before .before .before .if1 .left) ∙ o in
     rw (c .wrong2 .ensures) (
       taken-wrong (a .r) (c .before .before .before .before .before .before .before .before .pre .0),
-      (λ cells counts f labels names k b h. rw e (holds-wrong f (a .r) h)),
+      (λ cells counts f labels names k b o h. rw e (holds-wrong f (a .r) h (blamed-outside (f .row) (f .lines) o))),
     )
 
 pub take-opening-spec : {M : Type 1} → statement M

@@ -1,165 +1,99 @@
-use mathlib.Core.Path.{_≡_, refl, subst}
-use mathlib.Core.Option.{none, some}
+use mathlib.Core.Path.{_≡_, sym, ap, subst, _∙_}
+use mathlib.Core.Option.{Option, none, some}
 use Prim.Native.Nat.{ℕ}
 use native.Mathlib.Omega.{arith}
+use lib.ListN.{length}
 use denote.Ref.{now}
+use Rattle.rules.specs.Rows.{Row}
 use Rattle.text_laws.specs.FrameReader.{readRow}
-use Rattle.text_laws.specs.Fold.{Found}
-use Rattle.texts.specs.Noted.{noteOf}
-use Rattle.texts.specs.States.{note}
-use Rattle.texts.specs.declared.states.Stage.the-variants as at
-use Rattle.texts.proofs.StateSteps.{taken-wrong, taken-onward, holds-wrong}
-use Rattle.texts.proofs.HeadSteps.{room-row}
-use Rattle.texts.proofs.RowSteps.{row-none, row-some, row-length, holds-few, holds-over}
+use Rattle.writing.proofs.PutLaws.{put-writes}
+use Rattle.texts.specs.RowPlaces.{linesIn}
+use Rattle.texts.proofs.BarLaws.{row-lines-one}
+use Rattle.texts.proofs.RowLines.{some-is, none-else, first-line}
+use Rattle.texts.proofs.RowSteps.{room-line, holds-line}
+use Rattle.texts.proofs.StateSteps.{taken-wrong, holds-wrong, blamed-outside, kept-outside}
 use borrow.Author.Needs.{needs}
 use Rattle.texts.proofs.head_lines.take_row.Statement.{statement}
 use Rattle.texts.proofs.head_lines.take_row.Tie as tie
 use Rattle.texts.proofs.head_lines.take_row.Reads as reads
 use Rattle.texts.proofs.head_lines.take_row.Lts as lts
-use Rattle.names.proofs.classes.class_table.Reads as class-table-reads
-use Rattle.texts.proofs.slots.put_row.Reads as put-row-reads
+use Rattle.texts.proofs.rows.is_row.Reads as is-row-reads
 use Rattle.texts.proofs.states.onward.Reads as onward-reads
-use Rattle.texts.proofs.states.too_many.Reads as too-many-reads
 use Rattle.texts.proofs.states.wrong.Reads as wrong-reads
+use Rattle.writing.proofs.puts.put.Reads as put-reads
 
-class-table-requires : tie.Need-class-table-requires
-class-table-requires c κs = search needs
+is-row-requires : tie.Need-is-row-requires
+is-row-requires c κs = (c .before .before .pre .0 .width, c .before .before .pre .2 .0)
 
-put-row-requires : tie.Need-put-row-requires
-put-row-requires c κs =
-    let k = c .before .before .before .before .before .pre .0 in (
-      k .width,
-      omega (arith, k .slots, k .cells, c .before .before .before .before .before .pre .2),
-      c .before .before
-          .class-table .ensures,
-    )
+put-requires : tie.Need-put-requires
+put-requires c κs = search needs
 
-enum-known-row : tie.Need-enum-known-row
-enum-known-row c = search needs
-
-enum-told : tie.Need-enum-told
-enum-told c = search needs
-
-wrong-requires : tie.Need-wrong-requires
-wrong-requires c κs = c .before .before .before .before .before .before .before .before .before .before .pre .1
+onward-requires : tie.Need-onward-requires
+onward-requires c κs = c .before .before .before .before .before .before .before .before .before .pre .1
 
 same-length : tie.Need-same-length
 same-length c = search needs
 
 returns : tie.Need-returns
 returns c =
-    let r = c .before .before .before .before .before .before .before .before .before .before .before .args .r in
-    let l = now (c .before .before .before .before .before .before .before .before .before .before .before .args
-    .line) in
-    let q = row-none _ _ _ _ (readRow (r .width) l) (c .before .before .before .before .before .put-row .ensures)
-    (c .before .enum-told .given .1) in
-    rw (c .wrong .ensures) (
-      taken-wrong r (c .before .before .before .before .before .before .before .before .before .before .before .pre
-          .0),
-      (λ table f labels names k b h.
-          let e : readRow (f .width) l ≡ none = subst (λ (w : ℕ). readRow w l ≡ none) (h .counts .width) (q .0) in
-          rw (e, q .1) (holds-wrong f r h)),
-    )
-
-sub-most : tie.Need-sub-most
-sub-most c = let q = c .before .before .before .before .before .before .before .before .before .before .before .before
-    .pre .0 .cells
-    in search (needs, q)
-
-too-many-requires : tie.Need-too-many-requires
-too-many-requires c κs = c .before .before .before .before .before .before .before .before .before .before .before
-    .before .before .pre .1
-
-same-length-2 : tie.Need-same-length-2
-same-length-2 c = search needs
-
-returns-2 : tie.Need-returns-2
-unfolding noteOf
-returns-2 c =
-    let r = c .before .before .before .before .before .before .before .before .before .before .before .before .before
-    .before .args
-    .r in
-    let l = now (c .before .before .before .before .before .before .before .before .before .before .before .before
-    .before .before .args .line) in
-    let room = c .before .before .before .before .before .before .before .before .before .before .before .before
-    .before .before .pre
-    .0 in
-    let p = row-some _ _ _ _ (readRow (r .width) l) _ _
-    (c .before .before .before .before .before .before .before .before .put-row .ensures)
-    (c .before .before .before .before .row .given .1) in
-    let e : (f : Found) → r .width ≡ f .width → readRow (f .width) l ≡ some (p .row) =
-    λ f w. subst (λ (v : ℕ). readRow v l ≡ some (p .row)) w (p .isRead) in
-    rw (c .too-many .ensures) (
-      taken-onward r at.RowBorder (note 4 0) refl room,
-      (λ table f labels names k b h. rw (e f (h .counts .width)) (holds-over f r h (k .head b) (p .row)
-          (p .writes)
-          (omega (arith, c .before .if1 .taken, p .count, h .counts .cells)) (omega (
-            arith,
-            room .slots,
-            room .cells,
-            c .before .before .before .before .before .before .before .before .before .before .before .before .before
-                .before .pre .2,
-          )))),
-    )
-
-add-r : tie.Need-add-r
-add-r c = let q = c .before .before .before .before .before .before .before .before .before .before .before .before
-    .before .before .pre .0 .cells in let k = c .before .if1 .left in omega (arith, q, k)
-
-onward-requires : tie.Need-onward-requires
-onward-requires c κs = c .before .before .before .before .before .before .before .before .before .before .before
-    .before .before .before .before .pre .1
-
-same-length-3 : tie.Need-same-length-3
-same-length-3 c = search needs
-
-returns-3 : tie.Need-returns-3
-returns-3 c =
-    let r = c .before .before .before .before .before .before .before .before .before .before .before .before .before
-    .before .before .before .args .r in
-    let l = now (c .before .before .before .before .before .before .before .before .before .before .before .before
-    .before .before .before .before .args .line) in
-    let room = c .before .before .before .before .before .before .before .before .before .before .before .before
-    .before .before .before .before .pre .0 in
-    let p = row-some _ _ _ _ (readRow (r .width) l) _ _
-    (c .before .before .before .before .before .before .before .before .before .before .put-row .ensures)
-    (c .before .before .before .before .before .before .row .given .1) in
-    let e : (f : Found) → r .width ≡ f .width → readRow (f .width) l ≡ some (p .row) =
-    λ f w. subst (λ (v : ℕ). readRow v l ≡ some (p .row)) w (p .isRead) in
-    let n = row-length (r .width) l (p .row) (p .isRead) in
+    let c1 = c .before .before .before .before .before .before .before .before .before .before in
+    let r = c1 .args .r in
+    let l = now (c1 .args .line) in
+    let x = some-is (readRow (r .width) l) (sym (c .before .before .before .before .before .before .before .is-row
+    .ensures) ∙ c .before .before .before .before .before .before .if1 .taken) in
+    let n = row-lines-one (r .width) l (x .0) (x .1) in
+    let w = put-writes (omega (
+      arith,
+      n .2,
+      c1 .pre .0 .width,
+      c1 .pre .2
+          .1,
+    )) (c .before .before .before .before .put .ensures) in
     rw (c .onward .ensures) (
       (
-        room-row r _ _ room (omega (arith, c .before .before .before .if1 .left, room .cells)) (omega (
-          arith,
-          p .writes .end,
-          n,
-          p .count,
-          room
-              .slots,
-        )) (omega (arith, p .writes .end)),
+        room-line r 1 (c1 .pre .0)
+            (omega arith),
         omega arith,
       ),
-      (λ table f labels names k b h. rw (e f (h .counts .width)) (holds-few f r h (k .head b) (p .row)
-          (p .writes) _ (p .count) (omega
-          (arith, c .before .before .before .if1 .left, room .cells, p .count, h .counts .cells)))),
+      (
+        (λ cells table f labels names k b o h.
+            let e = subst (λ (v : ℕ). readRow v l ≡ some (x .0)) (h .counts .width) (x .1) in
+            rw e (holds-line f r h (x .0) 1 (sym (ap length (n .0))))),
+        λ f o v z.
+            let e = subst (λ (u : ℕ). readRow u l ≡ some (x .0)) v (x .1) in
+            rw e (first-line (r .width) l (x .0) (x .1) w),
+      ),
+    )
+
+wrong-requires : tie.Need-wrong-requires
+wrong-requires c κs = c .before .before .before .before .pre .1
+
+returns-2 : tie.Need-returns-2
+returns-2 c =
+    let c1 = c .before .before .before .before .before in
+    let r = c1 .args .r in
+    let l = now (c1 .args .line) in
+    let e = none-else (readRow (r .width) l) (sym (c .before .before .is-row .ensures) ∙ c .before .if1 .left) in
+    rw (c .wrong .ensures) (
+      taken-wrong r (c1 .pre .0),
+      (
+        (λ cells table f labels names k b o h.
+            let g = subst (λ (v : ℕ). readRow v l ≡ none) (h .counts .width) e in
+            rw g (holds-wrong f r h (blamed-outside (f .row) (f .lines) o))),
+        λ f o v z.
+            let g = subst (λ (u : ℕ). readRow u l ≡ none) v e in
+            rw g (kept-outside o (z ∙ sym (ap (λ (p : Option Row). length (linesIn p)) o))),
+      ),
     )
 
 pub take-row-spec : {M : Type 1} → statement M
 take-row-spec =
     tie.close
     (tie.spec
-    class-table-requires
-    put-row-requires
-    enum-known-row
-    enum-told
-    wrong-requires
+    is-row-requires
+    put-requires
+    onward-requires
     same-length
     returns
-    sub-most
-    too-many-requires
-    same-length-2
-    returns-2
-    add-r
-    onward-requires
-    same-length-3
-    returns-3)
+    wrong-requires
+    returns-2)

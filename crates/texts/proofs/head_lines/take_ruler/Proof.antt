@@ -4,7 +4,7 @@ use Prim.Native.Nat.{ℕ}
 use native.Mathlib.Omega.{arith}
 use Rattle.text_laws.specs.FrameReader.{readTens}
 use Rattle.texts.specs.FramePlaces.{widthOr}
-use Rattle.texts.proofs.StateSteps.{taken-wrong, holds-wrong}
+use Rattle.texts.proofs.StateSteps.{taken-wrong, holds-wrong, blamed-outside}
 use Rattle.texts.proofs.HeadSteps.{tens-none, tens-some, room-width, holds-width}
 use borrow.Author.Needs.{needs}
 use Rattle.texts.proofs.head_lines.take_ruler.Statement.{statement}
@@ -28,7 +28,7 @@ returns c =
     let e : readTens l ≡ none = tens-none l (sym (c .before .before .ruler-width .ensures) ∙ c .before .if1 .taken) in
     rw (c .wrong .ensures) (
       taken-wrong (a .r) (c .before .before .before .before .pre .0),
-      (λ cells table f labels names k b h. rw e (holds-wrong f (a .r) h)),
+      (λ cells table f labels names k b o h. rw e (holds-wrong f (a .r) h (blamed-outside (f .row) (f .lines) o))),
     )
 
 onward-requires : tie.Need-onward-requires
@@ -50,7 +50,7 @@ returns-2 c =
             (arith, t .1, c .before .before .before .ruler-width .ensures)),
         omega arith,
       ),
-      (λ cells table f labels names k b h. rw e (holds-width f (a .r) h w)),
+      (λ cells table f labels names k b o h. rw e (holds-width f (a .r) h o w)),
     )
 
 pub take-ruler-spec : {M : Type 1} → statement M

@@ -9,7 +9,7 @@ use Rattle.rules.specs.Fields.{trees}
 use Rattle.text_laws.specs.LineReader.{readForm}
 use Rattle.text_laws.specs.Judging.{isOpen}
 use Rattle.texts.specs.Noted.{noteOf}
-use Rattle.texts.specs.States.{note}
+use Rattle.texts.specs.Changes.{note}
 use Rattle.texts.specs.declared.states.Stage.the-variants as at
 use Rattle.texts.proofs.StateSteps.{taken-onward}
 use Rattle.texts.proofs.FieldSteps.{full-same, holds-full, holds-formless, holds-closed, holds-kept}

@@ -8,6 +8,7 @@ use lib.Seq.{length-take-le}
 use Rattle.texts.specs.HeldNames.{namesOf}
 use Rattle.texts.specs.NameStarts.{Starts}
 use Rattle.texts.specs.States.{Room, area}
+use Rattle.texts.proofs.LineEnds.{printable-line}
 use Rattle.texts.proofs.LineWalk.{
   Walking,
   room-begun,
@@ -28,28 +29,29 @@ use Rattle.texts.proofs.text_bytes.line_end.Reads as line-end-reads
 use Rattle.texts.proofs.text_ends.end_text.Reads as end-text-reads
 
 abbrev Inv-loop : tie.InvT-loop
-Inv-loop text out₀ cells₀ table₀ counts₀ labels₀ shorts₀ words₀ marks₀ starts₀ r₀ at₀ out cells table counts labels
-    shorts words marks starts r at =
+Inv-loop text out₀ cells₀ row₀ table₀ counts₀ labels₀ shorts₀ words₀ marks₀ starts₀ r₀ at₀ out cells row table counts
+    labels shorts words marks starts r at =
     (at ≤ length text) ×
     (r .lines ≤ at) ×
     (out ≡ out₀) ×
     (length cells ≡ length cells₀) ×
+    (length row ≡ length row₀) ×
     (length table ≡ length table₀) ×
     Room r ×
-    Walking text at r cells (area table counts) labels (namesOf shorts words marks) ×
+    Walking text at r cells row (area table counts) labels (namesOf shorts words marks) ×
     Starts starts shorts words ×
     (length counts ≡ length counts₀)
 
 abbrev μ-loop : tie.MeasureT-loop
-μ-loop text out₀ cells₀ table₀ counts₀ labels₀ shorts₀ words₀ marks₀ starts₀ r₀ at₀ out cells table counts labels
-    shorts words marks starts r at = length text - at
+μ-loop text out₀ cells₀ row₀ table₀ counts₀ labels₀ shorts₀ words₀ marks₀ starts₀ r₀ at₀ out cells row table counts
+    labels shorts words marks starts r at = length text - at
 
 begin-requires : tie.Need-begin-requires Inv-loop μ-loop
 begin-requires c κs = search needs
 
 loop-holds : tie.Need-loop-holds Inv-loop μ-loop
 loop-holds c =
-    let c1 = c .before .before .before .before .before .before in
+    let c1 = c .before .before .before .before .before .before .before in
     let p = c1 .pre in
     rw (c .begin .ensures) (
       omega arith,
@@ -57,9 +59,11 @@ loop-holds c =
       refl,
       refl,
       refl,
+      refl,
       room-begun,
-      walking-start (now (c1 .args .text)) _ _ _ _ _ (p .3) (p .4),
-      p .5,
+      walking-start (now (c1 .args .text)) _ _ _ _ _ _ (p .4)
+          (p .5),
+      p .6,
       refl,
     )
 
@@ -68,12 +72,12 @@ line-end-requires c κs = search needs
 
 end-text-requires : tie.Need-end-text-requires Inv-loop μ-loop
 end-text-requires c κs =
-    let c1 = c .before .before .before .before .before in
-    let c2 = c1 .before .before .before .before .before .before .before in
-    let p = c2 .pre in
-    let v = c1 .loop in (
-      v .inv .5,
+    let p = c .before .before .before .before .before .before .before .before .before .before .before .before .before
+    .before .pre in
+    let v = c .before .before .before .before .before .before .loop in (
+      v .inv .6,
       omega (arith, v .inv .1, v .inv .0, p .0),
+      omega (arith, v .inv .5, p .3),
       omega (arith, v .inv .4, p .2),
     )
 
@@ -86,30 +90,28 @@ same-length-2 c = search needs
 same-length-3 : tie.Need-same-length-3 Inv-loop μ-loop
 same-length-3 c = search needs
 
-returns : tie.Need-returns Inv-loop μ-loop
-returns c =
-    let c1 = c .before .before .before .before .before .before in
-    let c2 = c1 .before in
-    let c3 = c2 .before in
-    let c4 = c3 .before .before .before .before .before .before .before in
-    let t = now (c4 .args .text) in
-    let p = c4 .pre in
-    let v = c3 .loop in
-    let e = c2 .line-end in
-    let w = v .inv .6 in
-    let z = walking-reads t (v .at) (e .result) (v .r) w (e .ensures .1) (v .inv .0) (e .ensures .0 .1)
-    (omega (arith, c1 .if1 .taken)) (p .0) in
-    rw (← v .inv .2) (z _ _ (c .before .before .end-text .ensures _ _ _ _ (empty-end t (v .at) (v .inv .0)
-    ∙ ap (λ (n : ℕ). eqb (v .at) n) (sym (c1 .if1 .taken))) (w .holds)))
-
-shared-slice-read-if2 : tie.Need-shared-slice-read-if2 Inv-loop μ-loop
-shared-slice-read-if2 c = search needs
-
 same-length-4 : tie.Need-same-length-4 Inv-loop μ-loop
 same-length-4 c = search needs
 
 same-length-5 : tie.Need-same-length-5 Inv-loop μ-loop
 same-length-5 c = search needs
+
+returns : tie.Need-returns Inv-loop μ-loop
+returns c =
+    let c1 = c .before .before .before .before .before .before .before .before .before .before .before .before
+    .before .before .before .before .before in
+    let t = now (c1 .args .text) in
+    let v = c .before .before .before .before .before .before .before .before .before .loop in
+    let e = c .before .before .before .before .before .before .before .before .line-end in
+    let w = v .inv .7 in
+    let z = walking-reads t (v .at) (e .result) (v .r) w (e .ensures .1) (v .inv .0) (e .ensures .0 .1)
+    (omega (arith, c .before .before .before .before .before .before .before .if1 .taken)) (c1 .pre .0) in
+    rw (← v .inv .2) (z _ _ (c .before .before .end-text .ensures _ _ _ _ (empty-end t (v .at) (v .inv .0)
+    ∙ ap (λ (n : ℕ). eqb (v .at) n) (sym (c .before .before .before .before .before .before .before .if1 .taken))) (w
+    .steady) (w .kept) (w .holds)))
+
+shared-slice-read-if2 : tie.Need-shared-slice-read-if2 Inv-loop μ-loop
+shared-slice-read-if2 c = search needs
 
 same-length-6 : tie.Need-same-length-6 Inv-loop μ-loop
 same-length-6 c = search needs
@@ -120,18 +122,21 @@ same-length-7 c = search needs
 same-length-8 : tie.Need-same-length-8 Inv-loop μ-loop
 same-length-8 c = search needs
 
+same-length-9 : tie.Need-same-length-9 Inv-loop μ-loop
+same-length-9 c = search needs
+
+same-length-10 : tie.Need-same-length-10 Inv-loop μ-loop
+same-length-10 c = search needs
+
 returns-2 : tie.Need-returns-2 Inv-loop μ-loop
 returns-2 c =
-    let c1 = c .before .before .before in
-    let c2 = c1 .before in
-    let c3 = c2 .before .before .before .before .before .before .before in
-    let t = now (c3 .args .text) in
-    let p = c3 .pre in
-    let v = c2 .loop in
-    let e = c1 .line-end in
+    let c1 = c .before .before .before .before .before .before .before .before .before .before .before .before in
+    let t = now (c1 .args .text) in
+    let v = c .before .before .before .before .loop in
+    let e = c .before .before .before .line-end in
     let lt : e .result < length t = omega (arith, e .ensures .0 .1, c .before .before .if1 .left) in
     rw (← v .inv .2)
-    (walking-stops t (v .at) (e .result) (v .r) (v .inv .6) (e .ensures .1) lt (c .if2 .taken) (p .0) _)
+    (walking-stops t (v .at) (e .result) (v .r) (v .inv .7) (e .ensures .1) lt (c .if2 .taken) (c1 .pre .0) _)
 
 sub-take-line : tie.Need-sub-take-line Inv-loop μ-loop
 sub-take-line c = search needs
@@ -144,68 +149,68 @@ part-take-line-end c = search needs
 
 take-line-requires : tie.Need-take-line-requires Inv-loop μ-loop
 take-line-requires c κs =
-    let c1 = c .before .before .before .before .before .before .before .before .before .before .before .before in
-    let c2 = c1 .before in
-    let c3 = c2 .before .before .before .before .before .before .before in
-    let t = now (c3 .args .text) in
-    let p = c3 .pre in
-    let v = c2 .loop in
-    let e = c1 .line-end in
+    let c1 = c .before .before .before .before .before .before .before .before .before .before .before .before
+    .before .before .before .before .before .before .before .before .before .before in
+    let t = now (c1 .args .text) in
+    let p = c1 .pre in
+    let v = c .before .before .before .before .before .before .before .before .before .before .before .before .before
+    .before .loop in
+    let e = c .before .before .before .before .before .before .before .before .before .before .before .before .before
+    .line-end in
     let n = length-take-le (e .result - v .at) (drop (v .at) t)
     (omega (arith, e .ensures .0 .1, length-drop (v .at) t)) in (
       (
-        v .inv .5,
+        v .inv .6,
         omega (arith, v .inv .1, v .inv .0, p .0),
         omega (arith, n, e .ensures .0 .1, p .0),
         omega (arith, v .inv .3, p .1),
-        omega (arith, v .inv .4, p .2),
+        omega (arith, v .inv .5, p .3),
       ),
-      v .inv .7,
+      v .inv .8,
+      (printable-line t (v .at) (e .result) (e .ensures .1), omega (arith, v .inv .4, p .2)),
     )
 
 add-at : tie.Need-add-at Inv-loop μ-loop
-add-at c =
-    let c1 = c .before .before .before .before .before .before .before .before .before .before .before .before .before
-    .before .before .before .before .before .before in
-    let c2 = c1 .before .before .before .before .before .before .before .before in
-    let q = c1 .line-end .ensures .0 .1 in
-    let p = c2 .pre in
-    omega (arith, q, p .0)
+add-at c = let q = c .before .before .before .before .before .before .before .before .before .before .before .before
+    .before .before .before .before .before .before .before .before .before .before .line-end .ensures .0 .1 in let p
+    = c .before .before .before .before .before .before .before .before .before .before .before .before .before
+    .before .before .before .before .before .before .before .before .before .before .before .before .before .before
+    .before .before .before .before .pre .0 in omega (arith, q, p)
 
 loop-less : tie.Need-loop-less Inv-loop μ-loop
-loop-less c =
-    let c1 = c .before .before .before .before .before .before .before .before .before .before .before .before .before
-    .before .before .before .before .before in
-    let c2 = c1 .before in
-    let q = c2 .line-end .ensures .0 in
-    let n = c1 .if1 .left in
-    omega (arith, q .0, q .1, n)
+loop-less c = let q = c .before .before .before .before .before .before .before .before .before .before .before
+    .before .before .before .before .before .before .before .before .before .before .before .line-end .ensures .0 in
+    let n = c .before .before .before .before .before .before .before .before .before .before .before .before .before
+    .before .before .before .before .before .before .before .before .if1 .left in omega (arith, q .0, q .1, n)
 
 loop-again : tie.Need-loop-again Inv-loop μ-loop
 loop-again c =
-    let c1 = c .before .before .before .before .before .before in
-    let c2 = c1 .before .before .before .before .before .before .before .before .before .before in
-    let c3 = c2 .before .before in
-    let c4 = c3 .before in
-    let c5 = c4 .before in
-    let c6 = c5 .before .before .before .before .before .before .before in
-    let t = now (c6 .args .text) in
-    let v = c5 .loop in
-    let e = c4 .line-end in
-    let q = c1 .take-line .ensures in
-    let n = c3 .if1 .left in
-    let f = c2 .if2 .left in
-    let lt : e .result < length t = omega (arith, e .ensures .0 .1, n) in (
+    let t = now (c .before .before .before .before .before .before .before .before .before .before .before .before
+    .before .before .before .before .before .before .before .before .before .before .before .before .before .before
+    .before .before .before .before .before .args .text) in
+    let v = c .before .before .before .before .before .before .before .before .before .before .before .before .before
+    .before .before .before .before .before .before .before .before .before .before .loop in
+    let e = c .before .before .before .before .before .before .before .before .before .before .before .before .before
+    .before .before .before .before .before .before .before .before .before .line-end in
+    let q = c .before .before .before .before .before .before .before .before .take-line .ensures in
+    let other = c .before .before .before .before .before .before .before .before .before .before .before .before
+    .before .before .before .before .before .before .before .before .before .if1 .left in
+    let lt : e .result < length t = omega (arith, e .ensures .0 .1, other) in
+    let feed = c .before .before .before .before .before .before .before .before .before .before .before .before
+    .before .before .before .before .before .before .before .if2 .left in (
       omega (arith, lt),
       omega (arith, q .0 .1, v .inv .1, e .ensures .0 .0),
       v .inv .2,
       omega (arith, q .1 .0 .0, v .inv .3),
       omega (arith, q .1 .0 .1, v .inv .4),
+      omega (arith, q .1 .0 .2, v .inv .5),
       q .0 .0,
-      walking-next t (v .at) (e .result) (v .r) (v .inv .6) (e .ensures .1) lt f
-          (c1 .take-line .result) (q .1 .0),
+      walking-next t (v .at) (e .result) (v .r) (v .inv .7) (e .ensures .1) lt feed (c .before .before .before
+          .before .before .before .before .before .take-line .result)
+          (q .1 .0),
       q .1 .1,
-      (let k = c1 .take-line .kept .1 .1 .1 .1 .0 in omega (arith, k, v .inv .8)),
+      (let k = c .before .before .before .before .before .before .before .before .take-line .kept .1 .1 .1 .1 .1 .0
+          in omega (arith, k, v .inv .9)),
     )
 
 pub read-lines-spec : {M : Type 1} → statement M
@@ -222,12 +227,14 @@ read-lines-spec =
     same-length-2
     same-length-3
     same-length-4
+    same-length-5
     returns
     shared-slice-read-if2
-    same-length-5
     same-length-6
     same-length-7
     same-length-8
+    same-length-9
+    same-length-10
     returns-2
     sub-take-line
     part-take-line-start

@@ -17,10 +17,14 @@ slice-aggregate-read-lines-2 c = search needs
 slice-aggregate-read-lines-3 : tie.Need-slice-aggregate-read-lines-3
 slice-aggregate-read-lines-3 c = search needs
 
+slice-aggregate-read-lines-4 : tie.Need-slice-aggregate-read-lines-4
+slice-aggregate-read-lines-4 c = search needs
+
 read-lines-requires : tie.Need-read-lines-requires
 read-lines-requires c κs =
-    let c1 = c .before .before .before .before .before .before .before .before .before .before .before in (
+    let c1 = c .before .before .before .before .before .before .before .before .before .before .before .before in (
       c1 .pre,
+      search needs,
       search needs,
       search needs,
       numbers-none 128 (omega arith),
@@ -41,6 +45,7 @@ read-short-spec =
     slice-aggregate-read-lines
     slice-aggregate-read-lines-2
     slice-aggregate-read-lines-3
+    slice-aggregate-read-lines-4
     read-lines-requires
     same-length
     returns)

@@ -1,4 +1,7 @@
 use mathlib.Core.Path.{_∙_}
+use Prim.Native.Nat.{_-_}
+use lib.ListN.{length}
+use Rattle.texts.proofs.RowLeaves.{line-part}
 use Rattle.texts.proofs.RowTests.{row-empty, row-bits, row-long, row-other}
 use borrow.Author.Needs.{needs}
 use Rattle.texts.proofs.rows.is_row.Statement.{statement}
@@ -24,12 +27,15 @@ part-is-bits-end : tie.Need-part-is-bits-end
 part-is-bits-end c = search needs
 
 is-bits-requires : tie.Need-is-bits-requires
-is-bits-requires c κs = search needs
+is-bits-requires c κs =
+    let a = c .before .before .before .before .before .args in
+    line-part (a .line .now) 1 (length (a .line .now) - 1) (c .before .before .before .before .before .pre .1)
 
 returns-2 : tie.Need-returns-2
-returns-2 c = c .is-bits .ensures ∙ row-bits (c .before .before .before .before .before .before .args .w)
-    (c .before .before .before .before .before .before .args .line .now)
-    (c .before .before .before .before .if1 .left) (c .before .before .if2 .taken)
+returns-2 c =
+    let a = c .before .before .before .before .before .before .args in
+    c .is-bits .ensures
+    ∙ row-bits (a .w) (a .line .now) (c .before .before .before .before .if1 .left) (c .before .before .if2 .taken)
 
 shared-slice-read-if3 : tie.Need-shared-slice-read-if3
 shared-slice-read-if3 c = search needs
@@ -44,18 +50,22 @@ part-is-long-end : tie.Need-part-is-long-end
 part-is-long-end c = search needs
 
 is-long-requires : tie.Need-is-long-requires
-is-long-requires c κs = search needs
+is-long-requires c κs =
+    let s = c .before .before .before .before .before .before .before in
+    (s .pre .0, line-part (s .args .line .now) 1 (length (s .args .line .now) - 1) (s .pre .1))
 
 returns-3 : tie.Need-returns-3
-returns-3 c = c .is-long .ensures ∙ row-long (c .before .before .before .before .before .before .before .before .args
-    .w) (c .before .before .before .before .before .before .before .before .args .line .now)
-    (c .before .before .before .before .before .before .if1 .left) (c .before .before .if3 .taken)
+returns-3 c =
+    let a = c .before .before .before .before .before .before .before .before .args in
+    c .is-long .ensures
+    ∙ row-long (a .w) (a .line .now) (c .before .before .before .before .before .before .if1 .left)
+    (c .before .before .if3 .taken)
 
 returns-4 : tie.Need-returns-4
-returns-4 c = row-other (c .before .before .before .before .before .before .args .w)
-    (c .before .before .before .before .before .before .args .line .now)
-    (c .before .before .before .before .if1 .left) (c .before .before .if2
-    .left) (c .if3 .left)
+returns-4 c =
+    let a = c .before .before .before .before .before .before .args in
+    row-other (a .w) (a .line .now) (c .before .before .before .before .if1 .left) (c .before .before .if2 .left)
+    (c .if3 .left)
 
 pub is-row-spec : {M : Type 1} → statement M
 is-row-spec =

@@ -4,8 +4,8 @@ use Prim.Native.Nat.{_≤_, _-_, _<_}
 use borrow.Author.Tests.{not-true, not-false}
 use lib.ListN.{length, drop, getD}
 use Rattle.names.proofs.ClassRules.{space-in}
-use Rattle.texts.proofs.RowLeaves.{left-end, left-stop, left-step}
-use Rattle.text_laws.specs.FrameReader.{leftTrim}
+use Rattle.texts.proofs.TrimLaws.{left-end, left-stop, left-step}
+use Rattle.rules.specs.Rows.{leftTrim}
 use borrow.Author.Needs.{needs}
 use Rattle.texts.proofs.rows.spaces_end.Statement.{statement}
 use Rattle.texts.proofs.rows.spaces_end.Tie as tie

@@ -5,8 +5,8 @@ use borrow.Author.Tests.{not-true, not-false}
 use lib.ListN.{length, take, getD}
 use Rattle.names.proofs.ClassRules.{space-in}
 use lib.Seq.{take-all}
-use Rattle.texts.proofs.RowLeaves.{right-end, right-stop, right-step}
-use Rattle.text_laws.specs.FrameReader.{rightTrim}
+use Rattle.texts.proofs.TrimLaws.{right-end, right-stop, right-step}
+use Rattle.rules.specs.Rows.{rightTrim}
 use borrow.Author.Needs.{needs}
 use Rattle.texts.proofs.rows.trimmed.Statement.{statement}
 use Rattle.texts.proofs.rows.trimmed.Tie as tie

@@ -1,40 +1,41 @@
-use Rattle.texts.proofs.SlotLaws.{slot-put}
+use native.Mathlib.Omega.{arith}
+use Rattle.texts.proofs.SlotLaws.{text-byte, slot-put}
 use borrow.Author.Needs.{needs}
 use Rattle.texts.proofs.slots.put_slot.Statement.{statement}
 use Rattle.texts.proofs.slots.put_slot.Tie as tie
 use Rattle.texts.proofs.slots.put_slot.Reads as reads
 use Rattle.texts.proofs.slots.put_slot.Lts as lts
-use Rattle.texts.proofs.rows.spaces_end.Reads as spaces-end-reads
-use Rattle.texts.proofs.rows.trimmed.Reads as trimmed-reads
+use Rattle.texts.proofs.cell_texts.put_text.Reads as put-text-reads
 use Rattle.texts.proofs.slots.yes_no.Reads as yes-no-reads
 use Rattle.writing.proofs.puts.put.Reads as put-reads
 
-spaces-end-requires : tie.Need-spaces-end-requires
-spaces-end-requires c κs = search needs
+add-from : tie.Need-add-from
+add-from c = search needs
 
-sub-trimmed : tie.Need-sub-trimmed
-sub-trimmed c = search needs
-
-part-trimmed-start : tie.Need-part-trimmed-start
-part-trimmed-start c = search needs
-
-part-trimmed-end : tie.Need-part-trimmed-end
-part-trimmed-end c = search needs
-
-trimmed-requires : tie.Need-trimmed-requires
-trimmed-requires c κs = search needs
+put-text-requires : tie.Need-put-text-requires
+put-text-requires c κs = search needs
 
 yes-no-requires : tie.Need-yes-no-requires
 yes-no-requires c κs = search needs
 
-add-t15 : tie.Need-add-t15
-add-t15 c = search needs
+sub-t15 : tie.Need-sub-t15
+sub-t15 c = search needs
 
-cast-t17 : tie.Need-cast-t17
-cast-t17 c = search needs
+add-t16 : tie.Need-add-t16
+add-t16 c = search needs
 
 cast-t18 : tie.Need-cast-t18
 cast-t18 c = search needs
+
+sub-t19 : tie.Need-sub-t19
+sub-t19 c = search needs
+
+cast-t20 : tie.Need-cast-t20
+cast-t20 c =
+    let a = c .before .before .before .before .before .before .before .args in
+    let q = text-byte (a .row .now) (a .n) (a .a) (a .b) (omega arith) (omega arith) (omega arith) (omega arith)
+    (c .before .before .before .put-text .ensures) in
+    omega (arith, q)
 
 slice-aggregate-put : tie.Need-slice-aggregate-put
 slice-aggregate-put c = search needs
@@ -42,57 +43,30 @@ slice-aggregate-put c = search needs
 put-requires : tie.Need-put-requires
 put-requires c κs = search needs
 
-add-put : tie.Need-add-put
-add-put c = search needs
-
-sub-put : tie.Need-sub-put
-sub-put c = search needs
-
-part-put-start : tie.Need-part-put-start
-part-put-start c = search needs
-
-part-put-end : tie.Need-part-put-end
-part-put-end c = search needs
-
-put-requires-2 : tie.Need-put-requires-2
-put-requires-2 c κs = search needs
-
 same-length : tie.Need-same-length
 same-length c = search needs
 
 returns : tie.Need-returns
 returns c =
-    let a = c .before .before .before .before .before .before .before .before .before .before .before .before .before
-    .before .before .before .args in
-    let f = c .before .before .before .before .before .before .before .before .before .before .before .before .before
-    .spaces-end in
-    let t = c .before .before .before .before .before .before .before .before .before .before .before .trimmed in
-    let y = c .before .before .before .before .before .before .before .before .before .before .yes-no .ensures in
-    slot-put (a .chars .now) (a .long) (f .result) (t .result) (f .ensures .1) (t .ensures .0) (t .ensures .1)
-    (f .ensures .0) (c .before .before .before .before .before .before .before .before .before .before .before .before
-    .before .before .before .before .pre .1)
-    (rw y at (c .before .before .before .before .before .before .before .put .ensures)) (c .before .before .put2
-    .ensures)
+    let a = c .before .before .before .before .before .before .before .before .before .before .before .before .args in
+    slot-put (a .row .now) (a .n) (a .a) (a .b) (a .long) (omega arith)
+    (c .before .before .before .before .before .before .before .before .put-text .ensures)
+    (c .before .before .before .before .before .yes-no .ensures)
+    (c .before .before .put .ensures)
 
 pub put-slot-spec : {M : Type 1} → statement M
 put-slot-spec =
     tie.close
     (tie.spec
-    spaces-end-requires
-    sub-trimmed
-    part-trimmed-start
-    part-trimmed-end
-    trimmed-requires
+    add-from
+    put-text-requires
     yes-no-requires
-    add-t15
-    cast-t17
+    sub-t15
+    add-t16
     cast-t18
+    sub-t19
+    cast-t20
     slice-aggregate-put
     put-requires
-    add-put
-    sub-put
-    part-put-start
-    part-put-end
-    put-requires-2
     same-length
     returns)

@@ -8,6 +8,7 @@ use Rattle.texts.proofs.text_ends.last_note.Reads as reads
 use Rattle.texts.proofs.text_ends.last_note.Lts as lts
 use Rattle.texts.proofs.text_ends.early.Reads as early-reads
 use Rattle.texts.proofs.text_ends.fields_note.Reads as fields-note-reads
+use Rattle.texts.proofs.text_ends.row_note.Reads as row-note-reads
 
 enum-told : tie.Need-enum-told
 enum-told c = search needs
@@ -48,32 +49,32 @@ early-requires-6 c κs = search needs
 enum-told-7 : tie.Need-enum-told-7
 enum-told-7 c = search needs
 
-early-requires-7 : tie.Need-early-requires-7
-early-requires-7 c κs = search needs
+row-note-requires : tie.Need-row-note-requires
+row-note-requires c κs = search needs
 
 enum-told-8 : tie.Need-enum-told-8
 enum-told-8 c = search needs
 
-early-requires-8 : tie.Need-early-requires-8
-early-requires-8 c κs = search needs
+early-requires-7 : tie.Need-early-requires-7
+early-requires-7 c κs = search needs
 
 enum-told-9 : tie.Need-enum-told-9
 enum-told-9 c = search needs
 
-early-requires-9 : tie.Need-early-requires-9
-early-requires-9 c κs = search needs
+early-requires-8 : tie.Need-early-requires-8
+early-requires-8 c κs = search needs
 
 enum-told-10 : tie.Need-enum-told-10
 enum-told-10 c = search needs
 
-early-requires-10 : tie.Need-early-requires-10
-early-requires-10 c κs = search needs
+early-requires-9 : tie.Need-early-requires-9
+early-requires-9 c κs = search needs
 
 enum-told-11 : tie.Need-enum-told-11
 enum-told-11 c = search needs
 
-early-requires-11 : tie.Need-early-requires-11
-early-requires-11 c κs = search needs
+early-requires-10 : tie.Need-early-requires-10
+early-requires-10 c κs = search needs
 
 enum-told-12 : tie.Need-enum-told-12
 enum-told-12 c = search needs
@@ -110,23 +111,23 @@ returns-6 c = rw (c .before .enum-told6 .given .1) (ap noteOf (c .early6 .ensure
 
 returns-7 : tie.Need-returns-7
 unfolding lastNote
-returns-7 c = rw (c .before .enum-told7 .given .1) (ap noteOf (c .early7 .ensures))
+returns-7 c = rw (c .before .enum-told7 .given .1) (ap noteOf (c .row-note .ensures))
 
 returns-8 : tie.Need-returns-8
 unfolding lastNote
-returns-8 c = rw (c .before .enum-told8 .given .1) (ap noteOf (c .early8 .ensures))
+returns-8 c = rw (c .before .enum-told8 .given .1) (ap noteOf (c .early7 .ensures))
 
 returns-9 : tie.Need-returns-9
 unfolding lastNote
-returns-9 c = rw (c .before .enum-told9 .given .1) (ap noteOf (c .early9 .ensures))
+returns-9 c = rw (c .before .enum-told9 .given .1) (ap noteOf (c .early8 .ensures))
 
 returns-10 : tie.Need-returns-10
 unfolding lastNote
-returns-10 c = rw (c .before .enum-told10 .given .1) (ap noteOf (c .early10 .ensures))
+returns-10 c = rw (c .before .enum-told10 .given .1) (ap noteOf (c .early9 .ensures))
 
 returns-11 : tie.Need-returns-11
 unfolding lastNote
-returns-11 c = rw (c .before .enum-told11 .given .1) (ap noteOf (c .early11 .ensures))
+returns-11 c = rw (c .before .enum-told11 .given .1) (ap noteOf (c .early10 .ensures))
 
 returns-12 : tie.Need-returns-12
 unfolding lastNote
@@ -140,7 +141,7 @@ pub last-note-spec : {M : Type 1} → statement M
 last-note-spec =
     tie.close
     (tie.spec enum-told early-requires enum-told-2 early-requires-2 enum-told-3 early-requires-3 enum-told-4
-    early-requires-4 enum-told-5 early-requires-5 enum-told-6 early-requires-6 enum-told-7 early-requires-7
-    enum-told-8 early-requires-8 enum-told-9 early-requires-9 enum-told-10 early-requires-10 enum-told-11
-    early-requires-11 enum-told-12 fields-note-requires enum-told-13 returns returns-2 returns-3 returns-4 returns-5
+    early-requires-4 enum-told-5 early-requires-5 enum-told-6 early-requires-6 enum-told-7 row-note-requires
+    enum-told-8 early-requires-7 enum-told-9 early-requires-8 enum-told-10 early-requires-9 enum-told-11
+    early-requires-10 enum-told-12 fields-note-requires enum-told-13 returns returns-2 returns-3 returns-4 returns-5
     returns-6 returns-7 returns-8 returns-9 returns-10 returns-11 returns-12 returns-13)
