@@ -60,7 +60,8 @@ module _ (first last : ℕ) where
       let longer = length-append before (f ∷ []) in
       h i (omega (arith, longer, p)) (omega (arith, longer, q))
 
-  kept-away : (before l : List (Field ℕ)) → Parts false before l → firstBreak keepsAway before l ≡ none → all away l ≡ true
+  kept-away : (before l : List (Field ℕ)) → Parts false before l → firstBreak keepsAway before l ≡ none
+      → all away l ≡ true
   unfolding all
   kept-away before [] out h = refl
   kept-away before (f ∷ l) out h =

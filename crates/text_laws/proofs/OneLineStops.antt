@@ -140,6 +140,52 @@ AllOne s ls = (m : ℕ) (q : State) → m ≤ length ls → run s (take m ls) �
 last-one : (rows : List Row) (r : Row) → all isOneLine (rows ++ (r ∷ [])) ≡ true → isOneLine r ≡ true
 last-one rows r a = all-cons isOneLine r [] (all-back isOneLine rows (r ∷ []) a) .0
 
+-- at a line in such a state
+module _ (l : List ℕ) (ls : List (List ℕ)) (n : ℕ) (s : State) (f : all isLabelled (rowsIn s) ≡ true)
+    (one : AllOne s (l ∷ ls)) where
+  next-one : (q : State) → step s l ≡ some q → AllOne q ls
+  next-one q e m x le g = one (suc m) x (omega (arith, le)) (run-one s q l (take m ls) e ∙ g)
+
+  stops-here : onState (stopAt n s) (λ q. strictPlace (suc n) q ls) (strict s l) ≡ suc n → Stops n s (l ∷ ls)
+  unfolding strictPlace run
+  stops-here e = record {
+    count = 0;
+    state = s;
+    there = omega arith;
+    place = (let z : n + 0 ≡ n = omega arith in rw z e);
+    ran = refl;
+    fine = f;
+  }
+
+  stops-later : (q : State) → strict s l ≡ some q → Stops (suc n) q ls → Stops n s (l ∷ ls)
+  unfolding strictPlace
+  stops-later q e w = record {
+    count = suc (w .count);
+    state = w .state;
+    there = (let k = w .there in omega (arith, k));
+    place =
+        (let z : suc (suc n + w .count) ≡ suc (n + suc (w .count)) = omega arith in
+        ap (onState (stopAt n s) (λ q. strictPlace (suc n) q ls)) e ∙ w .place ∙ z);
+    ran = run-one s q l (take (w .count) ls) (strict-some s q l e) ∙ w .ran;
+    fine = w .fine;
+  }
+
+  -- behind it there is a bad row
+  stops-in-row : (q : State) → strict s l ≡ some q → (h : Top) (rows : List Row) (r : Row) → q ≡ rowed h rows r
+      → isLabelled r ≡ false → Stops n s (l ∷ ls)
+  unfolding run
+  stops-in-row q e h rows r k bad =
+      let t : step s l ≡ some (rowed h rows r) = strict-some s q l e ∙ ap (λ (x : State). some x) k in
+      let p : strictPlace (suc n) (rowed h rows r) ls ≡ suc n =
+      bad-place (suc n) h rows r ls bad
+      (last-one rows r (next-one (rowed h rows r) t 0 (rowed h rows r) (omega arith) refl))
+      (λ m more x u g.
+      last-one rows x (next-one (rowed h rows r) t 1 (rowed h rows x)
+      (let z = ap length u in omega (arith, z))
+      (ap (λ (y : List (List ℕ)). run (rowed h rows r) (take 1 y)) u
+      ∙ run-one (rowed h rows r) (rowed h rows x) m [] (step-more h rows r x m g)))) in
+      stops-here (ap (onState (stopAt n s) (λ q. strictPlace (suc n) q ls)) (e ∙ ap (λ (x : State). some x) k) ∙ p)
+
 pub stops : (ls : List (List ℕ)) (n : ℕ) (s : State) → Labelled s → all isLabelled (rowsIn s) ≡ true → AllOne s ls
     → Stops n s ls
 unfolding strictPlace run
@@ -153,51 +199,16 @@ stops [] n s a f one = record {
 }
 stops (l ∷ ls) n s a f one = go (strict s l) refl (strict-labelled s l a) (stops ls)
   where
-    here : onState (stopAt n s) (λ q. strictPlace (suc n) q ls) (strict s l) ≡ suc n → Stops n s (l ∷ ls)
-    here e = record {
-      count = 0;
-      state = s;
-      there = omega arith;
-      place = (let z : n + 0 ≡ n = omega arith in rw z e);
-      ran = refl;
-      fine = f;
-    }
-
-    next : (q : State) → step s l ≡ some q → AllOne q ls
-    next q e m x le g = one (suc m) x (omega (arith, le)) (run-one s q l (take m ls) e ∙ g)
-
-    later : (q : State) → strict s l ≡ some q → Stops (suc n) q ls → Stops n s (l ∷ ls)
-    later q e w = record {
-      count = suc (w .count);
-      state = w .state;
-      there = (let k = w .there in omega (arith, k));
-      place =
-          (let z : suc (suc n + w .count) ≡ suc (n + suc (w .count)) = omega arith in
-          ap (onState (stopAt n s) (λ q. strictPlace (suc n) q ls)) e ∙ w .place ∙ z);
-      ran = run-one s q l (take (w .count) ls) (strict-some s q l e) ∙ w .ran;
-      fine = w .fine;
-    }
-
-    in-row : (q : State) → strict s l ≡ some q → (h : Top) (rows : List Row) (r : Row) → q ≡ rowed h rows r
-        → isLabelled r ≡ false → Stops n s (l ∷ ls)
-    in-row q e h rows r k bad =
-        let t : step s l ≡ some (rowed h rows r) = strict-some s q l e ∙ ap (λ (x : State). some x) k in
-        let p : strictPlace (suc n) (rowed h rows r) ls ≡ suc n =
-        bad-place (suc n) h rows r ls bad (last-one rows r (next (rowed h rows r) t 0 (rowed h rows r) (omega arith)
-        refl))
-        (λ m more x u g.
-        last-one rows x (next (rowed h rows r) t 1 (rowed h rows x)
-        (let z = ap length u in omega (arith, z))
-        (ap (λ (y : List (List ℕ)). run (rowed h rows r) (take 1 y)) u
-        ∙ run-one (rowed h rows r) (rowed h rows x) m [] (step-more h rows r x m g)))) in
-        here (ap (onState (stopAt n s) (λ q. strictPlace (suc n) q ls)) (e ∙ ap (λ (x : State). some x) k) ∙ p)
-
     go : (o : Option State) → strict s l ≡ o → OnState Labelled o
         → ((m : ℕ) (q : State) → Labelled q → all isLabelled (rowsIn q) ≡ true → AllOne q ls → Stops m q ls)
         → Stops n s (l ∷ ls)
-    go none e b r = here (ap (onState (stopAt n s) (λ q. strictPlace (suc n) q ls)) e ∙ stop-fine n s f)
+    go none e b r =
+        stops-here l ls n s f one (ap (onState (stopAt n s) (λ q. strictPlace (suc n) q ls)) e ∙ stop-fine n s f)
     go (some q) e b r = on (all isLabelled (rowsIn q)) refl
       where
         on : (c : Bool) → all isLabelled (rowsIn q) ≡ c → Stops n s (l ∷ ls)
-        on true k = later q e (r (suc n) q b k (next q (strict-some s q l e)))
-        on false k = let w = bad-state q b k in in-row q e (w .0) (w .1) (w .2) (w .3) (w .4)
+        on true k =
+            stops-later l ls n s f one q e (r (suc n) q b k (next-one l ls n s f one q (strict-some s q l e)))
+        on false k =
+            let w = bad-state q b k in
+            stops-in-row l ls n s f one q e (w .0) (w .1) (w .2) (w .3) (w .4)

@@ -17,7 +17,7 @@ use Rattle.texts.specs.Noted.{noteOf}
 use Rattle.texts.specs.RowPlaces.{stripsAt, linesIn, RowKept}
 use Rattle.texts.specs.Changes.{note, changed, madeWrong, madeWrongRow, expected}
 use Rattle.texts.specs.States.{isTold, Room, Taken, stageOf}
-use Rattle.texts.specs.States.{Counts, Area, Records, Holds, HeadStep, HeadRow, RowStep, LineStep}
+use Rattle.texts.specs.States.{Counts, Area, Records, Holds, FieldStep, HeadStep, HeadRow, RowStep, LineStep}
 use Rattle.text_laws.specs.Steady.{StandIn, isHead, rowGoes, Steady}
 use Rattle.text_laws.proofs.Steadiness.{no-row, some-row}
 use Rattle.texts.specs.declared.notes.Note.{Note}
@@ -207,6 +207,20 @@ module _ (r : Reading) (l : List ℕ) (s : Stage) (told : r .stage ≡ s) where
       let e : f .stage ≡ stageOf s = sym (h .counts .stage) ∙ ap stageOf told in
       subst (λ (z : fold.Stage). Holds (fold.linedAt z f l) q cells′ table′ labels′ names′
       × RowKept (fold.linedAt z f l .row) (q .width) (q .row) row′) (sym e) (step f k e g h)
+
+  -- a field line
+  pub field-stage : ((f : fold.Found) → fold.linedAt (stageOf s) f l ≡ fold.withField f l) → {q : Reading}
+      {cells row : List ℕ} {table table′ : Area} {labels labels′ : List (List ℕ)} {names names′ : Names}
+      → FieldStep l r q cells table table′ labels labels′ names names′
+      → LineStep l r q cells cells row row table table′ labels labels′ names names′
+  field-stage is step = (
+    refl,
+    refl,
+    step .0,
+    at-stage (λ f k e g h.
+        let w = step .1 f k h in
+        rw (is f) (w, kept-same (h .counts) (w .counts) refl refl g)),
+  )
 
   -- a line in a row
   pub more-stage : s ≡ at.InRow → {q : Reading} {cells cells′ row row′ : List ℕ} {table : Area}

@@ -7,8 +7,8 @@ use Rattle.rules.specs.Frames.{units, border}
 use Rattle.text_laws.specs.FrameReader.{readTens}
 use Rattle.text_laws.specs.Fold as fold
 use Rattle.texts.specs.declared.states.Stage.the-variants as at
-use Rattle.texts.proofs.StateSteps.{same-nil, at-stage, head-stage, row-stage, more-stage, expect-step}
-use Rattle.texts.proofs.StateSteps.{name-row, width-row, kept-same}
+use Rattle.texts.proofs.StateSteps.{same-nil, at-stage, field-stage, head-stage, row-stage, more-stage}
+use Rattle.texts.proofs.StateSteps.{expect-step, name-row, width-row}
 use borrow.Author.Needs.{needs}
 use Rattle.texts.proofs.line_steps.take_line.Statement.{statement}
 use Rattle.texts.proofs.line_steps.take_line.Tie as tie
@@ -263,11 +263,9 @@ returns-11 c =
     let c1 = c .before .before .before .before .before .before .before .before .before .before .before .before
     .before .before .before .before .before .before .before .before in
     let q = c .before .before .before .before .take-field .ensures in
-    let held = at-stage (c1 .args .r) (now (c1 .args .line)) at.FirstField (c .before .before .before .before .before
-    .before .before .before .before .before .before .before .before .enum-told11 .given .1) (λ f k e g h.
-    let w = q .1 .0 .1 f k h in
-    (w, kept-same (h .counts) (w .counts) refl refl g)) in
-    (q .0, ((refl, refl, q .1 .0 .0, held), q .1 .1))
+    let told = c .before .before .before .before .before .before .before .before .before .before .before .before
+    .before .enum-told11 .given .1 in
+    (q .0, (field-stage (c1 .args .r) (now (c1 .args .line)) at.FirstField told (λ f. refl) (q .1 .0), q .1 .1))
 
 same-length-9 : tie.Need-same-length-9
 same-length-9 c = search needs
@@ -284,11 +282,9 @@ returns-12 c =
     let c1 = c .before .before .before .before .before .before .before .before .before .before .before .before
     .before .before .before .before .before .before .before .before in
     let q = c .before .before .before .before .take-field2 .ensures in
-    let held = at-stage (c1 .args .r) (now (c1 .args .line)) at.FieldLine (c .before .before .before .before .before
-    .before .before .before .before .before .before .before .before .enum-told12 .given .1) (λ f k e g h.
-    let w = q .1 .0 .1 f k h in
-    (w, kept-same (h .counts) (w .counts) refl refl g)) in
-    (q .0, ((refl, refl, q .1 .0 .0, held), q .1 .1))
+    let told = c .before .before .before .before .before .before .before .before .before .before .before .before
+    .before .enum-told12 .given .1 in
+    (q .0, (field-stage (c1 .args .r) (now (c1 .args .line)) at.FieldLine told (λ f. refl) (q .1 .0), q .1 .1))
 
 returns-13 : tie.Need-returns-13
 unfolding fold.linedAt
