@@ -27,7 +27,8 @@ use Rattle.texts.specs.HeldNames.{Names}
 use Rattle.texts.specs.FramePlaces.{isSome, widthOr, nameBehind}
 use Rattle.texts.specs.RowPlaces.{linesIn}
 use Rattle.texts.specs.Changes.{changed, withHead, withLines}
-use Rattle.texts.specs.States.{slotMost, Room, Area, area, Numbers, Holds}
+use Rattle.texts.specs.HeldAreas.{slotMost}
+use Rattle.texts.specs.States.{Room, Area, area, Numbers, Holds}
 use Rattle.texts.specs.declared.states.Stage.the-variants as at
 use Rattle.texts.specs.declared.states.Reading.{Reading}
 use Rattle.writing.specs.Puts.{placed, put}

@@ -42,7 +42,12 @@ module _ (l : List Form) (x : Form) (g : Form → List ℕ) (held : List (List �
       (getD-set-same held (length l) v [] room ∙ e)
 
 face-held : (names : Names) (i : ℕ) (x : Form) → HeldAs names i x → HeldAs names i (face x)
-face-held names i x h = record { short = h .short; word = h .word; mark = h .mark ∙ go (x .width) }
+face-held names i x h = record {
+  short = h .short;
+  word = h .word;
+  mark = h .mark ∙ go (x .width);
+  starts = h .starts;
+}
   where
     go : (v : Width (List ℕ)) → _≡_ {A = ℕ} (cond (isFixedWidth v) 1 0) (cond (isFixedWidth (faceWidth v)) 1 0)
     go (fixed n) = refl

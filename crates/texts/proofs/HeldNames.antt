@@ -6,7 +6,7 @@ use mathlib.Core.List.{List, [], _∷_, _++_}
 use mathlib.Core.Option.{Option, none, some}
 use Prim.Native.Nat.{ℕ, suc, _+_, _≤_, _<_}
 use native.Mathlib.Omega.{arith}
-use lib.Dec.{eqb}
+use lib.Dec.{eqb, ltb}
 use lib.ListN.{length, take, getElem?, length-append}
 use lib.Seq.{take-append-seam, take-length}
 use borrow.Author.Tests.{ltb-true}
@@ -31,6 +31,7 @@ use Rattle.text_laws.specs.Resolving.{indexOf, renameField}
 use Rattle.text_laws.proofs.NamedTypes.{any-element}
 use Rattle.texts.proofs.FirstBreaks.{any-search, search-hit}
 use Rattle.texts.proofs.LineRules.{element-at}
+use Rattle.texts.proofs.LookLaws.{look-zero}
 use Rattle.texts.proofs.LineTypes.{allNames, type-same, ShortNames}
 use Rattle.text_laws.proofs.Resolved.{same-width, same-maybe}
 
@@ -76,11 +77,18 @@ module _ (before : List Form) (x : Form) (names : Names)
       let h = held i y e in
       rw (h .mark, h .short, h .word, mark-is (isFixed y), read-held y w (formed i y e) q) refl
 
+  look-first : (k : ℕ) (w : List ℕ) → k ≤ length (before ++ (x ∷ []))
+      → lookUp names k w ≡ firstFrom (isHeld names w) 0 k
+  look-first k w le =
+      look-zero names k w (λ i lt.
+      let y = element-at (before ++ (x ∷ [])) i (omega (arith, le, lt)) in
+      held i (y .0) (y .1) .starts)
+
   may-read : (k : ℕ) (w : List ℕ) → k ≤ length (before ++ (x ∷ [])) → isShort w ≡ true
       → mayRead names k w ≡ nameReadable (take k (before ++ (x ∷ []))) w
-  unfolding lookUp
   may-read k w le q =
-      any-search (λ (y : Form). isFixed y && any (same w) (readNames y)) (isHeld names w) (before ++ (x ∷ [])) k le
+      ap (λ (n : ℕ). ltb n k) (look-first k w le)
+      ∙ any-search (λ (y : Form). isFixed y && any (same w) (readNames y)) (isHeld names w) (before ++ (x ∷ [])) k le
       (λ i y lt e. held-fixed i y w e q)
 
   longer : length (before ++ (x ∷ [])) ≡ suc (length before)
@@ -135,11 +143,12 @@ module _ (before : List Form) (x : Form) (names : Names)
     (types : keepsTypes nameReadable before x ≡ true) where
   index-same : (k : ℕ) → k ≤ length (before ++ (x ∷ [])) → (w : List ℕ) → (isShort w && mayRead names k w) ≡ true
       → lookUp names k w ≡ indexOf (before ++ (x ∷ [])) w
-  unfolding lookUp
   index-same k le w both =
       let q : isShort w ≡ true = and-left (isShort w) (mayRead names k w) both in
       let j = firstFrom (isHeld names w) 0 k in
-      let lt : j < k = ltb-true j k (and-right (isShort w) (mayRead names k w) both) in
+      let first = look-first before x names formed held short k w le in
+      let lt : j < k = ltb-true j k (ap (λ (n : ℕ). ltb n k) (sym first)
+      ∙ and-right (isShort w) (mayRead names k w) both) in
       let hit : isHeld names w j ≡ true = search-hit (isHeld names w) 0 k (omega arith) in
       let y = element-at (before ++ (x ∷ [])) j (omega arith) in
       let is = sym (held-fixed before x names formed held short j (y .0) w (y .1) q) ∙ hit in
@@ -148,7 +157,7 @@ module _ (before : List Form) (x : Form) (names : Names)
       let found =
       element-any (λ (z : Form). any (same w) (readNames z)) (before ++ (x ∷ [])) j (y .0) (y .1) named in
       let z = any-element (λ (v : Form). any (same w) (readNames v)) (before ++ (x ∷ [])) found in
-      name-unique-in (before ++ (x ∷ [])) unique j (indexOf (before ++ (x ∷ [])) w) w (y .0, y .1, named)
+      first ∙ name-unique-in (before ++ (x ∷ [])) unique j (indexOf (before ++ (x ∷ [])) w) w (y .0, y .1, named)
       (z .0, z .1, z .2)
 
   -- a tree of names that have the form of short names reads only such ones

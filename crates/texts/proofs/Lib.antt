@@ -17,7 +17,9 @@
 -- HeldClashes              a field's names held against those of earlier fields
 -- LineSearches             searches over the field lines that the code holds
 -- NameLengths              the lengths of held names
--- StartLaws                where a walk over the held names begins
+-- NameAreas                entries of one size in bytes, and the names of a line put in
+-- StartLaws, LookLaws      where a walk over the held names begins, and what it finds
+-- AreaLaws, FormAreas, LineAreas   parts of the bytes that hold what is kept, lent and back
 -- FirstBreaks              the first line that breaks a rule, by a search over indexes
 -- LineRules                what the code tests of the lines says which rule their forms break
 -- LineTypes                the types that the code tests are those that rule 9 asks of the forms
@@ -83,8 +85,13 @@ pub mod RowLeaves
 pub mod TreeTypes
 pub mod NoteLaws
 pub mod LineSearches
-pub mod NameLengths
+pub mod NameAreas
 pub mod StartLaws
+pub mod LookLaws
+pub mod AreaLaws
+pub mod FormAreas
+pub mod LineAreas
+pub mod NameLengths
 pub mod FirstBreaks
 pub mod LineRules
 pub mod HeldClashes

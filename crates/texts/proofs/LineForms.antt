@@ -1,12 +1,12 @@
 -- Facts of one field line: its form by its parts, its names as they are held, room for it.
 use mathlib.Core.Path.{_≡_, refl, ap, sym, _∙_, subst}
 use mathlib.Core.Bool.{Bool, true, false, cond, _&&_, _||_}
-use mathlib.Core.List.{List}
+use mathlib.Core.List.{List, []}
 use mathlib.Core.Option.{Option, none, some}
 use Prim.Native.Nat.{ℕ, suc, _+_, _≤_, _<_}
 use native.Mathlib.Omega.{arith}
 use lib.Dec.{ltb, leb, eqb}
-use lib.ListN.{length, take, set, length-set, length-map}
+use lib.ListN.{length, take, getD, set, length-set, length-map}
 use lib.Seq.{length-take-le}
 use borrow.Author.Tests.{leb-true, leb-false, eqb-true, ne-eqb}
 use Rattle.base.specs.Lists.{all, any, ifAny, headIs}
@@ -23,13 +23,15 @@ use Rattle.text_laws.specs.Lowest.{lower, broken}
 use Rattle.text_laws.specs.Judging.{face, faces, rules, isOpen}
 use Rattle.text_laws.specs.Fold as fold
 use Rattle.text_laws.proofs.FormExact.{form-sound}
-use Rattle.texts.specs.HeldNames.{Names, HeldAs, Kept}
+use Rattle.texts.specs.HeldNames.{Names, Started, HeldAs, Kept}
+use Rattle.texts.specs.NameStarts.{startIn}
 use Rattle.texts.specs.HeldParts.{WidthHeld, LineBytes, PartsHeld, PartsFor}
 use Rattle.texts.specs.HeldRecords.{isSmallAs, fieldSize, Writable}
 use Rattle.texts.specs.Noted.{noteOf}
 use Rattle.texts.specs.Changes.{note}
 use Rattle.texts.specs.States.{Named, NamedWith, laterNote, isTold, isFullAs, lineRefused, lineKept}
-use Rattle.texts.specs.States.{recordMost, Room, Counts}
+use Rattle.texts.specs.HeldAreas.{recordMost}
+use Rattle.texts.specs.States.{Room, Counts}
 use Rattle.texts.specs.declared.notes.Note.{Note}
 use Rattle.texts.specs.StoredTrees.{TreeBytes, held}
 use Rattle.texts.specs.declared.line_parts.Parts.{Parts}
@@ -141,6 +143,21 @@ module _ (s : List ℕ) (x : Form) (p : Parts) {names : Names} {n : ℕ} {v : Li
         room = ((let z = ap length a in omega (arith, z, l, h .room .0)), room);
       }
 
+started-kept : {names names′ : Names} {n : ℕ} → Kept names n names′ → (i : ℕ) → i < n → Started names i
+    → Started names′ i
+started-kept {names} {names′} k i lt h = (
+  λ some.
+      let v = getD (names .shorts) i [] in
+      let p = h .0 (subst (λ (u : List ℕ). getD u 0 0 ≡ 0 → ⊥) (k .shorts i lt) some) in
+      let q = k .starts v .0 in
+      rw (k .shorts i lt) (let z : startIn (names′ .starts) v ≤ i = omega (arith, p, q) in z),
+  λ some.
+      let v = getD (names .words) i [] in
+      let p = h .1 (subst (λ (u : List ℕ). getD u 0 0 ≡ 0 → ⊥) (k .words i lt) some) in
+      let q = k .starts v .0 in
+      rw (k .words i lt) (let z : startIn (names′ .starts) v ≤ i = omega (arith, p, q) in z),
+)
+
 -- the names of a line that is not kept leave those of the fields as they were
 pub named-kept : (l : List Form) (n : ℕ) {labels : List (List ℕ)} {names names′ : Names} → length l ≡ n
     → Kept names n names′ → Named l labels names → Named l labels names′
@@ -149,7 +166,12 @@ named-kept l n e k h = record {
   name = λ i y z.
       let lt : i < n = (let q = element-in l i y z in omega (arith, q, e)) in
       let g = h .name i y z in
-      record { short = k .shorts i lt ∙ g .short; word = k .words i lt ∙ g .word; mark = k .marks i lt ∙ g .mark };
+      record {
+        short = k .shorts i lt ∙ g .short;
+        word = k .words i lt ∙ g .word;
+        mark = k .marks i lt ∙ g .mark;
+        starts = started-kept k i lt (g .starts);
+      };
   room = (h .room .0, k .room fieldsMost (h .room .1));
 }
 

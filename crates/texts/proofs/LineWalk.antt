@@ -21,24 +21,24 @@ use Rattle.text_laws.specs.Steady.{Steady}
 use Rattle.text_laws.proofs.Answering.{kept-answers}
 use Rattle.text_laws.proofs.Fed.{kept-lines}
 use Rattle.text_laws.proofs.Steadiness.{steady-start, steady-line}
-use Rattle.texts.specs.HeldNames.{Names}
 use Rattle.texts.specs.LineEnds.{printableLength}
 use Rattle.texts.specs.Noted.{noteOf}
 use Rattle.texts.specs.RowPlaces.{RowKept}
 use Rattle.texts.specs.Changes.{begunWith}
-use Rattle.texts.specs.States.{Room, Begun, NoneCounted, Area, area, Holds, LineStep}
+use Rattle.texts.specs.HeldAreas.{heldRoom}
+use Rattle.texts.specs.States.{Room, NoneCounted, HoldsIn, LineStep}
+use Rattle.texts.proofs.AreaLaws.{names-room}
 use Rattle.texts.specs.declared.states.Reading.{Reading}
 use Rattle.texts.proofs.LineEnds.{feed-end, feed-here, allowed-end, allowed-feed, allowed-other}
 use Rattle.texts.proofs.SplitSteps.{piece-at, rest-at, piece-none}
 use Rattle.texts.proofs.StateSteps.{empty-nil, filled-nil, kept-outside}
 
 -- behind the lines up to a place
-pub record Walking (t : List ℕ) (at : ℕ) (r : Reading) (cells row : List ℕ) (table : Area)
-    (labels : List (List ℕ)) (names : Names) : Type 0 where
+pub record Walking (t : List ℕ) (at : ℕ) (r : Reading) (held row counts : List ℕ) : Type 0 where
   pub found : fold.Found
   pub steady : Steady found
   pub kept : RowKept (found .row) (r .width) (r .row) row
-  pub holds : Holds found r cells table labels names
+  pub holds : HoldsIn found r held counts
   pub runs : foldl fold.lined fold.start (linesOf t) ≡ foldl fold.lined found (linesOf (drop at t))
   pub behind : rest lineFeed t ≡ rest lineFeed (drop at t)
   pub bytes : all isAllowed t ≡ all isAllowed (drop at t)
@@ -59,10 +59,10 @@ room-begun = record {
   told = refl;
 }
 
-pub walking-start : (t cells row table counts : List ℕ) (labels : List (List ℕ)) (names : Names) → NoneCounted counts
-    → Begun labels names → Walking t 0 begunWith cells row (area table counts) labels names
+pub walking-start : (t held row counts : List ℕ) → heldRoom ≤ length held → NoneCounted counts
+    → Walking t 0 begunWith held row counts
 unfolding joined any noteOf
-walking-start t cells row table counts labels names none-yet room = record {
+walking-start t held row counts room none-yet = record {
   found = fold.start;
   steady = steady-start;
   kept = kept-outside refl refl;
@@ -90,7 +90,7 @@ walking-start t cells row table counts labels names none-yet room = record {
     named = record {
       label = λ i y e. absurd (let z : _≡_ {A = ℕ} 0 1 = cc in omega arith);
       name = λ i y e. absurd (let z : _≡_ {A = ℕ} 0 1 = cc in omega arith);
-      room = room;
+      room = names-room held room;
     };
   };
   runs = refl;
@@ -98,17 +98,16 @@ walking-start t cells row table counts labels names none-yet room = record {
   bytes = refl;
 }
 
-module _ (t : List ℕ) (at i : ℕ) (r : Reading) {cells row : List ℕ} {table : Area} {labels : List (List ℕ)}
-    {names : Names} (w : Walking t at r cells row table labels names) (first : i ≡ at + printableLength (drop at t))
+module _ (t : List ℕ) (at i : ℕ) (r : Reading) {held row counts : List ℕ} (w : Walking t at r held row counts)
+    (first : i ≡ at + printableLength (drop at t))
   where
-    pub walking-next : i < length t → getD t i 0 ≡ lineFeed → (q : Reading) {cells′ row′ : List ℕ} {table′ : Area}
-        {labels′ : List (List ℕ)} {names′ : Names}
-        → LineStep (take (i - at) (drop at t)) r q cells cells′ row row′ table table′ labels labels′ names names′
-        → Walking t (i + 1) q cells′ row′ table′ labels′ names′
+    pub walking-next : i < length t → getD t i 0 ≡ lineFeed → (q : Reading) {held′ row′ counts′ : List ℕ}
+        → LineStep (take (i - at) (drop at t)) r q held held′ row row′ counts counts′
+        → Walking t (i + 1) q held′ row′ counts′
     walking-next lt feed q step =
         let l = take (i - at) (drop at t) in
         let e = feed-here t at i first lt feed in
-        let h = step .3 (w .found) (w .steady) (w .kept) (w .holds) in
+        let h = step .2 (w .found) (w .steady) (w .kept) (w .holds) in
         record {
           found = fold.lined (w .found) l;
           steady = steady-line (w .found) l (w .steady);

@@ -20,7 +20,8 @@ use Rattle.texts.specs.HeldNames.{Names}
 use Rattle.texts.specs.RowPlaces.{slotsAt, goesOn, rowRoom, RowKept}
 use Rattle.texts.specs.Slots.{storedSlot, areLabels}
 use Rattle.texts.specs.Changes.{changed, withLines, madeWrong, madeWrongRow, rowEnded}
-use Rattle.texts.specs.States.{slotsMost, Room, Area}
+use Rattle.texts.specs.HeldAreas.{slotsMost}
+use Rattle.texts.specs.States.{Room, Area}
 use Rattle.texts.specs.States.{Holds}
 use Rattle.texts.specs.declared.states.Stage.the-variants as at
 use Rattle.texts.specs.declared.states.Reading.{Reading}

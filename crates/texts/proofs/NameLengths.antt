@@ -1,11 +1,12 @@
 -- The lengths of held names: like names have one, and it is where the name's zeros begin.
-use mathlib.Core.Path.{_≡_, refl, _∙_, ap}
+use mathlib.Core.Path.{_≡_, refl, sym, _∙_, ap}
 use mathlib.Core.Bool.{Bool, true, false}
 use mathlib.Core.List.{List, [], _∷_}
-use Prim.Native.Nat.{ℕ, zero, suc, _-_, _<_}
+use Prim.Native.Nat.{ℕ, zero, suc, _+_, _-_, _≤_, _<_}
 use native.Mathlib.Omega.{arith}
 use lib.Dec.{eqb}
-use lib.ListN.{length, getD}
+use lib.ListN.{length, take, drop, getD}
+use lib.Seq.{getD-take, getD-drop}
 use borrow.Author.Tests.{eq-eqb, ne-eqb, eqb-false}
 use Rattle.base.specs.Lists.{all, headIs}
 use Rattle.base.proofs.Lists.{fails, not-both}
@@ -23,6 +24,52 @@ pub other-length : (held name : List ℕ) (len : ℕ) → HeldLength held len �
 other-length held name len h e =
     fails (sameName held name) (λ s.
     not-both (hasLength held len) (h .ends) (ap (λ (v : List ℕ). hasLength v len) (same-keys held name s .1) ∙ e))
+
+-- ── a name at a place ──
+
+-- it has len bytes, by its last byte and the one behind it
+module _ (b : List ℕ) (at len : ℕ) (some : 0 < len) (most : len ≤ shortMost) where
+  byte-at : (i : ℕ) → i < shortMost → getD (take shortMost (drop at b)) i 0 ≡ getD b (at + i) 0
+  byte-at i lt = getD-take shortMost (drop at b) i 0 lt ∙ getD-drop at b i 0
+
+  last-byte : getD (take shortMost (drop at b)) (len - 1) 0 ≡ getD b (at + len - 1) 0
+  last-byte =
+      let k : at + (len - 1) ≡ at + len - 1 = omega arith in
+      byte-at (len - 1) (omega arith) ∙ ap (λ (i : ℕ). getD b i 0) k
+
+  pub length-none : getD b (at + len - 1) 0 ≡ 0 → false ≡ hasLength (take shortMost (drop at b)) len
+  unfolding hasLength
+  length-none z = rw (eq-eqb _ _ (last-byte ∙ z)) refl
+
+  pub length-full : (getD b (at + len - 1) 0 ≡ 0 → ⊥) → len ≡ shortMost
+      → true ≡ hasLength (take shortMost (drop at b)) len
+  unfolding hasLength
+  length-full h e = rw (ne-eqb _ _ (λ z. h (sym last-byte ∙ z)), eq-eqb _ _ e) refl
+
+  pub length-ends : (getD b (at + len - 1) 0 ≡ 0 → ⊥) → (len ≡ shortMost → ⊥)
+      → eqb (getD b (at + len) 0) 0 ≡ hasLength (take shortMost (drop at b)) len
+  unfolding hasLength
+  length-ends h ne =
+      rw (ne-eqb _ _ (λ z. h (sym last-byte ∙ z)), ne-eqb _ _ ne, byte-at len (omega (arith, ne))) refl
+
+-- ── padded names ──
+
+pub pad-length : (n : ℕ) (w : List ℕ) → length (padTo n w) ≡ n
+unfolding padTo
+pad-length zero w = refl
+pad-length (suc n) [] = ap suc (pad-length n [])
+pad-length (suc n) (x ∷ w) = ap suc (pad-length n w)
+
+pub padded-length : {v : List ℕ} (n : ℕ) (w : List ℕ) → v ≡ padTo n w → length v ≡ n
+padded-length n w e = ap length e ∙ pad-length n w
+
+-- one that is long enough is as it was
+pub pad-full : (n : ℕ) (w : List ℕ) → length w ≡ n → padTo n w ≡ w
+unfolding padTo
+pad-full zero [] e = refl
+pad-full zero (x ∷ w) e = absurd (omega (arith, e))
+pad-full (suc n) [] e = absurd (omega (arith, e))
+pad-full (suc n) (x ∷ w) e = ap (λ (v : List ℕ). x ∷ v) (pad-full n w (omega (arith, e)))
 
 -- ── the length of a short name ──
 

@@ -24,7 +24,8 @@ use Rattle.texts.specs.StoredTrees.{lookUp, TreeBytes, held, StoredIs}
 use Rattle.texts.specs.HeldParts.{MaybeHeld, WidthHeld, LineBytes, PartsHeld}
 use Rattle.texts.specs.HeldRecords.{treeBytes, widthBytes, widthSize, nameBytes}
 use Rattle.texts.specs.HeldRecords.{bodyBytes, fieldSize, fieldBytes, Writable, BytesRoom}
-use Rattle.texts.specs.States.{recordMost, plainField, isShortRecord}
+use Rattle.texts.specs.HeldAreas.{recordMost}
+use Rattle.texts.specs.States.{plainField, isShortRecord}
 use Rattle.texts.specs.declared.line_parts.Parts.{Parts}
 use Rattle.texts.proofs.TreeTypes.{partOf, part-span, part-length}
 use Rattle.texts.proofs.PartSteps.{short-text}

@@ -22,6 +22,8 @@ use Rattle.texts.specs.PartPlaces.{spanOf, spanIn, ShortIs}
 use Rattle.texts.specs.PartPlaces.{readBehind}
 use Rattle.texts.specs.HeldParts.{wholeParts, WidthHeld, MeasureAs, MeasureFor, EndsFor, LineBytes, PartsFor}
 use Rattle.texts.specs.HeldParts.{BehindFor}
+use Rattle.texts.specs.NameStarts.{startIn}
+use Rattle.texts.proofs.StartLaws.{most-least}
 use Rattle.texts.specs.StoredTrees.{readsAs, isHeld, lookUp, typeOf, TreeBytes, held, StoredIs}
 use Rattle.writing.specs.declared.spans.Span.{Span}
 use Rattle.texts.specs.declared.clause_trees.Ends.{Ends}
@@ -73,6 +75,7 @@ module _ (a : Names) (n : ℕ) (s : List ℕ) (label : ℕ) (name : Span) (kind 
         ∙ getD-set-other (a .words) n i _ [] (λ z. absurd (omega arith));
     marks = λ i lt. ap (λ (l : List ℕ). getD l i 0) (put .marks)
         ∙ getD-set-other (a .marks) n i _ 0 (λ z. absurd (omega arith));
+    starts = put .starts;
   }
 
   own-held : (x : Form) → NamesRoom (n + 1) b → take label s ≡ x .label → ShortIs s (x .short) name
@@ -85,6 +88,7 @@ module _ (a : Names) (n : ℕ) (s : List ℕ) (label : ℕ) (name : Span) (kind 
         ∙ getD-set-same (a .words) n _ [] (omega (arith, long .1, h .1)) ∙ ap heldWord p;
     mark = ap (λ (l : List ℕ). getD l n 0) (put .marks)
         ∙ getD-set-same (a .marks) n _ 0 (omega (arith, long .2, h .2)) ∙ ap (λ (b : Bool). cond b 1 0) e;
+    starts = put .own;
   }
 
 -- ── names that are held alike ──
@@ -95,6 +99,7 @@ kept-all names n = record {
   shorts = λ i lt. refl;
   words = λ i lt. refl;
   marks = λ i lt. refl;
+  starts = λ v. (omega arith, refl);
 }
 
 module _ (a b : Names) (n : ℕ) (kept : Kept a n b) where
@@ -104,7 +109,10 @@ module _ (a b : Names) (n : ℕ) (kept : Kept a n b) where
 
   look-same : (w : List ℕ) → lookUp a n w ≡ lookUp b n w
   unfolding lookUp
-  look-same w = search-same (isHeld a w) (isHeld b w) 0 n (λ k p q. reads-same w k (omega arith))
+  look-same w =
+      let e = kept .starts (padTo shortMost w) .1 in
+      let le = most-least n (startIn (a .starts) (padTo shortMost w)) .0 in
+      rw e (search-same (isHeld a w) (isHeld b w) _ _ (λ k p q. reads-same w k (omega (arith, le, q))))
 
   look-is : lookUp a n ≡ lookUp b n
   look-is = λ i w. look-same w i

@@ -27,7 +27,8 @@ use Rattle.texts.specs.Slots.{storedSlot, RowedBy, areLabels, RowedAs}
 use Rattle.texts.specs.declared.slots.Rowed.{Rowed}
 use Rattle.texts.specs.declared.slots.Rowed.the-variants as rowed
 use Rattle.texts.specs.Changes.{note, changed, withHead, withLines, rowEnded}
-use Rattle.texts.specs.States.{slotMost, Room, Area, Holds}
+use Rattle.texts.specs.HeldAreas.{slotMost}
+use Rattle.texts.specs.States.{Room, Area, Holds}
 use Rattle.texts.specs.declared.states.Stage.the-variants as at
 use Rattle.texts.specs.declared.states.Reading.{Reading}
 use Rattle.texts.proofs.SlotLaws.{slot-length}

@@ -210,13 +210,11 @@ module _ (r : Reading) (l : List ℕ) (s : Stage) (told : r .stage ≡ s) where
 
   -- a field line
   pub field-stage : ((f : fold.Found) → fold.linedAt (stageOf s) f l ≡ fold.withField f l) → {q : Reading}
-      {cells row : List ℕ} {table table′ : Area} {labels labels′ : List (List ℕ)} {names names′ : Names}
-      → FieldStep l r q cells table table′ labels labels′ names names′
-      → LineStep l r q cells cells row row table table′ labels labels′ names names′
-  field-stage is step = (
-    refl,
-    refl,
+      (held held′ : List ℕ) {row counts counts′ : List ℕ} → FieldStep l r q held held′ counts counts′
+      → LineStep l r q held held′ row row counts counts′
+  field-stage is held held′ step = (
     step .0,
+    refl,
     at-stage (λ f k e g h.
         let w = step .1 f k h in
         rw (is f) (w, kept-same (h .counts) (w .counts) refl refl g)),
@@ -270,15 +268,13 @@ module _ (r : Reading) (l : List ℕ) (s : Stage) (told : r .stage ≡ s) where
         ))
 
     -- a line that must be a certain one, which may go by W
-    pub expect-step : (want : ℕ → List ℕ) (next : Stage) (right : Bool) {cells row : List ℕ}
-        {table : Area} {labels : List (List ℕ)} {names : Names} → Room r → right ≡ same l (want (r .width))
+    pub expect-step : (want : ℕ → List ℕ) (next : Stage) (right : Bool) (held : List ℕ) {row counts : List ℕ}
+        → Room r → right ≡ same l (want (r .width))
         → ((f : fold.Found) → fold.linedAt (stageOf s) f l ≡ fold.expect (want (f .width)) (stageOf next) f l)
-        → Taken r (expected right r next)
-        × LineStep l r (expected right r next) cells cells row row table table labels labels names names
-    expect-step want next right {cells} {row} {table} {labels} {names} room e is = (
+        → Taken r (expected right r next) × LineStep l r (expected right r next) held held row row counts counts
+    expect-step want next right held room e is = (
       taken-expect right r next room,
       (
-        refl,
         refl,
         refl,
         at-stage (λ f k t g h.

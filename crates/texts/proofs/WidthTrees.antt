@@ -15,7 +15,7 @@ use Rattle.rules.specs.Trees.{Tree, num, read, two, negation, isNumber}
 use Rattle.rules.specs.Fields.{fixed, measured, rest}
 use Rattle.rules.specs.Within.{isWidth}
 use Rattle.text_laws.specs.LineReader.{miss, hit, keep, begins, readTree, readMeasure, readWidth}
-use Rattle.texts.specs.HeldNames.{Names, namesOf}
+use Rattle.texts.specs.HeldNames.{Names, namesIn}
 use Rattle.texts.specs.PartPlaces.{spacedUnit, isUnit}
 use Rattle.texts.specs.HeldParts.{FixedFor, MeasureWithin, MeasureFor, SizedFor}
 use Rattle.texts.specs.StoredTrees.{held, StoredIs, StoredFor}
@@ -74,7 +74,7 @@ module _ (s : List ℕ) (at : ℕ) (t : StoredTree) (u next : ℕ) (lo : at ≤ 
       → ((k : ℕ) (q : List ℕ) → readTree (drop at s) ≡ hit (num k) q → m ≡ k) → bits ≡ u * m → FixedFor bits next r
       → MeasureWithin s at r × SizedFor s at t u next r
   sized-single m bits r y f b x = (
-    λ e. (let p = x (namesOf [] [] []) 0 s [] .1 e in (omega (arith, p, lo), omega (arith, p, hi))),
+    λ e. (let p = x (namesIn []) 0 s [] .1 e in (omega (arith, p, lo), omega (arith, p, hi))),
     same,
   )
     where

@@ -5,6 +5,7 @@
 -- PartPlaces  widths and what stands behind them, at places of a text
 -- HeldNames  the names of fields as the code holds them
 -- NameStarts  where the walk over the held names begins
+-- HeldAreas  where what is kept of a text stands in the bytes that hold it
 -- Noted  a refusal as the code notes it
 -- RowPlaces  the lines of a row as the code keeps them, and its cells at their columns
 -- Slots  the cells of rows as the code keeps them
@@ -23,6 +24,7 @@ pub mod LineEnds
 pub mod PartPlaces
 pub mod HeldNames
 pub mod NameStarts
+pub mod HeldAreas
 pub mod Noted
 pub mod RowPlaces
 pub mod Slots

@@ -1,11 +1,9 @@
 -- Where the walk over the held names begins: mirrors the code, no public promise rests on it. [02, R-3]
 use mathlib.Core.Path.{_≡_}
-use mathlib.Core.List.{List, []}
-use Prim.Native.Nat.{ℕ, _%_, _≤_, _<_}
-use lib.ListN.{length, getD}
-use Rattle.rules.specs.Limits.{fieldsMost}
-use Rattle.names.specs.Classes.{classTable}
-use Rattle.names.specs.Repeats.{nameNumber}
+use mathlib.Core.List.{List}
+use Prim.Native.Nat.{ℕ, _%_, _≤_}
+use lib.ListN.{length, drop, getD}
+use Rattle.names.specs.Repeats.{nameNumber, atMost}
 
 -- names fall into so many buckets, by the numbers that their bytes make
 abbrev pub buckets : ℕ
@@ -22,19 +20,14 @@ startIn starts name = getD starts (bucketOf name) 0
 abbrev pub StartsBy : List ℕ → List ℕ → ℕ → Type 0
 StartsBy starts name i = (getD name 0 0 ≡ 0 → ⊥) → startIn starts name ≤ i
 
--- the name of index i is put in, and no start is later than it was
+-- no start is later than it was, and one before the index i is as it was
+abbrev pub Lowered : List ℕ → ℕ → List ℕ → Type 0
+Lowered before i after = (v : List ℕ)
+    → (startIn after v ≤ startIn before v) × (atMost i (startIn after v) ≡ atMost i (startIn before v))
+
+-- the name of index i is put in among the starts
 pub record StartPut (before : List ℕ) (name : List ℕ) (i : ℕ) (after : List ℕ) : Type 0 where
   pub long : length after ≡ length before
-  pub own : buckets ≤ length before → StartsBy after name i
-  pub kept : buckets ≤ length before → (v : List ℕ) (k : ℕ) → StartsBy before v k → StartsBy after v k
-
--- no field stands before the start of a name that it bears
-pub record Starts (starts : List ℕ) (shorts words : List (List ℕ)) : Type 0 where
-  pub room : (buckets ≤ length starts) × (fieldsMost ≤ length shorts) × (fieldsMost ≤ length words)
-  pub short : (i : ℕ) → i < fieldsMost → StartsBy starts (getD shorts i []) i
-  pub word : (i : ℕ) → i < fieldsMost → StartsBy starts (getD words i []) i
-
--- what names are read and looked up by
-pub record Ready (classes starts : List ℕ) (shorts words : List (List ℕ)) : Type 0 where
-  pub table : classes ≡ classTable
-  pub names : Starts starts shorts words
+  pub own : StartsBy after name i
+  pub lowered : Lowered before i after
+  pub beyond : drop buckets after ≡ drop buckets before

@@ -26,12 +26,13 @@ use Rattle.text_laws.specs.Judging.{faces, showsCell, isFull}
 use Rattle.text_laws.specs.Fold as fold
 use Rattle.text_laws.specs.Steady.{StandIn, isHead, Steady}
 use Rattle.text_laws.specs.LineReader.{readForm}
-use Rattle.texts.specs.HeldNames.{Names, namesOf, NamesRoom, HeldAs}
+use Rattle.texts.specs.HeldNames.{Names, namesIn, labelsIn, NamesRoom, HeldAs}
 use Rattle.texts.specs.HeldParts.{LineBytes, PartsHeld}
 use Rattle.texts.specs.HeldRecords.{fieldSize, Writable, BytesRoom}
 use Rattle.texts.specs.Noted.{noteOf}
 use Rattle.texts.specs.RowPlaces.{rowRoom, linesIn, RowKept}
-use Rattle.texts.specs.Slots.{rowMost, storedSlot, areLabels}
+use Rattle.texts.specs.Slots.{storedSlot, areLabels}
+use Rattle.texts.specs.HeldAreas.{slotMost, recordMost, heldRoom, cellBytes, nameBytes, labelBytes, tableBytes}
 use Rattle.texts.specs.Changes.{note, changed, withLine}
 use Rattle.texts.specs.declared.notes.Note.{Note}
 use Rattle.texts.specs.declared.line_parts.Parts.{Parts}
@@ -40,20 +41,6 @@ use Rattle.texts.specs.declared.states.Stage.the-variants as at
 use Rattle.texts.specs.declared.states.Reading.{Reading}
 
 -- ── safe ──
-
--- the most bytes of a stored cell and of a field's record
-abbrev pub slotMost : ℕ
-slotMost = 43
-
-abbrev pub recordMost : ℕ
-recordMost = 426
-
--- room for all cells and one row more, and for NAME and all records
-abbrev pub slotsMost : ℕ
-slotsMost = slotMost * fieldsMost + rowMost
-
-abbrev pub recordsMost : ℕ
-recordsMost = labelMost + recordMost * fieldsMost
 
 -- a refusal by 3 to 10; 4 has no place
 abbrev pub isTold : Option Answer → Bool
@@ -157,6 +144,11 @@ pub record Holds (f : fold.Found) (r : Reading) (cells : List ℕ) (table : Area
   pub records : Records f r table
   pub named : Named (faces (f .judged .fields)) labels names
 
+-- in the bytes that hold all of it but the counts
+abbrev pub HoldsIn : fold.Found → Reading → List ℕ → List ℕ → Type 0
+HoldsIn f r held counts =
+    Holds f r (cellBytes held) (area (tableBytes held) counts) (labelsIn (labelBytes held)) (namesIn (nameBytes held))
+
 -- one line of the head outside of rows, with the buffers of cells and of records before and behind it
 abbrev pub HeadStep : (fold.Found → fold.Found) → Reading → Reading → List ℕ → List ℕ → Area → Area → Type 0
 HeadStep step r q cells cells′ table table′ =
@@ -213,10 +205,9 @@ NextCell r cells n =
     → n ≡ length (joined storedSlot (take (suc (length (f .judged .fields))) (f .cells))))
 
 -- there is room for a field line
-abbrev pub LineRoom : Reading → List ℕ → List ℕ → List ℕ → Type 0
-LineRoom r line cells table =
-    Room r × (r .lines ≤ textMost) × (length line ≤ textMost) × (slotsMost ≤ length cells)
-    × (recordsMost ≤ length table)
+abbrev pub LineRoom : Reading → List ℕ → List ℕ → Type 0
+LineRoom r line held =
+    Room r × (r .lines ≤ textMost) × (length line ≤ textMost) × (heldRoom ≤ length held)
 
 -- for a line and for the lines of a row
 abbrev pub RowRoom : List ℕ → List ℕ → Type 0
@@ -227,23 +218,20 @@ abbrev pub PartsRoom : List ℕ → LineBytes → Parts → Type 0
 PartsRoom line b p = Writable (length line) p × (fieldSize p ≤ recordMost) × BytesRoom b
 
 -- behind a field line
-abbrev pub FieldStep : List ℕ → Reading → Reading → List ℕ → Area → Area → List (List ℕ) → List (List ℕ) → Names
-    → Names → Type 0
-FieldStep line r q cells table table′ labels labels′ names names′ =
-    (length (table′ .bytes) ≡ length (table .bytes))
-    × ((f : fold.Found) → Steady f → Holds f r cells table labels names
-    → Holds (fold.withField f line) q cells table′ labels′ names′)
+abbrev pub FieldStep : List ℕ → Reading → Reading → List ℕ → List ℕ → List ℕ → List ℕ → Type 0
+FieldStep line r q held held′ counts counts′ =
+    (length held′ ≡ length held)
+    × ((f : fold.Found) → Steady f → HoldsIn f r held counts → HoldsIn (fold.withField f line) q held′ counts′)
 
 -- the same for a line of small expressions with the parts p, whose own names are held, where not too many lines have
 -- come
-abbrev pub FormStep : List ℕ → LineBytes → Parts → Reading → Reading → List ℕ → Area → Area → List (List ℕ)
-    → List (List ℕ) → List (List ℕ) → List (List ℕ) → Type 0
-FormStep line b p r q cells table table′ labels labels′ shorts words =
-    (length (table′ .bytes) ≡ length (table .bytes))
-    × ((f : fold.Found) (x : Form) (marks : List ℕ) → Steady f → isFull (f .judged) ≡ false
-    → Holds f r cells table labels (namesOf shorts words marks) → readForm line ≡ some x
-    → all isSmall (trees x) ≡ true → PartsHeld (namesOf shorts words marks) (r .fields) line x b p
-    → Holds (fold.withField f line) q cells table′ labels′ (namesOf shorts words marks))
+abbrev pub FormStep : List ℕ → LineBytes → Parts → Reading → Reading → List ℕ → List ℕ → List ℕ → List ℕ → Type 0
+FormStep line b p r q held held′ counts counts′ =
+    (length held′ ≡ length held)
+    × ((f : fold.Found) (x : Form) → Steady f → isFull (f .judged) ≡ false → HoldsIn f r held counts
+    → readForm line ≡ some x → all isSmall (trees x) ≡ true
+    → PartsHeld (namesIn (nameBytes held)) (r .fields) line x b p
+    → HoldsIn (fold.withField f line) q held′ counts′)
 
 -- ── the end ──
 
@@ -289,18 +277,12 @@ EndStep r whole row table out out′ a =
     → Holds (k .found) r cells table labels names → leaves (ofText a) out′ ≡ fold.finish k out
 
 -- behind a line
-abbrev pub LineStep : List ℕ → Reading → Reading → List ℕ → List ℕ → List ℕ → List ℕ → Area → Area
-    → List (List ℕ) → List (List ℕ) → Names → Names → Type 0
-LineStep line r q cells cells′ row row′ table table′ labels labels′ names names′ =
-    (length cells′ ≡ length cells) × (length row′ ≡ length row) × (length (table′ .bytes) ≡ length (table .bytes))
+abbrev pub LineStep : List ℕ → Reading → Reading → List ℕ → List ℕ → List ℕ → List ℕ → List ℕ → List ℕ → Type 0
+LineStep line r q held held′ row row′ counts counts′ =
+    (length held′ ≡ length held) × (length row′ ≡ length row)
     × ((f : fold.Found) → Steady f → RowKept (f .row) (r .width) (r .row) row
-    → Holds f r cells table labels names
-    → Holds (fold.lined f line) q cells′ table′ labels′ names′
-    × RowKept (fold.lined f line .row) (q .width) (q .row) row′)
-
--- arrays for the names of all fields
-abbrev pub Begun : List (List ℕ) → Names → Type 0
-Begun labels names = (fieldsMost ≤ length labels) × NamesRoom fieldsMost names
+    → HoldsIn f r held counts
+    → HoldsIn (fold.lined f line) q held′ counts′ × RowKept (fold.lined f line .row) (q .width) (q .row) row′)
 
 -- the counts for all fields, where there is none yet
 abbrev pub NoneCounted : List ℕ → Type 0

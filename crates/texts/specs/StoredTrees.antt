@@ -3,7 +3,7 @@
 use mathlib.Core.Path.{_≡_}
 use mathlib.Core.Bool.{Bool, cond, _&&_, _||_}
 use mathlib.Core.List.{List, []}
-use Prim.Native.Nat.{ℕ, _≤_}
+use Prim.Native.Nat.{ℕ, _-_, _≤_}
 use lib.Dec.{eqb, ltb}
 use lib.ListN.{length, take, drop, getD}
 use Rattle.rules.specs.declared.ValueType.{ValueType}
@@ -12,9 +12,10 @@ use Rattle.rules.specs.Limits.{shortMost}
 use Rattle.rules.specs.Operators.{takes, gives}
 use Rattle.rules.specs.Trees.{Tree, num, read, two, negation, depth, storedTree, storedLength}
 use Rattle.text_laws.specs.Reader.{Out, fail, got}
-use Rattle.names.specs.Repeats.{firstFrom, padTo, sameName}
+use Rattle.names.specs.Repeats.{firstFrom, padTo, sameName, atMost}
 use Rattle.text_laws.specs.LineReader.{Got, miss, hit}
 use Rattle.texts.specs.HeldNames.{Names}
+use Rattle.texts.specs.NameStarts.{startIn}
 use Rattle.texts.specs.declared.stored_trees.StoredTree.{StoredTree}
 
 -- ── names that may be read, held by value ──
@@ -29,9 +30,11 @@ readsAs names v i =
 abbrev pub isHeld : Names → List ℕ → ℕ → Bool
 isHeld names w = readsAs names (padTo shortMost w)
 
--- the index of the first of n fields that may be read by the name, else n
+-- the index of the first of n fields, from the start of the name on, that may be read by the name, else n
 unfoldable pub lookUp : Names → ℕ → List ℕ → ℕ
-lookUp names n w = firstFrom (isHeld names w) 0 n
+lookUp names n w =
+    let k = atMost n (startIn (names .starts) (padTo shortMost w)) in
+    firstFrom (isHeld names w) k (n - k)
 
 abbrev pub mayRead : Names → ℕ → List ℕ → Bool
 mayRead names n w = ltb (lookUp names n w) n

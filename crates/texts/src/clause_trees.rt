@@ -1,5 +1,4 @@
 // The constraint and the condition of a field line, in their stored form.
-use crate::name_starts::BUCKETS;
 use crate::phrases::remark_ok;
 use crate::phrases::starts_at;
 use crate::stored_nodes::no_tree;
@@ -13,10 +12,9 @@ ghost use Prim.Native.Nat.{_+_, _≤_, _<_};
 ghost use lib.ListN.{length, drop};
 ghost use Rattle.rules.specs.Limits.{textMost, fieldsMost};
 ghost use Rattle.text_laws.specs.LineReader.{readConstraint, readCondition};
-ghost use Rattle.texts.specs.HeldNames.{namesOf};
+ghost use Rattle.texts.specs.HeldNames.{namesIn, Ready};
 ghost use Rattle.texts.specs.FieldPlaces.{treeClause};
 ghost use Rattle.texts.specs.HeldParts.{ClauseWithin, ClauseFor, EndsFor};
-ghost use Rattle.texts.specs.NameStarts.{Ready};
 
 // An expression behind its phrase, or none, which ends where the phrase would begin; not right where an expression is
 // missing.
@@ -50,20 +48,17 @@ fn tree_at(
     classes: &[u8; 256],
     s: &[u8],
     at: usize,
-    shorts: &[[u8; SHORT_MOST]; FIELDS_MOST],
-    words: &[[u8; SHORT_MOST]; FIELDS_MOST],
-    marks: &[u8; FIELDS_MOST],
-    starts: &[u8; BUCKETS],
+    names: &[u8],
     n: usize,
     out: &mut [u8],
 ) -> Clause
     requires { ⌜ (at ≤ length (now s)) × (length (now s) ≤ textMost) × (n ≤ fieldsMost)
-        × Ready (now classes) (now starts) (now shorts) (now words) ⌝ }
+        × Ready (now classes) (now names) ⌝ }
     ensures place { λ r. ⌜ ClauseWithin (now (s .entry)) at r ⌝ }
-    ensures same { λ r. ⌜ ClauseFor (namesOf (now (shorts .entry)) (now (words .entry)) (now (marks .entry)))
+    ensures same { λ r. ⌜ ClauseFor (namesIn (now (names .entry)))
         n (now (s .entry)) (treeClause (drop at (now (s .entry)))) (now (out .exit)) r ⌝ }
 {
-    let tree = stored_tree(classes, s, at, shorts, words, marks, starts, n, out);
+    let tree = stored_tree(classes, s, at, names, n, out);
     Clause {
         right: tree.len != 0,
         tree: tree,
@@ -74,24 +69,21 @@ fn constraint_at(
     classes: &[u8; 256],
     s: &[u8],
     at: usize,
-    shorts: &[[u8; SHORT_MOST]; FIELDS_MOST],
-    words: &[[u8; SHORT_MOST]; FIELDS_MOST],
-    marks: &[u8; FIELDS_MOST],
-    starts: &[u8; BUCKETS],
+    names: &[u8],
     n: usize,
     out: &mut [u8],
 ) -> Clause
     requires { ⌜ (at ≤ length (now s)) × (length (now s) ≤ textMost) × (n ≤ fieldsMost)
-        × Ready (now classes) (now starts) (now shorts) (now words) ⌝ }
+        × Ready (now classes) (now names) ⌝ }
     ensures place { λ r. ⌜ ClauseWithin (now (s .entry)) at r ⌝ }
-    ensures same { λ r. ⌜ ClauseFor (namesOf (now (shorts .entry)) (now (words .entry)) (now (marks .entry)))
+    ensures same { λ r. ⌜ ClauseFor (namesIn (now (names .entry)))
         n (now (s .entry)) (readConstraint (drop at (now (s .entry)))) (now (out .exit)) r ⌝ }
 {
     if starts_at(s, at, b"; present only when ") {
         return no_clause(at);
     }
     if starts_at(s, at, b"; ") {
-        return tree_at(classes, s, at + 2, shorts, words, marks, starts, n, out);
+        return tree_at(classes, s, at + 2, names, n, out);
     }
     no_clause(at)
 }
@@ -100,21 +92,18 @@ fn condition_at(
     classes: &[u8; 256],
     s: &[u8],
     at: usize,
-    shorts: &[[u8; SHORT_MOST]; FIELDS_MOST],
-    words: &[[u8; SHORT_MOST]; FIELDS_MOST],
-    marks: &[u8; FIELDS_MOST],
-    starts: &[u8; BUCKETS],
+    names: &[u8],
     n: usize,
     out: &mut [u8],
 ) -> Clause
     requires { ⌜ (at ≤ length (now s)) × (length (now s) ≤ textMost) × (n ≤ fieldsMost)
-        × Ready (now classes) (now starts) (now shorts) (now words) ⌝ }
+        × Ready (now classes) (now names) ⌝ }
     ensures place { λ r. ⌜ ClauseWithin (now (s .entry)) at r ⌝ }
-    ensures same { λ r. ⌜ ClauseFor (namesOf (now (shorts .entry)) (now (words .entry)) (now (marks .entry)))
+    ensures same { λ r. ⌜ ClauseFor (namesIn (now (names .entry)))
         n (now (s .entry)) (readCondition (drop at (now (s .entry)))) (now (out .exit)) r ⌝ }
 {
     if starts_at(s, at, b"; present only when ") {
-        return tree_at(classes, s, at + 20, shorts, words, marks, starts, n, out);
+        return tree_at(classes, s, at + 20, names, n, out);
     }
     no_clause(at)
 }
@@ -135,35 +124,22 @@ pub(crate) fn ends_at(
     classes: &[u8; 256],
     s: &[u8],
     at: usize,
-    shorts: &[[u8; SHORT_MOST]; FIELDS_MOST],
-    words: &[[u8; SHORT_MOST]; FIELDS_MOST],
-    marks: &[u8; FIELDS_MOST],
-    starts: &[u8; BUCKETS],
+    names: &[u8],
     n: usize,
     first: &mut [u8],
     second: &mut [u8],
 ) -> Ends
     requires { ⌜ (at ≤ length (now s)) × (length (now s) ≤ textMost) × (n < fieldsMost)
-        × Ready (now classes) (now starts) (now shorts) (now words) ⌝ }
-    ensures { λ r. ⌜ EndsFor (namesOf (now (shorts .entry)) (now (words .entry)) (now (marks .entry)))
+        × Ready (now classes) (now names) ⌝ }
+    ensures { λ r. ⌜ EndsFor (namesIn (now (names .entry)))
         n (now (s .entry)) at (now (first .exit)) (now (second .exit)) r ⌝ }
 {
-    let c = constraint_at(classes, s, at, shorts, words, marks, starts, n + 1, first);
+    let c = constraint_at(classes, s, at, names, n + 1, first);
     let constraint = c.tree;
     if !c.right {
         return wrong_ends();
     }
-    let d = condition_at(
-        classes,
-        s,
-        constraint.next,
-        shorts,
-        words,
-        marks,
-        starts,
-        n,
-        second,
-    );
+    let d = condition_at(classes, s, constraint.next, names, n, second);
     let condition = d.tree;
     if !d.right {
         return wrong_ends();

@@ -1,4 +1,7 @@
 // The rules 7 to 10 of a field line that has a form.
+use crate::held_areas::LABELS_AT;
+use crate::held_areas::NAMES_AT;
+use crate::held_areas::TABLE_AT;
 use crate::line_parts::Parts;
 use crate::line_rules::misplaced;
 use crate::name_clashes::clashes;
@@ -6,9 +9,6 @@ use crate::notes::Note;
 use crate::part_slots::part_shows;
 use crate::part_tests::types_kept;
 use crate::states::Reading;
-use rules::FIELDS_MOST;
-use rules::LABEL_MOST;
-use rules::SHORT_MOST;
 ghost use mathlib.Core.Bool.{true};
 ghost use mathlib.Core.List.{List};
 ghost use mathlib.Core.Option.{some};
@@ -21,11 +21,12 @@ ghost use Rattle.text_laws.specs.LineReader.{readForm};
 ghost use Rattle.text_laws.specs.Judging.{faces, showsCell};
 ghost use Rattle.text_laws.specs.Fold.{Found};
 ghost use Rattle.text_laws.specs.Steady.{Steady};
-ghost use Rattle.texts.specs.HeldNames.{Names, namesOf};
+ghost use Rattle.texts.specs.HeldNames.{Names, namesIn, labelsIn};
 ghost use Rattle.texts.specs.HeldParts.{LineBytes, PartsHeld};
 ghost use Rattle.texts.specs.Noted.{noteOf};
 ghost use Rattle.texts.specs.PartPlaces.{NamesFit};
-ghost use Rattle.texts.specs.States.{slotsMost, Room, Counts, Slots, isTold, laterNote, NamedWith};
+ghost use Rattle.texts.specs.HeldAreas.{slotsMost, heldRoom, cellBytes, nameBytes, labelBytes};
+ghost use Rattle.texts.specs.States.{Room, Counts, Slots, isTold, laterNote, NamedWith};
 
 // There is a cell for the field, and it is one for the line.
 fn shows_cell(r: Reading, line: &[u8], p: Parts, cells: &[u8]) -> bool
@@ -42,34 +43,26 @@ fn shows_cell(r: Reading, line: &[u8], p: Parts, cells: &[u8]) -> bool
 }
 
 // The first of the rules 7 to 10 that the line breaks. Its names are held behind those of the fields.
-pub(crate) fn later_rule(
-    r: Reading,
-    line: &[u8],
-    p: Parts,
-    cells: &[u8],
-    labels: &[[u8; LABEL_MOST]; FIELDS_MOST],
-    shorts: &[[u8; SHORT_MOST]; FIELDS_MOST],
-    words: &[[u8; SHORT_MOST]; FIELDS_MOST],
-) -> Note
+pub(crate) fn later_rule(r: Reading, line: &[u8], p: Parts, held: &[u8]) -> Note
     requires { ⌜ Room r × (r .lines ≤ textMost) × (r .fields < fieldsMost)
-        × NamesFit (length (now line)) (p .label) (p .short) × (slotsMost ≤ length (now cells)) ⌝ }
+        × NamesFit (length (now line)) (p .label) (p .short) × (heldRoom ≤ length (now held)) ⌝ }
     ensures told { λ a. ⌜ isTold (noteOf a) ≡ true ⌝ }
-    ensures rule { λ a. ⌜ ((f : Found) (x : Form) (marks : List ℕ) (v : LineBytes) → Steady f → Counts f r
-        → Slots f r (now (cells .entry))
-        → NamedWith f x (now (labels .entry)) (namesOf (now (shorts .entry)) (now (words .entry)) marks)
+    ensures rule { λ a. ⌜ ((f : Found) (x : Form) (v : LineBytes) → Steady f → Counts f r
+        → Slots f r (cellBytes (now (held .entry)))
+        → NamedWith f x (labelsIn (labelBytes (now (held .entry)))) (namesIn (nameBytes (now (held .entry))))
         → readForm (now (line .entry)) ≡ some x
-        → PartsHeld (namesOf (now (shorts .entry)) (now (words .entry)) marks) (r .fields) (now (line .entry)) x v p
+        → PartsHeld (namesIn (nameBytes (now (held .entry)))) (r .fields) (now (line .entry)) x v p
         → noteOf a ≡ laterNote f x) ⌝ }
 {
     let n = r.fields;
     let place = r.lines + 1;
-    if !shows_cell(r, line, p, cells) {
+    if !shows_cell(r, line, p, &held[0..NAMES_AT]) {
         return Note {
             number: 7,
             place: place,
         };
     }
-    if clashes(labels, shorts, words, n) {
+    if clashes(&held[LABELS_AT..TABLE_AT], &held[NAMES_AT..LABELS_AT], n) {
         return Note {
             number: 8,
             place: place,

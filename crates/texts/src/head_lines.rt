@@ -25,7 +25,8 @@ ghost use lib.ListN.{length};
 ghost use Rattle.rules.specs.Limits.{textMost, labelMost};
 ghost use Rattle.text_laws.specs.FrameReader.{readTens, readRow};
 ghost use Rattle.text_laws.specs.Fold.{rowOrBlank, openingName, withName, withWidth, withRow, linedAt};
-ghost use Rattle.texts.specs.States.{slotsMost, Room, RowRoom, Taken, Area, area, HeadStep, HeadRow, RowStep};
+ghost use Rattle.texts.specs.HeldAreas.{slotsMost};
+ghost use Rattle.texts.specs.States.{Room, RowRoom, Taken, Area, area, HeadStep, HeadRow, RowStep};
 ghost use Rattle.texts.specs.Changes.{rowEnded};
 
 // The opening line: NAME is put at the start of the table.

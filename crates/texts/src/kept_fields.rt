@@ -1,11 +1,13 @@
 // Field lines: their names are held, their rules tested, their records written.
 use crate::form_rules::later_rule;
+use crate::held_areas::LABELS_AT;
+use crate::held_areas::NAMES_AT;
+use crate::held_areas::TABLE_AT;
 use crate::line_counts::keep_field;
 use crate::line_parts::Parts;
 use crate::line_parts::parts_of;
 use crate::line_rules::rests;
 use crate::name_clashes::held_label;
-use crate::name_starts::BUCKETS;
 use crate::notes::Note;
 use crate::notes::lower;
 use crate::part_tests::sizes_kept;
@@ -17,8 +19,8 @@ use crate::states::too_many;
 use names::classes::class_table;
 use rules::FIELDS_MOST;
 use rules::LABEL_MOST;
-use rules::SHORT_MOST;
 use rules::STORED_MOST;
+use writing::puts::put;
 ghost use mathlib.Core.Option.{some};
 ghost use mathlib.Core.Path.{_≡_};
 ghost use Prim.Native.Nat.{_+_, _≤_, _<_};
@@ -28,11 +30,11 @@ ghost use Rattle.rules.specs.Limits.{textMost, fieldsMost, labelMost};
 ghost use Rattle.names.specs.Repeats.{padTo};
 ghost use Rattle.text_laws.specs.Lowest.{lower};
 ghost use Rattle.text_laws.specs.Judging.{isOpen};
-ghost use Rattle.texts.specs.HeldNames.{namesOf};
+ghost use Rattle.texts.specs.HeldNames.{labelsRoom, LabelPut};
 ghost use Rattle.texts.specs.HeldParts.{bytesOf};
-ghost use Rattle.texts.specs.NameStarts.{Starts};
 ghost use Rattle.texts.specs.Noted.{noteOf};
-ghost use Rattle.texts.specs.States.{slotsMost, Room, Taken, isFullAs, lineRefused, NextCell, area, LineRoom};
+ghost use Rattle.texts.specs.HeldAreas.{slotsMost};
+ghost use Rattle.texts.specs.States.{Room, Taken, isFullAs, lineRefused, NextCell, LineRoom};
 ghost use Rattle.texts.specs.States.{PartsRoom, FieldStep, FormStep};
 
 // Nothing but a 3 could matter now, or a field line too many has come.
@@ -73,12 +75,12 @@ fn refuse_line(mut r: Reading, number: usize) -> Reading
 }
 
 // The label of a line, held as that of index n.
-fn hold_label(line: &[u8], label: usize, n: usize, labels: &mut [[u8; LABEL_MOST]; FIELDS_MOST])
-    requires { ⌜ (label ≤ length (now line)) × (n < fieldsMost) ⌝ }
-    ensures { λ r. ⌜ now (labels .exit) ≡ set (now (labels .entry)) n (padTo labelMost
-        (take label (now (line .entry)))) ⌝ }
+fn hold_label(line: &[u8], label: usize, n: usize, labels: &mut [u8])
+    requires { ⌜ (label ≤ length (now line)) × (n < fieldsMost) × (labelsRoom ≤ length (now labels)) ⌝ }
+    ensures { λ r. ⌜ LabelPut (now (labels .entry)) n (take label (now (line .entry))) (now (labels .exit)) ⌝ }
 {
-    labels[n] = held_label(&line[0..label]);
+    let own = held_label(&line[0..label]);
+    put(labels, LABEL_MOST * n, &own);
 }
 
 // Where the cell of the field behind the next one stands.
@@ -105,29 +107,34 @@ fn take_form(
     wide: &[u8],
     first: &[u8],
     second: &[u8],
-    cells: &[u8],
-    table: &mut [u8],
+    held: &mut [u8],
     counts: &mut [u16],
-    labels: &mut [[u8; LABEL_MOST]; FIELDS_MOST],
-    shorts: &[[u8; SHORT_MOST]; FIELDS_MOST],
-    words: &[[u8; SHORT_MOST]; FIELDS_MOST],
 ) -> Reading
-    requires { ⌜ LineRoom r (now line) (now cells) (now table) × (r .count < fieldsMost)
+    requires { ⌜ LineRoom r (now line) (now held) × (r .count < fieldsMost)
         × PartsRoom (now line) (bytesOf (now wide) (now first) (now second)) p ⌝ }
     ensures room { λ q. ⌜ Taken r q ⌝ }
     ensures step { λ q. ⌜ FormStep (now (line .entry))
-        (bytesOf (now (wide .entry)) (now (first .entry)) (now (second .entry))) p r q (now (cells .entry))
-        (area (now (table .entry)) (now (counts .entry))) (area (now (table .exit)) (now (counts .exit)))
-        (now (labels .entry)) (now (labels .exit)) (now (shorts .entry)) (now (words .entry)) ⌝ }
+        (bytesOf (now (wide .entry)) (now (first .entry)) (now (second .entry))) p r q
+        (now (held .entry)) (now (held .exit)) (now (counts .entry)) (now (counts .exit)) ⌝ }
 {
     let n = r.fields;
-    hold_label(line, p.label, n, labels);
-    let b = later_rule(r, line, p, cells, labels, shorts, words);
+    hold_label(line, p.label, n, &mut held[LABELS_AT..TABLE_AT]);
+    let b = later_rule(r, line, p, held);
     let a = lower(r.note, b);
     if is_open(a) {
         let at = r.end;
-        let end = keep_field(table, at, line, p, wide, first, second, n, counts);
-        let cell = next_cell(r, cells);
+        let end = keep_field(
+            &mut held[TABLE_AT..],
+            at,
+            line,
+            p,
+            wide,
+            first,
+            second,
+            n,
+            counts,
+        );
+        let cell = next_cell(r, &held[0..NAMES_AT]);
         let rested = rests(p, r.rested);
         r.end = end;
         r.cell = cell;
@@ -141,26 +148,11 @@ fn take_form(
 }
 
 // A field line.
-pub(crate) fn take_field(
-    r: Reading,
-    line: &[u8],
-    cells: &[u8],
-    table: &mut [u8],
-    counts: &mut [u16],
-    labels: &mut [[u8; LABEL_MOST]; FIELDS_MOST],
-    shorts: &mut [[u8; SHORT_MOST]; FIELDS_MOST],
-    words: &mut [[u8; SHORT_MOST]; FIELDS_MOST],
-    marks: &mut [u8; FIELDS_MOST],
-    starts: &mut [u8; BUCKETS],
-) -> Reading
-    requires { ⌜ LineRoom r (now line) (now cells) (now table) × Starts (now starts) (now shorts) (now words) ⌝ }
+pub(crate) fn take_field(r: Reading, line: &[u8], held: &mut [u8], counts: &mut [u16]) -> Reading
+    requires { ⌜ LineRoom r (now line) (now held) ⌝ }
     ensures room { λ q. ⌜ Taken r q ⌝ }
-    ensures step { λ q. ⌜ FieldStep (now (line .entry)) r q (now (cells .entry))
-        (area (now (table .entry)) (now (counts .entry))) (area (now (table .exit)) (now (counts .exit)))
-        (now (labels .entry)) (now (labels .exit))
-        (namesOf (now (shorts .entry)) (now (words .entry)) (now (marks .entry)))
-        (namesOf (now (shorts .exit)) (now (words .exit)) (now (marks .exit))) ⌝ }
-    ensures starts { λ q. ⌜ Starts (now (starts .exit)) (now (shorts .exit)) (now (words .exit)) ⌝ }
+    ensures step { λ q. ⌜ FieldStep (now (line .entry)) r q (now (held .entry)) (now (held .exit))
+        (now (counts .entry)) (now (counts .exit)) ⌝ }
 {
     if is_full(r) {
         return too_many(r, Stage::FieldLine);
@@ -172,10 +164,7 @@ pub(crate) fn take_field(
     let p = parts_of(
         &classes,
         line,
-        shorts,
-        words,
-        marks,
-        starts,
+        &mut held[NAMES_AT..LABELS_AT],
         r.fields,
         &mut wide,
         &mut first,
@@ -185,20 +174,7 @@ pub(crate) fn take_field(
         return refuse_line(r, 5);
     }
     if sizes_kept(p) {
-        return take_form(
-            r,
-            line,
-            p,
-            &wide,
-            &first,
-            &second,
-            cells,
-            table,
-            counts,
-            labels,
-            shorts,
-            words,
-        );
+        return take_form(r, line, p, &wide, &first, &second, held, counts);
     }
     refuse_line(r, 6)
 }

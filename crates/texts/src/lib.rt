@@ -6,7 +6,7 @@
 // names             held_names, name_starts, name_clashes
 // rules, records    kinds, part_tests, part_slots, line_rules, form_rules, part_records, line_counts,
 //                   kept_fields
-// what is kept      states, notes
+// what is kept      states, notes, held_areas
 // specs/ holds definitions that mirror what the code does, proofs/ the theorems on them.
 mod atoms;
 mod bars;
@@ -15,6 +15,7 @@ mod chains;
 mod clause_trees;
 mod form_rules;
 mod head_lines;
+mod held_areas;
 mod held_names;
 mod kept_fields;
 mod kinds;

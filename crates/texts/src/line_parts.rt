@@ -6,7 +6,6 @@ use crate::labels::Label;
 use crate::labels::Short;
 use crate::labels::label_at;
 use crate::labels::short_at;
-use crate::name_starts::BUCKETS;
 use crate::phrases::starts_at;
 use crate::stored_nodes::no_tree;
 use crate::stored_trees::StoredTree;
@@ -20,8 +19,7 @@ ghost use Prim.Native.Nat.{_+_, _≤_, _<_};
 ghost use lib.ListN.{length};
 ghost use Rattle.rules.specs.Limits.{textMost, fieldsMost};
 ghost use Rattle.text_laws.specs.LineReader.{readForm};
-ghost use Rattle.texts.specs.HeldNames.{namesOf, Kept};
-ghost use Rattle.texts.specs.NameStarts.{Starts, Ready};
+ghost use Rattle.texts.specs.HeldNames.{namesIn, Ready, Kept};
 ghost use Rattle.texts.specs.PartPlaces.{NamesFit};
 ghost use Rattle.texts.specs.HeldParts.{wholeParts, bytesOf, PartsFor, BehindFor};
 
@@ -78,52 +76,26 @@ fn behind_names(
     label: usize,
     short: Span,
     at: usize,
-    shorts: &mut [[u8; SHORT_MOST]; FIELDS_MOST],
-    words: &mut [[u8; SHORT_MOST]; FIELDS_MOST],
-    marks: &mut [u8; FIELDS_MOST],
-    starts: &mut [u8; BUCKETS],
+    names: &mut [u8],
     n: usize,
     wide: &mut [u8],
     first: &mut [u8],
     second: &mut [u8],
 ) -> Parts
     requires { ⌜ (at ≤ length (now s)) × (length (now s) ≤ textMost) × (n < fieldsMost)
-        × NamesFit (length (now s)) label short × Ready (now classes) (now starts) (now shorts) (now words) ⌝ }
-    ensures kept { λ r. ⌜ Kept (namesOf (now (shorts .entry)) (now (words .entry)) (now (marks .entry)))
-        n (namesOf (now (shorts .exit)) (now (words .exit)) (now (marks .exit))) ⌝ }
-    ensures same { λ r. ⌜ BehindFor (namesOf (now (shorts .exit)) (now (words .exit)) (now (marks .exit)))
+        × NamesFit (length (now s)) label short × Ready (now classes) (now names) ⌝ }
+    ensures kept { λ r. ⌜ Kept (namesIn (now (names .entry)))
+        n (namesIn (now (names .exit))) ⌝ }
+    ensures same { λ r. ⌜ BehindFor (namesIn (now (names .exit)))
         n (now (s .entry)) label short at
         (bytesOf (now (wide .exit)) (now (first .exit)) (now (second .exit))) r ⌝ }
-    ensures starts { λ r. ⌜ Starts (now (starts .exit)) (now (shorts .exit)) (now (words .exit)) ⌝ }
 {
-    let w = width_at(classes, s, at, shorts, words, marks, starts, n, wide);
+    let w = width_at(classes, s, at, names, n, wide);
     if w.kind == 0 {
         return no_parts();
     }
-    hold_own(
-        classes,
-        s,
-        label,
-        short,
-        w.kind,
-        n,
-        shorts,
-        words,
-        marks,
-        starts,
-    );
-    let e = ends_at(
-        classes,
-        s,
-        w.next,
-        shorts,
-        words,
-        marks,
-        starts,
-        n,
-        first,
-        second,
-    );
+    hold_own(classes, s, label, short, w.kind, n, names);
+    let e = ends_at(classes, s, w.next, names, n, first, second);
     if e.right {
         return whole_parts(label, short, w, e);
     }
@@ -135,23 +107,19 @@ fn behind_names(
 pub(crate) fn parts_of(
     classes: &[u8; 256],
     s: &[u8],
-    shorts: &mut [[u8; SHORT_MOST]; FIELDS_MOST],
-    words: &mut [[u8; SHORT_MOST]; FIELDS_MOST],
-    marks: &mut [u8; FIELDS_MOST],
-    starts: &mut [u8; BUCKETS],
+    names: &mut [u8],
     n: usize,
     wide: &mut [u8],
     first: &mut [u8],
     second: &mut [u8],
 ) -> Parts
     requires { ⌜ (length (now s) ≤ textMost) × (n < fieldsMost)
-        × Ready (now classes) (now starts) (now shorts) (now words) ⌝ }
-    ensures kept { λ r. ⌜ Kept (namesOf (now (shorts .entry)) (now (words .entry)) (now (marks .entry)))
-        n (namesOf (now (shorts .exit)) (now (words .exit)) (now (marks .exit))) ⌝ }
-    ensures same { λ r. ⌜ PartsFor (namesOf (now (shorts .exit)) (now (words .exit)) (now (marks .exit)))
+        × Ready (now classes) (now names) ⌝ }
+    ensures kept { λ r. ⌜ Kept (namesIn (now (names .entry)))
+        n (namesIn (now (names .exit))) ⌝ }
+    ensures same { λ r. ⌜ PartsFor (namesIn (now (names .exit)))
         n (now (s .entry)) (readForm (now (s .entry)))
         (bytesOf (now (wide .exit)) (now (first .exit)) (now (second .exit))) r ⌝ }
-    ensures starts { λ r. ⌜ Starts (now (starts .exit)) (now (shorts .exit)) (now (words .exit)) ⌝ }
 {
     let l = label_at(classes, s, 0);
     let Label::At(label) = l else {
@@ -169,10 +137,7 @@ pub(crate) fn parts_of(
             label,
             short,
             next + 2,
-            shorts,
-            words,
-            marks,
-            starts,
+            names,
             n,
             wide,
             first,

@@ -5,13 +5,27 @@ use names::repeats::key_of;
 use rules::SHORT_MOST;
 ghost use mathlib.Core.Path.{_≡_};
 ghost use Prim.Native.Nat.{_≤_, _<_};
+ghost use lib.ListN.{length};
 ghost use Rattle.rules.specs.Limits.{fieldsMost};
-ghost use Rattle.texts.specs.NameStarts.{bucketOf, startIn, StartPut};
+ghost use Rattle.names.specs.Repeats.{atMost};
+ghost use Rattle.texts.specs.NameStarts.{buckets, bucketOf, startIn, StartPut};
 
 // Names fall into so many buckets, by the numbers that their bytes make.
-pub(crate) const BUCKETS: usize = 1013;
+const BUCKETS: usize = 1013;
 
-pub(crate) const NO_START: u8 = 255;
+const NO_START: u8 = 255;
+
+// No name is put in yet.
+pub(crate) fn clear_starts(starts: &mut [u8])
+    requires { ⌜ buckets ≤ length (now starts) ⌝ }
+    ensures { λ r. ⌜ length (now (starts .exit)) ≡ length (now (starts .entry)) ⌝ }
+{
+    let mut i = 0;
+    while i < BUCKETS {
+        starts[i] = NO_START;
+        i += 1;
+    }
+}
 
 // The bucket of a held name.
 fn bucket_of(name: [u8; SHORT_MOST]) -> usize
@@ -21,7 +35,8 @@ fn bucket_of(name: [u8; SHORT_MOST]) -> usize
 }
 
 // Where the walk for a held name begins.
-pub(crate) fn walk_start(starts: &[u8; BUCKETS], name: [u8; SHORT_MOST]) -> usize
+pub(crate) fn walk_start(starts: &[u8], name: [u8; SHORT_MOST]) -> usize
+    requires { ⌜ buckets ≤ length (now starts) ⌝ }
     ensures { λ r. ⌜ r ≡ startIn (now (starts .entry)) name ⌝ }
 {
     let bucket = bucket_of(name);
@@ -31,15 +46,15 @@ pub(crate) fn walk_start(starts: &[u8; BUCKETS], name: [u8; SHORT_MOST]) -> usiz
 // The lower of a start and an index.
 fn lower_start(start: u8, i: usize) -> u8
     requires { ⌜ i < fieldsMost ⌝ }
-    ensures { λ r. ⌜ (r ≤ i) × (r ≤ start) ⌝ }
+    ensures { λ r. ⌜ r ≡ atMost i start ⌝ }
 {
     let own = i as u8;
     if own < start { own } else { start }
 }
 
 // A held name of index i put in.
-pub(crate) fn put_start(starts: &mut [u8; BUCKETS], name: [u8; SHORT_MOST], i: usize)
-    requires { ⌜ i < fieldsMost ⌝ }
+pub(crate) fn put_start(starts: &mut [u8], name: [u8; SHORT_MOST], i: usize)
+    requires { ⌜ (i < fieldsMost) × (buckets ≤ length (now starts)) ⌝ }
     ensures { λ r. ⌜ StartPut (now (starts .entry)) name i (now (starts .exit)) ⌝ }
 {
     if name[0] == 0 {

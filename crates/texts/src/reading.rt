@@ -1,16 +1,15 @@
 // A description text is read in one pass, line by line, and its table is written.
 use crate::cell_texts::ROW_ROOM;
+use crate::held_areas::HELD_ROOM;
+use crate::held_areas::LABELS_AT;
+use crate::held_areas::NAMES_AT;
+use crate::held_areas::TABLE_AT;
 use crate::line_steps::take_line;
-use crate::name_starts::BUCKETS;
-use crate::name_starts::NO_START;
-use crate::slots::ROW_MOST;
+use crate::name_starts::clear_starts;
 use crate::states::begin;
 use crate::text_bytes::line_end;
 use crate::text_ends::end_text;
 use rules::FIELDS_MOST;
-use rules::LABEL_MOST;
-use rules::RECORD_MOST;
-use rules::SHORT_MOST;
 use rules::TEXT_MOST;
 use rules::TextAnswer;
 ghost use Prim.Native.Nat.{_≤_};
@@ -18,34 +17,20 @@ ghost use lib.ListN.{length};
 ghost use Rattle.rules.specs.Answers.{ofText};
 ghost use Rattle.rules.specs.Limits.{textMost};
 ghost use Rattle.rules.specs.Promises.{ReadsText, leaves};
-ghost use Rattle.texts.specs.HeldNames.{namesOf};
-ghost use Rattle.texts.specs.NameStarts.{Starts};
+ghost use Rattle.texts.specs.HeldAreas.{heldRoom};
 ghost use Rattle.texts.specs.RowPlaces.{rowRoom};
-ghost use Rattle.texts.specs.States.{slotsMost, recordsMost, Begun, NoneCounted};
-
-// Room for the cells of all fields and of one row more, and for NAME and the records of all fields.
-const SLOTS_ROOM: usize = 43 * FIELDS_MOST + ROW_MOST;
-
-const RECORDS_ROOM: usize = LABEL_MOST + RECORD_MOST * FIELDS_MOST;
+ghost use Rattle.texts.specs.States.{NoneCounted};
 
 // The lines of a text, one by one, with room for what is kept of them.
 fn read_lines(
     text: &[u8],
     out: &mut [u8],
-    cells: &mut [u8],
+    held: &mut [u8],
     row: &mut [u8],
-    table: &mut [u8],
     counts: &mut [u16],
-    labels: &mut [[u8; LABEL_MOST]; FIELDS_MOST],
-    shorts: &mut [[u8; SHORT_MOST]; FIELDS_MOST],
-    words: &mut [[u8; SHORT_MOST]; FIELDS_MOST],
-    marks: &mut [u8; FIELDS_MOST],
-    starts: &mut [u8; BUCKETS],
 ) -> TextAnswer
-    requires { ⌜ (length (now text) ≤ textMost) × (slotsMost ≤ length (now cells))
-        × (rowRoom ≤ length (now row)) × (recordsMost ≤ length (now table)) × NoneCounted (now counts)
-        × Begun (now labels) (namesOf (now shorts) (now words) (now marks))
-        × Starts (now starts) (now shorts) (now words) ⌝ }
+    requires { ⌜ (length (now text) ≤ textMost) × (heldRoom ≤ length (now held))
+        × (rowRoom ≤ length (now row)) × NoneCounted (now counts) ⌝ }
     ensures { λ r. ⌜ ReadsText (now (text .entry)) (now (out .entry)) (leaves (ofText r) (now (out .exit))) ⌝ }
 {
     let mut r = begin();
@@ -53,26 +38,30 @@ fn read_lines(
     loop {
         let e = line_end(text, at);
         if e == text.len() {
-            return end_text(r, at == e, row, table, counts, out);
+            return end_text(r, at == e, row, &held[TABLE_AT..], counts, out);
         }
         if text[e] != b'\n' {
             return TextAnswer::BadByte;
         }
-        r = take_line(
-            r,
-            &text[at..e],
-            cells,
-            row,
-            table,
-            counts,
-            labels,
-            shorts,
-            words,
-            marks,
-            starts,
-        );
+        r = take_line(r, &text[at..e], held, row, counts);
         at = e + 1;
     }
+}
+
+// The same, before any name is held.
+fn read_held(
+    text: &[u8],
+    out: &mut [u8],
+    held: &mut [u8],
+    row: &mut [u8],
+    counts: &mut [u16],
+) -> TextAnswer
+    requires { ⌜ (length (now text) ≤ textMost) × (heldRoom ≤ length (now held))
+        × (rowRoom ≤ length (now row)) × NoneCounted (now counts) ⌝ }
+    ensures { λ r. ⌜ ReadsText (now (text .entry)) (now (out .entry)) (leaves (ofText r) (now (out .exit))) ⌝ }
+{
+    clear_starts(&mut held[NAMES_AT..LABELS_AT]);
+    read_lines(text, out, held, row, counts)
 }
 
 // A text that is not too long.
@@ -80,28 +69,10 @@ fn read_short(text: &[u8], out: &mut [u8]) -> TextAnswer
     requires { ⌜ length (now text) ≤ textMost ⌝ }
     ensures { λ r. ⌜ ReadsText (now (text .entry)) (now (out .entry)) (leaves (ofText r) (now (out .exit))) ⌝ }
 {
-    let mut cells = [0u8; SLOTS_ROOM];
+    let mut held = [0u8; HELD_ROOM];
     let mut row = [0u8; ROW_ROOM];
-    let mut table = [0u8; RECORDS_ROOM];
     let mut counts = [0u16; FIELDS_MOST];
-    let mut labels = [[0u8; LABEL_MOST]; FIELDS_MOST];
-    let mut shorts = [[0u8; SHORT_MOST]; FIELDS_MOST];
-    let mut words = [[0u8; SHORT_MOST]; FIELDS_MOST];
-    let mut marks = [0u8; FIELDS_MOST];
-    let mut starts = [NO_START; BUCKETS];
-    read_lines(
-        text,
-        out,
-        &mut cells,
-        &mut row,
-        &mut table,
-        &mut counts,
-        &mut labels,
-        &mut shorts,
-        &mut words,
-        &mut marks,
-        &mut starts,
-    )
+    read_held(text, out, &mut held, &mut row, &mut counts)
 }
 
 // A text read into an output: its table at the output's start, or the refusal.

@@ -10,7 +10,6 @@ use crate::held_names::look_up;
 use crate::leaves::is_number;
 use crate::leaves::is_short_word;
 use crate::leaves::word_end;
-use crate::name_starts::BUCKETS;
 use crate::numbers::word_value;
 use crate::signs::Taken;
 use crate::signs::taken_at;
@@ -30,8 +29,7 @@ ghost use Prim.Native.Nat.{_+_, _*_, _≤_};
 ghost use lib.ListN.{length, drop};
 ghost use Rattle.rules.specs.Limits.{textMost, fieldsMost};
 ghost use Rattle.text_laws.specs.LineReader.{readTree};
-ghost use Rattle.texts.specs.HeldNames.{namesOf};
-ghost use Rattle.texts.specs.NameStarts.{Ready};
+ghost use Rattle.texts.specs.HeldNames.{namesIn, Ready};
 ghost use Rattle.texts.specs.Chains.{RestMade};
 ghost use Rattle.texts.specs.StoredTrees.{StoredFor, held};
 ghost use Rattle.texts.specs.StoredPlaces.{
@@ -56,22 +54,19 @@ fn tree_leaf(
     classes: &[u8; 256],
     s: &[u8],
     at: usize,
-    shorts: &[[u8; SHORT_MOST]; FIELDS_MOST],
-    words: &[[u8; SHORT_MOST]; FIELDS_MOST],
-    marks: &[u8; FIELDS_MOST],
-    starts: &[u8; BUCKETS],
+    names: &[u8],
     n: usize,
     out: &mut [u8],
 ) -> StoredTree
     requires { ⌜ (at ≤ length (now s)) × (n ≤ fieldsMost)
-        × Ready (now classes) (now starts) (now shorts) (now words) ⌝ }
+        × Ready (now classes) (now names) ⌝ }
     ensures place { λ r. ⌜ WithinStored (now (s .entry)) (at + 1) at 0 r ⌝ }
-    ensures same { λ r. ⌜ LeafStored (namesOf (now (shorts .entry)) (now (words .entry)) (now (marks .entry)))
+    ensures same { λ r. ⌜ LeafStored (namesIn (now (names .entry)))
         n (now (s .entry)) at (held r (now (out .exit))) ⌝ }
 {
     let end = word_end(classes, s, at);
     if is_short_word(classes, &s[at..end]) {
-        let i = look_up(shorts, words, marks, starts, n, &s[at..end]);
+        let i = look_up(names, n, &s[at..end]);
         return field_node(i, n, end, out);
     }
     if is_number(classes, &s[at..end]) {
@@ -112,37 +107,22 @@ fn tree_atom(
     s: &[u8],
     at: usize,
     b: u8,
-    shorts: &[[u8; SHORT_MOST]; FIELDS_MOST],
-    words: &[[u8; SHORT_MOST]; FIELDS_MOST],
-    marks: &[u8; FIELDS_MOST],
-    starts: &[u8; BUCKETS],
+    names: &[u8],
     n: usize,
     out: &mut [u8],
 ) -> StoredTree
     requires { ⌜ (at ≤ length (now s)) × (length (now s) ≤ textMost) × (n ≤ fieldsMost)
-        × Ready (now classes) (now starts) (now shorts) (now words) ⌝ }
+        × Ready (now classes) (now names) ⌝ }
     ensures place { λ r. ⌜ WithinStored (now (s .entry)) (at + 1) at 0 r ⌝ }
-    ensures same { λ r. ⌜ AtomStored (namesOf (now (shorts .entry)) (now (words .entry)) (now (marks .entry)))
+    ensures same { λ r. ⌜ AtomStored (namesIn (now (names .entry)))
         n (now (s .entry)) at b (held r (now (out .exit))) ⌝ }
 {
     let start = atom_at(s, at, b);
     match start {
         Atom::Nothing => no_tree(),
-        Atom::Word => tree_leaf(classes, s, at, shorts, words, marks, starts, n, out),
+        Atom::Word => tree_leaf(classes, s, at, names, n, out),
         Atom::In(from, neg) => {
-            let e = tree_expr(
-                classes,
-                s,
-                from,
-                0,
-                b - 1,
-                shorts,
-                words,
-                marks,
-                starts,
-                n,
-                out,
-            );
+            let e = tree_expr(classes, s, from, 0, b - 1, names, n, out);
             if e.len == 0 {
                 return e;
             }
@@ -159,52 +139,24 @@ fn tree_expr(
     at: usize,
     k: u8,
     b: u8,
-    shorts: &[[u8; SHORT_MOST]; FIELDS_MOST],
-    words: &[[u8; SHORT_MOST]; FIELDS_MOST],
-    marks: &[u8; FIELDS_MOST],
-    starts: &[u8; BUCKETS],
+    names: &[u8],
     n: usize,
     out: &mut [u8],
 ) -> StoredTree
     requires { ⌜ (at ≤ length (now s)) × (length (now s) ≤ textMost) × (n ≤ fieldsMost)
-        × Ready (now classes) (now starts) (now shorts) (now words) ⌝ }
+        × Ready (now classes) (now names) ⌝ }
     ensures place { λ r. ⌜ WithinStored (now (s .entry)) (at + 1) at 0 r ⌝ }
-    ensures same { λ r. ⌜ ExprStored (namesOf (now (shorts .entry)) (now (words .entry)) (now (marks .entry)))
+    ensures same { λ r. ⌜ ExprStored (namesIn (now (names .entry)))
         n (now (s .entry)) at k b (held r (now (out .exit))) ⌝ }
 {
     let mut c = no_chain(at);
     loop {
         let from = place_in(c.len, out.len());
-        let a = tree_atom(
-            classes,
-            s,
-            c.next,
-            b,
-            shorts,
-            words,
-            marks,
-            starts,
-            n,
-            &mut out[from..],
-        );
+        let a = tree_atom(classes, s, c.next, b, names, n, &mut out[from..]);
         if a.len == 0 {
             return a;
         }
-        let q = tree_rest(
-            classes,
-            s,
-            a.next,
-            k,
-            b,
-            c,
-            a,
-            shorts,
-            words,
-            marks,
-            starts,
-            n,
-            out,
-        );
+        let q = tree_rest(classes, s, a.next, k, b, c, a, names, n, out);
         if !q.on {
             return q.tree;
         }
@@ -222,17 +174,14 @@ fn tree_rest(
     b: u8,
     c: Chain,
     left: StoredTree,
-    shorts: &[[u8; SHORT_MOST]; FIELDS_MOST],
-    words: &[[u8; SHORT_MOST]; FIELDS_MOST],
-    marks: &[u8; FIELDS_MOST],
-    starts: &[u8; BUCKETS],
+    names: &[u8],
     n: usize,
     out: &mut [u8],
 ) -> Link
     requires { ⌜ (at ≤ length (now s)) × (length (now s) ≤ textMost) × (n ≤ fieldsMost) × (left .next ≡ at)
         × (left .len ≤ 5 * at) × (left .depth ≤ left .len) × (c .len ≤ 5 * textMost) × (c .ops ≤ c .len)
-        × Ready (now classes) (now starts) (now shorts) (now words) ⌝ }
-    ensures { λ r. ⌜ RestMade (namesOf (now (shorts .entry)) (now (words .entry)) (now (marks .entry)))
+        × Ready (now classes) (now names) ⌝ }
+    ensures { λ r. ⌜ RestMade (namesIn (now (names .entry)))
         n (now (s .entry)) at k b c left (now (out .entry)) (now (out .exit)) r ⌝ }
 {
     let mut p = left;
@@ -246,19 +195,7 @@ fn tree_rest(
             return ended(c, p);
         };
         let from = place_in(p.len, out.len());
-        let y = tree_expr(
-            classes,
-            s,
-            end,
-            right,
-            b,
-            shorts,
-            words,
-            marks,
-            starts,
-            n,
-            &mut out[from..],
-        );
+        let y = tree_expr(classes, s, end, right, b, names, n, &mut out[from..]);
         if y.len == 0 {
             return ended(c, y);
         }
@@ -272,30 +209,15 @@ pub(crate) fn stored_tree(
     classes: &[u8; 256],
     s: &[u8],
     at: usize,
-    shorts: &[[u8; SHORT_MOST]; FIELDS_MOST],
-    words: &[[u8; SHORT_MOST]; FIELDS_MOST],
-    marks: &[u8; FIELDS_MOST],
-    starts: &[u8; BUCKETS],
+    names: &[u8],
     n: usize,
     out: &mut [u8],
 ) -> StoredTree
     requires { ⌜ (at ≤ length (now s)) × (length (now s) ≤ textMost) × (n ≤ fieldsMost)
-        × Ready (now classes) (now starts) (now shorts) (now words) ⌝ }
+        × Ready (now classes) (now names) ⌝ }
     ensures place { λ r. ⌜ WithinStored (now (s .entry)) (at + 1) at 0 r ⌝ }
-    ensures same { λ r. ⌜ StoredFor (namesOf (now (shorts .entry)) (now (words .entry)) (now (marks .entry)))
+    ensures same { λ r. ⌜ StoredFor (namesIn (now (names .entry)))
         n (now (s .entry)) (readTree (drop at (now (s .entry)))) (held r (now (out .exit))) ⌝ }
 {
-    tree_expr(
-        classes,
-        s,
-        at,
-        0,
-        OPEN_MOST,
-        shorts,
-        words,
-        marks,
-        starts,
-        n,
-        out,
-    )
+    tree_expr(classes, s, at, 0, OPEN_MOST, names, n, out)
 }

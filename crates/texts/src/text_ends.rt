@@ -28,7 +28,8 @@ ghost use Rattle.text_laws.specs.Lowest.{lower};
 ghost use Rattle.texts.specs.Noted.{noteOf};
 ghost use Rattle.texts.specs.RowPlaces.{rowRoom};
 ghost use Rattle.texts.specs.Slots.{areLabels};
-ghost use Rattle.texts.specs.States.{recordsMost, Room, isTold, earlyNote, rowNote, remainNote, lastNote};
+ghost use Rattle.texts.specs.HeldAreas.{recordsMost};
+ghost use Rattle.texts.specs.States.{Room, isTold, earlyNote, rowNote, remainNote, lastNote};
 ghost use Rattle.texts.specs.States.{TableStep, area, EndStep};
 
 // A refusal as an answer.

@@ -2,7 +2,6 @@
 use crate::kinds::FIXED;
 use crate::kinds::MEASURED;
 use crate::kinds::REST;
-use crate::name_starts::BUCKETS;
 use crate::phrases::starts_at;
 use crate::stored_nodes::no_tree;
 use crate::stored_trees::StoredTree;
@@ -22,8 +21,7 @@ ghost use lib.ListN.{length, drop};
 ghost use Rattle.rules.specs.Limits.{textMost, fieldsMost};
 ghost use Rattle.names.specs.Classes.{classTable};
 ghost use Rattle.text_laws.specs.LineReader.{readMeasure, readWidth};
-ghost use Rattle.texts.specs.HeldNames.{namesOf};
-ghost use Rattle.texts.specs.NameStarts.{Ready};
+ghost use Rattle.texts.specs.HeldNames.{namesIn, Ready};
 ghost use Rattle.texts.specs.PartPlaces.{isUnit};
 ghost use Rattle.texts.specs.HeldParts.{FixedFor, MeasureWithin, MeasureFor, SizedFor};
 
@@ -84,20 +82,17 @@ fn measure_at(
     classes: &[u8; 256],
     s: &[u8],
     at: usize,
-    shorts: &[[u8; SHORT_MOST]; FIELDS_MOST],
-    words: &[[u8; SHORT_MOST]; FIELDS_MOST],
-    marks: &[u8; FIELDS_MOST],
-    starts: &[u8; BUCKETS],
+    names: &[u8],
     n: usize,
     out: &mut [u8],
 ) -> Measure
     requires { ⌜ (at ≤ length (now s)) × (length (now s) ≤ textMost) × (n ≤ fieldsMost)
-        × Ready (now classes) (now starts) (now shorts) (now words) ⌝ }
+        × Ready (now classes) (now names) ⌝ }
     ensures place { λ r. ⌜ MeasureWithin (now (s .entry)) at r ⌝ }
-    ensures same { λ r. ⌜ MeasureFor (namesOf (now (shorts .entry)) (now (words .entry)) (now (marks .entry)))
+    ensures same { λ r. ⌜ MeasureFor (namesIn (now (names .entry)))
         n (now (s .entry)) (readMeasure (drop at (now (s .entry)))) (now (out .exit)) r ⌝ }
 {
-    let t = stored_tree(classes, s, at, shorts, words, marks, starts, n, out);
+    let t = stored_tree(classes, s, at, names, n, out);
     if t.len == 0 {
         return plain(0, 0, 0);
     }
@@ -112,21 +107,18 @@ pub(crate) fn width_at(
     classes: &[u8; 256],
     s: &[u8],
     at: usize,
-    shorts: &[[u8; SHORT_MOST]; FIELDS_MOST],
-    words: &[[u8; SHORT_MOST]; FIELDS_MOST],
-    marks: &[u8; FIELDS_MOST],
-    starts: &[u8; BUCKETS],
+    names: &[u8],
     n: usize,
     out: &mut [u8],
 ) -> Measure
     requires { ⌜ (at ≤ length (now s)) × (length (now s) ≤ textMost) × (n ≤ fieldsMost)
-        × Ready (now classes) (now starts) (now shorts) (now words) ⌝ }
+        × Ready (now classes) (now names) ⌝ }
     ensures place { λ r. ⌜ MeasureWithin (now (s .entry)) at r ⌝ }
-    ensures same { λ r. ⌜ MeasureFor (namesOf (now (shorts .entry)) (now (words .entry)) (now (marks .entry)))
+    ensures same { λ r. ⌜ MeasureFor (namesIn (now (names .entry)))
         n (now (s .entry)) (readWidth (drop at (now (s .entry)))) (now (out .exit)) r ⌝ }
 {
     if starts_at(s, at, b"variable") {
         return plain(REST, 0, at + 8);
     }
-    measure_at(classes, s, at, shorts, words, marks, starts, n, out)
+    measure_at(classes, s, at, names, n, out)
 }

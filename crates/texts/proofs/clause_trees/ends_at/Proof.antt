@@ -22,10 +22,10 @@ add-constraint-at c = search needs
 
 constraint-at-requires : tie.Need-constraint-at-requires
 constraint-at-requires c κs = (
-  c .before .before .before .before .pre .0,
-  c .before .before .before .before .pre .1,
-  omega (arith, c .before .before .before .before .pre .2),
-  c .before .before .before .before .pre .3,
+  c .before .before .before .before .before .pre .0,
+  c .before .before .before .before .before .pre .1,
+  omega (arith, c .before .before .before .before .before .pre .2),
+  c .before .before .before .before .before .pre .3,
 )
 
 wrong-ends-requires : tie.Need-wrong-ends-requires
@@ -36,7 +36,7 @@ same-length c = search needs
 
 returns : tie.Need-returns
 returns c =
-    let a = c .before .before .before .before .before .before .before .before .before .before .before .args in
+    let a = c .before .before .before .before .before .before .before .before .before .before .before .before .args in
     let x = c .before .before .before .before .before .before .constraint-at in
     ends-none _ (a .n) (a .s .now) (a .at) (x .result) _ _ (x .ensures .1) _ (c .wrong-ends .ensures)
     (not-true (x .result .right) (c .before .if1 .taken))
@@ -46,11 +46,11 @@ condition-at-requires c κs =
     let x = c .before .before .before .before .before .before .constraint-at in
     let w = x .ensures .0 (not-false (x .result .right) (c .before .if1 .left)) in (
       w .1,
-      c .before .before .before .before .before .before .before .before .before .before .before .pre .1,
+      c .before .before .before .before .before .before .before .before .before .before .before .before .pre .1,
       omega
-          (arith, c .before .before .before .before .before .before .before .before .before .before .before .pre .2),
+          (arith, c .before .before .before .before .before .before .before .before .before .before .before .before .pre .2),
       c
-          .before .before .before .before .before .before .before .before .before .before .before .pre .3,
+          .before .before .before .before .before .before .before .before .before .before .before .before .pre .3,
     )
 
 wrong-ends-requires-2 : tie.Need-wrong-ends-requires-2
@@ -65,7 +65,7 @@ same-length-3 c = search needs
 returns-2 : tie.Need-returns-2
 returns-2 c =
     let a = c .before .before .before .before .before .before .before .before .before .before .before .before .before
-    .before .before .before .before .before .args in
+    .before .before .before .before .before .before .args in
     let x = c .before .before .before .before .before .before .before .before .before .before .before .before .before
     .constraint-at in
     let y = c .before .before .before .before .before .before .condition-at in
@@ -88,10 +88,10 @@ add-remark-ok c =
     let y = c .before .before .before .before .before .before .before .before .condition-at in
     let w = y .ensures .0 (not-false (y .result .right) (c .before .before .before .if2 .left)) in
     let le : y .result .tree .next ≤ length (c .before .before .before .before .before .before .before .before
-    .before .before .before .before .before .before .before .before .before .before .before .before .args .s .now) =
+    .before .before .before .before .before .before .before .before .before .before .before .before .before .args .s .now) =
     w .1 in
     let m = c .before .before .before .before .before .before .before .before .before .before .before .before .before
-    .before .before .before .before .before .before .before .pre .1 in
+    .before .before .before .before .before .before .before .before .pre .1 in
     search (needs, m)
 
 remark-ok-requires : tie.Need-remark-ok-requires
@@ -99,7 +99,7 @@ remark-ok-requires c κs =
     let y = c .before .before .before .before .before .before .before .before .condition-at in
     let w = y .ensures .0 (not-false (y .result .right) (c .before .before .before .if2 .left)) in
     clause-room (c .before .before .before .before .before .before .before .before .before .before .before .before
-    .before .before .before .before .before .before .before .before .args .s .now) (y .result .tree .next) (w .1)
+    .before .before .before .before .before .before .before .before .before .args .s .now) (y .result .tree .next) (w .1)
     (bytes ".") (sym (c .before .starts-at .ensures) ∙ c .if3 .taken)
 
 same-length-4 : tie.Need-same-length-4
@@ -111,7 +111,7 @@ same-length-5 c = search needs
 returns-3 : tie.Need-returns-3
 returns-3 c =
     let a = c .before .before .before .before .before .before .before .before .before .before .before .before .before
-    .before .before .before .before .before .before .before .before .before .args in
+    .before .before .before .before .before .before .before .before .before .before .args in
     let x = c .before .before .before .before .before .before .before .before .before .before .before .before .before
     .before .before .before .before .constraint-at in
     let y = c .before .before .before .before .before .before .before .before .before .before .condition-at in
@@ -136,7 +136,7 @@ same-length-7 c = search needs
 returns-4 : tie.Need-returns-4
 returns-4 c =
     let a = c .before .before .before .before .before .before .before .before .before .before .before .before .before
-    .before .before .before .before .before .before .before .before .before .before .args in
+    .before .before .before .before .before .before .before .before .before .before .before .args in
     let x = c .before .before .before .before .before .before .before .before .before .before .before .before .before
     .before .before .before .before .before .constraint-at in
     let y = c .before .before .before .before .before .before .before .before .before .before .before .condition-at in
@@ -161,7 +161,7 @@ same-length-9 c = search needs
 returns-5 : tie.Need-returns-5
 returns-5 c =
     let a = c .before .before .before .before .before .before .before .before .before .before .before .before .before
-    .before .before .before .before .before .before .before .before .args in
+    .before .before .before .before .before .before .before .before .before .args in
     let x = c .before .before .before .before .before .before .before .before .before .before .before .before .before
     .before .before .before .constraint-at in
     let y = c .before .before .before .before .before .before .before .before .before .condition-at in

@@ -7,6 +7,7 @@ use borrow.Author.Tests.{not-true, not-false}
 use Rattle.rules.specs.Within.{keepsNames, keepsTypes, keepsRest, nameReadable}
 use Rattle.text_laws.specs.Judging.{faces, showsCell}
 use Rattle.texts.specs.Noted.{noteOf}
+use Rattle.texts.proofs.AreaLaws.{cells-long, names-long, labels-long}
 use Rattle.texts.proofs.FormRules.{names-here, types-are, rest-is, later-is, not-flip}
 use borrow.Author.Needs.{needs}
 use Rattle.texts.proofs.form_rules.later_rule.Statement.{statement}
@@ -21,35 +22,70 @@ use Rattle.texts.proofs.name_clashes.clashes.Reads as clashes-reads
 add-place : tie.Need-add-place
 add-place c = let q = c .before .before .before .pre .1 in search (needs, q)
 
+sub-shows-cell : tie.Need-sub-shows-cell
+sub-shows-cell c = search needs
+
+part-shows-cell-start : tie.Need-part-shows-cell-start
+part-shows-cell-start c = search needs
+
+part-shows-cell-end : tie.Need-part-shows-cell-end
+part-shows-cell-end c = let k = c .before .before .before .pre .4 in omega (arith, k)
+
 shows-cell-requires : tie.Need-shows-cell-requires
-shows-cell-requires c κs =
-    (c .before .before .before .pre .0, c .before .before .before .pre .3, c .before .before .before .pre .4)
+shows-cell-requires c κs = (
+  c .before .before .before .before .pre .0,
+  c .before .before .before .before .pre .3,
+  (let n = cells-long (now (c .before .before .before .before .args .held)) (c .before .before .before .before .pre .4) in omega (arith, n)),
+)
 
 returns : tie.Need-returns
 unfolding noteOf
 returns c =
-    let a = c .before .before .before .before .before .args in (
+    let a = c .before .before .before .before .before .before .args in (
       refl,
-      (λ f x marks v k n s nw e p.
+      (λ f x v k n s nw e p.
           let shown : showsCell (f .cells) (faces (f .judged .fields)) x
           ≡ false = sym (c .before .shows-cell .ensures f x _ v k n s p)
           ∙ not-true (c .before .shows-cell .result) (c .if1 .taken) in
           sym (later-is f (a .r) x n false _ _ _ shown refl refl refl)),
     )
 
+sub-clashes : tie.Need-sub-clashes
+sub-clashes c = search needs
+
+part-clashes-start : tie.Need-part-clashes-start
+part-clashes-start c = search needs
+
+part-clashes-end : tie.Need-part-clashes-end
+part-clashes-end c = let k = c .before .before .before .before .before .before .pre .4 in omega (arith, k)
+
+sub-clashes-2 : tie.Need-sub-clashes-2
+sub-clashes-2 c = search needs
+
+part-clashes-start-2 : tie.Need-part-clashes-start-2
+part-clashes-start-2 c = search needs
+
+part-clashes-end-2 : tie.Need-part-clashes-end-2
+part-clashes-end-2 c = let k = c .before .before .before .before .before .before .before .pre .4 in omega (arith, k)
+
 clashes-requires : tie.Need-clashes-requires
-clashes-requires c κs = let q = c .before .before .before .before .before .pre .2 in omega (arith, q)
+clashes-requires c κs =
+    let held = now (c .before .before .before .before .before .before .before .before .args .held) in (
+      c .before .before .before .before .before .before .before .before .pre .2,
+      (let n = labels-long held (c .before .before .before .before .before .before .before .before .pre .4) in omega (arith, n)),
+      (let n = names-long held (c .before .before .before .before .before .before .before .before .pre .4) in omega (arith, n)),
+    )
 
 returns-2 : tie.Need-returns-2
 unfolding noteOf
 returns-2 c =
-    let a = c .before .before .before .before .before .before .before .args in (
+    let a = c .before .before .before .before .before .before .before .before .before .before .args in (
       refl,
-      (λ f x marks v k n s nw e p.
+      (λ f x v k n s nw e p.
           let shown : showsCell (f .cells) (faces (f .judged .fields)) x
-          ≡ true = sym (c .before .before .before .shows-cell .ensures f x _ v k n s p)
-          ∙ not-false (c .before .before .before .shows-cell .result)
-          (c .before .before .if1 .left) in
+          ≡ true = sym (c .before .before .before .before .before .shows-cell .ensures f x _ v k n s p)
+          ∙ not-false (c .before .before .before .before .before .shows-cell .result)
+          (c .before .before .before .before .if1 .left) in
           let unique : keepsNames (faces (f .judged .fields)) x ≡ false =
           ap not (sym (names-here f k (now (a .line)) x e (a .r) n nw) ∙ sym (c .before .clashes .ensures)
           ∙ c .if2 .taken) in
@@ -62,14 +98,14 @@ types-kept-requires c κs = search needs
 returns-3 : tie.Need-returns-3
 unfolding noteOf
 returns-3 c =
-    let a = c .before .before .before .before .before .before .before .before .before .args in (
+    let a = c .before .before .before .before .before .before .before .before .before .before .before .before .args in (
       refl,
-      (λ f x marks v k n s nw e p.
+      (λ f x v k n s nw e p.
           let shown : showsCell (f .cells) (faces (f .judged .fields)) x
-          ≡ true = sym (c .before .before .before .before .before .shows-cell .ensures f x _ v k n
+          ≡ true = sym (c .before .before .before .before .before .before .before .shows-cell .ensures f x _ v k n
           s p)
-          ∙ not-false (c .before .before .before .before .before .shows-cell .result)
-          (c .before .before .before .before .if1 .left) in
+          ∙ not-false (c .before .before .before .before .before .before .before .shows-cell .result)
+          (c .before .before .before .before .before .before .if1 .left) in
           let unique : keepsNames (faces (f .judged .fields)) x ≡ true =
           ap not (sym (names-here f k (now (a .line)) x e (a .r) n nw)
           ∙ sym (c .before .before .before .clashes .ensures) ∙ c .before .before .if2 .left) in
@@ -86,14 +122,14 @@ misplaced-requires c κs = search needs
 returns-4 : tie.Need-returns-4
 unfolding noteOf
 returns-4 c =
-    let a = c .before .before .before .before .before .before .before .before .before .before .before .args in (
+    let a = c .before .before .before .before .before .before .before .before .before .before .before .before .before .before .args in (
       refl,
-      (λ f x marks v k n s nw e p.
+      (λ f x v k n s nw e p.
           let shown : showsCell (f .cells) (faces (f .judged .fields)) x
-          ≡ true = sym (c .before .before .before .before .before .before .before .shows-cell
+          ≡ true = sym (c .before .before .before .before .before .before .before .before .before .shows-cell
           .ensures f x _ v k n s p) ∙ not-false
-          (c .before .before .before .before .before .before .before .shows-cell .result)
-          (c .before .before .before .before .before .before .if1 .left) in
+          (c .before .before .before .before .before .before .before .before .before .shows-cell .result)
+          (c .before .before .before .before .before .before .before .before .if1 .left) in
           let unique : keepsNames (faces (f .judged .fields)) x ≡ true =
           ap not (sym (names-here f k (now (a .line)) x e (a .r) n nw)
           ∙ sym (c .before .before .before .before .before .clashes .ensures)
@@ -113,14 +149,14 @@ returns-4 c =
 returns-5 : tie.Need-returns-5
 unfolding noteOf
 returns-5 c =
-    let a = c .before .before .before .before .before .before .before .before .before .before .before .args in (
+    let a = c .before .before .before .before .before .before .before .before .before .before .before .before .before .before .args in (
       refl,
-      (λ f x marks v k n s nw e p.
+      (λ f x v k n s nw e p.
           let shown : showsCell (f .cells) (faces (f .judged .fields)) x
-          ≡ true = sym (c .before .before .before .before .before .before .before .shows-cell
+          ≡ true = sym (c .before .before .before .before .before .before .before .before .before .shows-cell
           .ensures f x _ v k n s p) ∙ not-false
-          (c .before .before .before .before .before .before .before .shows-cell .result)
-          (c .before .before .before .before .before .before .if1 .left) in
+          (c .before .before .before .before .before .before .before .before .before .shows-cell .result)
+          (c .before .before .before .before .before .before .before .before .if1 .left) in
           let unique : keepsNames (faces (f .judged .fields)) x ≡ true =
           ap not (sym (names-here f k (now (a .line)) x e (a .r) n nw)
           ∙ sym (c .before .before .before .before .before .clashes .ensures)
@@ -142,8 +178,17 @@ later-rule-spec =
     tie.close
     (tie.spec
     add-place
+    sub-shows-cell
+    part-shows-cell-start
+    part-shows-cell-end
     shows-cell-requires
     returns
+    sub-clashes
+    part-clashes-start
+    part-clashes-end
+    sub-clashes-2
+    part-clashes-start-2
+    part-clashes-end-2
     clashes-requires
     returns-2
     types-kept-requires

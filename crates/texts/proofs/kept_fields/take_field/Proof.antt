@@ -10,11 +10,13 @@ use Rattle.text_laws.specs.LineReader.{readForm}
 use Rattle.text_laws.specs.Judging.{isOpen}
 use Rattle.texts.specs.Noted.{noteOf}
 use Rattle.texts.specs.Changes.{note}
-use Rattle.texts.specs.declared.states.Stage.the-variants as at
 use Rattle.texts.proofs.StateSteps.{taken-onward}
-use Rattle.texts.proofs.FieldSteps.{full-same, holds-full, holds-formless, holds-closed, holds-kept}
+use Rattle.texts.proofs.AreaLaws.{names-long}
+use Rattle.texts.proofs.LineAreas.{named-back, named-room, named-areas, named-holds}
+use Rattle.texts.proofs.FieldSteps.{full-same, holds-full, holds-formless, holds-closed}
 use Rattle.texts.proofs.LineForms.{form-none, form-some, full-room, large-note, shut-six}
 use Rattle.texts.proofs.LineForms.{field-most, line-formed, parts-writable}
+use Rattle.texts.specs.declared.states.Stage.the-variants as at
 use borrow.Author.Needs.{needs}
 use Rattle.texts.proofs.kept_fields.take_field.Statement.{statement}
 use Rattle.texts.proofs.kept_fields.take_field.Tie as tie
@@ -32,29 +34,32 @@ is-full-requires : tie.Need-is-full-requires
 is-full-requires c κs = search needs
 
 too-many-requires : tie.Need-too-many-requires
-too-many-requires c κs =
-    let c1 = c .before .before .before .before .before .before in
-    c1 .pre .0 .1
+too-many-requires c κs = c .before .before .before .before .before .pre .1
 
 returns : tie.Need-returns
 unfolding noteOf
 returns c =
-    let c1 = c .before .before .before .before .before .before .before in
-    let r = c1 .args .r in
+    let r = c .before .before .before .before .before .before .args .r in
     rw (c .too-many .ensures) (
-      taken-onward r at.FieldLine (note 4 0) refl (c1 .pre .0 .0),
+      taken-onward r at.FieldLine (note 4 0) refl (c .before .before .before .before .before .before .pre .0),
       (
-        (
-          refl,
-          (λ f k h. holds-full f r h (now (c1 .args .line))
-              (sym (full-same f r (h .counts)) ∙ sym (c .before .before .is-full .ensures) ∙ c .before .if1 .taken)),
-        ),
-        c1 .pre .1,
+        refl,
+        (λ f k h. holds-full f r h (now (c .before .before .before .before .before .before .args .line))
+            (sym (full-same f r (h .counts)) ∙ sym (c .before .before .is-full .ensures) ∙ c .before .if1 .taken)),
       ),
     )
 
 class-table-requires : tie.Need-class-table-requires
 class-table-requires c κs = search needs
+
+sub-parts-of : tie.Need-sub-parts-of
+sub-parts-of c = search needs
+
+part-parts-of-start : tie.Need-part-parts-of-start
+part-parts-of-start c = search needs
+
+part-parts-of-end : tie.Need-part-parts-of-end
+part-parts-of-end c = let k = c .before .before .before .before .before .before .before .pre .3 in omega (arith, k)
 
 slice-aggregate-parts-of : tie.Need-slice-aggregate-parts-of
 slice-aggregate-parts-of c = search needs
@@ -67,53 +72,45 @@ slice-aggregate-parts-of-3 c = search needs
 
 parts-of-requires : tie.Need-parts-of-requires
 parts-of-requires c κs =
-    let c1 = c .before .before .before .before .before .before .before .before in
-    let c2 = c1 .before in
-    let c3 = c2 .before in
-    let c4 = c3 .before .before .before .before .before in
-    let few = full-room (c4 .args .r) (sym (c3 .is-full .ensures) ∙ c2 .if1 .left) in (
-      c4 .pre .0 .2,
-      omega (
-        arith,
-        few,
-        c4 .pre .0 .0 .fields,
-      ),
-      record { table = c1 .class-table .ensures; names = c4 .pre .1 },
+    let few = full-room (c .before .before .before .before .before .before .before .before .before .before .before .args .r) (sym (c .before .before .before .before .before .before .before .is-full .ensures) ∙ c .before .before .before .before .before .before .if1 .left) in (
+      c .before .before .before .before .before .before .before .before .before .before .before .pre .2,
+      omega (arith, few, c .before .before .before .before .before .before .before .before .before .before .before .pre .0 .fields),
+      record {
+        table = c .before .before .before .before .before .class-table .ensures;
+        room = (let n = names-long (now (c .before .before .before .before .before .before .before .before .before .before .before .args .held)) (c .before .before .before .before .before .before .before .before .before .before .before .pre .3) in omega (arith, n));
+      },
     )
 
 refuse-line-requires : tie.Need-refuse-line-requires
-refuse-line-requires c κs =
-    let c1 = c .before .before .before .before .before .before .before .before .before .before .before .before .before
-    .before .before in
-    let c2 = c1 .before in
-    let c3 = c2 .before .before .before .before .before in (
-      c3 .pre .0 .0,
-      c3 .pre .0 .1,
-      full-room (c3 .args .r) (sym (c2 .is-full .ensures) ∙ c1 .if1 .left),
-      omega arith,
-      omega arith,
-    )
+refuse-line-requires c κs = (
+  c .before .before .before .before .before .before .before .before .before .before .before .before .before .before .before .before .before .before .before .pre .0,
+  c .before .before .before .before .before .before .before .before .before .before .before .before .before .before .before .before .before .before .before .pre .1,
+  full-room (c .before .before .before .before .before .before .before .before .before .before .before .before .before .before .before .before .before .before .before .args .r) (sym (c .before .before .before .before .before .before .before .before .before .before .before .before .before .before .before .is-full .ensures) ∙ c .before .before .before .before .before .before .before .before .before .before .before .before .before .before .if1 .left),
+  omega arith,
+  omega arith,
+)
+
+same-length : tie.Need-same-length
+same-length c =
+    let back = named-back (now (c .before .before .before .before .before .before .before .before .before .before .before .before .before .before .before .before .before .before .before .before .args .held)) (c .before .before .before .before .before .before .before .before .before .before .before .before .before .before .before .before .before .before .before .before .pre .3) (c .before .before .before .before .before .before .before .before .parts-of .ensures .0) (c .before .before .before .before .before .before .before .before .parts-of .kept .1 .1 .0) in
+    search (needs, back)
 
 returns-2 : tie.Need-returns-2
 returns-2 c =
-    let c1 = c .before .before .before .before .before .before in
-    let c2 = c1 .before .before .before .before .before .before .before .before .before .before in
-    let c3 = c2 .before in
-    let c4 = c3 .before .before .before .before .before in
-    let r = c4 .args .r in
-    let l = now (c4 .args .line) in
-    let p = c1 .parts-of .result in
-    let o = c1 .parts-of .ensures in
-    let e = form-none _ (r .fields) l (readForm l) _ p (o .1 .0) (c .before .if2 .taken) in
+    let r = c .before .before .before .before .before .before .before .before .before .before .before .before .before .before .before .before .before .before .before .before .args .r in
+    let l = now (c .before .before .before .before .before .before .before .before .before .before .before .before .before .before .before .before .before .before .before .before .args .line) in
+    let held = now (c .before .before .before .before .before .before .before .before .before .before .before .before .before .before .before .before .before .before .before .before .args .held) in
+    let p = c .before .before .before .before .before .before .before .before .parts-of .result in
+    let o = c .before .before .before .before .before .before .before .before .parts-of .ensures in
+    let same = c .before .before .before .before .before .before .before .before .parts-of .kept .1 .1 .0 in
+    let e = form-none _ (r .fields) l (readForm l) _ p (o .1) (c .before .if2 .taken) in
     let q = c .refuse-line .ensures in (
       q .0,
       (
-        (
-          refl,
-          (λ f k h. rw (q .1 .0) (holds-formless f r (holds-kept f r h (o .0)) l (c .refuse-line .result .note)
-              (sym (full-same f r (h .counts)) ∙ sym (c3 .is-full .ensures) ∙ c2 .if1 .left) e (q .1 .1))),
-        ),
-        c1 .parts-of .ensures .1 .1,
+        named-back held (c .before .before .before .before .before .before .before .before .before .before .before .before .before .before .before .before .before .before .before .before .pre .3) (o .0) same,
+        (λ f k h. rw (q .1 .0) (holds-formless f r (named-holds held (c .before .before .before .before .before .before .before .before .before .before .before .before .before .before .before .before .before .before .before .before .pre .3) (o .0) same f r _ refl h) l
+            (c .refuse-line .result .note)
+            (sym (full-same f r (h .counts)) ∙ sym (c .before .before .before .before .before .before .before .before .before .before .before .before .before .before .before .before .is-full .ensures) ∙ c .before .before .before .before .before .before .before .before .before .before .before .before .before .before .before .if1 .left) e (q .1 .1))),
       ),
     )
 
@@ -131,105 +128,90 @@ slice-aggregate-take-form-3 c = search needs
 
 take-form-requires : tie.Need-take-form-requires
 take-form-requires c κs =
-    let c1 = c .before .before .before .before .before .before .before .before in
-    let c2 = c1 .before in
-    let c3 = c2 .before in
-    let c4 = c3 .before .before .before .before .before in
-    let c5 = c4 .before .before .before .before .before .before .before .before .before .before in
-    let c6 = c5 .before in
-    let c7 = c6 .before .before .before .before .before in
-    let r = c7 .args .r in
-    let l = now (c7 .args .line) in
-    let p = c4 .parts-of .result in
-    let x = form-some _ (r .fields) l (readForm l) _ p (c4 .parts-of .ensures .1 .0) (c3 .if2 .left) in
-    let small = sym (c2 .sizes-kept .ensures _ (r .fields) l
-    (x .0) _ (x .2)) ∙ c1 .if3 .taken in (
-      c7 .pre .0,
-      full-room r (sym (c6 .is-full .ensures) ∙ c5 .if1 .left),
+    let r = c .before .before .before .before .before .before .before .before .before .before .before .before .before .before .before .before .before .before .before .before .before .before .before .before .before .before .args .r in
+    let l = now (c .before .before .before .before .before .before .before .before .before .before .before .before .before .before .before .before .before .before .before .before .before .before .before .before .before .before .args .line) in
+    let held = now (c .before .before .before .before .before .before .before .before .before .before .before .before .before .before .before .before .before .before .before .before .before .before .before .before .before .before .args .held) in
+    let p = c .before .before .before .before .before .before .before .before .before .before .before .before .before .before .parts-of .result in
+    let o = c .before .before .before .before .before .before .before .before .before .before .before .before .before .before .parts-of .ensures in
+    let x = form-some _ (r .fields) l (readForm l) _ p (o .1) (c .before .before .before .before .before .before .before .if2 .left) in
+    let small = sym (c .before .before .before .before .before .before .sizes-kept .ensures _ (r .fields) l (x .0) _ (x .2)) ∙ c .before .before .before .before .before .if3 .taken in (
+      (c .before .before .before .before .before .before .before .before .before .before .before .before .before .before .before .before .before .before .before .before .before .before .before .before .before .before .pre .0, c .before .before .before .before .before .before .before .before .before .before .before .before .before .before .before .before .before .before .before .before .before .before .before .before .before .before .pre .1, c .before .before .before .before .before .before .before .before .before .before .before .before .before .before .before .before .before .before .before .before .before .before .before .before .before .before .pre .2, named-room held (c .before .before .before .before .before .before .before .before .before .before .before .before .before .before .before .before .before .before .before .before .before .before .before .before .before .before .pre .3) (o .0) (c .before .before .before .before .before .before .before .before .before .before .before .before .before .before .parts-of .kept .1 .1 .0)),
+      full-room r (sym (c .before .before .before .before .before .before .before .before .before .before .before .before .before .before .before .before .before .before .before .before .before .before .is-full .ensures) ∙ c .before .before .before .before .before .before .before .before .before .before .before .before .before .before .before .before .before .before .before .before .before .if1 .left),
       (
         parts-writable _ (r .fields) l (x .0) _ p (x .2) small,
         field-most _ (r .fields) l (x .0) _ p (x .2) small (line-formed l (x .0) (x .1)),
         record {
-          width = (let k = c4 .parts-of .kept .1 .1 .1 .1 .1 .1 .1 .0 in omega (arith, k));
-          constraint = (let k = c4 .parts-of .kept .1 .1 .1 .1 .1 .1 .1 .1 .0 in omega (arith, k));
-          condition = (let k = c4 .parts-of .kept .1 .1 .1 .1 .1 .1 .1 .1 .1 .0 in omega (arith, k));
+          width = (let k = c .before .before .before .before .before .before .before .before .before .before .before .before .before .before .parts-of .kept .1 .1 .1 .1 .0 in omega (arith, k));
+          constraint = (let k = c .before .before .before .before .before .before .before .before .before .before .before .before .before .before .parts-of .kept .1 .1 .1 .1 .1 .0 in omega (arith, k));
+          condition = (let k = c .before .before .before .before .before .before .before .before .before .before .before .before .before .before .parts-of .kept .1 .1 .1 .1 .1 .1 .0 in omega (arith, k));
         },
       ),
     )
 
-same-length : tie.Need-same-length
-same-length c = search needs
-
 same-length-2 : tie.Need-same-length-2
-same-length-2 c = search needs
+same-length-2 c =
+    let e = c .before .before .before .before .take-form .ensures .1 .0 in
+    let back = named-back (now (c .before .before .before .before .before .before .before .before .before .before .before .before .before .before .before .before .before .before .before .before .before .before .before .before .before .before .before .before .before .before .before .args .held)) (c .before .before .before .before .before .before .before .before .before .before .before .before .before .before .before .before .before .before .before .before .before .before .before .before .before .before .before .before .before .before .before .pre .3) (c .before .before .before .before .before .before .before .before .before .before .before .before .before .before .before .before .before .before .before .parts-of .ensures .0) (c .before .before .before .before .before .before .before .before .before .before .before .before .before .before .before .before .before .before .before .parts-of .kept .1 .1 .0) in
+    search (needs, back, e)
+
+same-length-3 : tie.Need-same-length-3
+same-length-3 c = search needs
 
 returns-3 : tie.Need-returns-3
 returns-3 c =
-    let c1 = c .before .before .before .before .before .before .before .before .before .before .before .before .before
-    in
-    let c2 = c1 .before in
-    let c3 = c2 .before in
-    let c4 = c3 .before .before .before .before .before in
-    let c5 = c4 .before .before .before .before .before .before .before .before .before .before in
-    let c6 = c5 .before in
-    let c7 = c6 .before .before .before .before .before in
-    let r = c7 .args .r in
-    let l = now (c7 .args .line) in
-    let p = c4 .parts-of .result in
-    let o = c4 .parts-of .ensures in
-    let x = form-some _ (r .fields) l (readForm l) _ p (o .1 .0) (c3 .if2 .left) in
-    let small = sym (c2 .sizes-kept .ensures _ (r .fields) l (x .0) _ (x .2)) ∙ c1 .if3 .taken in
-    let q = c .before .before .before .before .take-form .ensures in (
+    let r = c .before .before .before .before .before .before .before .before .before .before .before .before .before .before .before .before .before .before .before .before .before .before .before .before .before .before .before .before .before .before .before .args .r in
+    let l = now (c .before .before .before .before .before .before .before .before .before .before .before .before .before .before .before .before .before .before .before .before .before .before .before .before .before .before .before .before .before .before .before .args .line) in
+    let held = now (c .before .before .before .before .before .before .before .before .before .before .before .before .before .before .before .before .before .before .before .before .before .before .before .before .before .before .before .before .before .before .before .args .held) in
+    let p = c .before .before .before .before .before .before .before .before .before .before .before .before .before .before .before .before .before .before .before .parts-of .result in
+    let o = c .before .before .before .before .before .before .before .before .before .before .before .before .before .before .before .before .before .before .before .parts-of .ensures in
+    let same = c .before .before .before .before .before .before .before .before .before .before .before .before .before .before .before .before .before .before .before .parts-of .kept .1 .1 .0 in
+    let x = form-some _ (r .fields) l (readForm l) _ p (o .1) (c .before .before .before .before .before .before .before .before .before .before .before .before .if2 .left) in
+    let small = sym (c .before .before .before .before .before .before .before .before .before .before .before .sizes-kept .ensures _ (r .fields) l (x .0) _ (x .2)) ∙ c .before .before .before .before .before .before .before .before .before .before .if3 .taken in
+    let q = c .before .before .before .before .take-form .ensures in
+    let areas = named-areas held (c .before .before .before .before .before .before .before .before .before .before .before .before .before .before .before .before .before .before .before .before .before .before .before .before .before .before .before .before .before .before .before .pre .3) (o .0) same in (
       q .0,
       (
-        (
-          q .1 .0,
-          (λ f k h. q .1 .1 f (x .0) _ k
-              (sym (full-same f r (h .counts)) ∙ sym (c6 .is-full .ensures) ∙ c5 .if1 .left)
-              (holds-kept f r h (o .0)) (x .1) small (x .2)),
-        ),
-        c4 .parts-of .ensures .1 .1,
+        q .1 .0 ∙ named-back held (c .before .before .before .before .before .before .before .before .before .before .before .before .before .before .before .before .before .before .before .before .before .before .before .before .before .before .before .before .before .before .before .pre .3) (o .0) same,
+        (λ f k h. q .1 .1 f (x .0) k
+            (sym (full-same f r (h .counts)) ∙ sym (c .before .before .before .before .before .before .before .before .before .before .before .before .before .before .before .before .before .before .before .before .before .before .before .before .before .before .before .is-full .ensures) ∙ c .before .before .before .before .before .before .before .before .before .before .before .before .before .before .before .before .before .before .before .before .before .before .before .before .before .before .if1 .left)
+            (named-holds held (c .before .before .before .before .before .before .before .before .before .before .before .before .before .before .before .before .before .before .before .before .before .before .before .before .before .before .before .before .before .before .before .pre .3) (o .0) same f r _ refl h) (x .1) small (rw (areas .names-are) (x .2))),
       ),
     )
 
 refuse-line-requires-2 : tie.Need-refuse-line-requires-2
-refuse-line-requires-2 c κs =
-    let c1 = c .before .before .before .before .before .before .before .before .before .before .before .before .before
-    .before .before .before .before in
-    let c2 = c1 .before in
-    let c3 = c2 .before .before .before .before .before in (
-      c3 .pre .0 .0,
-      c3 .pre .0 .1,
-      full-room (c3 .args .r) (sym (c2 .is-full .ensures) ∙ c1 .if1 .left),
-      omega arith,
-      omega arith,
-    )
+refuse-line-requires-2 c κs = (
+  c .before .before .before .before .before .before .before .before .before .before .before .before .before .before .before .before .before .before .before .before .before .pre .0,
+  c .before .before .before .before .before .before .before .before .before .before .before .before .before .before .before .before .before .before .before .before .before .pre .1,
+  full-room (c .before .before .before .before .before .before .before .before .before .before .before .before .before .before .before .before .before .before .before .before .before .args .r) (sym (c .before .before .before .before .before .before .before .before .before .before .before .before .before .before .before .before .before .is-full .ensures) ∙ c .before .before .before .before .before .before .before .before .before .before .before .before .before .before .before .before .if1 .left),
+  omega arith,
+  omega arith,
+)
+
+same-length-4 : tie.Need-same-length-4
+same-length-4 c =
+    let back = named-back (now (c .before .before .before .before .before .before .before .before .before .before .before .before .before .before .before .before .before .before .before .before .before .before .args .held)) (c .before .before .before .before .before .before .before .before .before .before .before .before .before .before .before .before .before .before .before .before .before .before .pre .3) (c .before .before .before .before .before .before .before .before .before .before .parts-of .ensures .0) (c .before .before .before .before .before .before .before .before .before .before .parts-of .kept .1 .1 .0) in
+    search (needs, back)
 
 returns-4 : tie.Need-returns-4
 returns-4 c =
-    let c1 = c .before .before .before in
-    let c2 = c1 .before .before .before .before .before in
-    let c3 = c2 .before .before .before .before .before .before .before .before .before .before in
-    let c4 = c3 .before in
-    let c5 = c4 .before .before .before .before .before in
-    let r = c5 .args .r in
-    let l = now (c5 .args .line) in
-    let p = c2 .parts-of .result in
-    let o = c2 .parts-of .ensures in
-    let x = form-some _ (r .fields) l (readForm l) _ p (o .1 .0) (c1 .if2 .left) in
+    let r = c .before .before .before .before .before .before .before .before .before .before .before .before .before .before .before .before .before .before .before .before .before .before .args .r in
+    let l = now (c .before .before .before .before .before .before .before .before .before .before .before .before .before .before .before .before .before .before .before .before .before .before .args .line) in
+    let held = now (c .before .before .before .before .before .before .before .before .before .before .before .before .before .before .before .before .before .before .before .before .before .before .args .held) in
+    let p = c .before .before .before .before .before .before .before .before .before .before .parts-of .result in
+    let o = c .before .before .before .before .before .before .before .before .before .before .parts-of .ensures in
+    let same = c .before .before .before .before .before .before .before .before .before .before .parts-of .kept .1 .1 .0 in
+    let x = form-some _ (r .fields) l (readForm l) _ p (o .1) (c .before .before .before .if2 .left) in
     let q = c .refuse-line2 .ensures in
     let large : all isSmall (trees (x .0)) ≡ false =
     sym (c .before .before .sizes-kept .ensures _ (r .fields) l (x .0) _ (x .2)) ∙ c .before .if3 .left in (
       q .0,
       (
-        (
-          refl,
-          (λ f k h. rw (q .1 .0) (holds-closed f r (holds-kept f r h (o .0)) l (x .0) (c .refuse-line2 .result .note)
-              (sym (full-same f r (h .counts)) ∙ sym (c4 .is-full .ensures) ∙ c3 .if1 .left) (x .1)
-              (q .1 .1 ∙ large-note f r (x .0) (h .counts) large)
-              (ap isOpen (q .1 .1) ∙ shut-six (noteOf (r .note)) (r .lines + 1)))),
-        ),
-        c2 .parts-of .ensures .1 .1,
+        named-back held (c .before .before .before .before .before .before .before .before .before .before .before .before .before .before .before .before .before .before .before .before .before .before .pre .3) (o .0) same,
+        (λ f k h. rw (q .1 .0) (holds-closed f r (named-holds held (c .before .before .before .before .before .before .before .before .before .before .before .before .before .before .before .before .before .before .before .before .before .before .pre .3) (o .0) same f r _ refl h) l (x .0)
+            (c .refuse-line2 .result .note)
+            (sym (full-same f r (h .counts)) ∙ sym (c .before .before .before .before .before .before .before .before .before .before .before .before .before .before .before .before .before .before .is-full .ensures) ∙ c .before .before .before .before .before .before .before .before .before .before .before .before .before .before .before .before .before .if1 .left) (x .1)
+            (q .1 .1 ∙ large-note f r (x .0) (h .counts) large)
+            (ap isOpen (q .1 .1) ∙ shut-six (noteOf (r .note)) (r .lines + 1)))),
       ),
     )
 
@@ -241,19 +223,24 @@ take-field-spec =
     too-many-requires
     returns
     class-table-requires
+    sub-parts-of
+    part-parts-of-start
+    part-parts-of-end
     slice-aggregate-parts-of
     slice-aggregate-parts-of-2
     slice-aggregate-parts-of-3
     parts-of-requires
     refuse-line-requires
+    same-length
     returns-2
     sizes-kept-requires
     slice-aggregate-take-form
     slice-aggregate-take-form-2
     slice-aggregate-take-form-3
     take-form-requires
-    same-length
     same-length-2
+    same-length-3
     returns-3
     refuse-line-requires-2
+    same-length-4
     returns-4)

@@ -13,8 +13,7 @@ use Rattle.texts.proofs.width_trees.width_at.Reads as width-at-reads
 
 width-at-requires : tie.Need-width-at-requires
 width-at-requires c κs =
-    let c1 = c .before .before .before .before .before .before .before .before .before in
-    (c1 .pre .0, c1 .pre .1, omega (arith, c1 .pre .2), c1 .pre .4)
+    (c .before .before .before .before .before .before .before .pre .0, c .before .before .before .before .before .before .before .pre .1, omega (arith, c .before .before .before .before .before .before .before .pre .2), c .before .before .before .before .before .before .before .pre .4)
 
 no-parts-requires : tie.Need-no-parts-requires
 no-parts-requires c κs = search needs
@@ -22,113 +21,88 @@ no-parts-requires c κs = search needs
 same-length : tie.Need-same-length
 same-length c = search needs
 
+same-length-2 : tie.Need-same-length-2
+same-length-2 c = search needs
+
 returns : tie.Need-returns
 returns c =
-    let c1 = c .before .before .before .before .before in
-    let c2 = c1 .before .before .before .before .before .before .before .before .before .before in
-    let a = c2 .args in
-    let w = c1 .width-at in (
+    let a = c .before .before .before .before .before .before .before .before .before .before .before .before .before .args in
+    let w = c .before .before .before .before .before .width-at in (
       kept-all _ (a .n),
-      (
-        behind-none _ (a .n) (a .s .now) (a .label) (a .short) (a .at) _ _ _ (w .result) (c .no-parts .ensures)
-            (w .ensures .1) (c .before .if1 .taken),
-        c2 .pre .4 .names,
-      ),
+      behind-none _ (a .n) (a .s .now) (a .label) (a .short) (a .at) _ _ _ (w .result) (c .no-parts .ensures)
+          (w .ensures .1) (c .before .if1 .taken),
     )
 
 hold-own-requires : tie.Need-hold-own-requires
 hold-own-requires c κs =
-    let c1 = c .before .before .before .before .before .before .before .before .before .before .before .before
-    .before .before .before .before .before .before in
-    (c1 .pre .3, c1 .pre .2, c1 .pre .4)
+    (c .before .before .before .before .before .before .before .before .before .before .before .before .before .pre .3, c .before .before .before .before .before .before .before .before .before .before .before .before .before .pre .2, c .before .before .before .before .before .before .before .before .before .before .before .before .before .pre .4)
 
 ends-at-requires : tie.Need-ends-at-requires
 ends-at-requires c κs =
-    let c1 = c .before .before .before .before .before .before in
-    let c2 = c1 .before .before .before .before .before in
-    let c3 = c2 .before .before .before .before in
-    let c4 = c3 .before .before .before .before .before .before .before .before .before .before in
-    let w = c3 .width-at .ensures .0 (c2 .if1 .left) in (
+    let w = c .before .before .before .before .before .before .before .before .before .before .before .width-at .ensures .0 (c .before .before .before .before .before .before .before .if1 .left) in (
       w .1,
-      c4 .pre .1,
-      c4 .pre .2,
+      c .before .before .before .before .before .before .before .before .before .before .before .before .before .before .before .before .before .before .before .pre .1,
+      c .before .before .before .before .before .before .before .before .before .before .before .before .before .before .before .before .before .before .before .pre .2,
       record {
-        table = c4 .pre .4 .table;
-        names = c1 .hold-own .ensures .1;
+        table = c .before .before .before .before .before .before .before .before .before .before .before .before .before .before .before .before .before .before .before .pre .4 .table;
+        room = (let k = c .before .before .before .before .before .hold-own .kept .1 .1 .1 .1 .1 .1 .0 in omega (arith, k, c .before .before .before .before .before .before .before .before .before .before .before .before .before .before .before .before .before .before .before .pre .4 .room));
       },
     )
 
 whole-parts-requires : tie.Need-whole-parts-requires
 whole-parts-requires c κs = search needs
 
-same-length-2 : tie.Need-same-length-2
-same-length-2 c =
-    let c1 = c .before .before .before .before .before .before .before .before .before .before .before .before
-    .before .before .before .before .before .before .before .before .before .before in
-    let k = c1 .width-at .kept .1 .1 .1 .1 .1 .1 .1 .1 .0
-    in search (needs, k)
-
 same-length-3 : tie.Need-same-length-3
 same-length-3 c = search needs
 
 same-length-4 : tie.Need-same-length-4
-same-length-4 c = search needs
+same-length-4 c = let k = c .before .before .before .before .before .before .before .before .before .before .before .before .before .before .before .before .before .before .width-at .kept .1 .1 .1 .1 .1 .0 in search (needs, k)
+
+same-length-5 : tie.Need-same-length-5
+same-length-5 c = search needs
+
+same-length-6 : tie.Need-same-length-6
+same-length-6 c = search needs
 
 returns-2 : tie.Need-returns-2
 returns-2 c =
-    let c1 = c .before .before .before .before .before .before in
-    let c2 = c1 .before .before .before .before .before .before .before in
-    let c3 = c2 .before .before .before .before .before in
-    let c4 = c3 .before .before .before .before in
-    let c5 = c4 .before .before .before .before .before .before .before .before .before .before in
-    let a = c5 .args in
-    let w = c4 .width-at in
-    let e = c1 .ends-at in
-    let own = c2 .hold-own .ensures .0 in
-    let x = w .ensures .1 .there (c3 .if1 .left) in
-    let f = c5 .pre .3 in (
+    let a = c .before .before .before .before .before .before .before .before .before .before .before .before .before .before .before .before .before .before .before .before .before .before .before .before .before .before .args in
+    let w = c .before .before .before .before .before .before .before .before .before .before .before .before .before .before .before .before .before .before .width-at in
+    let e = c .before .before .before .before .before .before .ends-at in
+    let own = c .before .before .before .before .before .before .before .before .before .before .before .before .hold-own .ensures in
+    let x = w .ensures .1 .there (c .before .before .before .before .before .before .before .before .before .before .before .before .before .before .if1 .left) in
+    let f = c .before .before .before .before .before .before .before .before .before .before .before .before .before .before .before .before .before .before .before .before .before .before .before .before .before .before .pre .3 in (
       own-kept _ (a .n) (a .s .now) (a .label) (a .short) (w .result .kind) _ own,
-      (
-        rw (c .whole-parts .ensures) (behind-whole _ (a .n) (a .s .now) (a .label) (a .short) (a .at) _ _ (w .result)
-            x (e .result) (e .ensures)
-            (c .before .if2 .taken) (f .0) (f .1) own),
-        c2 .hold-own .ensures .1,
-      ),
+      rw (c .whole-parts .ensures) (behind-whole _ (a .n) (a .s .now) (a .label) (a .short) (a .at) _ _ (w .result)
+          x (e .result) (e .ensures)
+          (c .before .if2 .taken) (f .0) (f .1) own),
     )
 
 no-parts-requires-2 : tie.Need-no-parts-requires-2
 no-parts-requires-2 c κs = search needs
 
-same-length-5 : tie.Need-same-length-5
-same-length-5 c =
-    let c1 = c .before .before .before .before .before .before .before .before .before .before .before .before
-    .before .before .before .before .before .before .before .before .before .before in
-    let k = c1 .width-at .kept .1 .1 .1 .1 .1 .1 .1 .1 .0 in search (needs, k)
-
-same-length-6 : tie.Need-same-length-6
-same-length-6 c = search needs
-
 same-length-7 : tie.Need-same-length-7
 same-length-7 c = search needs
 
+same-length-8 : tie.Need-same-length-8
+same-length-8 c = let k = c .before .before .before .before .before .before .before .before .before .before .before .before .before .before .before .before .before .before .width-at .kept .1 .1 .1 .1 .1 .0 in search (needs, k)
+
+same-length-9 : tie.Need-same-length-9
+same-length-9 c = search needs
+
+same-length-10 : tie.Need-same-length-10
+same-length-10 c = search needs
+
 returns-3 : tie.Need-returns-3
 returns-3 c =
-    let c1 = c .before .before .before .before .before .before in
-    let c2 = c1 .before .before .before .before .before .before .before in
-    let c3 = c2 .before .before .before .before .before in
-    let c4 = c3 .before .before .before .before in
-    let c5 = c4 .before .before .before .before .before .before .before .before .before .before in
-    let a = c5 .args in
-    let w = c4 .width-at in
-    let e = c1 .ends-at in
-    let own = c2 .hold-own .ensures .0 in
-    let x = w .ensures .1 .there (c3 .if1 .left) in (
+    let a = c .before .before .before .before .before .before .before .before .before .before .before .before .before .before .before .before .before .before .before .before .before .before .before .before .before .before .args in
+    let w = c .before .before .before .before .before .before .before .before .before .before .before .before .before .before .before .before .before .before .width-at in
+    let e = c .before .before .before .before .before .before .ends-at in
+    let own = c .before .before .before .before .before .before .before .before .before .before .before .before .hold-own .ensures in
+    let x = w .ensures .1 .there (c .before .before .before .before .before .before .before .before .before .before .before .before .before .before .if1 .left) in (
       own-kept _ (a .n) (a .s .now) (a .label) (a .short) (w .result .kind) _ own,
-      (
-        behind-width _ (a .n) (a .s .now) (a .label) (a .short) (a .at) _ _ (w .result) x (e .result) (e .ensures) _
-            (c .no-parts2 .ensures) (c .before .if2 .left),
-        c2 .hold-own .ensures .1,
-      ),
+      behind-width _ (a .n) (a .s .now) (a .label) (a .short) (a .at) _ _ (w .result) x (e .result) (e .ensures) _
+          (c .no-parts2 .ensures) (c .before .if2 .left),
     )
 
 pub behind-names-spec : {M : Type 1} → statement M
@@ -138,16 +112,19 @@ behind-names-spec =
     width-at-requires
     no-parts-requires
     same-length
+    same-length-2
     returns
     hold-own-requires
     ends-at-requires
     whole-parts-requires
-    same-length-2
     same-length-3
     same-length-4
-    returns-2
-    no-parts-requires-2
     same-length-5
     same-length-6
+    returns-2
+    no-parts-requires-2
     same-length-7
+    same-length-8
+    same-length-9
+    same-length-10
     returns-3)

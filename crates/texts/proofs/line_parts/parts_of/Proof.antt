@@ -19,8 +19,7 @@ use Rattle.texts.proofs.phrases.starts_at.Reads as starts-at-reads
 
 label-at-requires : tie.Need-label-at-requires
 label-at-requires c κs =
-    let c1 = c .before .before .before .before in
-    (omega arith, c1 .pre .2 .table)
+    (omega arith, c .before .before .before .before .before .pre .2 .table)
 
 enum-known-l : tie.Need-enum-known-l
 enum-known-l c = search needs
@@ -33,27 +32,20 @@ no-parts-requires c κs = search needs
 
 returns : tie.Need-returns
 returns c =
-    let c1 = c .before .before .before in
-    let c2 = c1 .before .before .before .before .before in
-    let a = c2 .args in (
+    let a = c .before .before .before .before .before .before .before .before .before .args in (
       kept-all _ _,
-      (
-        parts-no-label _ (a .n) (a .s .now) _ _ (c .no-parts .ensures) (c1 .label-at .ensures .1)
-            (c .before .enum-told .given .1),
-        c2 .pre .2 .names,
-      ),
+      parts-no-label _ (a .n) (a .s .now) _ _ (c .no-parts .ensures) (c .before .before .before .label-at .ensures .1)
+          (c .before .enum-told .given .1),
     )
 
 short-at-requires : tie.Need-short-at-requires
 short-at-requires c κs =
-    let c1 = c .before .before .before in
-    let c2 = c1 .before .before .before .before .before in
-    let a = c2 .args in
+    let a = c .before .before .before .before .before .before .before .before .before .args in
     let s = a .s .now in
-    let f = c1 .label-at in
+    let f = c .before .before .before .label-at in
     let q = c .before .l .given in
     let w = label-within _ _ (q .1) (f .ensures .0) in
-    (w .1, c2 .pre .2 .table)
+    (w .1, c .before .before .before .before .before .before .before .before .before .pre .2 .table)
 
 enum-known-h : tie.Need-enum-known-h
 enum-known-h c = search needs
@@ -66,20 +58,13 @@ no-parts-requires-2 c κs = search needs
 
 returns-2 : tie.Need-returns-2
 returns-2 c =
-    let c1 = c .before .before .before in
-    let c2 = c1 .before .before in
-    let c3 = c2 .before .before in
-    let c4 = c3 .before .before .before .before .before in
-    let a = c4 .args in
-    let f = c3 .label-at in
-    let x = label-as (a .s .now) (f .ensures .1) (c2 .l .given .1) in
-    let g = c1 .short-at in (
+    let a = c .before .before .before .before .before .before .before .before .before .before .before .before .before .args in
+    let f = c .before .before .before .before .before .before .before .label-at in
+    let x = label-as (a .s .now) (f .ensures .1) (c .before .before .before .before .before .l .given .1) in
+    let g = c .before .before .before .short-at in (
       kept-all _ _,
-      (
-        parts-no-short _ (a .n) (a .s .now) _ x _ (c .no-parts2 .ensures) (g .ensures .1)
-            (c .before .enum-told2 .given .1),
-        c4 .pre .2 .names,
-      ),
+      parts-no-short _ (a .n) (a .s .now) _ x _ (c .no-parts2 .ensures) (g .ensures .1)
+          (c .before .enum-told2 .given .1),
     )
 
 slice-aggregate-starts-at : tie.Need-slice-aggregate-starts-at
@@ -87,67 +72,51 @@ slice-aggregate-starts-at c = search needs
 
 starts-at-requires : tie.Need-starts-at-requires
 starts-at-requires c κs =
-    let c1 = c .before .before .before .before in
-    let c2 = c1 .before .before in
-    let c3 = c2 .before .before in
-    let c4 = c3 .before .before .before .before .before in
-    let a = c4 .args in
+    let a = c .before .before .before .before .before .before .before .before .before .before .before .before .before .before .args in
     let s = a .s .now in
-    let f = c3 .label-at in
-    let q = c2 .l .given in
+    let f = c .before .before .before .before .before .before .before .before .label-at in
+    let q = c .before .before .before .before .before .before .l .given in
     let w = label-within _ _ (q .1) (f .ensures .0) in
-    let g = c1 .short-at in
+    let g = c .before .before .before .before .short-at in
     let p = c .before .before .h .given in
     let u = short-within _ _ (p .1) (g .ensures .0) in
     u .3
 
 sub-behind-names : tie.Need-sub-behind-names
 sub-behind-names c =
-    let c1 = c .before .before .before .before in
-    let c2 = c1 .before .before in
-    let g = c2 .short-at in
-    let p = c1 .h .given in
+    let g = c .before .before .before .before .before .before .short-at in
+    let p = c .before .before .before .before .h .given in
     let u = short-within _ _ (p .1) (g .ensures .0) in
     let le = u .1 in
     search (needs, le)
 
 add-behind-names : tie.Need-add-behind-names
 add-behind-names c =
-    let c1 = c .before .before .before .before in
-    let c2 = c1 .before .before in
-    let c3 = c2 .before .before .before .before .before .before .before .before .before in
-    let g = c2 .short-at in
-    let p = c1 .h .given in
+    let g = c .before .before .before .before .before .before .short-at in
+    let p = c .before .before .before .before .h .given in
     let u = short-within _ _ (p .1) (g .ensures .0) in
     let le = u .3 in
-    let m = c3 .pre .0 in
+    let m = c .before .before .before .before .before .before .before .before .before .before .before .before .before .before .before .before .pre .0 in
     search (needs, le, m)
 
 behind-names-requires : tie.Need-behind-names-requires
 behind-names-requires c κs =
-    let c1 = c .before .before .before .before .before .before .before in
-    let c2 = c1 .before in
-    let c3 = c2 .before .before .before in
-    let c4 = c3 .before .before in
-    let c5 = c4 .before .before in
-    let c6 = c5 .before .before in
-    let c7 = c6 .before .before .before .before .before in
-    let a = c7 .args in
+    let a = c .before .before .before .before .before .before .before .before .before .before .before .before .before .before .before .before .before .before .before .before .args in
     let s = a .s .now in
-    let f = c6 .label-at in
-    let q = c5 .l .given in
+    let f = c .before .before .before .before .before .before .before .before .before .before .before .before .before .before .label-at in
+    let q = c .before .before .before .before .before .before .before .before .before .before .before .before .l .given in
     let w = label-within _ _ (q .1) (f .ensures .0) in
-    let g = c4 .short-at in
-    let p = c3 .h .given in
+    let g = c .before .before .before .before .before .before .before .before .before .before .short-at in
+    let p = c .before .before .before .before .before .before .before .before .h .given in
     let u = short-within _ _ (p .1) (g .ensures .0) in
     let n = p .0 .1 .1 .0 in
     let r : n + 2 ≤ length s =
-    clause-room s n (u .3) (bytes ": ") (sym (c2 .starts-at .ensures) ∙ c1 .if1 .taken) in (
+    clause-room s n (u .3) (bytes ": ") (sym (c .before .before .before .before .before .starts-at .ensures) ∙ c .before .before .before .before .if1 .taken) in (
       r,
-      c7 .pre .0,
-      c7 .pre .1,
+      c .before .before .before .before .before .before .before .before .before .before .before .before .before .before .before .before .before .before .before .before .pre .0,
+      c .before .before .before .before .before .before .before .before .before .before .before .before .before .before .before .before .before .before .before .before .pre .1,
       (w .1, omega (arith, u .1, u .2, u .3)),
-      c7 .pre .2,
+      c .before .before .before .before .before .before .before .before .before .before .before .before .before .before .before .before .before .before .before .before .pre .2,
     )
 
 same-length : tie.Need-same-length
@@ -159,54 +128,44 @@ same-length-2 c = search needs
 same-length-3 : tie.Need-same-length-3
 same-length-3 c = search needs
 
+same-length-4 : tie.Need-same-length-4
+same-length-4 c = search needs
+
 returns-3 : tie.Need-returns-3
 returns-3 c =
-    let c1 = c .before .before .before .before .before .before in
-    let c2 = c1 .before .before .before .before .before .before .before .before in
-    let c3 = c2 .before in
-    let c4 = c3 .before .before .before in
-    let c5 = c4 .before .before in
-    let c6 = c5 .before .before in
-    let c7 = c6 .before .before in
-    let c8 = c7 .before .before .before .before .before in
-    let a = c8 .args in
+    let a = c .before .before .before .before .before .before .before .before .before .before .before .before .before .before .before .before .before .before .before .before .before .before .before .before .before .before .before .before .before .args in
     let s = a .s .now in
-    let f = c7 .label-at in
-    let q = c6 .l .given in
+    let f = c .before .before .before .before .before .before .before .before .before .before .before .before .before .before .before .before .before .before .before .before .before .before .before .label-at in
+    let q = c .before .before .before .before .before .before .before .before .before .before .before .before .before .before .before .before .before .before .before .before .before .l .given in
     let w = label-within _ _ (q .1) (f .ensures .0) in
-    let g = c5 .short-at in
-    let p = c4 .h .given in
+    let g = c .before .before .before .before .before .before .before .before .before .before .before .before .before .before .before .before .before .before .before .short-at in
+    let p = c .before .before .before .before .before .before .before .before .before .before .before .before .before .before .before .before .before .h .given in
     let u = short-within _ _ (p .1) (g .ensures .0) in
     let x = label-as s (f .ensures .1) (q .1) in
     let y = short-as s (q .0 .0) (g .ensures .1) (p .1) in
     let le : p .0 .1 .1 .0 ≤ length s = u .3 in
-    let b = c1 .behind-names in
-    let d = sym (c3 .starts-at .ensures) ∙ c2 .if1 .taken in
-    (b .ensures .0, (parts-behind _ (a .n) s _ x y le (b .result) d (b .ensures .1 .0), b .ensures .1 .1))
+    let b = c .before .before .before .before .before .before .before .before .behind-names in
+    let d = sym (c .before .before .before .before .before .before .before .before .before .before .before .before .before .before .starts-at .ensures) ∙ c .before .before .before .before .before .before .before .before .before .before .before .before .before .if1 .taken in
+    (b .ensures .0, parts-behind _ (a .n) s _ x y le (b .result) d (b .ensures .1))
 
 no-parts-requires-3 : tie.Need-no-parts-requires-3
 no-parts-requires-3 c κs = search needs
 
 returns-4 : tie.Need-returns-4
 returns-4 c =
-    let c1 = c .before .before .before .before .before in
-    let c2 = c1 .before .before in
-    let c3 = c2 .before .before in
-    let c4 = c3 .before .before in
-    let c5 = c4 .before .before .before .before .before in
-    let a = c5 .args in
+    let a = c .before .before .before .before .before .before .before .before .before .before .before .before .before .before .before .before .before .args in
     let s = a .s .now in
-    let f = c4 .label-at in
-    let q = c3 .l .given in
+    let f = c .before .before .before .before .before .before .before .before .before .before .before .label-at in
+    let q = c .before .before .before .before .before .before .before .before .before .l .given in
     let w = label-within _ _ (q .1) (f .ensures .0) in
-    let g = c2 .short-at in
-    let p = c1 .h .given in
+    let g = c .before .before .before .before .before .before .before .short-at in
+    let p = c .before .before .before .before .before .h .given in
     let u = short-within _ _ (p .1) (g .ensures .0) in
     let x = label-as s (f .ensures .1) (q .1) in
     let y = short-as s (q .0 .0) (g .ensures .1) (p .1) in
     let le : p .0 .1 .1 .0 ≤ length s = u .3 in
     let d = sym (c .before .before .starts-at .ensures) ∙ c .before .if1 .left in
-    (kept-all _ _, (parts-no-colon _ (a .n) s _ x y le _ (c .no-parts3 .ensures) d, c5 .pre .2 .names))
+    (kept-all _ _, parts-no-colon _ (a .n) s _ x y le _ (c .no-parts3 .ensures) d)
 
 pub parts-of-spec : {M : Type 1} → statement M
 parts-of-spec =
@@ -230,6 +189,7 @@ parts-of-spec =
     same-length
     same-length-2
     same-length-3
+    same-length-4
     returns-3
     no-parts-requires-3
     returns-4)

@@ -17,19 +17,23 @@ returns c = put-none _ _ _ (c .if1 .taken)
 bucket-of-requires : tie.Need-bucket-of-requires
 bucket-of-requires c κs = search needs
 
-element-copy-out-lower-start : tie.Need-element-copy-out-lower-start
-element-copy-out-lower-start c = search needs
+slice-read-lower-start : tie.Need-slice-read-lower-start
+slice-read-lower-start c = search needs
 
 lower-start-requires : tie.Need-lower-start-requires
 lower-start-requires c κs = search needs
 
-element-write-starts : tie.Need-element-write-starts
-element-write-starts c = search needs
+slice-write-starts : tie.Need-slice-write-starts
+slice-write-starts c = search needs
+
+same-length : tie.Need-same-length
+same-length c = search needs
 
 returns-2 : tie.Need-returns-2
 returns-2 c =
-    let c1 = c .before .before .before .before in
-    put-some (now (c1 .args .starts)) _ (c1 .args .i) _ _ (c .before .before .bucket-of .ensures)
+    let c1 = c .before .before .before .before .before in
+    let a = c1 .args in
+    put-some (now (a .starts)) _ (a .i) _ _ (c1 .pre .1) (c .before .before .bucket-of .ensures)
     (c .lower-start .ensures)
 
 pub put-start-spec : {M : Type 1} → statement M
@@ -39,7 +43,8 @@ put-start-spec =
     array-read-if1
     returns
     bucket-of-requires
-    element-copy-out-lower-start
+    slice-read-lower-start
     lower-start-requires
-    element-write-starts
+    slice-write-starts
+    same-length
     returns-2)

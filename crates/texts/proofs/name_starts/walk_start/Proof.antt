@@ -13,16 +13,17 @@ use Rattle.texts.proofs.shown_slots.wide.Reads as wide-reads
 bucket-of-requires : tie.Need-bucket-of-requires
 bucket-of-requires c κs = search needs
 
-element-copy-out-wide : tie.Need-element-copy-out-wide
-element-copy-out-wide c = search needs
+shared-slice-read-wide : tie.Need-shared-slice-read-wide
+shared-slice-read-wide c = search needs
 
 wide-requires : tie.Need-wide-requires
 wide-requires c κs = search needs
 
 returns : tie.Need-returns
 returns c =
-    let starts = now (c .before .before .before .args .starts) in
+    let starts = now (c .before .before .before .before .args .starts) in
     c .wide .ensures .0 ∙ ap (λ (r : ℕ). getD starts r 0) (c .before .before .bucket-of .ensures)
 
 pub walk-start-spec : {M : Type 1} → statement M
-walk-start-spec = tie.close (tie.spec bucket-of-requires element-copy-out-wide wide-requires returns)
+walk-start-spec =
+    tie.close (tie.spec bucket-of-requires shared-slice-read-wide wide-requires returns)

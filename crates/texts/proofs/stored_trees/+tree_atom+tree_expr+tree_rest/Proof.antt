@@ -3,7 +3,7 @@ use native.Mathlib.Omega.{arith}
 use lib.ListN.{length}
 use borrow.Author.Tests.{not-true, not-false}
 use Rattle.rules.specs.Operators.{atomLevel}
-use Rattle.texts.specs.HeldNames.{namesOf}
+use Rattle.texts.specs.HeldNames.{namesIn}
 use Rattle.texts.specs.StoredTrees.{TreeBytes, held}
 use Rattle.texts.specs.StoredPlaces.{MoreStored}
 use Rattle.texts.specs.Chains.{tightestLevel, noChain, ChainStored}
@@ -42,32 +42,32 @@ use Rattle.texts.proofs.stored_trees.tree_leaf.Reads as leaf
 use Rattle.texts.proofs.stored_trees.+tree_atom+tree_expr+tree_rest.{statement}
 use Rattle.texts.proofs.stored_trees.+tree_atom+tree_expr+tree_rest.Tie.{close}
 
-abbrev μ-atom : Measures 7 atom-kinds.ps ℕ
+abbrev μ-atom : Measures 4 atom-kinds.ps ℕ
 μ-atom κs a = 2 * (length (a .1 .0 .now) - a .1 .1 .0) + 0
 
-abbrev μ-expr : Measures 7 expr-kinds.ps ℕ
+abbrev μ-expr : Measures 4 expr-kinds.ps ℕ
 μ-expr κs a = 2 * (length (a .1 .0 .now) - a .1 .1 .0) + 1
 
-abbrev μ-rest : Measures 7 rest-kinds.ps ℕ
+abbrev μ-rest : Measures 4 rest-kinds.ps ℕ
 μ-rest κs a = 2 * (length (a .1 .0 .now) - a .1 .1 .0) + 0
 
-abbrev atom-at : ℕ → In 7 atom-kinds.ps
-atom-at t = and 7 atom-kinds.ps (is 7 atom-kinds.ps μ-atom t) atom.Pre
+abbrev atom-at : ℕ → In 4 atom-kinds.ps
+atom-at t = and 4 atom-kinds.ps (is 4 atom-kinds.ps μ-atom t) atom.Pre
 
-abbrev atom-below : ℕ → In 7 atom-kinds.ps
-atom-below t = and 7 atom-kinds.ps (falls 7 atom-kinds.ps _<_ μ-atom t) atom.Pre
+abbrev atom-below : ℕ → In 4 atom-kinds.ps
+atom-below t = and 4 atom-kinds.ps (falls 4 atom-kinds.ps _<_ μ-atom t) atom.Pre
 
-abbrev expr-at : ℕ → In 7 expr-kinds.ps
-expr-at t = and 7 expr-kinds.ps (is 7 expr-kinds.ps μ-expr t) expr.Pre
+abbrev expr-at : ℕ → In 4 expr-kinds.ps
+expr-at t = and 4 expr-kinds.ps (is 4 expr-kinds.ps μ-expr t) expr.Pre
 
-abbrev expr-below : ℕ → In 7 expr-kinds.ps
-expr-below t = and 7 expr-kinds.ps (falls 7 expr-kinds.ps _<_ μ-expr t) expr.Pre
+abbrev expr-below : ℕ → In 4 expr-kinds.ps
+expr-below t = and 4 expr-kinds.ps (falls 4 expr-kinds.ps _<_ μ-expr t) expr.Pre
 
-abbrev rest-at : ℕ → In 7 rest-kinds.ps
-rest-at t = and 7 rest-kinds.ps (is 7 rest-kinds.ps μ-rest t) rest.Pre
+abbrev rest-at : ℕ → In 4 rest-kinds.ps
+rest-at t = and 4 rest-kinds.ps (is 4 rest-kinds.ps μ-rest t) rest.Pre
 
-abbrev rest-below : ℕ → In 7 rest-kinds.ps
-rest-below t = and 7 rest-kinds.ps (falls 7 rest-kinds.ps _<_ μ-rest t) rest.Pre
+abbrev rest-below : ℕ → In 4 rest-kinds.ps
+rest-below t = and 4 rest-kinds.ps (falls 4 rest-kinds.ps _<_ μ-rest t) rest.Pre
 
 abbrev atom-calls : ℕ → atom-lts.Claims
 atom-calls t = (
@@ -103,23 +103,23 @@ rest-calls t = (
 )
 
 abbrev expr-Inv-loop : expr-lts.InvT-loop
-expr-Inv-loop classes s at k b shorts words marks starts n out₀ c₀ out c =
-    (length out ≡ length out₀) × ChainStored (namesOf shorts words marks) n s at k b c out ×
+expr-Inv-loop classes s at k b names n out₀ c₀ out c =
+    (length out ≡ length out₀) × ChainStored (namesIn names) n s at k b c out ×
     (k < tightestLevel → c ≡ noChain at)
 
 abbrev expr-μ-loop : expr-lts.MeasureT-loop
-expr-μ-loop classes s at k b shorts words marks starts n out₀ c₀ out c = length s - c .next
+expr-μ-loop classes s at k b names n out₀ c₀ out c = length s - c .next
 
 abbrev rest-Inv-loop : rest-lts.InvT-loop
-rest-Inv-loop classes s at k b c shorts words marks starts n out₀ p₀ level₀ out p level =
+rest-Inv-loop classes s at k b c names n out₀ p₀ level₀ out p level =
     (at ≤ p .next) × (p .next ≤ length s) × (p .len + 5 * at ≤ p₀ .len + 5 * p .next) × (p .depth ≤ p .len) ×
     (length out ≡ length out₀) ×
-    ((q : TreeBytes) → MoreStored (namesOf shorts words marks) n s (p .next) k level b (held p out) q
-    → MoreStored (namesOf shorts words marks) n s at k atomLevel b (held p₀ out₀) q) ×
+    ((q : TreeBytes) → MoreStored (namesIn names) n s (p .next) k level b (held p out) q
+    → MoreStored (namesIn names) n s at k atomLevel b (held p₀ out₀) q) ×
     (tightestLevel ≤ k → (p ≡ p₀) × (level ≡ atomLevel) × (out ≡ out₀))
 
 abbrev rest-μ-loop : rest-lts.MeasureT-loop
-rest-μ-loop classes s at k b c shorts words marks starts n out₀ p₀ level₀ out p level = length s - p .next
+rest-μ-loop classes s at k b c names n out₀ p₀ level₀ out p level = length s - p .next
 
 atom-sub-tree-expr : (t : ℕ) → atom-lts.Need-sub-tree-expr (atom-calls t) (atom-at t) atom.Post
 atom-sub-tree-expr t c =
@@ -131,7 +131,7 @@ atom-tree-expr-requires : (t : ℕ) → atom-lts.Need-tree-expr-requires (atom-c
 atom-tree-expr-requires t c κs =
     let c1 = c .before .before in let c2 = c1 .before .before in let c3 = c2 .before .before .before in
     let w = told-in _ _ _ _ _ _ (c1 .start .given .1) (c2 .atom-at .ensures) in
-    (omega (arith, w .0, w .1), (w .1, c3 .pre .1 .1, c3 .pre .1 .2, c3 .pre .1 .3))
+    (omega (arith, w .0, w .1), (w .1, c3 .before .pre .1 .1, c3 .before .pre .1 .2, c3 .before .pre .1 .3))
 
 atom-returns : (t : ℕ) → atom-lts.Need-returns (atom-calls t) (atom-at t) atom.Post
 atom-returns t c =
@@ -140,7 +140,7 @@ atom-returns t c =
     let v = c2 .start .given .0 in
     let w = told-in _ _ _ _ _ _ (c2 .start .given .1) (c3 .atom-at .ensures) in (
       none-within _ _ _ _ _ (c .if1 .taken),
-      atom-fail _ (c4 .args .n) (c4 .args .s .now) (c4 .args .at) (c4 .args .b) (v .0) (v .1 .0) (w .0) (w .1) (w .3)
+      atom-fail _ (c4 .before .args .n) (c4 .before .args .s .now) (c4 .before .args .at) (c4 .before .args .b) (v .0) (v .1 .0) (w .0) (w .1) (w .3)
           _ (c1 .tree-expr .ensures .1) (c .if1 .taken),
     )
 
@@ -149,13 +149,13 @@ atom-tree-closed-requires t c κs =
     let c1 = c .before .before .before .before .before in
     let c2 = c1 .before .before .before .before .before .before .before .before in
     let w = got-within _ _ _ _ _ (c .before .if1 .left) (c1 .tree-expr .ensures .0) in
-    omega (arith, c2 .pre .1 .1, w .1, w .2, w .3)
+    omega (arith, c2 .before .pre .1 .1, w .1, w .2, w .3)
 
 atom-returns-2 : (t : ℕ) → atom-lts.Need-returns-2 (atom-calls t) (atom-at t) atom.Post
 atom-returns-2 t c =
     let c1 = c .before .before .before in let c2 = c1 .before .before .before in (
       none-within _ _ _ _ _ (c .no-tree .ensures),
-      atom-none _ (c2 .args .n) (c2 .args .s .now) (c2 .args .at) (c2 .args .b) _ (told-none _ _ _ _ (c .before
+      atom-none _ (c2 .before .args .n) (c2 .before .args .s .now) (c2 .before .args .at) (c2 .before .args .b) _ (told-none _ _ _ _ (c .before
           .enum-told .given .1) (c1 .atom-at .ensures)) (c .no-tree .ensures),
     )
 
@@ -164,7 +164,7 @@ atom-returns-3 t c =
     let c1 = c .before .before in let c2 = c1 .before .before in let c3 = c2 .before .before in
     let c4 = c3 .before .before .before in (
       c1 .tree-leaf .ensures .0,
-      atom-leaf _ (c4 .args .n) (c4 .args .s .now) (c4 .args .at) (c4 .args .b) _ (told-word _ _ _ _ (c2 .enum-told2
+      atom-leaf _ (c4 .before .args .n) (c4 .before .args .s .now) (c4 .before .args .at) (c4 .before .args .b) _ (told-word _ _ _ _ (c2 .enum-told2
           .given .1) (c3 .atom-at .ensures)) (c1 .tree-leaf .ensures .1),
     )
 
@@ -176,10 +176,10 @@ atom-returns-4 t c =
     let w = told-in _ _ _ _ _ _ (c4 .start .given .1) (c5 .atom-at .ensures) in
     let y = c3 .tree-expr in
     let r = y .result in
-    let g = got-within (c6 .args .s .now) (v .0 + 1) (v .0) 0 r (c2 .if1 .left) (y .ensures .0) in (
-      up-within (c6 .args .s .now) (r .next + 1) (r .next) (r .len) (c6 .args .at + 1) (c6 .args .at) 0 _
+    let g = got-within (c6 .before .args .s .now) (v .0 + 1) (v .0) 0 r (c2 .if1 .left) (y .ensures .0) in (
+      up-within (c6 .before .args .s .now) (r .next + 1) (r .next) (r .len) (c6 .before .args .at + 1) (c6 .before .args .at) 0 _
           (omega (arith, g .0, w .0)) (omega (arith, g .2, w .0)) (c1 .tree-closed .ensures .0),
-      atom-closed _ (c6 .args .n) (c6 .args .s .now) (c6 .args .at) (c6 .args .b) (v .0) (v .1 .0) (w .0) (w .1) (w
+      atom-closed _ (c6 .before .args .n) (c6 .before .args .s .now) (c6 .before .args .at) (c6 .before .args .b) (v .0) (v .1 .0) (w .0) (w .1) (w
           .3) _ (y .ensures .1) (c2 .if1 .left) _
           (c1 .tree-closed .ensures .1),
     )
@@ -187,9 +187,9 @@ atom-returns-4 t c =
 expr-loop-holds : (t : ℕ) → expr-lts.Need-loop-holds (expr-calls t) (expr-at t) expr.Post expr-Inv-loop expr-μ-loop
 expr-loop-holds t c =
     let c1 = c .before .before .before in
-    let a = c1 .args in (
+    let a = c1 .before .args in (
       refl,
-      rw (c .no-chain .ensures) (chain-none _ (a .n) (a .s .now) (a .at) (a .k) (a .b) (a .out .now) (c1 .pre .1 .0)),
+      rw (c .no-chain .ensures) (chain-none _ (a .n) (a .s .now) (a .at) (a .k) (a .b) (a .out .now) (c1 .before .pre .1 .0)),
       λ _. c .no-chain .ensures,
     )
 
@@ -197,11 +197,11 @@ expr-returns : (t : ℕ) → expr-lts.Need-returns (expr-calls t) (expr-at t) ex
 expr-returns t c =
     let c1 = c .before .before .before .before in let c2 = c1 .before .before .before in
     let c3 = c2 .before .before .before .before in
-    let a = c3 .args in
+    let a = c3 .before .args in
     let r = c1 .tree-atom in (
       none-within _ _ _ _ _ (c .if1 .taken),
       chain-fails _ (a .n) (a .s .now) (a .at) (a .k) (a .b) _ _ (c2 .loop .inv .1)
-          (held (r .result) (r .last .1 .1 .1 .1 .1 .1 .1 .1 .1 .0)) _ (r .ensures .1) (c .if1 .taken) (c .if1
+          (held (r .result) (r .last .1 .1 .1 .1 .1 .1 .0)) _ (r .ensures .1) (c .if1 .taken) (c .if1
           .taken),
     )
 
@@ -211,9 +211,9 @@ expr-tree-rest-requires t c κs =
     let c1 = c .before .before .before .before .before in let c2 = c1 .before .before .before in
     let c3 = c2 .before .before .before .before in
     let l = c2 .loop .inv .1 in
-    let p = c3 .pre .1 in
+    let p = c3 .before .pre .1 in
     let w = got-within _ _ _ _ _ (c .before .if1 .left) (c1 .tree-atom .ensures .0) in (
-      omega (arith, l .low, w .0, w .1, c3 .pre .0),
+      omega (arith, l .low, w .0, w .1, c3 .before .pre .0),
       (w .1, p .1, p .2, refl, omega (arith, w .2), w .3, omega (arith, l .grown, l .high, p .1), l .few, p .3),
     )
 
@@ -225,20 +225,20 @@ expr-same-length-2 t c =
     let c4 = c3 .before in
     let l = c4 .loop in
     let r = c2 .tree-atom in
-    let j = joined-part _ (c3 .place-in .result) _ (r .last .1 .1 .1 .1 .1 .1 .1 .1 .1 .0) (c3 .place-in .ensures .0)
-    (c3 .place-in .ensures .1) (r .kept .1 .1 .1 .1 .1 .1 .1 .1 .1 .0) in
-    (c1 .tree-rest .kept .1 .1 .1 .1 .1 .1 .1 .1 .1 .1 .1 .1 .0 ∙ j .long) ∙ l .inv .0
+    let j = joined-part _ (c3 .place-in .result) _ (r .last .1 .1 .1 .1 .1 .1 .0) (c3 .place-in .ensures .0)
+    (c3 .place-in .ensures .1) (r .kept .1 .1 .1 .1 .1 .1 .0) in
+    (c1 .tree-rest .kept .1 .1 .1 .1 .1 .1 .1 .1 .1 .0 ∙ j .long) ∙ l .inv .0
 
 expr-returns-2 : (t : ℕ) → expr-lts.Need-returns-2 (expr-calls t) (expr-at t) expr.Post expr-Inv-loop expr-μ-loop
 expr-returns-2 t c =
     let c1 = c .before .before .before .before .before in let c2 = c1 .before .before in
     let c3 = c2 .before .before .before .before in let c4 = c3 .before .before in let c5 = c4 .before in
     let c6 = c5 .before .before .before .before in
-    let a = c6 .args in
+    let a = c6 .before .args in
     let l = c5 .loop in
     let r = c3 .tree-atom in
     let j = joined-part _ (c4 .place-in .result) _ _ (c4 .place-in .ensures .0) (c4 .place-in .ensures .1)
-    (r .kept .1 .1 .1 .1 .1 .1 .1 .1 .1 .0) in
+    (r .kept .1 .1 .1 .1 .1 .1 .0) in
     rest-whole _ (a .n) (a .s .now) (a .at) (a .k) (a .b) _ _ _ _ (l .inv .1) (l .inv .2) j _ (r .ensures .1)
     (r .ensures .0) (c2 .if1 .left) _ _ (c1 .tree-rest .ensures) (not-true (c1 .tree-rest .result .on) (c .before .if2
     .taken))
@@ -257,13 +257,13 @@ expr-loop-again t c =
     let c1 = c .before .before .before .before .before in let c2 = c1 .before .before in
     let c3 = c2 .before .before .before .before in let c4 = c3 .before .before in let c5 = c4 .before in
     let c6 = c5 .before .before .before .before in
-    let a = c6 .args in
+    let a = c6 .before .args in
     let l = c5 .loop in
     let r = c3 .tree-atom in
     let j = joined-part _ (c4 .place-in .result) _ _ (c4 .place-in .ensures .0) (c4 .place-in .ensures .1)
-    (r .kept .1 .1 .1 .1 .1 .1 .1 .1 .1 .0) in
+    (r .kept .1 .1 .1 .1 .1 .1 .0) in
     let x = c1 .tree-rest .ensures .pushes (not-false (c1 .tree-rest .result .on) (c .before .if2 .left)) in (
-      (c1 .tree-rest .kept .1 .1 .1 .1 .1 .1 .1 .1 .1 .1 .1 .1 .0 ∙ j .long) ∙ l .inv .0,
+      (c1 .tree-rest .kept .1 .1 .1 .1 .1 .1 .1 .1 .1 .0 ∙ j .long) ∙ l .inv .0,
       chain-goes _ (a .n) (a .s .now) (a .at) (a .k) (a .b) (x .0) _ _ _ _ (l .inv .1) j _ (r .ensures .1)
           (r .ensures .0) (c2 .if1 .left) _ _ (x .1),
       λ lt. absurd (omega (arith, lt, x .0)),
@@ -272,8 +272,8 @@ expr-loop-again t c =
 rest-loop-holds : (t : ℕ) → rest-lts.Need-loop-holds (rest-calls t) (rest-at t) rest.Post rest-Inv-loop rest-μ-loop
 rest-loop-holds t c =
     let c1 = c .before .before in
-    let a = c1 .args in
-    let p = c1 .pre .1 in (
+    let a = c1 .before .args in
+    let p = c1 .before .pre .1 in (
       omega (arith, p .3),
       omega (arith, p .0, p .3),
       omega (arith, p .3),
@@ -287,23 +287,23 @@ rest-taken-at-requires : (t : ℕ) → rest-lts.Need-taken-at-requires (rest-cal
     rest-μ-loop
 rest-taken-at-requires t c κs =
     let c1 = c .before .before .before in
-    (c .loop .inv .1, c1 .pre .1 .8 .table)
+    (c .loop .inv .1, c1 .before .pre .1 .8 .table)
 
 rest-next-link-requires : (t : ℕ) → rest-lts.Need-next-link-requires (rest-calls t) (rest-at t) rest.Post
     rest-Inv-loop rest-μ-loop
 rest-next-link-requires t c κs =
     let c1 = c .before .before .before in let c2 = c1 .before .before .before in
     let l = c1 .loop in
-    let p = c2 .pre .1 in
+    let p = c2 .before .pre .1 in
     (p .6, omega (arith, l .inv .1, l .inv .2, p .1, p .4), p .7, l .inv .3)
 
 rest-returns : (t : ℕ) → rest-lts.Need-returns (rest-calls t) (rest-at t) rest.Post rest-Inv-loop rest-μ-loop
 rest-returns t c =
     let c1 = c .before .before in let c2 = c1 .before .before in let c3 = c2 .before in let c4 = c3 .before in
     let c5 = c4 .before .before .before in
-    let a = c5 .args in
+    let a = c5 .before .args in
     let l = c4 .loop in
-    let p = c5 .pre .1 in
+    let p = c5 .before .pre .1 in
     let t = c3 .taken-at in
     rest-link _ (a .n) (a .s .now) (a .at) (a .k) (a .b) (c2 .if1 .taken) (a .c) (a .left) _ _ (p .3) (a .out .now) _
     _ _ _
@@ -313,9 +313,9 @@ rest-returns-2 : (t : ℕ) → rest-lts.Need-returns-2 (rest-calls t) (rest-at t
 rest-returns-2 t c =
     let c1 = c .before .before .before in let c2 = c1 .before in let c3 = c2 .before in
     let c4 = c3 .before .before .before in
-    let a = c4 .args in
+    let a = c4 .before .args in
     let l = c3 .loop in
-    let p = c4 .pre .1 in
+    let p = c4 .before .pre .1 in
     rest-ends _ (a .n) (a .s .now) (a .at) (a .k) (a .b) (omega (arith, c1 .if1 .left)) (a .c) (a .left) (a .out .now)
     _ _ _
     (c .ended .ensures)
@@ -328,9 +328,9 @@ rest-tree-expr-requires : (t : ℕ) → rest-lts.Need-tree-expr-requires (rest-c
 rest-tree-expr-requires t c κs =
     let c1 = c .before .before .before in let c2 = c1 .before .before .before in let c3 = c2 .before in
     let c4 = c3 .before .before .before in
-    let p = c4 .pre .1 in
+    let p = c4 .before .pre .1 in
     let u = is-found _ _ _ _ _ _ _ _ (c1 .g .given .1) (c2 .taken-at .ensures .0) (c2 .taken-at .ensures .1) in
-    (omega (arith, u .low, u .high, c3 .loop .inv .0, c4 .pre .0), (u .high, p .1, p .2, p .8))
+    (omega (arith, u .low, u .high, c3 .loop .inv .0, c4 .before .pre .0), (u .high, p .1, p .2, p .8))
 
 rest-same-length-3 : (t : ℕ) → rest-lts.Need-same-length-3 (rest-calls t) (rest-at t) rest.Post rest-Inv-loop
     rest-μ-loop
@@ -338,9 +338,9 @@ rest-same-length-3 t c =
     let c1 = c .before .before .before .before .before in let c2 = c1 .before .before in
     let c3 = c2 .before .before .before .before .before .before in
     let y = c1 .tree-expr in
-    let j = joined-part _ (c2 .place-in .result) _ (y .last .1 .1 .1 .1 .1 .1 .1 .1 .1 .1 .0) (c2 .place-in .ensures
+    let j = joined-part _ (c2 .place-in .result) _ (y .last .1 .1 .1 .1 .1 .1 .1 .0) (c2 .place-in .ensures
     .0)
-    (c2 .place-in .ensures .1) (y .kept .1 .1 .1 .1 .1 .1 .1 .1 .1 .1 .0) in
+    (c2 .place-in .ensures .1) (y .kept .1 .1 .1 .1 .1 .1 .1 .0) in
     j .long ∙ c3 .loop .inv .4
 
 rest-returns-3 : (t : ℕ) → rest-lts.Need-returns-3 (rest-calls t) (rest-at t) rest.Post rest-Inv-loop rest-μ-loop
@@ -348,7 +348,7 @@ rest-returns-3 t c =
     let c1 = c .before .before .before .before .before in let c2 = c1 .before .before .before .before in
     let c3 = c2 .before .before in let c4 = c3 .before in let c5 = c4 .before in
     let c6 = c5 .before .before .before in
-    let a = c6 .args in
+    let a = c6 .before .args in
     let l = c5 .loop in
     let v = c2 .g .given .0 in
     let u = is-found _ _ _ _ _ _ _ _ (c2 .g .given .1) (c4 .taken-at .ensures .0) (c4 .taken-at .ensures .1) in
@@ -365,7 +365,7 @@ rest-two-node-requires : (t : ℕ) → rest-lts.Need-two-node-requires (rest-cal
 rest-two-node-requires t c κs =
     let c1 = c .before .before .before .before .before in let c2 = c1 .before .before .before .before in
     let c3 = c2 .before .before .before in let c4 = c3 .before in let c5 = c4 .before .before .before in
-    let p = c5 .pre .1 in
+    let p = c5 .before .pre .1 in
     let l = c4 .loop in
     let u = is-found _ _ _ _ _ _ _ _ (c2 .g .given .1) (c3 .taken-at .ensures .0) (c3 .taken-at .ensures .1) in
     let w = got-within _ _ _ _ _ (c .before .if2 .left) (c1 .tree-expr .ensures .0) in
@@ -385,7 +385,7 @@ rest-loop-again t c =
     let c1 = c .before .before in let c2 = c1 .before .before in let c3 = c2 .before .before .before .before in
     let c4 = c3 .before .before in let c5 = c4 .before .before in let c6 = c5 .before .before in
     let c7 = c6 .before in let c8 = c7 .before in let c9 = c8 .before .before .before in
-    let a = c9 .args in
+    let a = c9 .before .args in
     let l = c8 .loop in
     let v = c5 .g .given .0 in
     let u = is-found _ _ _ _ _ _ _ _ (c5 .g .given .1) (c7 .taken-at .ensures .0) (c7 .taken-at .ensures .1) in
@@ -395,7 +395,7 @@ rest-loop-again t c =
     let t = c1 .two-node in
     let m = t .ensures in
     let j = joined-part _ (c4 .place-in .result) _ _ (c4 .place-in .ensures .0) (c4 .place-in .ensures .1)
-    (y .kept .1 .1 .1 .1 .1 .1 .1 .1 .1 .1 .0) in (
+    (y .kept .1 .1 .1 .1 .1 .1 .1 .0) in (
       omega (arith, m .next, l .inv .0, u .low, w .0),
       omega (arith, m .next, w .1),
       omega (arith, m .next, m .len, l .inv .2, u .low, w .0, w .2),

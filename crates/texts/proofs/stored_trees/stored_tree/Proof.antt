@@ -14,7 +14,7 @@ same-length c = search needs
 
 returns : tie.Need-returns
 returns c =
-    let a = c .before .before .before .before .before .before .args in (
+    let a = c .before .before .before .before .before .before .before .args in (
       c .before .before .tree-expr .ensures .0,
       whole-stored _ (a .n) (a .s .now) (a .at) _ (c .before
           .before .tree-expr .ensures .1),

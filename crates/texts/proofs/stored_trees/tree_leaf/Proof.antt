@@ -23,7 +23,7 @@ use Rattle.texts.proofs.stored_nodes.no_tree.Reads as no-tree-reads
 use Rattle.texts.proofs.stored_nodes.number_node.Reads as number-node-reads
 
 word-end-requires : tie.Need-word-end-requires
-word-end-requires c κs = (c .before .before .pre .0, c .before .before .pre .2 .table)
+word-end-requires c κs = (c .before .before .before .pre .0, c .before .before .before .pre .2 .table)
 
 sub-is-short-word : tie.Need-sub-is-short-word
 sub-is-short-word c = search needs
@@ -36,11 +36,10 @@ part-is-short-word-end c = search needs
 
 is-short-word-requires : tie.Need-is-short-word-requires
 is-short-word-requires c κs =
-    let c1 = c .before .before .before .before in
-    let a = c1 .args in
+    let a = c .before .before .before .before .before .args in
     let w = c .before .word-end .ensures in
     let is = word-part (now (a .s)) (a .at) (c .before .word-end .result) (w .0 .0) (w .0 .1) (w .1) in
-    (rw is (all-word _), c1 .pre .2 .table)
+    (rw is (all-word _), c .before .before .before .before .before .pre .2 .table)
 
 sub-look-up : tie.Need-sub-look-up
 sub-look-up c = search needs
@@ -53,8 +52,7 @@ part-look-up-end c = search needs
 
 look-up-requires : tie.Need-look-up-requires
 look-up-requires c κs =
-    let c1 = c .before .before .before .before .before .before .before in
-    (c1 .pre .1, c1 .pre .2 .names, sym (c .before .before .is-short-word .ensures) ∙ c .before .if1 .taken)
+    (c .before .before .before .before .before .before .before .before .pre .1, c .before .before .before .before .before .before .before .before .pre .2 .room, sym (c .before .before .is-short-word .ensures) ∙ c .before .if1 .taken)
 
 field-node-requires : tie.Need-field-node-requires
 field-node-requires c κs = search needs
@@ -64,19 +62,14 @@ same-length c = search needs
 
 returns : tie.Need-returns
 returns c =
-    let c1 = c .before .before .before .before in
-    let c2 = c1 .before .before in
-    let c3 = c2 .before in
-    let c4 = c3 .before .before in
-    let c5 = c4 .before .before .before in
-    let a = c5 .args in
+    let a = c .before .before .before .before .before .before .before .before .before .before .before .before .before .args in
     let s = now (a .s) in
-    let end = c4 .word-end .result in
-    let w = c4 .word-end .ensures in
+    let end = c .before .before .before .before .before .before .before .before .before .word-end .result in
+    let w = c .before .before .before .before .before .before .before .before .before .word-end .ensures in
     let word = take (end - a .at) (drop (a .at) s) in
     let y : isShort word ≡ true =
-    sym (c3 .is-short-word .ensures) ∙ c2 .if1 .taken in
-    leaf-name _ (a .n) s (a .at) end (w .0 .0) (w .0 .1) (w .1) _ _ _ y (c1 .look-up .ensures .1)
+    sym (c .before .before .before .before .before .before .before .is-short-word .ensures) ∙ c .before .before .before .before .before .before .if1 .taken in
+    leaf-name _ (a .n) s (a .at) end (w .0 .0) (w .0 .1) (w .1) _ _ _ y (c .before .before .before .before .look-up .ensures .1)
     (c .before .before .field-node .ensures)
 
 sub-is-number : tie.Need-sub-is-number
@@ -90,8 +83,7 @@ part-is-number-end c = search needs
 
 is-number-requires : tie.Need-is-number-requires
 is-number-requires c κs =
-    let c1 = c .before .before .before .before .before .before .before in
-    c1 .pre .2 .table
+    c .before .before .before .before .before .before .before .before .pre .2 .table
 
 sub-word-value : tie.Need-sub-word-value
 sub-word-value c = search needs
@@ -104,8 +96,7 @@ part-word-value-end c = search needs
 
 word-value-requires : tie.Need-word-value-requires
 word-value-requires c κs =
-    let c1 = c .before .before .before .before .before .before .before .before .before .before in
-    c1 .pre .2 .table
+    c .before .before .before .before .before .before .before .before .before .before .before .pre .2 .table
 
 number-node-requires : tie.Need-number-node-requires
 number-node-requires c κs = search needs
@@ -115,41 +106,30 @@ same-length-2 c = search needs
 
 returns-2 : tie.Need-returns-2
 returns-2 c =
-    let c1 = c .before .before .before .before in
-    let c2 = c1 .before .before in
-    let c3 = c2 .before in
-    let c4 = c3 .before .before in
-    let c5 = c4 .before in
-    let c6 = c5 .before .before in
-    let c7 = c6 .before .before .before in
-    let a = c7 .args in
+    let a = c .before .before .before .before .before .before .before .before .before .before .before .before .before .before .before .before .args in
     let s = now (a .s) in
-    let end = c6 .word-end .result in
-    let w = c6 .word-end .ensures in
+    let end = c .before .before .before .before .before .before .before .before .before .before .before .before .word-end .result in
+    let w = c .before .before .before .before .before .before .before .before .before .before .before .before .word-end .ensures in
     let word = take (end - a .at) (drop (a .at) s) in
     let k : isShort word ≡ false =
-    sym (c5 .is-short-word .ensures) ∙ c4 .if1 .left in
-    let y : isNumberWord word ≡ true = sym (c3 .is-number
-    .ensures) ∙ c2 .if2 .taken in
+    sym (c .before .before .before .before .before .before .before .before .before .before .is-short-word .ensures) ∙ c .before .before .before .before .before .before .before .before .before .if1 .left in
+    let y : isNumberWord word ≡ true = sym (c .before .before .before .before .before .before .before .is-number
+    .ensures) ∙ c .before .before .before .before .before .before .if2 .taken in
     leaf-number _ (a .n) s (a .at) end (w .0 .0) (w .0 .1) (w .1) _ _ _ k y
-    (c1 .word-value .ensures .1) (c .before .before .number-node .ensures)
+    (c .before .before .before .before .word-value .ensures .1) (c .before .before .number-node .ensures)
 
 no-tree-requires : tie.Need-no-tree-requires
 no-tree-requires c κs = search needs
 
 returns-3 : tie.Need-returns-3
 returns-3 c =
-    let c1 = c .before .before .before .before in
-    let c2 = c1 .before in
-    let c3 = c2 .before .before in
-    let c4 = c3 .before .before .before in
-    let a = c4 .args in
+    let a = c .before .before .before .before .before .before .before .before .before .before .before .args in
     let s = now (a .s) in
-    let end = c3 .word-end .result in
-    let w = c3 .word-end .ensures in
+    let end = c .before .before .before .before .before .before .before .word-end .result in
+    let w = c .before .before .before .before .before .before .before .word-end .ensures in
     let word = take (end - a .at) (drop (a .at) s) in
     let k : isShort word ≡ false =
-    sym (c2 .is-short-word .ensures) ∙ c1 .if1 .left in
+    sym (c .before .before .before .before .before .is-short-word .ensures) ∙ c .before .before .before .before .if1 .left in
     let y : isNumberWord word ≡ false = sym (c .before .before .is-number .ensures) ∙ c .before .if2 .left in
     leaf-none _ (a .n) s (a .at) end (w .0 .0) (w .0 .1) (w .1) _ _ k y (c .no-tree .ensures)
 

@@ -23,7 +23,7 @@ same-length c = search needs
 
 returns : tie.Need-returns
 returns c =
-    let a = c .before .before .before .before .before .before .before .before .before .args in
+    let a = c .before .before .before .before .before .before .before .before .before .before .args in
     let t = c .before .before .before .before .before .stored-tree in
     measure-fail _ (a .n) (a .s .now) (a .at) (t .result) _ (t .ensures .1) _ (c .plain .ensures) (c
     .before .if1 .taken)
@@ -33,7 +33,7 @@ unit-behind-requires c κs =
     let t = c .before .before .before .before .stored-tree in (
       got-within _ _ _ _ (t .result) (c .if1 .left) (t .ensures .0) .1,
       c .before .before .before .before .before
-          .before .before .before .pre .3 .table,
+          .before .before .before .before .pre .3 .table,
     )
 
 enum-told : tie.Need-enum-told
@@ -55,9 +55,9 @@ sized-requires c κs =
       omega (arith, w .0, v .0),
       v .1,
       bits-unit (c .before .before .before .before .before .before .before .before
-          .before .before .before .before .args .s .now) (t .result .next) _ (h .1) (p .1),
+          .before .before .before .before .before .args .s .now) (t .result .next) _ (h .1) (p .1),
       c .before .before .before
-          .before .before .before .before .before .before .before .before .before .pre .3 .table,
+          .before .before .before .before .before .before .before .before .before .before .pre .3 .table,
     )
 
 same-length-2 : tie.Need-same-length-2
@@ -65,7 +65,7 @@ same-length-2 c = search needs
 
 returns-2 : tie.Need-returns-2
 returns-2 c =
-    let a = c .before .before .before .before .before .before .before .before .before .before .before .before .args in
+    let a = c .before .before .before .before .before .before .before .before .before .before .before .before .before .args in
     let t = c .before .before .before .before .before .before .before .before .stored-tree in
     let h = c .before .before .before .unit-behind .ensures in
     let m = bits-none (a .s .now) (t .result .next) _ (h .1) (c .before .enum-told .given .1) in
@@ -77,8 +77,7 @@ same-length-3 c = search needs
 
 returns-3 : tie.Need-returns-3
 returns-3 c =
-    let a = c .before .before .before .before .before .before .before .before .before .before .before .before .before
-    .args in
+    let a = c .before .before .before .before .before .before .before .before .before .before .before .before .before .before .args in
     let t = c .before .before .before .before .before .before .before .before .before .stored-tree in
     let p = c .before .before .b .given in
     let h = c .before .before .before .before .unit-behind .ensures in
