@@ -2,11 +2,13 @@
 
    Link libumarekoza.a (x86-64 Linux). Numbers, places and bytes are those of document 01 with the rows, limits, names,
    operators and field records that document 02 gives; 29, for a zero divisor, 30, for a name, an index or a run that
-   no field has and for records of no bytes, 31, for a field that is still read, and 34, for fields that do not go together, are 02's.
+   no field has and for records of no bytes, 31, for a field that is still read, and 34, for fields that do not go
+   together, are 02's.
 
    Each function has a proved promise, which holds for all bytes and lengths: it settles the answer, and what every
    lent buffer holds afterwards. A buffer that is not written is left as it was, and so is any byte beyond what is
-   written. What writes begins at the start of its buffer. Nothing is kept between calls, and no memory is allocated.
+   written. What writes begins at the start of its buffer. Nothing is kept between calls, but for a state that the
+   caller lends, and no memory is allocated.
 
    No promise covers the caller's side:
    - each pointer is valid for its length (in bytes; for a run in numbers), and a run is aligned as uint32_t is;
@@ -27,8 +29,10 @@ extern "C" {
 
 #define UMAREKOZA_VERSION "0.1.0"
 
-/* The limits of documents 01 and 02 that a caller meets: bytes of a text, fields, bytes of a packet. */
+/* The limits of documents 01 and 02 that a caller meets: bytes of a text, bytes of a line without its LF, fields, bytes
+   of a packet. */
 #define UMAREKOZA_TEXT_MOST 16384
+#define UMAREKOZA_LINE_MOST 1024
 #define UMAREKOZA_FIELDS_MOST 128
 #define UMAREKOZA_PACKET_MOST 8191
 
@@ -36,6 +40,9 @@ extern "C" {
 #define UMAREKOZA_RUN_MOST 512
 #define UMAREKOZA_TABLE_MOST 54582
 #define UMAREKOZA_LISTING_MOST 7947
+
+/* What is kept of a text between its pieces takes a state of so many bytes. */
+#define UMAREKOZA_STATE_BYTES 70411
 
 /* Number 0: accepted, with place 0 and a length. Else refused: the number and place of the refusal, and length 0. */
 struct umarekoza_answer {
@@ -115,20 +122,20 @@ struct umarekoza_answer umarekoza_count_readers(const uint8_t *table, size_t tab
 struct umarekoza_answer umarekoza_convert_table(const uint8_t *table, size_t table_len, uint8_t *out, size_t out_len);
 
 /* Writes the table of a good one without a run of its fields at the start of out, from the index first to the index
-   last, both from 0 and both of the run: the fields behind it get lower indexes, and each reference to one of these becomes that
-   to its new index. Accepted: the new table's length. Refused: 21 at 0 (the table), 30 at 0 if first is over last or
-   last is no field's index, 31 at the first field outside the run that reads one in it, counted from 1 by the numbering
-   of the table as it is, 34 at 0 if the fields that are left make no good table for another reason (none is left, or
-   their widths do not fit the rows), 11 at 0 if the new table does not fit. Then out is unchanged. */
+   last, both from 0 and both of the run: the fields behind it get lower indexes, and each reference to one of these
+   becomes that to its new index. Accepted: the new table's length. Refused: 21 at 0 (the table), 30 at 0 if first is
+   over last or last is no field's index, 31 at the first field outside the run that reads one in it, counted from 1 by
+   the numbering of the table as it is, 34 at 0 if the fields that are left make no good table for another reason (none
+   is left, or their widths do not fit the rows), 11 at 0 if the new table does not fit. Then out is unchanged. */
 struct umarekoza_answer umarekoza_cut_fields(const uint8_t *table, size_t table_len, size_t first, size_t last,
                                              uint8_t *out, size_t out_len);
 
 /* Writes the table of a good one with further fields at the start of out: those of the records, which are whole ones of
    kinds 12, 13 and 14, one behind the other and nothing else, before the field of the index, from 0, or behind the last
-   one where the index is the number of fields. The fields from the index on get higher ones, and each reference to one of
-   these becomes that to its new index. References in the records are by the numbering of the new table; the numbers of
-   readers in them may be any, and the new table has the right ones. Accepted: the new table's length. Refused: 21 at 0
-   (the table), 30 at 0 if records_len is 0 or the index is over the number of fields, 34 at 0 if the records are not
+   one where the index is the number of fields. The fields from the index on get higher ones, and each reference to one
+   of these becomes that to its new index. References in the records are by the numbering of the new table; the numbers
+   of readers in them may be any, and the new table has the right ones. Accepted: the new table's length. Refused: 21 at
+   0 (the table), 30 at 0 if records_len is 0 or the index is over the number of fields, 34 at 0 if the records are not
    such ones or the fields make no good table together, 11 at 0 if the new table does not fit. Then out is unchanged.
    Cutting out what was put in gives the bytes of the old table again, if there is room. */
 struct umarekoza_answer umarekoza_put_fields(const uint8_t *table, size_t table_len, size_t index,
@@ -139,6 +146,60 @@ struct umarekoza_answer umarekoza_put_fields(const uint8_t *table, size_t table_
    accepted, and count is the number of these fields. 21, 22 and 23: count 0, and run is unchanged. */
 struct umarekoza_partial umarekoza_read_partly(const uint8_t *table, size_t table_len, const uint8_t *packet,
                                                size_t packet_len, uint32_t *run, size_t run_len);
+
+/* A text in pieces: umarekoza_text_start once, umarekoza_text_piece for each piece, umarekoza_text_end. Pieces are cut
+   anywhere, within a line too, and may have no bytes. A state has UMAREKOZA_STATE_BYTES bytes, or more, of which the
+   first so many are used; a shorter one stays as it is, and its end is refused by 11 at 0.
+
+   What is kept, so that a caller can store a state between two pieces, send it and go on elsewhere. It has the same
+   bytes on every machine: no pointer, and numbers of one byte, or of two with the lesser first, whatever the order that
+   a machine has for its own.
+
+   byte   what
+   0-1    bytes of the text so far; 16385 if there are more than a text may have
+   2-3    bytes of the unfinished line
+   4-5    whole lines
+   6      the stage, which line is to come: 0 the first, 1 the empty line behind it, 2 and 3 the rulers, 4 the border
+          below them, 5 the first row's first line, 6 a further line of the open row or its border, 7 a row's first line
+          or the empty line behind the rows, 8 `where:`, 9 the empty line behind it, 10 the first field line, 11 a
+          further one, 12 none: a 2 or a 3 was found
+   7      W
+   8      length of NAME
+   9      lines of the open row
+   10     cells
+   11     field lines
+   12     fields that are kept
+   13     whether the rest field is one of them
+   14-15  where the cells end, from their start
+   16-17  where the cell of the next field stands, from there too
+   18-19  where NAME and the records end, from their start
+   20     number of the lowest refusal so far, but for 1, which bytes 0-1 tell; 0: none
+   21     0
+   22-23  its place
+   from 24 (1024)      the unfinished line
+   from 1048 (260)     the lines of the open row, 4 of 65
+   from 1308 (256)     how often each field is read, 128 numbers of two bytes
+   from 1564 (5959)    the cells, one behind the other: 1 in a row of colons, else 0; bits; length of the text; the text
+   from 7523 (3200)    the names of the fields: 1024 bytes by which they are found, 128 short names of 8 bytes, 128
+                       labels of 8 that may be read as names, 128 marks, 1 for a fixed field
+   from 10723 (5120)   their labels, 128 of 40 bytes
+   from 15843 (54568)  NAME and the records, those of the table but for their numbers of readers, which are 0
+
+   A name or label has zeros behind it; one that is not there is zeros. Behind the unfinished line, and behind the lines
+   of the open row, their parts have zeros. Of the other parts, bytes beyond what their numbers count mean nothing.
+
+   A state that no such pieces left may get any answer, but a refusal still changes no byte of out, and nothing is ever
+   written but the state and, where a text is accepted, its table. */
+
+/* Leaves in the state what is kept of the text of no bytes: the same bytes, whatever it held. */
+void umarekoza_text_start(uint8_t *state, size_t state_len);
+
+/* Takes the next bytes of the text; none leave any state as it is. */
+void umarekoza_text_piece(uint8_t *state, size_t state_len, const uint8_t *piece, size_t piece_len);
+
+/* Ends the text: from a fresh start, with each state handed on as it came, the answer and what is written to out are
+   those of umarekoza_write_table for the joined text. The state is not changed, so that more pieces may follow. */
+struct umarekoza_answer umarekoza_text_end(const uint8_t *state, size_t state_len, uint8_t *out, size_t out_len);
 
 #ifdef __cplusplus
 }

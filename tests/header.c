@@ -1,6 +1,6 @@
 /* The header as a C program sees it: the sizes, and each function with an accepted and a refused answer and with NULL
    and length 0 for each buffer. Texts, tables, packets and answers are those of document 01, numbers 29 and 30 those of
-   02. Fields cut out and put in: edits.c. */
+   02. Fields cut out and put in: edits.c; texts in pieces: pieces.c. */
 #include "cases.h"
 
 static const char tag[] =

@@ -1,13 +1,15 @@
 """The requests of crates/runs on texts, with their answers: the Tag and the blade report of document 01, a TCP header
 and a QUIC long header, with outputs that are exactly long enough, too short and longer; texts of as many fields as may
-be, and of more, of rows of several lines too; and those of the vectors.
+be, and of more, of rows of several lines too; texts with a line as long as may be, and longer; and those of the
+vectors.
 """
 from runs import BLADE, TAG, both, field, fixed, full, full_table, measured, number, packed, spelled, stored, table, tcp
 
-VECTORS = ("base2", "large", "r1", "r5", "spelled", "edge", "mutated", "r10", "r2", "r7")
-# So many texts of each group are taken, the shortest, and the longest accepted one: of r1.tsv, of r5.tsv, of
-# r2.tsv, of r7.tsv and of the others.
+VECTORS = ("base2", "large", "r9", "r1", "r5", "spelled", "edge", "mutated", "r10", "r2", "r7")
+# So many texts of each group are taken, the shortest, and the longest accepted one: of r9.tsv, r1.tsv, r5.tsv, r2.tsv,
+# r7.tsv and of the others.
 TAKEN_OF = {
+    "r9": {"ok": 4, "refused 3": 12, "refused 2": 2, "refused 5": 2},
     "r1": {"ok": 40, "many": 4, "refused 3": 70, "refused 7": 8, "refused 4": 4, "refused 11": 4},
     "r5": {"ok": 18, "many": 5},
     "r2": {"refused 8": 16, "refused 9": 8, "refused 5": 8, "refused 11": 4},
@@ -183,6 +185,19 @@ def flags():
         yield "text 57344 %s" % flags_text(rows).hex(), "refused %d %d" % (number, line)
 
 
+# The Tag with a remark that makes its last line, line 11, so long; and the same with a byte that is not allowed, with a
+# wrong line above it, and without its LF.
+def long_lines():
+    for n in (1023, 1024, 1025, 1026):
+        text = whole(TAG_TEXT)[:-1] + b" "
+        text += b"x" * (n - len(text.split(b"\n")[-1])) + b"\n"
+        due = "ok " + TAG.hex() if n <= 1024 else "refused 3 11"
+        yield "text %d %s" % (len(TAG), text.hex()), due
+    yield "text 57344 %s" % text.replace(b"xx\n", b"x\t\n").hex(), "refused 2 0"
+    yield "text 57344 %s" % text.replace(b"\nwhere", b"where", 1).hex(), "refused 3 8"
+    yield "text 57344 %s" % text[:-1].hex(), "refused 3 11"
+
+
 # Texts of 64, 65 and 128 fields, and of 129 cells or lines.
 def limits():
     for n in (64, 65, 128):
@@ -192,6 +207,7 @@ def limits():
     for cells, lines in ((129, 129), (129, 128), (128, 129), (129, 1), (1, 129)):
         yield "text 57344 %s" % full_text(cells, lines).hex(), "refused 4 0"
     yield from flags()
+    yield from long_lines()
 
 
 # `ok`, or `refused N`; of over 64 fields `many`.

@@ -52,6 +52,17 @@ impl Case {
         Case::new(&name, page, vec![0xA5; fields / 8])
     }
 
+    /// `fields` fields of a byte, four in a row, each told on a line as short as may be.
+    pub fn short(fields: usize) -> Self {
+        let names: Vec<String> = (0..fields).map(|field| format!("F{field}")).collect();
+        let cells = |four: &[String]| row(&four.iter().map(|name| (name.as_str(), 8)).collect::<Vec<_>>());
+        let rows: Vec<String> = names.chunks(4).map(cells).collect();
+        let told: String = names.iter().map(|name| format!("{name}: 1 byte.\n")).collect();
+        let page = page(&rows, &told);
+        let name = format!("{fields} fields on short lines, {} bytes of text", page.len());
+        Case::new(&name, page, vec![0x5A; fields])
+    }
+
     /// A packet of `length` bytes, nearly all of them in one measured field.
     pub fn long(length: usize) -> Self {
         let rows = [row(&[("Length", 16), ("Blade", 16)]), row_of("Samples"), row(&[("Sum", 32)])];
@@ -113,6 +124,7 @@ mod tests {
     #[test]
     fn cases_are_accepted() {
         let mut cases = vec![Case::blade(), Case::alone(FIELDS_MOST), Case::flags(FIELDS_MOST)];
+        cases.push(Case::short(FIELDS_MOST));
         for doubling in 0..5 {
             cases.push(Case::constrained(8 << doubling, 1024 << doubling));
             cases.push(Case::long((512 << doubling).min(PACKET_MOST)));

@@ -1,5 +1,6 @@
 //! Prints how long the library takes against the model and against a plain C reader, how its times grow as
-//! sizes double, what cutting fields out and putting them in takes, and what looking up names takes.
+//! sizes double, what cutting fields out and putting them in takes, what texts in pieces take, and what looking up
+//! names takes.
 //! UMAREKOZA_ROUNDS is the number of rounds, 21 if not set. Where another library is linked (UMAREKOZA_BEFORE_DIR),
 //! prints the ratios to its times too.
 
@@ -12,6 +13,7 @@ mod edits;
 mod folder;
 mod libraries;
 mod lookups;
+mod pieces;
 mod reader;
 mod rounds;
 mod tables;
@@ -38,6 +40,7 @@ fn main() {
     println!("\nGrowth of the library's times as sizes double; 2 is linear.\n");
     growth(rounds);
     edits::print(rounds);
+    pieces::print(rounds);
     if let Some(before) = &BEFORE {
         println!("\nAgainst the library of UMAREKOZA_BEFORE_DIR.\n");
         against(before, rounds);

@@ -21,10 +21,7 @@ pub fn run(inputs: &[Input], deep: bool, sort: Sort, json: bool) -> Result<Statu
     let progress = Progress::new("files", Some(found.len()));
     for found in found {
         progress.step();
-        let read = found.and_then(|input| match input.bytes() {
-            Ok(bytes) => Ok(Source { input, bytes, sort }),
-            Err(why) => Err((input, why)),
-        });
+        let read = found.and_then(|input| Source::read(input.clone(), sort).map_err(|why| (input, why)));
         match read {
             Ok(source) => tally.check(&source)?,
             Err((input, why)) => tally.fail(&input, &why)?,

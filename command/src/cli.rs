@@ -11,7 +11,8 @@ pub const NOTES: [&str; 5] = [
     "SOURCE is a page or a table: a file whose first byte is `A` is a page, any other a table; --page and --table say \
      it outright.",
     "FIELD is a label, a short name or, where no field has that name, an index from 0.",
-    "A folder stands for the regular files in it, in the order of their names. `-` is standard input.",
+    "A folder stands for the regular files in it, in the order of their names. `-` is standard input; a page is read \
+     from there as it comes, piece by piece.",
     "Standard output has what was asked for: the listing or `refused N at P`, an object of JSON, a field's bytes. \
      Explanations go to standard error.",
     "Exit status: 0 accepted, 1 refused, 2 wrong arguments, or a file that cannot be read or written.",

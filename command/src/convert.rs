@@ -10,6 +10,6 @@ use std::path::Path;
 pub fn run(old: &Input, table: Option<&Path>) -> Result<Status, Failure> {
     let source = SourceName { input: old.clone(), sort: Sort::Table }.read()?;
     not_to_a_terminal(table)?;
-    let converted = umarekoza::converted(&source.bytes);
+    let converted = umarekoza::converted(source.start());
     deliver(converted, table, |refusal| explain::conversion(&source, refusal))
 }

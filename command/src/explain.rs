@@ -10,7 +10,7 @@ use crate::packets::Name;
 use crate::sources::Source;
 use std::ffi::OsStr;
 use umarekoza::{Field, Refusal};
-use umarekoza_hints::{cut_hint, packet_hint, page_hint, put_hint, EditHint, Hint, Verdict};
+use umarekoza_hints::{cut_hint, length_hint, packet_hint, page_hint, put_hint, EditHint, Hint, Verdict};
 
 /// What is said of a table that is good no longer, and how to mend it.
 pub const OLD: &str = "this is an old table: its records do not keep how often a field is read";
@@ -20,7 +20,7 @@ const CONVERT: &str = "`umarekoza convert OLD -o TABLE` makes a new one of it";
 pub fn source(source: &Source, refusal: Refusal) {
     let place = source.input.to_string();
     draw(&match () {
-        () if source.is_page() => page(&place, &source.bytes, refusal),
+        () if source.is_page() => page_of(source, &place, refusal),
         () if source.is_old() => bare(place, refusal, OLD, vec![CONVERT.to_string()]),
         () => meaning(place, refusal, source.doubt().into_iter().collect()),
     });
@@ -29,7 +29,7 @@ pub fn source(source: &Source, refusal: Refusal) {
 /// Explains why a table is not converted.
 pub fn conversion(source: &Source, refusal: Refusal) {
     let why = match () {
-        () if source.bytes.first() == Some(&b'A') => {
+        () if source.start().first() == Some(&b'A') => {
             "it begins as a page does: `umarekoza table PAGE -o TABLE` writes the table of a page"
         }
         () if source.table().is_ok() => "it is a good table as it is: there is nothing to convert",
@@ -48,9 +48,22 @@ fn bare(place: String, refusal: Refusal, message: &str, notes: Vec<String>) -> T
     Told { number, message, place, mark: None, notes, below: Vec::new() }
 }
 
-/// What is said of a refused page: the hint, whose column is 0 where it has no more than the number's meaning.
+/// What is said of a refused page; of one that is not kept whole, that it is too long.
+fn page_of(source: &Source, name: &str, refusal: Refusal) -> Told {
+    let (start, length) = (source.start(), source.length());
+    if refusal.number == 1 && length > start.len() as u64 {
+        return hinted(name, start, length_hint(length));
+    }
+    page(name, start, refusal)
+}
+
+/// What is said of a refused page of these bytes.
 fn page(name: &str, bytes: &[u8], refusal: Refusal) -> Told {
-    let hint = page_hint(bytes, verdict(refusal));
+    hinted(name, bytes, page_hint(bytes, verdict(refusal)))
+}
+
+/// A hint, whose column is 0 where it has no more than the number's meaning.
+fn hinted(name: &str, bytes: &[u8], hint: Hint) -> Told {
     let (text, meant) = hint.shown_line(bytes);
     let Hint { number, line, column, message, label, notes, also, .. } = hint;
     let place = if line == 0 { name.to_string() } else { format!("{name}:{line}") };

@@ -1,4 +1,4 @@
-//! Files and standard input, read whole.
+//! Files and standard input, read whole, line by line, or part by part as it comes.
 
 use crate::{names, standard};
 use std::ffi::OsStr;
@@ -9,6 +9,7 @@ use std::path::{Path, PathBuf};
 
 /// No file of more bytes than this is read, and no longer line.
 const MOST_BYTES: u64 = 64 << 20;
+const TOO_LARGE: &str = "too large to be read";
 
 #[derive(Clone, PartialEq, Eq, PartialOrd, Ord)]
 pub enum Input {
@@ -49,7 +50,24 @@ impl Input {
         let mut bytes = Vec::new();
         let read = self.reader().and_then(|reader| reader.take(MOST_BYTES + 1).read_to_end(&mut bytes));
         read.map_err(|error| reason(&error))?;
-        fitting(bytes, "too large to be read")
+        fitting(bytes, TOO_LARGE)
+    }
+
+    /// Hands on its parts, each as one call of the system reads it, or says why they cannot be read.
+    pub fn each_part(&self, mut take: impl FnMut(&[u8]) -> Result<(), String>) -> Result<(), String> {
+        let mut reader = self.reader().map_err(|error| reason(&error))?;
+        loop {
+            let part = match reader.fill_buf() {
+                Err(error) if error.kind() == io::ErrorKind::Interrupted => continue,
+                part => part.map_err(|error| reason(&error))?,
+            };
+            let length = part.len();
+            if length == 0 {
+                return Ok(());
+            }
+            take(part)?;
+            reader.consume(length);
+        }
     }
 
     /// Its lines, without their ends, each as soon as it is there.
@@ -79,6 +97,13 @@ fn line(reader: &mut dyn BufRead) -> Result<Option<Vec<u8>>, String> {
         line.pop();
     }
     Ok(Some(line))
+}
+
+/// Adds a part to the bytes before it.
+pub fn add(bytes: &mut Vec<u8>, part: &[u8]) -> Result<(), String> {
+    bytes.extend_from_slice(part);
+    *bytes = fitting(std::mem::take(bytes), TOO_LARGE)?;
+    Ok(())
 }
 
 fn fitting(bytes: Vec<u8>, what: &str) -> Result<Vec<u8>, String> {

@@ -2,12 +2,12 @@
 //! packet is accepted is the library's answer alone.
 //!
 //! `cli` has the verbs and options, and `requests` reads a command line by them. `inputs` reads files, `folders`
-//! what is in folders, `sources` pages and tables, `packets` packets, `hex` and `dump` those that are written in
-//! hexadecimal. `table`, `read`, `bytes`, `check`, `watch`, `readers`, `cut`, `put`, `convert` and `numbers` are the
-//! verbs, `man` and clap_complete make the man page and the completions. `edits` is what `cut` and `put` share,
-//! `changes` says what they change, `records` has the fields of a table as they are put in. `explain` says what a
-//! refusal means, `draw` draws that, `json` says answers for programs, `fields` finds fields, `names` shows names.
-//! `outputs` and `replace` write results, with `progress` beside them.
+//! what is in folders, `sources` pages and tables, `fed` pages as they come, `packets` packets, `hex` and `dump`
+//! those that are written in hexadecimal. `table`, `read`, `bytes`, `check`, `watch`, `readers`, `cut`, `put`,
+//! `convert` and `numbers` are the verbs, `man` and clap_complete make the man page and the completions. `edits` is
+//! what `cut` and `put` share, `changes` says what they change, `records` has the fields of a table as they are put
+//! in. `explain` says what a refusal means, `draw` draws that, `json` says answers for programs, `fields` finds
+//! fields, `names` shows names. `outputs` and `replace` write results, with `progress` beside them.
 
 mod bytes;
 mod changes;
@@ -19,6 +19,7 @@ mod draw;
 mod dump;
 mod edits;
 mod explain;
+mod fed;
 mod fields;
 mod folders;
 mod hex;

@@ -14,7 +14,7 @@ pub fn run(page: &Input, table: Option<&Path>) -> Result<Status, Failure> {
     let source = SourceName { input: page.clone(), sort: Sort::Page }.read()?;
     not_to_its_page(&source, table)?;
     not_to_a_terminal(table)?;
-    deliver(umarekoza::table_of(&source.bytes), table, |refusal| explain::source(&source, refusal))
+    deliver(source.table(), table, |refusal| explain::source(&source, refusal))
 }
 
 /// Fails where a table would take the place of a page that it is made of.

@@ -2,7 +2,7 @@
 
 use crate::inputs::Input;
 use crate::outputs::complain;
-use crate::sources::{Sort, Source};
+use crate::sources::{Bytes, Sort, Source};
 use crate::{check, json, outputs, Failure, Status};
 use notify::{Event, RecommendedWatcher, RecursiveMode, Watcher};
 use std::fs;
@@ -38,7 +38,10 @@ pub fn run(files: &[Input], sort: Sort, json: bool) -> Result<Status, Failure> {
 fn tell(input: &Input, read: &Result<Vec<u8>, String>, sort: Sort, json: bool) -> Result<Status, Failure> {
     let sort = if sort == Sort::Table { sort } else { Sort::Page };
     match read {
-        Ok(bytes) => check::tell(&Source { input: input.clone(), bytes: bytes.clone(), sort }, json),
+        Ok(bytes) => {
+            let bytes = Bytes::Whole(bytes.clone());
+            check::tell(&Source { input: input.clone(), bytes, sort }, json)
+        }
         Err(why) => {
             complain(&format!("{input}: {why}"));
             let failed = json.then(|| json::failed(&input.name().to_string_lossy(), why));

@@ -14,6 +14,8 @@ mod field_lines;
 mod fields;
 #[path = "../../hints/tests/hints/frames.rs"]
 mod frames;
+#[path = "../../hints/tests/hints/lengths.rs"]
+mod lengths;
 #[path = "../../hints/tests/hints/names.rs"]
 mod names;
 #[path = "../../hints/tests/hints/rows.rs"]

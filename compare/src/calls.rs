@@ -19,11 +19,13 @@ pub struct Calls {
     exports: Exports,
     pub rng: Rng,
     pub tally: Tally,
+    /// The bytes of a state that was started, once one was.
+    pub(crate) fresh: Vec<u8>,
 }
 
 impl Calls {
     pub fn new(exports: Exports, seed: u64) -> Self {
-        Calls { exports, rng: Rng::new(seed), tally: Tally::default() }
+        Calls { exports, rng: Rng::new(seed), tally: Tally::default(), fresh: Vec::new() }
     }
 
     /// The length is the table's.
@@ -212,16 +214,20 @@ impl Calls {
         self.counted(found, format_args!("read_partly to {run_len}"))
     }
 
-    fn lent(&mut self, bytes: &[u8]) -> Lent<u8> {
+    pub fn exports(&self) -> &Exports {
+        &self.exports
+    }
+
+    pub fn lent(&mut self, bytes: &[u8]) -> Lent<u8> {
         Lent::holding(&mut self.rng, bytes)
     }
 
-    fn room<T: Unit>(&mut self, length: usize) -> Lent<T> {
+    pub fn room<T: Unit>(&mut self, length: usize) -> Lent<T> {
         Lent::random(&mut self.rng, length)
     }
 
     /// The answer that is due, with the length that goes with an acceptance.
-    fn due<T>(&mut self, due: &Settled<T>, length: impl Fn(&T) -> u64) -> Answer {
+    pub fn due<T>(&mut self, due: &Settled<T>, length: impl Fn(&T) -> u64) -> Answer {
         let answer = match due {
             Ok(accepted) => Answer { number: 0, place: 0, length: length(accepted) },
             Err(Refusal { number, place }) => Answer { number: *number, place: *place, length: 0 },
@@ -230,7 +236,7 @@ impl Calls {
         answer
     }
 
-    fn counted(&mut self, found: Result<(), Wrong>, call: Arguments<'_>) -> Result<(), Wrong> {
+    pub fn counted(&mut self, found: Result<(), Wrong>, call: Arguments<'_>) -> Result<(), Wrong> {
         found.map_err(|wrong| format!("{call}: the library {wrong}"))?;
         self.tally.comparisons += 1;
         Ok(())
@@ -241,7 +247,7 @@ fn span((start, length): (usize, usize)) -> Span {
     Span { offset: start as u64, length: length as u64 }
 }
 
-fn same<T: PartialEq + Debug>(answer: T, due: T) -> Result<(), Wrong> {
+pub fn same<T: PartialEq + Debug>(answer: T, due: T) -> Result<(), Wrong> {
     if answer == due {
         return Ok(());
     }
@@ -249,14 +255,14 @@ fn same<T: PartialEq + Debug>(answer: T, due: T) -> Result<(), Wrong> {
 }
 
 /// What was to be written stands at the start of the output, and nothing else has changed; after a refusal nothing.
-fn wrote<T: Unit>(out: &Lent<T>, due: Result<&[T], &Refusal>) -> Result<(), Wrong> {
+pub fn wrote<T: Unit>(out: &Lent<T>, due: Result<&[T], &Refusal>) -> Result<(), Wrong> {
     if out.has_only(due.unwrap_or_default()) {
         return Ok(());
     }
     Err("wrote something else than is due, or changed something beyond it".to_string())
 }
 
-fn kept(lent: &[&Lent<u8>]) -> Result<(), Wrong> {
+pub fn kept(lent: &[&Lent<u8>]) -> Result<(), Wrong> {
     if lent.iter().all(|lent| lent.is_untouched()) {
         return Ok(());
     }

@@ -27,7 +27,7 @@ impl Case {
         if rng.one_in(4) {
             return Case::edit(rng);
         }
-        if rng.one_in(120) {
+        if rng.one_in(30) {
             let (table, packet) = tail(rng);
             return Case::Packet { table, packet };
         }

@@ -4,7 +4,7 @@ use crate::calls::{Calls, Settled, Wrong};
 use crate::cases::Case;
 use umarekoza::{FIELDS_MOST, LISTING_MOST, RUN_MOST, TABLE_MOST};
 use umarekoza_model as model;
-use umarekoza_model::generate::{records, Cut, Put, Rng};
+use umarekoza_model::generate::{every_cut, pieces, random_pieces, records, Cut, Put, Rng};
 
 /// What is due where an output is shorter than what is written there.
 const TOO_SHORT: Settled<Vec<u8>> = Err(model::Refusal { number: 11, place: 0 });
@@ -31,7 +31,41 @@ pub fn compare(calls: &mut Calls, case: &Case) -> Result<(), Wrong> {
 
 fn compare_text(calls: &mut Calls, text: &[u8]) -> Result<(), Wrong> {
     let fits = model::write_table(text, usize::MAX);
-    each_room(calls, &fits, |calls, room, due| calls.write_table(text, room, due))
+    each_room(calls, &fits, |calls, room, due| calls.write_table(text, room, due))?;
+    compare_pieces(calls, text, &fits)
+}
+
+/// The text in pieces, which are cut as the text and what was lent before tell, a short one at every place too; and
+/// states that no pieces leave.
+fn compare_pieces(calls: &mut Calls, text: &[u8], fits: &Settled<Vec<u8>>) -> Result<(), Wrong> {
+    for pieces in [pieces(&mut calls.rng, text), random_pieces(&mut calls.rng, text)] {
+        let (room, due) = piece_room(&mut calls.rng, fits);
+        calls.pieces(&pieces, room, due)?;
+        if calls.rng.one_in(8) {
+            calls.any_state(&pieces)?;
+        }
+    }
+    let cuttings = every_cut(text);
+    if !cuttings.is_empty() {
+        let room = fits.as_ref().map_or(0, Vec::len) + calls.rng.below(100);
+        calls.cuttings(&cuttings, room, fits)?;
+    }
+    if calls.rng.one_in(20) {
+        calls.short_state(text)?;
+    }
+    Ok(())
+}
+
+/// The length of an output for a text in pieces, and what is due with it where `fits` is due with room enough.
+fn piece_room<'a>(rng: &mut Rng, fits: &'a Settled<Vec<u8>>) -> (usize, &'a Settled<Vec<u8>>) {
+    let needed = fits.as_ref().map_or(0, Vec::len);
+    let room = match rng.below(6) {
+        0 => needed.saturating_sub(1),
+        1 => needed,
+        2 => TABLE_MOST,
+        _ => needed + rng.below(100),
+    };
+    (room, if fits.is_ok() && room < needed { &TOO_SHORT } else { fits })
 }
 
 /// Calls with outputs of several lengths, and with what is due for each where `fits` is due with room enough.

@@ -40,6 +40,8 @@ type Name = unsafe extern "C" fn(*const u8, usize, usize) -> Span;
 type Kind = unsafe extern "C" fn(*const u8, usize, usize) -> Answer;
 type Cut = unsafe extern "C" fn(*const u8, usize, usize, usize, *mut u8, usize) -> Answer;
 type Put = unsafe extern "C" fn(*const u8, usize, usize, *const u8, usize, *mut u8, usize) -> Answer;
+type Start = unsafe extern "C" fn(*mut u8, usize);
+type Piece = unsafe extern "C" fn(*mut u8, usize, *const u8, usize);
 type ReadPartly = unsafe extern "C" fn(*const u8, usize, *const u8, usize, *mut u32, usize) -> Partial;
 
 /// The functions that are compared with the model.
@@ -60,6 +62,9 @@ pub struct Exports {
     pub cut_fields: Cut,
     pub put_fields: Put,
     pub read_partly: ReadPartly,
+    pub text_start: Start,
+    pub text_piece: Piece,
+    pub text_end: Write,
 }
 
 /// Those of the library.
@@ -79,6 +84,9 @@ pub const LIBRARY: Exports = Exports {
     cut_fields: umarekoza_cut_fields,
     put_fields: umarekoza_put_fields,
     read_partly: umarekoza_read_partly,
+    text_start: umarekoza_text_start,
+    text_piece: umarekoza_text_piece,
+    text_end: umarekoza_text_end,
 };
 
 #[rustfmt::skip]
@@ -104,4 +112,7 @@ extern "C" {
                             records: *const u8, records_len: usize, out: *mut u8, out_len: usize) -> Answer;
     fn umarekoza_read_partly(table: *const u8, table_len: usize, packet: *const u8, packet_len: usize,
                              run: *mut u32, run_len: usize) -> Partial;
+    fn umarekoza_text_start(state: *mut u8, state_len: usize);
+    fn umarekoza_text_piece(state: *mut u8, state_len: usize, piece: *const u8, piece_len: usize);
+    fn umarekoza_text_end(state: *const u8, state_len: usize, out: *mut u8, out_len: usize) -> Answer;
 }

@@ -64,6 +64,28 @@ impl<T: Unit> Lent<T> {
             && self.now[end..] == self.before[end..]
     }
 
+    /// Whether all behind the first `count` numbers, and the guards, are as they were.
+    pub fn is_kept_behind(&self, count: usize) -> bool {
+        let end = GUARDS + count;
+        self.now[..GUARDS] == self.before[..GUARDS] && self.now[end..] == self.before[end..]
+    }
+
+    /// What the slice holds now.
+    pub fn held(&self) -> &[T] {
+        &self.now[GUARDS..self.now.len() - GUARDS]
+    }
+
+    /// The slice holds `held` now, from its start on.
+    pub fn hold(&mut self, held: &[T]) {
+        self.now[GUARDS..GUARDS + held.len()].copy_from_slice(held);
+    }
+
+    /// What the slice holds now counts as what it held at first.
+    pub fn settle(&mut self, count: usize) {
+        let part = GUARDS..GUARDS + count;
+        self.before[part.clone()].copy_from_slice(&self.now[part]);
+    }
+
     /// Whether nothing has changed.
     pub fn is_untouched(&self) -> bool {
         self.has_only(&[])
@@ -84,8 +106,17 @@ mod tests {
         assert!(lent.has_only(&[9, 2, 3]));
         assert!(!lent.has_only(&[9, 2, 3, 0]));
         assert!(!lent.is_untouched());
+        assert!(lent.is_kept_behind(1) && !lent.is_kept_behind(0));
+        assert_eq!(lent.held(), [9, 2, 3]);
+        lent.settle(1);
+        assert!(lent.is_untouched());
+        lent.hold(&[7, 8]);
+        assert_eq!(lent.held(), [7, 8, 3]);
+        assert!(lent.is_kept_behind(2) && !lent.is_kept_behind(1));
+        lent.settle(2);
+        assert!(lent.is_untouched());
         lent.now[GUARDS + 3] ^= 1;
-        assert!(!lent.has_only(&[9]));
+        assert!(!lent.has_only(&[9]) && !lent.is_kept_behind(3));
     }
 
     #[test]

@@ -11,9 +11,10 @@ use umarekoza_model::protocol::from_hex;
 use umarekoza_model::{Reading, Refusal};
 
 /// The files of stored cases.
-pub const FILES: [&str; 13] = [
+pub const FILES: [&str; 14] = [
     "base2.tsv",
     "large.tsv",
+    "r9.tsv",
     "r1.tsv",
     "r4.tsv",
     "r5.tsv",
@@ -53,6 +54,7 @@ fn compare_line(calls: &mut Calls, line: &str) -> Result<(), Wrong> {
 fn case(words: &[&str]) -> Option<Case> {
     Some(match *words {
         ["text", _, text] => Case::Text(from_hex(text)?),
+        ["pieces", _, pieces] => Case::Text(parts(pieces)?.concat()),
         ["table", table] | ["readers", _, table] => {
             Case::Packet { table: from_hex(table)?, packet: Vec::new() }
         }
@@ -75,9 +77,7 @@ fn case(words: &[&str]) -> Option<Case> {
 /// Compares what the library does on a request with the answer that stands there; none if these are none.
 fn compare_stored(calls: &mut Calls, words: &[&str], answer: &str) -> Option<Result<(), Wrong>> {
     Some(match *words {
-        ["text", room, text] => {
-            calls.write_table(&from_hex(text)?, room.parse().ok()?, &settled(answer, from_hex)?)
-        }
+        ["text" | "pieces" | "convert" | "cut" | "put", ..] => return compare_written(calls, words, answer),
         ["table", table] => {
             let good = |rest: &str| rest.is_empty().then_some(());
             calls.check_table(&from_hex(table)?, &settled(answer, good)?)
@@ -100,20 +100,37 @@ fn compare_stored(calls: &mut Calls, words: &[&str], answer: &str) -> Option<Res
             let count = |rest: &str| rest.parse().ok();
             calls.count_readers(&from_hex(table)?, index.parse().ok()?, &settled(answer, count)?)
         }
-        ["convert", room, table] => {
-            calls.convert_table(&from_hex(table)?, room.parse().ok()?, &settled(answer, from_hex)?)
+        _ => return None,
+    })
+}
+
+/// The same of a request that asks for a table.
+fn compare_written(calls: &mut Calls, words: &[&str], answer: &str) -> Option<Result<(), Wrong>> {
+    let due = settled(answer, from_hex)?;
+    Some(match *words {
+        ["text", room, text] => calls.write_table(&from_hex(text)?, room.parse().ok()?, &due),
+        ["pieces", room, pieces] => {
+            let parts = parts(pieces)?;
+            let pieces: Vec<&[u8]> = parts.iter().map(Vec::as_slice).collect();
+            calls.pieces(&pieces, room.parse().ok()?, &due)
         }
+        ["convert", room, table] => calls.convert_table(&from_hex(table)?, room.parse().ok()?, &due),
         ["cut", first, last, room, table] => {
             let (run, room) = ((first.parse().ok()?, last.parse().ok()?), room.parse().ok()?);
-            calls.cut_fields(&from_hex(table)?, run, room, &settled(answer, from_hex)?)
+            calls.cut_fields(&from_hex(table)?, run, room, &due)
         }
         ["put", index, room, table, records] => {
             let (table, records) = (from_hex(table)?, from_hex(records)?);
             let (index, room) = (index.parse().ok()?, room.parse().ok()?);
-            calls.put_fields((&table, &records), index, room, &settled(answer, from_hex)?)
+            calls.put_fields((&table, &records), index, room, &due)
         }
         _ => return None,
     })
+}
+
+/// The pieces of a text.
+fn parts(pieces: &str) -> Option<Vec<Vec<u8>>> {
+    pieces.split(',').map(from_hex).collect()
 }
 
 /// The refusal `refused N P`, or what stands behind `ok`.

@@ -9,7 +9,7 @@ fn library_and_model_agree() {
     println!("{} cases from seed {}", settings.cases, settings.seed);
     let outcome = run(settings, LIBRARY).unwrap_or_else(|wrong| panic!("{wrong}"));
     println!("{outcome:?}");
-    assert_eq!(outcome.stored.cases, 3673);
+    assert_eq!(outcome.stored.cases, 3818);
     assert!(outcome.generated.cases > 0, "no case was generated");
     assert_eq!(outcome.generated.cases, settings.cases);
     assert!(outcome.generated.comparisons >= 5 * settings.cases);

@@ -84,7 +84,7 @@ cuts! {
     }
     cut_short_runs(table, n, first, last, out, m) {
         let answer = (LIBRARY.cut_fields)(table, n, first, last, out, m);
-        if answer.number != 21 && last >= first + 64 {
+        if answer.number != 21 && last >= first.saturating_add(64) {
             return refused(30);
         }
         answer
@@ -180,7 +180,7 @@ const WRONG: [(&str, &str, Exports); 18] = [
 fn faults_at_the_far_ends_are_noticed() {
     let mut unnoticed = Vec::new();
     for (call, fault, exports) in WRONG {
-        match generated(Settings { cases: 20_000, seed: 1 }, exports) {
+        match generated(Settings { cases: 40_000, seed: 1 }, exports) {
             Ok(_) => unnoticed.push((call, fault)),
             Err(wrong) => assert!(wrong.contains(&format!(": {call}")), "{call}, {fault}: {wrong}"),
         }

@@ -9,7 +9,7 @@ const LISTING_LIMIT: u64 = 7_800;
 const TABLE_LIMIT: usize = 54_300;
 const TEXT_TABLE_LIMIT: usize = 28_000;
 
-const MANY_POWERS: usize = 1_000;
+const MANY_POWERS: usize = 200;
 
 const NOT_GOOD: Answer = Answer { number: 21, place: 0, length: 0 };
 const TOO_LONG: Answer = Answer { number: 22, place: 0, length: 0 };
@@ -44,6 +44,18 @@ unsafe extern "C" fn line_places(text: *const u8, n: usize, out: *mut u8, m: usi
 
 unsafe extern "C" fn later_line_places(text: *const u8, n: usize, out: *mut u8, m: usize) -> Answer {
     folded((8, 256), text, n, out, m)
+}
+
+/// The place of a text in pieces fits a byte only.
+unsafe extern "C" fn near_ends(state: *const u8, n: usize, out: *mut u8, m: usize) -> Answer {
+    let mut answer = (LIBRARY.text_end)(state, n, out, m);
+    answer.place %= 256;
+    answer
+}
+
+/// Of a piece only so many bytes are taken as fit 13 bits.
+unsafe extern "C" fn short_pieces(state: *mut u8, n: usize, piece: *const u8, m: usize) {
+    (LIBRARY.text_piece)(state, n, piece, m.min((1 << 13) - 1));
 }
 
 /// A line of so many powers that it is too deep is a 6, even where its form is wrong further on.
@@ -289,7 +301,7 @@ unsafe extern "C" fn few_old_fields(table: *const u8, n: usize, out: *mut u8, m:
     (LIBRARY.convert_table)(table, n, out, m)
 }
 
-const WRONG: [(&str, &str, Exports); 24] = [
+const WRONG: [(&str, &str, Exports); 26] = [
     ("write_table", "places of rows modulo 512", Exports { write_table: row_places, ..LIBRARY }),
     ("write_table", "places of last lines modulo 8192", Exports { write_table: last_places, ..LIBRARY }),
     ("write_table", "places of 5 to 11 modulo 256", Exports { write_table: line_places, ..LIBRARY }),
@@ -299,6 +311,8 @@ const WRONG: [(&str, &str, Exports); 24] = [
         "a line that is too deep before its form",
         Exports { write_table: deep_first, ..LIBRARY },
     ),
+    ("text_end", "places modulo 256", Exports { text_end: near_ends, ..LIBRARY }),
+    ("text_end", "pieces of 13 bits", Exports { text_piece: short_pieces, ..LIBRARY }),
     ("write_table", "no table over the limit", Exports { write_table: no_long_table, ..LIBRARY }),
     ("check_table", "no table over the limit", Exports { check_table: long_not_good, ..LIBRARY }),
     ("read_packet", "no table over the limit", Exports { read_packet: long_not_read, ..LIBRARY }),

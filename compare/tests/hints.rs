@@ -85,9 +85,11 @@ fn hints_for_pages_agree_with_the_library() {
 /// The text and the refusal of a stored case; none for other cases.
 fn stored(line: &str) -> Option<(Vec<u8>, Verdict)> {
     let (request, answer) = line.split_once('\t')?;
-    let (_, text) = request.strip_prefix("text ")?.split_once(' ')?;
+    let text = request.strip_prefix("text ").or_else(|| request.strip_prefix("pieces "))?;
+    let (_, pieces) = text.split_once(' ')?;
+    let pieces: Option<Vec<Vec<u8>>> = pieces.split(',').map(from_hex).collect();
     let (number, place) = answer.strip_prefix("refused ")?.split_once(' ')?;
-    Some((from_hex(text)?, Verdict { number: number.parse().ok()?, place: place.parse().ok()? }))
+    Some((pieces?.concat(), Verdict { number: number.parse().ok()?, place: place.parse().ok()? }))
 }
 
 #[test]
@@ -102,7 +104,7 @@ fn hints_for_pages_agree_with_the_stored_cases() {
             refused += 1;
         }
     }
-    assert_eq!(refused, 1491);
+    assert_eq!(refused, 1581);
 }
 
 /// A wrong verdict gets the number's meaning alone, at its line.

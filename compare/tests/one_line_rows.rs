@@ -3,7 +3,7 @@
 
 use umarekoza::{write_table, TABLE_MOST};
 use umarekoza_model::generate::{text, Rng};
-use umarekoza_model::{write_table_by, Refusal};
+use umarekoza_model::{write_table_by, Limits, Refusal};
 
 const TEXTS: usize = 20_000;
 
@@ -25,7 +25,7 @@ fn texts_of_one_line_to_a_row_keep_their_answers() {
     let mut out = vec![0; TABLE_MOST];
     for _ in 0..TEXTS {
         let text = text(&mut rng);
-        let before = write_table_by(1, &text, TABLE_MOST);
+        let before = write_table_by(Limits { row_lines: 1, ..Limits::CURRENT }, &text, TABLE_MOST);
         if matches!(before, Err(Refusal { number: 3, .. })) && has_lines_with_same_bars(&text) {
             continue;
         }

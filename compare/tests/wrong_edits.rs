@@ -7,6 +7,8 @@ mod editing;
 #[allow(dead_code)]
 #[path = "../../model/src/editions.rs"]
 mod editions;
+#[path = "../../model/src/lines.rs"]
+mod lines;
 #[path = "../../model/src/naming.rs"]
 mod naming;
 #[allow(dead_code)]

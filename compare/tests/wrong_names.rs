@@ -5,6 +5,8 @@ mod changed_model;
 #[allow(dead_code)]
 #[path = "../../model/src/editions.rs"]
 mod editions;
+#[path = "../../model/src/lines.rs"]
+mod lines;
 #[path = "wrong_naming/mod.rs"]
 mod naming;
 #[allow(dead_code)]
@@ -62,7 +64,7 @@ fn label(line: &[u8]) -> &[u8] {
 }
 
 fn written(rule: Option<Rule>, text: &[u8], room: usize) -> Result<Vec<u8>, Refusal> {
-    let lines = frames::frame(text, rows::ROW_LINES).map_or(Vec::new(), |frame| frame.field_lines);
+    let lines = frames::frame(text, frames::Limits::CURRENT).map_or(Vec::new(), |frame| frame.field_lines);
     let labels: Vec<&[u8]> = lines.into_iter().map(label).collect();
     by_rule(rule, &labels, || texts::write_table(text, room))
 }

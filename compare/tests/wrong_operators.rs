@@ -7,6 +7,8 @@ mod changed_model;
 mod editions;
 #[path = "../../model/src/evaluation.rs"]
 mod evaluation;
+#[path = "../../model/src/lines.rs"]
+mod lines;
 #[path = "../../model/src/listing.rs"]
 mod listing;
 #[path = "../../model/src/naming.rs"]

@@ -1,6 +1,7 @@
 //! The comparison notices wrong programs: the library's functions, with one fault in one of them at a time.
 
 use std::sync::Mutex;
+use umarekoza::STATE_BYTES;
 use umarekoza_compare::exports::{Answer, Exports, Partial, Span, LIBRARY};
 use umarekoza_compare::runs::{generated, Settings, Tally};
 use Fault::*;
@@ -19,6 +20,8 @@ enum Fault {
     FirstOfEmpty(usize),
     LastOfLong(usize),
     Behind(usize),
+    BehindState(usize),
+    FirstOfShortState(usize),
 }
 
 const OF_ANSWERS: [Fault; 6] = [
@@ -66,6 +69,9 @@ fn placed(call: &str, Span { offset, length }: Span) -> Span {
     Span { offset: offset ^ a, length: length ^ b }
 }
 
+/// No answer, whatever goes wrong.
+fn nothing(_: &str, (): ()) {}
+
 /// A buffer as bytes.
 fn bytes<T>(start: *const T, length: usize) -> (*const u8, usize) {
     (start.cast(), length * size_of::<T>())
@@ -78,6 +84,8 @@ fn spoil(call: &str, buffers: &[(*const u8, usize)]) {
         FirstOfEmpty(buffer) if buffers[buffer].1 == 0 => (buffer, 0),
         LastOfLong(buffer) if buffers[buffer].1 >= 1024 => (buffer, buffers[buffer].1 - 1),
         Behind(buffer) => (buffer, buffers[buffer].1),
+        BehindState(buffer) if buffers[buffer].1 > STATE_BYTES => (buffer, STATE_BYTES),
+        FirstOfShortState(buffer) if (1..STATE_BYTES).contains(&buffers[buffer].1) => (buffer, 0),
         _ => return,
     };
     // SAFETY: the comparison lends buffers between guards.
@@ -108,6 +116,9 @@ wrong!(field_kind, answered, table m *const u8; index -> Answer);
 wrong!(count_readers, answered, table m *const u8; index -> Answer);
 wrong!(convert_table, answered, table m *const u8, out n *mut u8; -> Answer);
 wrong!(read_partly, told_partly, table m *const u8, packet n *const u8, run o *mut u32; -> Partial);
+wrong!(text_start, nothing, state m *mut u8; -> ());
+wrong!(text_piece, nothing, state m *mut u8, piece n *const u8; -> ());
+wrong!(text_end, answered, state m *const u8, out n *mut u8; -> Answer);
 
 unsafe extern "C" fn cut_fields(
     table: *const u8,
@@ -152,6 +163,9 @@ const EXPORTS: Exports = Exports {
     cut_fields,
     put_fields,
     read_partly,
+    text_start,
+    text_piece,
+    text_end,
 };
 
 fn compared(call: &'static str, fault: Fault) -> Result<Tally, String> {
@@ -180,6 +194,7 @@ fn wrong_programs_are_noticed() {
         ("convert_table", 2),
         ("cut_fields", 2),
         ("put_fields", 3),
+        ("text_end", 2),
     ];
     for (call, buffers) in with_buffers.into_iter().chain(with_output) {
         let of_answer = if SPANS.contains(&call) { &OF_SPANS[..] } else { &OF_ANSWERS };
@@ -187,9 +202,23 @@ fn wrong_programs_are_noticed() {
         let beyond = with_output.contains(&(call, buffers)).then_some(LastOfLong(buffers - 1));
         let of_count = (call == "read_partly").then_some(Count(1));
         for fault in of_answer.iter().copied().chain(of_buffers).chain(beyond).chain(of_count) {
-            let wrong = compared(call, fault).err();
-            let wrong = wrong.unwrap_or_else(|| panic!("{call}, {fault:?}: not noticed"));
-            assert!(wrong.contains(&format!(": {call}")), "{call}, {fault:?}: {wrong}");
+            is_noticed(call, fault);
         }
     }
+    those_for_pieces_are_noticed();
+}
+
+#[track_caller]
+fn is_noticed(call: &'static str, fault: Fault) {
+    let wrong = compared(call, fault).err();
+    let wrong = wrong.unwrap_or_else(|| panic!("{call}, {fault:?}: not noticed"));
+    assert!(wrong.contains(&format!(": {call}")), "{call}, {fault:?}: {wrong}");
+}
+
+/// What is changed beside a state, in one that is too short, and in a piece.
+fn those_for_pieces_are_noticed() {
+    let of_state = [Before(0), Behind(0), BehindState(0), FirstOfShortState(0)];
+    of_state.into_iter().for_each(|fault| is_noticed("text_start", fault));
+    let of_piece = [Before(1), First(1), FirstOfEmpty(1), LastOfLong(1), Behind(1)];
+    of_state.into_iter().chain(of_piece).for_each(|fault| is_noticed("text_piece", fault));
 }

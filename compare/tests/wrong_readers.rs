@@ -7,6 +7,8 @@ mod changed_model;
 mod conversion;
 #[path = "wrong_counting/mod.rs"]
 mod counting;
+#[path = "../../model/src/lines.rs"]
+mod lines;
 #[path = "../../model/src/naming.rs"]
 mod naming;
 #[allow(dead_code)]

@@ -5,6 +5,8 @@ mod changed_model;
 #[allow(dead_code)]
 #[path = "../../model/src/editions.rs"]
 mod editions;
+#[path = "../../model/src/lines.rs"]
+mod lines;
 #[path = "../../model/src/naming.rs"]
 mod naming;
 #[allow(dead_code)]

@@ -7,7 +7,7 @@
 //! meaning is told.
 //!
 //! In reading order: `limits`; `hint` is what is answered, `faults` what is found; `characters` (2), `frame_lines`,
-//! `rows`, `row_faults`, `frames` (3), `names`, `operators`, `trees`, `expressions`, `expression_faults`,
+//! `rows`, `row_faults`, `frames`, `lengths` (3), `names`, `operators`, `trees`, `expressions`, `expression_faults`,
 //! `field_lines`, `unreadable`, `fields` (5), `sizes` (6, 8, 10), `cells` (4, 7), `reads` (9) find it, `pages` puts
 //! it together, `plain` writes it out. `stored` takes a table apart and `written` writes its expressions; `packets`
 //! is for packets, `edits` for fields cut out and put in.
@@ -23,6 +23,7 @@ mod fields;
 mod frame_lines;
 mod frames;
 mod hint;
+mod lengths;
 mod limits;
 mod lines;
 mod meanings;
@@ -44,6 +45,6 @@ mod written;
 pub use edits::{cut_hint, put_hint, EditHint};
 pub use hint::{Also, Hint, Verdict, ALSO_MOST};
 pub use packets::{fields_before, packet_hint, plain_packet, PacketHint};
-pub use pages::page_hint;
+pub use pages::{length_hint, page_hint};
 pub use plain::plain;
 pub use shown::shown;

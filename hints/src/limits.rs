@@ -1,7 +1,8 @@
 //! The limits that a page or a packet can exceed.
 
-/// Bytes of a page, fields, bytes of a packet.
+/// Bytes of a page, bytes of its line without the LF, fields, bytes of a packet.
 pub const TEXT_MOST: usize = 16_384;
+pub const LINE_MOST: usize = 1_024;
 pub const FIELDS_MOST: usize = 128;
 pub const PACKET_MOST: usize = 8_191;
 /// Lines of a row between `|`.

@@ -18,7 +18,11 @@ const MEANINGS: [(u32, &str, &str); 23] = [
         "a character is not allowed",
         "a page has the characters from space to `~` and LF line ends, no others",
     ),
-    (3, "this line is not what a page has at this place", "docs/RULES.md has the order of the lines"),
+    (
+        3,
+        "this line is not what a page has at this place",
+        "docs/RULES.md has the order of the lines, each of at most 1,024 bytes",
+    ),
     (4, "there are too many fields", "at most 128 cells and 128 field lines"),
     (5, "this field line has not the form of one", "docs/RULES.md has the form of a field line"),
     (6, "an expression on this line is too large", "at most depth 12 and 120 stored bytes"),

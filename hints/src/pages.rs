@@ -7,6 +7,7 @@ use crate::field_lines::Width;
 use crate::fields::{Field, Fields};
 use crate::frames;
 use crate::hint::{Hint, Verdict, ALSO_MOST};
+use crate::lengths::long_lines;
 use crate::limits::TEXT_MOST;
 use crate::lines::split;
 use crate::meanings::meaning_of;
@@ -66,6 +67,17 @@ pub fn page_hint(text: &[u8], verdict: Verdict) -> Hint {
     first.hint(also)
 }
 
+/// The hint for a page of so many bytes, more than a page may have.
+///
+/// ```
+/// let hint = umarekoza_hints::length_hint(20_000);
+/// assert_eq!((hint.number, hint.line), (1, 0));
+/// assert_eq!(hint.message, "the page has 20,000 bytes, at most 16,384");
+/// ```
+pub fn length_hint(bytes: u64) -> Hint {
+    too_long(bytes).hint(Vec::new())
+}
+
 /// Only what the number means.
 fn meaning(verdict: Verdict) -> Hint {
     let (what, mend) = meaning_of(verdict.number);
@@ -81,7 +93,7 @@ fn meaning(verdict: Verdict) -> Hint {
 /// The mistakes of a page that can be told apart safely; none exactly if it is accepted, given room.
 fn mistakes(text: &[u8]) -> Vec<Mistake> {
     if text.len() > TEXT_MOST {
-        return vec![too_long(text.len())];
+        return vec![too_long(text.len() as u64)];
     }
     if text.iter().all(|byte| is_plain(*byte) || *byte == b'\n') {
         return mistakes_of_plain(text);
@@ -98,9 +110,8 @@ fn mistakes(text: &[u8]) -> Vec<Mistake> {
     found
 }
 
-fn too_long(length: usize) -> Mistake {
-    let message =
-        format!("the page has {} bytes, at most {}", spelled(length as u64), spelled(TEXT_MOST as u64));
+fn too_long(length: u64) -> Mistake {
+    let message = format!("the page has {} bytes, at most {}", spelled(length), spelled(TEXT_MOST as u64));
     let fault =
         crate::faults::Fault::new(0..0, message, "").note("shorten the remarks behind the full stops");
     fault.at(1, 0)
@@ -111,6 +122,7 @@ fn mistakes_of_plain(text: &[u8]) -> Vec<Mistake> {
     let lines = split(text);
     let frame = frames::read(&lines);
     let mut found = frame.mistakes;
+    found.extend(long_lines(&lines, &found));
     let Some(from) = frame.fields_from else { return found };
     let (fields, wrong_forms) = Fields::read(&lines.ended[from..], from + 1);
     let right_forms = wrong_forms.is_empty();

@@ -1,10 +1,10 @@
 //! The frame of a text: the opening, the rulers, the rows and the lines that follow [01, The lines of a text].
 //! What is wrong here is a 3.
 
-use crate::lines::Lines;
+use crate::lines::{Lines, LONGEST_LINE};
 use crate::names::is_label;
 use crate::refusals::Refusal;
-use crate::rows::{take_row, Cell};
+use crate::rows::{take_row, Cell, ROW_LINES};
 use crate::rules::ROW_BITS;
 
 pub const FORMATTED: &[u8] = b" is formatted as follows:";
@@ -19,9 +19,23 @@ pub struct Frame<'a> {
     pub field_lines: Vec<&'a [u8]>,
 }
 
-/// The frame of a text, by a limit of so many lines to a bit row.
-pub fn frame(text: &[u8], row_lines: usize) -> Result<Frame<'_>, Refusal> {
-    let mut lines = Lines::new(text);
+/// What the lines of a text are held to.
+#[derive(Clone, Copy, Debug)]
+pub struct Limits {
+    /// The most lines of a bit row.
+    pub row_lines: usize,
+    /// The most bytes of a line, without its LF.
+    pub line_bytes: usize,
+}
+
+impl Limits {
+    /// Those in force.
+    pub const CURRENT: Limits = Limits { row_lines: ROW_LINES, line_bytes: LONGEST_LINE };
+}
+
+/// The frame of a text, by these limits.
+pub fn frame(text: &[u8], limits: Limits) -> Result<Frame<'_>, Refusal> {
+    let mut lines = Lines::new(text, limits.line_bytes);
     let Some(name) = opening_name(lines.required()?) else { return lines.wrong() };
     lines.exactly(b"")?;
     let tens = lines.required()?;
@@ -31,7 +45,7 @@ pub fn frame(text: &[u8], row_lines: usize) -> Result<Frame<'_>, Refusal> {
     lines.exactly(&units_ruler(row_bits))?;
     let border = border(row_bits);
     lines.exactly(&border)?;
-    let cells = rows(&mut lines, row_bits, &border, row_lines)?;
+    let cells = rows(&mut lines, row_bits, &border, limits.row_lines)?;
     lines.exactly(WHERE)?;
     lines.exactly(b"")?;
     let first_line = lines.taken + 1;
@@ -82,7 +96,7 @@ fn rows(lines: &mut Lines, row_bits: u32, border: &[u8], row_lines: usize) -> Re
 /// One or more field lines, to the end of the text.
 fn remaining<'a>(lines: &mut Lines<'a>) -> Result<Vec<&'a [u8]>, Refusal> {
     let mut field_lines = vec![lines.required()?];
-    while let Some(line) = lines.next() {
+    while let Some(line) = lines.next()? {
         field_lines.push(line);
     }
     if lines.rest.is_empty() {

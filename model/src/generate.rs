@@ -4,8 +4,9 @@
 //! `layouts` and `words` choose rows and names, `growth` the trees, `steps` some at the edges of `/`, `%` and `^`,
 //! `fields` the description; `spelling` writes it as one of its texts, `drawing` its rows; `bends` breaks a rule of a
 //! description, `clashes` those on equal names, `numbers` makes tables with wrong numbers and old ones, `edits`
-//! changes bytes and lines, `misdrawn` rows; `fitting` makes packets for a table; `runs` chooses fields, `cuts` to
-//! cut them out and `puts` to put them in. `extremes` makes what stands at the far ends of the limits.
+//! changes bytes and lines, `misdrawn` rows, `lengths` makes lines long; `pieces` cuts a text; `fitting` makes packets
+//! for a table; `runs` chooses fields, `cuts` to cut them out and `puts` to put them in. `extremes` makes what stands
+//! at the far ends of the limits.
 
 mod bends;
 mod clashes;
@@ -17,13 +18,17 @@ mod fields;
 mod fitting;
 mod growth;
 mod layouts;
+mod lengths;
 mod misdrawn;
 mod numbers;
+mod pieces;
 mod puts;
 #[cfg(test)]
 mod reached;
 #[cfg(test)]
 mod reached_edits;
+#[cfg(test)]
+mod reached_lines;
 #[cfg(test)]
 mod reached_numbers;
 #[cfg(test)]
@@ -35,6 +40,7 @@ mod steps;
 mod words;
 
 pub use cuts::{cut, Cut};
+pub use pieces::{every_cut, pieces, random_pieces};
 pub use puts::{put, records, Put};
 pub use rng::Rng;
 
@@ -47,8 +53,9 @@ use layouts::{full_layout, layout, many, tall_layout, too_many, Layout, Slot};
 use spelling::{spell, Manner};
 use words::Names;
 
-/// A text at the far ends is one of so many.
+/// A text at the far ends is one of so many, and of the others one of twice so many has a long line.
 const FAR_TEXT: usize = 40;
+const LONG_LINE: usize = 9;
 /// A table as long as may be is one of so many, one of too many fields, and one of a field that is read very often.
 const FAR_TABLE: usize = 800;
 const CROWDED_TABLE: usize = 60;
@@ -64,7 +71,7 @@ const CLASHING: usize = 8;
 const EARLIER_FIELDS: usize = 64;
 const EARLIER_PACKET: usize = 2_048;
 
-/// A text: about half of them spell a description, the others are damaged.
+/// A text: nearly half of them spell a description, the others are damaged.
 pub fn text(rng: &mut Rng) -> Vec<u8> {
     if rng.one_in(FAR_TEXT) {
         return far_text(rng);
@@ -73,7 +80,10 @@ pub fn text(rng: &mut Rng) -> Vec<u8> {
     let description = fields::description(rng, &layout, &names);
     let lines = layout.row_lines;
     if rng.one_in(2) {
-        return spelled(rng, &description, lines);
+        return match rng.below(LONG_LINE) {
+            0 => text_of_long_line(rng, &description, lines),
+            _ => spelled(rng, &description, lines),
+        };
     }
     match rng.below(16) {
         0 | 1 => edits::edit_bytes(spelled(rng, &description, lines), rng, &edits::TEXT_BYTES),
@@ -278,10 +288,11 @@ fn plan(rng: &mut Rng, shown: bool) -> (Layout, Names) {
 
 fn spelled(rng: &mut Rng, description: &Description, row_lines: usize) -> Vec<u8> {
     let text = spell(rng, description, description, Manner::of_rows(row_lines));
-    if rng.one_in(60) {
-        return edits::padded(text, rng);
+    match rng.below(60) {
+        0 => lengths::padded(text, rng),
+        1 => lengths::long_remarks(text, rng),
+        _ => text,
     }
-    text
 }
 
 /// A text of more fields than there may be, or of too many cells or lines only.
@@ -299,6 +310,19 @@ fn too_many_fields(rng: &mut Rng) -> Vec<u8> {
         1 => spell(rng, &fewer, &description, manner),
         _ => spelled(rng, &description, layout.row_lines),
     }
+}
+
+/// A text with a line that is most often too long, at times with what else is wrong.
+fn text_of_long_line(rng: &mut Rng, description: &Description, row_lines: usize) -> Vec<u8> {
+    let text = match rng.below(6) {
+        0 => bent_text(rng, description, row_lines),
+        1 => {
+            let manner = Manner::wrong(rng, row_lines);
+            spell(rng, description, description, manner)
+        }
+        _ => spelled(rng, description, row_lines),
+    };
+    lengths::long_line(text, rng)
 }
 
 /// A text whose lines, and at times cells, are those of a description with broken rules.

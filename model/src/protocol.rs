@@ -2,7 +2,7 @@
 
 use crate::{
     check_table, convert_table, count_readers, cut_fields, field_bytes, list_packet, put_fields, read_packet,
-    write_table, Reading, Refusal,
+    write_pieces, write_table, Reading, Refusal,
 };
 
 /// The answer to a request; `bad request` to a line that is none.
@@ -14,6 +14,11 @@ pub fn answer(request: &str) -> String {
 fn answer_words(words: &[&str]) -> Option<String> {
     let answer = match *words {
         ["text", room, text] => table_line(write_table(&from_hex(text)?, room.parse().ok()?)),
+        ["pieces", room, pieces] => {
+            let pieces: Vec<Vec<u8>> = pieces.split(',').map(from_hex).collect::<Option<_>>()?;
+            let parts: Vec<&[u8]> = pieces.iter().map(Vec::as_slice).collect();
+            table_line(write_pieces(&parts, room.parse().ok()?))
+        }
         ["table", table] => settled(check_table(&from_hex(table)?).map(|()| "ok".to_string())),
         ["read", run_len, table, packet] => {
             let read = read_packet(&from_hex(table)?, &from_hex(packet)?, run_len.parse().ok()?);

@@ -22,7 +22,7 @@ pub fn take_row(lines: &mut Lines, first: &[u8], row_bits: u32, most: usize) -> 
     while !is_long && row.len() < most {
         let Some(line) = lines.peek().filter(|line| has_bars(line, &bars)) else { break };
         row.push(line);
-        lines.next();
+        lines.next()?;
     }
     let cells: Option<Vec<Cell>> =
         bars.windows(2).map(|pair| cell(&row, pair[0], pair[1], is_long)).collect();

@@ -2,11 +2,10 @@
 
 use crate::descriptions::{Description, Field, Width};
 use crate::field_lines::field_line;
-use crate::frames::{frame, Frame};
+use crate::frames::{frame, Frame, Limits};
 use crate::matching::first_mismatch;
 use crate::naming::{first_repeat, read_names};
 use crate::refusals::{refused, Refusal};
-use crate::rows::ROW_LINES;
 use crate::rules::{first_after_rest, reads_right, trees_small, MOST_FIELDS};
 use crate::stored::encode;
 use crate::trees::{Node, Tree};
@@ -15,12 +14,12 @@ pub const LONGEST_TEXT: usize = 16_384;
 
 /// The table of the description that `text` spells, for an output of `room` bytes.
 pub fn write_table(text: &[u8], room: usize) -> Result<Vec<u8>, Refusal> {
-    write_table_by(ROW_LINES, text, room)
+    write_table_by(Limits::CURRENT, text, room)
 }
 
-/// The same by a limit of so many lines to a bit row: by that of document 01, 1, and else by all rules in force.
-pub fn write_table_by(row_lines: usize, text: &[u8], room: usize) -> Result<Vec<u8>, Refusal> {
-    let table = encode(&description(text, row_lines)?);
+/// The same by other limits of rows and lines, as those of document 01, and else by all rules in force.
+pub fn write_table_by(limits: Limits, text: &[u8], room: usize) -> Result<Vec<u8>, Refusal> {
+    let table = encode(&description(text, limits)?);
     if room < table.len() {
         return refused(11, 0);
     }
@@ -28,14 +27,14 @@ pub fn write_table_by(row_lines: usize, text: &[u8], room: usize) -> Result<Vec<
 }
 
 /// The description that a text spells.
-fn description(text: &[u8], row_lines: usize) -> Result<Description<'_>, Refusal> {
+fn description(text: &[u8], limits: Limits) -> Result<Description<'_>, Refusal> {
     if text.len() > LONGEST_TEXT {
         return refused(1, 0);
     }
     if !text.iter().all(|byte| matches!(byte, b' '..=b'~' | b'\n')) {
         return refused(2, 0);
     }
-    let frame = frame(text, row_lines)?;
+    let frame = frame(text, limits)?;
     if frame.cells.len() > MOST_FIELDS || frame.field_lines.len() > MOST_FIELDS {
         return refused(4, 0);
     }

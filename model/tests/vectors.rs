@@ -30,6 +30,11 @@ fn r1() {
 }
 
 #[test]
+fn r9() {
+    agrees("r9.tsv", 150);
+}
+
+#[test]
 fn r4() {
     agrees("r4.tsv", 400);
 }
@@ -56,7 +61,7 @@ fn spelled() {
 
 #[test]
 fn edge() {
-    agrees("edge.tsv", 394);
+    agrees("edge.tsv", 389);
 }
 
 #[test]

@@ -10,8 +10,8 @@ from umarekoza import Refusal
 VECTORS = Path(__file__).resolve().parents[2] / "vectors"
 # How many lines each file has.
 FILES = {
-    "base2": 200, "large": 24, "r1": 300, "r4": 400, "r5": 300, "tables": 512, "packets": 494, "spelled": 94,
-    "edge": 394, "mutated": 540, "r10": 47, "r2": 181, "r7": 187,
+    "base2": 200, "large": 24, "r9": 150, "r1": 300, "r4": 400, "r5": 300, "tables": 512, "packets": 494, "spelled": 94,
+    "edge": 389, "mutated": 540, "r10": 47, "r2": 181, "r7": 187,
 }  # fmt: skip
 
 
@@ -70,9 +70,16 @@ def put(index, room, stored, records):
     return "ok " + out[: umarekoza.put_fields(from_hex(stored), int(index), from_hex(records), out)].hex()
 
 
+def pieces(room, words):
+    out, given = bytearray(int(room)), umarekoza.Pieces()
+    for word in words.split(","):
+        given.piece(from_hex(word))
+    return "ok " + out[: given.end(out)].hex()
+
+
 CALLS = {
-    "text": text, "table": table, "read": read, "part": part, "list": listed, "readers": readers, "convert": convert,
-    "cut": cut, "put": put,
+    "text": text, "pieces": pieces, "table": table, "read": read, "part": part, "list": listed, "readers": readers,
+    "convert": convert, "cut": cut, "put": put,
 }  # fmt: skip
 
 

@@ -36,7 +36,8 @@ TABLE = umarekoza.table_of(BLADE)
 
 def load_tests(loader, tests, pattern):
     os.chdir(ROOT)
-    tests.addTests(doctest.DocTestSuite(umarekoza, optionflags=doctest.IGNORE_EXCEPTION_DETAIL))
+    for module in (umarekoza, umarekoza._pieces):
+        tests.addTests(doctest.DocTestSuite(module, optionflags=doctest.IGNORE_EXCEPTION_DETAIL))
     return tests
 
 
@@ -264,8 +265,8 @@ class Buffers(unittest.TestCase):
 class Constants(unittest.TestCase):
     def test_limits_of_the_header(self):
         header = (ROOT / "include/umarekoza.h").read_text()
-        limits = dict(re.findall(r"#define UMAREKOZA_(\w+_MOST) (\d+)", header))
-        self.assertEqual(len(limits), 6)
+        limits = dict(re.findall(r"#define UMAREKOZA_(\w+_(?:MOST|BYTES)) (\d+)", header))
+        self.assertEqual(len(limits), 8)
         for name, limit in limits.items():
             self.assertEqual(getattr(umarekoza, name), int(limit))
 

@@ -16,6 +16,8 @@ The shared library is libumarekoza.so.0, or the file that the environment names 
     >>> umarekoza.fields_of(table, packet[:7])
     Traceback (most recent call last):
     umarekoza.Refusal: refused 24 at 7
+
+A page that comes in pieces is read by Pieces.
 """
 
 import enum
@@ -25,25 +27,20 @@ from typing import NamedTuple
 
 from . import _calls
 from ._calls import Refusal
+from ._limits import (
+    FIELDS_MOST, LINE_MOST, LISTING_MOST, PACKET_MOST, RUN_MOST, STATE_BYTES, TABLE_MOST, TEXT_MOST,
+)  # fmt: skip
+from ._pieces import Pieces
 
 __all__ = [
-    "FIELDS_MOST", "Field", "Kind", "LISTING_MOST", "PACKET_MOST", "RUN_MOST", "Refusal", "TABLE_MOST", "TEXT_MOST",
-    "VERSION", "check_table", "convert_table", "converted", "count_fields", "count_readers", "cut_fields",
-    "field_bytes", "field_kind", "field_label", "field_short", "fields_of", "find_field", "list_packet", "listing",
-    "put_fields", "read_packet", "read_partly", "table_of", "with_fields", "without_fields", "write_table",
+    "FIELDS_MOST", "Field", "Kind", "LINE_MOST", "LISTING_MOST", "PACKET_MOST", "Pieces", "RUN_MOST", "Refusal",
+    "STATE_BYTES", "TABLE_MOST", "TEXT_MOST", "VERSION", "check_table", "convert_table", "converted", "count_fields",
+    "count_readers", "cut_fields", "field_bytes", "field_kind", "field_label", "field_short", "fields_of", "find_field",
+    "list_packet", "listing", "put_fields", "read_packet", "read_partly", "table_of", "with_fields", "without_fields",
+    "write_table",
 ]  # fmt: skip
 
 VERSION = "0.1.0"
-
-# The limits of documents 01 and 02 that a caller meets: bytes of a text, fields, bytes of a packet.
-TEXT_MOST = 16384
-FIELDS_MOST = 128
-PACKET_MOST = 8191
-
-# A run of so many numbers, and an output of so many bytes for a table or for a listing, is always enough.
-RUN_MOST = 512
-TABLE_MOST = 54582
-LISTING_MOST = 7947
 
 # No number of a reading, which is 0 or 1 where a field begins.
 _UNTOUCHED = 0xFFFFFFFF

@@ -68,6 +68,9 @@ _count_readers = _entry("count_readers", _Answer, 1, index=True)
 _convert_table = _entry("convert_table", _Answer, 2)
 _read_partly = _entry("read_partly", _Partial, 3)
 _cut_fields = _declared("cut_fields", _Answer, _BUFFER + 2 * _NUMBER + _BUFFER)
+_text_start = _entry("text_start", None, 1)
+_text_piece = _entry("text_piece", None, 2)
+_text_end = _entry("text_end", _Answer, 2)
 _put_fields = _declared("put_fields", _Answer, _BUFFER + _NUMBER + 2 * _BUFFER)
 
 
@@ -159,6 +162,25 @@ def put_fields(table, index, records, out):
         table, records, out = lent.reads(table), lent.reads(records), lent.writes(out)
         lent.see_that_none_overlap()
         return _put_fields(*table, index_of(index), *records, *out).settled()
+
+
+def text_start(state):
+    with Lent() as lent:
+        _text_start(*lent.writes(state))
+
+
+def text_piece(state, piece):
+    with Lent() as lent:
+        state, piece = lent.writes(state), lent.reads(piece)
+        lent.see_that_none_overlap()
+        _text_piece(*state, *piece)
+
+
+def text_end(state, out):
+    with Lent() as lent:
+        state, out = lent.reads(state), lent.writes(out)
+        lent.see_that_none_overlap()
+        return _text_end(*state, *out).settled()
 
 
 def part(whole, span):

@@ -131,6 +131,10 @@ mod library {
             run: *mut u32,
             run_len: usize,
         ) -> Partial;
+        pub fn umarekoza_text_start(state: *mut u8, state_len: usize);
+        pub fn umarekoza_text_piece(state: *mut u8, state_len: usize, piece: *const u8, piece_len: usize);
+        pub fn umarekoza_text_end(state: *const u8, state_len: usize, out: *mut u8, out_len: usize)
+            -> Answer;
     }
 }
 
@@ -221,4 +225,21 @@ pub fn read_partly(table: &[u8], packet: &[u8], run: &mut [u32]) -> Partial {
     let (table_at, packet_at) = (table.as_ptr(), packet.as_ptr());
     // SAFETY: all pointers are valid for their lengths, and `run` is aligned and lent for the call alone.
     unsafe { library::umarekoza_read_partly(table_at, table.len(), packet_at, packet.len(), run, run_len) }
+}
+
+pub fn text_start(state: &mut [u8]) {
+    // SAFETY: the pointer is valid for its length, and `state` is lent for the call alone.
+    unsafe { library::umarekoza_text_start(state.as_mut_ptr(), state.len()) }
+}
+
+pub fn text_piece(state: &mut [u8], piece: &[u8]) {
+    let (state, state_len) = (state.as_mut_ptr(), state.len());
+    // SAFETY: both pointers are valid for their lengths, and `state` is lent for the call alone.
+    unsafe { library::umarekoza_text_piece(state, state_len, piece.as_ptr(), piece.len()) }
+}
+
+pub fn text_end(state: &[u8], out: &mut [u8]) -> Answer {
+    let (out, room) = (out.as_mut_ptr(), out.len());
+    // SAFETY: both pointers are valid for their lengths, and `out` is lent for the call alone.
+    unsafe { library::umarekoza_text_end(state.as_ptr(), state.len(), out, room) }
 }

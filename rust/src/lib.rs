@@ -6,6 +6,8 @@
 //! byte of it where they refuse, and nothing beyond what they write where they accept; [`read_partly`] alone writes
 //! what it read before a refusal.
 //!
+//! A page that comes in pieces is read by [`Pieces`], one that is there whole by [`table_of`].
+//!
 //! The library uses the stack of the thread that calls it: a call may need up to some 100 kilobytes.
 //!
 //! ```
@@ -49,13 +51,17 @@ mod edits;
 mod limits;
 mod meanings;
 mod packets;
+mod pieces;
 mod refusal;
 mod tables;
 
 pub use edits::{cut_fields, put_fields, with_fields, without_fields};
-pub use limits::{FIELDS_MOST, LISTING_MOST, PACKET_MOST, RUN_MOST, TABLE_MOST, TEXT_MOST};
+pub use limits::{
+    FIELDS_MOST, LINE_MOST, LISTING_MOST, PACKET_MOST, RUN_MOST, STATE_BYTES, TABLE_MOST, TEXT_MOST,
+};
 pub use meanings::{meanings, Meaning};
 pub use packets::{field_bytes, fields_of, list_packet, listing, read_packet, read_partly, Field};
+pub use pieces::{text_end, text_piece, text_start, Pieces};
 pub use refusal::Refusal;
 pub use tables::{
     check_table, convert_table, converted, count_fields, count_readers, field_kind, field_label, field_short,

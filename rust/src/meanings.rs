@@ -35,7 +35,8 @@ const MEANINGS: [Meaning; 23] = [
                with a border below each, an empty line, `where:`, an empty line, field lines. A row is \
                one line between `:`, or 1 to 4 lines between `|` with the same bars in each. A line of it \
                is as long as its border and has bars at even columns only (counted from 0), and each cell \
-               has a label: downwards in a cell of one bit, else line by line",
+               has a label: downwards in a cell of one bit, else line by line. No line, its remark included, \
+               is over 1,024 bytes",
     },
     Meaning {
         number: 4,

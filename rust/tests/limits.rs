@@ -2,10 +2,16 @@
 
 use std::fs;
 use std::path::Path;
-use umarekoza::{FIELDS_MOST, LISTING_MOST, PACKET_MOST, RUN_MOST, TABLE_MOST, TEXT_MOST};
+use umarekoza::{
+    FIELDS_MOST, LINE_MOST, LISTING_MOST, PACKET_MOST, RUN_MOST, STATE_BYTES, TABLE_MOST, TEXT_MOST,
+};
 
-const LIMITS: [(&str, usize); 3] =
-    [("TEXT_MOST", TEXT_MOST), ("FIELDS_MOST", FIELDS_MOST), ("PACKET_MOST", PACKET_MOST)];
+const LIMITS: [(&str, usize); 4] = [
+    ("TEXT_MOST", TEXT_MOST),
+    ("LINE_MOST", LINE_MOST),
+    ("FIELDS_MOST", FIELDS_MOST),
+    ("PACKET_MOST", PACKET_MOST),
+];
 const LENGTHS: [(&str, usize); 3] =
     [("RUN_MOST", RUN_MOST), ("TABLE_MOST", TABLE_MOST), ("LISTING_MOST", LISTING_MOST)];
 
@@ -78,8 +84,22 @@ fn version_of_the_header() {
 #[test]
 fn limits_of_the_header() {
     let header = text_of("include/umarekoza.h");
-    for (name, limit) in LIMITS.into_iter().chain(LENGTHS) {
+    for (name, limit) in LIMITS.into_iter().chain(LENGTHS).chain([("STATE_BYTES", STATE_BYTES)]) {
         let line = format!("#define UMAREKOZA_{name} {limit}");
         assert!(header.lines().any(|other| other == line), "not there: {line}");
     }
+}
+
+/// The parts of a state as the header lists them, `from START (LENGTH)` each, follow one another to its end.
+#[test]
+fn parts_of_a_state() {
+    let header = text_of("include/umarekoza.h");
+    let parts = header.lines().filter_map(|line| line.trim().strip_prefix("from ")?.split_once(')'));
+    let mut end = 24;
+    for (part, _) in parts {
+        let (start, length) = part.split_once(" (").unwrap();
+        assert_eq!(start.parse(), Ok(end), "{part}");
+        end += length.parse::<usize>().unwrap();
+    }
+    assert_eq!(end, STATE_BYTES);
 }

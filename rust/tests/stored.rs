@@ -5,16 +5,17 @@ use std::path::Path;
 use umarekoza::*;
 
 /// The files, and how many lines each has.
-const FILES: [(&str, usize); 13] = [
+const FILES: [(&str, usize); 14] = [
     ("base2.tsv", 200),
     ("large.tsv", 24),
+    ("r9.tsv", 150),
     ("r1.tsv", 300),
     ("r4.tsv", 400),
     ("r5.tsv", 300),
     ("tables.tsv", 512),
     ("packets.tsv", 494),
     ("spelled.tsv", 94),
-    ("edge.tsv", 394),
+    ("edge.tsv", 389),
     ("mutated.tsv", 540),
     ("r10.tsv", 47),
     ("r2.tsv", 181),
@@ -85,7 +86,6 @@ fn made(
 fn answer(request: &str) -> String {
     let words: Vec<&str> = request.split(' ').collect();
     match *words {
-        ["text", room, text] => written(number(room), &bytes(text)),
         ["table", table] => {
             let table = bytes(table);
             // The number of fields stands in the head, behind its length, kind and W.
@@ -103,6 +103,19 @@ fn answer(request: &str) -> String {
         ["readers", index, table] => {
             settled(count_readers(&bytes(table), number(index)).map(|count| format!("ok {count}")))
         }
+        _ => new_table(&words),
+    }
+}
+
+/// The answer to a request for a new table.
+fn new_table(words: &[&str]) -> String {
+    match *words {
+        ["text", room, text] => written(number(room), &bytes(text)),
+        ["pieces", room, words] => {
+            let mut pieces = Pieces::new();
+            words.split(',').for_each(|word| pieces.piece(&bytes(word)));
+            made(number(room), |out| pieces.end(out), || pieces.table())
+        }
         ["convert", room, table] => {
             let old = bytes(table);
             made(number(room), |out| convert_table(&old, out), || converted(&old))
@@ -117,7 +130,7 @@ fn answer(request: &str) -> String {
             let whole = || with_fields(&table, index, &records);
             made(number(room), |out| put_fields(&table, index, &records, out), whole)
         }
-        _ => panic!("no request: {request}"),
+        _ => panic!("no request: {words:?}"),
     }
 }
 

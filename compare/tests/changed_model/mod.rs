@@ -11,8 +11,6 @@ pub mod expressions;
 pub mod field_lines;
 #[path = "../../../model/src/frames.rs"]
 pub mod frames;
-#[path = "../../../model/src/lines.rs"]
-pub mod lines;
 #[path = "../../../model/src/matching.rs"]
 pub mod matching;
 #[path = "../../../model/src/names.rs"]

@@ -86,7 +86,7 @@ pub fn take_row(lines: &mut Lines, first: &[u8], row_bits: u32, most: usize) -> 
         let Some(line) = lines.peek().or_else(|| unended(lines)) else { break };
         let Some(line) = further(line, first, &bars) else { break };
         row.push(line);
-        if lines.next().is_none() {
+        if lines.next()?.is_none() {
             lines.rest = b"";
             return cells(&row, &bars).map_or_else(|| lines.ends_early(), Ok);
         }

@@ -107,6 +107,7 @@ use Rattle.text_laws.specs.FrameReader.{
   rightFrom,
   rightLines,
   whole,
+  onBrief,
   rowOrBorder,
   readDrawn,
   ifLabelled,
@@ -147,18 +148,17 @@ unfolding digits all any same lastIs sum joined tabulate firstBreak operator ope
     storedTree isInRange hasType hasOperators power apply decides evaluateBy rowsFit treeReads fieldReads times
     readers storedIn storedWith recordsIn storedFieldIn fieldBody headBody tens units border only leftTrim keepEnd
     rightTrim bySpaces cellText areFitted columns rowLines unlabelledLine isDrawnIn headLines cells mismatch
-    ruleBroken bitsAt valueIn readFieldIn readFieldsIn readingIn fieldsBefore
-    entriesBefore entryLines linesText faultNumber ofTable ofPacket ofText ofField ofListing ofConversion delivered
-    readingAnswer packetOutcomeIn partlyOutcome firstNamed readingLines manyFields notTimes andTimes after manyRows
-    manyLines firstOf insert longestFirst order skip skipBehind operatorAt word behind scan wordValue isNumeral
-    isNumberWord andThen leaf close inside atom step expr more Lines.readField literal begins labelEnds labelText
-    labelBehind readLabel readClosedName readShort readTree unitOf readUnit readMeasure readWidth readPhrase
-    readMaybe isCondition isConstraint readConstraint readCondition isRemark readForm Frames.readName Frames.step
-    onFirst pieces rest keepRow stripsOf longOf readLong rowOf readRow withStrips moreRow closing readTens onName
-    onWidth onRow rowOrEnd opened onSame rowOrBorder run rightFrom rightLines whole readDrawn ifLabelled readFrame
-    reach placeOf firstIndex renameTree resolve sameTree formsOf seen Tables.readTwo Tables.readFour
-    Tables.readCounted Tables.codeIn Tables.codeOf
-    Tables.readAfter Tables.readTree Tables.treeOf Tables.readFixed Tables.readMeasured Tables.readWidth
+    ruleBroken bitsAt valueIn readFieldIn readFieldsIn readingIn fieldsBefore entriesBefore entryLines linesText
+    faultNumber ofTable ofPacket ofText ofField ofListing ofConversion delivered readingAnswer packetOutcomeIn
+    partlyOutcome firstNamed readingLines manyFields notTimes andTimes after manyRows manyLines firstOf insert
+    longestFirst order skip skipBehind operatorAt word behind scan wordValue isNumeral isNumberWord andThen leaf close
+    inside atom step expr more Lines.readField literal begins labelEnds labelText labelBehind readLabel readClosedName
+    readShort readTree unitOf readUnit readMeasure readWidth readPhrase readMaybe isCondition isConstraint
+    readConstraint readCondition isRemark readForm Frames.readName Frames.step onFirst pieces rest keepRow stripsOf
+    longOf readLong rowOf readRow withStrips moreRow closing readTens onName onWidth onRow rowOrEnd opened onSame
+    onBrief rowOrBorder run rightFrom rightLines whole readDrawn ifLabelled readFrame reach placeOf firstIndex
+    renameTree resolve sameTree formsOf seen Tables.readTwo Tables.readFour Tables.readCounted Tables.codeIn
+    Tables.codeOf Tables.readAfter Tables.readTree Tables.treeOf Tables.readFixed Tables.readMeasured Tables.readWidth
     Tables.fieldFrom Tables.readField Tables.readFields Tables.describedIn entriesOf linesOf Wrong.powers
     Wrong.quotients doubled renumberedTree renumbered closed Edits.opened cut put firstReader readRecords numberAt
 cases-hold = (
@@ -169,6 +169,7 @@ cases-hold = (
   record {
     lines = texts-hold .0;
     rows = texts-hold .1;
+    lengths = texts-hold .2;
     expressions = all-right expressions refl;
     fields = all-right fields refl;
     names = all-right names refl;
@@ -176,9 +177,9 @@ cases-hold = (
     tables = all-right storedTable refl;
     readers = all-right Counted.readers refl;
     edits = all-right edits refl;
-    spelling = texts-hold .2;
+    spelling = texts-hold .3;
     packets = all-right readingAPacket refl;
-    refusals = texts-hold .3;
+    refusals = texts-hold .4;
     listings = all-right listings refl;
     promises = all-so promised refl;
   },

@@ -101,6 +101,7 @@ use Rattle.text_laws.specs.FrameReader.{
   rightFrom,
   rightLines,
   whole,
+  onBrief,
   rowOrBorder,
   readDrawn,
   ifLabelled,
@@ -115,11 +116,12 @@ use Rattle.rules.specs.Cases.{AllHold}
 use Rattle.laws.proofs.Readers as Tables
 use Rattle.cases.specs.LinesOfAText.{linesOfAText}
 use Rattle.cases.specs.Rows.{rows}
+use Rattle.cases.specs.LineLengths.{lineLengths}
 use Rattle.cases.specs.Spelling.{spelling}
 use Rattle.cases.specs.RefusalNumbers.{refusalNumbers}
 use Rattle.cases.proofs.CaseTests.{all-right}
 
-pub texts-hold : AllHold linesOfAText × AllHold rows × AllHold spelling × AllHold refusalNumbers
+pub texts-hold : AllHold linesOfAText × AllHold rows × AllHold lineLengths × AllHold spelling × AllHold refusalNumbers
 unfolding digits all any same lastIs sum joined tabulate firstBreak operator operators isLetter isDigit isSpace
     isPrintable isAllowed isWordByte isLabelByte noTwoSpaces isLabel reserved isReserved isShort depth le2 le4
     storedTree hasType hasOperators rowsFit treeReads fieldReads times readers storedIn storedWith recordsIn
@@ -130,14 +132,15 @@ unfolding digits all any same lastIs sum joined tabulate firstBreak operator ope
     expr more Lines.readField literal begins labelEnds labelText labelBehind readLabel readClosedName readShort
     readTree unitOf readUnit readMeasure readWidth readPhrase readMaybe isCondition isConstraint readConstraint
     readCondition isRemark readForm Frames.readName Frames.step onFirst pieces rest keepRow stripsOf longOf readLong
-    rowOf readRow withStrips moreRow closing readTens onName onWidth onRow rowOrEnd opened onSame rowOrBorder run
-    rightFrom rightLines whole readDrawn ifLabelled readFrame reach placeOf firstIndex renameTree resolve formsOf
+    rowOf readRow withStrips moreRow closing readTens onName onWidth onRow rowOrEnd opened onSame onBrief rowOrBorder
+    run rightFrom rightLines whole readDrawn ifLabelled readFrame reach placeOf firstIndex renameTree resolve formsOf
     seen Tables.readTwo Tables.readFour Tables.readCounted Tables.codeIn Tables.codeOf Tables.readAfter
     Tables.readTree Tables.treeOf Tables.readFixed Tables.readMeasured Tables.readWidth Tables.fieldFrom
     Tables.readField Tables.readFields Tables.describedIn isInRange sameTree andTimes faultNumber
 texts-hold = (
   all-right linesOfAText refl,
   all-right rows refl,
+  all-right lineLengths refl,
   all-right spelling refl,
   all-right refusalNumbers refl,
 )

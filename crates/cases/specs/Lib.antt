@@ -1,6 +1,7 @@
 -- Worked           all worked cases hold: a list for each section of 01
 -- LinesOfAText     frames, labels and short names
 -- Rows             rows of several lines
+-- LineLengths      lines of a limited length
 -- Expressions      trees: spelling, values, limits
 -- Fields           how many fields, their names, widths and rows
 -- Names            which names may be read, and which clash
@@ -15,6 +16,7 @@
 -- Promised         right answers, one for each sort of claim
 pub mod LinesOfAText
 pub mod Rows
+pub mod LineLengths
 pub mod Expressions
 pub mod Fields
 pub mod Names

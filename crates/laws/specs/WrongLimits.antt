@@ -1,7 +1,7 @@
 -- Answers of programs that are wrong about the limits in force, or about those of the earlier edition. [02, R-10]
 use mathlib.Core.List.{List, [], _∷_, _++_}
 use Prim.Native.Nat.{ℕ, zero, suc, _*_}
-use lib.ListN.{length, replicate, set}
+use lib.ListN.{length, replicate, set, take}
 use Rattle.base.specs.Bytes.{bytes, decimal}
 use Rattle.base.specs.Lists.{joined}
 use Rattle.rules.specs.Limits.{limits}
@@ -108,6 +108,10 @@ inOthers =
     ∷ tellsLimits (set limits 1 64)
     ∷ tellsLimits (set limits 2 2048)
     ∷ tellsLimits (set limits 2 8192)
+    -- one byte more for a line, one less, its LF counted or none told [02, R-9]
+    ∷ tellsLimits (set limits 11 1025)
+    ∷ tellsLimits (set limits 11 1023)
+    ∷ tellsLimits (take 11 limits)
     ∷ []
 
 -- the same of the limits that a depot had before [02, R-10]

@@ -90,6 +90,7 @@ listed d numbers = storedWith current (λ i. getD numbers i 0) d
 abbrev pub oldKinds : Edition
 oldKinds = record {
   rowLines = current .rowLines;
+  lineBytes = current .lineBytes;
   fields = current .fields;
   few = current .few;
   packet = current .packet;
@@ -103,6 +104,7 @@ oldKinds = record {
 abbrev pub unnumbered : Edition
 unnumbered = record {
   rowLines = current .rowLines;
+  lineBytes = current .lineBytes;
   fields = current .fields;
   few = current .few;
   packet = current .packet;

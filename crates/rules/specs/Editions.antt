@@ -4,13 +4,15 @@ use mathlib.Core.Bool.{Bool, true, false, cond, not}
 use Prim.Native.Nat.{ℕ, _+_}
 use lib.Dec.{ltb, leb}
 use Rattle.rules.specs.declared.Op.{Op}
-use Rattle.rules.specs.Limits.{fieldsMost, packetMost, rowLinesMost}
+use Rattle.rules.specs.Limits.{textMost, lineMost, fieldsMost, packetMost, rowLinesMost}
 use Rattle.rules.specs.Operators.{isAdded}
 use Rattle.rules.specs.Values.{Meaning, apply}
 
 pub record Edition : Type 0 where
   -- how many lines a bit row may have
   pub rowLines : ℕ
+  -- how many bytes a line may have, its LF not counted
+  pub lineBytes : ℕ
   -- how many fields there may be; an index takes one byte
   pub fields : ℕ
   pub few : leb fields 256 ≡ true
@@ -25,10 +27,11 @@ pub record Edition : Type 0 where
   -- a field's record keeps how often the field is read
   pub keepsReaders : Bool
 
--- [01, The stored table] [02, R-1] [02, R-5] [02, R-7] [02, R-10]
+-- [01, The stored table] [02, R-1] [02, R-5] [02, R-7] [02, R-9] [02, R-10]
 abbrev pub current : Edition
 current = record {
   rowLines = rowLinesMost;
+  lineBytes = lineMost;
   fields = fieldsMost;
   few = refl;
   packet = packetMost;
@@ -44,6 +47,7 @@ current = record {
 abbrev pub earlier : Edition
 earlier = record {
   rowLines = current .rowLines;
+  lineBytes = current .lineBytes;
   fields = 64;
   few = refl;
   packet = 2048;
@@ -58,6 +62,23 @@ earlier = record {
 abbrev pub oneLine : Edition
 oneLine = record {
   rowLines = 1;
+  lineBytes = current .lineBytes;
+  fields = current .fields;
+  few = current .few;
+  packet = current .packet;
+  knows = current .knows;
+  means = current .means;
+  fixedKind = current .fixedKind;
+  short = current .short;
+  keepsReaders = current .keepsReaders;
+}
+
+-- lines of any length, all else as in force: no line of a text that is not too long is longer
+-- [01, The lines of a text] [02, R-9]
+abbrev pub anyLine : Edition
+anyLine = record {
+  rowLines = current .rowLines;
+  lineBytes = textMost;
   fields = current .fields;
   few = current .few;
   packet = current .packet;
@@ -72,6 +93,7 @@ oneLine = record {
 abbrev pub withoutAdded : Meaning → Edition
 withoutAdded means = record {
   rowLines = current .rowLines;
+  lineBytes = current .lineBytes;
   fields = current .fields;
   few = current .few;
   packet = current .packet;
@@ -87,6 +109,7 @@ withoutAdded means = record {
 abbrev pub uncounted : Edition
 uncounted = record {
   rowLines = current .rowLines;
+  lineBytes = current .lineBytes;
   fields = earlier .fields;
   few = earlier .few;
   packet = earlier .packet;
@@ -101,6 +124,7 @@ uncounted = record {
 abbrev pub withoutReaders : Edition
 withoutReaders = record {
   rowLines = current .rowLines;
+  lineBytes = current .lineBytes;
   fields = current .fields;
   few = current .few;
   packet = current .packet;

@@ -1,10 +1,10 @@
 -- The frame of a text: opening line, rulers, borders, rows of cells, and field lines of any form.
--- From the frame to its text. [01, The lines of a text] [02, R-1]
+-- From the frame to its text. [01, The lines of a text] [02, R-1] [02, R-9]
 use mathlib.Core.Path.{_≡_}
 use mathlib.Core.Bool.{Bool, true, false, cond, _&&_, _||_, not}
 use mathlib.Core.List.{List, [], _∷_, _++_, map}
 use Prim.Native.Nat.{ℕ, suc, _+_, _*_, _-_, _/_, _%_}
-use lib.Dec.{ltb, eqb}
+use lib.Dec.{leb, ltb, eqb}
 use lib.ListN.{length}
 use Rattle.base.specs.Bytes.{bytes}
 use Rattle.base.specs.Lists.{all, isEmpty, joined, tabulate}
@@ -53,6 +53,10 @@ article false = bytes "A "
 abbrev pub isLine : List ℕ → Bool
 isLine l = all (λ b. not (eqb b lineFeed)) l
 
+-- short enough, by an edition: asked of field lines, since the other lines of a frame are so by themselves [02, R-9]
+abbrev pub isBriefIn : Edition → List ℕ → Bool
+isBriefIn e l = leb (length l) (e .lineBytes)
+
 -- drawn right, whatever the cells say, by an edition
 unfoldable pub isDrawnIn : Edition → Frame → Bool
 isDrawnIn e f =
@@ -61,7 +65,7 @@ isDrawnIn e f =
     && (not (isEmpty (f .rows))
     && (all (isDrawnRow (e .rowLines) (f .rowWidth)) (f .rows)
     && (not (isEmpty (f .lines))
-    && all isLine (f .lines)))))
+    && (all isLine (f .lines) && all (isBriefIn e) (f .lines))))))
 
 -- and the text of each cell is a label
 abbrev pub isFrameIn : Edition → Frame → Bool
@@ -116,6 +120,9 @@ abbrev pub isOverfullIn : Edition → Frame → Bool
 isOverfullIn e f = ltb (e .fields) (length (cells f)) || ltb (e .fields) (length (f .lines))
 
 -- by the edition in force
+abbrev pub isBrief : List ℕ → Bool
+isBrief l = isBriefIn current l
+
 abbrev pub isDrawn : Frame → Bool
 isDrawn f = isDrawnIn current f
 

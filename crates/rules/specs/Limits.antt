@@ -8,6 +8,10 @@ use lib.Dec.{leb}
 abbrev pub textMost : ℕ
 textMost = 16384
 
+-- [02, R-9] bytes of a line, its LF not counted
+abbrev pub lineMost : ℕ
+lineMost = 1024
+
 -- [02, R-1] lines of a bit row
 abbrev pub rowLinesMost : ℕ
 rowLinesMost = 4
@@ -61,4 +65,5 @@ limits =
     ∷ storedMost
     ∷ fixedMost
     ∷ rowLinesMost
+    ∷ lineMost
     ∷ []

@@ -52,6 +52,8 @@ fn run_texts() {
     run_file(b"texts12");
     run_file(b"texts13");
     run_file(b"texts14");
+    run_file(b"texts15");
+    run_file(b"texts16");
 }
 
 fn run_limits() {

@@ -1,5 +1,5 @@
 -- The bytes of a text that spells a description are allowed.
-use mathlib.Core.Path.{_≡_, refl}
+use mathlib.Core.Path.{_≡_, refl, subst}
 use mathlib.Core.Bool.{Bool, true, false, cond, _||_}
 use mathlib.Core.List.{List, [], _∷_, _++_, map}
 use Prim.Native.Nat.{ℕ, zero, suc, _+_, _*_, _-_, _/_, _%_, _≤_, _<_}
@@ -13,12 +13,13 @@ use Rattle.base.proofs.Breaks.{or-true, all-cons}
 use Rattle.rules.specs.Limits.{rowLinesMost}
 use Rattle.rules.specs.Names.{isPrintable, isAllowed, isLabel, isShort, lineFeed}
 use Rattle.rules.specs.Fields.{Field, Description}
+use Rattle.rules.specs.Editions.{Edition, current}
 use Rattle.rules.specs.Within.{isRowWidth}
 use Rattle.rules.specs.Lines.{SpellsField}
 use Rattle.rules.specs.Rows.{Cell, cellText, Row, bitRow, longRow, barLine, rowLines, isDrawnRow, columns, isLabelled}
-use Rattle.rules.specs.Frames.{tensAt, tens, unitsAt, units, borderAt, border, isDrawn, Frame, article, headLines}
-use Rattle.rules.specs.Frames.{ended, frameText, FrameOf}
-use Rattle.rules.specs.Spelling.{Spells, NameOf}
+use Rattle.rules.specs.Frames.{tensAt, tens, unitsAt, units, borderAt, border, isDrawnIn, Frame, article, headLines}
+use Rattle.rules.specs.Frames.{ended, frameText, FrameOfIn}
+use Rattle.rules.specs.Spelling.{SpellsIn, Spells, NameOf}
 use Rattle.text_laws.proofs.NamedRules.{name-short}
 use Rattle.text_laws.proofs.CellTexts.{cell-all, columns-all}
 use Rattle.text_laws.proofs.RowReader.{drawn-fitted}
@@ -130,18 +131,21 @@ unfolding all isPrintable
 article-printable true = refl
 article-printable false = refl
 
-head-printable : (text : List ℕ) (f : Frame) → FrameOf text f → all printable (headLines f) ≡ true
+head-printable : (e : Edition) → e .rowLines ≡ rowLinesMost → (text : List ℕ) (f : Frame) → FrameOfIn e text f
+    → all printable (headLines f) ≡ true
 unfolding all isPrintable headLines
-head-printable text f h =
-    let p = frame-parts text f h in
+head-printable e is text f h =
+    let p = frame-parts e text f h in
+    let drawn : all (isDrawnRow rowLinesMost (f .rowWidth)) (f .rows) ≡ true =
+    subst (λ (n : ℕ). all (isDrawnRow n (f .rowWidth)) (f .rows) ≡ true) is (p .2) in
     let opening : printable (article (f .an) ++ (f .name ++ bytes " is formatted as follows:")) ≡ true =
     printable-both (article (f .an)) (f .name ++ bytes " is formatted as follows:") (article-printable (f .an))
     (printable-both (f .name) (bytes " is formatted as follows:") (label-is-printable (f .name) (p .0)) refl) in
     let rows : all printable (joined (λ r. rowLines r ++ (border (f .rowWidth) ∷ [])) (f .rows)
     ++ ([] ∷ bytes "where:" ∷ [] ∷ [])) ≡ true =
     all-append printable (joined (λ r. rowLines r ++ (border (f .rowWidth) ∷ [])) (f .rows))
-    ([] ∷ bytes "where:" ∷ [] ∷ []) (rows-printable (f .rowWidth) (f .rows) (p .2)
-    (and-right (isDrawn f) (all isLabelled (f .rows)) (h .isFramed))) refl in
+    ([] ∷ bytes "where:" ∷ [] ∷ []) (rows-printable (f .rowWidth) (f .rows) drawn
+    (and-right (isDrawnIn e f) (all isLabelled (f .rows)) (h .isFramed))) refl in
     rw (
       opening,
       tens-printable (f .rowWidth) (row-width-most (f .rowWidth) (p .1)),
@@ -169,11 +173,17 @@ lines-allowed (l ∷ lines) h =
     (all-weaken isPrintable isAllowed (λ b e. or-left (isPrintable b) (eqb b lineFeed) e) l (k .0)) refl)
     (lines-allowed lines (k .1))
 
-pub spelled-allowed : (text : List ℕ) (d : Description) → Spells text d → all isAllowed text ≡ true
+-- by an edition whose rows have as many lines as those in force
+pub spelled-allowed-in : (e : Edition) → e .rowLines ≡ rowLinesMost → (text : List ℕ) (d : Description)
+    → SpellsIn e text d → all isAllowed text ≡ true
 unfolding frameText
-spelled-allowed text d s =
+spelled-allowed-in e is text d s =
     rw (s .isFrameOf .isText) at
     (lines-allowed (headLines (s .frame) ++ s .frame .lines)
-    (all-append printable (headLines (s .frame)) (s .frame .lines) (head-printable text (s .frame) (s .isFrameOf))
+    (all-append printable (headLines (s .frame)) (s .frame .lines)
+    (head-printable e is text (s .frame) (s .isFrameOf))
     (lines-printable (NameOf (d .fields)) (name-short (d .fields) (s .within .form)) (d .fields) (s .frame .lines)
     (formed-lines (NameOf (d .fields)) [] (d .fields) (s .frame .lines) (s .within .form) (s .lines)))))
+
+pub spelled-allowed : (text : List ℕ) (d : Description) → Spells text d → all isAllowed text ≡ true
+spelled-allowed text d s = spelled-allowed-in current refl text d s

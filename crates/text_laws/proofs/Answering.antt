@@ -7,12 +7,13 @@ use Prim.Native.Nat.{ℕ, suc, _+_, _≤_, _<_}
 use native.Mathlib.Omega.{arith}
 use native.Mathlib.Decide.{decLt}
 use lib.Dec.{ltb}
-use lib.ListN.{length, length-append, length-map}
-use borrow.Author.Tests.{le-ltb}
+use lib.ListN.{length, length-append, length-map, take}
+use lib.Seq.{take-all}
+use borrow.Author.Tests.{le-ltb, ltb-true, ltb-false}
 use Rattle.base.specs.Lists.{all, isEmpty, joined}
 use Rattle.base.proofs.Lookups.{each-length}
 use Rattle.rules.specs.Answers.{Answer, refused}
-use Rattle.rules.specs.Limits.{textMost, fieldsMost}
+use Rattle.rules.specs.Limits.{textMost, lineMost, fieldsMost}
 use Rattle.rules.specs.Names.{isAllowed, lineFeed}
 use Rattle.rules.specs.Fields.{Form, Description}
 use Rattle.rules.specs.Stored.{stored}
@@ -35,14 +36,16 @@ use Rattle.text_laws.proofs.NamedTypes.{rules-kept}
 use Rattle.text_laws.proofs.Resolve.{resolved-spells}
 use Rattle.text_laws.specs.Lowest.{lower}
 use Rattle.text_laws.specs.Judging.{face}
-use Rattle.text_laws.specs.Fold.{Stage, fieldLine, Found, start, Kept, fresh, lined, kept, early, uncelled}
+use Rattle.text_laws.specs.Fold.{Stage, opening, blank, tensRuler, unitsRuler, topBorder, firstRow, inRow}
+use Rattle.text_laws.specs.Fold.{rowOrBlank, whereLine, lastBlank, firstField, fieldLine, lost, Found, start}
+use Rattle.text_laws.specs.Fold.{Kept, fresh, lined, isLost, cut, wrong, unended, kept, early, uncelled}
 use Rattle.text_laws.specs.Fold.{lowestAt, foundDescription, outcome, finish}
 use Rattle.text_laws.proofs.Lowests.{Above, lower-stays}
 use Rattle.text_laws.proofs.Resolved.{folded, folded-faces, folded-all}
 use Rattle.text_laws.proofs.Judges.{Spelled, Judges, all-kept, over-size, no-form-at}
 use Rattle.text_laws.proofs.HeadFills.{Fills, fits, spills}
 use Rattle.text_laws.proofs.Heads.{stageOf, Stands, start-stands, stands-blamed, Ran, run-stands}
-use Rattle.text_laws.proofs.Fed.{kept-lines, Lost, too-long, bad-bytes}
+use Rattle.text_laws.proofs.Fed.{lost-stage, kept-lines, Lost, too-long, bad-bytes}
 use Rattle.text_laws.proofs.Ended.{remaining, rules-found}
 
 -- ── 1 and 2 ──
@@ -244,10 +247,66 @@ module _ (text out : List ℕ) (plain : Plain text) (g : Found) (r : List ℕ) (
       let z : 0 + length (linesOf text) ≡ length (linesOf text) = omega arith in
       by-state q e (subst (λ (n : ℕ). Stands n q g) z h)
 
+-- ── bytes behind the last LF ──
+
+-- they are a 3 there, too long or not
+pub lowest-behind : (s : Stage) (r : List ℕ) (g : Found) → isLost s ≡ false → isEmpty r ≡ false → lowestAt s r g ≡
+    early g
+unfolding lowestAt
+lowest-behind opening r g e h = refl
+lowest-behind blank r g e h = refl
+lowest-behind tensRuler r g e h = refl
+lowest-behind unitsRuler r g e h = refl
+lowest-behind topBorder r g e h = refl
+lowest-behind firstRow r g e h = refl
+lowest-behind inRow r g e h = refl
+lowest-behind rowOrBlank r g e h = refl
+lowest-behind whereLine r g e h = refl
+lowest-behind lastBlank r g e h = refl
+lowest-behind firstField r g e h = refl
+lowest-behind fieldLine r g e h = rw h refl
+lowest-behind lost r g e h = cc
+
+long-some : (r : List ℕ) → lineMost < length r → isEmpty r ≡ false
+long-some [] lt = absurd (omega arith)
+long-some (b ∷ r) lt = refl
+
+-- at the end, a line that was cut answers as if it were there whole
+pub ended-same : (n : ℕ) (r : List ℕ) (g : Found) (out : List ℕ)
+    → finish (record { size = n; line = take lineMost r; found = unended g r }) out
+    ≡ outcome g out (lowestAt (g .stage) r g)
+unfolding finish unended lowestAt
+ended-same n r g out = go (ltb lineMost (length r)) refl
+  where
+    cut-short : (x : Bool) → isLost (g .stage) ≡ x → isEmpty r ≡ false
+        → finish (record { size = n; line = take lineMost r; found = cond x g (wrong g) }) out
+        ≡ outcome g out (lowestAt (g .stage) r g)
+    cut-short true e h =
+        ap (λ (s : Stage). outcome g out (lowestAt s (take lineMost r) g)) (lost-stage (g .stage) e)
+        ∙ sym (ap (λ (s : Stage). outcome g out (lowestAt s r g)) (lost-stage (g .stage) e))
+    cut-short false e h = ap (outcome g out) (sym (lowest-behind (g .stage) r g e h))
+
+    go : (b : Bool) → ltb lineMost (length r) ≡ b
+        → finish (record { size = n; line = take lineMost r; found = cond b (cut g) g }) out
+        ≡ outcome g out (lowestAt (g .stage) r g)
+    go true e = cut-short (isLost (g .stage)) refl (long-some r (ltb-true lineMost (length r) e))
+    go false e =
+        ap (λ (l : List ℕ). outcome g out (lowestAt (g .stage) l g))
+        (take-all lineMost r (ltb-false lineMost (length r) e))
+
+-- so behind a plain text the end is that of its lines and of all bytes behind the last LF
+pub kept-finish : (t out : List ℕ) → all isAllowed t ≡ true → length t ≤ textMost
+    → finish (kept t) out
+    ≡ finish (record { size = length t; line = rest lineFeed t; found = foldl lined start (linesOf t) }) out
+unfolding finish
+kept-finish t out a le =
+    ap (λ (k : Kept). finish k out) (kept-lines t a le)
+    ∙ ended-same (length t) (rest lineFeed t) (foldl lined start (linesOf t)) out
+
 plain-answers : (text out : List ℕ) → Plain text → ReadsText text out (finish (kept text) out)
 unfolding finish
 plain-answers text out plain =
-    subst (λ (k : Kept). ReadsText text out (finish k out)) (sym (kept-lines text (plain .bytes) (plain .size)))
+    subst (λ (o : Outcome). ReadsText text out o) (sym (kept-finish text out (plain .bytes) (plain .size)))
     (by-run text out plain (foldl lined start (linesOf text)) (rest lineFeed text) refl
     (strictRun begun (linesOf text)) refl
     (run-stands (linesOf text) 0 begun start start-stands))

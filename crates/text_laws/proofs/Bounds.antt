@@ -1,178 +1,32 @@
 -- What is kept has a fixed size: the bounds that the code's buffers need.
-use mathlib.Core.Path.{_≡_, refl, ap, ap₂, _∙_}
+use mathlib.Core.Path.{_≡_, refl}
 use mathlib.Core.Bool.{Bool, true, false, cond, _&&_}
 use mathlib.Core.List.{List, [], _∷_, _++_, foldl}
-use mathlib.Core.Option.{Option, none, some, Option·map}
-use Prim.Native.Nat.{ℕ, suc, _-_, _≤_, _<_, max}
+use mathlib.Core.Option.{Option, none, some}
+use Prim.Native.Nat.{ℕ, suc, _-_, _≤_}
 use native.Mathlib.Omega.{arith}
 use lib.Dec.{ltb, leb, eqb}
 use lib.ListN.{length, length-append, take, drop}
-use borrow.Author.Tests.{ltb-true, ltb-false, leb-true, leb-false}
+use borrow.Author.Tests.{ltb-true, ltb-false, leb-true}
 use Rattle.base.specs.Bytes.{bytes}
-use Rattle.base.specs.Lists.{all, listOf, same, ifAny}
-use Rattle.base.proofs.Lists.{and-left, and-right, and-both, all-append, not-both, or-false-right}
+use Rattle.base.specs.Lists.{all, same, ifAny}
+use Rattle.base.proofs.Lists.{and-left, and-right, all-append}
 use Rattle.rules.specs.Answers.{Answer, refused}
-use Rattle.rules.specs.Limits.{textMost, fieldsMost, labelMost, rowLinesMost}
+use Rattle.rules.specs.Limits.{textMost, lineMost, fieldsMost, labelMost, rowLinesMost}
 use Rattle.rules.specs.Names.{isLabel, isAllowed, lineFeed}
-use Rattle.rules.specs.Operators.{code}
-use Rattle.rules.specs.Trees.{Tree, num, read, two, negation, depth, storedTree, isInRange, isSmall, isNumber}
-use Rattle.rules.specs.Fields.{Width, fixed, measured, rest, Field, Form, trees, widthTrees}
-use Rattle.rules.specs.Within.{isWidth, isFormed, keepsSize}
 use Rattle.rules.specs.Rows.{Row, rowLines, isDrawnRow, isLabelled}
-use Rattle.rules.specs.Frames.{Slot, slotsIn, tens, units, border}
+use Rattle.rules.specs.Frames.{slotsIn, tens, units, border}
 use Rattle.text_laws.specs.FrameReader.{readName, readTens, readRow, moreRow, closing}
-use Rattle.text_laws.specs.LineReader.{readForm}
-use Rattle.text_laws.specs.Resolving.{indexOf, renameTree, renameWidth, renameField}
-use Rattle.text_laws.proofs.FormExact.{form-sound}
-use Rattle.text_laws.specs.Lowest.{lower, broken}
-use Rattle.text_laws.specs.Judging.{faces, resolvedIn, rules, Judged, isOpen, isMany, isFull, many, withForm}
-use Rattle.text_laws.specs.Judging.{judge}
-use Rattle.text_laws.proofs.RowReader.{Reads, row-sound, more-sound}
+use Rattle.text_laws.specs.Judging.{many}
 use Rattle.text_laws.specs.Fold.{Stage, opening, blank, tensRuler, unitsRuler, topBorder, firstRow, inRow}
 use Rattle.text_laws.specs.Fold.{rowOrBlank, whereLine, lastBlank, firstField, fieldLine, lost, Found, Kept}
-use Rattle.text_laws.specs.Fold.{fresh, onward, losing, blamed, wrong, withLine, withCells, onMore, withMore}
-use Rattle.text_laws.specs.Fold.{expect, openingName, withName, withWidth, withRow, withField, linedAt, lined}
-use Rattle.text_laws.specs.Fold.{put, over, fed, kept}
-use Rattle.text_laws.specs.Steady.{isKept, FewFields, Small}
+use Rattle.text_laws.specs.Fold.{start, fresh, onward, losing, blamed, wrong, withLine, withCells, onMore}
+use Rattle.text_laws.specs.Fold.{withMore, expect, openingName, withName, withWidth, withRow, briefField}
+use Rattle.text_laws.specs.Fold.{withField, linedAt, lined, isLost, cut, put, over, fed, kept}
+use Rattle.text_laws.specs.Steady.{FewFields, Small}
+use Rattle.text_laws.proofs.RowReader.{Reads, row-sound, more-sound}
 use Rattle.text_laws.proofs.CellTexts.{row-labels}
-
--- ── names resolved in whatever way: the same form and size ──
-
-module _ {N : Type 0} (g : List ℕ → N) where
-  same-depth : (t : Tree (List ℕ)) → depth (renameTree g t) ≡ depth t
-  unfolding depth renameTree
-  same-depth (num n) = refl
-  same-depth (read w) = refl
-  same-depth (two o x y) = ap₂ (λ a b. suc (max a b)) (same-depth x) (same-depth y)
-  same-depth (negation x) = ap suc (same-depth x)
-
-  same-stored : (t : Tree (List ℕ)) → storedTree (λ a. 0) (renameTree g t) ≡ storedTree (λ w. 0) t
-  unfolding storedTree renameTree
-  same-stored (num n) = refl
-  same-stored (read w) = refl
-  same-stored (two o x y) = ap₂ (λ (a b : List ℕ). code o ∷ (a ++ b)) (same-stored x) (same-stored y)
-  same-stored (negation x) = rw (same-stored x) refl
-
-  same-small : (t : Tree (List ℕ)) → isSmall (renameTree g t) ≡ isSmall t
-  same-small t = rw (same-depth t, same-stored t) refl
-
-  same-range : (t : Tree (List ℕ)) → isInRange (renameTree g t) ≡ isInRange t
-  unfolding isInRange renameTree
-  same-range (num n) = refl
-  same-range (read w) = refl
-  same-range (two o x y) = ap₂ _&&_ (same-range x) (same-range y)
-  same-range (negation x) = same-range x
-
-  same-number : (t : Tree (List ℕ)) → isNumber (renameTree g t) ≡ isNumber t
-  unfolding renameTree
-  same-number (num n) = refl
-  same-number (read w) = refl
-  same-number (two o x y) = refl
-  same-number (negation x) = refl
-
-  -- a test that says the same of a tree and the renamed one, over the trees of a field
-  module _ (p : Tree N → Bool) (q : Tree (List ℕ) → Bool) (h : (t : Tree (List ℕ)) → p (renameTree g t) ≡ q t) where
-    maybe-trees : (o : Option (Tree (List ℕ))) (l : List (Tree N)) (m : List (Tree (List ℕ))) → all p l ≡ all q m
-        → all p (listOf (Option·map (renameTree g) o) ++ l) ≡ all q (listOf o ++ m)
-    unfolding all
-    maybe-trees none l m e = e
-    maybe-trees (some t) l m e = rw (h t, e) refl
-
-    width-trees : (v : Width (List ℕ)) (l : List (Tree N)) (m : List (Tree (List ℕ))) → all p l ≡ all q m
-        → all p (widthTrees (renameWidth g v) ++ l) ≡ all q (widthTrees v ++ m)
-    unfolding all
-    width-trees (fixed n) l m e = e
-    width-trees (measured u t) l m e = rw (h t, e) refl
-    width-trees rest l m e = e
-
-    last-trees : (o : Option (Tree (List ℕ))) → all p (listOf (Option·map (renameTree g) o)) ≡ all q (listOf o)
-    unfolding all
-    last-trees none = refl
-    last-trees (some t) = rw (h t) refl
-
-    field-trees : (x : Form) → all p (trees (renameField g x)) ≡ all q (trees x)
-    field-trees x =
-        width-trees (x .width) _ (listOf (x .constraint) ++ listOf (x .condition))
-        (maybe-trees (x .constraint) _ (listOf (x .condition)) (last-trees (x .condition)))
-
-  same-width : (v : Width (List ℕ)) → isWidth (renameWidth g v) ≡ isWidth v
-  same-width (fixed n) = refl
-  same-width (measured u t) = rw (same-number t) refl
-  same-width rest = refl
-
-  same-formed : (x : Form) → isFormed (renameField g x) ≡ isFormed x
-  same-formed x = rw (same-width (x .width), field-trees isInRange isInRange same-range x) refl
-
-kept-renamed : (g : List ℕ → ℕ) (x : Form) → isKept (renameField g x) ≡ isKept x
-kept-renamed g x = rw (same-formed g x, field-trees g isSmall isSmall (same-small g) x) refl
-
--- ── field lines ──
-
--- behind a line over size nothing is kept
-open-small : (cells : List Slot) (p : ℕ) (o : Option Answer) (before : List Form) (x : Form)
-    → isOpen (lower o (broken 6 p (rules cells) before x)) ≡ true → keepsSize before x ≡ true
-unfolding broken
-open-small cells p o before x h = go (keepsSize before x) refl
-  where
-    closed : (a : Option Answer) → isOpen (lower a (some (refused 6 p))) ≡ false
-    closed none = refl
-    closed (some a) = last (ltb 6 (a .number)) refl
-      where
-        last : (b : Bool) → ltb 6 (a .number) ≡ b → isOpen (cond b (some (refused 6 p)) (some a)) ≡ false
-        last true e = refl
-        last false e = e
-
-    go : (b : Bool) → keepsSize before x ≡ b → keepsSize before x ≡ true
-    go true e = e
-    go false e = absurd (not-both (isOpen (lower o (broken 6 p (rules cells) before x))) h (rw e (closed o)))
-
-few-form : (cells : List Slot) (p : ℕ) (j : Judged) (l : List ℕ) (o : Option Form) → readForm l ≡ o
-    → j .count < fieldsMost → FewFields j → FewFields (withForm cells p j o)
-unfolding withForm
-few-form cells p j l none e lt h = record {
-  count = lt;
-  fields = (let n = h .fields in omega arith);
-  formed = h .formed;
-}
-few-form cells p j l (some x) e lt h =
-    go (isOpen (lower (j .lowest) (broken 6 p (rules cells) (faces (j .fields)) x))) refl
-  where
-    here : Option Answer
-    here = lower (j .lowest) (broken 6 p (rules cells) (faces (j .fields)) x)
-
-    more : List (Field ℕ)
-    more = j .fields ++ (resolvedIn (j .fields) x ∷ [])
-
-    formed-x : isOpen here ≡ true → isKept (resolvedIn (j .fields) x) ≡ true
-    formed-x k =
-        kept-renamed (indexOf (faces (j .fields) ++ (x ∷ []))) x
-        ∙ and-both (isFormed x) (all isSmall (trees x)) (form-sound l x e .formed)
-        (open-small cells p (j .lowest) (faces (j .fields)) x k)
-
-    go : (b : Bool) → isOpen here ≡ b
-        → FewFields (record { count = suc (j .count); fields = cond b more (j .fields); lowest = here })
-    go true k = record {
-      count = lt;
-      fields = (let n = h .fields in let m = length-append (j .fields) (resolvedIn (j .fields) x ∷ []) in
-          omega (arith, n, m));
-      formed = all-append isKept (j .fields) (resolvedIn (j .fields) x ∷ []) (h .formed)
-          (unfold all in rw (formed-x k) refl);
-    }
-    go false k = record {
-      count = lt;
-      fields = (let n = h .fields in omega arith);
-      formed = h .formed;
-    }
-
-few-judge : (cells : List Slot) (p : ℕ) (j : Judged) (l : List ℕ) → FewFields j → FewFields (judge cells p j l)
-unfolding judge
-few-judge cells p j l h = go (isFull j) refl
-  where
-    go : (b : Bool) → isFull j ≡ b → FewFields (cond b (many j) (withForm cells p j (readForm l)))
-    go true e = record { count = h .count; fields = h .fields; formed = h .formed }
-    go false e =
-        few-form cells p j l (readForm l) refl
-        (leb-false fieldsMost (j .count) (or-false-right (isMany (j .lowest)) (leb fieldsMost (j .count)) e)) h
+use Rattle.text_laws.proofs.FieldBounds.{few-judge}
 
 -- ── lines ──
 
@@ -190,7 +44,7 @@ small-same f g name width cells row h s = record {
 small-onward : (s : Stage) (f : Found) → Small f → Small (onward s f)
 small-onward s f h = small-same f (onward s f) refl refl refl (h .row) (h .judged) h
 
-small-losing : (a : Answer) (f : Found) → Small f → Small (losing a f)
+pub small-losing : (a : Answer) (f : Found) → Small f → Small (losing a f)
 small-losing a f h = small-same f (losing a f) refl refl refl (h .row)
     (record { count = h .judged .count; fields = h .judged .fields; formed = h .judged .formed }) h
 
@@ -201,7 +55,7 @@ small-expect w s f l h = go (same l w)
     go true = small-onward s f h
     go false = small-losing (refused 3 (blamed (f .row) (f .lines))) f h
 
-label-short : (w : List ℕ) → isLabel w ≡ true → length w ≤ labelMost
+pub label-short : (w : List ℕ) → isLabel w ≡ true → length w ≤ labelMost
 unfolding isLabel
 label-short w h = leb-true (length w) labelMost (and-left (leb (length w) labelMost) _ h)
 
@@ -314,9 +168,20 @@ small-more f l (some r) h = go (moreRow (f .width) r l) (more-sound (f .width) r
     go (some x) k = small-same f (withLine f x) refl refl refl (k .0) (h .judged) h
 
 small-field : (f : Found) (l : List ℕ) → Small f → Small (withField f l)
-small-field f l h =
-    small-same f (withField f l) refl refl refl (h .row)
-    (few-judge (f .cells) (suc (f .lines)) (f .judged) l (h .judged)) h
+small-field f l h = go (leb (length l) lineMost)
+  where
+    go : (b : Bool) → Small (cond b (briefField f l) (wrong f))
+    go true =
+        small-same f (briefField f l) refl refl refl (h .row)
+        (few-judge (f .cells) (suc (f .lines)) (f .judged) l (h .judged)) h
+    go false = small-wrong f h
+
+pub small-cut : (f : Found) → Small f → Small (cut f)
+small-cut f h = go (isLost (f .stage))
+  where
+    go : (b : Bool) → Small (cond b f (wrong f))
+    go true = h
+    go false = small-wrong f h
 
 pub small-line : (s : Stage) (f : Found) (l : List ℕ) → Small f → Small (linedAt s f l)
 unfolding linedAt
@@ -336,59 +201,67 @@ small-line firstField f l h = small-field f l h
 small-line fieldLine f l h = small-field f l h
 small-line lost f l h = h
 
+pub small-start : Small start
+unfolding all
+small-start = record {
+  name = omega arith;
+  width = omega arith;
+  row = refl;
+  cells = omega arith;
+  texts = refl;
+  judged = record { count = omega arith; fields = omega arith; formed = refl };
+}
+
 -- ── bytes ──
 
 pub record Bounded (k : Kept) : Type 0 where
   pub size : k .size ≤ textMost
-  pub line : length (k .line) ≤ k .size
+  pub line : length (k .line) ≤ lineMost
   pub found : Small (k .found)
 
 bounded-fed : (k : Kept) (b : ℕ) → Bounded k → Bounded (fed k b)
 unfolding fed
-bounded-fed k b h = go (ltb (k .size) textMost) refl (isAllowed b) (eqb b lineFeed)
+bounded-fed k b h =
+    go (ltb (k .size) textMost) refl (isAllowed b) (eqb b lineFeed) (ltb (length (k .line)) lineMost) refl
   where
-    go : (x : Bool) → ltb (k .size) textMost ≡ x → (y z : Bool)
+    go : (x : Bool) → ltb (k .size) textMost ≡ x → (y z v : Bool) → ltb (length (k .line)) lineMost ≡ v
         → Bounded (cond x
-        (cond y (cond z (put k [] (lined (k .found) (k .line))) (put k (k .line ++ (b ∷ [])) (k .found)))
+        (cond y (cond z (put k [] (lined (k .found) (k .line)))
+        (cond v (put k (k .line ++ (b ∷ [])) (k .found)) (put k (k .line) (cut (k .found)))))
         (put k (k .line) (losing (refused 2 0) (k .found))))
         (over k))
-    go true e true true = record {
+    go true e true true v q = record {
       size = ltb-true (k .size) textMost e;
       line = omega arith;
       found = small-line (k .found .stage) (k .found) (k .line) (h .found);
     }
-    go true e true false = record {
+    go true e true false true q = record {
       size = ltb-true (k .size) textMost e;
-      line = (let n = h .line in let m = length-append (k .line) (b ∷ []) in omega (arith, n, m));
+      line = (let n = ltb-true (length (k .line)) lineMost q in let m = length-append (k .line) (b ∷ []) in
+          omega (arith, n, m));
       found = h .found;
     }
-    go true e false z = record {
+    go true e true false false q = record {
       size = ltb-true (k .size) textMost e;
-      line = (let n = h .line in omega arith);
+      line = h .line;
+      found = small-cut (k .found) (h .found);
+    }
+    go true e false z v q = record {
+      size = ltb-true (k .size) textMost e;
+      line = h .line;
       found = small-losing (refused 2 0) (k .found) (h .found);
     }
-    go false e y z = record {
+    go false e y z v q = record {
       size = h .size;
       line = h .line;
       found = small-losing (refused 1 0) (k .found) (h .found);
     }
 
-bounded-all : (t : List ℕ) (k : Kept) → Bounded k → Bounded (foldl fed k t)
+pub bounded-all : (t : List ℕ) (k : Kept) → Bounded k → Bounded (foldl fed k t)
 bounded-all [] k h = h
 bounded-all (b ∷ t) k h = bounded-all t (fed k b) (bounded-fed k b h)
 
 -- whatever the text
 pub kept-bounded : (t : List ℕ) → Bounded (kept t)
-unfolding kept all
-kept-bounded t = bounded-all t fresh (record {
-  size = omega arith;
-  line = omega arith;
-  found = record {
-    name = omega arith;
-    width = omega arith;
-    row = refl;
-    cells = omega arith;
-    texts = refl;
-    judged = record { count = omega arith; fields = omega arith; formed = refl };
-  };
-})
+unfolding kept
+kept-bounded t = bounded-all t fresh (record { size = omega arith; line = omega arith; found = small-start })

@@ -5,7 +5,7 @@ use mathlib.Core.Bool.{Bool, true, false, false≢true}
 use mathlib.Core.Logic.{_⊎_, inl, inr}
 use mathlib.Core.List.{List, [], _∷_}
 use mathlib.Core.Option.{Option, none, some}
-use Prim.Native.Nat.{ℕ, _≤_}
+use Prim.Native.Nat.{ℕ}
 use native.Mathlib.Omega.{arith}
 use lib.Dec.{ltb}
 use lib.ListN.{length, getD}
@@ -30,7 +30,7 @@ use Rattle.laws.proofs.OperatorLaws.{Widens, field-known}
 use Rattle.laws.proofs.Earlier.{within-by, within-more, AlikeStored, stored-like, earlier-widens, earlier-alike}
 use Rattle.text_laws.specs.LineReader.{readForm}
 use Rattle.text_laws.specs.Resolving.{resolve, described}
-use Rattle.text_laws.proofs.RowEditions.{frame-of-more, lines-like}
+use Rattle.text_laws.proofs.RowEditions.{Draws, frame-of-more, lines-like}
 use Rattle.text_laws.proofs.AllowedTexts.{spelled-allowed}
 use Rattle.text_laws.proofs.FormExact.{form-unique}
 use Rattle.text_laws.proofs.NamedFields.{NamedField}
@@ -124,11 +124,17 @@ module _ (a b : Edition) (wide : Widens a b) where
         (within-more a b wide d (s .within))))
     text-more alike out o (refuses r) wrong over same = refuses (refuses-more (o .answer) r wrong over same)
 
+earlier-draws : Draws earlier current
+earlier-draws = record { rows = omega arith; lines = omega arith }
+
+drawn-earlier : Draws current earlier
+drawn-earlier = record { rows = omega arith; lines = omega arith }
+
 pub text-answers-stay : TextAnswersStay
 text-answers-stay text out o p ne =
-    text-more earlier current earlier-widens text (frame-of-more earlier current (omega arith) text) earlier-alike out o
+    text-more earlier current earlier-widens text (frame-of-more earlier current earlier-draws text) earlier-alike out o
     p
-    (λ k e. lines-like earlier current (omega arith) (omega arith) text k) (λ f e h. absurd (ne e))
+    (λ k e. lines-like earlier current earlier-draws drawn-earlier text k) (λ f e h. absurd (ne e))
     (λ lines i e q. formless-like current earlier (λ o h. h) (λ o h. h) lines i q)
 
 -- ── each text has an outcome by an edition that allows less ──
@@ -155,8 +161,8 @@ module _ (e : Edition) (wide : Widens e current) where
       let r = lines-known ls in
       (andForms (q .0) (r .0), one-more e l ls (q .0) (r .0) (q .1) (r .1))
 
-module _ (e : Edition) (wide : Widens e current) (less : e .rowLines ≤ current .rowLines)
-    (rows : current .rowLines ≤ e .rowLines) (text out : List ℕ) where
+module _ (e : Edition) (wide : Widens e current) (less : Draws e current) (rows : Draws current e)
+    (text out : List ℕ) where
   -- resolved fields have the operators of their forms
   forms-spelled : (f : Frame) → FramedIn e text f → (forms : List Form)
       → Each (SpellsFieldIn Unresolved e) forms (f .lines) → ruleBroken f forms ≡ none
@@ -215,9 +221,9 @@ module _ (e : Edition) (wide : Widens e current) (less : e .rowLines ≤ current
       by-frame (s .frame) (record { size = le; bytes = spelled-allowed text d s }) (back (s .frame) (s .isFrameOf))
   total o (refuses r) = refused-total (o .answer) r
 
-pub total-less : (e : Edition) → Widens e current → e .rowLines ≤ current .rowLines → current .rowLines ≤ e .rowLines
+pub total-less : (e : Edition) → Widens e current → Draws e current → Draws current e
     → (text out : List ℕ) → (p : Outcome) × ReadsTextIn e text out p
 total-less e wide less rows text out = let o = text-total text out in total e wide less rows text out (o .0) (o .1)
 
 pub earlier-text-total : EarlierTextTotal
-earlier-text-total text out = total-less earlier earlier-widens (omega arith) (omega arith) text out
+earlier-text-total text out = total-less earlier earlier-widens earlier-draws drawn-earlier text out

@@ -11,7 +11,7 @@ use Rattle.rules.specs.Limits.{rowLinesMost}
 use Rattle.rules.specs.Names.{isLabel, isLabelByte, isWordByte, isLetter, isDigit, isSpace, noTwoSpaces}
 use Rattle.rules.specs.Within.{isRowWidth}
 use Rattle.rules.specs.Rows.{Row, bitRow, rowLines, areFitted, isDrawnRow}
-use Rattle.rules.specs.Frames.{tens, units, border, isLine, Frame}
+use Rattle.rules.specs.Frames.{tens, units, border, isLine, isBrief, Frame}
 use Rattle.text_laws.specs.FrameReader.{Top, State, begun, named, spaced, ruled, counted, bordered, rowed}
 use Rattle.text_laws.specs.FrameReader.{closed, headed, filled, rowsIn}
 use Rattle.text_laws.proofs.FrameStates.{stateLines, IsTop, Sane, width-cases}
@@ -65,6 +65,7 @@ module _ (p : Row → Bool) (plain : (w : ℕ) → isRowWidth w ≡ true → p (
       rows = s .1;
       some-line = more ls;
       lines = all-append isLine ls ([] ∷ []) a refl;
+      brief = all-append isBrief ls ([] ∷ []) (s .3) refl;
     };
     behind = [] ∷ [];
     isBegun = frameLines-are f ∙ framed-more h rows ([] ∷ bytes "where:" ∷ [] ∷ ls) ([] ∷ []);
@@ -82,14 +83,14 @@ module _ (p : Row → Bool) (plain : (w : ℕ) → isRowWidth w ≡ true → p (
   unfolding all
   closed-ahead h rows s g =
       shorter p (stateLines (closed h rows)) (bytes "where:" ∷ [] ∷ []) (stateLines (filled h rows []))
-      (framed-more h rows ([] ∷ []) (bytes "where:" ∷ [] ∷ [])) (filled-ahead h rows [] s refl g)
+      (framed-more h rows ([] ∷ []) (bytes "where:" ∷ [] ∷ [])) (filled-ahead h rows [] (s .0, s .1, s .2, refl) refl g)
 
   headed-ahead : (h : Top) (rows : List Row) → Sane (headed h rows) → all p rows ≡ true
       → Ahead p (stateLines (headed h rows))
   unfolding all
   headed-ahead h rows s g =
       shorter p (stateLines (headed h rows)) ([] ∷ []) (stateLines (filled h rows []))
-      (framed-more h rows ([] ∷ bytes "where:" ∷ []) ([] ∷ [])) (filled-ahead h rows [] s refl g)
+      (framed-more h rows ([] ∷ bytes "where:" ∷ []) ([] ∷ [])) (filled-ahead h rows [] (s .0, s .1, s .2, refl) refl g)
 
   rowed-ahead : (h : Top) (rows : List Row) (r : Row) → Sane (rowed h rows r) → all p (rows ++ (r ∷ [])) ≡ true
       → Ahead p (stateLines (rowed h rows r))

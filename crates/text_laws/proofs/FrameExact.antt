@@ -48,6 +48,7 @@ filled-found t h rows ls s e j a = go (isEmpty ls) refl
         rows = s .1;
         some-line = p;
         lines = fields-are-lines h rows ls (rw e a);
+        brief = s .3;
       });
       isText = unfold frameText in ap (joined ended) (frameLines-are f ∙ e) ∙ j;
     }
@@ -107,7 +108,7 @@ drawn-complete t f x =
     let a = lines-are-lines f k in
     let l : linesOf t ≡ frameLines f = ap linesOf (sym (x .isText)) ∙ lines-joined (frameLines f) a in
     let r : rest lineFeed t ≡ [] = ap (rest lineFeed) (sym (x .isText)) ∙ lines-end (frameLines f) a in
-    rw (r, l, frameLines-are f, run-filled (topOf f) (f .rows) (f .lines) (k .top) (k .rows) (k .some-row))
+    rw (r, l, frameLines-are f, run-filled (topOf f) (f .rows) (f .lines) (k .top) (k .rows) (k .some-row) (k .brief))
     (whole-filled f (k .some-line))
 
 -- a frame is drawn, and labelled

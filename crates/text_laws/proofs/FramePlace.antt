@@ -7,21 +7,22 @@ use mathlib.Core.List.{List, [], _∷_, _++_, map, append-assoc, append-nil}
 use mathlib.Core.Option.{Option, none, some, Option·none-ne-some, Option·some-injective}
 use Prim.Native.Nat.{ℕ, suc, _+_, _-_, _≤_}
 use native.Mathlib.Omega.{arith}
+use lib.Dec.{leb}
 use lib.ListN.{length, length-append, length-map, take, drop, take-append-drop}
 use lib.Seq.{length-take-le, take-all}
 use borrow.Author.Tests.{lt-ltb, le-ltb}
 use Rattle.base.specs.Bytes.{bytes}
 use Rattle.base.specs.Lists.{all, same, isEmpty, joined}
 use Rattle.base.proofs.Lists.{and-left, and-right, not-both}
-use Rattle.rules.specs.Limits.{rowLinesMost}
+use Rattle.rules.specs.Limits.{lineMost, rowLinesMost}
 use Rattle.rules.specs.Names.{lineFeed}
 use Rattle.rules.specs.Rows.{Row, bitRow, longRow, barLine, rowLines, isDrawnRow}
 use Rattle.rules.specs.Frames.{border, Frame, frameText}
 use Rattle.rules.specs.Refusals.{lineCount, Begins, RightLines, cutRow, rowsWithin, unlabelledLine, orBehind}
 use Rattle.rules.specs.Refusals.{wrongLine}
 use Rattle.text_laws.specs.FrameReader.{linesOf, Top, State, begun, named, spaced, ruled, counted, bordered}
-use Rattle.text_laws.specs.FrameReader.{rowed, closed, headed, filled, rowOrEnd, onSame, step, onState, run}
-use Rattle.text_laws.specs.FrameReader.{rightFrom, rightLines, reach, rowsIn, placeOf}
+use Rattle.text_laws.specs.FrameReader.{rowed, closed, headed, filled, rowOrEnd, onSame, onBrief, step, onState}
+use Rattle.text_laws.specs.FrameReader.{run, rightFrom, rightLines, reach, rowsIn, placeOf}
 use Rattle.text_laws.proofs.SplitLaws.{pieces-joined, lines-joined, lineCount-lines, firstLines-lines}
 use Rattle.text_laws.proofs.RowReader.{drawn-tall, drawn-front}
 use Rattle.text_laws.proofs.FrameStates.{pairs, framed, stateLines, AreRows, Sane, Reached}
@@ -142,7 +143,7 @@ Behind rows (headed h rs) = rs ≡ rows
 Behind rows (filled h rs ls) = rs ≡ rows
 
 behind-step : (rows : List Row) (s : State) (l : List ℕ) → Behind rows s → OnState (Behind rows) (step s l)
-unfolding step onSame
+unfolding step onSame onBrief
 behind-step rows begun l p = absurd p
 behind-step rows (named an n) l p = absurd p
 behind-step rows (spaced an n) l p = absurd p
@@ -160,7 +161,11 @@ behind-step rows (headed h rs) l p = go (same l [])
     go : (b : Bool) → OnState (Behind rows) (cond b (some (filled h rs [])) none)
     go true = p
     go false = tt
-behind-step rows (filled h rs ls) l p = p
+behind-step rows (filled h rs ls) l p = go (leb (length l) lineMost)
+  where
+    go : (b : Bool) → OnState (Behind rows) (cond b (some (filled h rs (ls ++ (l ∷ [])))) none)
+    go true = p
+    go false = tt
 
 behind-rows : (rows : List Row) (q : State) → Behind rows q → rowsIn q ≡ rows
 behind-rows rows begun p = absurd p

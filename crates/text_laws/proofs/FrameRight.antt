@@ -121,7 +121,8 @@ begins-run t k le b e =
     ∙ pieces-joined lineFeed ls (b .behind) (take-lines k t) in
     let all-read : run begun (frameLines f) ≡ some (filled (topOf f) (f .rows) (f .lines))
     = ap (run begun) (frameLines-are f)
-    ∙ run-filled (topOf f) (f .rows) (f .lines) (kept .top) (kept .rows) (kept .some-row) in
+    ∙ run-filled (topOf f) (f .rows) (f .lines) (kept .top) (kept .rows) (kept .some-row)
+    (kept .brief) in
     let none-read : run begun (frameLines f) ≡ none
     = ap (run begun) split ∙ run-append ls (linesOf (b .behind)) begun
     ∙ ap (onState none (λ q. run q (linesOf (b .behind)))) e in

@@ -14,10 +14,10 @@ use Rattle.rules.specs.Limits.{rowLinesMost}
 use Rattle.rules.specs.Names.{isLabel, lineFeed}
 use Rattle.rules.specs.Within.{isRowWidth}
 use Rattle.rules.specs.Rows.{Row, bitRow, longRow, barLine, rowLines, isDrawnRow}
-use Rattle.rules.specs.Frames.{tens, units, border, isLine, Frame, isDrawn, isDrawnIn, headLines, article}
+use Rattle.rules.specs.Frames.{tens, units, border, isLine, isBrief, Frame, isDrawn, isDrawnIn, headLines, article}
 use Rattle.text_laws.specs.FrameReader.{closing, Top, State, begun, named, spaced, ruled, counted, bordered}
 use Rattle.text_laws.specs.FrameReader.{rowed, closed, headed, filled, onWidth, onRow, rowOrEnd, onSame, step}
-use Rattle.text_laws.specs.FrameReader.{readRow, moreRow, rowOrBorder, run}
+use Rattle.text_laws.specs.FrameReader.{readRow, moreRow, rowOrBorder, onBrief, run}
 use Rattle.text_laws.proofs.RowCells.{label-free, feed}
 use Rattle.text_laws.proofs.RowReader.{drawn-front, row-first, row-long, row-more, border-ends, row-lines}
 use Rattle.text_laws.proofs.FrameStates.{openingLine, pairs, framed, stateLines, IsTop, AreRows}
@@ -34,11 +34,12 @@ pub record Kept (f : Frame) : Type 0 where
   pub rows : AreRows (topOf f) (f .rows)
   pub some-line : isEmpty (f .lines) ≡ false
   pub lines : all isLine (f .lines) ≡ true
+  pub brief : all isBrief (f .lines) ≡ true
 
 pub frame-kept : (f : Frame) → isDrawn f ≡ true → Kept f
 unfolding isDrawnIn
 frame-kept f h =
-    let b5 : Bool = all isLine (f .lines) in
+    let b5 : Bool = all isLine (f .lines) && all isBrief (f .lines) in
     let b4 : Bool = not (isEmpty (f .lines)) && b5 in
     let b3 : Bool = all (isDrawnRow rowLinesMost (f .rowWidth)) (f .rows) && b4 in
     let b2 : Bool = not (isEmpty (f .rows)) && b3 in
@@ -52,12 +53,13 @@ frame-kept f h =
       some-row = not-true (isEmpty (f .rows)) (and-left (not (isEmpty (f .rows))) b3 h2);
       rows = and-left (all (isDrawnRow rowLinesMost (f .rowWidth)) (f .rows)) b4 h3;
       some-line = not-true (isEmpty (f .lines)) (and-left (not (isEmpty (f .lines))) b5 h4);
-      lines = and-right (not (isEmpty (f .lines))) b5 h4;
+      lines = and-left (all isLine (f .lines)) (all isBrief (f .lines)) (and-right (not (isEmpty (f .lines))) b5 h4);
+      brief = and-right (all isLine (f .lines)) (all isBrief (f .lines)) (and-right (not (isEmpty (f .lines))) b5 h4);
     }
 
 pub kept-frame : (f : Frame) → Kept f → isDrawn f ≡ true
 unfolding isDrawnIn
-kept-frame f k = rw (k .top .0, k .top .1, k .some-row, k .rows, k .some-line, k .lines)
+kept-frame f k = rw (k .top .0, k .top .1, k .some-row, k .rows, k .some-line, k .lines, k .brief)
 
 -- ── all lines of a frame ──
 
@@ -181,12 +183,14 @@ run-rows h (r ∷ rows) done m a =
     ∙ i
     ∙ ap (λ (l : List Row). run (bordered h l) m) (append-assoc done (r ∷ []) rows)
 
-run-fields : (h : Top) (rows : List Row) (ms ls : List (List ℕ))
+run-fields : (h : Top) (rows : List Row) (ms ls : List (List ℕ)) → all isBrief ms ≡ true
     → run (filled h rows ls) ms ≡ some (filled h rows (ls ++ ms))
-unfolding run step
-run-fields h rows [] ls = ap (λ (l : List (List ℕ)). some (filled h rows l)) (sym (append-nil ls))
-run-fields h rows (m ∷ ms) ls =
-    run-fields h rows ms (ls ++ (m ∷ []))
+unfolding run step onBrief all
+run-fields h rows [] ls a = ap (λ (l : List (List ℕ)). some (filled h rows l)) (sym (append-nil ls))
+run-fields h rows (m ∷ ms) ls a =
+    run-one (filled h rows ls) (filled h rows (ls ++ (m ∷ []))) m ms
+    (rw (and-left (isBrief m) (all isBrief ms) a) refl)
+    ∙ run-fields h rows ms (ls ++ (m ∷ [])) (and-right (isBrief m) (all isBrief ms) a)
     ∙ ap (λ (l : List (List ℕ)). some (filled h rows l)) (append-assoc ls (m ∷ []) ms)
 
 step-end : (h : Top) (rows : List Row) → isEmpty rows ≡ false → step (bordered h rows) [] ≡ some (closed h rows)
@@ -211,13 +215,13 @@ run-top h m t =
     ∙ run-one (counted h) (bordered h []) (border w) m (on-same (border w) (bordered h []))
 
 pub run-filled : (h : Top) (rows : List Row) (ls : List (List ℕ)) → IsTop h → AreRows h rows → isEmpty rows ≡ false
-    → run begun (stateLines (filled h rows ls)) ≡ some (filled h rows ls)
+    → all isBrief ls ≡ true → run begun (stateLines (filled h rows ls)) ≡ some (filled h rows ls)
 unfolding step joined
-run-filled h rows ls t a e =
+run-filled h rows ls t a e k =
     let last : List (List ℕ) = [] ∷ bytes "where:" ∷ [] ∷ ls in
     run-top h (pairs (h .rowWidth) rows ++ last) t
     ∙ run-rows h rows [] last a
     ∙ run-one (bordered h rows) (closed h rows) [] (bytes "where:" ∷ [] ∷ ls) (step-end h rows e)
     ∙ run-one (closed h rows) (headed h rows) (bytes "where:") ([] ∷ ls) (on-same (bytes "where:") (headed h rows))
     ∙ run-one (headed h rows) (filled h rows []) [] ls (on-same [] (filled h rows []))
-    ∙ run-fields h rows ls []
+    ∙ run-fields h rows ls [] k

@@ -4,17 +4,19 @@ use mathlib.Core.Bool.{Bool, true, false, cond}
 use mathlib.Core.List.{List, [], _∷_, _++_, append-assoc, append-nil}
 use mathlib.Core.Option.{Option, none, some}
 use Prim.Native.Nat.{ℕ}
+use lib.Dec.{leb}
+use lib.ListN.{length}
 use Rattle.base.specs.Bytes.{bytes}
 use Rattle.base.specs.Lists.{all, same, isEmpty, joined}
 use Rattle.base.proofs.Lists.{same-true, all-append, all-back}
 use Rattle.base.proofs.Joined.{joined-append, joined-one}
-use Rattle.rules.specs.Limits.{rowLinesMost}
+use Rattle.rules.specs.Limits.{lineMost, rowLinesMost}
 use Rattle.rules.specs.Names.{isLabel}
 use Rattle.rules.specs.Rows.{Row, rowLines, isDrawnRow}
-use Rattle.rules.specs.Frames.{tens, units, border, isLine}
+use Rattle.rules.specs.Frames.{tens, units, border, isLine, isBrief}
 use Rattle.text_laws.specs.FrameReader.{readRow, moreRow, readTens, Top, State, begun, named, spaced, ruled}
 use Rattle.text_laws.specs.FrameReader.{counted, bordered, rowed, closed, headed, filled, onWidth, onRow}
-use Rattle.text_laws.specs.FrameReader.{rowOrEnd, onSame, rowOrBorder, step, onState, run}
+use Rattle.text_laws.specs.FrameReader.{rowOrEnd, onSame, rowOrBorder, onBrief, step, onState, run}
 use Rattle.text_laws.proofs.RowReader.{Reads, row-sound, more-sound}
 use Rattle.text_laws.proofs.FrameStates.{openingLine, pairs, framed, stateLines, IsTop, AreRows, Sane, Reached}
 use Rattle.text_laws.proofs.FrameTop.{opened-sound, Widths, tens-sound}
@@ -107,6 +109,15 @@ row-or-border t rows r l h (some x) p = (
   ap (λ (m : List (List ℕ)). framed t rows m) (p .1) ∙ framed-more t rows (rowLines r) (l ∷ []),
 )
 
+on-brief : (t : Top) (rows : List Row) (ls : List (List ℕ)) (l : List ℕ) → Sane (filled t rows ls) → (b : Bool)
+    → leb (length l) lineMost ≡ b → Reached (stateLines (filled t rows ls) ++ (l ∷ [])) (onBrief t rows ls l b)
+unfolding onBrief all
+on-brief t rows ls l h true e = (
+  (h .0, h .1, h .2, all-append isBrief ls (l ∷ []) (h .3) (rw e refl)),
+  framed-more t rows ([] ∷ bytes "where:" ∷ [] ∷ ls) (l ∷ []),
+)
+on-brief t rows ls l h false e = tt
+
 pub step-sound : (s : State) (l : List ℕ) → Sane s → Reached (stateLines s ++ (l ∷ [])) (step s l)
 unfolding step all joined
 step-sound begun l h = opened-sound l
@@ -121,10 +132,9 @@ step-sound (closed t rows) l h =
     on-same (bytes "where:") (headed t rows) l (stateLines (closed t rows)) h
     (framed-more t rows ([] ∷ []) (bytes "where:" ∷ []))
 step-sound (headed t rows) l h =
-    on-same [] (filled t rows []) l (stateLines (headed t rows)) h
+    on-same [] (filled t rows []) l (stateLines (headed t rows)) (h .0, h .1, h .2, refl)
     (framed-more t rows ([] ∷ bytes "where:" ∷ []) ([] ∷ []))
-step-sound (filled t rows ls) l h =
-    (h, framed-more t rows ([] ∷ bytes "where:" ∷ [] ∷ ls) (l ∷ []))
+step-sound (filled t rows ls) l h = on-brief t rows ls l h (leb (length l) lineMost) refl
 
 -- ── all lines ──
 

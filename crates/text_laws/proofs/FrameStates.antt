@@ -13,7 +13,7 @@ use Rattle.rules.specs.Limits.{rowLinesMost}
 use Rattle.rules.specs.Names.{isLabel}
 use Rattle.rules.specs.Within.{isRowWidth}
 use Rattle.rules.specs.Rows.{Row, rowLines, isDrawnRow}
-use Rattle.rules.specs.Frames.{tens, units, border, article}
+use Rattle.rules.specs.Frames.{tens, units, border, isBrief, article}
 use Rattle.text_laws.specs.FrameReader.{closing, Top, State, begun, named, spaced, ruled, counted, bordered}
 use Rattle.text_laws.specs.FrameReader.{rowed, closed, headed, filled}
 
@@ -58,7 +58,7 @@ Sane (bordered h rows) = IsTop h × AreRows h rows
 Sane (rowed h rows r) = IsTop h × AreRows h rows × (isDrawnRow rowLinesMost (h .rowWidth) r ≡ true)
 Sane (closed h rows) = IsTop h × AreRows h rows × (isEmpty rows ≡ false)
 Sane (headed h rows) = IsTop h × AreRows h rows × (isEmpty rows ≡ false)
-Sane (filled h rows ls) = IsTop h × AreRows h rows × (isEmpty rows ≡ false)
+Sane (filled h rows ls) = IsTop h × AreRows h rows × (isEmpty rows ≡ false) × (all isBrief ls ≡ true)
 
 -- the lines read are those of the state, if there is one
 abbrev pub Reached : List (List ℕ) → Option State → Type 0

@@ -4,17 +4,19 @@ use mathlib.Core.Bool.{Bool, true, false, cond}
 use mathlib.Core.List.{List, [], _∷_, _++_, append-assoc, append-nil}
 use mathlib.Core.Option.{Option, none, some, Option·none-ne-some, Option·some-injective}
 use Prim.Native.Nat.{ℕ, _+_}
-use lib.ListN.{take, drop}
+use lib.Dec.{leb}
+use lib.ListN.{length, take, drop}
 use Rattle.base.specs.Bytes.{bytes}
 use Rattle.base.specs.Lists.{all, same, isEmpty}
 use Rattle.base.proofs.Lists.{and-both, all-append, all-front, all-back, not-both}
 use Rattle.base.proofs.Breaks.{all-cons}
+use Rattle.rules.specs.Limits.{lineMost}
 use Rattle.rules.specs.Rows.{Row, isLabelled}
 use Rattle.rules.specs.Frames.{units, border}
 use Rattle.text_laws.specs.FrameReader.{readName, readTens, readRow, moreRow, Top, State, begun, named, spaced}
 use Rattle.text_laws.specs.FrameReader.{ruled, counted, bordered, rowed, closed, headed, filled, onName}
-use Rattle.text_laws.specs.FrameReader.{onWidth, onRow, rowOrEnd, opened, onSame, rowOrBorder, step, onState}
-use Rattle.text_laws.specs.FrameReader.{run, reach, rowsIn, endedRows, leave, strict, strictRun}
+use Rattle.text_laws.specs.FrameReader.{onWidth, onRow, rowOrEnd, opened, onSame, onBrief, rowOrBorder, step}
+use Rattle.text_laws.specs.FrameReader.{onState, run, reach, rowsIn, endedRows, leave, strict, strictRun}
 use Rattle.text_laws.proofs.FramePlace.{OnState, run-keeps}
 
 -- ── the rows that a step ends ──
@@ -29,7 +31,7 @@ after-if s q true h = h
 after-if s q false h = tt
 
 pub step-after : (s : State) (l : List ℕ) → OnState (After s) (step s l)
-unfolding step opened onName onSame onWidth rowOrEnd onRow rowOrBorder
+unfolding step opened onName onSame onWidth onBrief rowOrEnd onRow rowOrBorder
 step-after begun l = go (same (take 3 l) (bytes "An ")) (same (take 2 l) (bytes "A "))
   where
     on : (an : Bool) (o : Option (List ℕ)) → OnState (After begun) (onName an o)
@@ -68,7 +70,7 @@ step-after (rowed h rows r) l = go (moreRow (h .rowWidth) r l)
     go (some x) = same-rows refl
 step-after (closed h rows) l = after-if (closed h rows) (headed h rows) (same l (bytes "where:")) (same-rows refl)
 step-after (headed h rows) l = after-if (headed h rows) (filled h rows []) (same l []) (same-rows refl)
-step-after (filled h rows ls) l = same-rows refl
+step-after (filled h rows ls) l = after-if (filled h rows ls) _ (leb (length l) lineMost) (same-rows refl)
 
 -- ── rows that were ended stay ──
 

@@ -5,21 +5,25 @@ use mathlib.Core.List.{List, [], _∷_, _++_, foldl}
 use mathlib.Core.Option.{Option, none, some}
 use Prim.Native.Nat.{ℕ, suc, _+_}
 use native.Mathlib.Omega.{arith}
+use lib.Dec.{leb}
 use lib.ListN.{length, length-append, take, drop}
 use Rattle.base.specs.Bytes.{bytes}
 use Rattle.base.specs.Lists.{isEmpty, same, joined}
 use Rattle.base.proofs.Joined.{joined-append, joined-one}
 use Rattle.rules.specs.Answers.{refused}
+use Rattle.rules.specs.Limits.{lineMost}
 use Rattle.rules.specs.Rows.{Row, isLabelled}
 use Rattle.rules.specs.Frames.{Slot, slotsIn, units, border}
 use Rattle.text_laws.specs.FrameReader.{stripsOf, readLong, rowOf, readName, readTens, readRow, Top, State}
 use Rattle.text_laws.specs.FrameReader.{begun, named, spaced, ruled, counted, bordered, rowed, closed, headed}
 use Rattle.text_laws.specs.FrameReader.{filled, onName, onWidth, onRow, rowOrEnd, moreRow, opened, onSame, step}
-use Rattle.text_laws.specs.FrameReader.{onState, endedRows, leave, strict, strictRun, stopAt, strictPlace}
+use Rattle.text_laws.specs.FrameReader.{onBrief, onState, endedRows, leave, strict, strictRun, stopAt}
+use Rattle.text_laws.specs.FrameReader.{strictPlace}
 use Rattle.text_laws.specs.Fold.{Stage, opening, blank, tensRuler, unitsRuler, topBorder, firstRow, inRow}
 use Rattle.text_laws.specs.Fold.{rowOrBlank, whereLine, lastBlank, firstField, fieldLine, lost, Found, start}
 use Rattle.text_laws.specs.Fold.{onward, blamed, wrong, withLine, onMore, withMore, expect, openingName}
-use Rattle.text_laws.specs.Fold.{withName, withWidth, withCells, withRow, withField, linedAt, lined}
+use Rattle.text_laws.specs.Fold.{withName, withWidth, withCells, withRow, briefField, withField, linedAt}
+use Rattle.text_laws.specs.Fold.{lined}
 use Rattle.text_laws.proofs.Judges.{judges-none}
 use Rattle.text_laws.proofs.HeadFills.{Fills, fits, fills-moved, fills-row, fills-field}
 
@@ -202,7 +206,7 @@ more-lines [] l = refl
 more-lines (m ∷ ls) l = refl
 
 on-field : (n : ℕ) (f : Found) (h : Top) (rows : List Row) (ls : List (List ℕ)) (l : List ℕ)
-    → Stands n (filled h rows ls) f → Stands (suc n) (filled h rows (ls ++ (l ∷ []))) (withField f l)
+    → Stands n (filled h rows ls) f → Stands (suc n) (filled h rows (ls ++ (l ∷ []))) (briefField f l)
 on-field n f h rows ls l s = record {
   lines = ap suc (s .lines);
   stage = rw (more-lines ls l) refl;
@@ -216,6 +220,13 @@ on-field n f h rows ls l s = record {
       let c = s .counts in let m = s .lines in omega (arith, c, m) in
       rw place (fills-field (joined slotsIn rows) (suc (s .from)) ls (f .cells) (f .judged) l (s .fills));
 }
+
+on-length : (n : ℕ) (f : Found) (h : Top) (rows : List Row) (ls : List (List ℕ)) (l : List ℕ)
+    → Stands n (filled h rows ls) f → (b : Bool)
+    → Follows n f (onBrief h rows ls l b) (cond b (briefField f l) (wrong f))
+unfolding onBrief
+on-length n f h rows ls l s true = on-field n f h rows ls l s
+on-length n f h rows ls l s false = refl
 
 field-stage : (ls : List (List ℕ)) (f : Found) (l : List ℕ)
     → linedAt (cond (isEmpty ls) firstField fieldLine) f l ≡ withField f l
@@ -304,9 +315,10 @@ line-stands n (headed t rows) f l h =
     (on-same n f [] (filled t rows []) firstField l
     (next-stands n (headed t rows) (filled t rows []) firstField f h refl refl refl refl refl refl refl))
 line-stands n (filled t rows ls) f l h =
-    let q : State = filled t rows (ls ++ (l ∷ [])) in
-    at-stage n f (some q) l (cond (isEmpty ls) firstField fieldLine) (h .stage)
-    (subst (λ (g : Found). Stands (suc n) q g) (sym (field-stage ls f l)) (on-field n f t rows ls l h))
+    let b : Bool = leb (length l) lineMost in
+    let o : Option State = onBrief t rows ls l b in
+    at-stage n f o l (cond (isEmpty ls) firstField fieldLine) (h .stage)
+    (subst (λ (g : Found). Follows n f o g) (sym (field-stage ls f l)) (on-length n f t rows ls l h b))
 
 -- ── all lines ──
 

@@ -4,12 +4,12 @@ use mathlib.Core.Bool.{Bool, true, false, cond}
 use mathlib.Core.List.{List, [], _∷_, _++_}
 use mathlib.Core.Option.{Option, none, some, Option·none-ne-some}
 use Prim.Native.Nat.{ℕ, suc}
-use lib.Dec.{ltb, eqb}
+use lib.Dec.{leb, ltb, eqb}
 use lib.ListN.{length, length-map}
 use Rattle.base.specs.Bytes.{bytes}
 use Rattle.base.specs.Lists.{same, isEmpty}
 use Rattle.rules.specs.Answers.{Answer, refused}
-use Rattle.rules.specs.Limits.{textMost, fieldsMost}
+use Rattle.rules.specs.Limits.{textMost, lineMost, fieldsMost}
 use Rattle.rules.specs.Names.{isAllowed, lineFeed}
 use Rattle.rules.specs.Fields.{Field, Form}
 use Rattle.rules.specs.Rows.{Row, isLabelled}
@@ -23,8 +23,9 @@ use Rattle.text_laws.specs.Judging.{withRules, withForm, judge}
 use Rattle.text_laws.specs.Fold.{Stage, opening, blank, tensRuler, unitsRuler, topBorder, firstRow, inRow}
 use Rattle.text_laws.specs.Fold.{rowOrBlank, whereLine, lastBlank, firstField, fieldLine, lost, Found, Kept}
 use Rattle.text_laws.specs.Fold.{onward, losing, blamed, wrong, expect, openingName, withName, withWidth}
-use Rattle.text_laws.specs.Fold.{withCells, withRow, onMore, withMore, withField, linedAt, lined, put, over}
-use Rattle.text_laws.specs.Fold.{fed, early, uncelled, lowestAt, lowestOf, outcome, finish}
+use Rattle.text_laws.specs.Fold.{withCells, withRow, onMore, withMore, briefField, withField, linedAt, lined}
+use Rattle.text_laws.specs.Fold.{isLost, cut, put, over, fed, early, uncelled, lowestAt, lowestOf, outcome}
+use Rattle.text_laws.specs.Fold.{finish}
 use Rattle.text_laws.specs.Steady.{StandIn}
 use Rattle.text_laws.proofs.Faces.{renamed-face}
 
@@ -178,8 +179,8 @@ module _ (f : Found) (fs : List (Field ℕ)) (h : StandIn (f .judged) fs) where
   moves-more l none = moves-losing (refused 3 (blamed (f .row) (f .lines)))
   moves-more l (some r) = moves-on (f .width) r l (moreRow (f .width) r l)
 
-  moves-field : (l : List ℕ) → Moves (withField f l) (withField (foundWith f fs) l)
-  moves-field l =
+  moves-brief : (l : List ℕ) → Moves (briefField f l) (briefField (foundWith f fs) l)
+  moves-brief l =
       let g = goes-judge (f .cells) (suc (f .lines)) (f .judged) fs l h in (
         g .0,
         g .1,
@@ -193,6 +194,21 @@ module _ (f : Found) (fs : List (Field ℕ)) (h : StandIn (f .judged) fs) where
           judged = j;
         }) (g .2),
       )
+
+  moves-field : (l : List ℕ) → Moves (withField f l) (withField (foundWith f fs) l)
+  moves-field l = go (leb (length l) lineMost)
+    where
+      go : (b : Bool)
+          → Moves (cond b (briefField f l) (wrong f)) (cond b (briefField (foundWith f fs) l) (wrong (foundWith f fs)))
+      go true = moves-brief l
+      go false = moves-losing (refused 3 (blamed (f .row) (f .lines)))
+
+  moves-cut : Moves (cut f) (cut (foundWith f fs))
+  moves-cut = go (isLost (f .stage))
+    where
+      go : (b : Bool) → Moves (cond b f (wrong f)) (cond b (foundWith f fs) (wrong (foundWith f fs)))
+      go true = (fs, h, refl)
+      go false = moves-losing (refused 3 (blamed (f .row) (f .lines)))
 
 moves-line : (s : Stage) (f : Found) (fs : List (Field ℕ)) (l : List ℕ) → StandIn (f .judged) fs
     → Moves (linedAt s f l) (linedAt s (foundWith f fs) l)
@@ -223,26 +239,30 @@ lined-with f fs l h = moves-line (f .stage) f fs l h
 pub fed-with : (k : Kept) (fs : List (Field ℕ)) (b : ℕ) → StandIn (k .found .judged) fs
     → (gs : List (Field ℕ)) × StandIn (fed k b .found .judged) gs × (fed (keptWith k fs) b ≡ keptWith (fed k b) gs)
 unfolding fed
-fed-with k fs b h = go (ltb (k .size) textMost) (isAllowed b) (eqb b lineFeed)
+fed-with k fs b h = go (ltb (k .size) textMost) (isAllowed b) (eqb b lineFeed) (ltb (length (k .line)) lineMost)
   where
-    next : Bool → Bool → Bool → Kept → Kept
-    next x y z q =
+    next : Bool → Bool → Bool → Bool → Kept → Kept
+    next x y z v q =
         cond x
-        (cond y (cond z (put q [] (lined (q .found) (q .line))) (put q (q .line ++ (b ∷ [])) (q .found)))
+        (cond y (cond z (put q [] (lined (q .found) (q .line)))
+        (cond v (put q (q .line ++ (b ∷ [])) (q .found)) (put q (q .line) (cut (q .found)))))
         (put q (q .line) (losing (refused 2 0) (q .found))))
         (over q)
 
-    go : (x y z : Bool)
-        → (gs : List (Field ℕ)) × StandIn (next x y z k .found .judged) gs
-        × (next x y z (keptWith k fs) ≡ keptWith (next x y z k) gs)
-    go true true true =
+    go : (x y z v : Bool)
+        → (gs : List (Field ℕ)) × StandIn (next x y z v k .found .judged) gs
+        × (next x y z v (keptWith k fs) ≡ keptWith (next x y z v k) gs)
+    go true true true v =
         let m = lined-with (k .found) fs (k .line) h in
         (m .0, m .1, ap (λ (f : Found). put k [] f) (m .2))
-    go true true false = (fs, h, refl)
-    go true false z =
+    go true true false true = (fs, h, refl)
+    go true true false false =
+        let m = moves-cut (k .found) fs h in
+        (m .0, m .1, ap (λ (f : Found). put k (k .line) f) (m .2))
+    go true false z v =
         let m = moves-losing (k .found) fs h (refused 2 0) in
         (m .0, m .1, ap (λ (f : Found). put k (k .line) f) (m .2))
-    go false y z =
+    go false y z v =
         let m = moves-losing (k .found) fs h (refused 1 0) in
         (m .0, m .1, ap (λ (f : Found). record { size = k .size; line = k .line; found = f }) (m .2))
 

@@ -37,9 +37,13 @@ use Rattle.text_laws.proofs.StrictTexts.{strict-place}
 use Rattle.text_laws.proofs.FrameRun.{Kept, topOf, frame-kept, kept-frame, frameLines, frameLines-are}
 use Rattle.text_laws.proofs.FrameRun.{lines-are-lines, run-filled}
 use Rattle.text_laws.proofs.FrameExact.{frame-drawn}
-use Rattle.text_laws.proofs.RowEditions.{isOneLine, drawn-one, one-drawn, frame-of-more, begins-more}
+use Rattle.text_laws.proofs.RowEditions.{isOneLine, drawn-one, one-drawn, Draws, frame-of-more, begins-more}
 use Rattle.text_laws.proofs.OneLineStops.{Stops, AllOne, stops, place-bound}
 use Rattle.text_laws.proofs.EarlierTexts.{formless-like, text-more}
+
+-- what is drawn with rows of one line is drawn
+drawn-now : Draws oneLine current
+drawn-now = record { rows = omega arith; lines = omega arith }
 
 -- ── a cell ──
 
@@ -136,7 +140,7 @@ begins-fine t k le b = go (run begun (take k (linesOf t))) refl
     f = b .0 .frame
 
     drawn : Begins t k
-    drawn = begins-more oneLine current (omega arith) t k (b .0)
+    drawn = begins-more oneLine current drawn-now t k (b .0)
 
     go : (o : Option State) → run begun (take k (linesOf t)) ≡ o
         → (q : State) × (run begun (take k (linesOf t)) ≡ some q) × (all isLabelled (rowsIn q) ≡ true)
@@ -157,7 +161,7 @@ all-one t one m q le e =
     let b = one m there (run-begins t m q there e) in
     let row = one-drawn (b .frame) (b .drawn) in
     subst (λ (rows : List Row). all isOneLine rows ≡ true)
-    (begins-rows t m (begins-more oneLine current (omega arith) t m b) there q e)
+    (begins-rows t m (begins-more oneLine current drawn-now t m b) there q e)
     (within-both isOneLine m 5 (b .frame .rows) row row)
 
 pub one-line-place : OneLinePlace
@@ -215,7 +219,7 @@ frame-one t one f h = all-one t one k q (omega arith) ran
     ran : run begun (take k (linesOf t)) ≡ some q
     ran =
         ap (run begun) (lines ∙ frameLines-are f)
-        ∙ run-filled (topOf f) (f .rows) (f .lines) (kept .top) (kept .rows) (kept .some-row)
+        ∙ run-filled (topOf f) (f .rows) (f .lines) (kept .top) (kept .rows) (kept .some-row) (kept .brief)
 
 -- the frame of such a text is one where rows have no more lines
 frame-old : (t : List ℕ) → OneLined t → (f : Frame) → FrameOf t f → FrameOfIn oneLine t f
@@ -236,17 +240,17 @@ back = record { fields = omega arith; packet = omega arith; knows = λ o h. h; m
 
 pub one-line-answers-stay : OneLineAnswersStay
 one-line-answers-stay text out o p ne =
-    text-more oneLine current forth text (frame-of-more oneLine current (omega arith) text)
+    text-more oneLine current forth text (frame-of-more oneLine current drawn-now text)
     (record { kind = refl; keeps = refl }) out o p (λ k e. absurd (ne e)) (λ f e h. h)
     (λ lines i e q. formless-like current oneLine (λ o h. h) (λ o h. h) lines i q)
 
 pub one-line-stays : OneLineStays
 one-line-stays text one out o = (
-  λ p. text-more oneLine current forth text (frame-of-more oneLine current (omega arith) text)
+  λ p. text-more oneLine current forth text (frame-of-more oneLine current drawn-now text)
       (record { kind = refl; keeps = refl }) out o p
       (λ k e plain q r. line plain (λ f h. q f (frame-old text one f h)) (record {
         there = r .there;
-        begins = begins-more oneLine current (omega arith) text k (r .begins);
+        begins = begins-more oneLine current drawn-now text k (r .begins);
         most = λ j lt le b. r .most j lt le (one j le b);
       })) (λ f e h. h) (λ lines i e q. formless-like current oneLine (λ o h. h) (λ o h. h) lines i q),
   λ p. text-more current oneLine back text (frame-old text one) (record { kind = refl; keeps = refl }) out o p
@@ -261,12 +265,12 @@ one-line-stays text one out o = (
         let s : RightLinesIn oneLine text k = record {
           there = r .there;
           begins = b;
-          most = λ j lt le c. r .most j lt le (begins-more oneLine current (omega arith) text j c);
+          most = λ j lt le c. r .most j lt le (begins-more oneLine current drawn-now text j c);
         } in
         let t : RightLines text k = record {
           there = r .there;
-          begins = begins-more oneLine current (omega arith) text k b;
+          begins = begins-more oneLine current drawn-now text k b;
           most = r .most;
         } in
         subst (λ (n : ℕ). RefusesIn oneLine text (refused 3 n)) (place-unique text k k t r)
-        (line plain (λ f h. q f (frame-of-more oneLine current (omega arith) text f h)) s)
+        (line plain (λ f h. q f (frame-of-more oneLine current drawn-now text f h)) s)

@@ -21,9 +21,9 @@ use Rattle.rules.specs.Fields.{Width, fixed, measured, rest, Field, Form, isFix
 use Rattle.rules.specs.Within.{Within, isRowWidth, keepsForm, keepsNames, keepsTypes, widthHasType, nameReadable}
 use Rattle.rules.specs.Lines.{SpellsField, Unresolved}
 use Rattle.laws.proofs.OperatorLaws.{keeps-known}
-use Rattle.rules.specs.Limits.{rowLinesMost}
+use Rattle.rules.specs.Editions.{Edition, current}
 use Rattle.rules.specs.Rows.{isDrawnRow, isLabelled}
-use Rattle.rules.specs.Frames.{Frame, FrameOf, isDrawn, isDrawnIn, isLine, cells, isOverfull}
+use Rattle.rules.specs.Frames.{Frame, FrameOfIn, FrameOf, isDrawnIn, isLine, isBriefIn, cells, isOverfull}
 use Rattle.rules.specs.Spelling.{Spells, NameOf, shows}
 use Rattle.rules.specs.Refusals.{ruleBroken}
 use Rattle.text_laws.specs.Resolving.{
@@ -141,16 +141,16 @@ parts a b c d e g h =
     (p .0, q .0, r .0, and-left e g (r .1))
 
 -- what a frame keeps
-pub frame-parts : (text : List ℕ) (f : Frame) → FrameOf text f
+pub frame-parts : (e : Edition) (text : List ℕ) (f : Frame) → FrameOfIn e text f
     → (isLabel (f .name) ≡ true)
     × (isRowWidth (f .rowWidth) ≡ true)
-    × (all (isDrawnRow rowLinesMost (f .rowWidth)) (f .rows) ≡ true)
+    × (all (isDrawnRow (e .rowLines) (f .rowWidth)) (f .rows) ≡ true)
     × (not (isEmpty (f .lines)) ≡ true)
 unfolding isDrawnIn
-frame-parts text f h = parts (isLabel (f .name)) (isRowWidth (f .rowWidth)) (not (isEmpty (f .rows)))
-    (all (isDrawnRow rowLinesMost (f .rowWidth)) (f .rows)) (not (isEmpty (f .lines)))
-    (all isLine (f .lines))
-    (and-left (isDrawn f) (all isLabelled (f .rows)) (h .isFramed))
+frame-parts e text f h = parts (isLabel (f .name)) (isRowWidth (f .rowWidth)) (not (isEmpty (f .rows)))
+    (all (isDrawnRow (e .rowLines) (f .rowWidth)) (f .rows)) (not (isEmpty (f .lines)))
+    (all isLine (f .lines) && all (isBriefIn e) (f .lines))
+    (and-left (isDrawnIn e f) (all isLabelled (f .rows)) (h .isFramed))
 
 module _ (text : List ℕ) (f : Frame) (forms : List Form) (frame : FrameOf text f) (few : isOverfull f ≡ false)
     (spelled : Each (SpellsField Unresolved) forms (f .lines)) (kept : Kept f forms) where
@@ -171,7 +171,7 @@ module _ (text : List ℕ) (f : Frame) (forms : List Form) (frame : FrameOf text
   unfolding cells
   within =
       let R = NameOf (resolve forms) in
-      let framed = frame-parts text f frame in
+      let framed = frame-parts current text f frame in
       let n = each-length (SpellsField R) (resolve forms) (f .lines) lines in
       let most : length (f .lines) ≤ fieldsMost =
       ltb-false fieldsMost (length (f .lines))

@@ -1,4 +1,5 @@
--- What is drawn right by an edition whose rows have so many lines is so by one whose rows may have more. [02, R-1]
+-- What is drawn right by an edition is so by one whose rows may have more lines, and whose lines more bytes.
+-- [02, R-1] [02, R-9]
 use mathlib.Core.Path.{_≡_, refl, sym, _∙_}
 use mathlib.Core.Bool.{Bool, true, false, _&&_, not}
 use mathlib.Core.List.{List, [], _∷_, map}
@@ -15,7 +16,7 @@ use Rattle.rules.specs.Within.{isRowWidth}
 use Rattle.rules.specs.Limits.{rowLinesMost}
 use Rattle.rules.specs.Editions.{Edition, oneLine}
 use Rattle.rules.specs.Rows.{Row, bitRow, longRow, barLine, rowLines, areFitted, isDrawnRow, isLabelled}
-use Rattle.rules.specs.Frames.{Frame, isLine, isDrawnIn, isDrawn, FrameOfIn}
+use Rattle.rules.specs.Frames.{Frame, isLine, isBriefIn, isBrief, isDrawnIn, isDrawn, FrameOfIn}
 use Rattle.rules.specs.Refusals.{Plain, BeginsIn, RightLinesIn, RefusesIn, line, wrongLine}
 use Rattle.rules.specs.Answers.{refused}
 
@@ -90,7 +91,7 @@ unfolding isDrawnIn
 drawn-one f a h =
     fourth-more (isLabel (f .name)) (isRowWidth (f .rowWidth)) (not (isEmpty (f .rows)))
     (all (isDrawnRow rowLinesMost (f .rowWidth)) (f .rows)) (all (isDrawnRow 1 (f .rowWidth)) (f .rows))
-    (not (isEmpty (f .lines)) && all isLine (f .lines))
+    (not (isEmpty (f .lines)) && (all isLine (f .lines) && all isBrief (f .lines)))
     (all-one rowLinesMost (f .rowWidth) (f .rows) a) h
 
 -- and only such a one
@@ -103,19 +104,49 @@ unfolding isDrawnIn
 one-drawn f h =
     all-weaken (isDrawnRow 1 (f .rowWidth)) isOneLine (one-row (f .rowWidth)) (f .rows)
     (fourth-of (isLabel (f .name)) (isRowWidth (f .rowWidth)) (not (isEmpty (f .rows)))
-    (all (isDrawnRow 1 (f .rowWidth)) (f .rows)) (not (isEmpty (f .lines)) && all isLine (f .lines)) h)
+    (all (isDrawnRow 1 (f .rowWidth)) (f .rows))
+    (not (isEmpty (f .lines)) && (all isLine (f .lines) && all isBrief (f .lines))) h)
 
 -- ── between editions ──
 
-module _ (a b : Edition) (le : a .rowLines ≤ b .rowLines) where
+-- b draws what a draws
+pub record Draws (a b : Edition) : Type 0 where
+  pub rows : a .rowLines ≤ b .rowLines
+  pub lines : a .lineBytes ≤ b .lineBytes
+
+last-more : (a b c d e x y : Bool) → (x ≡ true → y ≡ true) → (a && (b && (c && (d && (e && x))))) ≡ true
+    → (a && (b && (c && (d && (e && y))))) ≡ true
+last-more true true true true true x y f h = f h
+last-more true true true true false x y f h = h
+last-more true true true false e x y f h = h
+last-more true true false d e x y f h = h
+last-more true false c d e x y f h = h
+last-more false b c d e x y f h = h
+
+lines-more : (a b : Edition) → a .lineBytes ≤ b .lineBytes → (ls : List (List ℕ))
+    → (all isLine ls && all (isBriefIn a) ls) ≡ true → (all isLine ls && all (isBriefIn b) ls) ≡ true
+lines-more a b le ls h =
+    and-both (all isLine ls) (all (isBriefIn b) ls) (and-left (all isLine ls) (all (isBriefIn a) ls) h)
+    (all-weaken (isBriefIn a) (isBriefIn b) weaker ls (and-right (all isLine ls) (all (isBriefIn a) ls) h))
+  where
+    weaker : (l : List ℕ) → isBriefIn a l ≡ true → isBriefIn b l ≡ true
+    weaker l e = le-leb (length l) (b .lineBytes) (let n = leb-true (length l) (a .lineBytes) e in omega (arith, n, le))
+
+module _ (a b : Edition) (more : Draws a b) where
   pub drawn-more : (f : Frame) → isDrawnIn a f ≡ true → isDrawnIn b f ≡ true
   unfolding isDrawnIn
   drawn-more f h =
-      fourth-more (isLabel (f .name)) (isRowWidth (f .rowWidth)) (not (isEmpty (f .rows)))
-      (all (isDrawnRow (a .rowLines) (f .rowWidth)) (f .rows)) (all (isDrawnRow (b .rowLines) (f .rowWidth)) (f .rows))
-      (not (isEmpty (f .lines)) && all isLine (f .lines))
-      (λ e. all-weaken (isDrawnRow (a .rowLines) (f .rowWidth)) (isDrawnRow (b .rowLines) (f .rowWidth))
-      (row-more (a .rowLines) (b .rowLines) (f .rowWidth) le) (f .rows) e) h
+      let w = f .rowWidth in
+      let n = isLabel (f .name) in
+      let c = not (isEmpty (f .rows)) in
+      let e = not (isEmpty (f .lines)) in
+      last-more n (isRowWidth w) c (all (isDrawnRow (b .rowLines) w) (f .rows)) e
+      (all isLine (f .lines) && all (isBriefIn a) (f .lines)) (all isLine (f .lines) && all (isBriefIn b) (f .lines))
+      (lines-more a b (more .lines) (f .lines))
+      (fourth-more n (isRowWidth w) c (all (isDrawnRow (a .rowLines) w) (f .rows))
+      (all (isDrawnRow (b .rowLines) w) (f .rows)) (e && (all isLine (f .lines) && all (isBriefIn a) (f .lines)))
+      (λ k. all-weaken (isDrawnRow (a .rowLines) w) (isDrawnRow (b .rowLines) w)
+      (row-more (a .rowLines) (b .rowLines) w (more .rows)) (f .rows) k) h)
 
   pub frame-of-more : (text : List ℕ) (f : Frame) → FrameOfIn a text f → FrameOfIn b text f
   frame-of-more text f h = record {
@@ -134,8 +165,8 @@ module _ (a b : Edition) (le : a .rowLines ≤ b .rowLines) where
     isText = h .isText;
   }
 
--- where rows may have as many lines, the same line is wrong
-pub lines-like : (a b : Edition) → a .rowLines ≤ b .rowLines → b .rowLines ≤ a .rowLines → (text : List ℕ) (k : ℕ)
+-- where both draw the same, the same line is wrong
+pub lines-like : (a b : Edition) → Draws a b → Draws b a → (text : List ℕ) (k : ℕ)
     → Plain text → ((f : Frame) → FrameOfIn a text f → ⊥) → (r : RightLinesIn a text k)
     → RefusesIn b text (refused 3 (wrongLine k (r .begins .frame)))
 lines-like a b forth back text k p q r =

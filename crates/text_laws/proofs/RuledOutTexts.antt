@@ -3,11 +3,11 @@
 use mathlib.Core.Path.{_≡_, refl, subst}
 use mathlib.Core.Bool.{Bool, true, not}
 use mathlib.Core.Logic.{_⊎_, inl, inr}
-use mathlib.Core.List.{List, [], _∷_, _++_}
+use mathlib.Core.List.{List, [], _∷_, _++_, map}
 use Prim.Native.Nat.{ℕ}
-use Rattle.base.proofs.Lists.{every-passes, other-numbers}
+use Rattle.base.proofs.Lists.{every-passes, other-numbers, and-left, and-right}
 use Rattle.base.specs.Bytes.{digits}
-use Rattle.base.specs.Lists.{all, any, only, same, lastIs, sum, joined, tabulate, firstBreak}
+use Rattle.base.specs.Lists.{all, any, only, same, lastIs, sum, joined, tabulate, firstBreak, Every}
 use Rattle.rules.specs.Operators.{operator, operators}
 use Rattle.rules.specs.Names.{
   isLetter,
@@ -106,6 +106,7 @@ use Rattle.text_laws.specs.FrameReader.{
   rightFrom,
   rightLines,
   whole,
+  onBrief,
   rowOrBorder,
   readDrawn,
   ifLabelled,
@@ -128,7 +129,11 @@ use Rattle.text_laws.specs.WrongTextNames.{wrongTextNames}
 use Rattle.text_laws.specs.WrongTextOperators.{wrongTextOperators}
 use Rattle.text_laws.specs.WrongTextNumbers.{wrongTextNumbers}
 use Rattle.text_laws.specs.WrongTextRows.{wrongTextRows}
+use Rattle.text_laws.specs.WrongTextLines.{wrongTextLines}
+use Rattle.text_laws.specs.WrongPieces.{PieceClaim, ends, ClaimedOf, PiecesFalse, asText, wrongPieces}
+use Rattle.rules.specs.PieceResults.{joinedText}
 use Rattle.text_laws.proofs.TextResults.{text-unique}
+use Rattle.text_laws.proofs.PieceLaws.{pieces-answered}
 use Rattle.text_laws.proofs.TextSeen.{formsOf, seen, outcomeOf, outcome-is}
 
 -- ── another outcome than the one there is ──
@@ -151,12 +156,19 @@ abbrev barredText : List ℕ
 barredText = tagLines 1 ++ (0x7F ∷ [])
 
 abbrev everyText : List Claim
-everyText = wrongTexts ++ (wrongTextNames ++ (wrongTextOperators ++ (wrongTextNumbers ++ wrongTextRows)))
+everyText =
+    wrongTexts
+    ++ (wrongTextNames ++ (wrongTextOperators ++ (wrongTextNumbers ++ (wrongTextRows ++ wrongTextLines))))
+
+-- pieces by their joined texts
+abbrev joinedTexts : List Claim
+joinedTexts = map asText wrongPieces
 
 record Computed : Type 0 where
   spelled : seen tagText ≡ inr tag
   barred : seen barredText ≡ inl (refused 2 0)
   others : all isOther everyText ≡ true
+  joint : all isOther joinedTexts ≡ true
 
 computed : Computed
 unfolding digits all any same lastIs sum joined tabulate firstBreak operator operators isLetter isDigit isSpace
@@ -169,9 +181,9 @@ unfolding digits all any same lastIs sum joined tabulate firstBreak operator ope
     labelBehind readLabel readClosedName readShort readTree unitOf readUnit readMeasure readWidth readPhrase
     readMaybe isCondition isConstraint readConstraint readCondition isRemark readForm Frames.readName Frames.step
     onFirst pieces rest keepRow stripsOf longOf readLong rowOf readRow withStrips moreRow closing readTens onName
-    onWidth onRow rowOrEnd opened onSame rowOrBorder run rightFrom rightLines whole readDrawn ifLabelled readFrame
-    reach placeOf firstIndex renameTree resolve formsOf seen manyFields manyRows manyLines powers doubled
-computed = record { spelled = refl; barred = refl; others = refl }
+    onWidth onRow rowOrEnd opened onSame onBrief rowOrBorder run rightFrom rightLines whole readDrawn ifLabelled
+    readFrame reach placeOf firstIndex renameTree resolve formsOf seen manyFields manyRows manyLines powers doubled
+computed = record { spelled = refl; barred = refl; others = refl; joint = refl }
 
 -- the outcomes of two texts
 known : (text out : List ℕ) (s : Answer ⊎ Description) → seen text ≡ s → ReadsText text out (outcomeOf s out)
@@ -189,3 +201,22 @@ texts-ruled-out =
     every-passes isOther ruled-out
     everyText
     (computed .others)
+
+-- and of the pieces, by what the end answers
+module _ (Of : List ℕ → List ℕ → Type 0) (fresh : List ℕ) where
+  pieces-of : (c : PieceClaim) → isOther (asText c) ≡ true → ClaimedOf Of fresh c → ⊥
+  pieces-of (ends pieces out r after) h p =
+      ruled-out (reads (joinedText pieces) out r after) h
+      (pieces-answered Of fresh pieces (p .0) out (leaves (ofText r) after) (p .1) (p .2))
+
+  every-piece : (l : List PieceClaim) → all isOther (map asText l) ≡ true
+      → Every (λ c. ClaimedOf Of fresh c → ⊥) l
+  unfolding all
+  every-piece [] h = tt
+  every-piece (c ∷ l) h = (
+    pieces-of c (and-left (isOther (asText c)) (all isOther (map asText l)) h),
+    every-piece l (and-right (isOther (asText c)) (all isOther (map asText l)) h),
+  )
+
+pub pieces-ruled-out : PiecesFalse wrongPieces
+pieces-ruled-out Of fresh = every-piece Of fresh wrongPieces (computed .joint)

@@ -1,19 +1,17 @@
 -- What is kept stays steady: its bounds, no name repeated where nothing was refused, no field before the field lines,
--- no
--- row outside of rows.
+-- no row outside of rows.
 use mathlib.Core.Path.{_≡_, refl, ap, sym, subst, _∙_}
 use mathlib.Core.Bool.{Bool, true, false, cond, not}
 use mathlib.Core.List.{List, [], _∷_, _++_}
 use mathlib.Core.Option.{Option, none, some, Option·none-ne-some}
 use Prim.Native.Nat.{ℕ, suc}
-use native.Mathlib.Omega.{arith}
-use lib.Dec.{ltb}
+use lib.Dec.{leb, ltb}
 use lib.ListN.{length}
 use Rattle.base.specs.Bytes.{bytes}
 use Rattle.base.specs.Lists.{all, same, isEmpty, isNone, firstBreak}
 use Rattle.base.proofs.Lists.{not-both}
 use Rattle.rules.specs.Answers.{Answer, refused}
-use Rattle.rules.specs.Limits.{fieldsMost}
+use Rattle.rules.specs.Limits.{lineMost, fieldsMost}
 use Rattle.rules.specs.Fields.{Form}
 use Rattle.rules.specs.Within.{keepsSize, keepsNames, keepsTypes, keepsRest, nameReadable}
 use Rattle.rules.specs.Rows.{Row, isLabelled}
@@ -26,10 +24,11 @@ use Rattle.text_laws.specs.Judging.{face, faces, resolvedIn, showsCell, 
 use Rattle.text_laws.specs.Judging.{judge}
 use Rattle.text_laws.specs.Fold.{Stage, opening, blank, tensRuler, unitsRuler, topBorder, firstRow, inRow}
 use Rattle.text_laws.specs.Fold.{rowOrBlank, whereLine, lastBlank, firstField, fieldLine, lost, Found, start}
-use Rattle.text_laws.specs.Fold.{onward, blamed, wrong, expect, openingName, withName, withWidth, withRow}
-use Rattle.text_laws.specs.Fold.{withCells, onMore, withMore, linedAt, lined}
+use Rattle.text_laws.specs.Fold.{onward, losing, blamed, wrong, expect, openingName, withName, withWidth}
+use Rattle.text_laws.specs.Fold.{withRow, withCells, onMore, withMore, briefField, withField, linedAt, lined}
+use Rattle.text_laws.specs.Fold.{isLost, cut}
 use Rattle.text_laws.specs.Steady.{Clear, isHead, rowGoes, Steady}
-use Rattle.text_laws.proofs.Bounds.{small-line}
+use Rattle.text_laws.proofs.Bounds.{small-losing, small-line, small-start}
 use Rattle.text_laws.proofs.Faces.{renamed-face}
 use Rattle.text_laws.proofs.Loose.{lower-left, faces-append}
 use Rattle.text_laws.proofs.Lowests.{break-more}
@@ -95,11 +94,11 @@ abbrev Stays : Found → Type 0
 Stays f = Clear (f .judged) × (isHead (f .stage) ≡ true → f .judged .fields ≡ [])
 
 module _ (f : Found) (clear : Clear (f .judged)) where
+  stays-losing : (a : Answer) → Stays (losing a f)
+  stays-losing a = (λ e. absurd (Option·none-ne-some a (sym e)), λ e. absurd (not-both false e refl))
+
   stays-wrong : Stays (wrong f)
-  stays-wrong = (
-    λ e. absurd (Option·none-ne-some (refused 3 (blamed (f .row) (f .lines))) (sym e)),
-    λ e. absurd (not-both false e refl),
-  )
+  stays-wrong = stays-losing (refused 3 (blamed (f .row) (f .lines)))
 
   module _ (no-fields : f .judged .fields ≡ []) where
     stays-expect : (w : List ℕ) (s : Stage) (l : List ℕ) → Stays (expect w s f l)
@@ -150,9 +149,15 @@ module _ (f : Found) (clear : Clear (f .judged)) where
         go true = (clear, λ e. no-fields)
         go false = stays-row (readRow (f .width) l)
 
-  stays-field : (l : List ℕ) → Stays (linedAt fieldLine f l)
-  unfolding linedAt
-  stays-field l = (clear-judge (f .cells) (suc (f .lines)) (f .judged) l clear, λ e. absurd (not-both false e refl))
+  stays-field : (l : List ℕ) → Stays (withField f l)
+  stays-field l = go (leb (length l) lineMost)
+    where
+      go : (b : Bool) → Stays (cond b (briefField f l) (wrong f))
+      go true = (
+        clear-judge (f .cells) (suc (f .lines)) (f .judged) l clear,
+        λ e. absurd (not-both false e refl),
+      )
+      go false = stays-wrong
 
 stays-line : (s : Stage) (f : Found) (l : List ℕ) → Clear (f .judged) → (isHead s ≡ true → f .judged .fields ≡ [])
     → (isHead (f .stage) ≡ true → f .judged .fields ≡ []) → Stays (linedAt s f l)
@@ -217,6 +222,13 @@ module _ (f : Found) where
         go true = no-row
         go false = goes-row (readRow (f .width) l)
 
+    goes-field : (l : List ℕ) → Goes (withField f l)
+    goes-field l = go (leb (length l) lineMost)
+      where
+        go : (b : Bool) → Goes (cond b (briefField f l) (wrong f))
+        go true = no-row
+        go false = refl
+
 goes-line : (s : Stage) (f : Found) (l : List ℕ) → rowGoes s (f .row) ≡ true → Goes f → Goes (linedAt s f l)
 unfolding linedAt
 goes-line opening f l h k = goes-name f h (openingName l)
@@ -229,8 +241,8 @@ goes-line inRow f l h k = goes-more f l (f .row)
 goes-line rowOrBlank f l h k = goes-blank f h l
 goes-line whereLine f l h k = goes-expect f h (bytes "where:") lastBlank l refl
 goes-line lastBlank f l h k = goes-expect f h [] firstField l refl
-goes-line firstField f l h k = h
-goes-line fieldLine f l h k = h
+goes-line firstField f l h k = goes-field f h l
+goes-line fieldLine f l h k = goes-field f h l
 goes-line lost f l h k = k
 
 pub steady-line : (f : Found) (l : List ℕ) → Steady f → Steady (lined f l)
@@ -243,17 +255,24 @@ steady-line f l h =
       row = goes-line (f .stage) f l (h .row) (h .row);
     }
 
+-- a refusal by 1, 2 or 3
+pub steady-losing : (a : Answer) (f : Found) → Steady f → Steady (losing a f)
+steady-losing a f h =
+    let s = stays-losing f (h .clear) a in
+    record { small = small-losing a f (h .small); clear = s .0; head = s .1; row = refl }
+
+-- a line that is cut
+pub steady-cut : (f : Found) → Steady f → Steady (cut f)
+steady-cut f h = go (isLost (f .stage))
+  where
+    go : (b : Bool) → Steady (cond b f (wrong f))
+    go true = h
+    go false = steady-losing (refused 3 (blamed (f .row) (f .lines))) f h
+
 pub steady-start : Steady start
 unfolding all firstBreak
 steady-start = record {
-  small = record {
-    name = omega arith;
-    width = omega arith;
-    row = refl;
-    cells = omega arith;
-    texts = refl;
-    judged = record { count = omega arith; fields = omega arith; formed = refl };
-  };
+  small = small-start;
   clear = λ e. refl;
   head = λ e. refl;
   row = refl;

@@ -1,15 +1,16 @@
 -- One fold over the bytes of a text. What is kept between bytes is what document 02 (R-9) allows, and nothing else.
 -- No public promise rests on this file.
-use mathlib.Core.Bool.{cond}
+use mathlib.Core.Path.{_≡_}
+use mathlib.Core.Bool.{Bool, true, false, cond}
 use mathlib.Core.List.{List, [], _∷_, _++_, foldl}
 use mathlib.Core.Option.{Option, none, some}
 use Prim.Native.Nat.{ℕ, suc}
-use lib.Dec.{ltb, eqb}
+use lib.Dec.{leb, ltb, eqb}
 use lib.ListN.{length, take, drop}
 use Rattle.base.specs.Bytes.{bytes}
 use Rattle.base.specs.Lists.{isEmpty, same}
 use Rattle.rules.specs.Answers.{Answer, refused}
-use Rattle.rules.specs.Limits.{textMost, fieldsMost}
+use Rattle.rules.specs.Limits.{textMost, lineMost, fieldsMost}
 use Rattle.rules.specs.Names.{isAllowed, lineFeed}
 use Rattle.rules.specs.Fields.{Description}
 use Rattle.rules.specs.Rows.{Row, isLabelled}
@@ -58,7 +59,7 @@ pub record Found : Type 0 where
 pub record Kept : Type 0 where
   -- bytes so far, at most the limit
   pub size : ℕ
-  -- the unfinished line
+  -- the unfinished line, at most the limit
   pub line : List ℕ
   pub found : Found
 
@@ -180,8 +181,8 @@ abbrev pub withMore : Found → List ℕ → Option Row → Found
 withMore f l none = wrong f
 withMore f l (some r) = onMore f (f .width) r l (moreRow (f .width) r l)
 
-abbrev pub withField : Found → List ℕ → Found
-withField f l = record {
+abbrev pub briefField : Found → List ℕ → Found
+briefField f l = record {
   lines = suc (f .lines);
   stage = fieldLine;
   name = f .name;
@@ -190,6 +191,10 @@ withField f l = record {
   cells = f .cells;
   judged = judge (f .cells) (suc (f .lines)) (f .judged) l;
 }
+
+-- 3 where it is too long
+abbrev pub withField : Found → List ℕ → Found
+withField f l = cond (leb (length l) lineMost) (briefField f l) (wrong f)
 
 unfoldable pub linedAt : Stage → Found → List ℕ → Found
 linedAt opening f l = withName f (openingName l)
@@ -210,14 +215,42 @@ linedAt lost f l = f
 abbrev pub lined : Found → List ℕ → Found
 lined f l = linedAt (f .stage) f l
 
+-- ── a line that is too long ──
+
+abbrev pub isLost : Stage → Bool
+isLost opening = false
+isLost blank = false
+isLost tensRuler = false
+isLost unitsRuler = false
+isLost topBorder = false
+isLost firstRow = false
+isLost inRow = false
+isLost rowOrBlank = false
+isLost whereLine = false
+isLost lastBlank = false
+isLost firstField = false
+isLost fieldLine = false
+isLost lost = true
+
+-- 3 where the line that has begun is wrong, unless 1, 2 or 3 was found
+abbrev pub cut : Found → Found
+cut f = cond (isLost (f .stage)) f (wrong f)
+
+-- behind bytes that no LF ends
+unfoldable pub unended : Found → List ℕ → Found
+unended f l = cond (ltb lineMost (length l)) (cut f) f
+
 -- ── a byte ──
 
 abbrev pub put : Kept → List ℕ → Found → Kept
 put k l f = record { size = suc (k .size); line = l; found = f }
 
--- an LF hands on a whole line
+-- an LF hands on a whole line; of a line that is too long no more bytes are kept
 abbrev pub taken : Kept → ℕ → Kept
-taken k b = cond (eqb b lineFeed) (put k [] (lined (k .found) (k .line))) (put k (k .line ++ (b ∷ [])) (k .found))
+taken k b =
+    cond (eqb b lineFeed) (put k [] (lined (k .found) (k .line)))
+    (cond (ltb (length (k .line)) lineMost) (put k (k .line ++ (b ∷ [])) (k .found))
+    (put k (k .line) (cut (k .found))))
 
 -- 1
 abbrev pub over : Kept → Kept
@@ -272,3 +305,11 @@ outcome f out (some a) = leaves a out
 
 unfoldable pub finish : Kept → List ℕ → Outcome
 finish k out = outcome (k .found) out (lowestOf k)
+
+-- ── alike ──
+
+-- no difference at the end, nor for later bytes if as many came before: where 1, 2 or 3 was found, no unfinished line
+-- matters
+pub record Alike (a b : Kept) : Type 0 where
+  pub found : a .found ≡ b .found
+  pub line : isLost (a .found .stage) ≡ false → a .line ≡ b .line

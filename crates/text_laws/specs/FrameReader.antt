@@ -3,11 +3,11 @@ use mathlib.Core.Bool.{Bool, true, false, cond, _&&_}
 use mathlib.Core.List.{List, [], _∷_, _++_, map}
 use mathlib.Core.Option.{Option, none, some}
 use Prim.Native.Nat.{ℕ, suc, _+_, _-_, _/_}
-use lib.Dec.{eqb}
+use lib.Dec.{leb, eqb}
 use lib.ListN.{length, take, drop}
 use Rattle.base.specs.Bytes.{bytes}
 use Rattle.base.specs.Lists.{all, isEmpty, same}
-use Rattle.rules.specs.Limits.{rowLinesMost}
+use Rattle.rules.specs.Limits.{lineMost, rowLinesMost}
 use Rattle.rules.specs.Names.{isLabel, lineFeed}
 use Rattle.rules.specs.Rows.{Row, bitRow, longRow, isDrawnRow, isLabelled}
 use Rattle.rules.specs.Frames.{tens, units, border, Frame}
@@ -144,6 +144,10 @@ unfoldable pub rowOrBorder : Top → List Row → Row → List ℕ → Option Ro
 rowOrBorder h rows r l none = onSame (border (h .rowWidth)) (bordered h (rows ++ (r ∷ []))) l
 rowOrBorder h rows r l (some x) = some (rowed h rows x)
 
+-- one more field line, if it is short enough
+unfoldable pub onBrief : Top → List Row → List (List ℕ) → List ℕ → Bool → Option State
+onBrief h rows ls l b = cond b (some (filled h rows (ls ++ (l ∷ [])))) none
+
 -- one more line
 unfoldable pub step : State → List ℕ → Option State
 step begun l = opened l
@@ -155,7 +159,7 @@ step (bordered h rows) l = rowOrEnd h rows l
 step (rowed h rows r) l = rowOrBorder h rows r l (moreRow (h .rowWidth) r l)
 step (closed h rows) l = onSame (bytes "where:") (headed h rows) l
 step (headed h rows) l = onSame [] (filled h rows []) l
-step (filled h rows ls) l = some (filled h rows (ls ++ (l ∷ [])))
+step (filled h rows ls) l = onBrief h rows ls l (leb (length l) lineMost)
 
 abbrev pub onState : {A : Type 0} → A → (State → A) → Option State → A
 onState d f none = d

@@ -12,6 +12,8 @@
 -- WrongTextOperators  of those that are wrong about quotients, remainders and powers
 -- WrongTextNumbers  of those that are wrong about how often a field is read
 -- WrongTextRows  of those that are wrong about rows of several lines
+-- WrongTextLines  of those that are wrong about how long a line may be
+-- WrongPieces  answers of programs that are wrong about texts in pieces
 -- The readers are helpers of code and proofs; no public promise rests on them.
 pub mod Reader
 pub mod LineReader
@@ -27,3 +29,5 @@ pub mod WrongTextNames
 pub mod WrongTextOperators
 pub mod WrongTextNumbers
 pub mod WrongTextRows
+pub mod WrongTextLines
+pub mod WrongPieces

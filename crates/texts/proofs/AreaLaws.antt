@@ -1,5 +1,5 @@
 -- A part of the bytes that hold what is kept, lent and back: the other parts are as they were.
-use mathlib.Core.Path.{_≡_, refl, ap, sym, _∙_}
+use mathlib.Core.Path.{_≡_, refl, ap, sym, _∙_, subst}
 use mathlib.Core.List.{List, [], _∷_, _++_, append-nil}
 use Prim.Native.Nat.{ℕ, zero, suc, _+_, _-_, _≤_}
 use native.Mathlib.Omega.{arith}
@@ -9,7 +9,16 @@ use borrow.Rule.Slice.PartMut.{putMid, take-put, same-len-mid}
 use Rattle.rules.specs.Limits.{fieldsMost, labelMost, shortMost}
 use Rattle.text_laws.specs.Fold as fold
 use Rattle.texts.specs.HeldNames.{namesIn, labelsIn, namesRoom, labelsRoom, NamesRoom}
-use Rattle.texts.specs.HeldAreas.{slotsMost, recordsMost, namesAt, labelsAt, tableAt, heldRoom, cellBytes, nameBytes}
+use Rattle.texts.specs.HeldAreas.{
+  slotsMost,
+  recordsMost,
+  namesAt,
+  labelsAt,
+  tableAt,
+  heldRoom,
+  cellBytes,
+  nameBytes,
+}
 use Rattle.texts.specs.HeldAreas.{labelBytes, tableBytes}
 use Rattle.texts.specs.States.{area, Holds, HoldsIn}
 use Rattle.texts.specs.declared.states.Reading.{Reading}
@@ -149,6 +158,15 @@ module _ (held part : List ℕ) (room : heldRoom ≤ length held) where
       none : drop (length held - tableAt) (drop tableAt held) ≡ []
       none = drop-of-length-le (drop tableAt held) {i = length held - tableAt}
           (let n = length-drop tableAt held in omega (arith, n))
+
+-- with the table lent as a part
+pub part-holds : (f : fold.Found) (r : Reading) (held counts : List ℕ) → heldRoom ≤ length held → HoldsIn f r held
+    counts
+    → Holds f r (cellBytes held) (area (take (length held - tableAt) (drop tableAt held)) counts)
+    (labelsIn (labelBytes held)) (namesIn (nameBytes held))
+part-holds f r held counts room h =
+    subst (λ (t : List ℕ). Holds f r (cellBytes held) (area t counts) (labelsIn (labelBytes held))
+    (namesIn (nameBytes held))) (sym (table-part held room)) h
 
 -- ── room ──
 

@@ -117,6 +117,18 @@ module _ (f : fold.Found) (r : Reading) (c : Counts f r) where
         last-at (r .stage) l whole e (subst (λ (s : fold.Stage). rowGoes s (f .row) ≡ true) (sym (c .stage)) (k .row))
         ∙ ap (λ (s : fold.Stage). fold.lowestAt s l f) (c .stage)
 
+-- no place is behind the next line
+pub remain-placed : (r : Reading) → remainNote r .place ≤ r .lines + 1
+remain-placed r = go (ltb (r .fields) (r .cells))
+  where
+    go : (b : Bool) → cond b (note 7 (r .lines + 1)) (note 0 0) .place ≤ r .lines + 1
+    go true = omega arith
+    go false = omega arith
+
+pub row-placed : (r : Reading) (b : Bool) → cond b (earlyNote r) (note 3 (r .lines)) .place ≤ r .lines + 1
+row-placed r true = omega arith
+row-placed r false = omega arith
+
 -- it can be told
 pub last-told : (s : Stage) (r : Reading) (whole : Bool) (row : List ℕ) → Room r
     → isTold (lastNote s r whole row) ≡ true
@@ -163,28 +175,33 @@ told-is : (a : Note) → isTold (noteOf a) ≡ true → eqb (a .number) 0 ≡ fa
 unfolding noteOf
 told-is a t e = rw e at t
 
--- 4 has no place
+-- 2 and 4 have no place
+placeless : (m p : ℕ) → (eqb m 2 || eqb m 4) ≡ true → (not (eqb m 2 || eqb m 4) || eqb p 0) ≡ true → p ≡ 0
+placeless m p e k = eqb-true p 0 (rw e at k)
+
+told-place : (a : Note) → isTold (noteOf a) ≡ true → eqb (a .number) 0 ≡ false
+    → (not (eqb (a .number) 2 || eqb (a .number) 4) || eqb (a .place) 0) ≡ true
+told-place a t e = and-right (between 2 (a .number) 10) _ (told-is a t e)
+
+pub told-two : (a : Note) → isTold (noteOf a) ≡ true → eqb (a .number) 0 ≡ false → a .number ≡ 2 → a .place ≡ 0
+told-two a t e n = placeless (a .number) (a .place) (rw n refl) (told-place a t e)
+
 pub told-four : (a : Note) → isTold (noteOf a) ≡ true → eqb (a .number) 0 ≡ false → a .number ≡ 4 → a .place ≡ 0
-told-four a t e n =
-    let k = and-right (between 3 (a .number) 10) _ (told-is a t e) in
-    eqb-true (a .place) 0 (go (a .number) n k)
-  where
-    go : (m : ℕ) → m ≡ 4 → (not (eqb m 4) || eqb (a .place) 0) ≡ true → eqb (a .place) 0 ≡ true
-    go m z k = rw z at k
+told-four a t e n = placeless (a .number) (a .place) (rw n refl) (told-place a t e)
 
--- and the number is one of 3 to 10
-low-half : (n : ℕ) → 3 ≤ n → (n ≡ 3 → ⊥) → (n ≡ 4 → ⊥) → (n ≡ 5 → ⊥) → (n ≡ 6 → ⊥) → 7 ≤ n
-low-half n le a b c d = omega arith
+-- and the number is one of 2 to 10
+low-half : (n : ℕ) → 2 ≤ n → (n ≡ 2 → ⊥) → (n ≡ 3 → ⊥) → (n ≡ 4 → ⊥) → (n ≡ 5 → ⊥) → (n ≡ 6 → ⊥) → 7 ≤ n
+low-half n le a b c d e = omega arith
 
-pub none-other : (n : ℕ) → (3 ≤ n) × (n ≤ 10) → (n ≡ 3 → ⊥) → (n ≡ 4 → ⊥) → (n ≡ 5 → ⊥) → (n ≡ 6 → ⊥)
+pub none-other : (n : ℕ) → (2 ≤ n) × (n ≤ 10) → (n ≡ 2 → ⊥) → (n ≡ 3 → ⊥) → (n ≡ 4 → ⊥) → (n ≡ 5 → ⊥) → (n ≡ 6 → ⊥)
     → (n ≡ 7 → ⊥) → (n ≡ 8 → ⊥) → (n ≡ 9 → ⊥) → (n ≡ 10 → ⊥) → ⊥
-none-other n h a b c d e f g i = high n (low-half n (h .0) a b c d) (h .1) e f g i
+none-other n h z a b c d e f g i = high n (low-half n (h .0) z a b c d) (h .1) e f g i
   where
     high : (m : ℕ) → 7 ≤ m → m ≤ 10 → (m ≡ 7 → ⊥) → (m ≡ 8 → ⊥) → (m ≡ 9 → ⊥) → (m ≡ 10 → ⊥) → ⊥
     high m lo hi e f g i = omega arith
 
-pub told-one : (a : Note) → isTold (noteOf a) ≡ true → eqb (a .number) 0 ≡ false → (3 ≤ a .number) × (a .number ≤ 10)
-told-one a t e = between-true 3 (a .number) 10 (and-left (between 3 (a .number) 10) _ (told-is a t e))
+pub told-one : (a : Note) → isTold (noteOf a) ≡ true → eqb (a .number) 0 ≡ false → (2 ≤ a .number) × (a .number ≤ 10)
+told-one a t e = between-true 2 (a .number) 10 (and-left (between 2 (a .number) 10) _ (told-is a t e))
 
 pub end-refused : (k : fold.Kept) (out : List ℕ) (a : Answer) → fold.lowestOf k ≡ some a
     → leaves a out ≡ fold.finish k out
@@ -321,7 +338,8 @@ pub put-all : (r : Reading) (table counts : List ℕ) {out a b c d : List ℕ} {
     → Writes out 0 (recordOf 1 (le2 (r .width) ++ (le2 (r .fields) ++ counted (take (r .name - 0) table)))) a head
     → body ≡ head + length (take (r .end - r .name) (drop (r .name) table))
     → Writes a head (numbered (r .fields) counts (take (r .end - r .name) (drop (r .name) table))) b body
-    → placed size c ≡ put b body (le2 4) → placed n d ≡ put c size (le2 5) → TableStep r (area table counts) out d n
+    → placed size c ≡ put b body (le2 4) → placed n d ≡ put c size (le2 5)
+    → TableStep r (area table counts) out d n × (n ≡ 14 + r .end)
 put-all r table counts {out} {a} {b} {c} {d} {head} {body} {size} {n} k big room w₁ e₂ w₂ e₃ e₄ =
     let v₁ : Writes out 0 (recordOf 1 (le2 (r .width) ++ (le2 (r .fields) ++ counted (take (r .name) table)))) a head =
     rw (sub-zero (r .name)) at w₁ in
@@ -333,4 +351,7 @@ put-all r table counts {out} {a} {b} {c} {d} {head} {body} {size} {n} k big room
     let w₃ = two-writes 4 (omega (arith, l₁, l₂, h₁, v₁ .kept, e₂, w₂ .kept, room, k .front)) e₃ in
     let z = two-end 4 w₃ in
     let w₄ = two-writes 5 (omega (arith, l₁, l₂, h₁, v₁ .kept, e₂, w₂ .kept, w₃ .kept, z, room, k .front)) e₄ in
-    rw (append-nil (le2 5)) (writes-join v₁ (writes-join w₂ (writes-join w₃ w₄)))
+    let y = two-end 5 w₄ in (
+      rw (append-nil (le2 5)) (writes-join v₁ (writes-join w₂ (writes-join w₃ w₄))),
+      omega (arith, l₁, l₂, h₁, e₂, z, y, k .front),
+    )

@@ -112,7 +112,7 @@ module _ (f : fold.Found) (r : Reading) {cells : List ℕ} {table : Area} {label
 
   -- 4
   pub holds-full : (l : List ℕ) → isFull (f .judged) ≡ true
-      → Holds (fold.withField f l) (changed r (r .lines + 1) at.FieldLine (note 4 0)) cells table labels names
+      → Holds (fold.briefField f l) (changed r (r .lines + 1) at.FieldLine (note 4 0)) cells table labels names
   unfolding judge noteOf
   holds-full l e =
       rw e (holds-judged (many (f .judged)) (r .count) (note 4 0) (h .counts .count) refl
@@ -124,7 +124,7 @@ module _ (f : fold.Found) (r : Reading) {cells : List ℕ} {table : Area} {label
   -- 5
   pub holds-formless : (l : List ℕ) (a : Note) → isFull (f .judged) ≡ false → readForm l ≡ none
       → noteOf a ≡ lower (noteOf (r .note)) (some (refused 5 (r .lines + 1)))
-      → Holds (fold.withField f l) (lineRefused r a) cells table labels names
+      → Holds (fold.briefField f l) (lineRefused r a) cells table labels names
   unfolding judge withForm
   holds-formless l a e o k =
       rw (e, o) (holds-judged (withForm (f .cells) (suc (f .lines)) (f .judged) none) (r .count + 1) a one-more refl
@@ -139,7 +139,7 @@ module _ (f : fold.Found) (r : Reading) {cells : List ℕ} {table : Area} {label
   -- 6, and what is closed behind an earlier refusal
   pub holds-closed : (l : List ℕ) (x : Form) (a : Note) → isFull (f .judged) ≡ false → readForm l ≡ some x
       → noteOf a ≡ noteOfForm x → isOpen (noteOf a) ≡ false
-      → Holds (fold.withField f l) (lineRefused r a) cells table labels names
+      → Holds (fold.briefField f l) (lineRefused r a) cells table labels names
   unfolding judge withForm
   holds-closed l x a e o k shut =
       let c : isOpen (noteOfForm x) ≡ false = rw (← k) shut in
@@ -297,7 +297,7 @@ module _ (f : fold.Found) (r : Reading) {cells : List ℕ} {table after : Area} 
       → noteOf a ≡ lower (f .judged .lowest)
       (broken 6 (suc (f .lines)) (rules (f .cells)) (faces (f .judged .fields)) x)
       → isOpen (noteOf a) ≡ true
-      → Holds (fold.withField f l) (lineKept r cell end rested a) cells after labels′ names′
+      → Holds (fold.briefField f l) (lineKept r cell end rested a) cells after labels′ names′
   unfolding judge withForm
   holds-open l a e o low is =
       let before = f .judged .fields in

@@ -227,6 +227,7 @@ room-width r w h le = record {
   fields = h .fields;
   end = h .end;
   told = h .told;
+  placed = (let q = h .placed in omega (arith, q));
 }
 
 pub room-name : (r : Reading) (k : ℕ) → Room r → k ≤ labelMost
@@ -243,6 +244,7 @@ room-name r k h le = record {
   fields = h .fields;
   end = omega (arith, le);
   told = h .told;
+  placed = (let q = h .placed in omega (arith, q));
 }
 
 pub room-row : (r : Reading) (n next : ℕ) → Room r → r .cells + n ≤ fieldsMost
@@ -261,4 +263,5 @@ room-row r n next h few le more = record {
   fields = h .fields;
   end = h .end;
   told = h .told;
+  placed = (let q = h .placed in omega (arith, q));
 }

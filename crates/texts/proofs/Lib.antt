@@ -11,7 +11,7 @@
 -- FrameLeaves              pieces, rulers and the opening line, as the code reads them
 -- TrimLaws                 blanks taken off both ends of a text
 -- RowLeaves                long rows, as the code reads them
--- BarLaws                  a further line of a row, and the lines of a row
+-- DrawnLines               the lines of a drawn row, and one more line of it
 -- TreeTypes                the types of a line's expressions, by the stored forms that the code makes
 -- NoteLaws                 the lower of two notes
 -- HeldClashes              a field's names held against those of earlier fields
@@ -58,7 +58,17 @@
 -- SlotPlaces               where the kept cells stand
 -- LineForms                one field line: its form, its names as they are held, room for it
 -- EndSteps                 the end of a text: the lowest refusal, and the table
+-- StateBytes, CountBytes   the numbers of a reading, and how often each field is read, as bytes of a state
+-- StateChanges             bytes that differ only between two places: what changes them so, and what it leaves
+-- FillLaws  bytes set to one value
+-- KeptStates, BegunStates  states cut, stored, with a part more, and before the first byte
+-- ClearedStates  states in which no line is held
+-- LeftStates  what a state holds stands in its first bytes
 -- LineWalk                 the lines of a text, one by one: what is left decides
+-- JoinLaws                 a line of which the first bytes are held in a state, put together and ended
+-- PieceLaws, PieceWalks    bytes one behind the other; the lines of a piece behind a held line
+-- TakenPieces, JoinedPieces  a piece taken into a state, that of the text and the piece
+-- EndPieces                the end of a text that came in pieces
 -- FieldSteps               what the code keeps behind a field line
 -- HeadSteps                what the code keeps behind the lines that hold NAME, W and cells
 pub mod OperatorRows
@@ -91,6 +101,7 @@ pub mod LookLaws
 pub mod AreaLaws
 pub mod FormAreas
 pub mod LineAreas
+pub mod CutLines
 pub mod NameLengths
 pub mod FirstBreaks
 pub mod LineRules
@@ -106,7 +117,7 @@ pub mod FieldParts
 pub mod PartSteps
 pub mod SplitSteps
 pub mod LineEnds
-pub mod BarLaws
+pub mod DrawnLines
 pub mod RowTests
 pub mod CellNames
 pub mod CellSteps
@@ -131,7 +142,21 @@ pub mod MoreSteps
 pub mod FieldSteps
 pub mod RecordNumbers
 pub mod EndSteps
+pub mod StateBytes
+pub mod CountBytes
 pub mod LineWalk
+pub mod JoinLaws
+pub mod EndPieces
+pub mod StateChanges
+pub mod KeptStates
+pub mod FillLaws
+pub mod ClearedStates
+pub mod LeftStates
+pub mod BegunStates
+pub mod PieceLaws
+pub mod PieceWalks
+pub mod TakenPieces
+pub mod JoinedPieces
 pub mod LineForms
 pub mod SlotPlaces
 pub mod FormRules

@@ -38,7 +38,7 @@ feed-allowed : (b : ℕ) → b ≡ lineFeed → isAllowed b ≡ true
 unfolding isAllowed
 feed-allowed b e = or-right (isPrintable b) (eqb b lineFeed) (eq-eqb b lineFeed e)
 
-bad-byte : (b : ℕ) → isPrintable b ≡ false → (b ≡ lineFeed → ⊥) → isAllowed b ≡ false
+pub bad-byte : (b : ℕ) → isPrintable b ≡ false → (b ≡ lineFeed → ⊥) → isAllowed b ≡ false
 unfolding isAllowed
 bad-byte b e n = rw (e, ne-eqb b lineFeed n) refl
 
@@ -82,7 +82,7 @@ front-feed (b ∷ s) = go (isPrintable b) refl (front-feed s)
     go true e h = rw (feed-other b e) (omega (arith, h))
     go false e h = omega arith
 
-first-other : (s : List ℕ) → printableLength s < length s → isPrintable (getD s (printableLength s) 0) ≡ false
+pub first-other : (s : List ℕ) → printableLength s < length s → isPrintable (getD s (printableLength s) 0) ≡ false
 unfolding printableLength
 first-other [] lt = absurd (omega arith)
 first-other (b ∷ s) lt = go (isPrintable b) refl (first-other s) lt
@@ -134,6 +134,16 @@ module _ (s : List ℕ) (at i : ℕ) (first : i ≡ at + printableLength (drop a
       part-allowed ∙ all-stop isAllowed s i lt (bad-byte (getD s i 0) q n)
 
 -- ── a line ──
+
+pub front-plain : (s : List ℕ) → all isPrintable (take (printableLength s) s) ≡ true
+unfolding printableLength all
+front-plain [] = refl
+front-plain (b ∷ s) = go (isPrintable b) refl (front-plain s)
+  where
+    go : (x : Bool) → isPrintable b ≡ x → all isPrintable (take (printableLength s) s) ≡ true
+        → all isPrintable (take (cond x (suc (printableLength s)) 0) (b ∷ s)) ≡ true
+    go true e h = rw e h
+    go false e h = refl
 
 front-line : (s : List ℕ) → isLine (take (printableLength s) s) ≡ true
 unfolding printableLength all

@@ -242,7 +242,13 @@ pub told-after : (a b : Option Answer) (n : Note) → noteOf n ≡ lower a b →
 told-after a b n e p q = ap isTold e ∙ told-lower a b p q
 
 pub told-some : (n p : ℕ) → 5 ≤ n → n ≤ 10 → isTold (some (refused n p)) ≡ true
-told-some n p lo hi = rw (true-between 3 n 10 (omega arith) hi, ne-eqb n 4 (λ e. absurd (omega (arith, lo, e)))) refl
+told-some n p lo hi =
+    rw (
+      true-between 2 n 10 (omega arith) hi,
+      ne-eqb n 2 (λ e. absurd (omega (arith, lo, e))),
+      ne-eqb n 4 (λ e. absurd (omega (arith, lo, e))),
+    )
+    refl
 
 -- ── room ──
 
@@ -250,8 +256,8 @@ pub full-room : (r : Reading) → isFullAs r ≡ false → r .count < fieldsMost
 full-room r e = leb-false fieldsMost (r .count) (or-false-right (eqb (r .note .number) 4) (leb fieldsMost (r .count)) e)
 
 pub room-refused : (r : Reading) (a : Note) → Room r → r .count < fieldsMost → isTold (noteOf a) ≡ true
-    → Room (lineRefused r a)
-room-refused r a h lt t = record {
+    → a .place ≤ r .lines + 1 → Room (lineRefused r a)
+room-refused r a h lt t p = record {
   width = h .width;
   name = h .name;
   row = h .row;
@@ -263,12 +269,13 @@ room-refused r a h lt t = record {
   fields = (let q = h .fields in omega (arith, q));
   end = h .end;
   told = t;
+  placed = omega (arith, p);
 }
 
 pub room-kept : (r : Reading) (cell end : ℕ) (rested : Bool) (a : Note) → Room r → r .count < fieldsMost
     → cell ≤ r .slots → r .end ≤ end → end ≤ r .end + recordMost → isTold (noteOf a) ≡ true
-    → Room (lineKept r cell end rested a)
-room-kept r cell end rested a h lt le up most t = record {
+    → a .place ≤ r .lines + 1 → Room (lineKept r cell end rested a)
+room-kept r cell end rested a h lt le up most t p = record {
   width = h .width;
   name = h .name;
   row = h .row;
@@ -280,4 +287,5 @@ room-kept r cell end rested a h lt le up most t = record {
   fields = (let q = h .fields in omega (arith, q));
   end = (let q = h .end in omega (arith, q, most));
   told = t;
+  placed = omega (arith, p);
 }

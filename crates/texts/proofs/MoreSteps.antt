@@ -17,7 +17,8 @@ use Rattle.text_laws.specs.FrameReader.{moreRow}
 use Rattle.text_laws.specs.Fold as fold
 use Rattle.text_laws.specs.Steady.{isHead, Steady}
 use Rattle.texts.specs.HeldNames.{Names}
-use Rattle.texts.specs.RowPlaces.{slotsAt, goesOn, rowRoom, RowKept}
+use Rattle.bars.specs.Goes.{goesOn}
+use Rattle.texts.specs.RowPlaces.{slotsAt, rowRoom, RowKept}
 use Rattle.texts.specs.Slots.{storedSlot, areLabels}
 use Rattle.texts.specs.Changes.{changed, withLines, madeWrong, madeWrongRow, rowEnded}
 use Rattle.texts.specs.HeldAreas.{slotsMost}

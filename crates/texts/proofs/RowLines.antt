@@ -18,8 +18,10 @@ use Rattle.rules.specs.Rows.{Row, rowLines, isDrawnRow}
 use Rattle.text_laws.specs.Bars.{sameBars}
 use Rattle.text_laws.specs.FrameReader.{readRow, moreRow}
 use Rattle.texts.specs.FramePlaces.{isSome}
-use Rattle.texts.specs.RowPlaces.{stripsAt, goesOn, RowKept}
-use Rattle.texts.proofs.BarLaws.{more-goes, more-lines, row-lines-one, drawn-count, same-size}
+use Rattle.bars.specs.Goes.{goesOn}
+use Rattle.texts.specs.RowPlaces.{stripsAt, RowKept}
+use Rattle.bars.proofs.BarLaws.{same-size}
+use Rattle.texts.proofs.DrawnLines.{more-goes, more-lines, row-lines-one, drawn-count}
 use Rattle.rules.specs.Frames.{isLine}
 use Rattle.texts.proofs.RowShown.{strips-length, strips-more}
 use Rattle.texts.proofs.SlotRows.{writes-keep, writes-there}

@@ -245,12 +245,14 @@ room-lines r n h le = record {
   fields = h .fields;
   end = h .end;
   told = h .told;
+  placed = h .placed;
 }
 
 pub room-line : (r : Reading) (n : ℕ) → Room r → n ≤ rowLinesMost
     → Room (changed (withLines r n) (r .lines + 1) at.InRow (r .note))
 room-line r n h le =
-    room-changed (withLines r n) (r .lines + 1) at.InRow (r .note) (h .told) (room-lines r n h le)
+    room-changed (withLines r n) (r .lines + 1) at.InRow (r .note) (h .told) (let q = h .placed in omega (arith, q))
+    (room-lines r n h le)
 
 -- behind the border of a row whose cells are kept
 pub room-ended : (r : Reading) (next n : ℕ) (cs : List Slot) {before after : List ℕ} → Room r
@@ -261,7 +263,8 @@ unfolding noteOf
 room-ended r next n cs h labels count w = go (ltb (fieldsMost - r .cells) n) refl
   where
     over : Room (changed (withLines r 0) (r .lines + 1) at.RowOrBlank (note 4 0))
-    over = room-changed (withLines r 0) (r .lines + 1) at.RowOrBlank (note 4 0) refl (room-lines r 0 h (omega arith))
+    over = room-changed (withLines r 0) (r .lines + 1) at.RowOrBlank (note 4 0) refl (omega arith)
+        (room-lines r 0 h (omega arith))
 
     go : (b : Bool) → ltb (fieldsMost - r .cells) n ≡ b
         → Room (rowEnded r next n) × (rowEnded r next n .lines ≤ r .lines + 1)

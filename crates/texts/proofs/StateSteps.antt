@@ -3,14 +3,15 @@ use mathlib.Core.Path.{_≡_, refl, ap, sym, subst, _∙_}
 use mathlib.Core.Bool.{Bool, true, false, cond}
 use mathlib.Core.List.{List, [], _∷_}
 use mathlib.Core.Option.{Option, none, some, Option·none-ne-some}
-use Prim.Native.Nat.{ℕ, suc, _+_, _*_}
+use Prim.Native.Nat.{ℕ, suc, _+_, _*_, _≤_}
 use native.Mathlib.Omega.{arith}
 use lib.Dec.{eqb}
-use borrow.Author.Tests.{ne-eqb}
+use borrow.Author.Tests.{ne-eqb, le-leb}
 use lib.ListN.{length}
 use Rattle.base.specs.Lists.{same, isEmpty, isNone}
 use Rattle.rules.specs.Answers.{refused}
 use Rattle.rules.specs.Rows.{Row}
+use Rattle.rules.specs.Limits.{lineMost}
 use Rattle.text_laws.specs.Fold as fold
 use Rattle.texts.specs.HeldNames.{Names}
 use Rattle.texts.specs.Noted.{noteOf}
@@ -42,9 +43,9 @@ same-nil (x ∷ l) = ne-eqb (length (x ∷ l)) 0 (λ e. absurd (omega (arith, e)
 
 -- ── safe ──
 
-pub room-changed : (r : Reading) (n : ℕ) (s : Stage) (a : Note) → isTold (noteOf a) ≡ true → Room r
-    → Room (changed r n s a)
-room-changed r n s a t h = record {
+pub room-changed : (r : Reading) (n : ℕ) (s : Stage) (a : Note) → isTold (noteOf a) ≡ true → a .place ≤ n + 1
+    → Room r → Room (changed r n s a)
+room-changed r n s a t p h = record {
   width = h .width;
   name = h .name;
   row = h .row;
@@ -56,22 +57,23 @@ room-changed r n s a t h = record {
   fields = h .fields;
   end = h .end;
   told = t;
+  placed = p;
 }
 
 pub taken-wrong : (r : Reading) → Room r → Taken r (madeWrong r)
 unfolding noteOf
-taken-wrong r h = (room-changed r (r .lines) at.Lost (note 3 (r .lines + 1)) refl h, omega arith)
+taken-wrong r h = (room-changed r (r .lines) at.Lost (note 3 (r .lines + 1)) refl (omega arith) h, omega arith)
 
 pub taken-wrong-row : (r : Reading) → Room r → Taken r (madeWrongRow r)
 unfolding noteOf
-taken-wrong-row r h = (room-changed r (r .lines) at.Lost (note 3 (r .lines)) refl h, omega arith)
+taken-wrong-row r h = (room-changed r (r .lines) at.Lost (note 3 (r .lines)) refl (omega arith) h, omega arith)
 
-pub taken-onward : (r : Reading) (s : Stage) (a : Note) → isTold (noteOf a) ≡ true → Room r
+pub taken-onward : (r : Reading) (s : Stage) (a : Note) → isTold (noteOf a) ≡ true → a .place ≤ r .lines + 1 → Room r
     → Taken r (changed r (r .lines + 1) s a)
-taken-onward r s a t h = (room-changed r (r .lines + 1) s a t h, omega arith)
+taken-onward r s a t p h = (room-changed r (r .lines + 1) s a t (omega (arith, p)) h, omega arith)
 
 pub taken-expect : (right : Bool) (r : Reading) (s : Stage) → Room r → Taken r (expected right r s)
-taken-expect true r s h = taken-onward r s (r .note) (h .told) h
+taken-expect true r s h = taken-onward r s (r .note) (h .told) (h .placed) h
 taken-expect false r s h = taken-wrong r h
 
 -- ── what is held ──
@@ -210,14 +212,14 @@ module _ (r : Reading) (l : List ℕ) (s : Stage) (told : r .stage ≡ s) where
 
   -- a field line
   pub field-stage : ((f : fold.Found) → fold.linedAt (stageOf s) f l ≡ fold.withField f l) → {q : Reading}
-      (held held′ : List ℕ) {row counts counts′ : List ℕ} → FieldStep l r q held held′ counts counts′
-      → LineStep l r q held held′ row row counts counts′
-  field-stage is held held′ step = (
+      (held held′ : List ℕ) {row counts counts′ : List ℕ} → length l ≤ lineMost
+      → FieldStep l r q held held′ counts counts′ → LineStep l r q held held′ row row counts counts′
+  field-stage is held held′ brief step = (
     step .0,
     refl,
     at-stage (λ f k e g h.
         let w = step .1 f k h in
-        rw (is f) (w, kept-same (h .counts) (w .counts) refl refl g)),
+        rw (is f, le-leb (length l) lineMost brief) (w, kept-same (h .counts) (w .counts) refl refl g)),
   )
 
   -- a line in a row

@@ -5,6 +5,7 @@
 -- PartPlaces  widths and what stands behind them, at places of a text
 -- HeldNames  the names of fields as the code holds them
 -- NameStarts  where the walk over the held names begins
+-- Fills  bytes set to one value
 -- HeldAreas  where what is kept of a text stands in the bytes that hold it
 -- Noted  a refusal as the code notes it
 -- RowPlaces  the lines of a row as the code keeps them, and its cells at their columns
@@ -17,6 +18,9 @@
 -- Chains  operators that group to the right and wait for their right operand
 -- Changes  what a line changes in the numbers that the code keeps
 -- States  what the code keeps of a text between two lines
+-- StateNumbers  the numbers of it as bytes of a state
+-- WalkSteps  the lines of a text, one by one
+-- PieceStates  what a state holds of a text that comes in pieces
 pub mod ExprPlaces
 pub mod FieldPlaces
 pub mod FramePlaces
@@ -24,6 +28,7 @@ pub mod LineEnds
 pub mod PartPlaces
 pub mod HeldNames
 pub mod NameStarts
+pub mod Fills
 pub mod HeldAreas
 pub mod Noted
 pub mod RowPlaces
@@ -36,3 +41,6 @@ pub mod StoredPlaces
 pub mod Chains
 pub mod Changes
 pub mod States
+pub mod StateNumbers
+pub mod WalkSteps
+pub mod PieceStates

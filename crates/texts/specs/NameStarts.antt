@@ -9,6 +9,10 @@ use Rattle.names.specs.Repeats.{nameNumber, atMost}
 abbrev pub buckets : ℕ
 buckets = 1013
 
+-- the start of a bucket into which no name was put
+abbrev pub noStart : ℕ
+noStart = 255
+
 abbrev pub bucketOf : List ℕ → ℕ
 bucketOf name = nameNumber name % buckets
 

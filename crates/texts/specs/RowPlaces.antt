@@ -1,17 +1,15 @@
 -- The lines of a row as the code keeps them, and its cells at their columns: mirrors the code.
 -- No public promise rests on this file.
 use mathlib.Core.Path.{_≡_}
-use mathlib.Core.Bool.{Bool, cond, _&&_}
+use mathlib.Core.Bool.{Bool, cond}
 use mathlib.Core.List.{List, [], _∷_, _++_}
 use mathlib.Core.Option.{Option, none, some}
 use Prim.Native.Nat.{ℕ, zero, suc, _+_, _*_, _/_}
-use lib.Dec.{ltb, eqb}
+use lib.Dec.{eqb}
 use lib.ListN.{length, take, drop, getD}
-use Rattle.base.specs.Lists.{headIs, isEmpty}
-use Rattle.rules.specs.Limits.{rowLinesMost}
+use Rattle.base.specs.Lists.{isEmpty}
 use Rattle.rules.specs.Rows.{trimmed, Cell, cellText, Row, rowLines}
 use Rattle.rules.specs.Frames.{Slot}
-use Rattle.text_laws.specs.Bars.{sameBars}
 use Rattle.text_laws.specs.FrameReader.{pieces}
 
 -- room for the lines of a row, each with room for 2 * 32 + 1 bytes
@@ -31,10 +29,6 @@ linesIn (some r) = rowLines r
 -- they are the n kept ones, for W
 pub record RowKept (o : Option Row) (w n : ℕ) (row : List ℕ) : Type 0 where
   pub lines : stripsAt row 0 (2 * w + 1) n ≡ linesIn o
-
--- one more line of a bit row of n lines that begins with this one
-abbrev pub goesOn : ℕ → List ℕ → List ℕ → Bool
-goesOn n first l = ltb n rowLinesMost && (headIs (λ b. eqb b 124) first && sameBars first l)
 
 -- what one more line adds to a cell's text: its characters without the blanks around them, behind a space unless bare
 abbrev pub addedLine : Bool → List ℕ → List ℕ

@@ -42,10 +42,11 @@ use Rattle.texts.specs.declared.states.Reading.{Reading}
 
 -- ── safe ──
 
--- a refusal by 3 to 10; 4 has no place
+-- a refusal by 2 to 10; 2 and 4 have no place
 abbrev pub isTold : Option Answer → Bool
 isTold none = true
-isTold (some a) = between 3 (a .number) 10 && (not (eqb (a .number) 4) || eqb (a .place) 0)
+isTold (some a) =
+    between 2 (a .number) 10 && (not (eqb (a .number) 2 || eqb (a .number) 4) || eqb (a .place) 0)
 
 -- the numbers are such that one more line can be taken
 pub record Room (r : Reading) : Type 0 where
@@ -60,6 +61,7 @@ pub record Room (r : Reading) : Type 0 where
   pub fields : r .fields ≤ r .count
   pub end : r .end ≤ labelMost + recordMost * r .fields
   pub told : isTold (noteOf (r .note)) ≡ true
+  pub placed : r .note .place ≤ r .lines + 1
 
 -- the same behind a line that was taken
 abbrev pub Taken : Reading → Reading → Type 0
@@ -221,7 +223,7 @@ PartsRoom line b p = Writable (length line) p × (fieldSize p ≤ recordMost) ×
 abbrev pub FieldStep : List ℕ → Reading → Reading → List ℕ → List ℕ → List ℕ → List ℕ → Type 0
 FieldStep line r q held held′ counts counts′ =
     (length held′ ≡ length held)
-    × ((f : fold.Found) → Steady f → HoldsIn f r held counts → HoldsIn (fold.withField f line) q held′ counts′)
+    × ((f : fold.Found) → Steady f → HoldsIn f r held counts → HoldsIn (fold.briefField f line) q held′ counts′)
 
 -- the same for a line of small expressions with the parts p, whose own names are held, where not too many lines have
 -- come
@@ -231,7 +233,13 @@ FormStep line b p r q held held′ counts counts′ =
     × ((f : fold.Found) (x : Form) → Steady f → isFull (f .judged) ≡ false → HoldsIn f r held counts
     → readForm line ≡ some x → all isSmall (trees x) ≡ true
     → PartsHeld (namesIn (nameBytes held)) (r .fields) line x b p
-    → HoldsIn (fold.withField f line) q held′ counts′)
+    → HoldsIn (fold.briefField f line) q held′ counts′)
+
+-- a line that is too long
+abbrev pub CutStep : Reading → Reading → List ℕ → Type 0
+CutStep r q row = (f : fold.Found) (held counts : List ℕ) → Steady f → RowKept (f .row) (r .width) (r .row) row
+    → HoldsIn f r held counts
+    → HoldsIn (fold.cut f) q held counts × RowKept (fold.cut f .row) (q .width) (q .row) row
 
 -- ── the end ──
 

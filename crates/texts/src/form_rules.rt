@@ -13,7 +13,7 @@ ghost use mathlib.Core.Bool.{true};
 ghost use mathlib.Core.List.{List};
 ghost use mathlib.Core.Option.{some};
 ghost use mathlib.Core.Path.{_≡_};
-ghost use Prim.Native.Nat.{ℕ, _≤_, _<_};
+ghost use Prim.Native.Nat.{ℕ, _+_, _≤_, _<_};
 ghost use lib.ListN.{length};
 ghost use Rattle.rules.specs.Limits.{textMost, fieldsMost};
 ghost use Rattle.rules.specs.Fields.{Form};
@@ -53,6 +53,7 @@ pub(crate) fn later_rule(r: Reading, line: &[u8], p: Parts, held: &[u8]) -> Note
         → readForm (now (line .entry)) ≡ some x
         → PartsHeld (namesIn (nameBytes (now (held .entry)))) (r .fields) (now (line .entry)) x v p
         → noteOf a ≡ laterNote f x) ⌝ }
+    ensures place { λ a. ⌜ a .place ≤ r .lines + 1 ⌝ }
 {
     let n = r.fields;
     let place = r.lines + 1;

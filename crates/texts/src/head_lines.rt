@@ -1,5 +1,4 @@
 // The lines of a text's head of which something is kept: NAME, W, the lines of rows and their cells.
-use crate::bars::goes_on;
 use crate::cell_texts::LINE_ROOM;
 use crate::openings::article;
 use crate::openings::is_named;
@@ -15,6 +14,7 @@ use crate::states::onward;
 use crate::states::too_many;
 use crate::states::wrong;
 use crate::states::wrong_row;
+use bars::further_lines::goes_on;
 use names::classes::class_table;
 use rules::FIELDS_MOST;
 use writing::puts::put;

@@ -12,7 +12,9 @@ use crate::rulers::is_units;
 use crate::states::Reading;
 use crate::states::Stage;
 use crate::states::expect;
+use crate::text_ends::cut_line;
 use names::words::same_words;
+use rules::LINE_MOST;
 ghost use Rattle.texts.specs.States.{LineRoom, RowRoom, Taken, LineStep};
 
 // What is kept behind one more line.
@@ -28,6 +30,9 @@ pub(crate) fn take_line(
     ensures step { λ q. ⌜ LineStep (now (line .entry)) r q (now (held .entry)) (now (held .exit))
         (now (row .entry)) (now (row .exit)) (now (counts .entry)) (now (counts .exit)) ⌝ }
 {
+    if LINE_MOST < line.len() {
+        return cut_line(r, row);
+    }
     let w = r.width;
     let stage = r.stage;
     match stage {

@@ -36,7 +36,8 @@ pub(crate) fn held_label(w: &[u8]) -> [u8; LABEL_MOST]
 // The labels of two indexes are the same, byte by byte, where they stand.
 fn same_label(labels: &[u8], i: usize, n: usize) -> bool
     requires { ⌜ (i < fieldsMost) × (n < fieldsMost) × (labelsRoom ≤ length (now labels)) ⌝ }
-    ensures { λ r. ⌜ r ≡ same (getD (labelsIn (now (labels .entry))) n []) (getD (labelsIn (now (labels .entry))) i []) ⌝ }
+    ensures { λ r. ⌜ r ≡ same (getD (labelsIn (now (labels .entry))) n [])
+        (getD (labelsIn (now (labels .entry))) i []) ⌝ }
 {
     let own = LABEL_MOST * n;
     let own_end = own + LABEL_MOST;

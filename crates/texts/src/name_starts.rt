@@ -1,5 +1,6 @@
 // Where names start among the fields, by buckets: an index before which no field bears a name of the bucket, NO_START
 // where none was put in. A walk for a name begins there.
+use crate::fills::fill;
 use crate::shown_slots::wide;
 use names::repeats::key_of;
 use rules::SHORT_MOST;
@@ -8,7 +9,8 @@ ghost use Prim.Native.Nat.{_≤_, _<_};
 ghost use lib.ListN.{length};
 ghost use Rattle.rules.specs.Limits.{fieldsMost};
 ghost use Rattle.names.specs.Repeats.{atMost};
-ghost use Rattle.texts.specs.NameStarts.{buckets, bucketOf, startIn, StartPut};
+ghost use Rattle.texts.specs.Fills.{filled};
+ghost use Rattle.texts.specs.NameStarts.{buckets, noStart, bucketOf, startIn, StartPut};
 
 // Names fall into so many buckets, by the numbers that their bytes make.
 const BUCKETS: usize = 1013;
@@ -18,13 +20,9 @@ const NO_START: u8 = 255;
 // No name is put in yet.
 pub(crate) fn clear_starts(starts: &mut [u8])
     requires { ⌜ buckets ≤ length (now starts) ⌝ }
-    ensures { λ r. ⌜ length (now (starts .exit)) ≡ length (now (starts .entry)) ⌝ }
+    ensures { λ r. ⌜ now (starts .exit) ≡ filled 0 buckets noStart (now (starts .entry)) ⌝ }
 {
-    let mut i = 0;
-    while i < BUCKETS {
-        starts[i] = NO_START;
-        i += 1;
-    }
+    fill(starts, 0, BUCKETS, NO_START);
 }
 
 // The bucket of a held name.

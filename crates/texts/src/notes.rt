@@ -1,5 +1,6 @@
 // The lowest refusal so far.
 ghost use mathlib.Core.Path.{_≡_};
+ghost use Prim.Native.Nat.{ℕ, _≤_};
 ghost use Rattle.text_laws.specs.Lowest.{lower};
 ghost use Rattle.texts.specs.Noted.{noteOf};
 
@@ -11,7 +12,8 @@ pub(crate) struct Note {
 
 // The lower number; of one number the first, which stands left.
 pub(crate) fn lower(a: Note, b: Note) -> Note
-    ensures { λ r. ⌜ noteOf r ≡ lower (noteOf a) (noteOf b) ⌝ }
+    ensures lowest { λ r. ⌜ noteOf r ≡ lower (noteOf a) (noteOf b) ⌝ }
+    ensures place { λ r. ⌜ ((m : ℕ) → a .place ≤ m → b .place ≤ m → r .place ≤ m) ⌝ }
 {
     if a.number == 0 {
         return b;

@@ -4,11 +4,10 @@ use crate::held_areas::HELD_ROOM;
 use crate::held_areas::LABELS_AT;
 use crate::held_areas::NAMES_AT;
 use crate::held_areas::TABLE_AT;
-use crate::line_steps::take_line;
 use crate::name_starts::clear_starts;
 use crate::states::begin;
-use crate::text_bytes::line_end;
 use crate::text_ends::end_text;
+use crate::walks::walk_lines;
 use rules::FIELDS_MOST;
 use rules::TEXT_MOST;
 use rules::TextAnswer;
@@ -21,34 +20,7 @@ ghost use Rattle.texts.specs.HeldAreas.{heldRoom};
 ghost use Rattle.texts.specs.RowPlaces.{rowRoom};
 ghost use Rattle.texts.specs.States.{NoneCounted};
 
-// The lines of a text, one by one, with room for what is kept of them.
-fn read_lines(
-    text: &[u8],
-    out: &mut [u8],
-    held: &mut [u8],
-    row: &mut [u8],
-    counts: &mut [u16],
-) -> TextAnswer
-    requires { ⌜ (length (now text) ≤ textMost) × (heldRoom ≤ length (now held))
-        × (rowRoom ≤ length (now row)) × NoneCounted (now counts) ⌝ }
-    ensures { λ r. ⌜ ReadsText (now (text .entry)) (now (out .entry)) (leaves (ofText r) (now (out .exit))) ⌝ }
-{
-    let mut r = begin();
-    let mut at = 0;
-    loop {
-        let e = line_end(text, at);
-        if e == text.len() {
-            return end_text(r, at == e, row, &held[TABLE_AT..], counts, out);
-        }
-        if text[e] != b'\n' {
-            return TextAnswer::BadByte;
-        }
-        r = take_line(r, &text[at..e], held, row, counts);
-        at = e + 1;
-    }
-}
-
-// The same, before any name is held.
+// The lines of a text, and its end, with room for what is kept of it.
 fn read_held(
     text: &[u8],
     out: &mut [u8],
@@ -61,7 +33,9 @@ fn read_held(
     ensures { λ r. ⌜ ReadsText (now (text .entry)) (now (out .entry)) (leaves (ofText r) (now (out .exit))) ⌝ }
 {
     clear_starts(&mut held[NAMES_AT..LABELS_AT]);
-    read_lines(text, out, held, row, counts)
+    let w = walk_lines(begin(), text, 0, held, row, counts);
+    let r = w.reading;
+    end_text(r, w.at == text.len(), row, &held[TABLE_AT..], counts, out)
 }
 
 // A text that is not too long.

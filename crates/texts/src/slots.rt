@@ -23,7 +23,7 @@ pub(crate) enum Rowed {
     Put(usize, usize),
 }
 
-fn yes_no(b: bool) -> u8
+pub(crate) fn yes_no(b: bool) -> u8
     ensures { λ r. ⌜ r ≡ yesNo b ⌝ }
 {
     if b { 1 } else { 0 }

@@ -66,7 +66,7 @@ pub(crate) fn begin() -> Reading
 }
 
 // What must come next, and the lowest refusal.
-fn staged(r: Reading, s: Stage, n: Note) -> Reading
+pub(crate) fn staged(r: Reading, s: Stage, n: Note) -> Reading
     ensures { λ q. ⌜ q ≡ changed r (r .lines) s n ⌝ }
 {
     Reading {

@@ -6,6 +6,7 @@ use crate::slots::Rowed;
 use crate::slots::put_row;
 use crate::states::Reading;
 use crate::states::Stage;
+use crate::states::staged;
 use names::classes::class_table;
 use references::numbers::put_numbers;
 use rules::TextAnswer;
@@ -17,7 +18,7 @@ ghost use mathlib.Core.List.{_++_};
 ghost use mathlib.Core.Path.{_≡_};
 ghost use Prim.Native.Nat.{_+_, _≤_, _<_};
 ghost use lib.Dec.{eqb};
-ghost use lib.ListN.{length};
+ghost use lib.ListN.{length, drop};
 ghost use Rattle.rules.specs.Answers.{ofText, refused};
 ghost use Rattle.writing.specs.Writes.{Writes};
 ghost use Rattle.rules.specs.Limits.{textMost};
@@ -29,7 +30,7 @@ ghost use Rattle.texts.specs.Noted.{noteOf};
 ghost use Rattle.texts.specs.RowPlaces.{rowRoom};
 ghost use Rattle.texts.specs.Slots.{areLabels};
 ghost use Rattle.texts.specs.HeldAreas.{recordsMost};
-ghost use Rattle.texts.specs.States.{Room, isTold, earlyNote, rowNote, remainNote, lastNote};
+ghost use Rattle.texts.specs.States.{Room, Taken, CutStep, isTold, earlyNote, rowNote, remainNote, lastNote};
 ghost use Rattle.texts.specs.States.{TableStep, area, EndStep};
 
 // A refusal as an answer.
@@ -40,6 +41,7 @@ fn answer_of(a: Note) -> TextAnswer
     let p = a.place;
     let n = a.number;
     match n {
+        2 => TextAnswer::BadByte,
         3 => TextAnswer::BadLine(p),
         4 => TextAnswer::TooMany,
         5 => TextAnswer::BadForm(p),
@@ -110,8 +112,10 @@ fn remaining(r: Reading) -> Note
 
 // The lowest refusal of a text that ends behind field lines.
 fn fields_note(r: Reading, whole: bool) -> Note
-    requires { ⌜ r .lines ≤ textMost ⌝ }
-    ensures { λ a. ⌜ noteOf a ≡ cond whole (lower (noteOf (r .note)) (noteOf (remainNote r))) (noteOf (earlyNote r)) ⌝ }
+    requires { ⌜ (r .lines ≤ textMost) × (r .note .place ≤ r .lines + 1) ⌝ }
+    ensures lowest { λ a. ⌜ noteOf a ≡ cond whole (lower (noteOf (r .note)) (noteOf (remainNote r)))
+        (noteOf (earlyNote r)) ⌝ }
+    ensures place { λ a. ⌜ a .place ≤ r .lines + 1 ⌝ }
 {
     if whole {
         return lower(r.note, remaining(r));
@@ -122,7 +126,8 @@ fn fields_note(r: Reading, whole: bool) -> Note
 // The lowest refusal of a text; `whole` says that its last line is.
 fn last_note(r: Reading, whole: bool, row: &[u8]) -> Note
     requires { ⌜ Room r × (r .lines ≤ textMost) × (rowRoom ≤ length (now row)) ⌝ }
-    ensures { λ a. ⌜ noteOf a ≡ lastNote (r .stage) r whole (now (row .entry)) ⌝ }
+    ensures lowest { λ a. ⌜ noteOf a ≡ lastNote (r .stage) r whole (now (row .entry)) ⌝ }
+    ensures place { λ a. ⌜ a .place ≤ r .lines + 1 ⌝ }
 {
     let stage = r.stage;
     match stage {
@@ -140,6 +145,17 @@ fn last_note(r: Reading, whole: bool, row: &[u8]) -> Note
         Stage::FieldLine => { fields_note(r, whole) }
         Stage::Lost => { r.note }
     }
+}
+
+// A line that is too long: 3, unless 2 or 3 was found before.
+pub(crate) fn cut_line(r: Reading, row: &[u8]) -> Reading
+    requires { ⌜ Room r × (r .lines ≤ textMost) × (rowRoom ≤ length (now row)) ⌝ }
+    ensures room { λ q. ⌜ Taken r q ⌝ }
+    ensures step { λ q. ⌜ CutStep r q (now (row .entry)) ⌝ }
+    ensures lines { λ q. ⌜ q .lines ≡ r .lines ⌝ }
+{
+    let n = last_note(r, false, row);
+    staged(r, Stage::Lost, n)
 }
 
 // The first record.
@@ -170,8 +186,9 @@ fn put_records(out: &mut [u8], at: usize, records: &[u8], n: usize, counts: &[u1
 // The table into an output that has room for it.
 fn put_table(r: Reading, table: &[u8], counts: &[u16], out: &mut [u8]) -> usize
     requires { ⌜ Room r × (recordsMost ≤ length (now table)) × (14 + r .end ≤ length (now out)) ⌝ }
-    ensures { λ n. ⌜ TableStep r (area (now (table .entry)) (now (counts .entry))) (now (out .entry))
+    ensures bytes { λ n. ⌜ TableStep r (area (now (table .entry)) (now (counts .entry))) (now (out .entry))
         (now (out .exit)) n ⌝ }
+    ensures end { λ n. ⌜ n ≡ 14 + r .end ⌝ }
 {
     let name = r.name;
     let end = r.end;
@@ -192,8 +209,12 @@ pub(crate) fn end_text(
 ) -> TextAnswer
     requires { ⌜ Room r × (r .lines ≤ textMost) × (recordsMost ≤ length (now table))
         × (rowRoom ≤ length (now row)) ⌝ }
-    ensures { λ a. ⌜ EndStep r whole (now (row .entry)) (area (now (table .entry)) (now (counts .entry)))
+    ensures step { λ a. ⌜ EndStep r whole (now (row .entry)) (area (now (table .entry)) (now (counts .entry)))
         (now (out .entry)) (now (out .exit)) a ⌝ }
+    ensures refusal { λ a. ⌜ ((ofText a .number ≡ 0 → ⊥) → now (out .exit) ≡ now (out .entry)) ⌝ }
+    ensures place { λ a. ⌜ ofText a .place ≤ r .lines + 1 ⌝ }
+    ensures within { λ a. ⌜ ofText a .amount ≤ length (now (out .entry)) ⌝ }
+    ensures beyond { λ a. ⌜ drop (ofText a .amount) (now (out .exit)) ≡ drop (ofText a .amount) (now (out .entry)) ⌝ }
 {
     let last = last_note(r, whole, row);
     if last.number != 0 {

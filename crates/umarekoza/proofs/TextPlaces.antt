@@ -3,11 +3,11 @@ use mathlib.Core.Path.{_≡_, refl, ap}
 use mathlib.Core.Bool.{Bool, true, false, cond}
 use mathlib.Core.List.{List, [], _∷_, _++_}
 use mathlib.Core.Option.{Option, none, some, Option·map}
-use Prim.Native.Nat.{ℕ, suc, _+_, _-_, _<_, _≤_}
+use Prim.Native.Nat.{ℕ, suc, _+_, _<_, _≤_}
 use native.Mathlib.Omega.{arith}
 use lib.Dec.{ltb, eqb}
-use lib.ListN.{length, take, length-append, length-map, length-take}
-use borrow.Author.Tests.{ltb-true, ltb-false}
+use lib.ListN.{length, length-append}
+use borrow.Author.Tests.{ltb-false}
 use Rattle.base.specs.Lists.{joined, firstBreak, orElse}
 use Rattle.base.proofs.Lists.{or-false-left, or-false-right}
 use Rattle.base.proofs.Lookups.{each-length}
@@ -17,16 +17,11 @@ use Rattle.rules.specs.Fields.{Form}
 use Rattle.rules.specs.Stored.{stored}
 use Rattle.rules.specs.Lines.{SpellsField, Unresolved}
 use Rattle.rules.specs.Within.{keepsSize, keepsNames, keepsTypes, keepsRest, nameReadable}
-use Rattle.rules.specs.Rows.{Row, bitRow, longRow, barLine, rowLines, isLabelled}
 use Rattle.rules.specs.Frames.{Frame, headLines, ended, frameText, FrameOf, lineNumber, Slot, cells}
 use Rattle.rules.specs.Spelling.{shows, mismatch}
 use Rattle.rules.specs.Answers.{Answer, refused, accepted}
 use Rattle.rules.specs.Refusals.{
   lineCount,
-  cutRow,
-  rowsWithin,
-  unlabelledLine,
-  orBehind,
   ruleBroken,
   Framed,
   Refuses,
@@ -38,6 +33,7 @@ use Rattle.rules.specs.Refusals.{
   rule,
 }
 use Rattle.rules.specs.Promises.{Outcome, leaves, overlaid, delivered, ReadsText, spelled, refuses}
+use Rattle.text_laws.proofs.WrongPlaces.{wrong-low}
 
 -- ── lines ──
 
@@ -66,44 +62,6 @@ count-low (b ∷ t) = go (eqb b lineFeed) (count-low t)
     go : (x : Bool) → lineCount t ≤ length t → cond x (suc (lineCount t)) (lineCount t) ≤ suc (length t)
     go true h = omega arith
     go false h = omega arith
-
--- ── a wrong line ──
-
--- the first lines of a row are no more than asked for, and no more than there are
-cut-low : (n : ℕ) (r : Row) → 0 < n
-    → (length (rowLines (cutRow n r)) ≤ n) × (length (rowLines (cutRow n r)) ≤ length (rowLines r))
-unfolding rowLines
-cut-low n (bitRow bits lines) lt =
-    let a = length-map (take n lines) barLine in
-    let b = length-map lines barLine in
-    let c = length-take n lines in
-    (omega (arith, a, c), omega (arith, a, b, c))
-cut-low n (longRow bits s) lt = (omega (arith, lt), omega arith)
-
-rows-low : (k n m : ℕ) (rows : List Row) → m ≤ n → orBehind k (unlabelledLine m (rowsWithin k n rows)) ≤ suc k
-unfolding rowsWithin unlabelledLine
-rows-low k n m [] le = omega arith
-rows-low k n m (r ∷ rows) le = go (ltb n k) refl (λ i. rows-low k (n + suc (length (rowLines r))) i rows)
-  where
-    row : Row
-    row = cutRow (k - n) r
-
-    go : (b : Bool) → ltb n k ≡ b
-        → ((m : ℕ) → m ≤ n + suc (length (rowLines r))
-        → orBehind k (unlabelledLine m (rowsWithin k (n + suc (length (rowLines r))) rows)) ≤ suc k)
-        → orBehind k (unlabelledLine m
-        (cond b (row ∷ rowsWithin k (n + suc (length (rowLines r))) rows) [])) ≤ suc k
-    go false e f = omega arith
-    go true e f = on (isLabelled row)
-      where
-        low : (length (rowLines row) ≤ k - n) × (length (rowLines row) ≤ length (rowLines r))
-        low = cut-low (k - n) r (let lt = ltb-true n k e in omega (arith, lt))
-
-        on : (b : Bool) → orBehind k (cond b
-            (unlabelledLine (m + suc (length (rowLines row))) (rowsWithin k (n + suc (length (rowLines r))) rows))
-            (some (m + length (rowLines row)))) ≤ suc k
-        on true = f (m + suc (length (rowLines row))) (omega (arith, le, low .1))
-        on false = let lt = ltb-true n k e in omega (arith, le, lt, low .0)
 
 -- ── an index, or an answer, if any ──
 
@@ -180,7 +138,7 @@ refuses-low : (text : List ℕ) (a : Answer) → Refuses text a → a .place ≤
 refuses-low text a (long h) = omega arith
 refuses-low text a (byte h k) = omega arith
 refuses-low text a (line {k = k} p q r) =
-    let low = rows-low k 5 5 (r .begins .frame .rows) (omega arith) in
+    let low = wrong-low k (r .begins .frame) in
     omega (arith, low, r .there, count-low text, p .size)
 refuses-low text a (many p q r) = omega arith
 refuses-low text a (form {f = f} p q) =

@@ -1,10 +1,12 @@
 -- Replies and spans of wrong exports: of each, what is claimed is the export's promise, and it is false
 -- (proofs/RuledOutReplies).
+use mathlib.Core.Path.{_≡_}
 use mathlib.Core.List.{List, [], _∷_, _++_}
-use Prim.Native.Nat.{ℕ}
-use lib.ListN.{length, replicate, drop}
+use Prim.Native.Nat.{ℕ, _≤_}
+use lib.ListN.{length, replicate, take, drop, getD}
 use Rattle.base.specs.Bytes.{bytes}
 use Rattle.rules.specs.Stored.{stored}
+use Rattle.rules.specs.Pieces.{stateBytes, StartsText, TakesPiece, EndsText}
 use Rattle.rules.specs.Promises.{leaves, overlaid, ReadsText}
 use Rattle.rules.specs.Cases.{lentRun}
 use Rattle.rules.specs.Marked.{bladeReport, m1, m1Listing, tagText, tagTable}
@@ -33,6 +35,7 @@ use Rattle.laws.specs.Wrong.{
 use Rattle.laws.specs.WrongNumbers.{nines}
 use Rattle.laws.specs.WrongEdits.{ifOne, five, four, pair, letters}
 use Rattle.laws.specs.WrongPuts.{given}
+use Rattle.texts.specs.PieceStates.{freshState, Left}
 use Rattle.umarekoza.specs.declared.Reply.{Reply}
 use Rattle.umarekoza.specs.declared.Span.{Span}
 use Rattle.umarekoza.specs.declared.Partial.{Partial}
@@ -119,3 +122,16 @@ pub record WrongTextReplies : Type 0 where
   pub nothing : ReadsText tagText (replicate 46 9) (leaves (replyAnswer (reply 0 0 46)) (replicate 46 9)) → ⊥
   pub lengthless : ReadsText tagText (replicate 46 9) (leaves (replyAnswer (reply 0 0 0)) tagTable) → ⊥
   pub renumbered : ReadsText (tagLines 1 ++ (0x7F ∷ [])) [] (leaves (replyAnswer (reply 3 0 0)) []) → ⊥
+
+-- a text in pieces: a start that leaves a state as it was, or a byte of it; a piece that leaves a state as it was, or
+-- makes it that of the piece alone; an end with the table written and its length left out, and with 2 told as 3
+pub record WrongPieceReplies : Type 0 where
+  pub idleStart : (s : List ℕ) → stateBytes ≤ length s → getD s 0 0 ≡ 9 → StartsText Left freshState s s → ⊥
+  pub leftStart : (s t : List ℕ) → stateBytes ≤ length s → getD t 24 0 ≡ 9 → StartsText Left freshState s t → ⊥
+  pub idlePiece : (s : List ℕ) → Left [] (take stateBytes s) → TakesPiece Left s (9 ∷ []) s → ⊥
+  pub onlyPiece : (s t : List ℕ) → Left (9 ∷ []) (take stateBytes s) → Left (8 ∷ []) (take stateBytes t)
+      → TakesPiece Left s (8 ∷ []) t → ⊥
+  pub lengthless : (s : List ℕ) → Left tagText (take stateBytes s)
+      → EndsText Left s (replicate 46 9) (leaves (replyAnswer (reply 0 0 0)) tagTable) → ⊥
+  pub renumbered : (s : List ℕ) → Left (tagLines 1 ++ (0x7F ∷ [])) (take stateBytes s)
+      → EndsText Left s [] (leaves (replyAnswer (reply 3 0 0)) []) → ⊥

@@ -22,6 +22,9 @@ use packets::readings::field_place;
 use packets::readings::read_packet;
 use packets::readings::read_partly;
 use packets::tables::check_table;
+use texts::pieces::text_end;
+use texts::pieces::text_piece;
+use texts::pieces::text_start;
 use texts::reading::read_text;
 ghost use Rattle.rules.specs.Promises.{
   leaves,
@@ -42,6 +45,8 @@ ghost use Rattle.rules.specs.Promises.{
   CutsFields,
   PutsFields,
 };
+ghost use Rattle.rules.specs.Pieces.{StartsText, TakesPiece, EndsText};
+ghost use Rattle.texts.specs.PieceStates.{freshState, Left};
 ghost use Rattle.umarekoza.specs.Exports.{replyAnswer, spanPart, partialAnswer};
 
 // Number 0 is acceptance, with place 0 and the length that is answered; else the number and place of the refusal, with
@@ -76,6 +81,31 @@ pub extern "C" fn umarekoza_write_table(text: &[u8], out: &mut [u8]) -> Reply
     ensures { λ r. ⌜ ReadsText (now (text .entry)) (now (out .entry)) (leaves (replyAnswer r) (now (out .exit))) ⌝ }
 {
     text_reply(read_text(text, out))
+}
+
+// A text in pieces begins: a state that is long enough is that of the empty text, whatever it held.
+#[no_mangle]
+pub extern "C" fn umarekoza_text_start(state: &mut [u8])
+    ensures { λ r. ⌜ StartsText Left freshState (now (state .entry)) (now (state .exit)) ⌝ }
+{
+    text_start(state);
+}
+
+// The next piece of a text, into its state.
+#[no_mangle]
+pub extern "C" fn umarekoza_text_piece(state: &mut [u8], piece: &[u8])
+    ensures { λ r. ⌜ TakesPiece Left (now (state .entry)) (now (piece .entry)) (now (state .exit)) ⌝ }
+{
+    text_piece(state, piece);
+}
+
+// A text in pieces ends, and its table is written into an output: the length is the table's.
+#[no_mangle]
+pub extern "C" fn umarekoza_text_end(state: &[u8], out: &mut [u8]) -> Reply
+    ensures { λ r. ⌜ EndsText Left (now (state .entry)) (now (out .entry))
+        (leaves (replyAnswer r) (now (out .exit))) ⌝ }
+{
+    text_reply(text_end(state, out))
 }
 
 // A table is checked: the length is the table's.

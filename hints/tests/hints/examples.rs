@@ -7,6 +7,7 @@ const TCP: &str = include_str!("../../../examples/pages/tcp.txt");
 /// Refused pages, each with its number and place; 11 is none that the command can meet.
 pub fn pages() -> Vec<(String, u32, u32)> {
     let remark = "x".repeat(16_385 - BLADE.len() - 1);
+    let long = "x".repeat(1_030 - "Sum: 2 bytes. ".len());
     let fields: String = (8..=130).map(|field| format!("Field{field}: 1 byte.\n")).collect();
     let page = |from: &str, to: &str, number: u32, place: u32| (with(&[(from, to)]), number, place);
     let rest = ("Readings: N bytes", "Readings: variable");
@@ -14,6 +15,7 @@ pub fn pages() -> Vec<(String, u32, u32)> {
         page("Sum: 2 bytes.", &format!("Sum: 2 bytes. {remark}"), 1, 0),
         page("Blade: 1", "Blade:\t1", 2, 0),
         page("|  Cells  |     Blade     |", "|  Cells   |    Blade     |", 3, 6),
+        page("Sum: 2 bytes.", &format!("Sum: 2 bytes. {long}"), 3, 23),
         (TCP.replace("|T|N|N|", "|T|N N|"), 3, 14),
         (TCP.replace("| Offset|", "| Off_et|"), 3, 14),
         (format!("{BLADE}{fields}"), 4, 0),

@@ -9,6 +9,7 @@ mod expressions;
 mod field_lines;
 mod fields;
 mod frames;
+mod lengths;
 mod names;
 mod operators;
 mod packets;

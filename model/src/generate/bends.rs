@@ -21,13 +21,13 @@ pub fn bend(rng: &mut Rng, description: &mut Description) {
     let (index, other) = (rng.below(count), rng.below(count));
     let fields = &mut description.fields;
     let Some(field) = fields.get_mut(index) else { return };
-    match rng.below(20) {
+    match rng.below(21) {
         0..=2 => rename(rng, fields, index, other),
         3 | 4 => unname(rng, fields, index),
         5 => field.label = rng.pick(ODD_LABELS),
         6 => field.short = Some(rng.pick(ODD_SHORTS)).filter(|_| rng.one_in(2)),
         7..=10 => misread(rng, fields, index),
-        11 => mistype(rng, field),
+        11 | 20 => mistype(rng, field),
         12 | 13 => rest_and_after(rng, fields, index, other),
         14 => field.constraint = Some(too_deep(rng)),
         15 => field.constraint = Some(Growth::new(&[]).balanced(rng, Kind::Truth, 21)),

@@ -2,7 +2,6 @@
 
 use super::Rng;
 use crate::operators::{level, op_of, SUM};
-use crate::texts::LONGEST_TEXT;
 
 /// Bytes that edits put into a text.
 pub const TEXT_BYTES: [u8; 28] = *b"|:+- (();.=<&!*/%^^09aZ\n\n\x7F\t\r";
@@ -74,16 +73,4 @@ pub fn extended(mut bytes: Vec<u8>, rng: &mut Rng) -> Vec<u8> {
         bytes.push(rng.byte());
     }
     bytes
-}
-
-/// A text whose last remark makes it as long as a text may be, or a little longer.
-pub fn padded(mut text: Vec<u8>, rng: &mut Rng) -> Vec<u8> {
-    let length = LONGEST_TEXT + rng.pick([0, 0, 1, 2]);
-    if text.pop().is_some() {
-        text.push(b' ');
-        let remark = length.saturating_sub(text.len() + 1);
-        text.extend(b".".repeat(remark));
-        text.push(b'\n');
-    }
-    text
 }

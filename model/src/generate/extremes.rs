@@ -7,6 +7,7 @@ use super::words::Names;
 use super::{Rng, EARLIER_PACKET};
 use crate::descriptions::{Description, Field, Width};
 use crate::frames::{border, tens_ruler, units_ruler, FORMATTED, WHERE};
+use crate::lines::LONGEST_LINE;
 use crate::names::is_short_name;
 use crate::reading::LONGEST_PACKET;
 use crate::rows::ROW_LINES;
@@ -128,10 +129,13 @@ pub fn many_lines(rng: &mut Rng) -> Vec<u8> {
     text
 }
 
-/// A text of one or two field lines, one of them with powers of as many numbers as its length allows; at times wrong at
-/// the end of that line.
+/// A text of one or two field lines, one of them with powers of about as many numbers as a line has room for, at times
+/// of more; at times wrong at the end of that line.
 pub fn many_powers(rng: &mut Rng) -> Vec<u8> {
-    let most = rng.between(4_000, LONGEST_TEXT - 300);
+    let most = match rng.below(8) {
+        0 => rng.between(LONGEST_LINE - 60, LONGEST_TEXT - 300),
+        _ => rng.between(LONGEST_LINE / 2, LONGEST_LINE - 60),
+    };
     let number: &[u8] = rng.pick([b"1", b"0", b"F", b"2", b"4294967295"]);
     let sign: &[u8] = rng.pick([b"^", b"^", b" ^ ", b"^ "]);
     let mut powers = number.to_vec();

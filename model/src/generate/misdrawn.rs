@@ -101,8 +101,8 @@ fn rebar(rng: &mut Rng, lines: &mut Vec<Vec<u8>>, row: &Range<usize>) {
     let bars: Vec<usize> = (1..line.len().saturating_sub(1)).filter(|column| line[*column] == b'|').collect();
     let bar = bars.get(rng.below(bars.len())).copied();
     let column = rng.between(1, line.len().saturating_sub(2));
-    match (rng.below(5), bar) {
-        (0, Some(bar)) => line[bar] = rng.pick([b' ', b'A', b':']),
+    match (rng.below(7), bar) {
+        (0 | 5 | 6, Some(bar)) => line[bar] = rng.pick([b' ', b'A', b':']),
         (1, Some(bar)) => line.swap(bar, column),
         (2, _) => line[column] = b'|',
         (3, _) => line[column / 2 * 2] = b'|',

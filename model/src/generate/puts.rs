@@ -110,7 +110,7 @@ fn changed(rng: &mut Rng, description: &Description, run: &Range<usize>) -> Put 
         index = rng.pick([left + 1, left + 1, index + 1, index.saturating_sub(1), 0, left, far, far]);
     }
     let records = match rng.below(16) {
-        0 => records_of(rng, fields),
+        0 | 10 => other_edition(rng, fields),
         1 => Vec::new(),
         2 => encode(description),
         3 => edits::cut(records_of(rng, fields), rng),
@@ -118,7 +118,6 @@ fn changed(rng: &mut Rng, description: &Description, run: &Range<usize>) -> Put 
         5 | 6 => other_length(records_of(rng, fields), rng),
         7 | 8 => other_kind(records_of(rng, fields), rng),
         9 => edits::edit_bytes(records_of(rng, fields), rng, &edits::TABLE_BYTES),
-        10 => other_edition(rng, fields),
         11 => records_of(rng, fields).repeat(2),
         12 => {
             let fields = swapped(rng, fields);
@@ -162,6 +161,7 @@ fn swapped<'a>(rng: &mut Rng, fields: &[Field<'a, usize>]) -> Vec<Field<'a, usiz
 /// Records of the old form, or with the number or the kinds of that.
 fn other_edition(rng: &mut Rng, fields: &[Field<usize>]) -> Vec<u8> {
     let edition = rng.pick([
+        UNCOUNTED,
         UNCOUNTED,
         Edition { keeps_numbers: false, ..CURRENT },
         Edition { keeps_numbers: true, ..UNCOUNTED },

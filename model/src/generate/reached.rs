@@ -76,8 +76,8 @@ fn accepted(counts: &mut Counts, description: &Description) {
 
 /// The sorts of a text that is refused by this number at this line.
 fn refused(counts: &mut Counts, number: u32, line: &[u8]) {
-    if line.iter().filter(|byte| **byte == b'^').count() > 1_000 {
-        counts.add(format!("{number}: over a thousand"));
+    if line.iter().filter(|byte| **byte == b'^').count() > 200 {
+        counts.add(format!("{number}: over two hundred"));
     }
     let Some(field) = field_line(line) else { return };
     let with = |op: Op| field.trees().filter(move |tree| has(tree, op));
@@ -114,7 +114,7 @@ fn texts_of_every_sort() {
         "Pow within Pow, right",
         "a power as a width",
     ]);
-    counts.has_all(["5: over a thousand", "6: over a thousand", "6: depth 13", "6: depth", "6: bytes"]);
+    counts.has_all(["5: over two hundred", "6: over two hundred", "6: depth 13", "6: depth", "6: bytes"]);
     counts.has_all(["9: an operand of yes or no"]);
 }
 

@@ -2,6 +2,7 @@
 //! rows have the answers of document 01.
 
 use super::{spelled_text, text, Rng};
+use crate::frames::Limits;
 use crate::lookups::count_fields;
 use crate::names::is_label;
 use crate::refusals::Refusal;
@@ -14,6 +15,8 @@ const CASES: usize = 10_000;
 /// So many of them are of each sort, at the least.
 const DUE: usize = 10;
 const ROOM: usize = 1 << 16;
+/// A row is one line, as by document 01.
+const ONE_LINE: Limits = Limits { row_lines: 1, ..Limits::CURRENT };
 
 type Counts = BTreeMap<String, usize>;
 
@@ -158,7 +161,7 @@ fn texts_without_such_rows_keep_their_answers() {
     let (mut rng, mut kept) = (Rng::new(13), 0);
     for _ in 0..CASES {
         let text = text(&mut rng);
-        let (before, now) = (write_table_by(1, &text, ROOM), write_table(&text, ROOM));
+        let (before, now) = (write_table_by(ONE_LINE, &text, ROOM), write_table(&text, ROOM));
         let several = rows(&text).0.iter().any(|row| row.lines.len() > 1);
         let is_3 = matches!(before, Err(Refusal { number: 3, .. }));
         assert!(before == now || (several && is_3), "{}", String::from_utf8_lossy(&text));
@@ -174,7 +177,7 @@ fn spelled_texts_of_one_line_to_a_row() {
     for _ in 0..2_000 {
         let (text, table) = spelled_text(&mut rng);
         let several = rows(&text).0.iter().any(|row| row.lines.len() > 1);
-        let by_01 = write_table_by(1, &text, ROOM);
+        let by_01 = write_table_by(ONE_LINE, &text, ROOM);
         assert!(text.len() > 16_384 || (by_01 == Ok(table)) != several);
     }
 }

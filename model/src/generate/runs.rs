@@ -12,7 +12,7 @@ use std::ops::Range;
 /// A description of as many fields as may be, or a few more or fewer, is one of so many; one as long as may be, and one
 /// of fields that are read very often.
 const FULL: usize = 6;
-const LONGEST: usize = 60;
+const LONGEST: usize = 30;
 const MUCH_READ: usize = 40;
 const TRIES: usize = 12;
 

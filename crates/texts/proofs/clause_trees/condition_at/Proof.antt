@@ -24,15 +24,16 @@ add-tree-at c = search needs
 
 tree-at-requires : tie.Need-tree-at-requires
 tree-at-requires c κs =
-    let a = c .before .before .before .before .before .before .before .args in
+    let c₁ = c .before .before .before .before .before .before in
+    let a = c₁ .before .args in
     let y = sym (c .before .before .starts-at .ensures) ∙ c .before .if1 .taken in
     let h : a .at + 20 ≤ length (a .s .now) =
-    clause-room (a .s .now) (a .at) (c .before .before .before .before .before .before .before .pre .0) (bytes
+    clause-room (a .s .now) (a .at) (c₁ .before .pre .0) (bytes
     "; present only when ") y in (
       h,
-      c .before .before .before .before .before .before .before .pre .1,
-      c .before .before .before .before .before .before .before .pre .2,
-      c .before .before .before .before .before .before .before .pre .3,
+      c₁ .before .pre .1,
+      c₁ .before .pre .2,
+      c₁ .before .pre .3,
     )
 
 same-length : tie.Need-same-length
@@ -40,10 +41,11 @@ same-length c = search needs
 
 returns : tie.Need-returns
 returns c =
-    let a = c .before .before .before .before .before .before .before .before .before .before .args in
+    let c₁ = c .before .before .before .before .before .before in
+    let a = c₁ .before .before .before .before .args in
     let t = c .before .before .tree-at in
-    condition-yes _ (a .n) (a .s .now) (a .at) (c .before .before .before .before .before .before
-    .before .before .before .before .pre .0) (t .result) _ (sym (c .before .before .before .before .before .starts-at
+    condition-yes _ (a .n) (a .s .now) (a .at) (c₁ .before .before .before .before .pre .0) (t .result) _
+    (sym (c .before .before .before .before .before .starts-at
     .ensures) ∙ c .before .before .before .before .if1 .taken) (t .ensures .0)
     (t .ensures .1)
 
@@ -52,8 +54,9 @@ no-clause-requires c κs = search needs
 
 returns-2 : tie.Need-returns-2
 returns-2 c =
-    let a = c .before .before .before .before .before .before .before .args in
-    condition-no _ (a .n) (a .s .now) (a .at) (c .before .before .before .before .before .before .before .pre
+    let c₁ = c .before .before .before .before .before .before in
+    let a = c₁ .before .args in
+    condition-no _ (a .n) (a .s .now) (a .at) (c₁ .before .pre
     .0) _ _ (sym (c .before .before .starts-at .ensures) ∙ c .before .if1 .left) (c .no-clause .ensures)
 
 pub condition-at-spec : {M : Type 1} → statement M

@@ -24,8 +24,10 @@ no-clause-requires c κs = search needs
 
 returns : tie.Need-returns
 returns c =
-    let a = c .before .before .before .before .before .before .before .args in
-    constraint-not-yet _ (a .n) (a .s .now) (a .at) (c .before .before .before .before .before .before .before .pre .0) _ _ (sym (c .before .before .starts-at .ensures) ∙ c .before .if1 .taken) (c .no-clause .ensures)
+    let c₁ = c .before .before .before .before .before .before in
+    let a = c₁ .before .args in
+    constraint-not-yet _ (a .n) (a .s .now) (a .at) (c₁ .before .pre .0) _ _
+    (sym (c .before .before .starts-at .ensures) ∙ c .before .if1 .taken) (c .no-clause .ensures)
 
 slice-aggregate-starts-at-2 : tie.Need-slice-aggregate-starts-at-2
 slice-aggregate-starts-at-2 c = search needs
@@ -38,16 +40,15 @@ add-tree-at c = search needs
 
 tree-at-requires : tie.Need-tree-at-requires
 tree-at-requires c κs =
-    let a = c .before .before .before .before .before .before .before .before .before .before .args in
+    let c₁ = c .before .before .before .before .before .before in
+    let a = c₁ .before .before .before .before .args in
     let y = sym (c .before .before .starts-at2 .ensures) ∙ c .before .if2 .taken in
-    let h : a .at + 2 ≤ length (a .s .now) = clause-room (a .s .now) (a .at) (c .before .before .before .before
-    .before .before .before .before .before .before .pre .0) (bytes "; ") y in (
+    let h : a .at + 2 ≤ length (a .s .now) = clause-room (a .s .now) (a .at)
+    (c₁ .before .before .before .before .pre .0) (bytes "; ") y in (
       h,
-      c .before .before .before .before .before .before .before .before .before .before .pre .1,
-      c .before .before .before
-          .before .before .before .before .before .before .before .pre .2,
-      c .before .before .before .before .before .before
-          .before .before .before .before .pre .3,
+      c₁ .before .before .before .before .pre .1,
+      c₁ .before .before .before .before .pre .2,
+      c₁ .before .before .before .before .pre .3,
     )
 
 same-length : tie.Need-same-length
@@ -55,11 +56,12 @@ same-length c = search needs
 
 returns-2 : tie.Need-returns-2
 returns-2 c =
-    let a = c .before .before .before .before .before .before .before .before .before .before .before .before .before .args in
+    let c₁ = c .before .before .before .before .before .before in
+    let c₂ = c₁ .before .before .before .before .before .before in
+    let a = c₂ .before .args in
     let t = c .before .before .tree-at in
-    constraint-yes _ (a .n) (a .s .now) (a .at) (c .before .before .before .before .before .before
-    .before .before .before .before .before .before .before .pre .0) (t .result) _ (sym (c .before .before .before .before
-    .before .before .before .before .starts-at .ensures) ∙ c .before .before .before .before .before .before .before
+    constraint-yes _ (a .n) (a .s .now) (a .at) (c₂ .before .pre .0) (t .result) _
+    (sym (c₁ .before .before .starts-at .ensures) ∙ c₁ .before
     .if1 .left)
     (sym (c .before .before .before .before .before .starts-at2 .ensures) ∙ c .before .before .before .before .if2
     .taken) (t .ensures .0) (t .ensures .1)
@@ -69,9 +71,10 @@ no-clause-requires-2 c κs = search needs
 
 returns-3 : tie.Need-returns-3
 returns-3 c =
-    let a = c .before .before .before .before .before .before .before .before .before .before .args in
-    constraint-no _ (a .n) (a .s .now) (a .at) (c .before .before .before .before .before .before
-    .before .before .before .before .pre .0) _ _ (sym (c .before .before .starts-at2 .ensures) ∙ c .before .if2 .left) (c
+    let c₁ = c .before .before .before .before .before .before in
+    let a = c₁ .before .before .before .before .args in
+    constraint-no _ (a .n) (a .s .now) (a .at) (c₁ .before .before .before .before .pre .0) _ _
+    (sym (c .before .before .starts-at2 .ensures) ∙ c .before .if2 .left) (c
     .no-clause2 .ensures)
 
 pub constraint-at-spec : {M : Type 1} → statement M

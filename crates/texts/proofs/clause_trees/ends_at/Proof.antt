@@ -36,21 +36,24 @@ same-length c = search needs
 
 returns : tie.Need-returns
 returns c =
-    let a = c .before .before .before .before .before .before .before .before .before .before .before .before .args in
-    let x = c .before .before .before .before .before .before .constraint-at in
+    let c₁ = c .before .before .before .before .before .before in
+    let c₂ = c₁ .before .before .before .before .before .before in
+    let a = c₂ .args in
+    let x = c₁ .constraint-at in
     ends-none _ (a .n) (a .s .now) (a .at) (x .result) _ _ (x .ensures .1) _ (c .wrong-ends .ensures)
     (not-true (x .result .right) (c .before .if1 .taken))
 
 condition-at-requires : tie.Need-condition-at-requires
 condition-at-requires c κs =
-    let x = c .before .before .before .before .before .before .constraint-at in
+    let c₁ = c .before .before .before .before .before .before in
+    let c₂ = c₁ .before .before .before .before .before .before in
+    let x = c₁ .constraint-at in
     let w = x .ensures .0 (not-false (x .result .right) (c .before .if1 .left)) in (
       w .1,
-      c .before .before .before .before .before .before .before .before .before .before .before .before .pre .1,
+      c₂ .pre .1,
       omega
-          (arith, c .before .before .before .before .before .before .before .before .before .before .before .before .pre .2),
-      c
-          .before .before .before .before .before .before .before .before .before .before .before .before .pre .3,
+          (arith, c₂ .pre .2),
+      c₂ .pre .3,
     )
 
 wrong-ends-requires-2 : tie.Need-wrong-ends-requires-2
@@ -64,12 +67,14 @@ same-length-3 c = search needs
 
 returns-2 : tie.Need-returns-2
 returns-2 c =
-    let a = c .before .before .before .before .before .before .before .before .before .before .before .before .before
-    .before .before .before .before .before .before .args in
-    let x = c .before .before .before .before .before .before .before .before .before .before .before .before .before
+    let c₁ = c .before .before .before .before .before .before in
+    let c₂ = c₁ .before .before .before .before .before .before in
+    let c₃ = c₂ .before .before .before .before .before .before in
+    let a = c₃ .before .args in
+    let x = c₂ .before
     .constraint-at in
-    let y = c .before .before .before .before .before .before .condition-at in
-    let first = not-false (x .result .right) (c .before .before .before .before .before .before .before .before .if1
+    let y = c₁ .condition-at in
+    let first = not-false (x .result .right) (c₁ .before .before .if1
     .left) in
     ends-later _ (a .n) (a .s .now) (a .at) (x .result) _ _ (x .ensures .1) first (y .result) (y
     .ensures .1) _ (c .wrong-ends2 .ensures)
@@ -85,21 +90,22 @@ starts-at-requires c κs =
 
 add-remark-ok : tie.Need-add-remark-ok
 add-remark-ok c =
-    let y = c .before .before .before .before .before .before .before .before .condition-at in
+    let c₁ = c .before .before .before .before .before .before in
+    let c₃ = c₁ .before .before .before .before .before .before .before .before .before .before .before .before in
+    let y = c₁ .before .before .condition-at in
     let w = y .ensures .0 (not-false (y .result .right) (c .before .before .before .if2 .left)) in
-    let le : y .result .tree .next ≤ length (c .before .before .before .before .before .before .before .before
-    .before .before .before .before .before .before .before .before .before .before .before .before .before .args .s .now) =
+    let le : y .result .tree .next ≤ length (c₃ .before .before .before .args .s .now) =
     w .1 in
-    let m = c .before .before .before .before .before .before .before .before .before .before .before .before .before
-    .before .before .before .before .before .before .before .before .pre .1 in
+    let m = c₃ .before .before .before .pre .1 in
     search (needs, m)
 
 remark-ok-requires : tie.Need-remark-ok-requires
 remark-ok-requires c κs =
-    let y = c .before .before .before .before .before .before .before .before .condition-at in
+    let c₁ = c .before .before .before .before .before .before in
+    let c₃ = c₁ .before .before .before .before .before .before .before .before .before .before .before .before in
+    let y = c₁ .before .before .condition-at in
     let w = y .ensures .0 (not-false (y .result .right) (c .before .before .before .if2 .left)) in
-    clause-room (c .before .before .before .before .before .before .before .before .before .before .before .before
-    .before .before .before .before .before .before .before .before .before .args .s .now) (y .result .tree .next) (w .1)
+    clause-room (c₃ .before .before .before .args .s .now) (y .result .tree .next) (w .1)
     (bytes ".") (sym (c .before .starts-at .ensures) ∙ c .if3 .taken)
 
 same-length-4 : tie.Need-same-length-4
@@ -110,13 +116,13 @@ same-length-5 c = search needs
 
 returns-3 : tie.Need-returns-3
 returns-3 c =
-    let a = c .before .before .before .before .before .before .before .before .before .before .before .before .before
-    .before .before .before .before .before .before .before .before .before .before .args in
-    let x = c .before .before .before .before .before .before .before .before .before .before .before .before .before
-    .before .before .before .before .constraint-at in
-    let y = c .before .before .before .before .before .before .before .before .before .before .condition-at in
-    let first = not-false (x .result .right) (c .before .before .before .before .before .before .before .before
-    .before .before .before .before .if1 .left) in
+    let c₁ = c .before .before .before .before .before .before in
+    let c₂ = c₁ .before .before .before .before .before .before in
+    let c₃ = c₂ .before .before .before .before .before .before in
+    let a = c₃ .before .before .before .before .before .args in
+    let x = c₂ .before .before .before .before .before .constraint-at in
+    let y = c₁ .before .before .before .before .condition-at in
+    let first = not-false (x .result .right) (c₂ .if1 .left) in
     let second = not-false (y .result .right) (c .before .before .before .before .before .if2 .left) in
     let w = y .ensures .0 second in
     ends-whole _ (a .n) (a .s .now) (a .at) (x .result) _ _ (x .ensures .1) first (y .result) (y
@@ -135,19 +141,20 @@ same-length-7 c = search needs
 
 returns-4 : tie.Need-returns-4
 returns-4 c =
-    let a = c .before .before .before .before .before .before .before .before .before .before .before .before .before
-    .before .before .before .before .before .before .before .before .before .before .before .args in
-    let x = c .before .before .before .before .before .before .before .before .before .before .before .before .before
-    .before .before .before .before .before .constraint-at in
-    let y = c .before .before .before .before .before .before .before .before .before .before .before .condition-at in
-    let first = not-false (x .result .right) (c .before .before .before .before .before .before .before .before
-    .before .before .before .before .before .if1 .left) in
-    let second = not-false (y .result .right) (c .before .before .before .before .before .before .if2 .left) in
+    let c₁ = c .before .before .before .before .before .before in
+    let c₂ = c₁ .before .before .before .before .before .before in
+    let c₃ = c₂ .before .before .before .before .before .before in
+    let c₄ = c₃ .before .before .before .before .before .before in
+    let a = c₄ .args in
+    let x = c₃ .constraint-at in
+    let y = c₁ .before .before .before .before .before .condition-at in
+    let first = not-false (x .result .right) (c₂ .before .if1 .left) in
+    let second = not-false (y .result .right) (c₁ .if2 .left) in
     let w = y .ensures .0 second in
     ends-remark _ (a .n) (a .s .now) (a .at) (x .result) _ _ (x .ensures .1) first (y .result) (y
     .ensures .1) second (w .1) _
-    (c .wrong-ends3 .ensures) (sym (c .before .before .before .before .starts-at .ensures) ∙ c .before .before
-    .before .if3 .taken) (sym (c .before .before .remark-ok .ensures) ∙ c .before .if4 .left)
+    (c .wrong-ends3 .ensures) (sym (c .before .before .before .before .starts-at .ensures) ∙
+    c .before .before .before .if3 .taken) (sym (c .before .before .remark-ok .ensures) ∙ c .before .if4 .left)
 
 wrong-ends-requires-4 : tie.Need-wrong-ends-requires-4
 wrong-ends-requires-4 c κs = search needs
@@ -160,13 +167,13 @@ same-length-9 c = search needs
 
 returns-5 : tie.Need-returns-5
 returns-5 c =
-    let a = c .before .before .before .before .before .before .before .before .before .before .before .before .before
-    .before .before .before .before .before .before .before .before .before .args in
-    let x = c .before .before .before .before .before .before .before .before .before .before .before .before .before
-    .before .before .before .constraint-at in
-    let y = c .before .before .before .before .before .before .before .before .before .condition-at in
-    let first = not-false (x .result .right) (c .before .before .before .before .before .before .before .before
-    .before .before .before .if1 .left) in
+    let c₁ = c .before .before .before .before .before .before in
+    let c₂ = c₁ .before .before .before .before .before .before in
+    let c₃ = c₂ .before .before .before .before .before .before in
+    let a = c₃ .before .before .before .before .args in
+    let x = c₂ .before .before .before .before .constraint-at in
+    let y = c₁ .before .before .before .condition-at in
+    let first = not-false (x .result .right) (c₁ .before .before .before .before .before .if1 .left) in
     let second = not-false (y .result .right) (c .before .before .before .before .if2 .left) in
     let w = y .ensures .0 second in
     ends-unstopped _ (a .n) (a .s .now) (a .at) (x .result) _ _ (x .ensures .1) first (y .result) (y

@@ -14,7 +14,8 @@ same-length c = search needs
 
 returns : tie.Need-returns
 returns c =
-    let a = c .before .before .before .before .before .before .before .before .args in
+    let c₁ = c .before .before .before .before .before .before in
+    let a = c₁ .before .before .args in
     let t = c .before .before .before .stored-tree in
     clause-tree _ (a .n) (a .s .now) (a .at) (t .result) _ (t .ensures .0) (t .ensures .1)
 

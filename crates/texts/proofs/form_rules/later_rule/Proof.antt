@@ -35,7 +35,8 @@ shows-cell-requires : tie.Need-shows-cell-requires
 shows-cell-requires c κs = (
   c .before .before .before .before .pre .0,
   c .before .before .before .before .pre .3,
-  (let n = cells-long (now (c .before .before .before .before .args .held)) (c .before .before .before .before .pre .4) in omega (arith, n)),
+  (let n = cells-long (now (c .before .before .before .before .args .held))
+      (c .before .before .before .before .pre .4) in omega (arith, n)),
 )
 
 returns : tie.Need-returns
@@ -43,11 +44,14 @@ unfolding noteOf
 returns c =
     let a = c .before .before .before .before .before .before .args in (
       refl,
-      (λ f x v k n s nw e p.
-          let shown : showsCell (f .cells) (faces (f .judged .fields)) x
-          ≡ false = sym (c .before .shows-cell .ensures f x _ v k n s p)
-          ∙ not-true (c .before .shows-cell .result) (c .if1 .taken) in
-          sym (later-is f (a .r) x n false _ _ _ shown refl refl refl)),
+      (
+        (λ f x v k n s nw e p.
+            let shown : showsCell (f .cells) (faces (f .judged .fields)) x
+            ≡ false = sym (c .before .shows-cell .ensures f x _ v k n s p)
+            ∙ not-true (c .before .shows-cell .result) (c .if1 .taken) in
+            sym (later-is f (a .r) x n false _ _ _ shown refl refl refl)),
+        omega arith,
+      ),
     )
 
 sub-clashes : tie.Need-sub-clashes
@@ -66,30 +70,37 @@ part-clashes-start-2 : tie.Need-part-clashes-start-2
 part-clashes-start-2 c = search needs
 
 part-clashes-end-2 : tie.Need-part-clashes-end-2
-part-clashes-end-2 c = let k = c .before .before .before .before .before .before .before .pre .4 in omega (arith, k)
+part-clashes-end-2 c =
+    let c₁ = c .before .before .before .before .before .before in
+    let k = c₁ .before .pre .4 in omega (arith, k)
 
 clashes-requires : tie.Need-clashes-requires
 clashes-requires c κs =
-    let held = now (c .before .before .before .before .before .before .before .before .args .held) in (
-      c .before .before .before .before .before .before .before .before .pre .2,
-      (let n = labels-long held (c .before .before .before .before .before .before .before .before .pre .4) in omega (arith, n)),
-      (let n = names-long held (c .before .before .before .before .before .before .before .before .pre .4) in omega (arith, n)),
+    let c₁ = c .before .before .before .before .before .before in
+    let held = now (c₁ .before .before .args .held) in (
+      c₁ .before .before .pre .2,
+      (let n = labels-long held (c₁ .before .before .pre .4) in omega (arith, n)),
+      (let n = names-long held (c₁ .before .before .pre .4) in omega (arith, n)),
     )
 
 returns-2 : tie.Need-returns-2
 unfolding noteOf
 returns-2 c =
-    let a = c .before .before .before .before .before .before .before .before .before .before .args in (
+    let c₁ = c .before .before .before .before .before .before in
+    let a = c₁ .before .before .before .before .args in (
       refl,
-      (λ f x v k n s nw e p.
-          let shown : showsCell (f .cells) (faces (f .judged .fields)) x
-          ≡ true = sym (c .before .before .before .before .before .shows-cell .ensures f x _ v k n s p)
-          ∙ not-false (c .before .before .before .before .before .shows-cell .result)
-          (c .before .before .before .before .if1 .left) in
-          let unique : keepsNames (faces (f .judged .fields)) x ≡ false =
-          ap not (sym (names-here f k (now (a .line)) x e (a .r) n nw) ∙ sym (c .before .clashes .ensures)
-          ∙ c .if2 .taken) in
-          sym (later-is f (a .r) x n true false _ _ shown unique refl refl)),
+      (
+        (λ f x v k n s nw e p.
+            let shown : showsCell (f .cells) (faces (f .judged .fields)) x
+            ≡ true = sym (c .before .before .before .before .before .shows-cell .ensures f x _ v k n s p)
+            ∙ not-false (c .before .before .before .before .before .shows-cell .result)
+            (c .before .before .before .before .if1 .left) in
+            let unique : keepsNames (faces (f .judged .fields)) x ≡ false =
+            ap not (sym (names-here f k (now (a .line)) x e (a .r) n nw) ∙ sym (c .before .clashes .ensures)
+            ∙ c .if2 .taken) in
+            sym (later-is f (a .r) x n true false _ _ shown unique refl refl)),
+        omega arith,
+      ),
     )
 
 types-kept-requires : tie.Need-types-kept-requires
@@ -98,22 +109,27 @@ types-kept-requires c κs = search needs
 returns-3 : tie.Need-returns-3
 unfolding noteOf
 returns-3 c =
-    let a = c .before .before .before .before .before .before .before .before .before .before .before .before .args in (
+    let c₁ = c .before .before .before .before .before .before in
+    let c₂ = c₁ .before .before .before .before .before .before in
+    let a = c₂ .args in (
       refl,
-      (λ f x v k n s nw e p.
-          let shown : showsCell (f .cells) (faces (f .judged .fields)) x
-          ≡ true = sym (c .before .before .before .before .before .before .before .shows-cell .ensures f x _ v k n
-          s p)
-          ∙ not-false (c .before .before .before .before .before .before .before .shows-cell .result)
-          (c .before .before .before .before .before .before .if1 .left) in
-          let unique : keepsNames (faces (f .judged .fields)) x ≡ true =
-          ap not (sym (names-here f k (now (a .line)) x e (a .r) n nw)
-          ∙ sym (c .before .before .before .clashes .ensures) ∙ c .before .before .if2 .left) in
-          let typed : keepsTypes nameReadable (faces (f .judged .fields)) x ≡ false =
-          sym (types-are f k (now (a .line)) x e (a .r) n nw) ∙ sym (c .before .types-kept .ensures _
-          (a .r .fields) (now (a .line)) x v p)
-          ∙ not-true (c .before .types-kept .result) (c .if3 .taken) in
-          sym (later-is f (a .r) x n true true false _ shown unique typed refl)),
+      (
+        (λ f x v k n s nw e p.
+            let shown : showsCell (f .cells) (faces (f .judged .fields)) x
+            ≡ true = sym (c₁ .before .shows-cell .ensures f x _ v k n
+            s p)
+            ∙ not-false (c₁ .before .shows-cell .result)
+            (c₁ .if1 .left) in
+            let unique : keepsNames (faces (f .judged .fields)) x ≡ true =
+            ap not (sym (names-here f k (now (a .line)) x e (a .r) n nw)
+            ∙ sym (c .before .before .before .clashes .ensures) ∙ c .before .before .if2 .left) in
+            let typed : keepsTypes nameReadable (faces (f .judged .fields)) x ≡ false =
+            sym (types-are f k (now (a .line)) x e (a .r) n nw) ∙ sym (c .before .types-kept .ensures _
+            (a .r .fields) (now (a .line)) x v p)
+            ∙ not-true (c .before .types-kept .result) (c .if3 .taken) in
+            sym (later-is f (a .r) x n true true false _ shown unique typed refl)),
+        omega arith,
+      ),
     )
 
 misplaced-requires : tie.Need-misplaced-requires
@@ -122,55 +138,65 @@ misplaced-requires c κs = search needs
 returns-4 : tie.Need-returns-4
 unfolding noteOf
 returns-4 c =
-    let a = c .before .before .before .before .before .before .before .before .before .before .before .before .before .before .args in (
+    let c₁ = c .before .before .before .before .before .before in
+    let c₂ = c₁ .before .before .before .before .before .before in
+    let a = c₂ .before .before .args in (
       refl,
-      (λ f x v k n s nw e p.
-          let shown : showsCell (f .cells) (faces (f .judged .fields)) x
-          ≡ true = sym (c .before .before .before .before .before .before .before .before .before .shows-cell
-          .ensures f x _ v k n s p) ∙ not-false
-          (c .before .before .before .before .before .before .before .before .before .shows-cell .result)
-          (c .before .before .before .before .before .before .before .before .if1 .left) in
-          let unique : keepsNames (faces (f .judged .fields)) x ≡ true =
-          ap not (sym (names-here f k (now (a .line)) x e (a .r) n nw)
-          ∙ sym (c .before .before .before .before .before .clashes .ensures)
-          ∙ c .before .before .before .before .if2 .left) in
-          let typed : keepsTypes nameReadable (faces (f .judged .fields)) x ≡ true =
-          sym (types-are f k (now (a .line)) x e (a .r) n nw)
-          ∙ sym (c .before .before .before .types-kept .ensures _ (a .r .fields) (now (a .line)) x v p)
-          ∙ not-false (c .before .before .before .types-kept .result) (c .before .before .if3 .left) in
-          let rested : keepsRest (faces (f .judged .fields)) x ≡ false =
-          not-flip (keepsRest (faces (f .judged .fields)) x) (sym (rest-is f k (now (a .line)) x e _
-          (a .r .fields) v (a .p) p)
-          ∙ ap (λ (b : Bool). b && not (eqb (a .p .kind) 12 && eqb (a .p .condition .len) 0)) (sym (n .rested))
-          ∙ sym (c .before .misplaced .ensures) ∙ c .if4 .taken) in
-          sym (later-is f (a .r) x n true true true false shown unique typed rested)),
+      (
+        (λ f x v k n s nw e p.
+            let shown : showsCell (f .cells) (faces (f .judged .fields)) x
+            ≡ true = sym (c₁ .before .before .before .shows-cell
+            .ensures f x _ v k n s p) ∙ not-false
+            (c₁ .before .before .before .shows-cell .result)
+            (c₁ .before .before .if1 .left) in
+            let unique : keepsNames (faces (f .judged .fields)) x ≡ true =
+            ap not (sym (names-here f k (now (a .line)) x e (a .r) n nw)
+            ∙ sym (c .before .before .before .before .before .clashes .ensures)
+            ∙ c .before .before .before .before .if2 .left) in
+            let typed : keepsTypes nameReadable (faces (f .judged .fields)) x ≡ true =
+            sym (types-are f k (now (a .line)) x e (a .r) n nw)
+            ∙ sym (c .before .before .before .types-kept .ensures _ (a .r .fields) (now (a .line)) x v p)
+            ∙ not-false (c .before .before .before .types-kept .result) (c .before .before .if3 .left) in
+            let rested : keepsRest (faces (f .judged .fields)) x ≡ false =
+            not-flip (keepsRest (faces (f .judged .fields)) x) (sym (rest-is f k (now (a .line)) x e _
+            (a .r .fields) v (a .p) p)
+            ∙ ap (λ (b : Bool). b && not (eqb (a .p .kind) 12 && eqb (a .p .condition .len) 0)) (sym (n .rested))
+            ∙ sym (c .before .misplaced .ensures) ∙ c .if4 .taken) in
+            sym (later-is f (a .r) x n true true true false shown unique typed rested)),
+        omega arith,
+      ),
     )
 
 returns-5 : tie.Need-returns-5
 unfolding noteOf
 returns-5 c =
-    let a = c .before .before .before .before .before .before .before .before .before .before .before .before .before .before .args in (
+    let c₁ = c .before .before .before .before .before .before in
+    let c₂ = c₁ .before .before .before .before .before .before in
+    let a = c₂ .before .before .args in (
       refl,
-      (λ f x v k n s nw e p.
-          let shown : showsCell (f .cells) (faces (f .judged .fields)) x
-          ≡ true = sym (c .before .before .before .before .before .before .before .before .before .shows-cell
-          .ensures f x _ v k n s p) ∙ not-false
-          (c .before .before .before .before .before .before .before .before .before .shows-cell .result)
-          (c .before .before .before .before .before .before .before .before .if1 .left) in
-          let unique : keepsNames (faces (f .judged .fields)) x ≡ true =
-          ap not (sym (names-here f k (now (a .line)) x e (a .r) n nw)
-          ∙ sym (c .before .before .before .before .before .clashes .ensures)
-          ∙ c .before .before .before .before .if2 .left) in
-          let typed : keepsTypes nameReadable (faces (f .judged .fields)) x ≡ true =
-          sym (types-are f k (now (a .line)) x e (a .r) n nw)
-          ∙ sym (c .before .before .before .types-kept .ensures _ (a .r .fields) (now (a .line)) x v p)
-          ∙ not-false (c .before .before .before .types-kept .result) (c .before .before .if3 .left) in
-          let rested : keepsRest (faces (f .judged .fields)) x ≡ true =
-          not-flip (keepsRest (faces (f .judged .fields)) x) (sym (rest-is f k (now (a .line)) x e _
-          (a .r .fields) v (a .p) p)
-          ∙ ap (λ (b : Bool). b && not (eqb (a .p .kind) 12 && eqb (a .p .condition .len) 0)) (sym (n .rested))
-          ∙ sym (c .before .misplaced .ensures) ∙ c .if4 .left) in
-          sym (later-is f (a .r) x n true true true true shown unique typed rested)),
+      (
+        (λ f x v k n s nw e p.
+            let shown : showsCell (f .cells) (faces (f .judged .fields)) x
+            ≡ true = sym (c₁ .before .before .before .shows-cell
+            .ensures f x _ v k n s p) ∙ not-false
+            (c₁ .before .before .before .shows-cell .result)
+            (c₁ .before .before .if1 .left) in
+            let unique : keepsNames (faces (f .judged .fields)) x ≡ true =
+            ap not (sym (names-here f k (now (a .line)) x e (a .r) n nw)
+            ∙ sym (c .before .before .before .before .before .clashes .ensures)
+            ∙ c .before .before .before .before .if2 .left) in
+            let typed : keepsTypes nameReadable (faces (f .judged .fields)) x ≡ true =
+            sym (types-are f k (now (a .line)) x e (a .r) n nw)
+            ∙ sym (c .before .before .before .types-kept .ensures _ (a .r .fields) (now (a .line)) x v p)
+            ∙ not-false (c .before .before .before .types-kept .result) (c .before .before .if3 .left) in
+            let rested : keepsRest (faces (f .judged .fields)) x ≡ true =
+            not-flip (keepsRest (faces (f .judged .fields)) x) (sym (rest-is f k (now (a .line)) x e _
+            (a .r .fields) v (a .p) p)
+            ∙ ap (λ (b : Bool). b && not (eqb (a .p .kind) 12 && eqb (a .p .condition .len) 0)) (sym (n .rested))
+            ∙ sym (c .before .misplaced .ensures) ∙ c .if4 .left) in
+            sym (later-is f (a .r) x n true true true true shown unique typed rested)),
+        omega arith,
+      ),
     )
 
 pub later-rule-spec : {M : Type 1} → statement M

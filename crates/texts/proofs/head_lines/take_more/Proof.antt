@@ -15,7 +15,7 @@ use Rattle.texts.proofs.head_lines.take_more.Tie as tie
 use Rattle.texts.proofs.head_lines.take_more.Reads as reads
 use Rattle.texts.proofs.head_lines.take_more.Lts as lts
 use Rattle.names.proofs.classes.class_table.Reads as class-table-reads
-use Rattle.texts.proofs.bars.goes_on.Reads as goes-on-reads
+use Rattle.bars.proofs.further_lines.goes_on.Reads as goes-on-reads
 use Rattle.texts.proofs.head_lines.end_row.Reads as end-row-reads
 use Rattle.texts.proofs.rulers.is_border.Reads as is-border-reads
 use Rattle.texts.proofs.slots.put_row.Reads as put-row-reads
@@ -44,18 +44,23 @@ goes-on-requires : tie.Need-goes-on-requires
 goes-on-requires c κs = search needs
 
 mul-put : tie.Need-mul-put
-mul-put c = let q = c .before .before .before .before .before .before .before .before .pre .0 .row in search (needs, q)
+mul-put c =
+    let c₁ = c .before .before .before .before .before .before in
+    let q = c₁ .before .before .pre .0 .row in search (needs, q)
 
 put-requires : tie.Need-put-requires
 put-requires c κs = search needs
 
 add-r : tie.Need-add-r
-add-r c = let q = c .before .before .before .before .before .before .before .before .before .before .before .pre .0
+add-r c =
+    let c₁ = c .before .before .before .before .before .before in
+    let q = c₁ .before .before .before .before .before .pre .0
     .row in search (needs, q)
 
 onward-requires : tie.Need-onward-requires
-onward-requires c κs = c .before .before .before .before .before .before .before .before .before .before .before
-    .before .pre .1
+onward-requires c κs =
+    let c₂ = c .before .before .before .before .before .before .before .before .before .before .before .before in
+    c₂ .pre .1
 
 same-length : tie.Need-same-length
 same-length c = search needs
@@ -132,8 +137,9 @@ returns-2 c =
     )
 
 is-border-requires : tie.Need-is-border-requires
-is-border-requires c κs = c .before .before .before .before .before .before .before .before .before .before .before
-    .before .before .before .before .before .before .pre .0 .width
+is-border-requires c κs =
+    let c₂ = c .before .before .before .before .before .before .before .before .before .before .before .before in
+    c₂ .before .before .before .before .before .pre .0 .width
 
 end-row-requires : tie.Need-end-row-requires
 end-row-requires c κs =
@@ -171,8 +177,10 @@ returns-3 c =
     )
 
 wrong-requires : tie.Need-wrong-requires
-wrong-requires c κs = c .before .before .before .before .before .before .before .before .before .before .before
-    .before .before .before .before .before .before .before .before .pre .1
+wrong-requires c κs =
+    let c₃ = c .before .before .before .before .before .before .before .before .before .before .before .before .before
+    .before .before .before .before .before in
+    c₃ .before .pre .1
 
 same-length-6 : tie.Need-same-length-6
 same-length-6 c = search needs

@@ -8,7 +8,7 @@ use Rattle.rules.specs.Rows.{Row}
 use Rattle.text_laws.specs.FrameReader.{readRow}
 use Rattle.writing.proofs.PutLaws.{put-writes}
 use Rattle.texts.specs.RowPlaces.{linesIn}
-use Rattle.texts.proofs.BarLaws.{row-lines-one}
+use Rattle.texts.proofs.DrawnLines.{row-lines-one}
 use Rattle.texts.proofs.RowLines.{some-is, none-else, first-line}
 use Rattle.texts.proofs.RowSteps.{room-line, holds-line}
 use Rattle.texts.proofs.StateSteps.{taken-wrong, holds-wrong, blamed-outside, kept-outside}
@@ -29,7 +29,9 @@ put-requires : tie.Need-put-requires
 put-requires c κs = search needs
 
 onward-requires : tie.Need-onward-requires
-onward-requires c κs = c .before .before .before .before .before .before .before .before .before .pre .1
+onward-requires c κs =
+    let c₁ = c .before .before .before .before .before .before in
+    c₁ .before .before .before .pre .1
 
 same-length : tie.Need-same-length
 same-length c = search needs

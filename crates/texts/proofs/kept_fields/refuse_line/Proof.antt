@@ -33,7 +33,7 @@ returns c =
     let a = c .before .before .before .before .args in
     let n = note-some (a .number) (a .r .lines + 1) (λ e. absurd (omega
     (arith, e, c .before .before .before .before .pre .3))) in
-    let e = c .before .before .lower .ensures ∙ ap (λ (o : Option Answer). lower (noteOf (a .r .note)) o) n in
+    let e = c .before .before .lower .ensures .0 ∙ ap (λ (o : Option Answer). lower (noteOf (a .r .note)) o) n in
     let t = told-some (a .number) (a .r .lines + 1) (c .before .before .before .before .pre .3) (omega
     (arith, c .before .before .before .before .pre .4)) in
     let q : isTold (noteOf (c .before .before .lower .result)) ≡ true =
@@ -42,7 +42,9 @@ returns c =
     rw (c .onward .ensures) (
       (
         room-refused (a .r) (c .before .before .lower .result) (c .before .before .before .before .pre .0)
-            (c .before .before .before .before .pre .2) q,
+            (c .before .before .before .before .pre .2) q
+            (c .before .before .lower .ensures .1 (a .r .lines + 1) (c .before .before .before .before .pre .0
+            .placed) (omega arith)),
         omega arith,
       ),
       (refl, e),

@@ -41,7 +41,8 @@ unfolding noteOf
 returns c =
     let r = c .before .before .before .before .before .before .args .r in
     rw (c .too-many .ensures) (
-      taken-onward r at.FieldLine (note 4 0) refl (c .before .before .before .before .before .before .pre .0),
+      taken-onward r at.FieldLine (note 4 0) refl (omega arith)
+          (c .before .before .before .before .before .before .pre .0),
       (
         refl,
         (λ f k h. holds-full f r h (now (c .before .before .before .before .before .before .args .line))
@@ -59,7 +60,9 @@ part-parts-of-start : tie.Need-part-parts-of-start
 part-parts-of-start c = search needs
 
 part-parts-of-end : tie.Need-part-parts-of-end
-part-parts-of-end c = let k = c .before .before .before .before .before .before .before .pre .3 in omega (arith, k)
+part-parts-of-end c =
+    let c₁ = c .before .before .before .before .before .before in
+    let k = c₁ .before .pre .3 in omega (arith, k)
 
 slice-aggregate-parts-of : tie.Need-slice-aggregate-parts-of
 slice-aggregate-parts-of c = search needs
@@ -72,45 +75,59 @@ slice-aggregate-parts-of-3 c = search needs
 
 parts-of-requires : tie.Need-parts-of-requires
 parts-of-requires c κs =
-    let few = full-room (c .before .before .before .before .before .before .before .before .before .before .before .args .r) (sym (c .before .before .before .before .before .before .before .is-full .ensures) ∙ c .before .before .before .before .before .before .if1 .left) in (
-      c .before .before .before .before .before .before .before .before .before .before .before .pre .2,
-      omega (arith, few, c .before .before .before .before .before .before .before .before .before .before .before .pre .0 .fields),
+    let c₁ = c .before .before .before .before .before .before in
+    let few = full-room (c₁ .before .before .before .before .before .args .r)
+    (sym (c₁ .before .is-full .ensures) ∙ c₁ .if1 .left) in (
+      c₁ .before .before .before .before .before .pre .2,
+      omega (arith, few, c₁ .before .before .before .before .before .pre .0 .fields),
       record {
         table = c .before .before .before .before .before .class-table .ensures;
-        room = (let n = names-long (now (c .before .before .before .before .before .before .before .before .before .before .before .args .held)) (c .before .before .before .before .before .before .before .before .before .before .before .pre .3) in omega (arith, n));
+        room = (let n = names-long (now (c₁ .before .before .before .before .before .args .held))
+            (c₁ .before .before .before .before .before .pre .3) in omega (arith, n));
       },
     )
 
 refuse-line-requires : tie.Need-refuse-line-requires
-refuse-line-requires c κs = (
-  c .before .before .before .before .before .before .before .before .before .before .before .before .before .before .before .before .before .before .before .pre .0,
-  c .before .before .before .before .before .before .before .before .before .before .before .before .before .before .before .before .before .before .before .pre .1,
-  full-room (c .before .before .before .before .before .before .before .before .before .before .before .before .before .before .before .before .before .before .before .args .r) (sym (c .before .before .before .before .before .before .before .before .before .before .before .before .before .before .before .is-full .ensures) ∙ c .before .before .before .before .before .before .before .before .before .before .before .before .before .before .if1 .left),
-  omega arith,
-  omega arith,
-)
+refuse-line-requires c κs =
+    let c₂ = c .before .before .before .before .before .before .before .before .before .before .before .before in
+    let c₃ = c₂ .before .before .before .before .before .before in (
+      c₃ .before .pre .0,
+      c₃ .before .pre .1,
+      full-room (c₃ .before .args .r) (sym (c₂ .before .before .before .is-full .ensures) ∙
+          c₂ .before .before .if1 .left),
+      omega arith,
+      omega arith,
+    )
 
 same-length : tie.Need-same-length
 same-length c =
-    let back = named-back (now (c .before .before .before .before .before .before .before .before .before .before .before .before .before .before .before .before .before .before .before .before .args .held)) (c .before .before .before .before .before .before .before .before .before .before .before .before .before .before .before .before .before .before .before .before .pre .3) (c .before .before .before .before .before .before .before .before .parts-of .ensures .0) (c .before .before .before .before .before .before .before .before .parts-of .kept .1 .1 .0) in
+    let c₁ = c .before .before .before .before .before .before in
+    let c₃ = c₁ .before .before .before .before .before .before .before .before .before .before .before .before in
+    let back = named-back (now (c₃ .before .before .args .held)) (c₃ .before .before .pre .3)
+    (c₁ .before .before .parts-of .ensures .0) (c₁ .before .before .parts-of .kept .1 .1 .0) in
     search (needs, back)
 
 returns-2 : tie.Need-returns-2
 returns-2 c =
-    let r = c .before .before .before .before .before .before .before .before .before .before .before .before .before .before .before .before .before .before .before .before .args .r in
-    let l = now (c .before .before .before .before .before .before .before .before .before .before .before .before .before .before .before .before .before .before .before .before .args .line) in
-    let held = now (c .before .before .before .before .before .before .before .before .before .before .before .before .before .before .before .before .before .before .before .before .args .held) in
-    let p = c .before .before .before .before .before .before .before .before .parts-of .result in
-    let o = c .before .before .before .before .before .before .before .before .parts-of .ensures in
-    let same = c .before .before .before .before .before .before .before .before .parts-of .kept .1 .1 .0 in
+    let c₁ = c .before .before .before .before .before .before in
+    let c₂ = c₁ .before .before .before .before .before .before in
+    let c₃ = c₂ .before .before .before .before .before .before in
+    let r = c₃ .before .before .args .r in
+    let l = now (c₃ .before .before .args .line) in
+    let held = now (c₃ .before .before .args .held) in
+    let p = c₁ .before .before .parts-of .result in
+    let o = c₁ .before .before .parts-of .ensures in
+    let same = c₁ .before .before .parts-of .kept .1 .1 .0 in
     let e = form-none _ (r .fields) l (readForm l) _ p (o .1) (c .before .if2 .taken) in
     let q = c .refuse-line .ensures in (
       q .0,
       (
-        named-back held (c .before .before .before .before .before .before .before .before .before .before .before .before .before .before .before .before .before .before .before .before .pre .3) (o .0) same,
-        (λ f k h. rw (q .1 .0) (holds-formless f r (named-holds held (c .before .before .before .before .before .before .before .before .before .before .before .before .before .before .before .before .before .before .before .before .pre .3) (o .0) same f r _ refl h) l
+        named-back held (c₃ .before .before .pre .3) (o .0) same,
+        (λ f k h. rw (q .1 .0) (holds-formless f r (named-holds held (c₃ .before .before .pre .3) (o .0) same f r _
+            refl h) l
             (c .refuse-line .result .note)
-            (sym (full-same f r (h .counts)) ∙ sym (c .before .before .before .before .before .before .before .before .before .before .before .before .before .before .before .before .is-full .ensures) ∙ c .before .before .before .before .before .before .before .before .before .before .before .before .before .before .before .if1 .left) e (q .1 .1))),
+            (sym (full-same f r (h .counts)) ∙ sym (c₂ .before .before .before .before .is-full .ensures) ∙
+            c₂ .before .before .before .if1 .left) e (q .1 .1))),
       ),
     )
 
@@ -128,30 +145,45 @@ slice-aggregate-take-form-3 c = search needs
 
 take-form-requires : tie.Need-take-form-requires
 take-form-requires c κs =
-    let r = c .before .before .before .before .before .before .before .before .before .before .before .before .before .before .before .before .before .before .before .before .before .before .before .before .before .before .args .r in
-    let l = now (c .before .before .before .before .before .before .before .before .before .before .before .before .before .before .before .before .before .before .before .before .before .before .before .before .before .before .args .line) in
-    let held = now (c .before .before .before .before .before .before .before .before .before .before .before .before .before .before .before .before .before .before .before .before .before .before .before .before .before .before .args .held) in
-    let p = c .before .before .before .before .before .before .before .before .before .before .before .before .before .before .parts-of .result in
-    let o = c .before .before .before .before .before .before .before .before .before .before .before .before .before .before .parts-of .ensures in
-    let x = form-some _ (r .fields) l (readForm l) _ p (o .1) (c .before .before .before .before .before .before .before .if2 .left) in
-    let small = sym (c .before .before .before .before .before .before .sizes-kept .ensures _ (r .fields) l (x .0) _ (x .2)) ∙ c .before .before .before .before .before .if3 .taken in (
-      (c .before .before .before .before .before .before .before .before .before .before .before .before .before .before .before .before .before .before .before .before .before .before .before .before .before .before .pre .0, c .before .before .before .before .before .before .before .before .before .before .before .before .before .before .before .before .before .before .before .before .before .before .before .before .before .before .pre .1, c .before .before .before .before .before .before .before .before .before .before .before .before .before .before .before .before .before .before .before .before .before .before .before .before .before .before .pre .2, named-room held (c .before .before .before .before .before .before .before .before .before .before .before .before .before .before .before .before .before .before .before .before .before .before .before .before .before .before .pre .3) (o .0) (c .before .before .before .before .before .before .before .before .before .before .before .before .before .before .parts-of .kept .1 .1 .0)),
-      full-room r (sym (c .before .before .before .before .before .before .before .before .before .before .before .before .before .before .before .before .before .before .before .before .before .before .is-full .ensures) ∙ c .before .before .before .before .before .before .before .before .before .before .before .before .before .before .before .before .before .before .before .before .before .if1 .left),
+    let c₁ = c .before .before .before .before .before .before in
+    let c₂ = c₁ .before .before .before .before .before .before in
+    let c₃ = c₂ .before .before .before .before .before .before in
+    let c₄ = c₃ .before .before .before .before .before .before in
+    let r = c₄ .before .before .args .r in
+    let l = now (c₄ .before .before .args .line) in
+    let held = now (c₄ .before .before .args .held) in
+    let p = c₂ .before .before .parts-of .result in
+    let o = c₂ .before .before .parts-of .ensures in
+    let x = form-some _ (r .fields) l (readForm l) _ p (o .1) (c₁ .before .if2 .left) in
+    let small = sym (c₁ .sizes-kept .ensures _ (r .fields) l (x .0) _ (x .2)) ∙
+    c .before .before .before .before .before .if3 .taken in (
+      (
+        c₄ .before .before .pre .0,
+        c₄ .before .before .pre .1,
+        c₄ .before .before .pre .2,
+        named-room held
+            (c₄ .before .before .pre .3) (o .0) (c₂ .before .before .parts-of .kept .1 .1 .0),
+      ),
+      full-room r (sym (c₃ .before .before .before .before .is-full .ensures) ∙ c₃ .before .before .before .if1 .left),
       (
         parts-writable _ (r .fields) l (x .0) _ p (x .2) small,
         field-most _ (r .fields) l (x .0) _ p (x .2) small (line-formed l (x .0) (x .1)),
         record {
-          width = (let k = c .before .before .before .before .before .before .before .before .before .before .before .before .before .before .parts-of .kept .1 .1 .1 .1 .0 in omega (arith, k));
-          constraint = (let k = c .before .before .before .before .before .before .before .before .before .before .before .before .before .before .parts-of .kept .1 .1 .1 .1 .1 .0 in omega (arith, k));
-          condition = (let k = c .before .before .before .before .before .before .before .before .before .before .before .before .before .before .parts-of .kept .1 .1 .1 .1 .1 .1 .0 in omega (arith, k));
+          width = (let k = c₂ .before .before .parts-of .kept .1 .1 .1 .1 .0 in omega (arith, k));
+          constraint = (let k = c₂ .before .before .parts-of .kept .1 .1 .1 .1 .1 .0 in omega (arith, k));
+          condition = (let k = c₂ .before .before .parts-of .kept .1 .1 .1 .1 .1 .1 .0 in omega (arith, k));
         },
       ),
     )
 
 same-length-2 : tie.Need-same-length-2
 same-length-2 c =
+    let c₃ = c .before .before .before .before .before .before .before .before .before .before .before .before .before
+    .before .before .before .before .before in
+    let c₅ = c₃ .before .before .before .before .before .before .before .before .before .before .before .before in
     let e = c .before .before .before .before .take-form .ensures .1 .0 in
-    let back = named-back (now (c .before .before .before .before .before .before .before .before .before .before .before .before .before .before .before .before .before .before .before .before .before .before .before .before .before .before .before .before .before .before .before .args .held)) (c .before .before .before .before .before .before .before .before .before .before .before .before .before .before .before .before .before .before .before .before .before .before .before .before .before .before .before .before .before .before .before .pre .3) (c .before .before .before .before .before .before .before .before .before .before .before .before .before .before .before .before .before .before .before .parts-of .ensures .0) (c .before .before .before .before .before .before .before .before .before .before .before .before .before .before .before .before .before .before .before .parts-of .kept .1 .1 .0) in
+    let back = named-back (now (c₅ .before .args .held)) (c₅ .before .pre .3) (c₃ .before .parts-of .ensures .0)
+    (c₃ .before .parts-of .kept .1 .1 .0) in
     search (needs, back, e)
 
 same-length-3 : tie.Need-same-length-3
@@ -159,57 +191,77 @@ same-length-3 c = search needs
 
 returns-3 : tie.Need-returns-3
 returns-3 c =
-    let r = c .before .before .before .before .before .before .before .before .before .before .before .before .before .before .before .before .before .before .before .before .before .before .before .before .before .before .before .before .before .before .before .args .r in
-    let l = now (c .before .before .before .before .before .before .before .before .before .before .before .before .before .before .before .before .before .before .before .before .before .before .before .before .before .before .before .before .before .before .before .args .line) in
-    let held = now (c .before .before .before .before .before .before .before .before .before .before .before .before .before .before .before .before .before .before .before .before .before .before .before .before .before .before .before .before .before .before .before .args .held) in
-    let p = c .before .before .before .before .before .before .before .before .before .before .before .before .before .before .before .before .before .before .before .parts-of .result in
-    let o = c .before .before .before .before .before .before .before .before .before .before .before .before .before .before .before .before .before .before .before .parts-of .ensures in
-    let same = c .before .before .before .before .before .before .before .before .before .before .before .before .before .before .before .before .before .before .before .parts-of .kept .1 .1 .0 in
-    let x = form-some _ (r .fields) l (readForm l) _ p (o .1) (c .before .before .before .before .before .before .before .before .before .before .before .before .if2 .left) in
-    let small = sym (c .before .before .before .before .before .before .before .before .before .before .before .sizes-kept .ensures _ (r .fields) l (x .0) _ (x .2)) ∙ c .before .before .before .before .before .before .before .before .before .before .if3 .taken in
+    let c₁ = c .before .before .before .before .before .before in
+    let c₂ = c₁ .before .before .before .before .before .before in
+    let c₃ = c₂ .before .before .before .before .before .before in
+    let c₄ = c₃ .before .before .before .before .before .before in
+    let c₅ = c₄ .before .before .before .before .before .before in
+    let r = c₅ .before .args .r in
+    let l = now (c₅ .before .args .line) in
+    let held = now (c₅ .before .args .held) in
+    let p = c₃ .before .parts-of .result in
+    let o = c₃ .before .parts-of .ensures in
+    let same = c₃ .before .parts-of .kept .1 .1 .0 in
+    let x = form-some _ (r .fields) l (readForm l) _ p (o .1) (c₂ .if2 .left) in
+    let small = sym (c₁ .before .before .before .before .before .sizes-kept .ensures _ (r .fields) l (x .0) _ (x .2))
+    ∙ c₁ .before .before .before .before .if3 .taken in
     let q = c .before .before .before .before .take-form .ensures in
-    let areas = named-areas held (c .before .before .before .before .before .before .before .before .before .before .before .before .before .before .before .before .before .before .before .before .before .before .before .before .before .before .before .before .before .before .before .pre .3) (o .0) same in (
+    let areas = named-areas held (c₅ .before .pre .3) (o .0) same in (
       q .0,
       (
-        q .1 .0 ∙ named-back held (c .before .before .before .before .before .before .before .before .before .before .before .before .before .before .before .before .before .before .before .before .before .before .before .before .before .before .before .before .before .before .before .pre .3) (o .0) same,
+        q .1 .0 ∙ named-back held (c₅ .before .pre .3) (o .0) same,
         (λ f k h. q .1 .1 f (x .0) k
-            (sym (full-same f r (h .counts)) ∙ sym (c .before .before .before .before .before .before .before .before .before .before .before .before .before .before .before .before .before .before .before .before .before .before .before .before .before .before .before .is-full .ensures) ∙ c .before .before .before .before .before .before .before .before .before .before .before .before .before .before .before .before .before .before .before .before .before .before .before .before .before .before .if1 .left)
-            (named-holds held (c .before .before .before .before .before .before .before .before .before .before .before .before .before .before .before .before .before .before .before .before .before .before .before .before .before .before .before .before .before .before .before .pre .3) (o .0) same f r _ refl h) (x .1) small (rw (areas .names-are) (x .2))),
+            (sym (full-same f r (h .counts)) ∙ sym (c₄ .before .before .before .is-full .ensures) ∙
+            c₄ .before .before .if1 .left)
+            (named-holds held (c₅ .before .pre .3) (o .0) same f r _ refl h) (x .1) small
+            (rw (areas .names-are) (x .2))),
       ),
     )
 
 refuse-line-requires-2 : tie.Need-refuse-line-requires-2
-refuse-line-requires-2 c κs = (
-  c .before .before .before .before .before .before .before .before .before .before .before .before .before .before .before .before .before .before .before .before .before .pre .0,
-  c .before .before .before .before .before .before .before .before .before .before .before .before .before .before .before .before .before .before .before .before .before .pre .1,
-  full-room (c .before .before .before .before .before .before .before .before .before .before .before .before .before .before .before .before .before .before .before .before .before .args .r) (sym (c .before .before .before .before .before .before .before .before .before .before .before .before .before .before .before .before .before .is-full .ensures) ∙ c .before .before .before .before .before .before .before .before .before .before .before .before .before .before .before .before .if1 .left),
-  omega arith,
-  omega arith,
-)
+refuse-line-requires-2 c κs =
+    let c₂ = c .before .before .before .before .before .before .before .before .before .before .before .before in
+    let c₃ = c₂ .before .before .before .before .before .before in (
+      c₃ .before .before .before .pre .0,
+      c₃ .before .before .before .pre .1,
+      full-room (c₃ .before .before .before .args .r) (sym (c₂ .before .before .before .before .before .is-full
+          .ensures) ∙ c₂ .before .before .before .before .if1 .left),
+      omega arith,
+      omega arith,
+    )
 
 same-length-4 : tie.Need-same-length-4
 same-length-4 c =
-    let back = named-back (now (c .before .before .before .before .before .before .before .before .before .before .before .before .before .before .before .before .before .before .before .before .before .before .args .held)) (c .before .before .before .before .before .before .before .before .before .before .before .before .before .before .before .before .before .before .before .before .before .before .pre .3) (c .before .before .before .before .before .before .before .before .before .before .parts-of .ensures .0) (c .before .before .before .before .before .before .before .before .before .before .parts-of .kept .1 .1 .0) in
+    let c₁ = c .before .before .before .before .before .before in
+    let c₃ = c₁ .before .before .before .before .before .before .before .before .before .before .before .before in
+    let back = named-back (now (c₃ .before .before .before .before .args .held))
+    (c₃ .before .before .before .before .pre .3) (c₁ .before .before .before .before .parts-of .ensures .0)
+    (c₁ .before .before .before .before .parts-of .kept .1 .1 .0) in
     search (needs, back)
 
 returns-4 : tie.Need-returns-4
 returns-4 c =
-    let r = c .before .before .before .before .before .before .before .before .before .before .before .before .before .before .before .before .before .before .before .before .before .before .args .r in
-    let l = now (c .before .before .before .before .before .before .before .before .before .before .before .before .before .before .before .before .before .before .before .before .before .before .args .line) in
-    let held = now (c .before .before .before .before .before .before .before .before .before .before .before .before .before .before .before .before .before .before .before .before .before .before .args .held) in
-    let p = c .before .before .before .before .before .before .before .before .before .before .parts-of .result in
-    let o = c .before .before .before .before .before .before .before .before .before .before .parts-of .ensures in
-    let same = c .before .before .before .before .before .before .before .before .before .before .parts-of .kept .1 .1 .0 in
+    let c₁ = c .before .before .before .before .before .before in
+    let c₂ = c₁ .before .before .before .before .before .before in
+    let c₃ = c₂ .before .before .before .before .before .before in
+    let r = c₃ .before .before .before .before .args .r in
+    let l = now (c₃ .before .before .before .before .args .line) in
+    let held = now (c₃ .before .before .before .before .args .held) in
+    let p = c₁ .before .before .before .before .parts-of .result in
+    let o = c₁ .before .before .before .before .parts-of .ensures in
+    let same = c₁ .before .before .before .before .parts-of .kept .1 .1 .0 in
     let x = form-some _ (r .fields) l (readForm l) _ p (o .1) (c .before .before .before .if2 .left) in
     let q = c .refuse-line2 .ensures in
     let large : all isSmall (trees (x .0)) ≡ false =
     sym (c .before .before .sizes-kept .ensures _ (r .fields) l (x .0) _ (x .2)) ∙ c .before .if3 .left in (
       q .0,
       (
-        named-back held (c .before .before .before .before .before .before .before .before .before .before .before .before .before .before .before .before .before .before .before .before .before .before .pre .3) (o .0) same,
-        (λ f k h. rw (q .1 .0) (holds-closed f r (named-holds held (c .before .before .before .before .before .before .before .before .before .before .before .before .before .before .before .before .before .before .before .before .before .before .pre .3) (o .0) same f r _ refl h) l (x .0)
+        named-back held (c₃ .before .before .before .before .pre .3) (o .0) same,
+        (λ f k h. rw (q .1 .0) (holds-closed f r (named-holds held (c₃ .before .before .before .before .pre .3) (o .0)
+            same f r _ refl h) l (x .0)
             (c .refuse-line2 .result .note)
-            (sym (full-same f r (h .counts)) ∙ sym (c .before .before .before .before .before .before .before .before .before .before .before .before .before .before .before .before .before .before .is-full .ensures) ∙ c .before .before .before .before .before .before .before .before .before .before .before .before .before .before .before .before .before .if1 .left) (x .1)
+            (sym (full-same f r (h .counts)) ∙ sym (c₃ .is-full .ensures) ∙
+            c₂ .before .before .before .before .before .if1 .left) (x .1)
             (q .1 .1 ∙ large-note f r (x .0) (h .counts) large)
             (ap isOpen (q .1 .1) ∙ shut-six (noteOf (r .note)) (r .lines + 1)))),
       ),

@@ -1,7 +1,7 @@
 use mathlib.Core.Path.{_≡_, refl, ap, sym, _∙_}
 use mathlib.Core.Bool.{false}
 use mathlib.Core.List.{List}
-use Prim.Native.Nat.{ℕ, _<_}
+use Prim.Native.Nat.{ℕ, _+_, _<_}
 use native.Mathlib.Omega.{arith}
 use denote.Ref.{now}
 use lib.ListN.{length}
@@ -44,17 +44,27 @@ part-hold-label-end c = let k = c .before .before .before .before .before .befor
 
 hold-label-requires : tie.Need-hold-label-requires
 hold-label-requires c κs =
-    let q = c .before .before .before .before .before .before .before .pre in
-    let few : c .before .before .before .before .before .before .before .args .r .fields < fieldsMost = omega (arith, q .0 .0 .fields, q .1) in
-    let long = labels-long (now (c .before .before .before .before .before .before .before .args .held)) (q .0 .3) in
+    let c₁ = c .before .before .before .before .before .before in
+    let q = c₁ .before .pre in
+    let few : c₁ .before .args .r .fields < fieldsMost = omega (arith, q .0 .0 .fields, q .1) in
+    let long = labels-long (now (c₁ .before .args .held)) (q .0 .3) in
     (q .2 .0 .label, few, omega (arith, long))
 
 later-rule-requires : tie.Need-later-rule-requires
 later-rule-requires c κs =
-    let q = c .before .before .before .before .before .before .before .before .before .before .before .pre in
+    let c₁ = c .before .before .before .before .before .before in
+    let q = c₁ .before .before .before .before .before .pre in
     let w = q .2 .0 in
-    let few : c .before .before .before .before .before .before .before .before .before .before .before .args .r .fields < fieldsMost = omega (arith, q .0 .0 .fields, q .1) in
-    (q .0 .0, q .0 .1, few, (w .label, w .short), label-room (now (c .before .before .before .before .before .before .before .before .before .before .before .args .held)) (q .0 .3) (c .before .before .before .hold-label .ensures))
+    let few : c₁ .before .before .before .before .before .args .r .fields < fieldsMost = omega
+    (arith, q .0 .0 .fields, q .1) in (
+      q .0 .0,
+      q .0 .1,
+      few,
+      (w .label, w .short),
+      label-room
+          (now (c₁ .before .before .before .before .before .args .held)) (q .0 .3)
+          (c .before .before .before .hold-label .ensures),
+    )
 
 lower-requires : tie.Need-lower-requires
 lower-requires c κs = search needs
@@ -63,10 +73,18 @@ is-open-requires : tie.Need-is-open-requires
 is-open-requires c κs = search needs
 
 sub-keep-field : tie.Need-sub-keep-field
-sub-keep-field c = let n = label-room (now (c .before .before .before .before .before .before .before .before .before .before .before .before .before .before .before .args .held)) (c .before .before .before .before .before .before .before .before .before .before .before .before .before .before .before .pre .0 .3) (c .before .before .before .before .before .before .before .hold-label .ensures) in omega (arith, n)
+sub-keep-field c =
+    let c₁ = c .before .before .before .before .before .before in
+    let c₂ = c₁ .before .before .before .before .before .before in
+    let n = label-room (now (c₂ .before .before .before .args .held)) (c₂ .before .before .before .pre .0 .3)
+    (c₁ .before .hold-label .ensures) in omega (arith, n)
 
 part-keep-field-start : tie.Need-part-keep-field-start
-part-keep-field-start c = let n = label-room (now (c .before .before .before .before .before .before .before .before .before .before .before .before .before .before .before .args .held)) (c .before .before .before .before .before .before .before .before .before .before .before .before .before .before .before .pre .0 .3) (c .before .before .before .before .before .before .before .hold-label .ensures) in
+part-keep-field-start c =
+    let c₁ = c .before .before .before .before .before .before in
+    let c₂ = c₁ .before .before .before .before .before .before in
+    let n = label-room (now (c₂ .before .before .before .args .held)) (c₂ .before .before .before .pre .0 .3)
+    (c₁ .before .hold-label .ensures) in
     omega (arith, n)
 
 part-keep-field-end : tie.Need-part-keep-field-end
@@ -74,10 +92,14 @@ part-keep-field-end c = search needs
 
 keep-field-requires : tie.Need-keep-field-requires
 keep-field-requires c κs =
-    let q = c .before .before .before .before .before .before .before .before .before .before .before .before .before .before .before .before .before .pre in
-    let held = now (c .before .before .before .before .before .before .before .before .before .before .before .before .before .before .before .before .before .args .held) in
-    let few : c .before .before .before .before .before .before .before .before .before .before .before .before .before .before .before .before .before .args .r .fields < fieldsMost = omega (arith, q .0 .0 .fields, q .1) in
-    let part = ap (λ (z : List ℕ). length z) (label-table held (q .0 .3) (c .before .before .before .before .before .before .before .before .before .hold-label .ensures)) in
+    let c₁ = c .before .before .before .before .before .before in
+    let c₂ = c₁ .before .before .before .before .before .before in
+    let q = c₂ .before .before .before .before .before .pre in
+    let held = now (c₂ .before .before .before .before .before .args .held) in
+    let few : c₂ .before .before .before .before .before .args .r .fields < fieldsMost = omega
+    (arith, q .0 .0 .fields, q .1) in
+    let part = ap (λ (z : List ℕ). length z) (label-table held (q .0 .3)
+    (c₁ .before .before .before .hold-label .ensures)) in
     let room = table-room held (q .0 .3) in
     (q .2 .0, q .0 .2, omega (arith, q .2 .1, q .0 .0 .end, few, part, room), q .2 .2)
 
@@ -89,36 +111,57 @@ part-next-cell-start c = search needs
 
 part-next-cell-end : tie.Need-part-next-cell-end
 part-next-cell-end c =
-    let n = record-room (now (c .before .before .before .before .before .before .before .before .before .before .before .before .before .before .before .before .before .before .before .before .before .before .before .args .held)) (c .before .before .before .before .before .before .before .before .before .before .before .before .before .before .before .before .before .before .before .before .before .before .before .pre .0 .3) (c .before .before .before .before .before .before .before .before .before .before .before .before .before .before .before .hold-label .ensures) (c .before .before .before .before .before .keep-field .ensures .1 .0) in
+    let c₂ = c .before .before .before .before .before .before .before .before .before .before .before .before in
+    let c₃ = c₂ .before .before .before .before .before .before in
+    let n = record-room (now (c₃ .before .before .before .before .before .args .held))
+    (c₃ .before .before .before .before .before .pre .0 .3) (c₂ .before .before .before .hold-label .ensures)
+    (c .before .before .before .before .before .keep-field .ensures .1 .0) in
     omega (arith, n)
 
 next-cell-requires : tie.Need-next-cell-requires
 next-cell-requires c κs =
-    let n = record-room (now (c .before .before .before .before .before .before .before .before .before .before .before .before .before .before .before .before .before .before .before .before .before .before .before .before .args .held)) (c .before .before .before .before .before .before .before .before .before .before .before .before .before .before .before .before .before .before .before .before .before .before .before .before .pre .0 .3) (c .before .before .before .before .before .before .before .before .before .before .before .before .before .before .before .before .hold-label .ensures) (c .before .before .before .before .before .before .keep-field .ensures .1 .0) in
-    let m = cells-long (recorded (now (c .before .before .before .before .before .before .before .before .before .before .before .before .before .before .before .before .before .before .before .before .before .before .before .before .args .held)) (c .before .before .before .before .before .before .before .before .before .before .before .before .before .before .before .before .before .before .before .before .before .before .before .before .pre .0 .3) (c .before .before .before .before .before .before .before .before .before .before .before .before .before .before .before .before .hold-label .ensures) (c .before .before .before .before .before .before .keep-field .ensures .1 .0)) n in
-    (c .before .before .before .before .before .before .before .before .before .before .before .before .before .before .before .before .before .before .before .before .before .before .before .before .pre .0 .0, omega (arith, m))
+    let c₁ = c .before .before .before .before .before .before in
+    let c₂ = c₁ .before .before .before .before .before .before in
+    let c₄ = c₂ .before .before .before .before .before .before .before .before .before .before .before .before in
+    let n = record-room (now (c₄ .args .held)) (c₄ .pre .0 .3)
+    (c₂ .before .before .before .before .hold-label .ensures) (c₁ .keep-field .ensures .1 .0) in
+    let m = cells-long (recorded (now (c₄ .args .held)) (c₄ .pre .0 .3)
+    (c₂ .before .before .before .before .hold-label .ensures) (c₁ .keep-field .ensures .1 .0)) n in
+    (c₄ .pre .0 .0, omega (arith, m))
 
 rests-requires : tie.Need-rests-requires
 rests-requires c κs = search needs
 
 add-r : tie.Need-add-r
 add-r c =
-    let q = c .before .before .before .before .before .before .before .before .before .before .before .before .before .before .before .before .before .before .before .before .before .before .before .before .before .before .before .pre .1 in
-    let k = c .before .before .before .before .before .before .before .before .before .before .before .before .before .before .before .before .before .before .before .before .before .before .before .before .before .before .before .pre .0 .0 .fields in
+    let c₄ = c .before .before .before .before .before .before .before .before .before .before .before .before .before
+    .before .before .before .before .before .before .before .before .before .before .before in
+    let q = c₄ .before .before .before .pre .1 in
+    let k = c₄ .before .before .before .pre .0 .0 .fields in
     search (needs, q, k)
 
 add-r-2 : tie.Need-add-r-2
 add-r-2 c =
-    let q = c .before .before .before .before .before .before .before .before .before .before .before .before .before .before .before .before .before .before .before .before .before .before .before .before .before .before .before .before .pre .1 in
-    let k = c .before .before .before .before .before .before .before .before .before .before .before .before .before .before .before .before .before .before .before .before .before .before .before .before .before .before .before .before .pre .0 .0 .fields in
+    let c₄ = c .before .before .before .before .before .before .before .before .before .before .before .before .before
+    .before .before .before .before .before .before .before .before .before .before .before in
+    let q = c₄ .before .before .before .before .pre .1 in
+    let k = c₄ .before .before .before .before .pre .0 .0 .fields in
     search (needs, q, k)
 
 onward-requires : tie.Need-onward-requires
-onward-requires c κs = c .before .before .before .before .before .before .before .before .before .before .before .before .before .before .before .before .before .before .before .before .before .before .before .before .before .before .before .before .pre .0 .1
+onward-requires c κs =
+    let c₄ = c .before .before .before .before .before .before .before .before .before .before .before .before .before
+    .before .before .before .before .before .before .before .before .before .before .before in
+    c₄ .before .before .before .before .pre .0 .1
 
 same-length : tie.Need-same-length
 same-length c =
-    let e = record-back (now (c .before .before .before .before .before .before .before .before .before .before .before .before .before .before .before .before .before .before .before .before .before .before .before .before .before .before .before .before .before .args .held)) (c .before .before .before .before .before .before .before .before .before .before .before .before .before .before .before .before .before .before .before .before .before .before .before .before .before .before .before .before .before .pre .0 .3) (c .before .before .before .before .before .before .before .before .before .before .before .before .before .before .before .before .before .before .before .before .before .hold-label .ensures) (c .before .before .before .before .before .before .before .before .before .before .before .keep-field .ensures .1 .0) in
+    let c₁ = c .before .before .before .before .before .before in
+    let c₃ = c₁ .before .before .before .before .before .before .before .before .before .before .before .before in
+    let c₄ = c₃ .before .before .before .before .before .before in
+    let e = record-back (now (c₄ .before .before .before .before .before .args .held))
+    (c₄ .before .before .before .before .before .pre .0 .3) (c₃ .before .before .before .hold-label .ensures)
+    (c₁ .before .before .before .before .before .keep-field .ensures .1 .0) in
     search (needs, e)
 
 same-length-2 : tie.Need-same-length-2
@@ -126,37 +169,42 @@ same-length-2 c = search needs
 
 returns : tie.Need-returns
 returns c =
-    let a = c .before .before .before .before .before .before .before .before .before .before .before .before .before .before .before .before .before .before .before .before .before .before .before .before .before .before .before .before .before .args in
-    let q = c .before .before .before .before .before .before .before .before .before .before .before .before .before .before .before .before .before .before .before .before .before .before .before .before .before .before .before .before .before .pre in
+    let c₁ = c .before .before .before .before .before .before in
+    let c₂ = c₁ .before .before .before .before .before .before in
+    let c₃ = c₂ .before .before .before .before .before .before in
+    let c₄ = c₃ .before .before .before .before .before .before in
+    let a = c₄ .before .before .before .before .before .args in
+    let q = c₄ .before .before .before .before .before .pre in
     let held = now (a .held) in
     let r = a .r in
     let l = now (a .line) in
     let v = bytesOf (now (a .wide)) (now (a .first)) (now (a .second)) in
     let few : r .fields < fieldsMost = omega (arith, q .0 .0 .fields, q .1) in
-    let rule = c .before .before .before .before .before .before .before .before .before .before .before .before .before .before .before .before .before .later-rule in
-    let lowest = c .before .before .before .before .before .before .before .before .before .before .before .before .before .before .before .before .lower in
-    let put = c .before .before .before .before .before .before .before .before .before .before .before .keep-field in
+    let rule = c₂ .before .before .before .before .before .later-rule in
+    let lowest = c₂ .before .before .before .before .lower in
+    let put = c₁ .before .before .before .before .before .keep-field in
     let cell = c .before .before .before .before .next-cell in
-    let own = c .before .before .before .before .before .before .before .before .before .before .before .before .before .before .before .before .before .before .before .before .before .hold-label .ensures in
+    let own = c₃ .before .before .before .hold-label .ensures in
     let areas = label-areas held (q .0 .3) own in
     let last = record-areas held (q .0 .3) own (put .ensures .1 .0) in
-    let told = told-after (noteOf (r .note)) _ (lowest .result) (lowest .ensures) (q .0 .0 .told) (rule .ensures .0)
+    let told = told-after (noteOf (r .note)) _ (lowest .result) (lowest .ensures .0) (q .0 .0 .told) (rule .ensures .0)
     in
-    let kept = sym (c .before .before .before .before .before .before .before .before .before .before .before .before .before .before .before .is-open .ensures) ∙ c .before .before .before .before .before .before .before .before .before .before .before .before .before .before .if1 .taken in
+    let kept = sym (c₂ .before .before .before .is-open .ensures) ∙ c₂ .before .before .if1 .taken in
     rw (c .onward .ensures) (
       (
         room-kept r (cell .result) (put .result) (c .before .before .before .rests .result) (lowest .result) (q .0 .0)
-            (q .1) (cell .ensures .0) (omega (arith, put .ensures .0)) (omega (arith, put .ensures .0, q .2 .1)) told,
+            (q .1) (cell .ensures .0) (omega (arith, put .ensures .0)) (omega (arith, put .ensures .0, q .2 .1)) told
+            (lowest .ensures .1 (r .lines + 1) (q .0 .0 .placed) (rule .ensures .1 .1)),
         omega arith,
       ),
       (
         record-back held (q .0 .3) own (put .ensures .1 .0),
         (λ f x k full h isForm small is.
             let nw = named-with l x (a .p) is f r (h .counts) few refl (h .named) (own .labels) in
-            let low = lowest .ensures ∙ form-note f r x (h .counts) small
-            (rule .ensures .1 f x v k (h .counts) (rw (areas .cells-are) (h .slots))
+            let low = lowest .ensures .0 ∙ form-note f r x (h .counts) small
+            (rule .ensures .1 .0 f x v k (h .counts) (rw (areas .cells-are) (h .slots))
             (rw (areas .labels-are, areas .names-are) nw) isForm (rw (areas .names-are) is)) in
-            areas-hold (fold.withField f l) _ _ last
+            areas-hold (fold.briefField f l) _ _ last
             (holds-open f r h x (record {
               cell = cell .ensures .1 f (h .counts) (rw (last .cells-are) (h .slots));
               writes = rw (record-bytes _ (r .fields) l x v (a .p) is (q .2 .0) (q .2 .2)) at (record-writes held
@@ -171,22 +219,30 @@ returns c =
 
 add-r-3 : tie.Need-add-r-3
 add-r-3 c =
-    let q = c .before .before .before .before .before .before .before .before .before .before .before .before .before .before .before .before .pre .1 in
-    let k = c .before .before .before .before .before .before .before .before .before .before .before .before .before .before .before .before .pre .0 .0 .fields in
+    let c₂ = c .before .before .before .before .before .before .before .before .before .before .before .before in
+    let q = c₂ .before .before .before .before .pre .1 in
+    let k = c₂ .before .before .before .before .pre .0 .0 .fields in
     search (needs, q, k)
 
 onward-requires-2 : tie.Need-onward-requires-2
-onward-requires-2 c κs = c .before .before .before .before .before .before .before .before .before .before .before .before .before .before .before .before .pre .0 .1
+onward-requires-2 c κs =
+    let c₂ = c .before .before .before .before .before .before .before .before .before .before .before .before in
+    c₂ .before .before .before .before .pre .0 .1
 
 same-length-3 : tie.Need-same-length-3
 same-length-3 c =
-    let e = label-back (now (c .before .before .before .before .before .before .before .before .before .before .before .before .before .before .before .before .before .args .held)) (c .before .before .before .before .before .before .before .before .before .before .before .before .before .before .before .before .before .pre .0 .3) (c .before .before .before .before .before .before .before .before .before .hold-label .ensures) in
+    let c₁ = c .before .before .before .before .before .before in
+    let c₂ = c₁ .before .before .before .before .before .before in
+    let e = label-back (now (c₂ .before .before .before .before .before .args .held))
+    (c₂ .before .before .before .before .before .pre .0 .3) (c₁ .before .before .before .hold-label .ensures) in
     search (needs, e)
 
 returns-2 : tie.Need-returns-2
 returns-2 c =
-    let a = c .before .before .before .before .before .before .before .before .before .before .before .before .before .before .before .before .before .args in
-    let q = c .before .before .before .before .before .before .before .before .before .before .before .before .before .before .before .before .before .pre in
+    let c₁ = c .before .before .before .before .before .before in
+    let c₂ = c₁ .before .before .before .before .before .before in
+    let a = c₂ .before .before .before .before .before .args in
+    let q = c₂ .before .before .before .before .before .pre in
     let r = a .r in
     let l = now (a .line) in
     let held = now (a .held) in
@@ -194,21 +250,26 @@ returns-2 c =
     let room = q .0 .0 in
     let rule = c .before .before .before .before .before .later-rule in
     let lowest = c .before .before .before .before .lower in
-    let own = c .before .before .before .before .before .before .before .before .before .hold-label .ensures in
+    let own = c₁ .before .before .before .hold-label .ensures in
     let few : r .fields < fieldsMost = omega (arith, room .fields, q .1) in
     let areas = label-areas held (q .0 .3) own in
-    let told = told-after (noteOf (r .note)) _ (lowest .result) (lowest .ensures) (room .told) (rule .ensures .0) in
-    let shut : isOpen (noteOf (lowest .result)) ≡ false = sym (c .before .before .before .is-open .ensures) ∙ c .before .before .if1 .left in
+    let told = told-after (noteOf (r .note)) _ (lowest .result) (lowest .ensures .0) (room .told) (rule .ensures .0) in
+    let shut : isOpen (noteOf (lowest .result)) ≡ false = sym (c .before .before .before .is-open .ensures) ∙
+    c .before .before .if1 .left in
     rw (c .onward2 .ensures) (
-      (room-refused r (lowest .result) room (q .1) told, omega arith),
+      (
+        room-refused r (lowest .result) room (q .1) told
+            (lowest .ensures .1 (r .lines + 1) (room .placed) (rule .ensures .1 .1)),
+        omega arith,
+      ),
       (
         label-back held (q .0 .3) own,
         (λ f x k full h isForm small is.
             let nw = named-with l x (a .p) is f r (h .counts) few refl (h .named) (own .labels) in
-            let low = lowest .ensures ∙ form-note f r x (h .counts) small
-            (rule .ensures .1 f x v k (h .counts) (rw (areas .cells-are) (h .slots))
+            let low = lowest .ensures .0 ∙ form-note f r x (h .counts) small
+            (rule .ensures .1 .0 f x v k (h .counts) (rw (areas .cells-are) (h .slots))
             (rw (areas .labels-are, areas .names-are) nw) isForm (rw (areas .names-are) is)) in
-            areas-hold (fold.withField f l) _ _ areas
+            areas-hold (fold.briefField f l) _ _ areas
             (holds-closed f r (holds-named f r x h nw) l x (lowest .result) full isForm low shut)),
       ),
     )

@@ -13,7 +13,8 @@ use Rattle.texts.proofs.width_trees.width_at.Reads as width-at-reads
 
 width-at-requires : tie.Need-width-at-requires
 width-at-requires c κs =
-    (c .before .before .before .before .before .before .before .pre .0, c .before .before .before .before .before .before .before .pre .1, omega (arith, c .before .before .before .before .before .before .before .pre .2), c .before .before .before .before .before .before .before .pre .4)
+    let c₁ = c .before .before .before .before .before .before in
+    (c₁ .before .pre .0, c₁ .before .pre .1, omega (arith, c₁ .before .pre .2), c₁ .before .pre .4)
 
 no-parts-requires : tie.Need-no-parts-requires
 no-parts-requires c κs = search needs
@@ -26,7 +27,8 @@ same-length-2 c = search needs
 
 returns : tie.Need-returns
 returns c =
-    let a = c .before .before .before .before .before .before .before .before .before .before .before .before .before .args in
+    let c₂ = c .before .before .before .before .before .before .before .before .before .before .before .before in
+    let a = c₂ .before .args in
     let w = c .before .before .before .before .before .width-at in (
       kept-all _ (a .n),
       behind-none _ (a .n) (a .s .now) (a .label) (a .short) (a .at) _ _ _ (w .result) (c .no-parts .ensures)
@@ -35,17 +37,21 @@ returns c =
 
 hold-own-requires : tie.Need-hold-own-requires
 hold-own-requires c κs =
-    (c .before .before .before .before .before .before .before .before .before .before .before .before .before .pre .3, c .before .before .before .before .before .before .before .before .before .before .before .before .before .pre .2, c .before .before .before .before .before .before .before .before .before .before .before .before .before .pre .4)
+    let c₂ = c .before .before .before .before .before .before .before .before .before .before .before .before in
+    (c₂ .before .pre .3, c₂ .before .pre .2, c₂ .before .pre .4)
 
 ends-at-requires : tie.Need-ends-at-requires
 ends-at-requires c κs =
-    let w = c .before .before .before .before .before .before .before .before .before .before .before .width-at .ensures .0 (c .before .before .before .before .before .before .before .if1 .left) in (
+    let c₁ = c .before .before .before .before .before .before in
+    let c₃ = c₁ .before .before .before .before .before .before .before .before .before .before .before .before in
+    let w = c₁ .before .before .before .before .before .width-at .ensures .0 (c₁ .before .if1 .left) in (
       w .1,
-      c .before .before .before .before .before .before .before .before .before .before .before .before .before .before .before .before .before .before .before .pre .1,
-      c .before .before .before .before .before .before .before .before .before .before .before .before .before .before .before .before .before .before .before .pre .2,
+      c₃ .before .pre .1,
+      c₃ .before .pre .2,
       record {
-        table = c .before .before .before .before .before .before .before .before .before .before .before .before .before .before .before .before .before .before .before .pre .4 .table;
-        room = (let k = c .before .before .before .before .before .hold-own .kept .1 .1 .1 .1 .1 .1 .0 in omega (arith, k, c .before .before .before .before .before .before .before .before .before .before .before .before .before .before .before .before .before .before .before .pre .4 .room));
+        table = c₃ .before .pre .4 .table;
+        room = (let k = c .before .before .before .before .before .hold-own .kept .1 .1 .1 .1 .1 .1 .0 in omega
+            (arith, k, c₃ .before .pre .4 .room));
       },
     )
 
@@ -56,7 +62,10 @@ same-length-3 : tie.Need-same-length-3
 same-length-3 c = search needs
 
 same-length-4 : tie.Need-same-length-4
-same-length-4 c = let k = c .before .before .before .before .before .before .before .before .before .before .before .before .before .before .before .before .before .before .width-at .kept .1 .1 .1 .1 .1 .0 in search (needs, k)
+same-length-4 c =
+    let c₃ = c .before .before .before .before .before .before .before .before .before .before .before .before .before
+    .before .before .before .before .before in
+    let k = c₃ .width-at .kept .1 .1 .1 .1 .1 .0 in search (needs, k)
 
 same-length-5 : tie.Need-same-length-5
 same-length-5 c = search needs
@@ -66,12 +75,16 @@ same-length-6 c = search needs
 
 returns-2 : tie.Need-returns-2
 returns-2 c =
-    let a = c .before .before .before .before .before .before .before .before .before .before .before .before .before .before .before .before .before .before .before .before .before .before .before .before .before .before .args in
-    let w = c .before .before .before .before .before .before .before .before .before .before .before .before .before .before .before .before .before .before .width-at in
-    let e = c .before .before .before .before .before .before .ends-at in
-    let own = c .before .before .before .before .before .before .before .before .before .before .before .before .hold-own .ensures in
-    let x = w .ensures .1 .there (c .before .before .before .before .before .before .before .before .before .before .before .before .before .before .if1 .left) in
-    let f = c .before .before .before .before .before .before .before .before .before .before .before .before .before .before .before .before .before .before .before .before .before .before .before .before .before .before .pre .3 in (
+    let c₁ = c .before .before .before .before .before .before in
+    let c₂ = c₁ .before .before .before .before .before .before in
+    let c₃ = c₂ .before .before .before .before .before .before in
+    let c₄ = c₃ .before .before .before .before .before .before in
+    let a = c₄ .before .before .args in
+    let w = c₃ .width-at in
+    let e = c₁ .ends-at in
+    let own = c₂ .hold-own .ensures in
+    let x = w .ensures .1 .there (c₂ .before .before .if1 .left) in
+    let f = c₄ .before .before .pre .3 in (
       own-kept _ (a .n) (a .s .now) (a .label) (a .short) (w .result .kind) _ own,
       rw (c .whole-parts .ensures) (behind-whole _ (a .n) (a .s .now) (a .label) (a .short) (a .at) _ _ (w .result)
           x (e .result) (e .ensures)
@@ -85,7 +98,10 @@ same-length-7 : tie.Need-same-length-7
 same-length-7 c = search needs
 
 same-length-8 : tie.Need-same-length-8
-same-length-8 c = let k = c .before .before .before .before .before .before .before .before .before .before .before .before .before .before .before .before .before .before .width-at .kept .1 .1 .1 .1 .1 .0 in search (needs, k)
+same-length-8 c =
+    let c₃ = c .before .before .before .before .before .before .before .before .before .before .before .before .before
+    .before .before .before .before .before in
+    let k = c₃ .width-at .kept .1 .1 .1 .1 .1 .0 in search (needs, k)
 
 same-length-9 : tie.Need-same-length-9
 same-length-9 c = search needs
@@ -95,11 +111,15 @@ same-length-10 c = search needs
 
 returns-3 : tie.Need-returns-3
 returns-3 c =
-    let a = c .before .before .before .before .before .before .before .before .before .before .before .before .before .before .before .before .before .before .before .before .before .before .before .before .before .before .args in
-    let w = c .before .before .before .before .before .before .before .before .before .before .before .before .before .before .before .before .before .before .width-at in
-    let e = c .before .before .before .before .before .before .ends-at in
-    let own = c .before .before .before .before .before .before .before .before .before .before .before .before .hold-own .ensures in
-    let x = w .ensures .1 .there (c .before .before .before .before .before .before .before .before .before .before .before .before .before .before .if1 .left) in (
+    let c₁ = c .before .before .before .before .before .before in
+    let c₂ = c₁ .before .before .before .before .before .before in
+    let c₃ = c₂ .before .before .before .before .before .before in
+    let c₄ = c₃ .before .before .before .before .before .before in
+    let a = c₄ .before .before .args in
+    let w = c₃ .width-at in
+    let e = c₁ .ends-at in
+    let own = c₂ .hold-own .ensures in
+    let x = w .ensures .1 .there (c₂ .before .before .if1 .left) in (
       own-kept _ (a .n) (a .s .now) (a .label) (a .short) (w .result .kind) _ own,
       behind-width _ (a .n) (a .s .now) (a .label) (a .short) (a .at) _ _ (w .result) x (e .result) (e .ensures) _
           (c .no-parts2 .ensures) (c .before .if2 .left),

@@ -32,7 +32,8 @@ no-parts-requires c κs = search needs
 
 returns : tie.Need-returns
 returns c =
-    let a = c .before .before .before .before .before .before .before .before .before .args in (
+    let c₁ = c .before .before .before .before .before .before in
+    let a = c₁ .before .before .before .args in (
       kept-all _ _,
       parts-no-label _ (a .n) (a .s .now) _ _ (c .no-parts .ensures) (c .before .before .before .label-at .ensures .1)
           (c .before .enum-told .given .1),
@@ -40,12 +41,13 @@ returns c =
 
 short-at-requires : tie.Need-short-at-requires
 short-at-requires c κs =
-    let a = c .before .before .before .before .before .before .before .before .before .args in
+    let c₁ = c .before .before .before .before .before .before in
+    let a = c₁ .before .before .before .args in
     let s = a .s .now in
     let f = c .before .before .before .label-at in
     let q = c .before .l .given in
     let w = label-within _ _ (q .1) (f .ensures .0) in
-    (w .1, c .before .before .before .before .before .before .before .before .before .pre .2 .table)
+    (w .1, c₁ .before .before .before .pre .2 .table)
 
 enum-known-h : tie.Need-enum-known-h
 enum-known-h c = search needs
@@ -58,8 +60,10 @@ no-parts-requires-2 c κs = search needs
 
 returns-2 : tie.Need-returns-2
 returns-2 c =
-    let a = c .before .before .before .before .before .before .before .before .before .before .before .before .before .args in
-    let f = c .before .before .before .before .before .before .before .label-at in
+    let c₁ = c .before .before .before .before .before .before in
+    let c₂ = c₁ .before .before .before .before .before .before in
+    let a = c₂ .before .args in
+    let f = c₁ .before .label-at in
     let x = label-as (a .s .now) (f .ensures .1) (c .before .before .before .before .before .l .given .1) in
     let g = c .before .before .before .short-at in (
       kept-all _ _,
@@ -72,10 +76,12 @@ slice-aggregate-starts-at c = search needs
 
 starts-at-requires : tie.Need-starts-at-requires
 starts-at-requires c κs =
-    let a = c .before .before .before .before .before .before .before .before .before .before .before .before .before .before .args in
+    let c₁ = c .before .before .before .before .before .before in
+    let c₂ = c₁ .before .before .before .before .before .before in
+    let a = c₂ .before .before .args in
     let s = a .s .now in
-    let f = c .before .before .before .before .before .before .before .before .label-at in
-    let q = c .before .before .before .before .before .before .l .given in
+    let f = c₁ .before .before .label-at in
+    let q = c₁ .l .given in
     let w = label-within _ _ (q .1) (f .ensures .0) in
     let g = c .before .before .before .before .short-at in
     let p = c .before .before .h .given in
@@ -92,31 +98,37 @@ sub-behind-names c =
 
 add-behind-names : tie.Need-add-behind-names
 add-behind-names c =
-    let g = c .before .before .before .before .before .before .short-at in
+    let c₁ = c .before .before .before .before .before .before in
+    let c₂ = c₁ .before .before .before .before .before .before in
+    let g = c₁ .short-at in
     let p = c .before .before .before .before .h .given in
     let u = short-within _ _ (p .1) (g .ensures .0) in
     let le = u .3 in
-    let m = c .before .before .before .before .before .before .before .before .before .before .before .before .before .before .before .before .pre .0 in
+    let m = c₂ .before .before .before .before .pre .0 in
     search (needs, le, m)
 
 behind-names-requires : tie.Need-behind-names-requires
 behind-names-requires c κs =
-    let a = c .before .before .before .before .before .before .before .before .before .before .before .before .before .before .before .before .before .before .before .before .args in
+    let c₁ = c .before .before .before .before .before .before in
+    let c₂ = c₁ .before .before .before .before .before .before in
+    let c₃ = c₂ .before .before .before .before .before .before in
+    let a = c₃ .before .before .args in
     let s = a .s .now in
-    let f = c .before .before .before .before .before .before .before .before .before .before .before .before .before .before .label-at in
-    let q = c .before .before .before .before .before .before .before .before .before .before .before .before .l .given in
+    let f = c₂ .before .before .label-at in
+    let q = c₂ .l .given in
     let w = label-within _ _ (q .1) (f .ensures .0) in
-    let g = c .before .before .before .before .before .before .before .before .before .before .short-at in
-    let p = c .before .before .before .before .before .before .before .before .h .given in
+    let g = c₁ .before .before .before .before .short-at in
+    let p = c₁ .before .before .h .given in
     let u = short-within _ _ (p .1) (g .ensures .0) in
     let n = p .0 .1 .1 .0 in
     let r : n + 2 ≤ length s =
-    clause-room s n (u .3) (bytes ": ") (sym (c .before .before .before .before .before .starts-at .ensures) ∙ c .before .before .before .before .if1 .taken) in (
+    clause-room s n (u .3) (bytes ": ") (sym (c .before .before .before .before .before .starts-at .ensures) ∙
+    c .before .before .before .before .if1 .taken) in (
       r,
-      c .before .before .before .before .before .before .before .before .before .before .before .before .before .before .before .before .before .before .before .before .pre .0,
-      c .before .before .before .before .before .before .before .before .before .before .before .before .before .before .before .before .before .before .before .before .pre .1,
+      c₃ .before .before .pre .0,
+      c₃ .before .before .pre .1,
       (w .1, omega (arith, u .1, u .2, u .3)),
-      c .before .before .before .before .before .before .before .before .before .before .before .before .before .before .before .before .before .before .before .before .pre .2,
+      c₃ .before .before .pre .2,
     )
 
 same-length : tie.Need-same-length
@@ -133,19 +145,23 @@ same-length-4 c = search needs
 
 returns-3 : tie.Need-returns-3
 returns-3 c =
-    let a = c .before .before .before .before .before .before .before .before .before .before .before .before .before .before .before .before .before .before .before .before .before .before .before .before .before .before .before .before .before .args in
+    let c₁ = c .before .before .before .before .before .before in
+    let c₂ = c₁ .before .before .before .before .before .before in
+    let c₃ = c₂ .before .before .before .before .before .before in
+    let c₄ = c₃ .before .before .before .before .before .before in
+    let a = c₄ .before .before .before .before .before .args in
     let s = a .s .now in
-    let f = c .before .before .before .before .before .before .before .before .before .before .before .before .before .before .before .before .before .before .before .before .before .before .before .label-at in
-    let q = c .before .before .before .before .before .before .before .before .before .before .before .before .before .before .before .before .before .before .before .before .before .l .given in
+    let f = c₃ .before .before .before .before .before .label-at in
+    let q = c₃ .before .before .before .l .given in
     let w = label-within _ _ (q .1) (f .ensures .0) in
-    let g = c .before .before .before .before .before .before .before .before .before .before .before .before .before .before .before .before .before .before .before .short-at in
-    let p = c .before .before .before .before .before .before .before .before .before .before .before .before .before .before .before .before .before .h .given in
+    let g = c₃ .before .short-at in
+    let p = c₂ .before .before .before .before .before .h .given in
     let u = short-within _ _ (p .1) (g .ensures .0) in
     let x = label-as s (f .ensures .1) (q .1) in
     let y = short-as s (q .0 .0) (g .ensures .1) (p .1) in
     let le : p .0 .1 .1 .0 ≤ length s = u .3 in
-    let b = c .before .before .before .before .before .before .before .before .behind-names in
-    let d = sym (c .before .before .before .before .before .before .before .before .before .before .before .before .before .before .starts-at .ensures) ∙ c .before .before .before .before .before .before .before .before .before .before .before .before .before .if1 .taken in
+    let b = c₁ .before .before .behind-names in
+    let d = sym (c₂ .before .before .starts-at .ensures) ∙ c₂ .before .if1 .taken in
     (b .ensures .0, parts-behind _ (a .n) s _ x y le (b .result) d (b .ensures .1))
 
 no-parts-requires-3 : tie.Need-no-parts-requires-3
@@ -153,12 +169,14 @@ no-parts-requires-3 c κs = search needs
 
 returns-4 : tie.Need-returns-4
 returns-4 c =
-    let a = c .before .before .before .before .before .before .before .before .before .before .before .before .before .before .before .before .before .args in
+    let c₁ = c .before .before .before .before .before .before in
+    let c₂ = c₁ .before .before .before .before .before .before in
+    let a = c₂ .before .before .before .before .before .args in
     let s = a .s .now in
-    let f = c .before .before .before .before .before .before .before .before .before .before .before .label-at in
-    let q = c .before .before .before .before .before .before .before .before .before .l .given in
+    let f = c₁ .before .before .before .before .before .label-at in
+    let q = c₁ .before .before .before .l .given in
     let w = label-within _ _ (q .1) (f .ensures .0) in
-    let g = c .before .before .before .before .before .before .before .short-at in
+    let g = c₁ .before .short-at in
     let p = c .before .before .before .before .before .h .given in
     let u = short-within _ _ (p .1) (g .ensures .0) in
     let x = label-as s (f .ensures .1) (q .1) in

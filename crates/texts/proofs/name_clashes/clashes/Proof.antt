@@ -112,7 +112,8 @@ returns c =
 
 returns-2 : tie.Need-returns-2 Inv-earlier μ-earlier
 returns-2 c =
-    let a = c .before .before .before .before .before .before .before .before .args in
+    let c₁ = c .before .before .before .before .before .before in
+    let a = c₁ .before .before .args in
     let b = now (a .names) in
     let e = c .before .before .before .earlier in
     clash-here (labelsIn (now (a .labels))) (namesIn b .shorts) (namesIn b .words) (a .n) (e .i) (omega arith) (e .inv)

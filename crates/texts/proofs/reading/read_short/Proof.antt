@@ -17,7 +17,12 @@ slice-aggregate-read-held-3 : tie.Need-slice-aggregate-read-held-3
 slice-aggregate-read-held-3 c = search needs
 
 read-held-requires : tie.Need-read-held-requires
-read-held-requires c κs = (c .before .before .before .before .before .before .pre, search needs, search needs, numbers-none 128 (omega arith))
+read-held-requires c κs = (
+  c .before .before .before .before .before .before .pre,
+  search needs,
+  search needs,
+  numbers-none 128 (omega arith),
+)
 
 same-length : tie.Need-same-length
 same-length c = search needs

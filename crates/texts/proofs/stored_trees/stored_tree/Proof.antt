@@ -14,10 +14,10 @@ same-length c = search needs
 
 returns : tie.Need-returns
 returns c =
-    let a = c .before .before .before .before .before .before .before .args in (
+    let c₁ = c .before .before .before .before .before .before in
+    let a = c₁ .before .args in (
       c .before .before .tree-expr .ensures .0,
-      whole-stored _ (a .n) (a .s .now) (a .at) _ (c .before
-          .before .tree-expr .ensures .1),
+      whole-stored _ (a .n) (a .s .now) (a .at) _ (c .before .before .tree-expr .ensures .1),
     )
 
 pub stored-tree-spec : {M : Type 1} → statement M

@@ -52,7 +52,12 @@ part-look-up-end c = search needs
 
 look-up-requires : tie.Need-look-up-requires
 look-up-requires c κs =
-    (c .before .before .before .before .before .before .before .before .pre .1, c .before .before .before .before .before .before .before .before .pre .2 .room, sym (c .before .before .is-short-word .ensures) ∙ c .before .if1 .taken)
+    let c₁ = c .before .before .before .before .before .before in (
+      c₁ .before .before .pre .1,
+      c₁ .before .before .pre .2 .room,
+      sym (c .before .before .is-short-word .ensures) ∙
+          c .before .if1 .taken,
+    )
 
 field-node-requires : tie.Need-field-node-requires
 field-node-requires c κs = search needs
@@ -62,14 +67,17 @@ same-length c = search needs
 
 returns : tie.Need-returns
 returns c =
-    let a = c .before .before .before .before .before .before .before .before .before .before .before .before .before .args in
+    let c₁ = c .before .before .before .before .before .before in
+    let c₂ = c₁ .before .before .before .before .before .before in
+    let a = c₂ .before .args in
     let s = now (a .s) in
-    let end = c .before .before .before .before .before .before .before .before .before .word-end .result in
-    let w = c .before .before .before .before .before .before .before .before .before .word-end .ensures in
+    let end = c₁ .before .before .before .word-end .result in
+    let w = c₁ .before .before .before .word-end .ensures in
     let word = take (end - a .at) (drop (a .at) s) in
     let y : isShort word ≡ true =
-    sym (c .before .before .before .before .before .before .before .is-short-word .ensures) ∙ c .before .before .before .before .before .before .if1 .taken in
-    leaf-name _ (a .n) s (a .at) end (w .0 .0) (w .0 .1) (w .1) _ _ _ y (c .before .before .before .before .look-up .ensures .1)
+    sym (c₁ .before .is-short-word .ensures) ∙ c₁ .if1 .taken in
+    leaf-name _ (a .n) s (a .at) end (w .0 .0) (w .0 .1) (w .1) _ _ _ y
+    (c .before .before .before .before .look-up .ensures .1)
     (c .before .before .field-node .ensures)
 
 sub-is-number : tie.Need-sub-is-number
@@ -83,7 +91,8 @@ part-is-number-end c = search needs
 
 is-number-requires : tie.Need-is-number-requires
 is-number-requires c κs =
-    c .before .before .before .before .before .before .before .before .pre .2 .table
+    let c₁ = c .before .before .before .before .before .before in
+    c₁ .before .before .pre .2 .table
 
 sub-word-value : tie.Need-sub-word-value
 sub-word-value c = search needs
@@ -96,7 +105,8 @@ part-word-value-end c = search needs
 
 word-value-requires : tie.Need-word-value-requires
 word-value-requires c κs =
-    c .before .before .before .before .before .before .before .before .before .before .before .pre .2 .table
+    let c₁ = c .before .before .before .before .before .before in
+    c₁ .before .before .before .before .before .pre .2 .table
 
 number-node-requires : tie.Need-number-node-requires
 number-node-requires c κs = search needs
@@ -106,15 +116,17 @@ same-length-2 c = search needs
 
 returns-2 : tie.Need-returns-2
 returns-2 c =
-    let a = c .before .before .before .before .before .before .before .before .before .before .before .before .before .before .before .before .args in
+    let c₁ = c .before .before .before .before .before .before in
+    let c₂ = c₁ .before .before .before .before .before .before in
+    let a = c₂ .before .before .before .before .args in
     let s = now (a .s) in
-    let end = c .before .before .before .before .before .before .before .before .before .before .before .before .word-end .result in
-    let w = c .before .before .before .before .before .before .before .before .before .before .before .before .word-end .ensures in
+    let end = c₂ .word-end .result in
+    let w = c₂ .word-end .ensures in
     let word = take (end - a .at) (drop (a .at) s) in
     let k : isShort word ≡ false =
-    sym (c .before .before .before .before .before .before .before .before .before .before .is-short-word .ensures) ∙ c .before .before .before .before .before .before .before .before .before .if1 .left in
-    let y : isNumberWord word ≡ true = sym (c .before .before .before .before .before .before .before .is-number
-    .ensures) ∙ c .before .before .before .before .before .before .if2 .taken in
+    sym (c₁ .before .before .before .before .is-short-word .ensures) ∙ c₁ .before .before .before .if1 .left in
+    let y : isNumberWord word ≡ true = sym (c₁ .before .is-number
+    .ensures) ∙ c₁ .if2 .taken in
     leaf-number _ (a .n) s (a .at) end (w .0 .0) (w .0 .1) (w .1) _ _ _ k y
     (c .before .before .before .before .word-value .ensures .1) (c .before .before .number-node .ensures)
 
@@ -123,13 +135,15 @@ no-tree-requires c κs = search needs
 
 returns-3 : tie.Need-returns-3
 returns-3 c =
-    let a = c .before .before .before .before .before .before .before .before .before .before .before .args in
+    let c₁ = c .before .before .before .before .before .before in
+    let a = c₁ .before .before .before .before .before .args in
     let s = now (a .s) in
-    let end = c .before .before .before .before .before .before .before .word-end .result in
-    let w = c .before .before .before .before .before .before .before .word-end .ensures in
+    let end = c₁ .before .word-end .result in
+    let w = c₁ .before .word-end .ensures in
     let word = take (end - a .at) (drop (a .at) s) in
     let k : isShort word ≡ false =
-    sym (c .before .before .before .before .before .is-short-word .ensures) ∙ c .before .before .before .before .if1 .left in
+    sym (c .before .before .before .before .before .is-short-word .ensures) ∙
+    c .before .before .before .before .if1 .left in
     let y : isNumberWord word ≡ false = sym (c .before .before .is-number .ensures) ∙ c .before .if2 .left in
     leaf-none _ (a .n) s (a .at) end (w .0 .0) (w .0 .1) (w .1) _ _ k y (c .no-tree .ensures)
 

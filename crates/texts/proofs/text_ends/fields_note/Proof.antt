@@ -1,7 +1,10 @@
-use mathlib.Core.Path.{ap, _∙_}
+use mathlib.Core.Path.{ap, sym, _∙_, subst}
+use Prim.Native.Nat.{_+_, _≤_}
+use native.Mathlib.Omega.{arith}
 use Rattle.text_laws.specs.Lowest.{lower}
 use Rattle.texts.specs.Noted.{noteOf}
 use Rattle.texts.specs.declared.notes.Note.{Note}
+use Rattle.texts.proofs.EndSteps.{remain-placed}
 use borrow.Author.Needs.{needs}
 use Rattle.texts.proofs.text_ends.fields_note.Statement.{statement}
 use Rattle.texts.proofs.text_ends.fields_note.Tie as tie
@@ -20,14 +23,21 @@ lower-requires c κs = search needs
 returns : tie.Need-returns
 returns c =
     let r = c .before .before .before .args .r in
-    rw (c .before .before .if1 .taken) (c .lower .ensures ∙ ap (λ (a : Note). lower (noteOf (r .note)) (noteOf a))
-    (c .before .remaining .ensures))
+    let rest = c .before .remaining .ensures in (
+      rw (c .before .before .if1 .taken) (c .lower .ensures .0
+          ∙ ap (λ (a : Note). lower (noteOf (r .note)) (noteOf a)) rest),
+      c .lower .ensures .1 (r .lines + 1) (c .before .before .before .pre .1)
+          (subst (λ (a : Note). a .place ≤ r .lines + 1) (sym rest) (remain-placed r)),
+    )
 
 early-requires : tie.Need-early-requires
 early-requires c κs = search needs
 
 returns-2 : tie.Need-returns-2
-returns-2 c = rw (c .before .if1 .left) (ap noteOf (c .early .ensures))
+returns-2 c = (
+  rw (c .before .if1 .left) (ap noteOf (c .early .ensures)),
+  rw (c .early .ensures) (omega arith),
+)
 
 pub fields-note-spec : {M : Type 1} → statement M
 fields-note-spec =

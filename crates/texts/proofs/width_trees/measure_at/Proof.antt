@@ -23,17 +23,18 @@ same-length c = search needs
 
 returns : tie.Need-returns
 returns c =
-    let a = c .before .before .before .before .before .before .before .before .before .before .args in
+    let c₁ = c .before .before .before .before .before .before in
+    let a = c₁ .before .before .before .before .args in
     let t = c .before .before .before .before .before .stored-tree in
-    measure-fail _ (a .n) (a .s .now) (a .at) (t .result) _ (t .ensures .1) _ (c .plain .ensures) (c
-    .before .if1 .taken)
+    measure-fail _ (a .n) (a .s .now) (a .at) (t .result) _ (t .ensures .1) _ (c .plain .ensures)
+    (c .before .if1 .taken)
 
 unit-behind-requires : tie.Need-unit-behind-requires
 unit-behind-requires c κs =
+    let c₁ = c .before .before .before .before .before .before in
     let t = c .before .before .before .before .stored-tree in (
       got-within _ _ _ _ (t .result) (c .if1 .left) (t .ensures .0) .1,
-      c .before .before .before .before .before
-          .before .before .before .before .pre .3 .table,
+      c₁ .before .before .before .pre .3 .table,
     )
 
 enum-told : tie.Need-enum-told
@@ -47,17 +48,17 @@ enum-known-b c = search needs
 
 sized-requires : tie.Need-sized-requires
 sized-requires c κs =
-    let t = c .before .before .before .before .before .before .before .before .stored-tree in
+    let c₁ = c .before .before .before .before .before .before in
+    let c₂ = c₁ .before .before .before .before .before .before in
+    let t = c₁ .before .before .stored-tree in
     let p = c .before .b .given in
     let h = c .before .before .before .unit-behind .ensures in
     let w = got-within _ _ _ _ (t .result) (c .before .before .before .before .if1 .left) (t .ensures .0) in
     let v = bits-within _ _ (p .1) (h .0) in (
       omega (arith, w .0, v .0),
       v .1,
-      bits-unit (c .before .before .before .before .before .before .before .before
-          .before .before .before .before .before .args .s .now) (t .result .next) _ (h .1) (p .1),
-      c .before .before .before
-          .before .before .before .before .before .before .before .before .before .before .pre .3 .table,
+      bits-unit (c₂ .before .args .s .now) (t .result .next) _ (h .1) (p .1),
+      c₂ .before .pre .3 .table,
     )
 
 same-length-2 : tie.Need-same-length-2
@@ -65,20 +66,24 @@ same-length-2 c = search needs
 
 returns-2 : tie.Need-returns-2
 returns-2 c =
-    let a = c .before .before .before .before .before .before .before .before .before .before .before .before .before .args in
-    let t = c .before .before .before .before .before .before .before .before .stored-tree in
+    let c₁ = c .before .before .before .before .before .before in
+    let c₂ = c₁ .before .before .before .before .before .before in
+    let a = c₂ .before .args in
+    let t = c₁ .before .before .stored-tree in
     let h = c .before .before .before .unit-behind .ensures in
     let m = bits-none (a .s .now) (t .result .next) _ (h .1) (c .before .enum-told .given .1) in
-    measure-bare _ (a .n) (a .s .now) (a .at) (t .result) _ (t .ensures .1) _ (c .plain2 .ensures) (c
-    .before .before .before .before .if1 .left) m
+    measure-bare _ (a .n) (a .s .now) (a .at) (t .result) _ (t .ensures .1) _ (c .plain2 .ensures)
+    (c .before .before .before .before .if1 .left) m
 
 same-length-3 : tie.Need-same-length-3
 same-length-3 c = search needs
 
 returns-3 : tie.Need-returns-3
 returns-3 c =
-    let a = c .before .before .before .before .before .before .before .before .before .before .before .before .before .before .args in
-    let t = c .before .before .before .before .before .before .before .before .before .stored-tree in
+    let c₁ = c .before .before .before .before .before .before in
+    let c₂ = c₁ .before .before .before .before .before .before in
+    let a = c₂ .before .before .args in
+    let t = c₁ .before .before .before .stored-tree in
     let p = c .before .before .b .given in
     let h = c .before .before .before .before .unit-behind .ensures in
     let k = c .sized in

@@ -23,8 +23,9 @@ plain-requires c κs = search needs
 
 returns : tie.Need-returns
 returns c =
-    let a = c .before .before .before .before .before .before .before .args in
-    width-rest _ (a .n) (a .s .now) (a .at) (c .before .before .before .before .before .before .before .pre .0)
+    let c₁ = c .before .before .before .before .before .before in
+    let a = c₁ .before .args in
+    width-rest _ (a .n) (a .s .now) (a .at) (c₁ .before .pre .0)
     _ _ (sym (c .before .before .starts-at .ensures) ∙ c .before .if1 .taken) (c .plain .ensures)
 
 measure-at-requires : tie.Need-measure-at-requires
@@ -35,13 +36,13 @@ same-length c = search needs
 
 returns-2 : tie.Need-returns-2
 returns-2 c =
-    let a = c .before .before .before .before .before .before .before .before .before .before .args in
+    let c₁ = c .before .before .before .before .before .before in
+    let a = c₁ .before .before .before .before .args in
     let m = c .before .before .measure-at in
     let n = sym (c .before .before .before .before .before .starts-at .ensures) ∙ c .before .before .before .before
     .if1 .left in (
       m .ensures .0,
-      width-measure _ (a .n) (a .s .now) (a .at) (c .before .before .before .before
-          .before .before .before .before .before .before .pre .0) _ _ n (m .ensures .1),
+      width-measure _ (a .n) (a .s .now) (a .at) (c₁ .before .before .before .before .pre .0) _ _ n (m .ensures .1),
     )
 
 pub width-at-spec : {M : Type 1} → statement M

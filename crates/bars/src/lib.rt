@@ -1,0 +1,2 @@
+// The bars of a row's lines.
+pub mod further_lines;
