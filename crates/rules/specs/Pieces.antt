@@ -24,7 +24,8 @@ abbrev pub StartsText : (List ℕ → List ℕ → Type 0) → List ℕ → List
 StartsText Of fresh before after =
     OnlyState before after × (stateBytes ≤ length before → (take stateBytes after ≡ fresh) × Of [] fresh)
 
--- a piece turns the state of a text into that of the text and the piece, for every text; one of no bytes changes nothing
+-- a piece turns the state of a text into that of the text and the piece, for every text;
+-- one of no bytes changes nothing
 abbrev pub TakesPiece : (List ℕ → List ℕ → Type 0) → List ℕ → List ℕ → List ℕ → Type 0
 TakesPiece Of before piece after =
     OnlyState before after
