@@ -1,1 +1,2 @@
 // No code stands here: specs/ lists worked cases of the rules, and proofs/ shows that each holds.
+#![tactic(auto)]

@@ -1,4 +1,6 @@
 // Byte classes, words, labels and short names.
+#![tactic(auto)]
+
 pub mod classes;
 pub mod labels;
 pub mod repeats;

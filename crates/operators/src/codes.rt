@@ -4,7 +4,7 @@ ghost use Rattle.operators.specs.Codes.{code_of};
 
 use rules::Op;
 
-#[derive(Drop)]
+#[derive(Clone, Copy)]
 pub enum Code {
     Number,
     Field,

@@ -9,7 +9,7 @@ use rules::{Decider, Op, ValueType};
 // code: its byte in a stored expression.
 // takes, gives: the type of both operands, and that of the whole.
 // decider: the value of the left operand that settles the whole.
-#[derive(Drop)]
+#[derive(Clone, Copy)]
 pub struct Row {
     pub first: u8,
     pub second: u8,

@@ -6,7 +6,7 @@ ghost use Rattle.operators.specs.Symbols.{symbol_in, symbol_of};
 use rules::Op;
 
 // An operator, and the length of its symbol.
-#[derive(Drop)]
+#[derive(Clone, Copy)]
 pub enum Symbol {
     Nothing,
     Is(Op, usize),

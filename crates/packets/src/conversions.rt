@@ -32,7 +32,7 @@ const OLD_MOST: usize = 14 + LABEL_MOST + (RECORD_MOST - 2) * OLD_FIELDS;
 const WIDENED_MOST: usize = OLD_MOST + 2 * OLD_FIELDS;
 
 // How many bytes were written, or that records do not stand as old ones do.
-#[derive(Drop)]
+#[derive(Clone, Copy)]
 pub(crate) enum Widened {
     Bytes(usize),
     Bad,

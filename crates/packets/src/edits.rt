@@ -18,7 +18,7 @@ use writing::delivery::deliver;
 use writing::puts::{put, put_two};
 
 // How many records there are, or that bytes are no whole records, or too many.
-#[derive(Drop)]
+#[derive(Clone, Copy)]
 pub(crate) enum Counted {
     Records(usize),
     Bad,

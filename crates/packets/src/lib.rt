@@ -1,4 +1,6 @@
 // Tables are checked, and packets read by them.
+#![tactic(auto)]
+
 pub mod answers;
 mod bits;
 pub mod conversions;

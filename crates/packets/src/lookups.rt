@@ -24,7 +24,7 @@ use rules::{FieldAnswer, TABLE_MOST, TableAnswer};
 use writing::spans::Span;
 
 // What is found for an index: no good table, no such field, or its record.
-#[derive(Drop)]
+#[derive(Clone, Copy)]
 enum FieldRecord {
     NotGood,
     Unknown,

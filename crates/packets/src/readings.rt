@@ -17,7 +17,7 @@ use crate::walks::walk_fields;
 use rules::{PACKET_MOST, PacketAnswer, RUN_MOST, TableAnswer};
 
 // Where a part lies: its start, and its size.
-#[derive(Drop)]
+#[derive(Clone, Copy)]
 pub struct Bytes {
     pub start: usize,
     pub size: usize,
@@ -103,7 +103,7 @@ pub fn read_packet(table: &[u8], packet: &[u8], run: &mut [u32]) -> PacketAnswer
 }
 
 // What was read of a packet: the answer, and the number of fields whose numbers the run has.
-#[derive(Drop)]
+#[derive(Clone, Copy)]
 pub struct Partial {
     pub answer: PacketAnswer,
     pub count: usize,

@@ -16,14 +16,14 @@ pub(crate) const MEASURED: usize = 13;
 pub(crate) const REST: usize = 14;
 
 // What a width stores: its number (bits, or the unit), a measured width's expression, and the place behind them.
-#[derive(Drop)]
+#[derive(Clone, Copy)]
 pub(crate) struct WidthParts {
     pub number: usize,
     pub tree: Span,
     pub next: usize,
 }
 
-#[derive(Drop)]
+#[derive(Clone, Copy)]
 pub(crate) struct Parts {
     pub kind: usize,
     pub readers: usize,

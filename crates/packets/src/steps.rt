@@ -29,14 +29,14 @@ use rules::{DEPTH_MOST, FIXED_MOST, Fault, TABLE_MOST};
 use writing::spans::Span;
 
 // A number, or the fault of finding it.
-#[derive(Drop)]
+#[derive(Clone, Copy)]
 pub(crate) enum Got {
     Value(u64),
     Stop(Fault),
 }
 
 // The four numbers of a field.
-#[derive(Drop)]
+#[derive(Clone, Copy)]
 pub(crate) struct Numbers {
     pub present: u32,
     pub offset: u32,
@@ -45,7 +45,7 @@ pub(crate) struct Numbers {
 }
 
 // A field's numbers with the place behind it, or its fault.
-#[derive(Drop)]
+#[derive(Clone, Copy)]
 pub(crate) enum Found {
     Field(Numbers, usize),
     Stop(Fault),

@@ -35,7 +35,7 @@ const HEAD: usize = 1;
 const LAST: usize = 5;
 
 // The place past all fields.
-#[derive(Drop)]
+#[derive(Clone, Copy)]
 pub(crate) enum Walked {
     Past(usize),
     Bad,

@@ -12,20 +12,20 @@ use operators::rows::operator;
 use rules::{Decider, Fault, NUMBER_MOST, Op, ValueType};
 
 // A place in the bytes of a table.
-#[derive(Drop)]
+#[derive(Clone, Copy)]
 pub(crate) struct Cursor {
     pub at: usize,
 }
 
 // The type of a tree with the place past it.
-#[derive(Drop)]
+#[derive(Clone, Copy)]
 pub(crate) enum Checked {
     Tree(ValueType, Cursor),
     Bad,
 }
 
 // The value of a tree with the place past it, or the fault of evaluating it.
-#[derive(Drop)]
+#[derive(Clone, Copy)]
 pub(crate) enum Evaluated {
     Value(u32, Cursor),
     Stop(Fault),

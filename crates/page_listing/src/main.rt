@@ -1,5 +1,6 @@
 // Reads a page and a packet from its data folder, and prints the packet's listing by the page. A buffer of 65,536 bytes
 // has room for any page, table, packet and listing.
+#![tactic(auto)]
 ghost use Rattle.io.specs.Counts.{IsPrefixLen};
 
 use libc::STDOUT_FILENO;

@@ -5,7 +5,7 @@ ghost use Rattle.references.specs.Renumbered.{new_index, renumbered_bytes};
 use crate::scans::{FIELD_CODE, next_code};
 
 // How the indexes from one on change: up where fields are put in before it, down where fields are cut out.
-#[derive(Drop)]
+#[derive(Clone, Copy)]
 pub struct Shift {
     pub from: usize,
     pub by: usize,

@@ -12,7 +12,7 @@ const NUMBER_CODE: u8 = 1;
 pub(crate) const FIELD_CODE: u8 = 2;
 
 // What is looked for: `/`, `%` or `^`, or a field of a run that is read, by the run's first and last index.
-#[derive(Drop)]
+#[derive(Clone, Copy)]
 pub enum Wanted {
     Added,
     Run(usize, usize),

@@ -1,2 +1,3 @@
 // The words of a request line.
+#![tactic(auto)]
 pub mod words;

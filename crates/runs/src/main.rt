@@ -1,4 +1,5 @@
 // Runs the library on the requests of its data folder, one to a line, and prints an answer line for each.
+#![tactic(auto)]
 mod edits;
 mod kinds;
 mod lent;

@@ -266,7 +266,8 @@ within-rows h (r ∷ rows) done ls ms fs n q a e g =
         → done ++ rows_within (n + length ls) n (r ∷ rows) ≡ rows_in q
     go ls g (inl p) f = inside h r rows done n q drawn ls p.0 p.1 g
     go ls g (inr p) f =
-        rw p.2 (outside h r rows done n q drawn ms fs p.0 p.1 p.3 (rw p.2 at g) (f p.1))
+        ap (λ v. done ++ rows_within (n + length v) n (r ∷ rows)) p.2
+        ∙ outside h r rows done n q drawn ms fs p.0 p.1 p.3 (rw p.2 at g) (f p.1)
 
 -- ── from the first line on ──
 

@@ -3,7 +3,7 @@ ghost use Rattle.std.specs.Prelude.{◌≤◌, length};
 ghost use Rattle.texts.specs.ExprPlaces.{SameOpen, SameAtom};
 
 // Nothing that may stand there, a word, or an opening parenthesis: the place behind it, and whether `!` stands before.
-#[derive(Drop)]
+#[derive(Clone, Copy)]
 pub(crate) enum Atom {
     Nothing,
     Word,

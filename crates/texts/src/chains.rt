@@ -12,7 +12,7 @@ use rules::Op;
 // The place of the next operand; the length of the stored form so far, of the operators and their left operands; how
 // many operators wait; the depth that they make with their left operands; the type that the last of them takes, and
 // the type of the whole if the operand has that type.
-#[derive(Drop)]
+#[derive(Clone, Copy)]
 pub(crate) struct Chain {
     pub next: usize,
     pub len: usize,
@@ -23,7 +23,7 @@ pub(crate) struct Chain {
 }
 
 // One operator more that waits; or the whole, where none comes.
-#[derive(Drop)]
+#[derive(Clone, Copy)]
 pub(crate) struct Link {
     pub on: bool,
     pub chain: Chain,

@@ -13,14 +13,14 @@ use rules::{FIELDS_MOST, SHORT_MOST};
 
 // An expression behind its phrase, or none, which ends where the phrase would begin; not right where an expression is
 // missing.
-#[derive(Drop)]
+#[derive(Clone, Copy)]
 pub(crate) struct Clause {
     pub right: bool,
     pub tree: StoredTree,
 }
 
 // Constraint and condition; not right where the line goes on in another way.
-#[derive(Drop)]
+#[derive(Clone, Copy)]
 pub(crate) struct Ends {
     pub right: bool,
     pub constraint: StoredTree,

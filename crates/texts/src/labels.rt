@@ -9,14 +9,14 @@ use crate::phrases::starts_at;
 use names::labels::{is_label_in, is_short_in};
 
 // The place behind a label.
-#[derive(Drop)]
+#[derive(Clone, Copy)]
 pub(crate) enum Label {
     Nothing,
     At(usize),
 }
 
 // Where a short name begins and ends, at one place if there is none, and the place behind it and its parentheses.
-#[derive(Drop)]
+#[derive(Clone, Copy)]
 pub(crate) enum Short {
     Nothing,
     At(usize, usize, usize),

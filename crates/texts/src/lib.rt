@@ -9,6 +9,8 @@
 // what is kept      states, notes, held_areas
 // texts in pieces   pieces, state_areas, state_numbers, state_counts, line_joins
 // specs/ holds definitions that mirror what the code does, proofs/ the theorems on them.
+#![tactic(auto)]
+
 mod atoms;
 mod cell_texts;
 mod chains;

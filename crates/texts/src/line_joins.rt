@@ -54,7 +54,7 @@ fn end_joined(
         row.old row.new counts.old counts.new }
 {
     let n = join_line(s, used, part, line);
-    take_line(r, line, 0, n, &mut s[HELD_AT..STATE_BYTES], row, counts)
+    take_line(r, &line[0..n], &mut s[HELD_AT..STATE_BYTES], row, counts)
 }
 
 // The held line with the part behind it, ended; 3 where it is too long.

@@ -18,7 +18,7 @@ use writing::spans::Span;
 
 // The kind as in a table (0: the line has no form), the length of the label, the short name in the line, the bits of a
 // fixed width or of the unit, and what is known of the expressions, of the length 0 where there is none.
-#[derive(Drop)]
+#[derive(Clone, Copy)]
 pub(crate) struct Parts {
     pub kind: usize,
     pub label: usize,

@@ -1,25 +1,31 @@
 // One line of a text.
-ghost use Rattle.std.specs.Prelude.{false, List, ◌≡◌, ℕ, ◌-◌, ◌≤◌, length, take, drop};
-ghost use Rattle.texts.specs.Changes.{awaits_field};
 ghost use Rattle.texts.specs.States.{LineRoom, RowRoom, Taken, LineStep};
 
 use crate::head_lines::{take_more, take_opening, take_row, take_row_or_blank, take_ruler};
 use crate::held_areas::{NAMES_AT, TABLE_AT};
 use crate::kept_fields::take_field;
 use crate::rulers::{is_border, is_units};
-use crate::states::{Reading, Stage, awaits_field, expect};
+use crate::states::{Reading, Stage, expect};
 use crate::text_ends::cut_line;
 use names::words::same_words;
 use rules::LINE_MOST;
 
-// What is kept behind a line that is no field line: the arms of those are never taken.
-fn take_head(r: Reading, line: &[u8], held: &mut [u8], row: &mut [u8]) -> Reading
-    requires { LineRoom r line.now held.old × RowRoom line.now row.old
-        × (awaits_field r.stage ≡ false) }
+// What is kept behind one more line.
+pub(crate) fn take_line(
+    r: Reading,
+    line: &[u8],
+    held: &mut [u8],
+    row: &mut [u8],
+    counts: &mut [u16],
+) -> Reading
+    requires { LineRoom r line.now held.old × RowRoom line.now row.old }
     ensures room { Taken r result }
-    ensures step { (counts : List ℕ) → LineStep line.now r result held.old
-        held.new row.old row.new counts counts }
+    ensures step { LineStep line.now r result held.old held.new
+        row.old row.new counts.old counts.new }
 {
+    if LINE_MOST < line.len() {
+        return cut_line(r, row);
+    }
     let w = r.width;
     let stage = r.stage;
     match stage {
@@ -33,34 +39,8 @@ fn take_head(r: Reading, line: &[u8], held: &mut [u8], row: &mut [u8]) -> Readin
         Stage::RowOrBlank => { take_row_or_blank(r, line, row) }
         Stage::WhereLine => { expect(r, same_words(line, b"where:"), Stage::LastBlank) }
         Stage::LastBlank => { expect(r, line.len() == 0, Stage::FirstField) }
-        Stage::FirstField => { r }
-        Stage::FieldLine => { r }
+        Stage::FirstField => { take_field(r, line, held, counts) }
+        Stage::FieldLine => { take_field(r, line, held, counts) }
         Stage::Lost => { r }
     }
-}
-
-// What is kept behind one more line, which stands in a text from a place to another.
-pub(crate) fn take_line(
-    r: Reading,
-    text: &[u8],
-    at: usize,
-    e: usize,
-    held: &mut [u8],
-    row: &mut [u8],
-    counts: &mut [u16],
-) -> Reading
-    requires { (at ≤ e) × (e ≤ length text.now) × LineRoom r (take (e - at) (drop at text.now)) held.old
-        × RowRoom (take (e - at) (drop at text.now)) row.old }
-    ensures room { Taken r result }
-    ensures step { LineStep (take (e - at) (drop at text.now)) r result held.old
-        held.new row.old row.new counts.old counts.new }
-{
-    if LINE_MOST < e - at {
-        return cut_line(r, row);
-    }
-    let stage = r.stage;
-    if awaits_field(stage) {
-        return take_field(r, &text[at..e], held, counts);
-    }
-    take_head(r, &text[at..e], held, row)
 }

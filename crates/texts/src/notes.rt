@@ -4,7 +4,7 @@ ghost use Rattle.text_laws.specs.Lowest.{lower};
 ghost use Rattle.texts.specs.Noted.{note_of};
 
 // A refusal's number and place; the number 0 stands for none.
-#[derive(Drop)]
+#[derive(Clone, Copy)]
 pub(crate) struct Note {
     pub number: usize,
     pub place: usize,

@@ -5,7 +5,7 @@ ghost use Rattle.rules.specs.Frames.{units, border};
 ghost use Rattle.text_laws.specs.FrameReader.{read_tens};
 ghost use Rattle.texts.specs.FramePlaces.{column_at, width_or};
 
-#[derive(Drop)]
+#[derive(Clone, Copy)]
 pub(crate) enum Ruler {
     Tens,
     Units,
@@ -36,7 +36,7 @@ fn column(k: Ruler, c: usize) -> u8
     }
 }
 
-// The line is that ruler, of `n` columns; no test ends the loop early, so that several are made at once.
+// The line is that ruler, of `n` columns.
 fn is_ruler(line: &[u8], k: Ruler, n: usize) -> bool
     requires { n ≤ 100 }
     ensures { result ≡ same line.now (tabulate (column_at k) 0 n) }
@@ -44,13 +44,14 @@ fn is_ruler(line: &[u8], k: Ruler, n: usize) -> bool
     if line.len() != n {
         return false;
     }
-    let mut each = true;
     let mut i = 0;
     while i < line.len() {
-        each = each & (line[i] == column(k, i));
+        if line[i] != column(k, i) {
+            return false;
+        }
         i += 1;
     }
-    each
+    true
 }
 
 pub(crate) fn is_units(line: &[u8], w: usize) -> bool

@@ -11,14 +11,14 @@ use operators::symbols::{Symbol, symbol_of};
 use rules::Op;
 
 // An operator, and the place behind it.
-#[derive(Drop)]
+#[derive(Clone, Copy)]
 pub(crate) enum Sign {
     Nothing,
     At(Op, usize),
 }
 
 // An operator, the place behind it, its level and the loosest level that stands bare on its right.
-#[derive(Drop)]
+#[derive(Clone, Copy)]
 pub(crate) enum Taken {
     Nothing,
     By(Op, usize, u8, u8),

@@ -16,7 +16,7 @@ use writing::puts::put;
 pub(crate) const ROW_MOST: usize = 7 * LINE_ROOM;
 
 // A row with a cell whose text is no label, or the place behind its cells and their number.
-#[derive(Drop)]
+#[derive(Clone, Copy)]
 pub(crate) enum Rowed {
     Wrong,
     Put(usize, usize),

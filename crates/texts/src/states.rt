@@ -1,12 +1,12 @@
 // What is kept of a text between two lines, but for the bytes of cells, records and names.
 ghost use Rattle.std.specs.Prelude.{◌≡◌, ◌+◌, ◌≤◌};
 ghost use Rattle.rules.specs.Limits.{text_most};
-ghost use Rattle.texts.specs.Changes.{note, awaits_field, begun_with, changed, made_wrong, made_wrong_row, expected};
+ghost use Rattle.texts.specs.Changes.{note, begun_with, changed, made_wrong, made_wrong_row, expected};
 
 use crate::notes::Note;
 
 // The line that must come next; none where a line was wrong.
-#[derive(Drop)]
+#[derive(Clone, Copy)]
 pub(crate) enum Stage {
     Opening,
     Blank,
@@ -26,7 +26,7 @@ pub(crate) enum Stage {
 // Whole lines, the line that must come next, W and the length of NAME; the lines of the row that is not ended; the
 // number of cells, where they end, and where the cell of the next field stands; field lines, fields that are kept of
 // them, where their records end, whether the rest field is one of them; the lowest refusal.
-#[derive(Drop)]
+#[derive(Clone, Copy)]
 pub(crate) struct Reading {
     pub lines: usize,
     pub stage: Stage,
@@ -41,27 +41,6 @@ pub(crate) struct Reading {
     pub end: usize,
     pub rested: bool,
     pub note: Note,
-}
-
-// A field line must come next.
-pub(crate) fn awaits_field(s: Stage) -> bool
-    ensures { result ≡ awaits_field s }
-{
-    match s {
-        Stage::Opening => false,
-        Stage::Blank => false,
-        Stage::TensRuler => false,
-        Stage::UnitsRuler => false,
-        Stage::TopBorder => false,
-        Stage::FirstRow => false,
-        Stage::InRow => false,
-        Stage::RowOrBlank => false,
-        Stage::WhereLine => false,
-        Stage::LastBlank => false,
-        Stage::FirstField => true,
-        Stage::FieldLine => true,
-        Stage::Lost => false,
-    }
 }
 
 // Before the first line.

@@ -25,7 +25,7 @@ use rules::{FIELDS_MOST, OPEN_MOST, SHORT_MOST};
 
 // The place behind an expression, its type (1 number, 2 yes or no, 0 wrong), its depth and the length of its stored
 // form, which stands in an output where that has room for it; no length where there is no expression.
-#[derive(Drop)]
+#[derive(Clone, Copy)]
 pub(crate) struct StoredTree {
     pub next: usize,
     pub gives: usize,

@@ -8,7 +8,7 @@ use crate::leaves::word_end;
 use names::words::same_words;
 
 // The bits of a unit, and the place behind its word.
-#[derive(Drop)]
+#[derive(Clone, Copy)]
 pub(crate) enum Bits {
     Nothing,
     At(u8, usize),

@@ -13,7 +13,7 @@ use crate::states::{Reading, Stage, staged};
 use crate::text_bytes::line_end;
 
 // What was read of whole lines, and where the line that is not ended begins.
-#[derive(Drop)]
+#[derive(Clone, Copy)]
 pub(crate) struct Walked {
     pub reading: Reading,
     pub at: usize,
@@ -61,7 +61,7 @@ pub(crate) fn walk_lines(
                 at: text.len(),
             };
         }
-        r = take_line(r, text, at, e, held, row, counts);
+        r = take_line(r, &text[at..e], held, row, counts);
         at = e + 1;
     }
 }

@@ -17,7 +17,7 @@ use rules::{FIELDS_MOST, FIXED_MOST, SHORT_MOST};
 
 // The kind of a width as in a table (0: there is none), the bits of a fixed width or of the unit, the place behind it,
 // and its expression (of the length 0 where it has none).
-#[derive(Drop)]
+#[derive(Clone, Copy)]
 pub(crate) struct Measure {
     pub kind: usize,
     pub bits: usize,

@@ -1,4 +1,5 @@
 // The library's entries for programs in C and other languages.
+#![tactic(auto)]
 mod replies;
 
 ghost use Rattle.rules.specs.Promises.{
@@ -42,7 +43,7 @@ use texts::reading::read_text;
 // length 0. They are document 01's; 29, for a zero divisor, 30, for a name, index or run that no field has or records
 // of no bytes, 31, for a field that is still read, and 34, for fields that do not go together, are 02's.
 #[repr(C)]
-#[derive(Drop)]
+#[derive(Clone, Copy)]
 pub struct Reply {
     pub number: u32,
     pub place: u32,
@@ -51,7 +52,7 @@ pub struct Reply {
 
 // A reply, and the number of fields that were read before a refusal.
 #[repr(C)]
-#[derive(Drop)]
+#[derive(Clone, Copy)]
 pub struct Partial {
     pub number: u32,
     pub place: u32,
@@ -61,7 +62,7 @@ pub struct Partial {
 
 // Where a part of a lent buffer lies.
 #[repr(C)]
-#[derive(Drop)]
+#[derive(Clone, Copy)]
 pub struct Span {
     pub offset: u64,
     pub length: u64,

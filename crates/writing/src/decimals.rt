@@ -9,7 +9,7 @@ use crate::puts::put;
 const DIGITS_MOST: usize = 10;
 
 // The digits of a number stand from `start` to the end.
-#[derive(Drop)]
+#[derive(Clone, Copy)]
 struct Digits {
     text: [u8; DIGITS_MOST],
     start: usize,

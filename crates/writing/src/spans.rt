@@ -1,5 +1,5 @@
 // A part of some bytes: its place and its length.
-#[derive(Drop)]
+#[derive(Clone, Copy)]
 pub struct Span {
     pub at: usize,
     pub len: usize,

@@ -1,7 +1,7 @@
 use mathlib.Core.Path.{◌≡◌, ap, ◌∙◌}
-use Prim.Native.Nat.{ℕ, ◌-◌, ◌≤◌}
+use Prim.Native.Nat.{ℕ, ◌-◌}
 use native.Mathlib.Omega.{arith}
-use lib.ListN.{length, take}
+use lib.ListN.{take}
 use lib.Seq.{length-take-le}
 use borrow.Rule.Slice.PartMut.{put_mid}
 use Rattle.texts.specs.HeldAreas.{held_room}
@@ -27,21 +27,27 @@ part-take-line-start c = search rules
 part-take-line-end : tie.Need-slice-bounds-take-line-end
 part-take-line-end c = search rules
 
+sub-take-line-2 : tie.Need-overflow-sub-take-line-2
+sub-take-line-2 c = search rules
+
+part-take-line-start-2 : tie.Need-slice-bounds-take-line-start-2
+part-take-line-start-2 c = search rules
+
+part-take-line-end-2 : tie.Need-slice-bounds-take-line-end-2
+part-take-line-end-2 c = search rules
+
 take-line-requires : tie.Need-take-line-requires
 take-line-requires c κs =
     let c₁ = c.before.before.before.before.before.before in
-    let c₂ = c₁.before.before.before.before.before.before.before.before in
-    let p = c₂.requires in
-    let j = c₁.join-line.ensures in
-    let long = c₁.join-line.auto.1.1.1.0 in
-    let z : c₁.join-line.result - 0 ≡ c₁.join-line.result = omega arith in
-    let most : c₁.join-line.result ≤ length c₁.join-line.new.1.1.1.0 =
-    omega (arith, j.long, long, p.3, p.4) in
-    let n = length-take-le c₁.join-line.result c₁.join-line.new.1.1.1.0 most in
-    let held = held-long c₂.args.s.now p.2 in
+    let c₂ = c₁.before.before.before.before.before.before in
+    let p = c₂.before.before.before.requires in
+    let j = c₁.before.join-line.ensures in
+    let long = c₁.before.join-line.auto.1.1.1.0 in
+    let z : c₁.before.join-line.result - 0 ≡ c₁.before.join-line.result = omega arith in
+    let n = length-take-le c₁.before.join-line.result c₁.before.join-line.new.1.1.1.0
+    (omega (arith, j.long, long, p.3, p.4)) in
+    let held = held-long c₂.before.before.before.args.s.now p.2 in
     rw z (
-      omega arith,
-      most,
       (p.0, p.1, omega (arith, n, j.long, p.3), omega (arith, held)),
       (j.free, p.6),
     )
@@ -50,9 +56,9 @@ same_length : tie.Need-same-length
 same_length c =
     let c₁ = c.before.before.before.before.before.before in
     let c₃ = c₁.before.before.before.before.before.before.before.before.before.before.before.before in
-    let s = c₃.before.before.before.args.s.now in
-    let room = c₃.before.before.before.requires.2 in
-    held_back s room c₁.take-line.new.1.1.1.1.0 (c₁.take-line.ensures.1.0 ∙ held-long s room)
+    let s = c₃.before.before.before.before.args.s.now in
+    let room = c₃.before.before.before.before.requires.2 in
+    held_back s room c₁.take-line.new.1.1.0 (c₁.take-line.ensures.1.0 ∙ held-long s room)
 
 same-length-2 : tie.Need-same-length-2
 same-length-2 c = search rules
@@ -68,19 +74,21 @@ returns c =
     let c₁ = c.before.before.before.before.before.before in
     let c₂ = c₁.before.before.before.before.before.before in
     let c₃ = c₂.before.before.before.before.before.before in
-    let a = c₃.before.before.before.args in
-    let s = a.s.now in
-    let p = c₃.before.before.before.requires in
-    let j = c₂.before.join-line in
+    let s = c₃.before.before.before.before.args.s.now in
+    let p = c₃.before.before.before.before.requires in
     let q = c₁.take-line.ensures in
-    let part = c₁.take-line.new.1.1.1.1.0 in
+    let part = c₁.take-line.new.1.1.0 in
     let long = q.1.0 ∙ held-long s p.2 in
-    let z : j.result - 0 ≡ j.result = omega arith in (
+    let z : c₂.before.before.join-line.result - 0 ≡ c₂.before.before.join-line.result = omega arith in (
       q.0,
       (
         around_put s p.2 part long,
-        ended-joined s a.used a.part.now a.r c₁.take-line.result (put_mid held_at held_room s part)
-            j.ensures (ap (λ (n : ℕ). take n j.new.1.1.1.0) z) (held-put s p.2 part long) q.1,
+        ended-joined s c₃.before.before.before.before.args.used
+            c₃.before.before.before.before.args.part.now c₃.before.before.before.before.args.r
+            c₁.take-line.result
+            (put_mid held_at held_room s part) c₂.before.before.join-line.ensures
+            (ap (λ (n : ℕ). take n c₂.before.before.join-line.new.1.1.1.0) z) (held-put s p.2 part long)
+            q.1,
       ),
     )
 
@@ -92,6 +100,9 @@ end-joined-spec =
     sub-take-line
     part-take-line-start
     part-take-line-end
+    sub-take-line-2
+    part-take-line-start-2
+    part-take-line-end-2
     take-line-requires
     same_length
     same-length-2

@@ -138,11 +138,10 @@ atom_returns t c =
     let c1 = c.before.before.before.before in let c2 = c1.before.before.before in
     let c3 = c2.before.before in let c4 = c3.before.before.before in
     let v = c2.start.given.0 in
-    let w = told_in _ _ _ _ _ _ c2.start.given.1 c3.atom-at.ensures in
-    let a = c4.before.args in (
+    let w = told_in _ _ _ _ _ _ c2.start.given.1 c3.atom-at.ensures in (
       none_within _ _ _ _ _ c.if1.true,
-      atom-fail _ a.n a.s.now a.at a.b v.0 v.1.0 w.0 w.1 w.3 _ c1.tree-expr.ensures.1
-          c.if1.true,
+      atom-fail _ c4.before.args.n c4.before.args.s.now c4.before.args.at c4.before.args.b v.0 v.1.0 w.0 w.1 w.3
+          _ c1.tree-expr.ensures.1 c.if1.true,
     )
 
 atom-tree-closed-requires : (t : ℕ) → atom-lts.Need-tree-closed-requires (atom_calls t) (atom-at t) atom.Post
@@ -154,35 +153,32 @@ atom-tree-closed-requires t c κs =
 
 atom_returns_2 : (t : ℕ) → atom-lts.Need-returns-2 (atom_calls t) (atom-at t) atom.Post
 atom_returns_2 t c =
-    let c1 = c.before.before.before in let a = c1.before.before.before.before.args in (
+    let c1 = c.before.before.before in let c2 = c1.before.before.before in (
       none_within _ _ _ _ _ c.no-tree.ensures,
-      atom-none _ a.n a.s.now a.at a.b _
-          (told_none _ _ _ _ c.before.enum_told.given.1 c1.atom-at.ensures) c.no-tree.ensures,
+      atom-none _ c2.before.args.n c2.before.args.s.now c2.before.args.at c2.before.args.b _ (told_none _ _ _ _ c.before.enum_told.given.1 c1.atom-at.ensures) c.no-tree.ensures,
     )
 
 atom_returns_3 : (t : ℕ) → atom-lts.Need-returns-3 (atom_calls t) (atom-at t) atom.Post
 atom_returns_3 t c =
     let c1 = c.before.before in let c2 = c1.before.before in let c3 = c2.before.before in
-    let a = c3.before.before.before.before.args in (
+    let c4 = c3.before.before.before in (
       c1.tree-leaf.ensures.0,
-      atom-leaf _ a.n a.s.now a.at a.b _
-          (told-word _ _ _ _ c2.enum-told2.given.1 c3.atom-at.ensures) c1.tree-leaf.ensures.1,
+      atom-leaf _ c4.before.args.n c4.before.args.s.now c4.before.args.at c4.before.args.b _ (told-word _ _ _ _ c2.enum-told2.given.1 c3.atom-at.ensures) c1.tree-leaf.ensures.1,
     )
 
 atom_returns_4 : (t : ℕ) → atom-lts.Need-returns-4 (atom_calls t) (atom-at t) atom.Post
 atom_returns_4 t c =
     let c1 = c.before.before in let c2 = c1.before.before in let c3 = c2.before.before.before.before in
-    let c4 = c3.before.before.before in let c5 = c4.before.before in
-    let a = c5.before.before.before.before.args in
+    let c4 = c3.before.before.before in let c5 = c4.before.before in let c6 = c5.before.before.before in
     let v = c4.start.given.0 in
     let w = told_in _ _ _ _ _ _ c4.start.given.1 c5.atom-at.ensures in
     let y = c3.tree-expr in
     let r = y.result in
-    let g = got-within a.s.now (v.0 + 1) v.0 0 r c2.if1.false y.ensures.0 in (
-      up-within a.s.now (r.next + 1) r.next r.len (a.at + 1) a.at 0 _ (omega (arith, g.0, w.0))
-          (omega (arith, g.2, w.0)) c1.tree-closed.ensures.0,
-      atom-closed _ a.n a.s.now a.at a.b v.0 v.1.0 w.0 w.1 w.3 _ y.ensures.1
-          c2.if1.false _ c1.tree-closed.ensures.1,
+    let g = got-within c6.before.args.s.now (v.0 + 1) v.0 0 r c2.if1.false y.ensures.0 in (
+      up-within c6.before.args.s.now (r.next + 1) r.next r.len (c6.before.args.at + 1) c6.before.args.at 0 _
+          (omega (arith, g.0, w.0)) (omega (arith, g.2, w.0)) c1.tree-closed.ensures.0,
+      atom-closed _ c6.before.args.n c6.before.args.s.now c6.before.args.at c6.before.args.b v.0 v.1.0 w.0 w.1 w.3 _ y.ensures.1 c2.if1.false _
+          c1.tree-closed.ensures.1,
     )
 
 expr_loop_holds : (t : ℕ) → expr-lts.Need-loop-init (expr_calls t) (expr-at t) expr.Post expr_Inv_loop expr_μ_loop
@@ -190,8 +186,7 @@ expr_loop_holds t c =
     let c1 = c.before.before.before in
     let a = c1.before.args in (
       refl,
-      rw c.no-chain.ensures
-          (chain_none _ a.n a.s.now a.at a.k a.b a.out.now c1.before.requires.1.0),
+      rw c.no-chain.ensures (chain_none _ a.n a.s.now a.at a.k a.b a.out.now c1.before.requires.1.0),
       λ _. c.no-chain.ensures,
     )
 

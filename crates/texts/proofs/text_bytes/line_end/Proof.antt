@@ -1,17 +1,21 @@
-use mathlib.Core.Path.{◌≡◌, refl, sym, ◌∙◌}
+use mathlib.Core.Path.{◌≡◌, refl}
 use native.Mathlib.Omega.{arith}
 use Prim.Native.Nat.{◌≤◌, ◌-◌, ◌+◌}
-use lib.ListN.{length, drop}
-use borrow.Author.Tests.{not-false}
-use Rattle.texts.specs.LineEnds.{printable_length, stride}
-use Rattle.texts.proofs.LineEnds.{printable_steps}
+use lib.ListN.{length, drop, get_or}
+use Rattle.texts.specs.LineEnds.{printable_length}
+use Rattle.texts.proofs.FieldWords.{printable_low}
+use Rattle.texts.proofs.LineEnds.{
+  printable_high,
+  printable_between,
+  printable_end,
+  printable_stop,
+  printable_step,
+}
 use borrow.Author.Rules.{rules}
 use Rattle.texts.proofs.text_bytes.line_end.Statement.{statement}
 use Rattle.texts.proofs.text_bytes.line_end.Tie as tie
 use Rattle.texts.proofs.text_bytes.line_end.Reads as reads
 use Rattle.texts.proofs.text_bytes.line_end.Lts as lts
-use Rattle.texts.proofs.text_bytes.are_printable.Reads as are-printable-reads
-use Rattle.texts.proofs.text_bytes.byte_end.Reads as byte-end-reads
 
 abbrev invariant-loop : tie.invariant-loop
 invariant-loop text at i₀ i =
@@ -23,11 +27,22 @@ decreases-loop text at i₀ i = length text - i
 loop-holds : tie.Need-loop-init invariant-loop decreases-loop
 loop-holds c = (omega arith, omega arith, refl)
 
-sub-loop : tie.Need-overflow-sub-loop invariant-loop decreases-loop
-sub-loop c = search rules
+shared-slice-read-b : tie.Need-shared-slice-read-b invariant-loop decreases-loop
+shared-slice-read-b c = search rules
 
-are-printable-requires : tie.Need-are-printable-requires invariant-loop decreases-loop
-are-printable-requires c κs = search rules
+returns : tie.Need-returns invariant-loop decreases-loop
+returns c =
+    let t = c.before.before.before.before.args.text.now in
+    let l = c.before.before.before.loop in
+    let q = printable_stop t l.i (omega arith) (printable_low (get_or t l.i 0) c.if1.true) in
+    ((omega arith, omega arith), omega (arith, q, l.invariant.2))
+
+returns-2 : tie.Need-returns-2 invariant-loop decreases-loop
+returns-2 c =
+    let t = c.before.before.before.before.before.args.text.now in
+    let l = c.before.before.before.before.loop in
+    let q = printable_stop t l.i (omega arith) (printable_high (get_or t l.i 0) c.if2.true) in
+    ((omega arith, omega arith), omega (arith, q, l.invariant.2))
 
 add-i : tie.Need-overflow-add-i invariant-loop decreases-loop
 add-i c = search rules
@@ -37,20 +52,18 @@ loop-less c = search rules
 
 loop-again : tie.Need-loop-preserved invariant-loop decreases-loop
 loop-again c =
-    let l = c.before.before.before.loop in
     let t = c.before.before.before.before.before.args.text.now in
-    let y = sym c.before.are-printable.ensures ∙ not-false c.before.are-printable.result c.if1.false in
-    let q = printable_steps t l.i stride (omega arith) y in
+    let l = c.before.before.before.before.loop in
+    let p = printable_between (get_or t l.i 0) c.before.if1.false c.if2.false in
+    let q = printable_step t l.i (omega arith) p in
     (omega arith, omega arith, omega (arith, q, l.invariant.2))
 
-byte-end-requires : tie.Need-byte-end-requires invariant-loop decreases-loop
-byte-end-requires c κs = search rules
-
-returns : tie.Need-returns invariant-loop decreases-loop
-returns c =
-    let l = c.before.before.loop in
-    let q = c.byte-end.ensures in
-    ((omega (arith, q.0.0), q.0.1), omega (arith, q.1, l.invariant.2))
+returns-3 : tie.Need-returns-3 invariant-loop decreases-loop
+returns-3 c =
+    let t = c.before.before.args.text.now in
+    let l = c.before.loop in
+    let q = printable_end t l.i (omega arith) (omega arith) in
+    ((omega arith, omega arith), omega (arith, q, l.invariant.2))
 
 pub line-end-spec : {M : Type 1} → statement M
 line-end-spec =
@@ -59,10 +72,10 @@ line-end-spec =
     invariant-loop
     decreases-loop
     loop-holds
-    sub-loop
-    are-printable-requires
+    shared-slice-read-b
+    returns
+    returns-2
     add-i
     loop-less
     loop-again
-    byte-end-requires
-    returns)
+    returns-3)

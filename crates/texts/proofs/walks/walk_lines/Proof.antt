@@ -106,18 +106,25 @@ returns-2 c =
       ),
     )
 
+sub-take-line : tie.Need-overflow-sub-take-line invariant-loop decreases-loop
+sub-take-line c = search rules
+
+part-take-line-start : tie.Need-slice-bounds-take-line-start invariant-loop decreases-loop
+part-take-line-start c = search rules
+
+part-take-line-end : tie.Need-slice-bounds-take-line-end invariant-loop decreases-loop
+part-take-line-end c = search rules
+
 take-line-requires : tie.Need-take-line-requires invariant-loop decreases-loop
 take-line-requires c κs =
     let c₁ = c.before.before.before.before.before.before in
     let c₂ = c₁.before.before.before.before.before.before in
-    let t = c₂.args.text.now in
-    let p = c₂.requires in
-    let v = c₁.before.loop in
-    let e = c₁.line-end in
+    let t = c₂.before.args.text.now in
+    let p = c₂.before.requires in
+    let v = c₁.before.before.loop in
+    let e = c₁.before.line-end in
     let n = length-take-le (e.result - v.at) (drop v.at t)
     (omega (arith, e.ensures.0.1, length-drop v.at t)) in (
-      e.ensures.0.0,
-      e.ensures.0.1,
       (
         v.invariant.1.0,
         omega (arith, v.invariant.1.1, p.2.1),
@@ -132,32 +139,33 @@ add_at c =
     let c₁ = c.before.before.before.before.before.before in
     let c₂ = c₁.before.before.before.before.before.before in
     let c₃ = c₂.before.before.before.before.before.before in
-    let q = c₂.before.line-end.ensures.0.1 in let p = c₃.before.requires.1 in omega (arith, q, p)
+    let q = c₂.before.before.line-end.ensures.0.1 in let p = c₃.before.before.requires.1 in omega (arith, q, p)
 
 loop-less : tie.Need-loop-smaller invariant-loop decreases-loop
 loop-less c =
     let c₁ = c.before.before.before.before.before.before in
     let c₂ = c₁.before.before.before.before.before.before in
-    let q = c₂.before.line-end.ensures.0 in let n = c₂.if1.false in omega (arith, q.0, q.1, n)
+    let q = c₂.before.before.line-end.ensures.0 in let n = c₂.before.if1.false in omega (arith, q.0, q.1, n)
 
 loop-again : tie.Need-loop-preserved invariant-loop decreases-loop
 loop-again c =
     let c₁ = c.before.before.before.before.before.before in
     let c₂ = c₁.before.before.before.before.before.before in
     let c₃ = c₂.before.before.before.before.before.before in
-    let t = c₃.before.args.text.now in
-    let v = c₂.before.before.loop in
-    let e = c₂.before.line-end in
+    let t = c₃.before.before.args.text.now in
+    let v = c₂.before.before.before.loop in
+    let e = c₂.before.before.line-end in
     let q = c₁.take-line.ensures in
-    let lt : e.result < length t = omega (arith, e.ensures.0.1, c₂.if1.false) in
+    let lt : e.result < length t = omega (arith, e.ensures.0.1, c₂.before.if1.false) in
     let fits = v.invariant.1.1 in (
       omega (arith, lt),
       (q.0.0, omega (arith, q.0.1, fits, e.ensures.0.0, lt)),
       omega (arith, q.1.0, v.invariant.2),
       omega (arith, q.1.1, v.invariant.3),
-      (let k = c₁.take-line.auto.1.1.1.1.1.1.0 in omega (arith, k, v.invariant.4)),
-      λ k b le h. walking-next k t c₃.before.args.from v.at e.result v.r (v.invariant.5 k b le h)
-          e.ensures.1 lt c₁.before.before.before.before.if2.false c₁.take-line.result q.1,
+      (let k = c₁.take-line.auto.1.1.1.1.0 in omega (arith, k, v.invariant.4)),
+      λ k b le h. walking-next k t c₃.before.before.args.from v.at e.result v.r (v.invariant.5 k b le h)
+          e.ensures.1 lt
+          c₁.before.before.before.before.before.if2.false c₁.take-line.result q.1,
     )
 
 pub walk-lines-spec : {M : Type 1} → statement M
@@ -178,6 +186,9 @@ walk-lines-spec =
     same-length-5
     same-length-6
     returns-2
+    sub-take-line
+    part-take-line-start
+    part-take-line-end
     take-line-requires
     add_at
     loop-less

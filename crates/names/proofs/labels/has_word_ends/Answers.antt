@@ -1,0 +1,27 @@
+use mathlib.Core.List.{List, []}
+use mathlib.Core.Bool.{false}
+use Rattle.names.proofs.Ends.{no-ends, ends_are}
+use mathlib.Core.Path.{◌≡◌, refl, sym, ◌∙◌}
+use Prim.Native.Nat.{ℕ, ◌+◌, ◌-◌, ◌≤◌, ◌<◌}
+use native.Mathlib.Omega.{arith}
+use lib.ListN.{length, drop, get_or}
+use borrow.Author.Tests.{not-true, not-false}
+use borrow.Author.Rules.{rules}
+use Rattle.names.proofs.labels.has_word_ends.Goals as goal
+
+pub returns-then-n-eq0 : goal.returns-then-n-eq0
+returns-then-n-eq0 c = sym (no-ends c.args.classes.now c.args.w.now c.if-n-eq0.true)
+
+pub returns-then-not-is_word_in : goal.returns-then-not-is_word_in
+returns-then-not-is_word_in c =
+    let w = c.args.w.now in
+    let e = sym c.is_word_in.ensures ∙ c.if-not-is_word_in.true in
+    sym (ends_are c.args.classes.now w (length w - 1) (omega arith)
+    ∙ rw e)
+
+pub returns : goal.returns
+returns c =
+    let w = c.args.w.now in
+    let e = sym c.is_word_in.ensures ∙ c.if-not-is_word_in.false in
+    sym (ends_are c.args.classes.now w (length w - 1)
+    (omega arith) ∙ rw (e, ← c.is_word_in-2.ensures))

@@ -1,0 +1,16 @@
+use mathlib.Core.Path.{◌≡◌, refl, ◌∙◌}
+use mathlib.Core.List.{◌++◌, append-nil}
+use Prim.Native.Nat.{◌+◌, ◌-◌, ◌≤◌}
+use native.Mathlib.Omega.{arith}
+use lib.ListN.{length, drop, length-set}
+use Rattle.base.specs.Bytes.{digits, decimal}
+use Rattle.writing.proofs.DigitLaws.{digits-first, digits-next}
+use borrow.Author.Rules.{rules}
+use Rattle.writing.proofs.decimals.digits_of.Given as goal
+
+abbrev pub invariant-loop-start : goal.invariant-loop-start
+invariant-loop-start l =
+    (l.start ≤ 10) × (length l.text ≡ 10) × (digits l.start l.left ++ drop l.start l.text ≡ decimal l.number)
+
+abbrev pub decreases-loop-start : goal.decreases-loop-start
+decreases-loop-start l = l.start

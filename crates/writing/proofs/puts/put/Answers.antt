@@ -1,0 +1,37 @@
+use mathlib.Core.Path.{◌≡◌, refl}
+use Prim.Native.Nat.{◌-◌, ◌≤◌}
+use native.Mathlib.Numerals.{add-one}
+use native.Mathlib.Omega.{arith}
+use lib.ListN.{length, length-set}
+use lib.Seq.{paste, paste-zero, paste-suc, take-length}
+use Rattle.writing.proofs.PutLaws.{put-none, put_some}
+use borrow.Author.Rules.{rules}
+use Rattle.writing.proofs.puts.put.Goals as goal
+
+pub returns-then-out-at : goal.returns-then-out-at
+returns-then-out-at c = put-none c.args.out.now c.args.at c.args.word.now (omega arith)
+
+pub returns-then-out-at-2 : goal.returns-then-out-at-2
+returns-then-out-at-2 c =
+    put-none c.args.out.now c.args.at c.args.word.now
+    (omega arith)
+
+pub loop-i-init : goal.loop-i-init
+loop-i-init c = (
+  omega arith,
+  refl,
+  paste-zero c.args.out.now c.args.at c.args.word.now,
+)
+
+pub loop-i-preserved : goal.loop-i-preserved
+loop-i-preserved c =
+    let a = c.args in
+    let l = c.loop-i in
+    let more = paste-suc a.out.now a.at a.word.now l.i 0 (omega arith) (omega arith) in
+    (omega arith, rw length-set l.invariant.1, rw (l.invariant.2, add-one) more)
+
+pub returns : goal.returns
+returns c =
+    let l = c.loop-i in
+    let e : l.i ≡ length c.args.word.now = omega arith in
+    rw (l.invariant.2, e, take-length) (put_some c.args.out.now c.args.at c.args.word.now (omega arith))
