@@ -1,0 +1,17 @@
+use Rattle.packets.proofs.ConvertPromises.{by_bad, widened_part}
+use borrow.Author.Rules.{rules}
+use Rattle.packets.proofs.conversions.convert_by.Goals as goal
+
+pub returns-in_default : goal.returns-in_default
+returns-in_default c =
+    by_bad c.args.table.now c.args.out.now c.widen.new.out c.widen.ensures c.in_default.is
+
+pub finish-requires : goal.finish-requires
+finish-requires c =
+    let p = c.requires in
+    let part = widened_part c.args.table.now c.widen.new.out _ c.widen.ensures c.in-Bytes.is in
+    (p.0, p.1, p.2, part.0)
+
+pub returns : goal.returns
+returns c =
+    c.finish.ensures

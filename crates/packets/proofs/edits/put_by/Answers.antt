@@ -1,0 +1,42 @@
+use native.Mathlib.Omega.{arith}
+use Rattle.packets.proofs.PutPromises.{judged-put}
+use Rattle.packets.proofs.PutBytes.{put_bounds, place-room, put_ready}
+use borrow.Author.Rules.{rules}
+use Rattle.packets.proofs.edits.put_by.Goals as goal
+
+pub overflow_add-n : goal.overflow_add-n
+overflow_add-n c =
+    let b = put_bounds c.args.table.now c.args.index c.args.k c.args.records.now c.requires.0 in
+    omega (arith, b, c.two_at-n.ensures.0)
+
+pub put_start-to-requires : goal.put_start-to-requires
+put_start-to-requires c =
+    let r = place-room c.args.table.now c.args.index c.args.k c.args.records.now c.requires.0
+    _ c.place_behind-place.ensures in
+    (r.0, r.1, omega (arith, r, c.requires.1))
+
+pub slice_bounds-put-count : goal.slice_bounds-put-count
+slice_bounds-put-count c =
+    let r = place-room c.args.table.now c.args.index c.args.k c.args.records.now
+    c.requires.0 _ c.place_behind-place.ensures in
+    omega (arith, r.1)
+
+pub overflow_sub-n : goal.overflow_sub-n
+overflow_sub-n c =
+    let b = put_bounds c.args.table.now c.args.index c.args.k
+    c.args.records.now c.requires.0 in
+    omega (arith, b, c.two_at-n.ensures.0)
+
+pub returns : goal.returns
+returns c =
+    let ready = put_ready c.args.table.now c.args.index c.args.k c.args.records.now c.requires.0 _
+    _ _ _ _ _ _ _ _ _ _ _ c.two_at-n.ensures.0
+    c.two_at-head.ensures.0
+    c.place_behind-place.ensures c.requires.1
+    c.put_start-to.ensures c.put-next.ensures
+    c.put-size.ensures c.renumber_from.ensures
+    c.renumber_from-2.ensures in
+    judged-put c.args.table.now c.args.records.now c.args.out.now c.args.index
+    c.args.k
+    c.requires.0 _ ready.0
+    _ c.deliver_new.ensures

@@ -1,0 +1,11 @@
+use native.Mathlib.Omega.{arith}
+use Prim.Native.Nat.{◌-◌}
+use Rattle.packets.proofs.LinesWritten.{Lines, lines_start, lines_end, lines-stop, lines_step}
+use borrow.Author.Rules.{rules}
+use Rattle.packets.proofs.listing.put_lines.Given as goal
+
+abbrev pub invariant-loop-i : goal.invariant-loop-i
+invariant-loop-i l = Lines l.initial.out l.at l.table l.place l.run l.n l.out l.next l.begin l.i
+
+abbrev pub decreases-loop-i : goal.decreases-loop-i
+decreases-loop-i l = l.n - l.i

@@ -1,0 +1,6 @@
+use Rattle.packets.proofs.LookupPromises.{on_placed}
+use borrow.Author.Rules.{rules}
+use Rattle.packets.proofs.lookups.label_place.Goals as goal
+
+pub returns : goal.returns
+returns c = on_placed c.args.table.now _ c.find_label-label.result c.find_label-label.ensures

@@ -1,0 +1,11 @@
+use mathlib.Core.Path.{refl}
+use borrow.Author.Rules.{rules}
+use Rattle.packets.proofs.shifts.renumber_record.Goals as goal
+
+pub returns : goal.returns
+returns c =
+    rw (
+      c.renumber_part-3.ensures,
+      c.renumber_part-2.ensures,
+      c.renumber_part.ensures,
+    ) refl

@@ -1,0 +1,31 @@
+use mathlib.Core.Path.{◌∙◌}
+use Rattle.packets.specs.Steps.{field_step, holds_at}
+use borrow.Author.Tests.{eq-eqb, ne_eqb}
+use Rattle.packets.proofs.StepLaws.{got-value, got-stop}
+use borrow.Author.Rules.{rules}
+use Rattle.packets.proofs.steps.field_step.Goals as goal
+
+pub returns-in_default : goal.returns-in_default
+unfolding field_step
+returns-in_default c =
+    let a = c.args in
+    let v = holds_at a.table.now a.run.now a.p.condition in
+    let e = got-stop c.holds_at-condition.result v _ c.holds_at-condition.ensures
+    c.in_default.is in
+    rw e (c.stopped.ensures ∙ rw c.in_default.is)
+
+pub returns-then-c-eq0 : goal.returns-then-c-eq0
+unfolding field_step
+returns-then-c-eq0 c =
+    let a = c.args in
+    let v = holds_at a.table.now a.run.now a.p.condition in
+    let e = got-value c.holds_at-condition.result v _ c.holds_at-condition.ensures c.in-Value.is in
+    rw (e, eq-eqb _ 0 c.if-c-eq0.true)
+
+pub returns : goal.returns
+unfolding field_step
+returns c =
+    let a = c.args in
+    let v = holds_at a.table.now a.run.now a.p.condition in
+    let e = got-value c.holds_at-condition.result v _ c.holds_at-condition.ensures c.in-Value.is in
+    rw (e, ne_eqb _ 0 c.if-c-eq0.false) c.present_at.ensures

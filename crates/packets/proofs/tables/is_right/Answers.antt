@@ -1,0 +1,36 @@
+use mathlib.Core.Path.{refl, sym, ◌∙◌}
+use native.Mathlib.Omega.{arith}
+use borrow.Author.Tests.{not-true, not-false}
+use Rattle.packets.proofs.RightSteps.{gathered_true, right-places, right-numbers}
+use borrow.Author.Rules.{rules}
+use Rattle.packets.proofs.tables.is_right.Goals as goal
+
+pub returns-then-not-has_fields : goal.returns-then-not-has_fields
+returns-then-not-has_fields c =
+    let none = sym c.has_fields.ensures.is ∙ c.if-not-has_fields.true in
+    rw none refl
+
+pub keeps_numbers-requires : goal.keeps_numbers-requires
+keeps_numbers-requires c =
+    let p = c.requires in
+    let s = c.args.table.now in
+    let n = c.two_at.ensures.0 in
+    let kept = c.has_fields.auto in
+    let yes_fields = c.if-not-has_fields.false in
+    let fields = sym c.has_fields.ensures.is ∙ yes_fields in
+    let g = gathered_true s _ _ yes_fields c.has_fields.ensures.gathered in (
+      omega (arith, n, p.1.1, kept),
+      omega (arith, n, p.1.3, kept),
+      rw n (right-places s _ p.0.0 p.0.1 fields g.0),
+    )
+
+pub returns : goal.returns
+returns c =
+    let p = c.requires in
+    let s = c.args.table.now in
+    let n = c.two_at.ensures.0 in
+    let kept = c.has_fields.auto in
+    let yes_fields = c.if-not-has_fields.false in
+    let fields = sym c.has_fields.ensures.is ∙ yes_fields in
+    let g = gathered_true s _ _ yes_fields c.has_fields.ensures.gathered in
+    rw fields (right-numbers s _ c.has_fields.new.counts _ c.keeps_numbers.ensures n g (omega (arith, p.1.3, kept)))

@@ -1,0 +1,213 @@
+
+use Rattle.packets.proofs.tables.walk.Goals as goal
+
+use mathlib.Core.Path.{◌≡◌, refl, sym, ◌∙◌}
+use mathlib.Core.Bool.{false}
+use mathlib.Core.List.{[]}
+use Prim.Native.Nat.{◌-◌, ◌*◌, ◌≤◌}
+use native.Mathlib.Omega.{arith}
+use native.Mathlib.Nat.{sub-zero}
+use lib.ListN.{length, take, length-set}
+use lib.Seq.{lt-length-set}
+use borrow.Author.Tests.{eq-eqb, ne_eqb, not-true, not-false}
+use Rattle.rules.specs.Limits.{fixed_most}
+use Rattle.packets.specs.TableTest.{walk_at}
+use Rattle.packets.specs.Parts.{parts_at}
+use Rattle.packets.proofs.FieldSteps.{parts-inside, field_next, bits_small}
+use Rattle.packets.proofs.WalkSteps.{
+  take_own,
+  walk_field,
+  walk-trees,
+  walk_on,
+  walk_end,
+  own-trees,
+  mark-word,
+}
+use Rattle.packets.proofs.NameSteps.{Gathering, gather-start, gather_again, gather_done}
+use Rattle.packets.proofs.CountSteps.{Tallying, record_length, tally-start, tally_again, tally_done}
+use borrow.Author.Rules.{rules}
+use Rattle.packets.proofs.tables.walk.Statement.{statement}
+use Rattle.packets.proofs.tables.walk.Tie as tie
+use Rattle.packets.proofs.tables.walk.Reads as reads
+use Rattle.packets.proofs.tables.walk.Lts as lts
+use Rattle.packets.proofs.counts.count_record.Reads as count-record-reads
+use Rattle.packets.proofs.fields.bits_of.Reads as bits-of-reads
+use Rattle.packets.proofs.fields.ends_with.Reads as ends-with-reads
+use Rattle.packets.proofs.fields.has_trees.Reads as has-trees-reads
+use Rattle.packets.proofs.fields.is_field.Reads as is-field-reads
+use Rattle.packets.proofs.fields.is_word.Reads as is-word-reads
+use Rattle.packets.proofs.fields.mark_of.Reads as mark-of-reads
+use Rattle.packets.proofs.records.parts_at.Reads as parts-at-reads
+use Rattle.packets.proofs.unique.gather.Reads as gather-reads
+
+pub loop-i-init : goal.loop-i-init
+loop-i-init c =
+    let a = c.args in (
+      omega arith,
+      refl,
+      omega arith,
+      search rules,
+      rw sub-zero,
+      gather-start a.s.now a.count a.from _ _ _ _,
+      refl,
+      refl,
+      refl,
+      refl,
+      refl,
+      tally-start a.s.now a.count a.from _ c.requires.1.4,
+    )
+
+pub is_field-requires : goal.is_field-requires
+is_field-requires c =
+    (c.requires.0.0, omega arith, c.requires.0.3, c.parts_at-parts.ensures, c.requires.0.5)
+
+pub returns-then-not-is_field : goal.returns-then-not-is_field
+returns-then-not-is_field c =
+    let a = c.args in
+    let l = c.loop-i in
+    let s = a.s.now in
+    let before = take l.i l.marks in
+    let parts = c.parts_at-parts.ensures in
+    let none = sym c.is_field.ensures ∙ c.if-not-is_field.true in record {
+      is = sym (l.invariant.4 ∙ walk_field a.w a.count l.i before l.place l.ended s l.at (omega arith)
+          (rw parts at none));
+      gathered = tt;
+      counted = tt;
+    }
+
+pub is_word-word-requires : goal.is_word-word-requires
+is_word-word-requires c =
+    let parts = c.parts_at-parts.ensures in
+    let field = sym c.is_field.ensures ∙ c.if-not-is_field.false in
+    let inside = parts-inside _ _ (field_next _ _ _ _ _ _ (rw parts at field)) in
+    (rw parts inside.label, c.requires.0.3, c.requires.0.5)
+
+pub has_trees-requires : goal.has_trees-requires
+has_trees-requires c =
+    let l = c.loop-i in
+    let parts = c.parts_at-parts.ensures in
+    let field = sym c.is_field.ensures ∙ c.if-not-is_field.false in
+    let next = field_next _ _ _ _ _ _ (rw parts at field) in (
+      lt-length-set l.marks l.i _ (omega arith),
+      c.requires.0.3,
+      rw parts (parts-inside _ _ next),
+    )
+
+pub returns-then-not-has_trees : goal.returns-then-not-has_trees
+returns-then-not-has_trees c =
+    let a = c.args in
+    let l = c.loop-i in
+    let space = c.requires.0.2 in
+    let s = a.s.now in
+    let before = take l.i l.marks in
+    let parts = c.parts_at-parts.ensures in
+    let field = sym c.is_field.ensures ∙ c.if-not-is_field.false
+    in
+    let none = sym c.has_trees.ensures ∙ c.if-not-has_trees.true in
+    let marked = mark-word s _ c.is_word-word.ensures c.mark_of.ensures in
+    let own = own-trees l.marks l.i _ s _ (parts_at s l.at) parts marked (omega arith) none in record {
+      is = sym (l.invariant.4 ∙ walk-trees a.w a.count l.i before l.place l.ended s l.at (omega arith)
+          (rw parts at field) own);
+      gathered = tt;
+      counted = tt;
+    }
+
+pub gather-requires : goal.gather-requires
+gather-requires c =
+    let parts = c.parts_at-parts.ensures in
+    let field = sym c.is_field.ensures ∙ c.if-not-is_field.false in
+    let l = c.loop-i in
+    let lt = c.loop-i-test.true in
+    let few = c.requires.0.1 in
+    let room = c.requires.1 in
+    let next = field_next _ _ _ _ _ _ (rw parts at field) in record {
+      s_len_bound = (c.requires.0.3, parts, rw parts (parts-inside _ _ next), c.is_word-word.ensures);
+      i_in_bounds = (omega arith, omega arith, omega arith);
+    }
+
+pub count_record-requires : goal.count_record-requires
+count_record-requires c =
+    let parts = c.parts_at-parts.ensures in
+    let field = sym c.is_field.ensures ∙ c.if-not-is_field.false in
+    let next = field_next _ _ _ _ _ _ (rw parts at field) in
+    (c.requires.0.3, rw parts (parts-inside _ _ next))
+
+pub overflow_add-place : goal.overflow_add-place
+overflow_add-place c =
+    let field = sym c.is_field.ensures ∙ c.if-not-is_field.false in
+    let lt = c.loop-i-test.true in
+    let few = c.requires.0.1 in
+    let inv = c.loop-i.invariant in
+    let small = bits_small _ _ _ _ _ _ field in
+    let bits = c.bits_of-place.ensures in
+    omega arith
+
+pub overflow_add-i : goal.overflow_add-i
+overflow_add-i c =
+    let lt = c.loop-i-test.true in
+    let few = c.requires.0.1 in
+    omega arith
+
+pub loop-i-smaller : goal.loop-i-smaller
+loop-i-smaller c =
+    omega arith
+
+pub loop-i-preserved : goal.loop-i-preserved
+loop-i-preserved c =
+    let a = c.args in
+    let l = c.loop-i in
+    let s = a.s.now in
+    let before = take l.i l.marks in
+    let parts = c.parts_at-parts.ensures in
+    let field = sym c.is_field.ensures ∙ c.if-not-is_field.false in
+    let lt = c.loop-i-test.true in
+    let space = c.requires.0.2 in
+    let few = c.requires.0.1 in
+    let trees = sym c.has_trees.ensures ∙ c.if-not-has_trees.false in
+    let marked = mark-word s _ c.is_word-word.ensures c.mark_of.ensures in
+    let own = own-trees l.marks l.i _ s _ (parts_at s l.at) parts marked (omega arith) trees in
+    let room = c.requires.1 in
+    let small = bits_small _ _ _ _ _ _ field in
+    let bits = c.bits_of-place.ensures in
+    let step = walk_on a.w a.count l.i before l.place l.ended s l.at (omega arith)
+    (rw parts at field) own in
+    let marks = take_own l.marks l.i c.mark_of.result (omega arith) in
+    let more = gather_again s a.count a.from l.i l.at l.places l.keys l.shorts l.words
+    l.invariant.5 (omega arith) (omega arith) (omega arith) (omega arith) (omega arith) in
+    let got = (c.gather.ensures.places, c.gather.ensures.keys, c.gather.ensures.shorts, c.gather.ensures.words) in
+    let counted = tally_again s a.count a.from l.i l.at l.counts lt l.invariant.11 in (
+      omega arith,
+      search rules,
+      omega arith,
+      field_next _ _ _ _ _ _ field,
+      l.invariant.4 ∙ step ∙ rw (marks, c.ends_with-ended.ensures, bits, marked, parts),
+      rw (got.0, got.1.0, got.1.1.0, got.1.1.1, parts) more,
+      rw (got.0, length-set) l.invariant.6,
+      rw (got.1.0, length-set) l.invariant.7,
+      rw (got.1.1.0, length-set) l.invariant.8,
+      rw (got.1.1.1, length-set) l.invariant.9,
+      rw (c.count_record.ensures, record_length) l.invariant.10,
+      rw (c.count_record.ensures, parts) counted,
+    )
+
+pub returns-then-place-w-eq0 : goal.returns-then-place-w-eq0
+returns-then-place-w-eq0 c =
+    let a = c.args in
+    let l = c.loop-i in
+    let before = take l.i l.marks in
+    let e = walk_end a.w a.count l.i before l.place l.ended a.s.now l.at (omega arith) in record {
+      is = sym (l.invariant.4 ∙ e ∙ rw (eq-eqb _ _ c.if-place-w-eq0.true));
+      gathered = gather_done a.s.now a.count a.from l.i l.at _ _ _ _ l.invariant.5 (omega arith);
+      counted = tally_done a.s.now a.count a.from l.i l.at _ (omega arith) l.invariant.11;
+    }
+
+pub returns : goal.returns
+returns c =
+    let a = c.args in
+    let l = c.loop-i in
+    let before = take l.i l.marks in
+    let e = walk_end a.w a.count l.i before l.place l.ended a.s.now l.at (omega arith) in record {
+      is = sym (l.invariant.4 ∙ e ∙ rw (ne_eqb _ _ c.if-place-w-eq0.false));
+      gathered = tt;
+      counted = tt;
+    }

@@ -1,0 +1,24 @@
+use mathlib.Core.Path.{◌≡◌, sym, ◌∙◌}
+use Prim.Native.Nat.{ℕ, ◌-◌}
+use native.Mathlib.Omega.{arith}
+use lib.ListN.{length, get_or}
+use Rattle.names.specs.Repeats.{remainders}
+use Rattle.packets.specs.NamesTest.{labels_alike}
+use Rattle.packets.proofs.NameSteps.{labels_apart}
+use Rattle.names.proofs.PairLaws.{Inner, Later, Seen, later_starts, inner_from}
+use Rattle.names.proofs.PairLaws.{inner_on, later_on, seen_on, later_found, later_ends}
+use borrow.Author.Rules.{rules}
+use Rattle.packets.proofs.unique.first_label.Given as goal
+
+abbrev pub invariant-loop-i : goal.invariant-loop-i
+invariant-loop-i l = Inner (labels_alike l.s l.places) l.j l.i
+
+abbrev pub decreases-loop-i : goal.decreases-loop-i
+decreases-loop-i l = l.j - l.i
+
+abbrev pub invariant-later : goal.invariant-later
+invariant-later l =
+    Later (labels_alike l.s l.places) l.n l.j × (length l.seen ≡ remainders) × Seen (λ k. get_or l.keys k 0) l.j l.seen
+
+abbrev pub decreases-later : goal.decreases-later
+decreases-later l = l.n - l.j

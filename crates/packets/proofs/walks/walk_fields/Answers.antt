@@ -1,0 +1,73 @@
+use mathlib.Core.Path.{◌≡◌, refl, ◌∙◌}
+use native.Mathlib.Omega.{arith}
+use borrow.Author.Tests.{eq-eqb, ne_eqb}
+use Prim.Native.Nat.{◌-◌, ◌≤◌}
+use Rattle.packets.specs.Steps.{field_step}
+use Rattle.packets.specs.Walks.{walk_all, walk_from, walk_answer}
+use native.Mathlib.Nat.{sub-zero}
+use lib.ListN.{length}
+use Rattle.rules.specs.Reading.{bit_total}
+use Rattle.packets.proofs.PacketWalk.{length_with, walk-to, walk-stop, walk_end, step-inside}
+use borrow.Author.Rules.{rules}
+use Rattle.packets.proofs.walks.walk_fields.Goals as goal
+
+pub loop-i-init : goal.loop-i-init
+unfolding walk_all
+loop-i-init c =
+    (omega arith, omega arith, refl, rw (← c.two_at-n.ensures.0, ← c.two_at-at.ensures.0, sub-zero))
+
+pub returns-in_default : goal.returns-in_default
+unfolding walk_answer
+returns-in_default c =
+    let a = c.args in
+    let l = c.loop-i in
+    let told = c.in_default.is in
+    let h =
+    l.invariant.3
+    ∙ walk-stop a.table.now a.packet.now l.run c.two_at-n.result l.i l.place l.at
+    c.record_at-p.result c.one_field-found.result c.one_field-found.new.run c.loop-i-test.true c.record_at-p.ensures
+    c.one_field-found.ensures.0 _
+    c.one_field-found.ensures.1 told in
+    (rw h (c.refused.ensures ∙ rw told), rw h refl)
+
+pub loop-i-preserved : goal.loop-i-preserved
+loop-i-preserved c =
+    let a = c.args in
+    let l = c.loop-i in
+    let one = c.one_field-found in
+    let to = c.in-Field.is in
+    let later = c.two_at-n.result - l.i - 1 in
+    let st = field_step a.table.now a.packet.now l.run c.record_at-p.result later l.place in
+    let h =
+    walk-to a.table.now a.packet.now l.run c.two_at-n.result l.i l.place l.at
+    c.record_at-p.result one.result one.new.run
+    c.loop-i-test.true c.record_at-p.ensures one.ensures.0
+    _ _ one.ensures.1 to in
+    let inside =
+    step-inside a.table.now a.packet.now l.run l.i c.record_at-p.result later l.place one.result
+    _ _ l.invariant.1 one.ensures.0 to in (
+      omega arith,
+      inside,
+      rw one.ensures.1 (length_with l.run l.i st) ∙ l.invariant.2,
+      l.invariant.3 ∙ h,
+    )
+
+pub returns-then-place-total : goal.returns-then-place-total
+unfolding walk_answer
+returns-then-place-total c =
+    let a = c.args in
+    let l = c.loop-i in
+    let e : l.i ≡ c.two_at-n.result = omega arith in
+    let h =
+    rw e at l.invariant.3 ∙ walk_end a.table.now a.packet.now l.run c.two_at-n.result l.place l.at in
+    (rw (h, eq-eqb _ _ c.if-place-total.true), rw h refl)
+
+pub returns : goal.returns
+unfolding walk_answer
+returns c =
+    let a = c.args in
+    let l = c.loop-i in
+    let e : l.i ≡ c.two_at-n.result = omega arith in
+    let h =
+    rw e at l.invariant.3 ∙ walk_end a.table.now a.packet.now l.run c.two_at-n.result l.place l.at in
+    (rw (h, ne_eqb _ _ c.if-place-total.false), rw h refl)

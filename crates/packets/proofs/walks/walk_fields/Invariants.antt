@@ -1,0 +1,20 @@
+use mathlib.Core.Path.{◌≡◌, refl, ◌∙◌}
+use native.Mathlib.Omega.{arith}
+use borrow.Author.Tests.{eq-eqb, ne_eqb}
+use Prim.Native.Nat.{◌-◌, ◌≤◌}
+use Rattle.packets.specs.Steps.{field_step}
+use Rattle.packets.specs.Walks.{walk_all, walk_from, walk_answer}
+use native.Mathlib.Nat.{sub-zero}
+use lib.ListN.{length}
+use Rattle.rules.specs.Reading.{bit_total}
+use Rattle.packets.proofs.PacketWalk.{length_with, walk-to, walk-stop, walk_end, step-inside}
+use borrow.Author.Rules.{rules}
+use Rattle.packets.proofs.walks.walk_fields.Given as goal
+
+abbrev pub invariant-loop-i : goal.invariant-loop-i
+invariant-loop-i l =
+    (l.i ≤ l.n) × (l.place ≤ bit_total l.packet) × (length l.run ≡ length l.initial.run)
+    × (walk_all l.table l.packet l.initial.run ≡ walk_from l.table l.packet (l.n - l.i) l.i l.run l.place l.at)
+
+abbrev pub decreases-loop-i : goal.decreases-loop-i
+decreases-loop-i l = l.n - l.i

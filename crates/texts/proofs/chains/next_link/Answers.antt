@@ -1,0 +1,19 @@
+use Rattle.texts.proofs.OperatorRows.{row-code}
+use Rattle.texts.proofs.ChainSteps.{link_ends, link_goes}
+use borrow.Author.Rules.{rules}
+use Rattle.texts.proofs.chains.next_link.Goals as goal
+
+pub returns-in-Nothing : goal.returns-in-Nothing
+returns-in-Nothing c =
+    let a = c.args in
+    link_ends a.g a.c a.a a.out.now _ c.in-Nothing.is c.chained-t.ensures
+
+pub returns-in-By : goal.returns-in-By
+returns-in-By c =
+    let a = c.args in
+    let v = c.in-By.given.0 in
+    let p = c.put_first in
+    link_goes a.g a.c a.a a.out.now v.0 v.1.0 v.1.1.0 v.1.1.1.0 c.in-By.is _
+    c.pushed-d.ensures c.place_in-from.result c.place_in-from.ensures.0
+    c.place_in-from.ensures.1 _ p.auto.out c.operator-row.result.code
+    (row-code _ v.0 c.operator-row.ensures) p.ensures

@@ -1,0 +1,113 @@
+use mathlib.Core.Path.{sym, ◌∙◌}
+use Prim.Native.Nat.{◌+◌, ◌*◌}
+use native.Mathlib.Omega.{arith}
+use native.Mathlib.Nat.{sub-zero}
+use Rattle.writing.proofs.PutLaws.{put-writes}
+use Rattle.texts.specs.RowPlaces.{slots_at}
+use Rattle.texts.proofs.MoreSteps.{behind-line, behind_bad, behind-border, behind-wrong}
+use Rattle.texts.proofs.RowLines.{goes-size}
+use Rattle.texts.proofs.RowSteps.{row-wrong, row_put, labels-all, room-line, room-ended}
+use Rattle.texts.proofs.StateSteps.{taken-wrong, taken-wrong-row}
+use borrow.Author.Rules.{rules}
+use Rattle.texts.proofs.head_lines.take_more.Goals as goal
+
+pub overflow_mul-size : goal.overflow_mul-size
+overflow_mul-size c = let q = c.requires.0.width in search (rules, q)
+
+pub overflow_add-size : goal.overflow_add-size
+overflow_add-size c = let q = c.requires.0.width in search (rules, q)
+
+pub overflow_mul-n : goal.overflow_mul-n
+overflow_mul-n c =
+    let q = c.requires.0.row in search (rules, q)
+
+pub overflow_add-r : goal.overflow_add-r
+overflow_add-r c =
+    let q = c.requires.0.row in search (rules, q)
+
+pub onward-requires : goal.onward-requires
+onward-requires c =
+    c.requires.1
+
+pub returns-then-goes_on : goal.returns-then-goes_on
+returns-then-goes_on c =
+    let r = c.args.r in
+    let l = c.args.line.now in
+    let row = c.args.row.now in
+    let safe = c.requires.0 in
+    let room = c.requires.3.1 in
+    let goes = rw (sub-zero (2 * r.width + 1)) at (sym c.goes_on.ensures ∙ c.if-goes_on.true) in
+    let size = goes-size r.row (2 * r.width + 1) row l goes (omega (arith, safe.width, room)) in
+    let w = put-writes (omega (arith, safe.width, safe.row, room, size.1)) c.put.ensures in record {
+      room = rw c.onward.ensures ((room-line r (r.row + 1) safe (omega (arith, size.0)), omega arith));
+      step = rw c.onward.ensures (λ f x table labels names k b is kept h.
+          behind-line f x r l k is kept h room c.requires.3.0 goes safe size.1 w);
+    }
+
+pub put_row-ended-requires : goal.put_row-ended-requires
+put_row-ended-requires c =
+    let k = c.requires.0 in (
+      k.row,
+      omega arith,
+      omega (arith, k.width),
+      c.requires.3.1,
+      omega (arith, k.slots, k.cells, c.requires.2),
+      c.class_table-classes.ensures,
+    )
+
+pub returns-in_default : goal.returns-in_default
+returns-in_default c =
+    let r = c.args.r in
+    let l = c.args.line.now in
+    let row = c.args.row.now in
+    let safe = c.requires.0 in
+    let room = c.requires.3.1 in
+    let stops = rw (sub-zero (2 * r.width + 1)) at (sym c.goes_on.ensures ∙ c.if-goes_on.false) in
+    let q = row-wrong row r.row (2 * r.width + 1) c.args.cells.now _ r.slots _ c.put_row-ended.ensures
+    c.in_default.is in record {
+      room = rw c.wrong_row.ensures (taken-wrong-row r safe);
+      step = rw c.wrong_row.ensures (λ f x table labels names k b is kept h. behind_bad f x r l k is kept h room c.requires.3.0 stops q.0 q.1);
+    }
+
+pub is_border-requires : goal.is_border-requires
+is_border-requires c =
+    c.requires.0.width
+
+pub end_row-requires : goal.end_row-requires
+end_row-requires c =
+    (c.requires.0, c.requires.1)
+
+pub returns-then-is_border : goal.returns-then-is_border
+returns-then-is_border c =
+    let r = c.args.r in
+    let l = c.args.line.now in
+    let row = c.args.row.now in
+    let safe = c.requires.0 in
+    let room = c.requires.3.1 in
+    let stops = rw (sub-zero (2 * r.width + 1)) at (sym c.goes_on.ensures ∙ c.if-goes_on.false) in
+    let p = row_put row r.row (2 * r.width + 1) c.args.cells.now _ r.slots _ c.put_row-ended.ensures _ _
+    c.in-Put.is in record {
+      room = rw c.end_row.ensures (room-ended r _ _ (slots_at row r.row (2 * r.width + 1) 1) safe
+          (labels-all row r.row (2 * r.width + 1) p.labels) p.is_count p.writes);
+      step = rw c.end_row.ensures (λ f x table labels names k b is kept h. behind-border f x r l k is kept h room c.requires.3.0 stops p.labels
+          p.writes safe c.requires.2 b (sym c.is_border.ensures ∙ c.if-is_border.true) _ p.is_count);
+    }
+
+pub wrong-requires : goal.wrong-requires
+wrong-requires c =
+    c.requires.1
+
+pub returns : goal.returns
+returns c =
+    let r = c.args.r in
+    let l = c.args.line.now in
+    let row = c.args.row.now in
+    let safe = c.requires.0 in
+    let room = c.requires.3.1 in
+    let stops = rw (sub-zero (2 * r.width + 1)) at (sym c.goes_on.ensures ∙ c.if-goes_on.false) in
+    let p = row_put row r.row (2 * r.width + 1) c.args.cells.now _ r.slots _ c.put_row-ended.ensures _ _
+    c.in-Put.is in record {
+      room = rw c.wrong.ensures (taken-wrong r safe);
+      step = rw c.wrong.ensures (λ f x table labels names k b is kept h. behind-wrong f x r l k is kept h room c.requires.3.0 stops p.labels
+          p.writes safe c.requires.2 (sym c.is_border.ensures ∙ c.if-is_border.false));
+    }

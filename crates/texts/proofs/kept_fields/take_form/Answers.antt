@@ -1,0 +1,186 @@
+use mathlib.Core.Path.{◌≡◌, refl, ap, sym, ◌∙◌}
+use mathlib.Core.Bool.{false}
+use mathlib.Core.List.{List}
+use Prim.Native.Nat.{ℕ, ◌+◌, ◌<◌}
+use native.Mathlib.Omega.{arith}
+use lib.ListN.{length}
+use Rattle.rules.specs.Limits.{fields_most}
+use Rattle.text_laws.specs.Judging.{is_open}
+use Rattle.text_laws.specs.Fold as fold
+use Rattle.texts.specs.HeldParts.{bytes_of}
+use Rattle.texts.specs.Noted.{note_of}
+use Rattle.texts.proofs.AreaLaws.{labels-long, cells-long, table-room, areas_hold}
+use Rattle.texts.proofs.FormAreas.{label-back, label-room, label_areas, label-table, record_back, record_room}
+use Rattle.texts.proofs.FormAreas.{recorded, record_areas, record_writes}
+use Rattle.texts.proofs.FormRules.{form-short, all-formed}
+use Rattle.texts.proofs.FieldSteps.{holds_open, holds-closed, holds_named}
+use Rattle.texts.proofs.LineForms.{named_with, told-after, room-kept, room-refused}
+use Rattle.texts.proofs.LineForms.{form-note, rests_here}
+use Rattle.texts.proofs.PartBytes.{record_bytes, record_short}
+use Rattle.texts.proofs.LineCounts.{line-tallied}
+use borrow.Author.Rules.{rules}
+use Rattle.texts.proofs.kept_fields.take_form.Goals as goal
+
+pub hold_label-requires : goal.hold_label-requires
+hold_label-requires c =
+    let q = c.requires in
+    let few : c.args.r.fields < fields_most = omega (arith, q.0.0.fields, q.1) in
+    let long = labels-long c.args.held.now q.0.3 in
+    (q.2.0.label, few, omega (arith, long))
+
+pub later_rule-b-requires : goal.later_rule-b-requires
+later_rule-b-requires c =
+    let q = c.requires in
+    let w = q.2.0 in
+    let few : c.args.r.fields < fields_most = omega
+    (arith, q.0.0.fields, q.1) in (
+      q.0.0,
+      q.0.1,
+      few,
+      (w.label, w.short),
+      label-room
+          c.args.held.now q.0.3
+          c.hold_label.ensures,
+    )
+
+pub slice_bounds-keep_field-count : goal.slice_bounds-keep_field-count
+slice_bounds-keep_field-count c =
+    let n = label-room c.args.held.now c.requires.0.3
+    c.hold_label.ensures in omega (arith, n)
+
+pub keep_field-end-requires : goal.keep_field-end-requires
+keep_field-end-requires c =
+    let q = c.requires in
+    let held = c.args.held.now in
+    let few : c.args.r.fields < fields_most = omega
+    (arith, q.0.0.fields, q.1) in
+    let part = ap (λ (z : List ℕ). length z) (label-table held q.0.3
+    c.hold_label.ensures) in
+    let room = table-room held q.0.3 in
+    (q.2.0, q.0.2, omega (arith, q.2.1, q.0.0.end, few, part, room), q.2.2)
+
+pub next_cell-cell-requires : goal.next_cell-cell-requires
+next_cell-cell-requires c =
+    let n = record_room c.args.held.now c.requires.0.3
+    c.hold_label.ensures c.keep_field-end.ensures.bytes.0 in
+    let m = cells-long (recorded c.args.held.now c.requires.0.3
+    c.hold_label.ensures c.keep_field-end.ensures.bytes.0) n in
+    (c.requires.0.0, omega (arith, m))
+
+pub overflow_add-r : goal.overflow_add-r
+overflow_add-r c =
+    let q = c.requires.1 in
+    let k = c.requires.0.0.fields in
+    search (rules, q, k)
+
+pub overflow_add-r-then-is_open : goal.overflow_add-r-then-is_open
+overflow_add-r-then-is_open c =
+    let q = c.requires.1 in
+    let k = c.requires.0.0.fields in
+    search (rules, q, k)
+
+pub onward-requires : goal.onward-requires
+onward-requires c =
+    c.requires.0.1
+
+pub shape_of-held-then-is_open : goal.shape_of-held-then-is_open
+shape_of-held-then-is_open c =
+    let e = record_back c.args.held.now
+    c.requires.0.3 c.hold_label.ensures
+    c.keep_field-end.ensures.bytes.0 in
+    search (rules, e)
+
+pub returns-then-is_open : goal.returns-then-is_open
+returns-then-is_open c =
+    let a = c.args in
+    let q = c.requires in
+    let held = a.held.now in
+    let r = a.r in
+    let l = a.line.now in
+    let v = bytes_of a.wide.now a.first.now a.second.now in
+    let few : r.fields < fields_most = omega (arith, q.0.0.fields, q.1) in
+    let rule = c.later_rule-b in
+    let lowest = c.lower-a in
+    let put = c.keep_field-end in
+    let cell = c.next_cell-cell in
+    let own = c.hold_label.ensures in
+    let areas = label_areas held q.0.3 own in
+    let last = record_areas held q.0.3 own put.ensures.bytes.0 in
+    let told = told-after (note_of r.note) _ lowest.result lowest.ensures.lowest q.0.0.told rule.ensures.told
+    in
+    let kept = sym c.is_open.ensures ∙ c.if-is_open.true in record {
+      room = rw c.onward.ensures ((
+        room-kept r cell.result put.result c.rests-rested.result lowest.result q.0.0
+            q.1 cell.ensures.0 (omega (arith, put.ensures.end)) (omega (arith, put.ensures.end, q.2.1)) told
+            (lowest.ensures.place (r.lines + 1) q.0.0.placed rule.ensures.rule.1),
+        omega arith,
+      ));
+      step = rw c.onward.ensures ((
+        record_back held q.0.3 own put.ensures.bytes.0,
+        (λ f x k full h is_form small is.
+            let nw = named_with l x a.p is f r h.counts few refl h.named own.labels in
+            let low = lowest.ensures.lowest ∙ form-note f r x h.counts small
+            (rule.ensures.rule.0 f x v k h.counts (rw areas.cells_are h.slots)
+            (rw (areas.labels-are, areas.names-are) nw) is_form (rw areas.names-are is)) in
+            areas_hold (fold.brief_field f l) _ _ last
+            (holds_open f r h x (record {
+              cell = cell.ensures.1 f h.counts (rw last.cells_are h.slots);
+              writes = rw (record_bytes _ r.fields l x v a.p is q.2.0 q.2.2) at (record_writes held
+                  q.0.3 own put.ensures.bytes.0);
+              short = record_short _ r.fields l x v a.p is q.2.0 q.2.2 q.2.1;
+              tallies = put.ensures.bytes.1 ∙ line-tallied _ r.fields l x v a.p is q.2.0 q.2.2 _;
+              rested = c.rests-rested.ensures ∙ rests_here f r x h.counts a.p is;
+              named = nw;
+            }) k (form-short f k l x is_form) (all-formed f k l x is_form) l lowest.result full is_form low kept)),
+      ));
+    }
+
+pub overflow_add-r-2 : goal.overflow_add-r-2
+overflow_add-r-2 c =
+    let q = c.requires.1 in
+    let k = c.requires.0.0.fields in
+    search (rules, q, k)
+
+pub onward-requires-2 : goal.onward-requires-2
+onward-requires-2 c =
+    c.requires.0.1
+
+pub shape_of-held : goal.shape_of-held
+shape_of-held c =
+    let e = label-back c.args.held.now
+    c.requires.0.3 c.hold_label.ensures in
+    search (rules, e)
+
+pub returns : goal.returns
+returns c =
+    let a = c.args in
+    let q = c.requires in
+    let r = a.r in
+    let l = a.line.now in
+    let held = a.held.now in
+    let v = bytes_of a.wide.now a.first.now a.second.now in
+    let room = q.0.0 in
+    let rule = c.later_rule-b in
+    let lowest = c.lower-a in
+    let own = c.hold_label.ensures in
+    let few : r.fields < fields_most = omega (arith, room.fields, q.1) in
+    let areas = label_areas held q.0.3 own in
+    let told = told-after (note_of r.note) _ lowest.result lowest.ensures.lowest room.told rule.ensures.told in
+    let shut : is_open (note_of lowest.result) ≡ false = sym c.is_open.ensures ∙
+    c.if-is_open.false in record {
+      room = rw c.onward-2.ensures ((
+        room-refused r lowest.result room q.1 told
+            (lowest.ensures.place (r.lines + 1) room.placed rule.ensures.rule.1),
+        omega arith,
+      ));
+      step = rw c.onward-2.ensures ((
+        label-back held q.0.3 own,
+        (λ f x k full h is_form small is.
+            let nw = named_with l x a.p is f r h.counts few refl h.named own.labels in
+            let low = lowest.ensures.lowest ∙ form-note f r x h.counts small
+            (rule.ensures.rule.0 f x v k h.counts (rw areas.cells_are h.slots)
+            (rw (areas.labels-are, areas.names-are) nw) is_form (rw areas.names-are is)) in
+            areas_hold (fold.brief_field f l) _ _ areas
+            (holds-closed f r (holds_named f r x h nw) l x lowest.result full is_form low shut)),
+      ));
+    }

@@ -1,0 +1,16 @@
+use mathlib.Core.Path.{sym, ◌∙◌}
+use lib.ListN.{drop}
+use Rattle.texts.proofs.FieldNames.{ends_open, ends_colon}
+use borrow.Author.Rules.{rules}
+use Rattle.texts.proofs.labels.label_ends.Goals as goal
+
+pub returns-then-starts_at : goal.returns-then-starts_at
+returns-then-starts_at c =
+    let a = c.args in
+    sym (ends_open (drop a.at a.s.now) (sym c.starts_at.ensures ∙ c.if-starts_at.true))
+
+pub returns : goal.returns
+returns c =
+    let a = c.args in
+    let n = ends_colon (drop a.at a.s.now) (sym c.starts_at.ensures ∙ c.if-starts_at.false) in
+    c.starts_at-2.ensures ∙ sym n

@@ -1,0 +1,6 @@
+use native.Mathlib.Nat.{sub-zero}
+use borrow.Author.Rules.{rules}
+use Rattle.texts.proofs.line_counts.count_tree.Goals as goal
+
+pub returns : goal.returns
+returns c = rw (sub-zero c.args.len) at c.tally.ensures

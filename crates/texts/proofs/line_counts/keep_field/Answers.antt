@@ -1,0 +1,24 @@
+use native.Mathlib.Omega.{arith}
+use borrow.Author.Rules.{rules}
+use Rattle.texts.proofs.line_counts.keep_field.Goals as goal
+
+pub count_line-requires : goal.count_line-requires
+count_line-requires c =
+    let q = c.requires in
+    let w = q.0 in
+    let r = q.3 in (
+      omega (arith, w.width, r.width),
+      omega (arith, w.constraint, r.constraint),
+      omega (arith, w.condition, r.condition),
+    )
+
+pub put_field-requires : goal.put_field-requires
+put_field-requires c = c.requires
+
+pub returns : goal.returns
+returns c =
+    let q = (c.put_field.ensures.end, c.put_field.ensures.bytes) in record {
+      end = q.0;
+      bytes = q.1;
+      counts = c.count_line.ensures;
+    }

@@ -1,0 +1,14 @@
+use mathlib.Core.Path.{◌≡◌, refl, ◌∙◌}
+use Prim.Native.Nat.{◌-◌, ◌≤◌}
+use native.Mathlib.Omega.{arith}
+use lib.ListN.{length, take, length-set}
+use Rattle.writing.proofs.PutLaws.{put-writes}
+use Rattle.texts.proofs.JoinLaws.{plain_front, front-more, joined_line}
+use borrow.Author.Rules.{rules}
+use Rattle.texts.proofs.line_joins.join_line.Given as goal
+
+abbrev pub invariant-loop-i : goal.invariant-loop-i
+invariant-loop-i l = (l.i ≤ l.used) × (length l.line ≡ length l.initial.line) × (take l.i l.line ≡ plain_front l.i l.s)
+
+abbrev pub decreases-loop-i : goal.decreases-loop-i
+decreases-loop-i l = l.used - l.i

@@ -1,0 +1,129 @@
+use mathlib.Core.Path.{sym, ◌∙◌}
+use Prim.Native.Nat.{◌+◌, ◌≤◌}
+use native.Mathlib.Omega.{arith}
+use lib.ListN.{length}
+use Rattle.base.specs.Bytes.{bytes}
+use Rattle.texts.proofs.FieldClauses.{clause_room}
+use Rattle.texts.proofs.FieldParts.{label_as, label-within, short_as, short-within}
+use Rattle.texts.proofs.PartSteps.{kept-all, parts-no-label, parts-no-short, parts-no_colon, parts-behind}
+use borrow.Author.Rules.{rules}
+use Rattle.texts.proofs.line_parts.parts_of.Goals as goal
+
+pub label_at-l-requires : goal.label_at-l-requires
+label_at-l-requires c =
+    (omega arith, c.requires.2.table)
+
+pub returns-in_default : goal.returns-in_default
+returns-in_default c =
+    let a = c.args in record {
+      kept = kept-all _ _;
+      same = parts-no-label _ a.n a.s.now _ _ c.no_parts.ensures c.label_at-l.ensures.same
+          c.in_default.is;
+    }
+
+pub short_at-h-requires : goal.short_at-h-requires
+short_at-h-requires c =
+    let a = c.args in
+    let s = a.s.now in
+    let f = c.label_at-l in
+    let q = c.in-At.given in
+    let w = label-within _ _ q.1 f.ensures.place in
+    (w.1, c.requires.2.table)
+
+pub returns-in_default-h : goal.returns-in_default-h
+returns-in_default-h c =
+    let a = c.args in
+    let f = c.label_at-l in
+    let x = label_as a.s.now f.ensures.same c.in-At.is in
+    let g = c.short_at-h in record {
+      kept = kept-all _ _;
+      same = parts-no-short _ a.n a.s.now _ x _ c.no_parts-in_default-h.ensures g.ensures.same
+          c.in_default-h.is;
+    }
+
+pub starts_at-requires : goal.starts_at-requires
+starts_at-requires c =
+    let a = c.args in
+    let s = a.s.now in
+    let f = c.label_at-l in
+    let q = c.in-At.given in
+    let w = label-within _ _ q.1 f.ensures.place in
+    let g = c.short_at-h in
+    let p = c.in-At-h.given in
+    let u = short-within _ _ p.1 g.ensures.place in
+    u.3
+
+pub overflow_sub-short : goal.overflow_sub-short
+overflow_sub-short c =
+    let g = c.short_at-h in
+    let p = c.in-At-h.given in
+    let u = short-within _ _ p.1 g.ensures.place in
+    let le = u.1 in
+    search (rules, le)
+
+pub overflow_add-next : goal.overflow_add-next
+overflow_add-next c =
+    let g = c.short_at-h in
+    let p = c.in-At-h.given in
+    let u = short-within _ _ p.1 g.ensures.place in
+    let le = u.3 in
+    let m = c.requires.0 in
+    search (rules, le, m)
+
+pub behind_names-requires : goal.behind_names-requires
+behind_names-requires c =
+    let a = c.args in
+    let s = a.s.now in
+    let f = c.label_at-l in
+    let q = c.in-At.given in
+    let w = label-within _ _ q.1 f.ensures.place in
+    let g = c.short_at-h in
+    let p = c.in-At-h.given in
+    let u = short-within _ _ p.1 g.ensures.place in
+    let n = p.0.1.1.0 in
+    let r : n + 2 ≤ length s =
+    clause_room s n u.3 (bytes ": ") (sym c.starts_at.ensures ∙
+    c.if-starts_at.true) in (
+      r,
+      c.requires.0,
+      c.requires.1,
+      (w.1, omega (arith, u.1, u.2, u.3)),
+      c.requires.2,
+    )
+
+pub returns-then-starts_at : goal.returns-then-starts_at
+returns-then-starts_at c =
+    let a = c.args in
+    let s = a.s.now in
+    let f = c.label_at-l in
+    let q = c.in-At.given in
+    let w = label-within _ _ q.1 f.ensures.place in
+    let g = c.short_at-h in
+    let p = c.in-At-h.given in
+    let u = short-within _ _ p.1 g.ensures.place in
+    let x = label_as s f.ensures.same q.1 in
+    let y = short_as s q.0.0 g.ensures.same p.1 in
+    let le : p.0.1.1.0 ≤ length s = u.3 in
+    let b = c.behind_names in
+    let d = sym c.starts_at.ensures ∙ c.if-starts_at.true in record {
+      kept = b.ensures.kept;
+      same = parts-behind _ a.n s _ x y le b.result d b.ensures.same;
+    }
+
+pub returns : goal.returns
+returns c =
+    let a = c.args in
+    let s = a.s.now in
+    let f = c.label_at-l in
+    let q = c.in-At.given in
+    let w = label-within _ _ q.1 f.ensures.place in
+    let g = c.short_at-h in
+    let p = c.in-At-h.given in
+    let u = short-within _ _ p.1 g.ensures.place in
+    let x = label_as s f.ensures.same q.1 in
+    let y = short_as s q.0.0 g.ensures.same p.1 in
+    let le : p.0.1.1.0 ≤ length s = u.3 in
+    let d = sym c.starts_at.ensures ∙ c.if-starts_at.false in record {
+      kept = kept-all _ _;
+      same = parts-no_colon _ a.n s _ x y le _ c.no_parts-2.ensures d;
+    }

@@ -1,0 +1,16 @@
+use mathlib.Core.Path.{◌≡◌, refl, sym, ◌∙◌}
+use native.Mathlib.Omega.{arith}
+use Prim.Native.Nat.{◌≤◌, ◌-◌}
+use lib.ListN.{length, drop}
+use borrow.Author.Tests.{eq-eqb, ne_eqb, not-true, not-false}
+use Rattle.base.specs.Lists.{all}
+use Rattle.rules.specs.Names.{is_printable}
+use Rattle.texts.proofs.ExprLeaves.{all-step, all-stop, all_end}
+use borrow.Author.Rules.{rules}
+use Rattle.texts.proofs.phrases.printable_end.Given as goal
+
+abbrev pub invariant-loop-i : goal.invariant-loop-i
+invariant-loop-i l = (l.i ≤ length l.s) × (all is_printable (drop l.at l.s) ≡ all is_printable (drop l.i l.s))
+
+abbrev pub decreases-loop-i : goal.decreases-loop-i
+decreases-loop-i l = length l.s - l.i

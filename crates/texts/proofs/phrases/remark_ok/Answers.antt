@@ -1,0 +1,18 @@
+use mathlib.Core.Path.{sym, ◌∙◌}
+use native.Mathlib.Omega.{arith}
+use Rattle.texts.proofs.FieldWords.{remark-empty, remark_other, remark_space}
+use borrow.Author.Rules.{rules}
+use Rattle.texts.proofs.phrases.remark_ok.Goals as goal
+
+pub returns-then-at-s : goal.returns-then-at-s
+returns-then-at-s c = let a = c.args in sym (remark-empty a.s.now a.at c.if-at-s.true)
+
+pub returns-then-s-at-ne32 : goal.returns-then-s-at-ne32
+returns-then-s-at-ne32 c =
+    let a = c.args in
+    sym (remark_other a.s.now a.at (omega arith) c.if-s-at-ne32.true)
+
+pub returns : goal.returns
+returns c =
+    let a = c.args in
+    c.printable_end.ensures ∙ sym (remark_space a.s.now a.at (omega arith) c.if-s-at-ne32.false)

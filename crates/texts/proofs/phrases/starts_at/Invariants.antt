@@ -1,0 +1,16 @@
+use mathlib.Core.Path.{◌≡◌, sym, ◌∙◌}
+use native.Mathlib.Omega.{arith}
+use Prim.Native.Nat.{◌≤◌, ◌-◌, ◌+◌}
+use native.Mathlib.Nat.{add-zero, add_assoc}
+use lib.ListN.{length, drop, length-drop}
+use Rattle.text_laws.specs.LineReader.{begins}
+use Rattle.texts.proofs.FieldWords.{begins-step, begins-stop, begins-end, begins-long}
+use borrow.Author.Rules.{rules}
+use Rattle.texts.proofs.phrases.starts_at.Given as goal
+
+abbrev pub invariant-loop-i : goal.invariant-loop-i
+invariant-loop-i l = (l.i ≤ length l.word) × (l.at + length l.word ≤ length l.s) ×
+    (begins l.word (drop l.at l.s) ≡ begins (drop l.i l.word) (drop (l.at + l.i) l.s))
+
+abbrev pub decreases-loop-i : goal.decreases-loop-i
+decreases-loop-i l = length l.word - l.i

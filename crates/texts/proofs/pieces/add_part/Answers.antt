@@ -1,0 +1,40 @@
+use native.Mathlib.Omega.{arith}
+use Prim.Native.Nat.{◌+◌, ◌≤◌}
+use lib.ListN.{length}
+use Rattle.rules.specs.Limits.{line_most}
+use Rattle.texts.proofs.KeptStates.{part_cut, part_around, part_added, least-used}
+use borrow.Author.Rules.{rules}
+use Rattle.texts.proofs.pieces.add_part.Goals as goal
+
+pub returns-then-used-part : goal.returns-then-used-part
+returns-then-used-part c =
+    let s = c.args.s.now in
+    let part = c.args.part.now in
+    let size = c.args.size in
+    let used = c.least-used.result in
+    let is = least-used s c.two_at.ensures.0 c.least-used.ensures.2 in
+    let pre = c.requires in
+    let over = c.if-used-part.true in
+    let cut = (c.cut_state.ensures.around, c.cut_state.ensures.cut) in record {
+      around = cut.0;
+      step = λ plain. part_cut size used s part _ pre.0 pre.1 plain is over cut.1;
+    }
+
+pub returns : goal.returns
+returns c =
+    let s = c.args.s.now in
+    let part = c.args.part.now in
+    let size = c.args.size in
+    let used = c.least-used.result in
+    let t = c.put.new.out in
+    let least = c.least-used.ensures in
+    let is = least-used s c.two_at.ensures.0 least.2 in
+    let pre = c.requires in
+    let room = pre.0 in
+    let not-over = c.if-used-part.false in
+    let fit : used + length part ≤ line_most = omega (arith, not-over, least.1) in
+    let add = c.put.ensures in
+    let two = c.put_two.ensures in record {
+      around = part_around used s part t room fit add two;
+      step = λ plain. part_added used s part t room fit add two size pre.1 plain is;
+    }

@@ -1,0 +1,85 @@
+use mathlib.Core.Path.{sym, ◌∙◌}
+use Prim.Native.Nat.{◌+◌, ◌-◌, ◌≤◌, ◌<◌}
+use native.Mathlib.Omega.{arith}
+use lib.ListN.{length, drop, length-drop}
+use lib.Seq.{take_all}
+use Rattle.rules.specs.Limits.{fields_most}
+use Rattle.texts.specs.RowPlaces.{row_room}
+use Rattle.texts.specs.StateNumbers.{row_at, state_room}
+use Rattle.texts.proofs.KeptStates.{least-used}
+use Rattle.texts.proofs.PieceLaws.{around_trans, room_around}
+use Rattle.texts.proofs.StateChanges.{part_long}
+use Rattle.texts.proofs.TakenPieces.{put_whole, lines-taken}
+use borrow.Author.Rules.{rules}
+use Rattle.texts.proofs.pieces.take_lines.Goals as goal
+
+pub walk_piece-w-requires : goal.walk_piece-w-requires
+walk_piece-w-requires c =
+    let p = c.requires in
+    let l = c.load-r.ensures.fits in
+    let lines = l.1 in
+    let row = c.put.auto.out in (
+      (l.0, omega (arith, lines, p.1)),
+      omega (arith, p.1),
+      p.2,
+      p.3,
+      c.least-used.ensures.1,
+      p.0,
+      omega (arith, row, p.4),
+    )
+
+pub store-requires : goal.store-requires
+store-requires c =
+    let p = c.requires in
+    let row = c.walk_piece-w.auto.row ∙
+    c.put.auto.out in
+    let counts = c.walk_piece-w.auto.counts ∙
+    c.load_counts.auto.counts in (
+      room_around c.walk_piece-w.ensures.room.1.0 p.0,
+      row ∙ p.4,
+      omega (arith, counts, p.5),
+      c.walk_piece-w.ensures.room.0.0.row,
+    )
+
+pub overflow_add-size : goal.overflow_add-size
+overflow_add-size c =
+    let k = c.requires.1 in search (rules, k)
+
+pub add_part-requires : goal.add_part-requires
+add_part-requires c =
+    let around = around_trans c.walk_piece-w.ensures.room.1.0
+    c.store.ensures.around in
+    (room_around around c.requires.0, c.requires.1)
+
+pub shape_of-row : goal.shape_of-row
+shape_of-row c =
+    c.walk_piece-w.auto.row ∙ c.put.auto.out
+
+pub shape_of-counts : goal.shape_of-counts
+shape_of-counts c =
+    c.walk_piece-w.auto.counts ∙ c.load_counts.auto.counts
+
+pub returns : goal.returns
+returns c =
+    let p = c.requires in
+    let s = c.args.s.now in
+    let piece = c.args.piece.now in
+    let w = c.walk_piece-w.result in
+    let walk = (c.walk_piece-w.ensures.place, c.walk_piece-w.ensures.room, c.walk_piece-w.ensures.around, c.walk_piece-w.ensures.step) in
+    let stored = (c.store.ensures.around, c.store.ensures.stored) in
+    let add = (c.add_part.ensures.around, c.add_part.ensures.step) in
+    let m = part_long row_at row_room s (omega (arith, p.0)) in
+    let row = c.walk_piece-w.auto.row ∙ c.put.auto.out in
+    let counts = c.walk_piece-w.auto.counts ∙
+    c.load_counts.auto.counts in
+    let rest = take_all (length piece - w.at) (drop w.at piece)
+    (let n = length-drop w.at piece in omega (arith, n)) in record {
+      around = around_trans (around_trans walk.1.1.0 stored.0) add.0;
+      step = λ k eq h. lines-taken s piece c.args.size w p.1
+          c.load-r.ensures
+          (least-used s c.two_at.ensures.0 c.least-used.ensures.2)
+          (put_whole c.args.row.now _ (p.4 ∙ sym m)
+          c.put.ensures)
+          c.load_counts.ensures walk.0 walk.1.0 walk.1.1.1
+          (row ∙ p.4) (counts ∙ p.5) stored.1 rest add.1 k eq h;
+    }

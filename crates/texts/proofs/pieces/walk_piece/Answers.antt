@@ -1,0 +1,110 @@
+use mathlib.Core.Path.{◌≡◌, refl, sym, ◌∙◌, subst}
+use mathlib.Core.List.{List}
+use Prim.Native.Nat.{ℕ, ◌-◌}
+use native.Mathlib.Omega.{arith}
+use lib.ListN.{length}
+use Rattle.texts.specs.WalkSteps.{WalkedTo}
+use Rattle.texts.proofs.JoinLaws.{held-long, held-put, held_back, around_put, around_same}
+use Rattle.texts.proofs.LineEnds.{printable_line}
+use Rattle.texts.proofs.LineWalk.{bad_left}
+use Rattle.texts.proofs.PieceLaws.{around_trans, room_around}
+use Rattle.texts.proofs.PieceWalks.{fed_first, walked_first, first-room, bad_first}
+use borrow.Author.Rules.{rules}
+use Rattle.texts.proofs.pieces.walk_piece.Goals as goal
+
+pub returns-then-piece-e-ne10 : goal.returns-then-piece-e-ne10
+returns-then-piece-e-ne10 c =
+    let s = c.args.s.now in
+    let t = c.args.piece.now in
+    let z : length t - length t ≡ 0 = omega arith in record {
+      place = rw (c.bad_byte.ensures, z) (omega arith);
+      room = rw (c.bad_byte.ensures, z) (bad_left (length t) c.args.r (length t) c.args.r
+            (c.requires.0.0, omega arith));
+      around = rw (c.bad_byte.ensures, z) (around_same s);
+      step = rw (c.bad_byte.ensures, z) (λ k size free short line is. bad_first k t c.args.e c.requires.3
+              c.requires.2 short size is c.if-piece-e-ne10.true);
+    }
+
+pub end_held-q-requires : goal.end_held-q-requires
+end_held-q-requires c =
+    (
+      c.requires.0.0,
+      (let k = c.requires.0.1 in omega (arith, k)),
+      c.requires.5,
+      c.requires.4,
+      printable_line c.args.piece.now 0
+          c.args.e c.requires.3,
+      c.requires.6,
+    )
+
+pub overflow_add-e : goal.overflow_add-e
+overflow_add-e c =
+    let k = c.requires.2 in let n =
+    c.requires.1 in omega (arith, k, n)
+
+pub slice_bounds-walk_lines-count : goal.slice_bounds-walk_lines-count
+slice_bounds-walk_lines-count c =
+    let around = c.end_held-q.ensures.around.0 in
+    let room = room_around around c.requires.5 in
+    omega (arith, room)
+
+pub walk_lines-requires : goal.walk_lines-requires
+walk_lines-requires c =
+    let around = c.end_held-q.ensures.around.0 in
+    let room = room_around around c.requires.5 in
+    let q = c.end_held-q.ensures.room in
+    let fits = c.requires.0.1 in
+    let long = held-long c.end_held-q.new.s room in
+    let row = c.end_held-q.auto.row in (
+      (let k = c.requires.2 in omega (arith, k)),
+      c.requires.1,
+      (q.0, (let n = q.1 in let k = c.requires.2 in omega (arith, n, k, fits))),
+      omega (arith, long),
+      omega (arith, row, c.requires.6),
+    )
+
+pub shape_of-s : goal.shape_of-s
+shape_of-s c =
+    let around = c.end_held-q.ensures.around.0 in
+    let room = room_around around c.requires.5 in
+    let k = c.walk_lines.auto.held in
+    let s = c.end_held-q.new.s in
+    let back = held_back s room c.walk_lines.new.held (k ∙ held-long s room) in
+    back ∙ around.long
+
+pub shape_of-row : goal.shape_of-row
+shape_of-row c =
+    c.walk_lines.auto.row ∙ c.end_held-q.auto.row
+
+pub shape_of-counts : goal.shape_of-counts
+shape_of-counts c =
+    c.walk_lines.auto.counts ∙ c.end_held-q.auto.counts
+
+pub returns : goal.returns
+returns c =
+    let around = c.end_held-q.ensures.around.0 in
+    let room = room_around around c.requires.5 in
+    let s = c.end_held-q.new.s in
+    let t = c.args.piece.now in
+    let w = c.walk_lines.result in
+    let q = (c.walk_lines.ensures.place, c.walk_lines.ensures.room, c.walk_lines.ensures.step) in
+    let part = c.walk_lines.new.held in
+    let long = c.walk_lines.auto.held ∙ held-long s room in
+    let left = q.1.0.1 in
+    let taken = c.end_held-q.ensures.room.1 in
+    let lt = c.requires.2 in record {
+      place = q.0;
+      room = (q.1.0.0, omega (arith, left, taken, lt));
+      around = around_trans around (around_put s room part long);
+      step = λ k size free short line is.
+              let first = c.end_held-q.ensures.around.1 k.found k.line free short
+              line is in
+              let to = q.1.1 (fed_first k t c.args.e
+              c.requires.3 c.requires.2 short size) refl
+              (first-room k t c.args.e c.requires.3
+              c.requires.2 short size is) first in
+              subst (λ (h : List ℕ). WalkedTo k t 0 w h c.walk_lines.new.row
+              c.walk_lines.new.counts) (sym (held-put s room part long))
+              (walked_first k t c.args.e c.requires.3
+              c.requires.2 short size is c.if-piece-e-ne10.false w to);
+    }

@@ -1,0 +1,7 @@
+use Rattle.rules.specs.Frames.{border}
+use borrow.Author.Rules.{rules}
+use Rattle.texts.proofs.rulers.is_border.Goals as goal
+
+pub returns : goal.returns
+unfolding border
+returns c = c.is_ruler.ensures

@@ -1,0 +1,7 @@
+use Rattle.rules.specs.Frames.{units}
+use borrow.Author.Rules.{rules}
+use Rattle.texts.proofs.rulers.is_units.Goals as goal
+
+pub returns : goal.returns
+unfolding units
+returns c = c.is_ruler.ensures

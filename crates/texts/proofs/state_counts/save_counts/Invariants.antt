@@ -1,0 +1,17 @@
+use mathlib.Core.Path.{◌≡◌, refl, sym, ◌∙◌}
+use Prim.Native.Nat.{◌+◌, ◌*◌, ◌≤◌, ◌<◌, ◌-◌}
+use native.Mathlib.Omega.{arith}
+use lib.ListN.{length, take, drop, get_or, length-set}
+use Rattle.rules.specs.Limits.{fields_most}
+use Rattle.texts.specs.StateNumbers.{twos_in}
+use Rattle.texts.proofs.CountBytes.{twos-none, twos_saved, twos-beyond, all_saved}
+use borrow.Author.Rules.{rules}
+use Rattle.texts.proofs.state_counts.save_counts.Given as goal
+
+abbrev pub invariant-loop-i : goal.invariant-loop-i
+invariant-loop-i l =
+    (l.i ≤ fields_most) × (length l.s ≡ length l.initial.s) × (twos_in l.i l.s ≡ take l.i l.counts)
+    × (drop (2 * fields_most) l.s ≡ drop (2 * fields_most) l.initial.s)
+
+abbrev pub decreases-loop-i : goal.decreases-loop-i
+decreases-loop-i l = fields_most - l.i

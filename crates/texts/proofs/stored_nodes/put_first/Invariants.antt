@@ -1,0 +1,22 @@
+use mathlib.Core.Path.{◌≡◌, refl, ap, ◌∙◌}
+use mathlib.Core.List.{◌∷◌}
+use Prim.Native.Nat.{ℕ, ◌+◌, ◌-◌, ◌≤◌, ◌<◌}
+use native.Mathlib.Omega.{arith}
+use native.Mathlib.Numerals.{add-one}
+use lib.ListN.{length, take, get_or, length-set}
+use lib.Seq.{get_or-set_other}
+use Rattle.texts.proofs.StoredBytes.{shift_more}
+use borrow.Author.Rules.{rules}
+use Rattle.texts.proofs.stored_nodes.put_first.Given as goal
+
+abbrev pub invariant-loop-i : goal.invariant-loop-i
+invariant-loop-i l =
+    (l.i ≤ l.n + 1) ×
+    (l.n < length l.out) ×
+    (length l.out ≡ length l.initial.out) ×
+    (take l.i l.out ≡ take l.i (l.c ∷ l.initial.out)) ×
+    (l.held ≡ get_or (l.c ∷ l.initial.out) l.i 0) ×
+    ((j : ℕ) → l.i ≤ j → get_or l.out j 0 ≡ get_or l.initial.out j 0)
+
+abbrev pub decreases-loop-i : goal.decreases-loop-i
+decreases-loop-i l = l.n + 1 - l.i

@@ -1,0 +1,96 @@
+use mathlib.Core.Path.{◌≡◌, refl}
+use mathlib.Core.List.{[]}
+use Prim.Native.Nat.{◌+◌, ◌-◌, ◌≤◌, ◌<◌}
+use native.Mathlib.Omega.{arith}
+use lib.ListN.{length, drop, length-drop}
+use lib.Seq.{length-take-le}
+use Rattle.rules.specs.Limits.{text_most}
+use Rattle.text_laws.specs.Fold as fold
+use Rattle.texts.specs.WalkSteps.{KeptAs, LinesLeft, Walking}
+use Rattle.texts.proofs.LineEnds.{printable_line}
+use Rattle.texts.proofs.LineWalk.{walking_start, walking-next, rest_plain, bad_to, bad_left}
+use borrow.Author.Rules.{rules}
+use Rattle.texts.proofs.walks.walk_lines.Goals as goal
+
+pub loop-r-init : goal.loop-r-init
+loop-r-init c = (
+  c.requires.0,
+  (c.requires.2.0, omega arith),
+  refl,
+  refl,
+  refl,
+  λ k e le h. walking_start k c.args.text.now
+      c.args.from c.args.first e le h,
+)
+
+pub returns-then-e-text : goal.returns-then-e-text
+returns-then-e-text c =
+    let t = c.args.text.now in
+    let v = c.loop-r in
+    let e = c.line_end-e in record {
+      place = v.invariant.0;
+      room = v.invariant.1;
+      step = λ k z le h. record {
+          walking = v.invariant.5 k z le h;
+          plain = rest_plain t v.at e.result e.ensures.first (omega (arith, c.if-e-text.true));
+        };
+    }
+
+pub returns-then-text-e-ne10 : goal.returns-then-text-e-ne10
+returns-then-text-e-ne10 c =
+    let t = c.args.text.now in
+    let v = c.loop-r in
+    let e = c.line_end-e in
+    let lt : e.result < length t = omega (arith, e.ensures.place.1, c.if-e-text.false) in
+    let fits = bad_left (length t - c.args.from)
+    c.args.first (length t - v.at) v.r v.invariant.1 in
+    let z : length t - length t ≡ 0 = omega arith in record {
+      place = rw (c.bad_byte.ensures, z) (omega arith);
+      room = rw (c.bad_byte.ensures, z) (fits);
+      step = rw (c.bad_byte.ensures, z) (λ k b le h. bad_to k t c.args.from v.at e.result v.r
+            (v.invariant.5 k b le h) e.ensures.first lt
+            c.if-text-e-ne10.true);
+    }
+
+pub take_line-r-requires : goal.take_line-r-requires
+take_line-r-requires c =
+    let t = c.args.text.now in
+    let p = c.requires in
+    let v = c.loop-r in
+    let e = c.line_end-e in
+    let n = length-take-le (e.result - v.at) (drop v.at t)
+    (omega (arith, e.ensures.place.1, length-drop v.at t)) in (
+      (
+        v.invariant.1.0,
+        omega (arith, v.invariant.1.1, p.2.1),
+        omega (arith, n, e.ensures.place.1, p.1),
+        omega (arith, v.invariant.2, p.3),
+      ),
+      (printable_line t v.at e.result e.ensures.first, omega (arith, v.invariant.3, p.4)),
+    )
+
+pub overflow_add-at : goal.overflow_add-at
+overflow_add-at c =
+    let q = c.line_end-e.ensures.place.1 in let p = c.requires.1 in omega (arith, q, p)
+
+pub loop-r-smaller : goal.loop-r-smaller
+loop-r-smaller c =
+    let q = c.line_end-e.ensures.place in let n = c.if-e-text.false in omega (arith, q.0, q.1, n)
+
+pub loop-r-preserved : goal.loop-r-preserved
+loop-r-preserved c =
+    let t = c.args.text.now in
+    let v = c.loop-r in
+    let e = c.line_end-e in
+    let q = (c.take_line-r.ensures.room, c.take_line-r.ensures.step) in
+    let lt : e.result < length t = omega (arith, e.ensures.place.1, c.if-e-text.false) in
+    let fits = v.invariant.1.1 in (
+      omega (arith, lt),
+      (q.0.0, omega (arith, q.0.1, fits, e.ensures.place.0, lt)),
+      omega (arith, q.1.0, v.invariant.2),
+      omega (arith, q.1.1, v.invariant.3),
+      (let k = c.take_line-r.auto.counts in omega (arith, k, v.invariant.4)),
+      λ k b le h. walking-next k t c.args.from v.at e.result v.r (v.invariant.5 k b le h)
+          e.ensures.first lt
+          c.if-text-e-ne10.false c.take_line-r.result q.1,
+    )

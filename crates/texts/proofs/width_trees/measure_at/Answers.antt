@@ -1,0 +1,65 @@
+use native.Mathlib.Omega.{arith}
+use Rattle.texts.proofs.StoredSteps.{got-within}
+use Rattle.texts.proofs.FieldWidths.{bits_none, bits-some, bits-unit, bits-within}
+use Rattle.texts.proofs.WidthTrees.{measure_fail, measure_bare, measure_sized}
+use borrow.Author.Rules.{rules}
+use Rattle.texts.proofs.width_trees.measure_at.Goals as goal
+
+pub returns-then-t-eq0 : goal.returns-then-t-eq0
+returns-then-t-eq0 c =
+    let a = c.args in
+    let t = c.stored_tree-t in
+    let both =
+      measure_fail _ a.n a.s.now a.at t.result _ t.ensures.same _ c.plain.ensures
+    c.if-t-eq0.true in record {
+      place = both.0;
+      same = both.1;
+    }
+
+pub unit_behind-b-requires : goal.unit_behind-b-requires
+unit_behind-b-requires c =
+    let t = c.stored_tree-t in (
+      (got-within _ _ _ _ t.result c.if-t-eq0.false t.ensures.place).1,
+      c.requires.3.table,
+    )
+
+pub sized-requires : goal.sized-requires
+sized-requires c =
+    let t = c.stored_tree-t in
+    let p = c.in-At.given in
+    let h = (c.unit_behind-b.ensures.place, c.unit_behind-b.ensures.same) in
+    let w = got-within _ _ _ _ t.result c.if-t-eq0.false t.ensures.place in
+    let v = bits-within _ _ p.1 h.0 in (
+      omega (arith, w.0, v.0),
+      v.1,
+      bits-unit c.args.s.now t.result.next _ h.1 p.1,
+      c.requires.3.table,
+    )
+
+pub returns-in-Nothing : goal.returns-in-Nothing
+returns-in-Nothing c =
+    let a = c.args in
+    let t = c.stored_tree-t in
+    let h = (c.unit_behind-b.ensures.place, c.unit_behind-b.ensures.same) in
+    let m = bits_none a.s.now t.result.next _ h.1 c.in-Nothing.is in
+    let both =
+      measure_bare _ a.n a.s.now a.at t.result _ t.ensures.same _ c.plain-in-Nothing.ensures
+    c.if-t-eq0.false m in record {
+      place = both.0;
+      same = both.1;
+    }
+
+pub returns-in-At : goal.returns-in-At
+returns-in-At c =
+    let a = c.args in
+    let t = c.stored_tree-t in
+    let p = c.in-At.given in
+    let h = (c.unit_behind-b.ensures.place, c.unit_behind-b.ensures.same) in
+    let k = c.sized in
+    let m = bits-some a.s.now t.result.next _ h.1 p.1 in
+    let both =
+      measure_sized _ a.n a.s.now a.at t.result _ t.ensures.same p.0.0 p.0.1.0 k.result c.if-t-eq0.false m k.ensures.place
+    k.ensures.same in record {
+      place = both.0;
+      same = both.1;
+    }
