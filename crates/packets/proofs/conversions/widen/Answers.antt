@@ -1,6 +1,3 @@
-
-use Rattle.packets.proofs.conversions.widen.Goals as goal
-
 use mathlib.Core.Path.{◌≡◌, refl, sym, ◌∙◌}
 use Prim.Native.Nat.{◌+◌, ◌-◌, ◌*◌, ◌≤◌}
 use native.Mathlib.Omega.{arith}
@@ -19,17 +16,18 @@ use Rattle.packets.proofs.WidenSteps.{
   widen_done,
 }
 use borrow.Author.Rules.{rules}
-use Rattle.packets.proofs.conversions.widen.Statement.{statement}
-use Rattle.packets.proofs.conversions.widen.Tie as tie
-use Rattle.packets.proofs.conversions.widen.Reads as reads
-use Rattle.packets.proofs.conversions.widen.Lts as lts
-use Rattle.packets.proofs.conversions.is_old_kind.Reads as is-old-kind-reads
-use Rattle.packets.proofs.conversions.put_record.Reads as put-record-reads
-use Rattle.packets.proofs.records.two_at.Reads as two-at-reads
-use Rattle.writing.proofs.puts.put.Reads as put_reads
+use Rattle.packets.proofs.conversions.widen.Goals as goal
 
 pub slice_bounds-put-count : goal.slice_bounds-put-count
 slice_bounds-put-count c =
+    omega (arith, head-inside c.args.table.now c.requires.0 _ c.two_at-head.ensures.0)
+
+pub slice_bounds-put-start : goal.slice_bounds-put-start
+slice_bounds-put-start c =
+    omega (arith, head-inside c.args.table.now c.requires.0 _ c.two_at-head.ensures.0)
+
+pub slice_bounds-put-end : goal.slice_bounds-put-end
+slice_bounds-put-end c =
     omega (arith, head-inside c.args.table.now c.requires.0 _ c.two_at-head.ensures.0)
 
 pub loop-i-init : goal.loop-i-init
@@ -97,6 +95,18 @@ slice_bounds-put_record-count c =
     let fits = c.if-table-at.false in
     omega (arith, inside, fits)
 
+pub slice_bounds-put_record-start : goal.slice_bounds-put_record-start
+slice_bounds-put_record-start c =
+    let inside = c.loop-i.invariant.1 in
+    let fits = c.if-table-at.false in
+    omega (arith, inside, fits)
+
+pub slice_bounds-put_record-end : goal.slice_bounds-put_record-end
+slice_bounds-put_record-end c =
+    let inside = c.loop-i.invariant.1 in
+    let fits = c.if-table-at.false in
+    omega (arith, inside, fits)
+
 pub put_record-to-requires : goal.put_record-to-requires
 put_record-to-requires c =
     let l = c.loop-i in
@@ -152,6 +162,11 @@ loop-i-preserved c =
 
 pub slice_bounds-put-count-2 : goal.slice_bounds-put-count-2
 slice_bounds-put-count-2 c =
+    let inside = c.loop-i.invariant.1 in
+    omega (arith, inside)
+
+pub slice_bounds-put-start-2 : goal.slice_bounds-put-start-2
+slice_bounds-put-start-2 c =
     let inside = c.loop-i.invariant.1 in
     omega (arith, inside)
 

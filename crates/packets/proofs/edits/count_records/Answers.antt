@@ -1,6 +1,3 @@
-
-use Rattle.packets.proofs.edits.count_records.Goals as goal
-
 use Prim.Native.Nat.{◌-◌, ◌≤◌}
 use native.Mathlib.Omega.{arith}
 use lib.ListN.{length}
@@ -14,11 +11,7 @@ use Rattle.packets.proofs.EditWrites.{
   all-passed,
 }
 use borrow.Author.Rules.{rules}
-use Rattle.packets.proofs.edits.count_records.Statement.{statement}
-use Rattle.packets.proofs.edits.count_records.Tie as tie
-use Rattle.packets.proofs.edits.count_records.Reads as reads
-use Rattle.packets.proofs.edits.count_records.Lts as lts
-use Rattle.packets.proofs.records.two_at.Reads as two-at-reads
+use Rattle.packets.proofs.edits.count_records.Goals as goal
 
 pub loop-at-init : goal.loop-at-init
 loop-at-init c =

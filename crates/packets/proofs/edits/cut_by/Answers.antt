@@ -43,11 +43,30 @@ slice_bounds-put-count c =
     c.requires.0 _ _ _ c.place_behind-start.ensures c.place_behind-next.ensures refl in
     omega (arith, r.2)
 
+pub slice_bounds-put-start : goal.slice_bounds-put-start
+slice_bounds-put-start c =
+    let r = cut-room c.args.table.now
+    c.args.first c.args.last
+    c.requires.0 _ _ _ c.place_behind-start.ensures c.place_behind-next.ensures refl in
+    omega (arith, r.2)
+
 pub overflow_sub-n-2 : goal.overflow_sub-n-2
 overflow_sub-n-2 c =
     let b = cut_bounds c.args.table.now c.args.first c.args.last
     c.requires.0 in
     omega (arith, b, c.two_at-n.ensures.0)
+
+pub slice_bounds-deliver_new-end : goal.slice_bounds-deliver_new-end
+slice_bounds-deliver_new-end c =
+    let ready = cut_ready c.args.table.now
+    c.args.first c.args.last
+    c.requires.0 _ _ _ _ _ _ _ _ _ _ c.two_at-n.ensures.0
+    c.two_at-head.ensures.0
+    c.place_behind-start.ensures
+    c.place_behind-next.ensures
+    c.requires.1 c.put_start-to.ensures
+    c.put-size.ensures c.renumber_from.ensures in
+    ready.2
 
 pub returns : goal.returns
 returns c =

@@ -21,11 +21,28 @@ slice_bounds-put-count c =
     c.requires.0 _ c.place_behind-place.ensures in
     omega (arith, r.1)
 
+pub slice_bounds-put-start : goal.slice_bounds-put-start
+slice_bounds-put-start c =
+    let r = place-room c.args.table.now c.args.index c.args.k c.args.records.now
+    c.requires.0 _ c.place_behind-place.ensures in
+    omega (arith, r.1)
+
 pub overflow_sub-n : goal.overflow_sub-n
 overflow_sub-n c =
     let b = put_bounds c.args.table.now c.args.index c.args.k
     c.args.records.now c.requires.0 in
     omega (arith, b, c.two_at-n.ensures.0)
+
+pub slice_bounds-deliver_new-end : goal.slice_bounds-deliver_new-end
+slice_bounds-deliver_new-end c =
+    let ready = put_ready c.args.table.now
+    c.args.index c.args.k
+    c.args.records.now c.requires.0 _ _ _ _ _
+    _ _ _ _ _ _ _ c.two_at-n.ensures.0
+    c.two_at-head.ensures.0
+    c.place_behind-place.ensures c.requires.1
+    c.put_start-to.ensures c.put-next.ensures c.put-size.ensures c.renumber_from.ensures c.renumber_from-2.ensures in
+    ready.1
 
 pub returns : goal.returns
 returns c =

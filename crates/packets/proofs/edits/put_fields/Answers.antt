@@ -1,6 +1,3 @@
-
-use Rattle.packets.proofs.edits.put_fields.Goals as goal
-
 use mathlib.Core.Path.{refl, ap}
 use Prim.Native.Nat.{ℕ, ◌-◌}
 use native.Mathlib.Omega.{arith}
@@ -16,14 +13,7 @@ use Rattle.packets.proofs.PutPromises.{
   good-short,
 }
 use borrow.Author.Rules.{rules}
-use Rattle.packets.proofs.edits.put_fields.Statement.{statement}
-use Rattle.packets.proofs.edits.put_fields.Tie as tie
-use Rattle.packets.proofs.edits.put_fields.Reads as reads
-use Rattle.packets.proofs.edits.put_fields.Lts as lts
-use Rattle.packets.proofs.edits.count_records.Reads as count-records-reads
-use Rattle.packets.proofs.edits.put_by.Reads as put-by-reads
-use Rattle.packets.proofs.records.two_at.Reads as two-at-reads
-use Rattle.packets.proofs.tables.check_table.Reads as check-table-reads
+use Rattle.packets.proofs.edits.put_fields.Goals as goal
 
 pub returns-in_default : goal.returns-in_default
 returns-in_default c =

@@ -1,6 +1,3 @@
-
-use Rattle.packets.proofs.lookups.find_from.Goals as goal
-
 use mathlib.Core.Path.{◌≡◌, refl, sym, ◌∙◌}
 use native.Mathlib.Omega.{arith}
 use native.Mathlib.Nat.{sub-zero}
@@ -20,12 +17,7 @@ use Rattle.packets.proofs.LookupSteps.{
   find-next,
 }
 use borrow.Author.Rules.{rules}
-use Rattle.packets.proofs.lookups.find_from.Statement.{statement}
-use Rattle.packets.proofs.lookups.find_from.Tie as tie
-use Rattle.packets.proofs.lookups.find_from.Reads as reads
-use Rattle.packets.proofs.lookups.find_from.Lts as lts
-use Rattle.packets.proofs.lookups.has_name.Reads as has-name-reads
-use Rattle.packets.proofs.records.parts_at.Reads as parts-at-reads
+use Rattle.packets.proofs.lookups.find_from.Goals as goal
 
 pub loop-i-init : goal.loop-i-init
 loop-i-init c = (omega arith, rw sub-zero)

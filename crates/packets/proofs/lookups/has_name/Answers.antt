@@ -1,6 +1,3 @@
-
-use Rattle.packets.proofs.lookups.has_name.Goals as goal
-
 use mathlib.Core.Path.{◌≡◌, refl, sym, ◌∙◌}
 use native.Mathlib.Omega.{arith}
 use native.Mathlib.Nat.{sub-zero}
@@ -20,11 +17,7 @@ use Rattle.packets.proofs.LookupSteps.{
   find-next,
 }
 use borrow.Author.Rules.{rules}
-use Rattle.packets.proofs.lookups.has_name.Statement.{statement}
-use Rattle.packets.proofs.lookups.has_name.Tie as tie
-use Rattle.packets.proofs.lookups.has_name.Reads as reads
-use Rattle.packets.proofs.lookups.has_name.Lts as lts
-use Rattle.packets.proofs.lookups.is_named.Reads as is-named-reads
+use Rattle.packets.proofs.lookups.has_name.Goals as goal
 
 pub returns-then-is_named : goal.returns-then-is_named
 unfolding has_name

@@ -1,6 +1,3 @@
-
-use Rattle.packets.proofs.lookups.place_behind.Goals as goal
-
 use mathlib.Core.Path.{◌≡◌, refl, sym, ◌∙◌}
 use native.Mathlib.Omega.{arith}
 use native.Mathlib.Nat.{sub-zero}
@@ -20,12 +17,7 @@ use Rattle.packets.proofs.LookupSteps.{
   find-next,
 }
 use borrow.Author.Rules.{rules}
-use Rattle.packets.proofs.lookups.place_behind.Statement.{statement}
-use Rattle.packets.proofs.lookups.place_behind.Tie as tie
-use Rattle.packets.proofs.lookups.place_behind.Reads as reads
-use Rattle.packets.proofs.lookups.place_behind.Lts as lts
-use Rattle.packets.proofs.records.parts_at.Reads as parts-at-reads
-use Rattle.packets.proofs.records.two_at.Reads as two-at-reads
+use Rattle.packets.proofs.lookups.place_behind.Goals as goal
 
 pub loop-k-init : goal.loop-k-init
 loop-k-init c = (omega arith, rw (sub-zero, c.two_at-place.ensures.0))

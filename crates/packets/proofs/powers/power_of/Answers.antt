@@ -10,10 +10,13 @@ use Rattle.laws.proofs.Powers.{stays_over}
 use Rattle.packets.proofs.Products.{product_fits}
 use borrow.Author.Rules.{rules}
 use Rattle.packets.proofs.powers.power_of.Goals as goal
+use Rattle.packets.proofs.powers.power_of.Goals.{then-y-lt-PRODUCTS_MOST, else-y-lt-PRODUCTS_MOST}
 
 pub loop-i-init : goal.loop-i-init
 loop-i-init c = (
-  ⊎_elim (λ p. omega arith) (λ q. omega arith) c.if-y-lt-PRODUCTS_MOST.branch,
+  elim c.if-y-lt-PRODUCTS_MOST.branch [
+    then-y-lt-PRODUCTS_MOST w ↦ omega arith | else-y-lt-PRODUCTS_MOST w ↦ omega arith
+  ],
   omega arith,
   sym (pow-zero c.args.x),
 )

@@ -11,6 +11,12 @@ overflow_add-end c = omega (arith, c.find_part-part.ensures.within)
 pub slice_bounds-result-count : goal.slice_bounds-result-count
 slice_bounds-result-count c = omega (arith, c.find_part-part.ensures.within)
 
+pub slice_bounds-result-start : goal.slice_bounds-result-start
+slice_bounds-result-start c = omega (arith, c.find_part-part.ensures.within)
+
+pub slice_bounds-result-end : goal.slice_bounds-result-end
+slice_bounds-result-end c = omega (arith, c.find_part-part.ensures.within)
+
 pub returns : goal.returns
 returns c =
     let a = c.args in

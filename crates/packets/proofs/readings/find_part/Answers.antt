@@ -9,21 +9,19 @@ pub returns-in_default : goal.returns-in_default
 returns-in_default c =
     let a = c.args in
     let check-table = c.check_table-checked in
-    let enum_told = c.in_default in
     let table = a.table.now in
     let packet = a.packet.now in
-    let bad = bad_from table check-table.result check-table.ensures enum_told.given.1 in
+    let bad = bad_from table check-table.result check-table.ensures c.in_default.is in
     part_not-good table packet a.index bad
 
 pub returns-then-two_at-index : goal.returns-then-two_at-index
 returns-then-two_at-index c =
     let a = c.args in
     let check-table = c.check_table-checked in
-    let checked = c.in-Good in
     let two_at = c.two_at in
     let table = a.table.now in
     let packet = a.packet.now in
-    let good = good-from table check-table.result _ check-table.ensures checked.given.1 in
+    let good = good-from table check-table.result _ check-table.ensures c.in-Good.is in
     part_outside table packet a.index good (omega (arith, two_at.ensures.0))
 
 pub read_run-answer-requires : goal.read_run-answer-requires
@@ -39,10 +37,9 @@ pub part_at-requires : goal.part_at-requires
 part_at-requires c =
     let a = c.args in
     let check-table = c.check_table-checked in
-    let checked = c.in-Good in
     let two_at = c.two_at in
     let table = a.table.now in
-    let good = good-from table check-table.result _ check-table.ensures checked.given.1 in
+    let good = good-from table check-table.result _ check-table.ensures c.in-Good.is in
     let few = good-few table good in
     (omega (arith, two_at.ensures.0), omega arith)
 
@@ -50,7 +47,6 @@ pub returns-then-is_accepted : goal.returns-then-is_accepted
 returns-then-is_accepted c =
     let a = c.args in
     let check-table = c.check_table-checked in
-    let checked = c.in-Good in
     let two_at = c.two_at in
     let read-run = c.read_run-answer in
     let is-accepted = c.is_accepted in
@@ -58,7 +54,7 @@ returns-then-is_accepted c =
     let part_at = c.part_at in
     let table = a.table.now in
     let packet = a.packet.now in
-    let good = good-from table check-table.result _ check-table.ensures checked.given.1 in
+    let good = good-from table check-table.result _ check-table.ensures c.in-Good.is in
     let accepted = sym is-accepted.ensures ∙ if2.true in
     rw part_at.ensures
     (part_found table packet a.index read-run.result read-run.new.run good read-run.ensures
@@ -68,12 +64,11 @@ pub returns : goal.returns
 returns c =
     let a = c.args in
     let check-table = c.check_table-checked in
-    let checked = c.in-Good in
     let read-run = c.read_run-answer in
     let is-accepted = c.is_accepted in
     let if2 = c.if-is_accepted in
     let table = a.table.now in
     let packet = a.packet.now in
-    let good = good-from table check-table.result _ check-table.ensures checked.given.1 in
+    let good = good-from table check-table.result _ check-table.ensures c.in-Good.is in
     let refused = sym is-accepted.ensures ∙ if2.false in
     part_refused table packet a.index read-run.result read-run.new.run good read-run.ensures refused

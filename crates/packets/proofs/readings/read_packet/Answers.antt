@@ -1,6 +1,3 @@
-
-use Rattle.packets.proofs.readings.read_packet.Goals as goal
-
 use native.Mathlib.Omega.{arith}
 use Rattle.packets.proofs.PacketPromises.{
   good-from,
@@ -11,13 +8,7 @@ use Rattle.packets.proofs.PacketPromises.{
   packet-short-run,
 }
 use borrow.Author.Rules.{rules}
-use Rattle.packets.proofs.readings.read_packet.Statement.{statement}
-use Rattle.packets.proofs.readings.read_packet.Tie as tie
-use Rattle.packets.proofs.readings.read_packet.Reads as reads
-use Rattle.packets.proofs.readings.read_packet.Lts as lts
-use Rattle.packets.proofs.readings.read_by.Reads as read-by-reads
-use Rattle.packets.proofs.records.two_at.Reads as two-at-reads
-use Rattle.packets.proofs.tables.check_table.Reads as check-table-reads
+use Rattle.packets.proofs.readings.read_packet.Goals as goal
 
 pub returns-in_default : goal.returns-in_default
 returns-in_default c =

@@ -1,6 +1,3 @@
-
-use Rattle.packets.proofs.readings.read_partly.Goals as goal
-
 use mathlib.Core.Path.{sym}
 use native.Mathlib.Omega.{arith}
 use Rattle.packets.proofs.PacketPromises.{good-from, bad_from, good-few}
@@ -12,15 +9,7 @@ use Rattle.packets.proofs.PartlyPromises.{
   partly-read,
 }
 use borrow.Author.Rules.{rules}
-use Rattle.packets.proofs.readings.read_partly.Statement.{statement}
-use Rattle.packets.proofs.readings.read_partly.Tie as tie
-use Rattle.packets.proofs.readings.read_partly.Reads as reads
-use Rattle.packets.proofs.readings.read_partly.Lts as lts
-use Rattle.packets.proofs.readings.copy_numbers.Reads as copy-numbers-reads
-use Rattle.packets.proofs.readings.count_of.Reads as count-of-reads
-use Rattle.packets.proofs.records.two_at.Reads as two-at-reads
-use Rattle.packets.proofs.tables.check_table.Reads as check-table-reads
-use Rattle.packets.proofs.walks.walk_fields.Reads as walk-fields-reads
+use Rattle.packets.proofs.readings.read_partly.Goals as goal
 
 pub returns-in_default : goal.returns-in_default
 returns-in_default c =

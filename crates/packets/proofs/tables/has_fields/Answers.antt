@@ -14,7 +14,7 @@ pub walk-walked-requires : goal.walk-walked-requires
 walk-walked-requires c =
     let p = c.requires in
     let s = c.args.table.now in
-    let h = head-is s p.0.1 in
+    let h = head-is s p.table_len_bound.1 in
     let count-is = c.two_at-count.ensures.0 in
     let row : 0 < c.two_at-w.result = rw c.two_at-w.ensures.0 (row_positive _ h.row) in
     let count : c.two_at-count.result ≤ fields_most = rw count-is (count_most _ h.count) in
@@ -22,17 +22,17 @@ walk-walked-requires c =
       w_nonzero = (
         row,
         count,
-        omega (arith, count-is, p.1.0),
-        p.0.0,
+        omega (arith, count-is, p.table_in_bounds.0),
+        p.table_len_bound.0,
         end,
         c.class_table-classes.ensures,
       );
       count_in_bounds = (
-        omega (arith, count-is, p.1.1),
-        omega (arith, count-is, p.1.2),
+        omega (arith, count-is, p.table_in_bounds.1),
+        omega (arith, count-is, p.table_in_bounds.2),
         omega (arith, count),
         omega (arith, count),
-        p.1.3,
+        p.table_in_bounds.3,
       );
     }
 
@@ -49,11 +49,11 @@ pub is_last-requires : goal.is_last-requires
 is_last-requires c =
     let p = c.requires in
     let s = c.args.table.now in
-    let h = head-is s p.0.1 in
+    let h = head-is s p.table_len_bound.1 in
     let is = walk_of s c.two_at-w.ensures.0 c.two_at-count.ensures.0 c.two_at-from.ensures.0 c.walk-walked.ensures.is
     c.in-Past.is in
     let past = walk_past _ _ _ _ _ _ _ _ h.end is in
-    omega (arith, past, p.0.0)
+    omega (arith, past, p.table_len_bound.0)
 
 pub returns-then-not-is_last : goal.returns-then-not-is_last
 returns-then-not-is_last c =
@@ -69,19 +69,19 @@ pub has_unique_names-requires : goal.has_unique_names-requires
 has_unique_names-requires c =
     let p = c.requires in
     let s = c.args.table.now in
-    let h = head-is s p.0.1 in
+    let h = head-is s p.table_len_bound.1 in
     let count-is = c.two_at-count.ensures.0 in
     let from_is = c.two_at-from.ensures.0 in
     let is = walk_of s c.two_at-w.ensures.0 count-is from_is c.walk-walked.ensures.is c.in-Past.is in
-    let g = gathered_past c.in-Past.is c.walk-walked.ensures.gathered.0 in
+    let g = gathered_past c.in-Past.is c.walk-walked.ensures.gathered in
     let kept = c.walk-walked.auto in
-    let places = walk-places _ _ _ _ _ _ _ _ p.0.0 h.end is in (
+    let places = walk-places _ _ _ _ _ _ _ _ p.table_len_bound.0 h.end is in (
       rw count-is (count_most _ h.count),
-      p.0.0,
+      p.table_len_bound.0,
       all-places _ _ _ _ g.placed (rw (count-is, from_is) places),
       gathered_keys _ _ _ _ _ _ _ g,
-      omega (arith, count-is, p.1.1, kept),
-      omega (arith, count-is, p.1.2, kept),
+      omega (arith, count-is, p.table_in_bounds.1, kept),
+      omega (arith, count-is, p.table_in_bounds.2, kept),
     )
 
 pub returns : goal.returns
@@ -90,8 +90,8 @@ returns c =
     let count-is = c.two_at-count.ensures.0 in
     let from_is = c.two_at-from.ensures.0 in
     let is = walk_of s c.two_at-w.ensures.0 count-is from_is c.walk-walked.ensures.is c.in-Past.is in
-    let g = gathered_past c.in-Past.is c.walk-walked.ensures.gathered.0 in
-    let t = tallied_past _ _ _ _ c.in-Past.is c.walk-walked.ensures.gathered.1 in
+    let g = gathered_past c.in-Past.is c.walk-walked.ensures.gathered in
+    let t = tallied_past _ _ _ _ c.in-Past.is c.walk-walked.ensures.counted in
     let last = sym c.is_last.ensures ∙ c.if-not-is_last.false
     in record {
       is = rw (is, last, ← count-is, ← from_is) (c.has_unique_names.ensures ∙ gathered_unique _ _ _ _ _ _ _ g);

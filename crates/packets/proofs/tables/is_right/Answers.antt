@@ -19,9 +19,9 @@ keeps_numbers-requires c =
     let yes_fields = c.if-not-has_fields.false in
     let fields = sym c.has_fields.ensures.is ∙ yes_fields in
     let g = gathered_true s _ _ yes_fields c.has_fields.ensures.gathered in (
-      omega (arith, n, p.1.1, kept),
-      omega (arith, n, p.1.3, kept),
-      rw n (right-places s _ p.0.0 p.0.1 fields g.0),
+      omega (arith, n, p.table_in_bounds.1, kept),
+      omega (arith, n, p.table_in_bounds.3, kept),
+      rw n (right-places s _ p.table_len_bound.0 p.table_len_bound.1 fields g.0),
     )
 
 pub returns : goal.returns
@@ -33,4 +33,4 @@ returns c =
     let yes_fields = c.if-not-has_fields.false in
     let fields = sym c.has_fields.ensures.is ∙ yes_fields in
     let g = gathered_true s _ _ yes_fields c.has_fields.ensures.gathered in
-    rw fields (right-numbers s _ c.has_fields.new.counts _ c.keeps_numbers.ensures n g (omega (arith, p.1.3, kept)))
+    rw fields (right-numbers s _ c.has_fields.new.counts _ c.keeps_numbers.ensures n g (omega (arith, p.table_in_bounds.3, kept)))

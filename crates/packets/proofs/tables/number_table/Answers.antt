@@ -45,6 +45,13 @@ slice_bounds-put_numbers-count c =
     let end = (head-is s head).end in
     omega (arith, end, c.two_at-from.ensures.0)
 
+pub slice_bounds-put_numbers-start : goal.slice_bounds-put_numbers-start
+slice_bounds-put_numbers-start c =
+    let s = c.args.table.now in
+    let head = sym c.is_head.ensures ∙ c.if-not-is_head.false in
+    let end = (head-is s head).end in
+    omega (arith, end, c.two_at-from.ensures.0)
+
 pub returns : goal.returns
 returns c =
     let s = c.args.table.now in

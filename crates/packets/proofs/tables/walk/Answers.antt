@@ -1,6 +1,3 @@
-
-use Rattle.packets.proofs.tables.walk.Goals as goal
-
 use mathlib.Core.Path.{◌≡◌, refl, sym, ◌∙◌}
 use mathlib.Core.Bool.{false}
 use mathlib.Core.List.{[]}
@@ -26,19 +23,7 @@ use Rattle.packets.proofs.WalkSteps.{
 use Rattle.packets.proofs.NameSteps.{Gathering, gather-start, gather_again, gather_done}
 use Rattle.packets.proofs.CountSteps.{Tallying, record_length, tally-start, tally_again, tally_done}
 use borrow.Author.Rules.{rules}
-use Rattle.packets.proofs.tables.walk.Statement.{statement}
-use Rattle.packets.proofs.tables.walk.Tie as tie
-use Rattle.packets.proofs.tables.walk.Reads as reads
-use Rattle.packets.proofs.tables.walk.Lts as lts
-use Rattle.packets.proofs.counts.count_record.Reads as count-record-reads
-use Rattle.packets.proofs.fields.bits_of.Reads as bits-of-reads
-use Rattle.packets.proofs.fields.ends_with.Reads as ends-with-reads
-use Rattle.packets.proofs.fields.has_trees.Reads as has-trees-reads
-use Rattle.packets.proofs.fields.is_field.Reads as is-field-reads
-use Rattle.packets.proofs.fields.is_word.Reads as is-word-reads
-use Rattle.packets.proofs.fields.mark_of.Reads as mark-of-reads
-use Rattle.packets.proofs.records.parts_at.Reads as parts-at-reads
-use Rattle.packets.proofs.unique.gather.Reads as gather-reads
+use Rattle.packets.proofs.tables.walk.Goals as goal
 
 pub loop-i-init : goal.loop-i-init
 loop-i-init c =
@@ -54,12 +39,12 @@ loop-i-init c =
       refl,
       refl,
       refl,
-      tally-start a.s.now a.count a.from _ c.requires.1.4,
+      tally-start a.s.now a.count a.from _ c.requires.count_in_bounds.4,
     )
 
 pub is_field-requires : goal.is_field-requires
 is_field-requires c =
-    (c.requires.0.0, omega arith, c.requires.0.3, c.parts_at-parts.ensures, c.requires.0.5)
+    (c.requires.w_nonzero.0, omega arith, c.requires.w_nonzero.3, c.parts_at-parts.ensures, c.requires.w_nonzero.5)
 
 pub returns-then-not-is_field : goal.returns-then-not-is_field
 returns-then-not-is_field c =
@@ -80,7 +65,7 @@ is_word-word-requires c =
     let parts = c.parts_at-parts.ensures in
     let field = sym c.is_field.ensures ∙ c.if-not-is_field.false in
     let inside = parts-inside _ _ (field_next _ _ _ _ _ _ (rw parts at field)) in
-    (rw parts inside.label, c.requires.0.3, c.requires.0.5)
+    (rw parts inside.label, c.requires.w_nonzero.3, c.requires.w_nonzero.5)
 
 pub has_trees-requires : goal.has_trees-requires
 has_trees-requires c =
@@ -89,7 +74,7 @@ has_trees-requires c =
     let field = sym c.is_field.ensures ∙ c.if-not-is_field.false in
     let next = field_next _ _ _ _ _ _ (rw parts at field) in (
       lt-length-set l.marks l.i _ (omega arith),
-      c.requires.0.3,
+      c.requires.w_nonzero.3,
       rw parts (parts-inside _ _ next),
     )
 
@@ -97,7 +82,7 @@ pub returns-then-not-has_trees : goal.returns-then-not-has_trees
 returns-then-not-has_trees c =
     let a = c.args in
     let l = c.loop-i in
-    let space = c.requires.0.2 in
+    let space = c.requires.w_nonzero.2 in
     let s = a.s.now in
     let before = take l.i l.marks in
     let parts = c.parts_at-parts.ensures in
@@ -118,10 +103,10 @@ gather-requires c =
     let field = sym c.is_field.ensures ∙ c.if-not-is_field.false in
     let l = c.loop-i in
     let lt = c.loop-i-test.true in
-    let few = c.requires.0.1 in
-    let room = c.requires.1 in
+    let few = c.requires.w_nonzero.1 in
+    let room = c.requires.count_in_bounds in
     let next = field_next _ _ _ _ _ _ (rw parts at field) in record {
-      s_len_bound = (c.requires.0.3, parts, rw parts (parts-inside _ _ next), c.is_word-word.ensures);
+      s_len_bound = (c.requires.w_nonzero.3, parts, rw parts (parts-inside _ _ next), c.is_word-word.ensures);
       i_in_bounds = (omega arith, omega arith, omega arith);
     }
 
@@ -130,13 +115,13 @@ count_record-requires c =
     let parts = c.parts_at-parts.ensures in
     let field = sym c.is_field.ensures ∙ c.if-not-is_field.false in
     let next = field_next _ _ _ _ _ _ (rw parts at field) in
-    (c.requires.0.3, rw parts (parts-inside _ _ next))
+    (c.requires.w_nonzero.3, rw parts (parts-inside _ _ next))
 
 pub overflow_add-place : goal.overflow_add-place
 overflow_add-place c =
     let field = sym c.is_field.ensures ∙ c.if-not-is_field.false in
     let lt = c.loop-i-test.true in
-    let few = c.requires.0.1 in
+    let few = c.requires.w_nonzero.1 in
     let inv = c.loop-i.invariant in
     let small = bits_small _ _ _ _ _ _ field in
     let bits = c.bits_of-place.ensures in
@@ -145,7 +130,7 @@ overflow_add-place c =
 pub overflow_add-i : goal.overflow_add-i
 overflow_add-i c =
     let lt = c.loop-i-test.true in
-    let few = c.requires.0.1 in
+    let few = c.requires.w_nonzero.1 in
     omega arith
 
 pub loop-i-smaller : goal.loop-i-smaller
@@ -161,12 +146,12 @@ loop-i-preserved c =
     let parts = c.parts_at-parts.ensures in
     let field = sym c.is_field.ensures ∙ c.if-not-is_field.false in
     let lt = c.loop-i-test.true in
-    let space = c.requires.0.2 in
-    let few = c.requires.0.1 in
+    let space = c.requires.w_nonzero.2 in
+    let few = c.requires.w_nonzero.1 in
     let trees = sym c.has_trees.ensures ∙ c.if-not-has_trees.false in
     let marked = mark-word s _ c.is_word-word.ensures c.mark_of.ensures in
     let own = own-trees l.marks l.i _ s _ (parts_at s l.at) parts marked (omega arith) trees in
-    let room = c.requires.1 in
+    let room = c.requires.count_in_bounds in
     let small = bits_small _ _ _ _ _ _ field in
     let bits = c.bits_of-place.ensures in
     let step = walk_on a.w a.count l.i before l.place l.ended s l.at (omega arith)
@@ -174,18 +159,18 @@ loop-i-preserved c =
     let marks = take_own l.marks l.i c.mark_of.result (omega arith) in
     let more = gather_again s a.count a.from l.i l.at l.places l.keys l.shorts l.words
     l.invariant.5 (omega arith) (omega arith) (omega arith) (omega arith) (omega arith) in
-    let got = (c.gather.ensures.places, c.gather.ensures.keys, c.gather.ensures.shorts, c.gather.ensures.words) in
+    let got = c.gather.ensures in
     let counted = tally_again s a.count a.from l.i l.at l.counts lt l.invariant.11 in (
       omega arith,
       search rules,
       omega arith,
       field_next _ _ _ _ _ _ field,
       l.invariant.4 ∙ step ∙ rw (marks, c.ends_with-ended.ensures, bits, marked, parts),
-      rw (got.0, got.1.0, got.1.1.0, got.1.1.1, parts) more,
-      rw (got.0, length-set) l.invariant.6,
-      rw (got.1.0, length-set) l.invariant.7,
-      rw (got.1.1.0, length-set) l.invariant.8,
-      rw (got.1.1.1, length-set) l.invariant.9,
+      rw (got.places, got.keys, got.shorts, got.words, parts) more,
+      rw (got.places, length-set) l.invariant.6,
+      rw (got.keys, length-set) l.invariant.7,
+      rw (got.shorts, length-set) l.invariant.8,
+      rw (got.words, length-set) l.invariant.9,
       rw (c.count_record.ensures, record_length) l.invariant.10,
       rw (c.count_record.ensures, parts) counted,
     )

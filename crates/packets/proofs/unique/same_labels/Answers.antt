@@ -25,6 +25,18 @@ overflow_add-b_end c =
     let label_span2 = c.label_span-q in
     let z = rw (sym label_span2.ensures) at pre.2.inside.label in omega arith
 
+pub slice_bounds-same_words-end : goal.slice_bounds-same_words-end
+slice_bounds-same_words-end c =
+    let pre = c.requires in
+    let label-span = c.label_span-p in
+    let z = rw (sym label-span.ensures) at pre.1.inside.label in omega arith
+
+pub slice_bounds-same_words-end-2 : goal.slice_bounds-same_words-end-2
+slice_bounds-same_words-end-2 c =
+    let pre = c.requires in
+    let label_span2 = c.label_span-q in
+    let z = rw (sym label_span2.ensures) at pre.2.inside.label in omega arith
+
 pub returns : goal.returns
 unfolding label_at
 returns c =

@@ -21,31 +21,29 @@ unfolding walk_answer
 returns-in_default c =
     let a = c.args in
     let l = c.loop-i in
-    let told = c.in_default.is in
     let h =
     l.invariant.3
     ∙ walk-stop a.table.now a.packet.now l.run c.two_at-n.result l.i l.place l.at
     c.record_at-p.result c.one_field-found.result c.one_field-found.new.run c.loop-i-test.true c.record_at-p.ensures
     c.one_field-found.ensures.0 _
-    c.one_field-found.ensures.1 told in
-    (rw h (c.refused.ensures ∙ rw told), rw h refl)
+    c.one_field-found.ensures.1 c.in_default.is in
+    (rw h (c.refused.ensures ∙ rw c.in_default.is), rw h refl)
 
 pub loop-i-preserved : goal.loop-i-preserved
 loop-i-preserved c =
     let a = c.args in
     let l = c.loop-i in
     let one = c.one_field-found in
-    let to = c.in-Field.is in
     let later = c.two_at-n.result - l.i - 1 in
     let st = field_step a.table.now a.packet.now l.run c.record_at-p.result later l.place in
     let h =
     walk-to a.table.now a.packet.now l.run c.two_at-n.result l.i l.place l.at
     c.record_at-p.result one.result one.new.run
     c.loop-i-test.true c.record_at-p.ensures one.ensures.0
-    _ _ one.ensures.1 to in
+    _ _ one.ensures.1 c.in-Field.is in
     let inside =
     step-inside a.table.now a.packet.now l.run l.i c.record_at-p.result later l.place one.result
-    _ _ l.invariant.1 one.ensures.0 to in (
+    _ _ l.invariant.1 one.ensures.0 c.in-Field.is in (
       omega arith,
       inside,
       rw one.ensures.1 (length_with l.run l.i st) ∙ l.invariant.2,

@@ -11,9 +11,8 @@ returns-in-Nothing c =
 pub returns-in-By : goal.returns-in-By
 returns-in-By c =
     let a = c.args in
-    let v = c.in-By.given.0 in
     let p = c.put_first in
-    link_goes a.g a.c a.a a.out.now v.0 v.1.0 v.1.1.0 v.1.1.1.0 c.in-By.is _
+    link_goes a.g a.c a.a a.out.now c.in-By.o c.in-By.end c.in-By.field-2 c.in-By.field-3 c.in-By.is _
     c.pushed-d.ensures c.place_in-from.result c.place_in-from.ensures.0
     c.place_in-from.ensures.1 _ p.auto.out c.operator-row.result.code
-    (row-code _ v.0 c.operator-row.ensures) p.ensures
+    (row-code _ c.in-By.o c.operator-row.ensures) p.ensures

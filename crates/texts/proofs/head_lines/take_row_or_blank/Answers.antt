@@ -31,10 +31,10 @@ take_row-requires c = c.requires
 pub returns : goal.returns
 unfolding lined_at
 returns c =
-    let q = (c.take_row.ensures.room, c.take_row.ensures.step, c.take_row.ensures.row) in
+    let q = c.take_row.ensures in
     let full = filled_nil c.args.line.now
     c.if-line-eq0.false in record {
-      room = q.0;
-      step = (λ cells table f labels names k b o h. rw full (q.1.0 cells table f labels names k b o h));
-      row = λ f o v z. rw full (q.1.1 f o v z);
+      room = q.room;
+      step = (λ cells table f labels names k b o h. rw full (q.step cells table f labels names k b o h));
+      row = λ f o v z. rw full (q.row f o v z);
     }

@@ -71,18 +71,18 @@ returns-then-p-eq0 c =
     let l = c.args.line.now in
     let held = c.args.held.now in
     let p = c.parts_of-p.result in
-    let o = (c.parts_of-p.ensures.kept, c.parts_of-p.ensures.same) in
+    let o = c.parts_of-p.ensures in
     let same = c.parts_of-p.auto.names in
-    let e = form-none _ r.fields l (read_form l) _ p o.1 c.if-p-eq0.true in
-    let q = (c.refuse_line.ensures.room, c.refuse_line.ensures.same, c.refuse_line.ensures.note) in record {
-      room = q.0;
+    let e = form-none _ r.fields l (read_form l) _ p o.same c.if-p-eq0.true in
+    let q = c.refuse_line.ensures in record {
+      room = q.room;
       step = (
-        named_back held c.requires.3 o.0 same,
-        (λ f k h. rw q.1.0 (holds-formless f r (named-holds held c.requires.3 o.0 same f r _
+        named_back held c.requires.3 o.kept same,
+        (λ f k h. rw q.same (holds-formless f r (named-holds held c.requires.3 o.kept same f r _
             refl h) l
             c.refuse_line.result.note
             (sym (full_same f r h.counts) ∙ sym c.is_full.ensures ∙
-            c.if-is_full.false) e q.1.1)),
+            c.if-is_full.false) e q.note)),
       );
     }
 
@@ -92,8 +92,8 @@ take_form-requires c =
     let l = c.args.line.now in
     let held = c.args.held.now in
     let p = c.parts_of-p.result in
-    let o = (c.parts_of-p.ensures.kept, c.parts_of-p.ensures.same) in
-    let x = form-some _ r.fields l (read_form l) _ p o.1 c.if-p-eq0.false in
+    let o = c.parts_of-p.ensures in
+    let x = form-some _ r.fields l (read_form l) _ p o.same c.if-p-eq0.false in
     let small = sym (c.sizes_kept.ensures _ r.fields l x.0 _ x.2) ∙
     c.if-sizes_kept.true in (
       (
@@ -101,7 +101,7 @@ take_form-requires c =
         c.requires.1,
         c.requires.2,
         named-room held
-            c.requires.3 o.0 c.parts_of-p.auto.names,
+            c.requires.3 o.kept c.parts_of-p.auto.names,
       ),
       full_room r (sym c.is_full.ensures ∙ c.if-is_full.false),
       (
@@ -119,7 +119,7 @@ pub shape_of-held-then-sizes_kept : goal.shape_of-held-then-sizes_kept
 shape_of-held-then-sizes_kept c =
     let e = c.take_form.ensures.step.0 in
     let back = named_back c.args.held.now c.requires.3 c.parts_of-p.ensures.kept
-    c.parts_of-p.kept.1.1.0 in
+    c.parts_of-p.auto.1.1.0 in
     search (rules, back, e)
 
 pub returns-then-sizes_kept : goal.returns-then-sizes_kept
@@ -128,20 +128,20 @@ returns-then-sizes_kept c =
     let l = c.args.line.now in
     let held = c.args.held.now in
     let p = c.parts_of-p.result in
-    let o = (c.parts_of-p.ensures.kept, c.parts_of-p.ensures.same) in
+    let o = c.parts_of-p.ensures in
     let same = c.parts_of-p.auto.names in
-    let x = form-some _ r.fields l (read_form l) _ p o.1 c.if-p-eq0.false in
+    let x = form-some _ r.fields l (read_form l) _ p o.same c.if-p-eq0.false in
     let small = sym (c.sizes_kept.ensures _ r.fields l x.0 _ x.2)
     ∙ c.if-sizes_kept.true in
-    let q = (c.take_form.ensures.room, c.take_form.ensures.step) in
-    let areas = named_areas held c.requires.3 o.0 same in record {
-      room = q.0;
+    let q = c.take_form.ensures in
+    let areas = named_areas held c.requires.3 o.kept same in record {
+      room = q.room;
       step = (
-        q.1.0 ∙ named_back held c.requires.3 o.0 same,
-        (λ f k h. q.1.1 f x.0 k
+        q.step.0 ∙ named_back held c.requires.3 o.kept same,
+        (λ f k h. q.step.1 f x.0 k
             (sym (full_same f r h.counts) ∙ sym c.is_full.ensures ∙
             c.if-is_full.false)
-            (named-holds held c.requires.3 o.0 same f r _ refl h) x.1 small
+            (named-holds held c.requires.3 o.kept same f r _ refl h) x.1 small
             (rw areas.names-are x.2)),
       );
     }
@@ -169,21 +169,21 @@ returns c =
     let l = c.args.line.now in
     let held = c.args.held.now in
     let p = c.parts_of-p.result in
-    let o = (c.parts_of-p.ensures.kept, c.parts_of-p.ensures.same) in
+    let o = c.parts_of-p.ensures in
     let same = c.parts_of-p.auto.names in
-    let x = form-some _ r.fields l (read_form l) _ p o.1 c.if-p-eq0.false in
-    let q = (c.refuse_line-2.ensures.room, c.refuse_line-2.ensures.same, c.refuse_line-2.ensures.note) in
+    let x = form-some _ r.fields l (read_form l) _ p o.same c.if-p-eq0.false in
+    let q = c.refuse_line-2.ensures in
     let large : all is_small (trees x.0) ≡ false =
     sym (c.sizes_kept.ensures _ r.fields l x.0 _ x.2) ∙ c.if-sizes_kept.false in record {
-      room = q.0;
+      room = q.room;
       step = (
-        named_back held c.requires.3 o.0 same,
-        (λ f k h. rw q.1.0 (holds-closed f r (named-holds held c.requires.3 o.0
+        named_back held c.requires.3 o.kept same,
+        (λ f k h. rw q.same (holds-closed f r (named-holds held c.requires.3 o.kept
             same f r _ refl h) l x.0
             c.refuse_line-2.result.note
             (sym (full_same f r h.counts) ∙ sym c.is_full.ensures ∙
             c.if-is_full.false) x.1
-            (q.1.1 ∙ large-note f r x.0 h.counts large)
-            (ap is_open q.1.1 ∙ shut_six (note_of r.note) (r.lines + 1)))),
+            (q.note ∙ large-note f r x.0 h.counts large)
+            (ap is_open q.note ∙ shut_six (note_of r.note) (r.lines + 1)))),
       );
     }

@@ -62,9 +62,9 @@ keep_field-end-requires c =
 pub next_cell-cell-requires : goal.next_cell-cell-requires
 next_cell-cell-requires c =
     let n = record_room c.args.held.now c.requires.0.3
-    c.hold_label.ensures c.keep_field-end.ensures.bytes.0 in
+    c.hold_label.ensures c.keep_field-end.ensures.bytes in
     let m = cells-long (recorded c.args.held.now c.requires.0.3
-    c.hold_label.ensures c.keep_field-end.ensures.bytes.0) n in
+    c.hold_label.ensures c.keep_field-end.ensures.bytes) n in
     (c.requires.0.0, omega (arith, m))
 
 pub overflow_add-r : goal.overflow_add-r
@@ -87,7 +87,7 @@ pub shape_of-held-then-is_open : goal.shape_of-held-then-is_open
 shape_of-held-then-is_open c =
     let e = record_back c.args.held.now
     c.requires.0.3 c.hold_label.ensures
-    c.keep_field-end.ensures.bytes.0 in
+    c.keep_field-end.ensures.bytes in
     search (rules, e)
 
 pub returns-then-is_open : goal.returns-then-is_open
@@ -105,30 +105,30 @@ returns-then-is_open c =
     let cell = c.next_cell-cell in
     let own = c.hold_label.ensures in
     let areas = label_areas held q.0.3 own in
-    let last = record_areas held q.0.3 own put.ensures.bytes.0 in
+    let last = record_areas held q.0.3 own put.ensures.bytes in
     let told = told-after (note_of r.note) _ lowest.result lowest.ensures.lowest q.0.0.told rule.ensures.told
     in
     let kept = sym c.is_open.ensures ∙ c.if-is_open.true in record {
       room = rw c.onward.ensures ((
         room-kept r cell.result put.result c.rests-rested.result lowest.result q.0.0
             q.1 cell.ensures.0 (omega (arith, put.ensures.end)) (omega (arith, put.ensures.end, q.2.1)) told
-            (lowest.ensures.place (r.lines + 1) q.0.0.placed rule.ensures.rule.1),
+            (lowest.ensures.place (r.lines + 1) q.0.0.placed rule.ensures.place),
         omega arith,
       ));
       step = rw c.onward.ensures ((
-        record_back held q.0.3 own put.ensures.bytes.0,
+        record_back held q.0.3 own put.ensures.bytes,
         (λ f x k full h is_form small is.
             let nw = named_with l x a.p is f r h.counts few refl h.named own.labels in
             let low = lowest.ensures.lowest ∙ form-note f r x h.counts small
-            (rule.ensures.rule.0 f x v k h.counts (rw areas.cells_are h.slots)
+            (rule.ensures.rule f x v k h.counts (rw areas.cells_are h.slots)
             (rw (areas.labels-are, areas.names-are) nw) is_form (rw areas.names-are is)) in
             areas_hold (fold.brief_field f l) _ _ last
             (holds_open f r h x (record {
               cell = cell.ensures.1 f h.counts (rw last.cells_are h.slots);
               writes = rw (record_bytes _ r.fields l x v a.p is q.2.0 q.2.2) at (record_writes held
-                  q.0.3 own put.ensures.bytes.0);
+                  q.0.3 own put.ensures.bytes);
               short = record_short _ r.fields l x v a.p is q.2.0 q.2.2 q.2.1;
-              tallies = put.ensures.bytes.1 ∙ line-tallied _ r.fields l x v a.p is q.2.0 q.2.2 _;
+              tallies = put.ensures.counts ∙ line-tallied _ r.fields l x v a.p is q.2.0 q.2.2 _;
               rested = c.rests-rested.ensures ∙ rests_here f r x h.counts a.p is;
               named = nw;
             }) k (form-short f k l x is_form) (all-formed f k l x is_form) l lowest.result full is_form low kept)),
@@ -170,7 +170,7 @@ returns c =
     c.if-is_open.false in record {
       room = rw c.onward-2.ensures ((
         room-refused r lowest.result room q.1 told
-            (lowest.ensures.place (r.lines + 1) room.placed rule.ensures.rule.1),
+            (lowest.ensures.place (r.lines + 1) room.placed rule.ensures.place),
         omega arith,
       ));
       step = rw c.onward-2.ensures ((
@@ -178,7 +178,7 @@ returns c =
         (λ f x k full h is_form small is.
             let nw = named_with l x a.p is f r h.counts few refl h.named own.labels in
             let low = lowest.ensures.lowest ∙ form-note f r x h.counts small
-            (rule.ensures.rule.0 f x v k h.counts (rw areas.cells_are h.slots)
+            (rule.ensures.rule f x v k h.counts (rw areas.cells_are h.slots)
             (rw (areas.labels-are, areas.names-are) nw) is_form (rw areas.names-are is)) in
             areas_hold (fold.brief_field f l) _ _ areas
             (holds-closed f r (holds_named f r x h nw) l x lowest.result full is_form low shut)),

@@ -17,8 +17,8 @@ put_field-requires c = c.requires
 
 pub returns : goal.returns
 returns c =
-    let q = (c.put_field.ensures.end, c.put_field.ensures.bytes) in record {
-      end = q.0;
-      bytes = q.1;
+    let q = c.put_field.ensures in record {
+      end = q.end;
+      bytes = q.bytes;
       counts = c.count_line.ensures;
     }

@@ -11,7 +11,7 @@ returns-then-used-part c =
       around = around_same s;
       step = ended-cut s c.args.used c.args.part.now c.args.r
             c.cut_line.result p.2 p.3 (omega arith)
-            c.cut_line.ensures.step.0;
+            c.cut_line.ensures.step;
     }
 
 pub returns : goal.returns

@@ -34,16 +34,16 @@ pub returns : goal.returns
 returns c =
     let s = c.args.s.now in
     let p = c.requires in
-    let q = (c.take_line.ensures.room, c.take_line.ensures.step) in
+    let q = c.take_line.ensures in
     let part = c.take_line.new.held in
-    let long = q.1.0 ∙ held-long s p.2 in
+    let long = q.step.0 ∙ held-long s p.2 in
     let z : c.join_line-n.result - 0 ≡ c.join_line-n.result = omega arith in record {
-      room = q.0;
+      room = q.room;
       around = around_put s p.2 part long;
       step = ended-joined s c.args.used
             c.args.part.now c.args.r
             c.take_line.result
             (put_mid held_at held_room s part) c.join_line-n.ensures
             (ap (λ (n : ℕ). take n c.join_line-n.new.line) z) (held-put s p.2 part long)
-            q.1;
+            q.step;
     }

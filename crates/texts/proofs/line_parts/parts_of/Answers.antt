@@ -26,8 +26,7 @@ short_at-h-requires c =
     let a = c.args in
     let s = a.s.now in
     let f = c.label_at-l in
-    let q = c.in-At.given in
-    let w = label-within _ _ q.1 f.ensures.place in
+    let w = label-within _ _ c.in-At.is f.ensures.place in
     (w.1, c.requires.2.table)
 
 pub returns-in_default-h : goal.returns-in_default-h
@@ -46,26 +45,22 @@ starts_at-requires c =
     let a = c.args in
     let s = a.s.now in
     let f = c.label_at-l in
-    let q = c.in-At.given in
-    let w = label-within _ _ q.1 f.ensures.place in
+    let w = label-within _ _ c.in-At.is f.ensures.place in
     let g = c.short_at-h in
-    let p = c.in-At-h.given in
-    let u = short-within _ _ p.1 g.ensures.place in
+    let u = short-within _ _ c.in-At-h.is g.ensures.place in
     u.3
 
 pub overflow_sub-short : goal.overflow_sub-short
 overflow_sub-short c =
     let g = c.short_at-h in
-    let p = c.in-At-h.given in
-    let u = short-within _ _ p.1 g.ensures.place in
+    let u = short-within _ _ c.in-At-h.is g.ensures.place in
     let le = u.1 in
     search (rules, le)
 
 pub overflow_add-next : goal.overflow_add-next
 overflow_add-next c =
     let g = c.short_at-h in
-    let p = c.in-At-h.given in
-    let u = short-within _ _ p.1 g.ensures.place in
+    let u = short-within _ _ c.in-At-h.is g.ensures.place in
     let le = u.3 in
     let m = c.requires.0 in
     search (rules, le, m)
@@ -75,12 +70,10 @@ behind_names-requires c =
     let a = c.args in
     let s = a.s.now in
     let f = c.label_at-l in
-    let q = c.in-At.given in
-    let w = label-within _ _ q.1 f.ensures.place in
+    let w = label-within _ _ c.in-At.is f.ensures.place in
     let g = c.short_at-h in
-    let p = c.in-At-h.given in
-    let u = short-within _ _ p.1 g.ensures.place in
-    let n = p.0.1.1.0 in
+    let u = short-within _ _ c.in-At-h.is g.ensures.place in
+    let n = c.in-At-h.next in
     let r : n + 2 ≤ length s =
     clause_room s n u.3 (bytes ": ") (sym c.starts_at.ensures ∙
     c.if-starts_at.true) in (
@@ -96,14 +89,12 @@ returns-then-starts_at c =
     let a = c.args in
     let s = a.s.now in
     let f = c.label_at-l in
-    let q = c.in-At.given in
-    let w = label-within _ _ q.1 f.ensures.place in
+    let w = label-within _ _ c.in-At.is f.ensures.place in
     let g = c.short_at-h in
-    let p = c.in-At-h.given in
-    let u = short-within _ _ p.1 g.ensures.place in
-    let x = label_as s f.ensures.same q.1 in
-    let y = short_as s q.0.0 g.ensures.same p.1 in
-    let le : p.0.1.1.0 ≤ length s = u.3 in
+    let u = short-within _ _ c.in-At-h.is g.ensures.place in
+    let x = label_as s f.ensures.same c.in-At.is in
+    let y = short_as s c.in-At.label g.ensures.same c.in-At-h.is in
+    let le : c.in-At-h.next ≤ length s = u.3 in
     let b = c.behind_names in
     let d = sym c.starts_at.ensures ∙ c.if-starts_at.true in record {
       kept = b.ensures.kept;
@@ -115,14 +106,12 @@ returns c =
     let a = c.args in
     let s = a.s.now in
     let f = c.label_at-l in
-    let q = c.in-At.given in
-    let w = label-within _ _ q.1 f.ensures.place in
+    let w = label-within _ _ c.in-At.is f.ensures.place in
     let g = c.short_at-h in
-    let p = c.in-At-h.given in
-    let u = short-within _ _ p.1 g.ensures.place in
-    let x = label_as s f.ensures.same q.1 in
-    let y = short_as s q.0.0 g.ensures.same p.1 in
-    let le : p.0.1.1.0 ≤ length s = u.3 in
+    let u = short-within _ _ c.in-At-h.is g.ensures.place in
+    let x = label_as s f.ensures.same c.in-At.is in
+    let y = short_as s c.in-At.label g.ensures.same c.in-At-h.is in
+    let le : c.in-At-h.next ≤ length s = u.3 in
     let d = sym c.starts_at.ensures ∙ c.if-starts_at.false in record {
       kept = kept-all _ _;
       same = parts-no_colon _ a.n s _ x y le _ c.no_parts-2.ensures d;

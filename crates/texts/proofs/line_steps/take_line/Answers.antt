@@ -25,13 +25,13 @@ cut_line-requires c = (
 
 pub returns-then-line-gt-LINE_MOST : goal.returns-then-line-gt-LINE_MOST
 returns-then-line-gt-LINE_MOST c =
-    let q = (c.cut_line.ensures.room, c.cut_line.ensures.step, c.cut_line.ensures.lines) in record {
-      room = q.0;
+    let q = c.cut_line.ensures in record {
+      room = q.room;
       step = (
         refl,
         refl,
         λ f k g h. rw (long-line f c.args.line.now k.small
-            (omega (arith, c.if-line-gt-LINE_MOST.true))) (q.1.0 f c.args.held.now
+            (omega (arith, c.if-line-gt-LINE_MOST.true))) (q.step f c.args.held.now
             c.args.counts.now k g h),
       );
     }
@@ -109,12 +109,11 @@ pub returns-in-Opening : goal.returns-in-Opening
 returns-in-Opening c =
     let r = c.args.r in
     let l = c.args.line.now in
-    let q = (c.take_opening.ensures.room, c.take_opening.ensures.step) in
-    let told = c.in-Opening.is in record {
-      room = q.0;
+    let q = c.take_opening.ensures in record {
+      room = q.room;
       step = opening-step c.args.held.now l r _
-          c.requires.0.3 told c.take_opening.auto.table
-          q.1;
+          c.requires.0.3 c.in-Opening.is c.take_opening.auto.table
+          q.step;
     }
 
 pub returns-in-Blank : goal.returns-in-Blank
@@ -132,11 +131,11 @@ pub returns-in-TensRuler : goal.returns-in-TensRuler
 unfolding fold.lined_at
 returns-in-TensRuler c =
     let l = c.args.line.now in
-    let q = (c.take_ruler.ensures.room, c.take_ruler.ensures.step) in
+    let q = c.take_ruler.ensures in
     let held = head-stage c.args.r l at.TensRuler c.in-TensRuler.is (λ o. refl)
-    refl (q.1 _ _)
+    refl (q.step _ _)
     (λ f o. width-row f (read_tens l) o) in record {
-      room = q.0;
+      room = q.room;
       step = (refl, refl, held);
     }
 
@@ -166,34 +165,33 @@ returns-in-TopBorder c =
 pub returns-in-FirstRow : goal.returns-in-FirstRow
 unfolding fold.lined_at
 returns-in-FirstRow c =
-    let q = (c.take_row.ensures.room, c.take_row.ensures.step, c.take_row.ensures.row) in
+    let q = c.take_row.ensures in
     let held = row-stage c.args.r
     c.args.line.now at.FirstRow
     c.in-FirstRow.is (λ o. refl) refl
-    (q.1.0 _ _) q.1.1 in record {
-      room = q.0;
+    (q.step _ _) q.row in record {
+      room = q.room;
       step = (refl, search rules, held);
     }
 
 pub returns-in-InRow : goal.returns-in-InRow
 returns-in-InRow c =
-    let q = (c.take_more.ensures.room, c.take_more.ensures.step) in
-    let told = c.in-InRow.is in
+    let q = c.take_more.ensures in
     let k = c.take_more.auto.1.1 in record {
-      room = q.0;
+      room = q.room;
       step = more-step c.args.held.now c.args.line.now
-          c.args.r _ c.requires.0.3 told k.0 k.1.0 q.1;
+          c.args.r _ c.requires.0.3 c.in-InRow.is k.0 k.1.0 q.step;
     }
 
 pub returns-in-RowOrBlank : goal.returns-in-RowOrBlank
 unfolding fold.lined_at
 returns-in-RowOrBlank c =
-    let q = (c.take_row_or_blank.ensures.room, c.take_row_or_blank.ensures.step, c.take_row_or_blank.ensures.row) in
+    let q = c.take_row_or_blank.ensures in
     let held = row-stage c.args.r
     c.args.line.now at.RowOrBlank
     c.in-RowOrBlank.is (λ o. refl) refl
-    (q.1.0 _ _) q.1.1 in record {
-      room = q.0;
+    (q.step _ _) q.row in record {
+      room = q.room;
       step = (refl, search rules, held);
     }
 
@@ -223,28 +221,25 @@ returns-in-LastBlank c =
 pub returns-in-FirstField : goal.returns-in-FirstField
 unfolding fold.lined_at
 returns-in-FirstField c =
-    let q = (c.take_field.ensures.room, c.take_field.ensures.step) in
-    let told = c.in-FirstField.is in record {
-      room = q.0;
-      step = field-stage c.args.r c.args.line.now at.FirstField told
-          (λ f. refl) c.args.held.now c.take_field.new.held (omega (arith, c.if-line-gt-LINE_MOST.false)) q.1;
+    let q = c.take_field.ensures in record {
+      room = q.room;
+      step = field-stage c.args.r c.args.line.now at.FirstField c.in-FirstField.is
+          (λ f. refl) c.args.held.now c.take_field.new.held (omega (arith, c.if-line-gt-LINE_MOST.false)) q.step;
     }
 
 pub returns-in-FieldLine : goal.returns-in-FieldLine
 unfolding fold.lined_at
 returns-in-FieldLine c =
-    let q = (c.take_field-in-FieldLine.ensures.room, c.take_field-in-FieldLine.ensures.step) in
-    let told = c.in-FieldLine.is in record {
-      room = q.0;
-      step = field-stage c.args.r c.args.line.now at.FieldLine told
-          (λ f. refl) c.args.held.now c.take_field-in-FieldLine.new.held (omega (arith, c.if-line-gt-LINE_MOST.false)) q.1;
+    let q = c.take_field-in-FieldLine.ensures in record {
+      room = q.room;
+      step = field-stage c.args.r c.args.line.now at.FieldLine c.in-FieldLine.is
+          (λ f. refl) c.args.held.now c.take_field-in-FieldLine.new.held (omega (arith, c.if-line-gt-LINE_MOST.false)) q.step;
     }
 
 pub returns-in-Lost : goal.returns-in-Lost
 unfolding fold.lined_at
 returns-in-Lost c =
-    let lost = c.in-Lost.is in
-    let held = at_stage c.args.r c.args.line.now at.Lost lost (λ f k e g h. (h, g)) in record {
+    let held = at_stage c.args.r c.args.line.now at.Lost c.in-Lost.is (λ f k e g h. (h, g)) in record {
       room = (c.requires.0.0, omega arith);
       step = (refl, refl, held);
     }

@@ -1,6 +1,3 @@
-
-use Rattle.texts.proofs.name_clashes.clashes.Goals as goal
-
 use mathlib.Core.Bool.{true, false}
 use mathlib.Core.Path.{sym, ◌∙◌}
 use Prim.Native.Nat.{◌-◌}
@@ -17,13 +14,7 @@ use Rattle.texts.proofs.HeldClashes.{
   meet_here,
 }
 use borrow.Author.Rules.{rules}
-use Rattle.texts.proofs.name_clashes.clashes.Statement.{statement}
-use Rattle.texts.proofs.name_clashes.clashes.Tie as tie
-use Rattle.texts.proofs.name_clashes.clashes.Reads as reads
-use Rattle.texts.proofs.name_clashes.clashes.Lts as lts
-use Rattle.names.proofs.repeats.names_meet.Reads as names-meet-reads
-use Rattle.texts.proofs.held_names.name_at.Reads as name-at-reads
-use Rattle.texts.proofs.name_clashes.same_label.Reads as same-label-reads
+use Rattle.texts.proofs.name_clashes.clashes.Goals as goal
 
 pub earlier-init : goal.earlier-init
 earlier-init c =

@@ -12,31 +12,31 @@ put_names-named-requires c =
 pub put_width-measured-requires : goal.put_width-measured-requires
 put_width-measured-requires c =
     let q = c.requires in
-    let n = (c.put_names-named.ensures.end, c.put_names-named.ensures.bytes) in (
+    let n = c.put_names-named.ensures in (
       omega (arith, q.0.width, q.2.width),
       omega (
         arith,
         size-sum c.args.p,
         q.1,
-        n.0,
-        n.1.kept,
+        n.end,
+        n.bytes.kept,
       ),
     )
 
 pub put_tree-next-requires : goal.put_tree-next-requires
 put_tree-next-requires c =
     let q = c.requires in
-    let n = (c.put_names-named.ensures.end, c.put_names-named.ensures.bytes) in
-    let w = (c.put_width-measured.ensures.end, c.put_width-measured.ensures.bytes) in (
+    let n = c.put_names-named.ensures in
+    let w = c.put_width-measured.ensures in (
       omega (arith, q.0.constraint, q.2.constraint),
       omega (
         arith,
         size-sum c.args.p,
         q.1,
-        n.0,
-        n.1.kept,
-        w.0,
-        w.1.kept,
+        n.end,
+        n.bytes.kept,
+        w.end,
+        w.bytes.kept,
       ),
     )
 
@@ -44,20 +44,20 @@ pub put_tree-requires : goal.put_tree-requires
 put_tree-requires c =
     let q = c.requires in
     let p = c.args.p in
-    let n = (c.put_names-named.ensures.end, c.put_names-named.ensures.bytes) in
-    let w = (c.put_width-measured.ensures.end, c.put_width-measured.ensures.bytes) in
-    let t = (c.put_tree-next.ensures.end, c.put_tree-next.ensures.bytes) in (
+    let n = c.put_names-named.ensures in
+    let w = c.put_width-measured.ensures in
+    let t = c.put_tree-next.ensures in (
       omega (arith, q.0.condition, q.2.condition),
-      omega (arith, size-sum p, q.1, n.0, n.1.kept, w.0, w.1.kept, t.0, t.1.kept),
+      omega (arith, size-sum p, q.1, n.end, n.bytes.kept, w.end, w.bytes.kept, t.end, t.bytes.kept),
     )
 
 pub returns : goal.returns
 returns c =
     let p = c.args.p in
-    let n = (c.put_names-named.ensures.end, c.put_names-named.ensures.bytes) in
-    let w = (c.put_width-measured.ensures.end, c.put_width-measured.ensures.bytes) in
-    let t = (c.put_tree-next.ensures.end, c.put_tree-next.ensures.bytes) in
-    let u = (c.put_tree.ensures.end, c.put_tree.ensures.bytes) in record {
-      end = omega (arith, size-sum p, n.0, w.0, t.0, u.0);
-      bytes = writes_join n.1 (writes_join w.1 (writes_join t.1 u.1));
+    let n = c.put_names-named.ensures in
+    let w = c.put_width-measured.ensures in
+    let t = c.put_tree-next.ensures in
+    let u = c.put_tree.ensures in record {
+      end = omega (arith, size-sum p, n.end, w.end, t.end, u.end);
+      bytes = writes_join n.bytes (writes_join w.bytes (writes_join t.bytes u.bytes));
     }

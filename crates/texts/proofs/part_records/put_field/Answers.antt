@@ -29,13 +29,13 @@ returns c =
     let room = c.requires.2 in
     let sum = size-sum p in
     let size = c.field_size in
-    let body = (c.put_body.ensures.end, c.put_body.ensures.bytes) in
+    let body = c.put_body.ensures in
     let w = two-writes size.result (omega (arith, sum, room)) c.put_two-size.ensures in
     let v = two-writes p.kind (omega (arith, sum, two-end size.result w, w.kept, room))
     c.put_two-kind.ensures in
     let e = two-end p.kind v in
     let u = two-writes 0 (omega (arith, sum, two-end size.result w, e, w.kept, v.kept, room))
     c.put_two-number.ensures in record {
-      end = omega (arith, two-end size.result w, e, two-end 0 u, body.0);
-      bytes = writes_join (rw size.ensures at w) (writes_join v (writes_join u body.1));
+      end = omega (arith, two-end size.result w, e, two-end 0 u, body.end);
+      bytes = writes_join (rw size.ensures at w) (writes_join v (writes_join u body.bytes));
     }

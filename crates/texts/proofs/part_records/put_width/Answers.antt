@@ -27,9 +27,9 @@ returns-then-p-eq-MEASURED c =
     let k = c.if-p-eq-MEASURED.true in
     let w = width_two a.p a.wide.now k c.requires.1
     c.put_two-next.ensures in
-    let t = (c.put_tree.ensures.end, c.put_tree.ensures.bytes) in
+    let t = c.put_tree.ensures in
     let both =
-      width-measured a.p a.wide.now k w.0 t.0 t.1 in record {
+      width-measured a.p a.wide.now k w.0 t.end t.bytes in record {
       end = both.0;
       bytes = both.1;
     }

@@ -15,9 +15,9 @@ returns-then-used-part c =
     let is = least-used s c.two_at.ensures.0 c.least-used.ensures.2 in
     let pre = c.requires in
     let over = c.if-used-part.true in
-    let cut = (c.cut_state.ensures.around, c.cut_state.ensures.cut) in record {
-      around = cut.0;
-      step = λ plain. part_cut size used s part _ pre.0 pre.1 plain is over cut.1;
+    let cut = c.cut_state.ensures in record {
+      around = cut.around;
+      step = λ plain. part_cut size used s part _ pre.0 pre.1 plain is over cut.cut;
     }
 
 pub returns : goal.returns

@@ -5,10 +5,10 @@ use Rattle.texts.proofs.pieces.cut_state.Goals as goal
 pub returns : goal.returns
 returns c =
     let p = c.requires in
-    let q = (c.cut_line-q.ensures.room, c.cut_line-q.ensures.step, c.cut_line-q.ensures.lines) in
+    let q = c.cut_line-q.ensures in
     let load = c.load-r.ensures in
     let save = c.save.ensures in
     let clear = c.clear_parts.ensures in record {
       around = cut_around p.0 p.1 load save clear;
-      cut = cut_states p.0 p.1 load save clear q.0 q.1.0 q.1.1;
+      cut = cut_states p.0 p.1 load save clear q.room q.step q.lines;
     }

@@ -19,13 +19,13 @@ end_text-requires c =
 pub returns : goal.returns
 returns c =
     let p = c.requires in
-    let e = (c.end_text.ensures.step, c.end_text.ensures.refusal, c.end_text.ensures.place, c.end_text.ensures.within, c.end_text.ensures.beyond) in
+    let e = c.end_text.ensures in
     let l = c.load-r.ensures in
     let counts = c.load_counts.ensures in
-    let placed = e.1.1.0 in
+    let placed = e.place in
     let lines = l.fits.1 in record {
       end = state_ends c.args.s.now c.end_text.result
-          p.0 p.1 p.2 l c.two_at-whole.ensures.0 counts e.0
-          e.1.0 e.1.1.1.0 c.end_text.auto.out e.1.1.1.1;
+          p.0 p.1 p.2 l c.two_at-whole.ensures.0 counts e.step
+          e.refusal e.within c.end_text.auto.out e.beyond;
       place = omega (arith, placed, lines, p.1);
     }

@@ -35,10 +35,10 @@ store-requires c =
     c.put.auto.out in
     let counts = c.walk_piece-w.auto.counts ∙
     c.load_counts.auto.counts in (
-      room_around c.walk_piece-w.ensures.room.1.0 p.0,
+      room_around c.walk_piece-w.ensures.around p.0,
       row ∙ p.4,
       omega (arith, counts, p.5),
-      c.walk_piece-w.ensures.room.0.0.row,
+      c.walk_piece-w.ensures.room.0.row,
     )
 
 pub overflow_add-size : goal.overflow_add-size
@@ -47,7 +47,7 @@ overflow_add-size c =
 
 pub add_part-requires : goal.add_part-requires
 add_part-requires c =
-    let around = around_trans c.walk_piece-w.ensures.room.1.0
+    let around = around_trans c.walk_piece-w.ensures.around
     c.store.ensures.around in
     (room_around around c.requires.0, c.requires.1)
 
@@ -65,21 +65,21 @@ returns c =
     let s = c.args.s.now in
     let piece = c.args.piece.now in
     let w = c.walk_piece-w.result in
-    let walk = (c.walk_piece-w.ensures.place, c.walk_piece-w.ensures.room, c.walk_piece-w.ensures.around, c.walk_piece-w.ensures.step) in
-    let stored = (c.store.ensures.around, c.store.ensures.stored) in
-    let add = (c.add_part.ensures.around, c.add_part.ensures.step) in
+    let walk = c.walk_piece-w.ensures in
+    let stored = c.store.ensures in
+    let add = c.add_part.ensures in
     let m = part_long row_at row_room s (omega (arith, p.0)) in
     let row = c.walk_piece-w.auto.row ∙ c.put.auto.out in
     let counts = c.walk_piece-w.auto.counts ∙
     c.load_counts.auto.counts in
     let rest = take_all (length piece - w.at) (drop w.at piece)
     (let n = length-drop w.at piece in omega (arith, n)) in record {
-      around = around_trans (around_trans walk.1.1.0 stored.0) add.0;
+      around = around_trans (around_trans walk.around stored.around) add.around;
       step = λ k eq h. lines-taken s piece c.args.size w p.1
           c.load-r.ensures
           (least-used s c.two_at.ensures.0 c.least-used.ensures.2)
           (put_whole c.args.row.now _ (p.4 ∙ sym m)
           c.put.ensures)
-          c.load_counts.ensures walk.0 walk.1.0 walk.1.1.1
-          (row ∙ p.4) (counts ∙ p.5) stored.1 rest add.1 k eq h;
+          c.load_counts.ensures walk.place walk.room walk.step
+          (row ∙ p.4) (counts ∙ p.5) stored.stored rest add.step k eq h;
     }

@@ -30,7 +30,7 @@ returns c =
     let size = c.two_at-size.ensures.0 in
     let few = c.if-size-gt-TEXT_MOST.false in
     let fit = c.if-size-piece.false in
-    let step = (c.take_short.ensures.around, c.take_short.ensures.step) in
+    let step = c.take_short.ensures in
     piece_taken c.args.s.now c.args.piece.now c.requires.0
-    c.requires.1 size (omega (arith, few, fit)) step.0 step.1
+    c.requires.1 size (omega (arith, few, fit)) step.around step.step
     c.put_two-2.ensures

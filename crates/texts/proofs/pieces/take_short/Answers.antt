@@ -8,11 +8,11 @@ use Rattle.texts.proofs.pieces.take_short.Goals as goal
 pub returns-then-e-piece : goal.returns-then-e-piece
 returns-then-e-piece c =
     let e = c.line_end-e in
-    let add = (c.add_part.ensures.around, c.add_part.ensures.step) in
+    let add = c.add_part.ensures in
     let plain = rest_plain c.args.piece.now 0 e.result e.ensures.first
     (omega (arith, c.if-e-piece.true)) in record {
-      around = add.0;
-      step = λ k eq h. add.1 plain k (omega (arith, eq)) h;
+      around = add.around;
+      step = λ k eq h. add.step plain k (omega (arith, eq)) h;
     }
 
 pub returns : goal.returns

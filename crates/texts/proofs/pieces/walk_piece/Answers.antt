@@ -44,13 +44,13 @@ overflow_add-e c =
 
 pub slice_bounds-walk_lines-count : goal.slice_bounds-walk_lines-count
 slice_bounds-walk_lines-count c =
-    let around = c.end_held-q.ensures.around.0 in
+    let around = c.end_held-q.ensures.around in
     let room = room_around around c.requires.5 in
     omega (arith, room)
 
 pub walk_lines-requires : goal.walk_lines-requires
 walk_lines-requires c =
-    let around = c.end_held-q.ensures.around.0 in
+    let around = c.end_held-q.ensures.around in
     let room = room_around around c.requires.5 in
     let q = c.end_held-q.ensures.room in
     let fits = c.requires.0.1 in
@@ -65,7 +65,7 @@ walk_lines-requires c =
 
 pub shape_of-s : goal.shape_of-s
 shape_of-s c =
-    let around = c.end_held-q.ensures.around.0 in
+    let around = c.end_held-q.ensures.around in
     let room = room_around around c.requires.5 in
     let k = c.walk_lines.auto.held in
     let s = c.end_held-q.new.s in
@@ -82,24 +82,24 @@ shape_of-counts c =
 
 pub returns : goal.returns
 returns c =
-    let around = c.end_held-q.ensures.around.0 in
+    let around = c.end_held-q.ensures.around in
     let room = room_around around c.requires.5 in
     let s = c.end_held-q.new.s in
     let t = c.args.piece.now in
     let w = c.walk_lines.result in
-    let q = (c.walk_lines.ensures.place, c.walk_lines.ensures.room, c.walk_lines.ensures.step) in
+    let q = c.walk_lines.ensures in
     let part = c.walk_lines.new.held in
     let long = c.walk_lines.auto.held ∙ held-long s room in
-    let left = q.1.0.1 in
+    let left = q.room.1 in
     let taken = c.end_held-q.ensures.room.1 in
     let lt = c.requires.2 in record {
-      place = q.0;
-      room = (q.1.0.0, omega (arith, left, taken, lt));
+      place = q.place;
+      room = (q.room.0, omega (arith, left, taken, lt));
       around = around_trans around (around_put s room part long);
       step = λ k size free short line is.
-              let first = c.end_held-q.ensures.around.1 k.found k.line free short
+              let first = c.end_held-q.ensures.step k.found k.line free short
               line is in
-              let to = q.1.1 (fed_first k t c.args.e
+              let to = q.step (fed_first k t c.args.e
               c.requires.3 c.requires.2 short size) refl
               (first-room k t c.args.e c.requires.3
               c.requires.2 short size is) first in

@@ -49,13 +49,13 @@ end_text-requires c =
     let back = names-back held c.clear_starts.new.starts room long in
     let there = held-there c.walk_lines-w.new.held held
     (c.walk_lines-w.auto.held ∙ back) room in
-    let q = (c.walk_lines-w.ensures.place, c.walk_lines-w.ensures.room, c.walk_lines-w.ensures.step) in
+    let q = c.walk_lines-w.ensures in
     let h = c.walk_lines-w.new.held in
     let part = ap (λ (z : List ℕ). length z) (table_part h there) in
     let n = table-room h there in
     let k = c.walk_lines-w.auto.row in (
-      q.1.0.0,
-      (let m = q.1.0.1 in let z = ap (λ (x : Reading). x.lines)
+      q.room.0,
+      (let m = q.room.1 in let z = ap (λ (x : Reading). x.lines)
           c.begin.ensures in let p = c.requires.0 in
           omega (arith, m, z, p)),
       omega (arith, part, n),
@@ -81,14 +81,14 @@ returns c =
     (c.walk_lines-w.auto.held ∙ back) room in
     let t = c.args.text.now in
     let w = c.walk_lines-w.result in
-    let q = (c.walk_lines-w.ensures.place, c.walk_lines-w.ensures.room, c.walk_lines-w.ensures.step) in
+    let q = c.walk_lines-w.ensures in
     let h = c.walk_lines-w.new.held in
     let cleared = put_mid names_at names_room held c.clear_starts.new.starts in
     let begun = subst (λ (b : Reading). KeptAs fold.start b cleared c.args.row.now c.args.counts.now)
     (sym c.begin.ensures) (kept-begun cleared c.args.row.now c.args.counts.now
     (omega (arith, back, room)) c.requires.3)
     in
-    let to = q.1.1 fold.fresh refl (omega (arith, c.requires.0)) begun in
+    let to = q.step fold.fresh refl (omega (arith, c.requires.0)) begun in
     let is = to.walking.is in
     walked_reads t w to c.args.out.now _
     (c.end_text.ensures.step (record {
@@ -97,7 +97,7 @@ returns c =
       found =
           to.walking.kept.found;
     })
-    (cell_bytes h) (labels_in (label_bytes h)) (names_in (name_bytes h)) (empty-end t w.at q.0) is.steady
+    (cell_bytes h) (labels_in (label_bytes h)) (names_in (name_bytes h)) (empty-end t w.at q.place) is.steady
     is.rows (part_holds to.walking.kept.found w.reading h
     c.walk_lines-w.new.counts there
     is.holds))

@@ -30,11 +30,10 @@ returns-then-not-is_operator_in c =
 
 pub overflow_add-result : goal.overflow_add-result
 overflow_add-result c =
-    let v = c.in-Is.given.0 in
     let k = sign_length c.args.s.now c.args.at (omega arith)
     c.byte_of.result c.symbol_of-found.result
-    c.byte_of.ensures c.symbol_of-found.ensures v.0
-    v.1.0
+    c.byte_of.ensures c.symbol_of-found.ensures c.in-Is.o
+    c.in-Is.n
     c.in-Is.is in
     omega (arith, k.1)
 
@@ -52,13 +51,12 @@ returns-in-Nothing c =
 
 pub returns-in-Is : goal.returns-in-Is
 returns-in-Is c =
-    let v = c.in-Is.given.0 in
     let both =
       sign_at-place c.args.s.now
     c.args.at (omega arith)
     c.byte_of.result c.symbol_of-found.result
-    c.byte_of.ensures c.symbol_of-found.ensures v.0
-    v.1.0
+    c.byte_of.ensures c.symbol_of-found.ensures c.in-Is.o
+    c.in-Is.n
     c.in-Is.is in record {
       place = both.0;
       same = both.1;

@@ -9,10 +9,9 @@ pub returns-then-row-k : goal.returns-then-row-k
 returns-then-row-k c =
     let p = c.skipped-from in
     let a = c.args in
-    let v = c.in-At.given.0 in
     let both =
-      taken-stop a.s.now a.at p.result a.k a.h _ p.ensures.rest c.sign_at-g.ensures.same v.0
-    v.1.0 c.in-At.is _ c.operator-row.ensures (inl (omega (arith, c.if-row-k.true))) in record {
+      taken-stop a.s.now a.at p.result a.k a.h _ p.ensures.rest c.sign_at-g.ensures.same c.in-At.o
+    c.in-At.n c.in-At.is _ c.operator-row.ensures (inl (omega (arith, c.if-row-k.true))) in record {
       place = both.0;
       same = both.1;
     }
@@ -21,10 +20,9 @@ pub returns-then-h-row : goal.returns-then-h-row
 returns-then-h-row c =
     let p = c.skipped-from in
     let a = c.args in
-    let v = c.in-At.given.0 in
     let both =
-      taken-stop a.s.now a.at p.result a.k a.h _ p.ensures.rest c.sign_at-g.ensures.same v.0
-    v.1.0 c.in-At.is _ c.operator-row.ensures
+      taken-stop a.s.now a.at p.result a.k a.h _ p.ensures.rest c.sign_at-g.ensures.same c.in-At.o
+    c.in-At.n c.in-At.is _ c.operator-row.ensures
     (inr (omega (arith, c.if-h-row.true))) in record {
       place = both.0;
       same = both.1;
@@ -32,10 +30,9 @@ returns-then-h-row c =
 
 pub skipped-end-requires : goal.skipped-end-requires
 skipped-end-requires c =
-    let v = c.in-At.given.0 in
     let r = c.sign_at-g in
     let p = c.requires in
-    (p.1, (sign_within _ _ _ v.0 v.1.0 c.in-At.is r.ensures.place).1)
+    (p.1, (sign_within _ _ _ c.in-At.o c.in-At.n c.in-At.is r.ensures.place).1)
 
 pub returns-in-Nothing : goal.returns-in-Nothing
 returns-in-Nothing c =
@@ -52,10 +49,9 @@ pub returns-else-h-row : goal.returns-else-h-row
 returns-else-h-row c =
     let p = c.skipped-from in
     let a = c.args in
-    let v = c.in-At.given.0 in
     let both =
-      taken_by a.s.now a.at p.result a.k a.h _ p.ensures.rest c.sign_at-g.ensures.same v.0
-    v.1.0 c.in-At.is _ c.operator-row.ensures
+      taken_by a.s.now a.at p.result a.k a.h _ p.ensures.rest c.sign_at-g.ensures.same c.in-At.o
+    c.in-At.n c.in-At.is _ c.operator-row.ensures
     c.if-row-k.false c.if-h-row.false p.ensures.place.0 c.sign_at-g.ensures.place _
     c.skipped-end.ensures.place.0 c.skipped-end.ensures.place.1 c.skipped-end.ensures.rest in record {
       place = both.0;

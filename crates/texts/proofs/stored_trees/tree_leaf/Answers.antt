@@ -16,8 +16,8 @@ word_end-end-requires c = (c.requires.0, c.requires.2.table)
 pub is_short_word-requires : goal.is_short_word-requires
 is_short_word-requires c =
     let a = c.args in
-    let w = (c.word_end-end.ensures.place, c.word_end-end.ensures.rest) in
-    let is = word_part a.s.now a.at c.word_end-end.result w.0.0 w.0.1 w.1 in
+    let w = c.word_end-end.ensures in
+    let is = word_part a.s.now a.at c.word_end-end.result w.place.0 w.place.1 w.rest in
     (rw is (all-word _), c.requires.2.table)
 
 pub look_up-i-requires : goal.look_up-i-requires
@@ -34,12 +34,12 @@ returns-then-is_short_word c =
     let a = c.args in
     let s = a.s.now in
     let end = c.word_end-end.result in
-    let w = (c.word_end-end.ensures.place, c.word_end-end.ensures.rest) in
+    let w = c.word_end-end.ensures in
     let word = take (end - a.at) (drop a.at s) in
     let y : is_short word ≡ true =
     sym c.is_short_word.ensures ∙ c.if-is_short_word.true in
     let both =
-      leaf-name _ a.n s a.at end w.0.0 w.0.1 w.1 _ _ _ y
+      leaf-name _ a.n s a.at end w.place.0 w.place.1 w.rest _ _ _ y
     c.look_up-i.ensures.found
     c.field_node.ensures in record {
       place = both.0;
@@ -59,13 +59,13 @@ returns-then-is_number c =
     let a = c.args in
     let s = a.s.now in
     let end = c.word_end-end.result in
-    let w = (c.word_end-end.ensures.place, c.word_end-end.ensures.rest) in
+    let w = c.word_end-end.ensures in
     let word = take (end - a.at) (drop a.at s) in
     let k : is_short word ≡ false =
     sym c.is_short_word.ensures ∙ c.if-is_short_word.false in
     let y : is_number_word word ≡ true = sym c.is_number.ensures ∙ c.if-is_number.true in
     let both =
-      leaf-number _ a.n s a.at end w.0.0 w.0.1 w.1 _ _ _ k y
+      leaf-number _ a.n s a.at end w.place.0 w.place.1 w.rest _ _ _ k y
     c.word_value-v.ensures.same c.number_node.ensures in record {
       place = both.0;
       same = both.1;
@@ -76,14 +76,14 @@ returns c =
     let a = c.args in
     let s = a.s.now in
     let end = c.word_end-end.result in
-    let w = (c.word_end-end.ensures.place, c.word_end-end.ensures.rest) in
+    let w = c.word_end-end.ensures in
     let word = take (end - a.at) (drop a.at s) in
     let k : is_short word ≡ false =
     sym c.is_short_word.ensures ∙
     c.if-is_short_word.false in
     let y : is_number_word word ≡ false = sym c.is_number.ensures ∙ c.if-is_number.false in
     let both =
-      leaf-none _ a.n s a.at end w.0.0 w.0.1 w.1 _ _ k y c.no_tree.ensures in record {
+      leaf-none _ a.n s a.at end w.place.0 w.place.1 w.rest _ _ k y c.no_tree.ensures in record {
       place = both.0;
       same = both.1;
     }

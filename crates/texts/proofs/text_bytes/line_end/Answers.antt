@@ -1,6 +1,3 @@
-
-use Rattle.texts.proofs.text_bytes.line_end.Goals as goal
-
 use mathlib.Core.Path.{◌≡◌, refl}
 use native.Mathlib.Omega.{arith}
 use Prim.Native.Nat.{◌≤◌, ◌-◌, ◌+◌}
@@ -15,10 +12,7 @@ use Rattle.texts.proofs.LineEnds.{
   printable_step,
 }
 use borrow.Author.Rules.{rules}
-use Rattle.texts.proofs.text_bytes.line_end.Statement.{statement}
-use Rattle.texts.proofs.text_bytes.line_end.Tie as tie
-use Rattle.texts.proofs.text_bytes.line_end.Reads as reads
-use Rattle.texts.proofs.text_bytes.line_end.Lts as lts
+use Rattle.texts.proofs.text_bytes.line_end.Goals as goal
 
 pub loop-i-init : goal.loop-i-init
 loop-i-init c = (omega arith, omega arith, refl)

@@ -71,14 +71,14 @@ returns c =
     let r = c.args.r in
     let row = c.args.row.now in
     let n = c.last_note-last in
-    let put = (c.put_table.ensures.bytes, c.put_table.ensures.end) in
+    let put = c.put_table.ensures in
     let rest = subst (λ (i : ℕ). drop i c.put_table.new.out ≡ drop i c.args.out.now)
-    put.1 put.0.beyond in record {
+    put.end put.bytes.beyond in record {
       step = λ k cells labels names e steady kept h.
           let low = sym (last_is_lem k.found r h.counts steady row kept k.line c.args.whole e)
           ∙ sym n.ensures.lowest ∙ note-none n.result c.if-last-ne0.false in
           end-table k r h low c.requires.0 _ _ _ (omega (arith, c.if-out-size.false))
-          put.0;
+          put.bytes;
       refusal = λ told. absurd (told refl);
       place = omega arith;
       within = omega (arith, c.if-out-size.false);

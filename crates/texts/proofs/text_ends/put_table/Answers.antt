@@ -32,9 +32,9 @@ returns c =
     let t = a.table.now in
     let k = c.requires.0 in
     let big : r.end ≤ length t = omega (arith, k.end, k.fields, k.count, c.requires.1) in
-    let put = (c.put_records-body.ensures.end, c.put_records-body.ensures.bytes) in
+    let put = c.put_records-body.ensures in
     let both =
-      put_all r t a.counts.now k big c.requires.2 c.put_head-head.ensures put.0 put.1 c.put_two-size.ensures
+      put_all r t a.counts.now k big c.requires.2 c.put_head-head.ensures put.end put.bytes c.put_two-size.ensures
     c.put_two.ensures in record {
       bytes = both.0;
       end = both.1;

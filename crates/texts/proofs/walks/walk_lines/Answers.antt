@@ -82,15 +82,15 @@ loop-r-preserved c =
     let t = c.args.text.now in
     let v = c.loop-r in
     let e = c.line_end-e in
-    let q = (c.take_line-r.ensures.room, c.take_line-r.ensures.step) in
+    let q = c.take_line-r.ensures in
     let lt : e.result < length t = omega (arith, e.ensures.place.1, c.if-e-text.false) in
     let fits = v.invariant.1.1 in (
       omega (arith, lt),
-      (q.0.0, omega (arith, q.0.1, fits, e.ensures.place.0, lt)),
-      omega (arith, q.1.0, v.invariant.2),
-      omega (arith, q.1.1, v.invariant.3),
+      (q.room.0, omega (arith, q.room.1, fits, e.ensures.place.0, lt)),
+      omega (arith, q.step.0, v.invariant.2),
+      omega (arith, q.step.1, v.invariant.3),
       (let k = c.take_line-r.auto.counts in omega (arith, k, v.invariant.4)),
       λ k b le h. walking-next k t c.args.from v.at e.result v.r (v.invariant.5 k b le h)
           e.ensures.first lt
-          c.if-text-e-ne10.false c.take_line-r.result q.1,
+          c.if-text-e-ne10.false c.take_line-r.result q.step,
     )

@@ -26,13 +26,12 @@ unit_behind-b-requires c =
 pub sized-requires : goal.sized-requires
 sized-requires c =
     let t = c.stored_tree-t in
-    let p = c.in-At.given in
-    let h = (c.unit_behind-b.ensures.place, c.unit_behind-b.ensures.same) in
+    let h = c.unit_behind-b.ensures in
     let w = got-within _ _ _ _ t.result c.if-t-eq0.false t.ensures.place in
-    let v = bits-within _ _ p.1 h.0 in (
+    let v = bits-within _ _ c.in-At.is h.place in (
       omega (arith, w.0, v.0),
       v.1,
-      bits-unit c.args.s.now t.result.next _ h.1 p.1,
+      bits-unit c.args.s.now t.result.next _ h.same c.in-At.is,
       c.requires.3.table,
     )
 
@@ -40,8 +39,8 @@ pub returns-in-Nothing : goal.returns-in-Nothing
 returns-in-Nothing c =
     let a = c.args in
     let t = c.stored_tree-t in
-    let h = (c.unit_behind-b.ensures.place, c.unit_behind-b.ensures.same) in
-    let m = bits_none a.s.now t.result.next _ h.1 c.in-Nothing.is in
+    let h = c.unit_behind-b.ensures in
+    let m = bits_none a.s.now t.result.next _ h.same c.in-Nothing.is in
     let both =
       measure_bare _ a.n a.s.now a.at t.result _ t.ensures.same _ c.plain-in-Nothing.ensures
     c.if-t-eq0.false m in record {
@@ -53,12 +52,11 @@ pub returns-in-At : goal.returns-in-At
 returns-in-At c =
     let a = c.args in
     let t = c.stored_tree-t in
-    let p = c.in-At.given in
-    let h = (c.unit_behind-b.ensures.place, c.unit_behind-b.ensures.same) in
+    let h = c.unit_behind-b.ensures in
     let k = c.sized in
-    let m = bits-some a.s.now t.result.next _ h.1 p.1 in
+    let m = bits-some a.s.now t.result.next _ h.same c.in-At.is in
     let both =
-      measure_sized _ a.n a.s.now a.at t.result _ t.ensures.same p.0.0 p.0.1.0 k.result c.if-t-eq0.false m k.ensures.place
+      measure_sized _ a.n a.s.now a.at t.result _ t.ensures.same c.in-At.u c.in-At.next k.result c.if-t-eq0.false m k.ensures.place
     k.ensures.same in record {
       place = both.0;
       same = both.1;
