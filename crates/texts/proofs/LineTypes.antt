@@ -13,6 +13,7 @@ use Rattle.rules.specs.Names.{is_short}
 use Rattle.rules.specs.Trees.{Tree, num, read, two, negation, has_type}
 use Rattle.rules.specs.Fields.{Width, fixed, measured, rest, Form, width_trees}
 use Rattle.rules.specs.Expressions.{SpellsAt, number, field, two_sided, negated, parentheses}
+use Rattle.base.specs.Bytes.{bytes}
 use Rattle.rules.specs.Lines.{SpellsWidth, SpellsMaybe, SpellsField, Unresolved}
 
 -- ── the names in a tree ──
@@ -68,6 +69,6 @@ pub record ShortNames (x : Form) : Type 0 where
 pub spelled-short : (x : Form) (l : List ℕ) → SpellsField Unresolved x l → ShortNames x
 spelled-short x l h = record {
   width = width-short x.width h.line.width h.line.is_width;
-  constraint = maybe_short _ x.constraint h.line.constraint h.line.is_constraint;
-  condition = maybe_short _ x.condition h.line.condition h.line.is_condition;
+  constraint = maybe_short (bytes "; ") x.constraint h.line.constraint h.line.is_constraint;
+  condition = maybe_short (bytes "; present only when ") x.condition h.line.condition h.line.is_condition;
 }

@@ -1,5 +1,5 @@
 use mathlib.Core.Path.{◌≡◌}
-use mathlib.Core.Logic.{⊎_elim}
+use borrow.Author.Tests.{eq-eqb, ne_eqb}
 use Rattle.texts.proofs.CellSteps.{text-start, line-room, text-next, bare_down, bare_along}
 use Prim.Native.Nat.{◌-◌, ◌≤◌}
 use native.Mathlib.Omega.{arith}
@@ -8,6 +8,7 @@ use Rattle.rules.specs.Rows.{cell_text}
 use Rattle.texts.specs.RowPlaces.{cell_at}
 use borrow.Author.Rules.{rules}
 use Rattle.texts.proofs.cell_texts.put_text.Goals as goal
+use Rattle.texts.proofs.cell_texts.put_text.Goals.{then-down, else-down}
 
 pub loop-j-init : goal.loop-j-init
 loop-j-init c =
@@ -30,9 +31,11 @@ loop-j-preserved c =
     let w = c.loop-j.invariant.1 in
     let t = cell_text (cell_at row c.loop-j.j a.a
     (a.b - a.a)) in
-    let bare = ⊎_elim (λ q. bare_down t q.0.taken q.1) (λ q. bare_along _ t w.end q.0.left q.1)
-    c.if-down.branch in
-    (omega arith, text-next row _ a.a a.b w bare c.add_line-end.ensures)
+    let e = c.add_line-end.ensures in
+    elim c.if-down.branch [
+      then-down v ↦ (omega arith, text-next row _ a.a a.b w (bare_down t (eq-eqb _ _ v.if-down.true) v.bare-is) e)
+      | else-down v ↦ (omega arith, text-next row _ a.a a.b w (bare_along _ t w.end (ne_eqb _ _ v.if-down.false) v.bare-is) e)
+    ]
 
 pub returns : goal.returns
 returns c =

@@ -22,12 +22,12 @@ returns-then-not-c c =
     let a = c.args in
     let x = c.constraint_at-c in
     ends-none _ a.n a.s.now a.at x.result _ _ x.ensures.same _ c.wrong_ends.ensures
-    (c.if-not-c.true)
+    (not-true x.result.right c.if-not-c.true)
 
 pub condition_at-d-requires : goal.condition_at-d-requires
 condition_at-d-requires c =
     let x = c.constraint_at-c in
-    let w = x.ensures.place (c.if-not-c.false) in (
+    let w = x.ensures.place (not-false x.result.right c.if-not-c.false) in (
       w.1,
       c.requires.1,
       omega
@@ -40,19 +40,19 @@ returns-then-not-d c =
     let a = c.args in
     let x = c.constraint_at-c in
     let y = c.condition_at-d in
-    let first = c.if-not-c.false in
+    let first = not-false x.result.right c.if-not-c.false in
     ends_later _ a.n a.s.now a.at x.result _ _ x.ensures.same first y.result y.ensures.same _ c.wrong_ends-then-not-d.ensures
-    (c.if-not-d.true)
+    (not-true y.result.right c.if-not-d.true)
 
 pub starts_at-requires : goal.starts_at-requires
 starts_at-requires c =
     let y = c.condition_at-d in
-    (y.ensures.place (c.if-not-d.false)).1
+    (y.ensures.place (not-false y.result.right c.if-not-d.false)).1
 
 pub overflow_add-end : goal.overflow_add-end
 overflow_add-end c =
     let y = c.condition_at-d in
-    let w = y.ensures.place (c.if-not-d.false) in
+    let w = y.ensures.place (not-false y.result.right c.if-not-d.false) in
     let le : y.result.tree.next ≤ length c.args.s.now =
     w.1 in
     let m = c.requires.1 in
@@ -61,7 +61,7 @@ overflow_add-end c =
 pub remark_ok-requires : goal.remark_ok-requires
 remark_ok-requires c =
     let y = c.condition_at-d in
-    let w = y.ensures.place (c.if-not-d.false) in
+    let w = y.ensures.place (not-false y.result.right c.if-not-d.false) in
     clause_room c.args.s.now y.result.tree.next w.1
     (bytes ".") (sym c.starts_at.ensures ∙ c.if-starts_at.true)
 
@@ -70,8 +70,8 @@ returns-then-remark_ok c =
     let a = c.args in
     let x = c.constraint_at-c in
     let y = c.condition_at-d in
-    let first = c.if-not-c.false in
-    let second = c.if-not-d.false in
+    let first = not-false x.result.right c.if-not-c.false in
+    let second = not-false y.result.right c.if-not-d.false in
     let w = y.ensures.place second in
     ends-whole _ a.n a.s.now a.at x.result _ _ x.ensures.same first y.result y.ensures.same second w.1
     (sym c.starts_at.ensures ∙ c.if-starts_at.true) (sym c.remark_ok.ensures ∙ c.if-remark_ok.true)
@@ -81,8 +81,8 @@ returns-then-starts_at c =
     let a = c.args in
     let x = c.constraint_at-c in
     let y = c.condition_at-d in
-    let first = c.if-not-c.false in
-    let second = c.if-not-d.false in
+    let first = not-false x.result.right c.if-not-c.false in
+    let second = not-false y.result.right c.if-not-d.false in
     let w = y.ensures.place second in
     ends-remark _ a.n a.s.now a.at x.result _ _ x.ensures.same first y.result y.ensures.same second w.1 _
     c.wrong_ends-then-starts_at.ensures (sym c.starts_at.ensures ∙
@@ -93,8 +93,8 @@ returns c =
     let a = c.args in
     let x = c.constraint_at-c in
     let y = c.condition_at-d in
-    let first = c.if-not-c.false in
-    let second = c.if-not-d.false in
+    let first = not-false x.result.right c.if-not-c.false in
+    let second = not-false y.result.right c.if-not-d.false in
     let w = y.ensures.place second in
     ends_unstopped _ a.n a.s.now a.at x.result _ _ x.ensures.same first y.result y.ensures.same second w.1 _
     c.wrong_ends-2.ensures (sym c.starts_at.ensures ∙ c.if-starts_at.false)

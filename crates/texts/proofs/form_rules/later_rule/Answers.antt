@@ -14,6 +14,9 @@ use Rattle.texts.proofs.form_rules.later_rule.Goals as goal
 pub overflow_add-place : goal.overflow_add-place
 overflow_add-place c = let q = c.requires.1 in search (rules, q)
 
+pub slice_bounds-shows_cell-end : goal.slice_bounds-shows_cell-end
+slice_bounds-shows_cell-end c = let k = c.requires.4 in omega (arith, k)
+
 pub shows_cell-requires : goal.shows_cell-requires
 shows_cell-requires c = (
   c.requires.0,
@@ -34,6 +37,13 @@ returns-then-not-shows_cell c =
             sym (later_is f a.r x n false _ _ _ shown refl refl refl));
       place = omega arith;
     }
+
+pub slice_bounds-clashes-end : goal.slice_bounds-clashes-end
+slice_bounds-clashes-end c = let k = c.requires.4 in omega (arith, k)
+
+pub slice_bounds-clashes-end-2 : goal.slice_bounds-clashes-end-2
+slice_bounds-clashes-end-2 c =
+    let k = c.requires.4 in omega (arith, k)
 
 pub clashes-requires : goal.clashes-requires
 clashes-requires c =

@@ -17,6 +17,9 @@ overflow_mul-size c = let q = c.requires.0.width in search (rules, q)
 pub overflow_add-size : goal.overflow_add-size
 overflow_add-size c = let q = c.requires.0.width in search (rules, q)
 
+pub slice_bounds-goes_on-end : goal.slice_bounds-goes_on-end
+slice_bounds-goes_on-end c = let q = c.requires.0.width in let k = c.requires.3.1 in omega (arith, q, k)
+
 pub overflow_mul-n : goal.overflow_mul-n
 overflow_mul-n c =
     let q = c.requires.0.row in search (rules, q)

@@ -37,6 +37,15 @@ slice_bounds-put-count c =
     c.article-from.ensures.place n in
     omega (arith, m)
 
+pub slice_bounds-put-start : goal.slice_bounds-put-start
+slice_bounds-put-start c =
+    let l = c.args.line.now in
+    let n = named-line l c.article-from.result (sym
+    c.is_named.ensures ∙ c.if-is_named.true) in
+    let m = name-fits l c.article-from.result
+    c.article-from.ensures.place n in
+    search (rules, m)
+
 pub onward-requires : goal.onward-requires
 onward-requires c = c.requires.1
 

@@ -35,6 +35,10 @@ returns-then-is_full c =
       ));
     }
 
+pub slice_bounds-parts_of-end : goal.slice_bounds-parts_of-end
+slice_bounds-parts_of-end c =
+    let k = c.requires.3 in omega (arith, k)
+
 pub parts_of-p-requires : goal.parts_of-p-requires
 parts_of-p-requires c =
     let few = full_room c.args.r
@@ -119,7 +123,7 @@ pub shape_of-held-then-sizes_kept : goal.shape_of-held-then-sizes_kept
 shape_of-held-then-sizes_kept c =
     let e = c.take_form.ensures.step.0 in
     let back = named_back c.args.held.now c.requires.3 c.parts_of-p.ensures.kept
-    c.parts_of-p.auto.1.1.0 in
+    c.parts_of-p.auto.names in
     search (rules, back, e)
 
 pub returns-then-sizes_kept : goal.returns-then-sizes_kept
@@ -142,7 +146,7 @@ returns-then-sizes_kept c =
             (sym (full_same f r h.counts) ∙ sym c.is_full.ensures ∙
             c.if-is_full.false)
             (named-holds held c.requires.3 o.kept same f r _ refl h) x.1 small
-            (rw areas.names-are x.2)),
+            (rw areas.names_are x.2)),
       );
     }
 

@@ -21,6 +21,9 @@ use Rattle.texts.proofs.LineCounts.{line-tallied}
 use borrow.Author.Rules.{rules}
 use Rattle.texts.proofs.kept_fields.take_form.Goals as goal
 
+pub slice_bounds-hold_label-end : goal.slice_bounds-hold_label-end
+slice_bounds-hold_label-end c = let k = c.requires.0.3 in omega (arith, k)
+
 pub hold_label-requires : goal.hold_label-requires
 hold_label-requires c =
     let q = c.requires in
@@ -48,6 +51,12 @@ slice_bounds-keep_field-count c =
     let n = label-room c.args.held.now c.requires.0.3
     c.hold_label.ensures in omega (arith, n)
 
+pub slice_bounds-keep_field-start : goal.slice_bounds-keep_field-start
+slice_bounds-keep_field-start c =
+    let n = label-room c.args.held.now c.requires.0.3
+    c.hold_label.ensures in
+    omega (arith, n)
+
 pub keep_field-end-requires : goal.keep_field-end-requires
 keep_field-end-requires c =
     let q = c.requires in
@@ -58,6 +67,13 @@ keep_field-end-requires c =
     c.hold_label.ensures) in
     let room = table-room held q.0.3 in
     (q.2.0, q.0.2, omega (arith, q.2.1, q.0.0.end, few, part, room), q.2.2)
+
+pub slice_bounds-next_cell-end : goal.slice_bounds-next_cell-end
+slice_bounds-next_cell-end c =
+    let n = record_room c.args.held.now
+    c.requires.0.3 c.hold_label.ensures
+    c.keep_field-end.ensures.bytes in
+    omega (arith, n)
 
 pub next_cell-cell-requires : goal.next_cell-cell-requires
 next_cell-cell-requires c =
@@ -121,7 +137,7 @@ returns-then-is_open c =
             let nw = named_with l x a.p is f r h.counts few refl h.named own.labels in
             let low = lowest.ensures.lowest ∙ form-note f r x h.counts small
             (rule.ensures.rule f x v k h.counts (rw areas.cells_are h.slots)
-            (rw (areas.labels-are, areas.names-are) nw) is_form (rw areas.names-are is)) in
+            (rw (areas.labels_are, areas.names_are) nw) is_form (rw areas.names_are is)) in
             areas_hold (fold.brief_field f l) _ _ last
             (holds_open f r h x (record {
               cell = cell.ensures.1 f h.counts (rw last.cells_are h.slots);
@@ -179,7 +195,7 @@ returns c =
             let nw = named_with l x a.p is f r h.counts few refl h.named own.labels in
             let low = lowest.ensures.lowest ∙ form-note f r x h.counts small
             (rule.ensures.rule f x v k h.counts (rw areas.cells_are h.slots)
-            (rw (areas.labels-are, areas.names-are) nw) is_form (rw areas.names-are is)) in
+            (rw (areas.labels_are, areas.names_are) nw) is_form (rw areas.names_are is)) in
             areas_hold (fold.brief_field f l) _ _ areas
             (holds-closed f r (holds_named f r x h nw) l x lowest.result full is_form low shut)),
       ));

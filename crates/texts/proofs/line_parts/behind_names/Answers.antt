@@ -35,7 +35,7 @@ ends_at-e-requires c =
 
 pub shape_of-wide-then-e : goal.shape_of-wide-then-e
 shape_of-wide-then-e c =
-    let k = c.width_at-w.auto.1.1.1.1.1.0 in search (rules, k)
+    let k = c.width_at-w.auto.out in search (rules, k)
 
 pub returns-then-e : goal.returns-then-e
 returns-then-e c =
@@ -53,7 +53,7 @@ returns-then-e c =
 
 pub shape_of-wide : goal.shape_of-wide
 shape_of-wide c =
-    let k = c.width_at-w.auto.1.1.1.1.1.0 in search (rules, k)
+    let k = c.width_at-w.auto.out in search (rules, k)
 
 pub returns : goal.returns
 returns c =

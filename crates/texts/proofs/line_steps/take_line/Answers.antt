@@ -40,6 +40,10 @@ pub slice_bounds-take_opening-count : goal.slice_bounds-take_opening-count
 slice_bounds-take_opening-count c =
     let k = c.requires.0.3 in omega (arith, k)
 
+pub slice_bounds-take_opening-start : goal.slice_bounds-take_opening-start
+slice_bounds-take_opening-start c =
+    let k = c.requires.0.3 in omega (arith, k)
+
 pub take_opening-requires : goal.take_opening-requires
 take_opening-requires c =
     let held = c.args.held.now in
@@ -75,6 +79,10 @@ expect-requires-in-TopBorder c =
 pub take_row-requires : goal.take_row-requires
 take_row-requires c =
     (c.requires.0.0, c.requires.0.1, c.requires.1)
+
+pub slice_bounds-take_more-end : goal.slice_bounds-take_more-end
+slice_bounds-take_more-end c =
+    let k = c.requires.0.3 in omega (arith, k)
 
 pub take_more-requires : goal.take_more-requires
 take_more-requires c =
@@ -177,10 +185,10 @@ returns-in-FirstRow c =
 pub returns-in-InRow : goal.returns-in-InRow
 returns-in-InRow c =
     let q = c.take_more.ensures in
-    let k = c.take_more.auto.1.1 in record {
+    let k = c.take_more.auto in record {
       room = q.room;
       step = more-step c.args.held.now c.args.line.now
-          c.args.r _ c.requires.0.3 c.in-InRow.is k.0 k.1.0 q.step;
+          c.args.r _ c.requires.0.3 c.in-InRow.is k.cells k.row q.step;
     }
 
 pub returns-in-RowOrBlank : goal.returns-in-RowOrBlank

@@ -2,6 +2,9 @@ use Rattle.texts.proofs.PartBytes.{tree-put}
 use borrow.Author.Rules.{rules}
 use Rattle.texts.proofs.part_records.put_tree.Goals as goal
 
+pub slice_bounds-put_counted-end : goal.slice_bounds-put_counted-end
+slice_bounds-put_counted-end c = c.requires.0
+
 pub returns : goal.returns
 returns c =
     let a = c.args in

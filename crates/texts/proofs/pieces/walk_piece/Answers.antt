@@ -17,13 +17,17 @@ returns-then-piece-e-ne10 c =
     let s = c.args.s.now in
     let t = c.args.piece.now in
     let z : length t - length t ≡ 0 = omega arith in record {
-      place = rw (c.bad_byte.ensures, z) (omega arith);
+      place = search rules;
       room = rw (c.bad_byte.ensures, z) (bad_left (length t) c.args.r (length t) c.args.r
             (c.requires.0.0, omega arith));
-      around = rw (c.bad_byte.ensures, z) (around_same s);
-      step = rw (c.bad_byte.ensures, z) (λ k size free short line is. bad_first k t c.args.e c.requires.3
+      around = around_same s;
+      step = rw c.bad_byte.ensures (λ k size free short line is. bad_first k t c.args.e c.requires.3
               c.requires.2 short size is c.if-piece-e-ne10.true);
     }
+
+pub slice_bounds-end_held-end : goal.slice_bounds-end_held-end
+slice_bounds-end_held-end c =
+    let k = c.requires.2 in omega (arith, k)
 
 pub end_held-q-requires : goal.end_held-q-requires
 end_held-q-requires c =
@@ -44,6 +48,12 @@ overflow_add-e c =
 
 pub slice_bounds-walk_lines-count : goal.slice_bounds-walk_lines-count
 slice_bounds-walk_lines-count c =
+    let around = c.end_held-q.ensures.around in
+    let room = room_around around c.requires.5 in
+    omega (arith, room)
+
+pub slice_bounds-walk_lines-end : goal.slice_bounds-walk_lines-end
+slice_bounds-walk_lines-end c =
     let around = c.end_held-q.ensures.around in
     let room = room_around around c.requires.5 in
     omega (arith, room)

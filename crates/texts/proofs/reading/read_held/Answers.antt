@@ -14,6 +14,9 @@ use Rattle.texts.proofs.LineWalk.{room-begun, kept-begun, walked_reads, empty-en
 use borrow.Author.Rules.{rules}
 use Rattle.texts.proofs.reading.read_held.Goals as goal
 
+pub slice_bounds-clear_starts-end : goal.slice_bounds-clear_starts-end
+slice_bounds-clear_starts-end c = let k = c.requires.1 in omega (arith, k)
+
 pub clear_starts-requires : goal.clear_starts-requires
 clear_starts-requires c = let n = names-long c.args.held.now
     c.requires.1 in omega (arith, n)
@@ -33,6 +36,16 @@ walk_lines-w-requires c =
 
 pub slice_bounds-end_text-count : goal.slice_bounds-end_text-count
 slice_bounds-end_text-count c =
+    let held = c.args.held.now in
+    let room = c.requires.1 in
+    let long = c.clear_starts.auto.starts ∙ names-long held room in
+    let back = names-back held c.clear_starts.new.starts room long in
+    let there = held-there c.walk_lines-w.new.held held
+    (c.walk_lines-w.auto.held ∙ back) room in
+    omega (arith, there)
+
+pub slice_bounds-end_text-start : goal.slice_bounds-end_text-start
+slice_bounds-end_text-start c =
     let held = c.args.held.now in
     let room = c.requires.1 in
     let long = c.clear_starts.auto.starts ∙ names-long held room in

@@ -7,6 +7,16 @@ slice_bounds-put_numbers-count c =
     let a = c.args in
     (put-place a.out.now a.records.now a.at c.requires c.put-end.ensures).1
 
+pub slice_bounds-put_numbers-start : goal.slice_bounds-put_numbers-start
+slice_bounds-put_numbers-start c =
+    let a = c.args in
+    (put-place a.out.now a.records.now a.at c.requires c.put-end.ensures).1
+
+pub slice_bounds-put_numbers-end : goal.slice_bounds-put_numbers-end
+slice_bounds-put_numbers-end c =
+    let a = c.args in
+    (put-place a.out.now a.records.now a.at c.requires c.put-end.ensures).2
+
 pub returns : goal.returns
 returns c =
     let a = c.args in

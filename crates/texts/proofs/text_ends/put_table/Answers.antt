@@ -6,6 +6,10 @@ use Rattle.texts.proofs.EndSteps.{record_room, put_all}
 use borrow.Author.Rules.{rules}
 use Rattle.texts.proofs.text_ends.put_table.Goals as goal
 
+pub slice_bounds-put_head-end : goal.slice_bounds-put_head-end
+slice_bounds-put_head-end c = let k = c.requires.0 in let q = k.name in let z =
+    c.requires.1 in search (rules, q, z)
+
 pub put_head-head-requires : goal.put_head-head-requires
 put_head-head-requires c =
     let a = c.args in
@@ -17,6 +21,14 @@ put_head-head-requires c =
 pub slice_bounds-put_records-count : goal.slice_bounds-put_records-count
 slice_bounds-put_records-count c = let q = c.requires.0.front
     in search (rules, q)
+
+pub slice_bounds-put_records-start : goal.slice_bounds-put_records-start
+slice_bounds-put_records-start c = let q = c.requires.0.front in search (rules, q)
+
+pub slice_bounds-put_records-end : goal.slice_bounds-put_records-end
+slice_bounds-put_records-end c =
+    let k = c.requires.0 in
+    omega (arith, k.end, k.fields, k.count, c.requires.1)
 
 pub put_records-body-requires : goal.put_records-body-requires
 put_records-body-requires c =

@@ -45,9 +45,9 @@ returns-then-text-e-ne10 c =
     let fits = bad_left (length t - c.args.from)
     c.args.first (length t - v.at) v.r v.invariant.1 in
     let z : length t - length t ≡ 0 = omega arith in record {
-      place = rw (c.bad_byte.ensures, z) (omega arith);
+      place = search rules;
       room = rw (c.bad_byte.ensures, z) (fits);
-      step = rw (c.bad_byte.ensures, z) (λ k b le h. bad_to k t c.args.from v.at e.result v.r
+      step = rw c.bad_byte.ensures (λ k b le h. bad_to k t c.args.from v.at e.result v.r
             (v.invariant.5 k b le h) e.ensures.first lt
             c.if-text-e-ne10.true);
     }
