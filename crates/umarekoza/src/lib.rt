@@ -1,5 +1,6 @@
 // The library's entries for programs in C and other languages.
 #![tactic(auto)]
+
 mod replies;
 
 ghost use Rattle.rules.specs.Promises.{

@@ -1,0 +1,6 @@
+use mathlib.Core.Path.{◌∙◌}
+use borrow.Author.Rules.{rules}
+use Rattle.umarekoza.proofs.umarekoza_count_fields.Goals as goal
+
+pub returns : goal.returns
+returns c = λ good. c.table_reply.ensures ∙ c.count_fields.ensures good
