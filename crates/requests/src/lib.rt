@@ -1,3 +1,4 @@
 // The words of a request line.
 #![tactic(auto)]
+
 pub mod words;

@@ -1,0 +1,15 @@
+use mathlib.Core.Path.{◌≡◌, refl}
+use Prim.Native.Nat.{◌-◌, ◌≤◌}
+use native.Mathlib.Omega.{arith}
+use lib.ListN.{length, drop}
+use Rattle.requests.specs.Words.{number_from}
+use Rattle.requests.proofs.WordLaws.{number-stop, number_full, number_on, number-end}
+use borrow.Author.Rules.{rules}
+use Rattle.requests.proofs.words.number_in.Given as goal
+
+abbrev pub invariant-loop-i : goal.invariant-loop-i
+invariant-loop-i l =
+    (l.i ≤ length l.line) × (l.number ≤ 9999999) × (number_from 0 l.line ≡ number_from l.number (drop l.i l.line))
+
+abbrev pub decreases-loop-i : goal.decreases-loop-i
+decreases-loop-i l = length l.line - l.i
