@@ -1,74 +1,58 @@
 // Reads a page and a packet from its data folder, and prints the packet's listing by the page. A buffer of 65,536 bytes
 // has room for any page, table, packet and listing.
 #![tactic(auto)]
-ghost use Rattle.io.specs.Counts.{IsPrefixLen};
 
-use libc::STDOUT_FILENO;
+use loading::{large_buffer, load};
 use packets::listing::list_packet;
 use rules::{ListingAnswer, TextAnswer};
+use std::io;
+use std::io::Write;
 use texts::reading::read_text;
 
-// A file's bytes, as many as fit; answers how many.
-fn load(path: &[u8], out: &mut [u8]) -> usize
-    ensures { IsPrefixLen result out.new }
-{
-    let fd = os::open_read(path);
-    if fd < 0 {
-        os::fail(path);
-        return 0;
-    }
-    let n = io::read_full(fd, out);
-    libc::close(fd);
-    n
-}
-
-fn show(word: &[u8]) {
-    io::write_all(STDOUT_FILENO, word);
-}
-
 // The first n bytes.
-fn show_first(out: &[u8], n: usize) {
+fn show_first<W: Write>(w: &mut W, out: &[u8], n: usize) -> io::Result<()> {
     if n <= out.len() {
-        show(&out[0..n]);
+        w.write_all(&out[0..n])?;
     }
+    Ok(())
 }
 
 // The listing of a packet by a table, by way of an output.
-fn list_into(table: &[u8], packet: &[u8], out: &mut [u8]) {
+fn list_into<W: Write>(w: &mut W, table: &[u8], packet: &[u8], out: &mut [u8]) -> io::Result<()> {
     let answer = list_packet(table, packet, out);
     match answer {
-        ListingAnswer::Written(n) => show_first(out, n),
-        ListingAnswer::NoRoom => show(b"no room\n"),
+        ListingAnswer::Written(n) => show_first(w, out, n),
+        ListingAnswer::NoRoom => w.write_all(b"no room\n"),
     }
 }
 
 // The listing of a packet by the table that the first n bytes are.
-fn list_by(table: &[u8], n: usize, packet: &[u8]) {
-    let mut out = io::large_buffer();
+fn list_by<W: Write>(w: &mut W, table: &[u8], n: usize, packet: &[u8]) -> io::Result<()> {
+    let mut out = large_buffer();
     if n <= table.len() {
-        list_into(&table[0..n], packet, &mut out);
+        list_into(w, &table[0..n], packet, &mut out)?;
     }
+    Ok(())
 }
 
 // The listing of a packet by a page, by way of its table.
-fn list_page(page: &[u8], packet: &[u8], table: &mut [u8]) {
+fn list_page<W: Write>(w: &mut W, page: &[u8], packet: &[u8], table: &mut [u8]) -> io::Result<()> {
     let answer = read_text(page, table);
     let TextAnswer::Accepted(n) = answer else {
-        show(b"the page is refused\n");
-        return;
+        return w.write_all(b"the page is refused\n");
     };
-    list_by(table, n, packet);
+    list_by(w, table, n, packet)
 }
 
-fn list(page: &[u8], packet: &[u8]) {
-    let mut table = io::large_buffer();
-    list_page(page, packet, &mut table);
+fn list<W: Write>(w: &mut W, page: &[u8], packet: &[u8]) -> io::Result<()> {
+    let mut table = large_buffer();
+    list_page(w, page, packet, &mut table)
 }
 
-fn main() {
-    let mut page = io::large_buffer();
-    let n = load(b"page", &mut page);
-    let mut packet = io::large_buffer();
-    let m = load(b"packet", &mut packet);
-    list(&page[..n], &packet[..m]);
+fn main(rt: HostRuntime) -> io::Result<()> {
+    let mut page = large_buffer();
+    let n = load(&rt, "page", &mut page)?;
+    let mut packet = large_buffer();
+    let m = load(&rt, "packet", &mut packet)?;
+    list(&mut io::writer(&rt), &page[..n], &packet[..m])
 }

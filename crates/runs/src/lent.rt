@@ -32,6 +32,16 @@ pub(crate) fn room_for(size: usize, run: &[u32]) -> usize
     size
 }
 
+// How many bytes of an output are lent: size, or all if there are fewer.
+pub(crate) fn room_in(size: usize, out: &[u8]) -> usize
+    ensures { IsPrefixLen result out.now }
+{
+    if out.len() < size {
+        return out.len();
+    }
+    size
+}
+
 // Each byte from a place on is as before.
 pub(crate) fn unchanged(out: &[u8], at: usize) -> bool
     ensures { result ≡ all (eqb 165) (drop at out.now) }

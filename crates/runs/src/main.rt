@@ -1,5 +1,6 @@
 // Runs the library on the requests of its data folder, one to a line, and prints an answer line for each.
 #![tactic(auto)]
+
 mod edits;
 mod kinds;
 mod lent;
@@ -8,95 +9,96 @@ mod printing;
 mod text_answers;
 
 use kinds::answer_line;
+use loading::{large_buffer, load};
 use requests::words::find;
+use std::io;
+use std::io::{BufWriter, Write};
+use std::rt::Files;
 
 // The requests in order; each ends in LF.
-fn answer_all(requests: &[u8]) {
+fn answer_all<W: Write>(w: &mut W, requests: &[u8]) -> io::Result<()> {
     let mut at = 0;
     while at < requests.len() {
         let rest = &requests[at..];
         let end = find(rest, b'\n');
-        answer_line(&rest[..end]);
+        answer_line(w, &rest[..end])?;
         if end == rest.len() {
-            return;
+            return Ok(());
         }
         at += end + 1;
     }
+    Ok(())
 }
 
 // A file of at most 65,536 bytes.
-fn run_file(path: &[u8]) {
-    let fd = os::open_read(path);
-    if fd < 0 {
-        os::fail(path);
-        return;
-    }
-    let mut requests = io::large_buffer();
-    let n = io::read_full(fd, &mut requests);
-    libc::close(fd);
-    answer_all(&requests[..n]);
+fn run_file<R: Files, W: Write>(rt: &R, w: &mut W, path: &str) -> io::Result<()> {
+    let mut requests = large_buffer();
+    let n = load(rt, path, &mut requests)?;
+    answer_all(w, &requests[..n])
 }
 
-fn run_texts() {
-    run_file(b"marked_texts");
-    run_file(b"texts1");
-    run_file(b"texts2");
-    run_file(b"texts3");
-    run_file(b"texts4");
-    run_file(b"texts5");
-    run_file(b"texts6");
-    run_file(b"texts7");
-    run_file(b"texts8");
-    run_file(b"texts9");
-    run_file(b"texts10");
-    run_file(b"texts11");
-    run_file(b"texts12");
-    run_file(b"texts13");
-    run_file(b"texts14");
-    run_file(b"texts15");
-    run_file(b"texts16");
+fn run_texts<R: Files, W: Write>(rt: &R, w: &mut W) -> io::Result<()> {
+    run_file(rt, w, "marked_texts")?;
+    run_file(rt, w, "texts1")?;
+    run_file(rt, w, "texts2")?;
+    run_file(rt, w, "texts3")?;
+    run_file(rt, w, "texts4")?;
+    run_file(rt, w, "texts5")?;
+    run_file(rt, w, "texts6")?;
+    run_file(rt, w, "texts7")?;
+    run_file(rt, w, "texts8")?;
+    run_file(rt, w, "texts9")?;
+    run_file(rt, w, "texts10")?;
+    run_file(rt, w, "texts11")?;
+    run_file(rt, w, "texts12")?;
+    run_file(rt, w, "texts13")?;
+    run_file(rt, w, "texts14")?;
+    run_file(rt, w, "texts15")?;
+    run_file(rt, w, "texts16")
 }
 
-fn run_limits() {
-    run_file(b"limits1");
-    run_file(b"limits2");
-    run_file(b"limits3");
-    run_file(b"limits4");
+fn run_limits<R: Files, W: Write>(rt: &R, w: &mut W) -> io::Result<()> {
+    run_file(rt, w, "limits1")?;
+    run_file(rt, w, "limits2")?;
+    run_file(rt, w, "limits3")?;
+    run_file(rt, w, "limits4")
 }
 
-fn run_tables() {
-    run_file(b"tables1");
-    run_file(b"tables2");
-    run_file(b"readers1");
-    run_file(b"readers2");
+fn run_tables<R: Files, W: Write>(rt: &R, w: &mut W) -> io::Result<()> {
+    run_file(rt, w, "tables1")?;
+    run_file(rt, w, "tables2")?;
+    run_file(rt, w, "readers1")?;
+    run_file(rt, w, "readers2")
 }
 
-fn run_packets() {
-    run_file(b"packets1");
-    run_file(b"packets2");
-    run_file(b"packets3");
-    run_file(b"packets4");
-    run_file(b"packets5");
-    run_file(b"packets6");
-    run_file(b"packets7");
-    run_file(b"packets8");
-    run_file(b"packets9");
-    run_file(b"packets10");
+fn run_packets<R: Files, W: Write>(rt: &R, w: &mut W) -> io::Result<()> {
+    run_file(rt, w, "packets1")?;
+    run_file(rt, w, "packets2")?;
+    run_file(rt, w, "packets3")?;
+    run_file(rt, w, "packets4")?;
+    run_file(rt, w, "packets5")?;
+    run_file(rt, w, "packets6")?;
+    run_file(rt, w, "packets7")?;
+    run_file(rt, w, "packets8")?;
+    run_file(rt, w, "packets9")?;
+    run_file(rt, w, "packets10")
 }
 
-fn run_edits() {
-    run_file(b"marked_edits");
-    run_file(b"edits1");
-    run_file(b"edits2");
-    run_file(b"edits3");
-    run_file(b"edits4");
+fn run_edits<R: Files, W: Write>(rt: &R, w: &mut W) -> io::Result<()> {
+    run_file(rt, w, "marked_edits")?;
+    run_file(rt, w, "edits1")?;
+    run_file(rt, w, "edits2")?;
+    run_file(rt, w, "edits3")?;
+    run_file(rt, w, "edits4")
 }
 
-fn main() {
-    run_texts();
-    run_file(b"marked_packets");
-    run_limits();
-    run_tables();
-    run_packets();
-    run_edits();
+fn main(rt: HostRuntime) -> io::Result<()> {
+    let mut w = BufWriter::new(rt.alloc(), io::writer(&rt))?;
+    run_texts(&rt, &mut w)?;
+    run_file(&rt, &mut w, "marked_packets")?;
+    run_limits(&rt, &mut w)?;
+    run_tables(&rt, &mut w)?;
+    run_packets(&rt, &mut w)?;
+    run_edits(&rt, &mut w)?;
+    w.flush()
 }

@@ -1,46 +1,50 @@
-// Words, numbers and bytes printed to standard output.
-use libc::STDOUT_FILENO;
+// Words, numbers and bytes printed to a writer.
+use std::io;
+use std::io::Write;
 
-fn wide(x: u8) -> u64 {
-    x as u64
-}
-
-pub(crate) fn show(word: &[u8]) {
-    io::write_all(STDOUT_FILENO, word);
+pub(crate) fn show<W: Write>(w: &mut W, word: &[u8]) -> io::Result<()> {
+    w.write_all(word)
 }
 
 // A word and a number.
-pub(crate) fn show_number(word: &[u8], number: u64) {
-    show(word);
-    io::print_decimal(STDOUT_FILENO, number);
+pub(crate) fn show_number<W: Write>(w: &mut W, word: &[u8], number: u64) -> io::Result<()> {
+    show(w, word)?;
+    write!(w, "{number}")
 }
 
 // The end of a line; `changed` before it where something lent is not as it should be.
-pub(crate) fn show_end(as_due: bool) {
+pub(crate) fn show_end<W: Write>(w: &mut W, as_due: bool) -> io::Result<()> {
     if !as_due {
-        show(b" changed");
+        show(w, b" changed")?;
     }
-    show(b"\n");
+    show(w, b"\n")
 }
 
 // `refused N P`.
-pub(crate) fn show_refusal(number: u64, place: usize, as_due: bool) {
-    show_number(b"refused ", number);
-    show_number(b" ", place as u64);
-    show_end(as_due);
+pub(crate) fn show_refusal<W: Write>(
+    w: &mut W,
+    number: u64,
+    place: usize,
+    as_due: bool,
+) -> io::Result<()> {
+    show_number(w, b"refused ", number)?;
+    show_number(w, b" ", place as u64)?;
+    show_end(w, as_due)
 }
 
 // The first n bytes in hex, `-` for none.
-pub(crate) fn show_bytes(s: &[u8], n: usize) {
+pub(crate) fn show_bytes<W: Write>(w: &mut W, s: &[u8], n: usize) -> io::Result<()> {
     if n == 0 {
-        show(b"-");
+        show(w, b"-")?;
     }
     let mut i = 0;
     while i < n {
         if s.len() <= i {
             break;
         }
-        io::print_hex(STDOUT_FILENO, wide(s[i]), 2);
+        let byte = s[i];
+        write!(w, "{byte:02x}")?;
         i += 1;
     }
+    Ok(())
 }
