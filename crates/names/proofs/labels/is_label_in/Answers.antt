@@ -1,4 +1,5 @@
 use mathlib.Core.Path.{◌≡◌, refl, sym, ◌∙◌}
+use native.Mathlib.Omega.{arith}
 use lib.ListN.{length}
 use borrow.Author.Tests.{lt-leb, le-leb, not-true, not-false}
 use Rattle.rules.specs.Limits.{label_most}
@@ -8,13 +9,13 @@ use Rattle.names.proofs.labels.is_label_in.Goals as goal
 
 pub returns-then-w-gt-LABEL_MOST : goal.returns-then-w-gt-LABEL_MOST
 unfolding is_label_in
-returns-then-w-gt-LABEL_MOST c = rw (lt-leb (length c.args.w.now) label_most c.if-w-gt-LABEL_MOST.true)
+returns-then-w-gt-LABEL_MOST c = rw (lt-leb (length c.args.w.now) label_most (omega arith))
 
 pub returns-then-not-all_bytes : goal.returns-then-not-all_bytes
 unfolding is_label_in
 returns-then-not-all_bytes c =
     let a = sym c.all_bytes.ensures ∙ c.if-not-all_bytes.true in
-    rw (le-leb (length c.args.w.now) label_most c.if-w-gt-LABEL_MOST.false, a)
+    rw (le-leb (length c.args.w.now) label_most (omega arith), a)
 
 pub returns-then-not-has_word_ends : goal.returns-then-not-has_word_ends
 unfolding is_label_in
@@ -22,8 +23,7 @@ returns-then-not-has_word_ends c =
     let a = sym c.all_bytes.ensures ∙ c.if-not-all_bytes.false in
     let e = sym c.has_word_ends.ensures ∙ c.if-not-has_word_ends.true in
     rw (
-      le-leb (length c.args.w.now) label_most
-          c.if-w-gt-LABEL_MOST.false,
+      le-leb (length c.args.w.now) label_most (omega arith),
       a,
       e,
     )
@@ -34,8 +34,7 @@ returns c =
     let a = sym c.all_bytes.ensures ∙ c.if-not-all_bytes.false in
     let e = sym c.has_word_ends.ensures ∙ c.if-not-has_word_ends.false in
     rw (
-      le-leb (length c.args.w.now) label_most
-          c.if-w-gt-LABEL_MOST.false,
+      le-leb (length c.args.w.now) label_most (omega arith),
       a,
       e,
     ) c.no_two_spaces.ensures
