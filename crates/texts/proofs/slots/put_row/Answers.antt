@@ -39,66 +39,61 @@ put_slot-end-requires c =
 
 pub slice_bounds-is_label_in-count : goal.slice_bounds-is_label_in-count
 slice_bounds-is_label_in-count c =
-    let q = text-place ((let a = c.args in
+    let a = c.args in
     let l = c.loop-from in
     let v = l.invariant.2 in
-    one-put a.row.now a.n a.size l.from c.part_end-to.result (omega arith)
+    let one = one-put a.row.now a.n a.size l.from c.part_end-to.result (omega arith)
     (omega arith) c.part_end-to.ensures.first (omega arith)
-    (omega (arith, v.near, v.writes.kept)) c.put_slot-end.ensures)) in
+    (omega (arith, v.near, v.writes.kept)) c.put_slot-end.ensures in
+    let q = text-place one in
     omega (arith, q.0, q.1)
 
 pub slice_bounds-is_label_in-start : goal.slice_bounds-is_label_in-start
 slice_bounds-is_label_in-start c =
-    let q = text-place ((let a = c.args in
+    let a = c.args in
     let l = c.loop-from in
     let v = l.invariant.2 in
-    one-put a.row.now a.n a.size l.from c.part_end-to.result (omega arith)
+    let one = one-put a.row.now a.n a.size l.from c.part_end-to.result (omega arith)
     (omega arith) c.part_end-to.ensures.first (omega arith)
-    (omega (arith, v.near, v.writes.kept)) c.put_slot-end.ensures)) in
+    (omega (arith, v.near, v.writes.kept)) c.put_slot-end.ensures in
+    let q = text-place one in
     omega (arith, q.0, q.1)
 
 pub slice_bounds-is_label_in-end : goal.slice_bounds-is_label_in-end
 slice_bounds-is_label_in-end c =
-    let q = text-place ((let a = c.args in
+    let a = c.args in
     let l = c.loop-from in
     let v = l.invariant.2 in
-    one-put a.row.now a.n a.size l.from c.part_end-to.result (omega arith)
+    let one = one-put a.row.now a.n a.size l.from c.part_end-to.result (omega arith)
     (omega arith) c.part_end-to.ensures.first (omega arith)
-    (omega (arith, v.near, v.writes.kept)) c.put_slot-end.ensures)) in
+    (omega (arith, v.near, v.writes.kept)) c.put_slot-end.ensures in
+    let q = text-place one in
     omega (arith, q.0, q.1)
 
 pub returns-then-not-is_label_in : goal.returns-then-not-is_label_in
 returns-then-not-is_label_in c =
-    putting-wrong c.loop-from.invariant.2 (omega arith) ((let a = c.args in
+    let a = c.args in
     let l = c.loop-from in
     let v = l.invariant.2 in
-    one-put a.row.now a.n a.size l.from c.part_end-to.result (omega arith)
+    let one = one-put a.row.now a.n a.size l.from c.part_end-to.result (omega arith)
     (omega arith) c.part_end-to.ensures.first (omega arith)
-    (omega (arith, v.near, v.writes.kept)) c.put_slot-end.ensures)) ((sym (label-there ((let a = c.args in
-    let l = c.loop-from in
-    let v = l.invariant.2 in
-    one-put a.row.now a.n a.size l.from c.part_end-to.result (omega arith)
-    (omega arith) c.part_end-to.ensures.first (omega arith)
-    (omega (arith, v.near, v.writes.kept)) c.put_slot-end.ensures)) c.args.classes.now c.requires.5) ∙ sym c.is_label_in.ensures)
-    ∙ c.if-not-is_label_in.true)
+    (omega (arith, v.near, v.writes.kept)) c.put_slot-end.ensures in
+    let labelled = sym (label-there one a.classes.now c.requires.5) ∙ sym c.is_label_in.ensures in
+    putting-wrong v (omega arith) one (labelled ∙ c.if-not-is_label_in.true)
 
 pub loop-from-preserved : goal.loop-from-preserved
-loop-from-preserved c = (
-  omega arith,
-  omega arith,
-  putting-next c.loop-from.invariant.2 (omega arith) ((let a = c.args in
+loop-from-preserved c =
+    let a = c.args in
     let l = c.loop-from in
     let v = l.invariant.2 in
-    one-put a.row.now a.n a.size l.from c.part_end-to.result (omega arith)
+    let one = one-put a.row.now a.n a.size l.from c.part_end-to.result (omega arith)
     (omega arith) c.part_end-to.ensures.first (omega arith)
-    (omega (arith, v.near, v.writes.kept)) c.put_slot-end.ensures)) ((sym (label-there ((let a = c.args in
-    let l = c.loop-from in
-    let v = l.invariant.2 in
-    one-put a.row.now a.n a.size l.from c.part_end-to.result (omega arith)
-    (omega arith) c.part_end-to.ensures.first (omega arith)
-    (omega (arith, v.near, v.writes.kept)) c.put_slot-end.ensures)) c.args.classes.now c.requires.5) ∙ sym c.is_label_in.ensures)
-      ∙ c.if-not-is_label_in.false) (omega arith),
-)
+    (omega (arith, v.near, v.writes.kept)) c.put_slot-end.ensures in
+    let labelled = sym (label-there one a.classes.now c.requires.5) ∙ sym c.is_label_in.ensures in (
+      omega arith,
+      omega arith,
+      putting-next v (omega arith) one (labelled ∙ c.if-not-is_label_in.false) (omega arith),
+    )
 
 pub returns : goal.returns
 returns c = putting-end c.loop-from.invariant.2 (omega arith) (omega arith)
