@@ -18,7 +18,7 @@ fn main() {
     println!("cargo:rerun-if-changed={}", library.display());
     if !library.is_file() {
         eprintln!("{} is not there.", library.display());
-        eprintln!("Make it with `rt staticlib umarekoza`, or name its folder in {SETTING}.");
+        eprintln!("Make it with `tools/library`, or name its folder in {SETTING}.");
         exit(1);
     }
     println!("cargo:rustc-link-search=native={}", folder.display());

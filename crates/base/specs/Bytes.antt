@@ -1,7 +1,7 @@
 -- Quoted text as a list of bytes, and a number in decimal.
-use Rattle.std.specs.Prelude.{Bool, cond, List, ◌++◌, ℕ, zero, suc, ◌+◌, ◌/◌, ◌%◌, ltb}
+use Rattle.std.specs.Prelude.{cond, List, ◌++◌, ℕ, zero, suc, ◌+◌, ◌/◌, ◌%◌, ltb}
 use Prim.Native.String.{String, [], ◌∷◌}
-use Prim.Native.Char.{Char, code}
+use Prim.Native.Char.{code}
 
 -- the bytes of a text of ASCII characters
 abbrev pub bytes : String → List ℕ

@@ -1,6 +1,5 @@
 use native.Mathlib.Omega.{arith}
 use Rattle.requests.proofs.WordLaws.{digit_under, digit-decimal, digit-between, digit_letter, digit-over}
-use borrow.Author.Rules.{rules}
 use Rattle.requests.proofs.words.digit.Goals as goal
 
 pub returns-then-byte-lt48 : goal.returns-then-byte-lt48

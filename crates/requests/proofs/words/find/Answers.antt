@@ -1,11 +1,6 @@
-use mathlib.Core.Path.{◌≡◌}
-use Prim.Native.Nat.{◌+◌, ◌-◌, ◌≤◌}
 use native.Mathlib.Omega.{arith}
-use lib.ListN.{length, drop}
 use Rattle.io.proofs.Counting.{prefix_len_of_le}
-use Rattle.requests.specs.Words.{before}
 use Rattle.requests.proofs.WordLaws.{before_here, before_on, before-end}
-use borrow.Author.Rules.{rules}
 use Rattle.requests.proofs.words.find.Goals as goal
 
 pub loop-i-init : goal.loop-i-init
@@ -13,9 +8,9 @@ loop-i-init c = (omega arith, omega arith)
 
 pub returns-then-s-i : goal.returns-then-s-i
 returns-then-s-i c = record {
-      prefix_len = prefix_len_of_le _ _ (omega arith);
-      value = before_here c.args.byte c.args.s.now c.loop-i.i (omega arith) c.if-s-i.true c.loop-i.invariant.1;
-    }
+  prefix_len = prefix_len_of_le _ _ (omega arith);
+  value = before_here c.args.byte c.args.s.now c.loop-i.i (omega arith) c.if-s-i.true c.loop-i.invariant.1;
+}
 
 pub loop-i-preserved : goal.loop-i-preserved
 loop-i-preserved c = (
@@ -25,7 +20,7 @@ loop-i-preserved c = (
 
 pub returns : goal.returns
 returns c = record {
-      prefix_len = prefix_len_of_le _ _ (omega arith);
-      value = before-end c.args.byte c.args.s.now c.loop-i.i (omega arith)
+  prefix_len = prefix_len_of_le _ _ (omega arith);
+  value = before-end c.args.byte c.args.s.now c.loop-i.i (omega arith)
       c.loop-i.invariant.1;
-    }
+}

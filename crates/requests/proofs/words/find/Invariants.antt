@@ -1,11 +1,7 @@
 use mathlib.Core.Path.{◌≡◌}
 use Prim.Native.Nat.{◌+◌, ◌-◌, ◌≤◌}
-use native.Mathlib.Omega.{arith}
 use lib.ListN.{length, drop}
-use Rattle.io.proofs.Counting.{prefix_len_of_le}
 use Rattle.requests.specs.Words.{before}
-use Rattle.requests.proofs.WordLaws.{before_here, before_on, before-end}
-use borrow.Author.Rules.{rules}
 use Rattle.requests.proofs.words.find.Given as goal
 
 abbrev pub invariant-loop-i : goal.invariant-loop-i

@@ -1,10 +1,6 @@
-use mathlib.Core.Path.{◌≡◌, refl}
-use Prim.Native.Nat.{◌-◌, ◌≤◌}
+use mathlib.Core.Path.{refl}
 use native.Mathlib.Omega.{arith}
-use lib.ListN.{length, drop}
-use Rattle.requests.specs.Words.{number_from}
 use Rattle.requests.proofs.WordLaws.{number-stop, number_full, number_on, number-end}
-use borrow.Author.Rules.{rules}
 use Rattle.requests.proofs.words.number_in.Goals as goal
 
 pub loop-i-init : goal.loop-i-init
@@ -12,15 +8,15 @@ loop-i-init c = (omega arith, omega arith, refl)
 
 pub returns-then-d-gt9 : goal.returns-then-d-gt9
 returns-then-d-gt9 c = record {
-      upper_bound = omega arith;
-      value = number-stop c.loop-i.number _ c.args.line.now c.loop-i.i (omega arith) c.digit-d.ensures.0 c.if-d-gt9.true c.loop-i.invariant.2;
-    }
+  upper_bound = omega arith;
+  value = number-stop c.loop-i.number _ c.args.line.now c.loop-i.i (omega arith) c.digit-d.ensures.0 c.if-d-gt9.true c.loop-i.invariant.2;
+}
 
 pub returns-then-number-gt999999 : goal.returns-then-number-gt999999
 returns-then-number-gt999999 c = record {
-      upper_bound = omega arith;
-      value = number_full c.loop-i.number _ c.args.line.now c.loop-i.i (omega arith) c.digit-d.ensures.0 (omega arith) (omega arith) c.loop-i.invariant.2;
-    }
+  upper_bound = omega arith;
+  value = number_full c.loop-i.number _ c.args.line.now c.loop-i.i (omega arith) c.digit-d.ensures.0 (omega arith) (omega arith) c.loop-i.invariant.2;
+}
 
 pub loop-i-preserved : goal.loop-i-preserved
 loop-i-preserved c = (
@@ -31,7 +27,7 @@ loop-i-preserved c = (
 
 pub returns : goal.returns
 returns c = record {
-      upper_bound = omega arith;
-      value = number-end c.loop-i.number c.args.line.now c.loop-i.i (omega
+  upper_bound = omega arith;
+  value = number-end c.loop-i.number c.args.line.now c.loop-i.i (omega
       arith) c.loop-i.invariant.2;
-    }
+}

@@ -1,10 +1,7 @@
-use mathlib.Core.Path.{◌≡◌, refl}
+use mathlib.Core.Path.{◌≡◌}
 use Prim.Native.Nat.{◌-◌, ◌≤◌}
-use native.Mathlib.Omega.{arith}
 use lib.ListN.{length, drop}
 use Rattle.requests.specs.Words.{number_from}
-use Rattle.requests.proofs.WordLaws.{number-stop, number_full, number_on, number-end}
-use borrow.Author.Rules.{rules}
 use Rattle.requests.proofs.words.number_in.Given as goal
 
 abbrev pub invariant-loop-i : goal.invariant-loop-i
