@@ -3,10 +3,10 @@
 
 usage: respell_names.py [--check]      at the top of the repository
 
-A name of a definition, a constructor, a lemma or a variable that has capitals inside gets underscores: 'readTwo' is 'read_two'.
-In a lemma's name a dash stays where it joins two names of definitions, as in 'cut-put'; where a plain word follows, it turns to an
-underscore. What a file imports from the kit, what Rattle makes for a function's proof, strings and comments' words with dashes
-stay. Two names that would meet in one file are told, and the names of LEAVE stay. --check writes nothing.
+A name of a definition, a constructor, a lemma or a variable that has capitals or dashes inside gets underscores: 'readTwo' is
+'read_two', 'cut-put' is 'cut_put'; a lemma that would have its function's name gets `_lem`. What a file imports from the kit, what
+Rattle makes for a function's proof, strings and comments' words with dashes stay. Two names that would meet in one file are told,
+and the names of LEAVE stay. --check writes nothing.
 """
 
 import os
@@ -17,8 +17,6 @@ TOKEN = re.compile(r'--[^\n]*|"(?:[^"\\\n]|\\.)*"|(?<![\w\'-])[A-Za-z_][\w\'-]*'
 DECLARED = re.compile(r"(?m)^ *(?:(?:pub|abbrev|unfoldable|data|record) +)*([a-z][\w'-]*)(?: \{[^{}\n]*\})* :(?: |$)")
 KIT = re.compile(r"(?m)^use (?!Rattle\.(?:%s)\b)[^\s{]+\{([^}]*)\}")
 USE_KIT = re.compile(r"(?m)^(?:ghost )?use (?!Rattle\.(?:%s)\.)[^\n]*$")
-# Words of the kit that lemmas are named after.
-KIT_NAMES = set("length append take drop map cons set reverse eqb cond and or not snoc all none some".split())
 # Names that Rattle makes for a function's proof: they follow the code.
 MADE = re.compile(r"(?:Need|Lts|After|Given|Loop)-|.*-(?:spec|requires|init|preserved|smaller|told|known)(?:-\d+)?$|^(?:returns|enum|overflow|slice|shared|loop|same)-")
 # Names that stay: two would meet.
@@ -58,18 +56,8 @@ def camel(name):
     return [p for p in name.split("-") if re.match(r"[a-z]\w*[A-Z]", p)]
 
 
-def respelled(name, known):
-    parts = [snake(p) if re.match(r"[a-z]", p) else p for p in name.split("-")]
-    out = parts[0]
-    last = parts[0]
-    for p in parts[1:]:
-        if last in known and p in known:
-            out += "-" + p
-            last = p
-        else:
-            out += "_" + p
-            last = last + "_" + p if (last + "_" + p) in known else p
-    return out
+def respelled(name):
+    return "_".join(snake(p) if re.match(r"[a-z]", p) else p for p in name.split("-"))
 
 
 def kit_names(text, own):
@@ -90,12 +78,6 @@ def main(argv):
     check = "--check" in argv
     own = set(crates())
     texts = {p: open(p, encoding="utf-8").read() for p in files()}
-    known = set(KIT_NAMES)
-    for p, t in texts.items():
-        if "/specs/" in p:
-            known |= {snake(n) for n in DECLARED.findall(bare(t)) if "-" not in n}
-        if p.endswith(".rt"):
-            known |= set(re.findall(r"\bfn (\w+)", t))
     # the names that turn: those of files other than functions' proofs, and there those that no generated module has
     table = {}
     kit_of = {}
@@ -112,7 +94,7 @@ def main(argv):
                 continue
             if is_proof(p):
                 continue
-            table[n] = respelled(n, known)
+            table[n] = respelled(n)
     defined = set()
     for p, t in texts.items():
         if p.endswith(".antt") and not is_proof(p):
@@ -133,7 +115,7 @@ def main(argv):
             if n in made or n in kit_of[p] or MADE.match(n):
                 continue
             if re.search(r"\w-\w", n) or camel(n):
-                mine[n] = respelled(n, known)
+                mine[n] = respelled(n)
         local[p] = (mine, made)
     changed = 0
     for p, t in texts.items():

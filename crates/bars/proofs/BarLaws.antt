@@ -10,7 +10,7 @@ use lib.ListN.{length, drop, get_or}
 use lib.Seq.{drop-cons, drop-length}
 use borrow.Author.Tests.{le-ltb, lt-ltb, eq-eqb, ne_eqb}
 use Rattle.base.specs.Lists.{head_is}
-use Rattle.base.proofs.Lists.{and_right, not-both}
+use Rattle.base.proofs.Lists.{and_right, not_both}
 use Rattle.base.proofs.Scans.{head_get_d}
 use Rattle.rules.specs.Limits.{row_lines_most}
 use Rattle.text_laws.specs.Bars.{alike, same_bars}
@@ -21,8 +21,8 @@ use Rattle.bars.specs.Goes.{goes_on}
 pub same_size : (a b : List ℕ) → same_bars a b ≡ true → length a ≡ length b
 unfolding same_bars
 same_size [] [] h = refl
-same_size [] (y ∷ b) h = absurd (not-both false h refl)
-same_size (x ∷ a) [] h = absurd (not-both false h refl)
+same_size [] (y ∷ b) h = absurd (not_both false h refl)
+same_size (x ∷ a) [] h = absurd (not_both false h refl)
 same_size (x ∷ a) (y ∷ b) h = ap suc (same_size a b (and_right (alike (eqb x 124) (eqb y 124)) (same_bars a b) h))
 
 module _ (a b : List ℕ) where
@@ -54,10 +54,10 @@ module _ (a b : List ℕ) where
       where
         go : (x y : Bool) → not (beq x y) ≡ true
             → (alike x y && same_bars (drop (i + 1) a) (drop (i + 1) b)) ≡ false
-        go true true k = absurd (not-both false k refl)
+        go true true k = absurd (not_both false k refl)
         go true false k = refl
         go false true k = refl
-        go false false k = absurd (not-both false k refl)
+        go false false k = absurd (not_both false k refl)
 
     pub bars_next : i < length a → not (beq (eqb (get_or a i 0) 124) (eqb (get_or b i 0) 124)) ≡ false
         → same_bars (drop i a) (drop i b) ≡ same_bars (drop (i + 1) a) (drop (i + 1) b)
@@ -66,8 +66,8 @@ module _ (a b : List ℕ) where
         go : (x y : Bool) → not (beq x y) ≡ false
             → (alike x y && same_bars (drop (i + 1) a) (drop (i + 1) b)) ≡ same_bars (drop (i + 1) a) (drop (i + 1) b)
         go true true k = refl
-        go true false k = absurd (not-both true refl k)
-        go false true k = absurd (not-both true refl k)
+        go true false k = absurd (not_both true refl k)
+        go false true k = absurd (not_both true refl k)
         go false false k = refl
 
 -- ── one more line ──
@@ -76,8 +76,8 @@ module _ (n : ℕ) (first l : List ℕ) where
   pub goes_full : row_lines_most ≤ n → false ≡ goes_on n first l
   goes_full le = rw (le-ltb n row_lines_most le) refl
 
-  pub goes-empty : length first ≡ 0 → false ≡ goes_on n first l
-  goes-empty e = go first e
+  pub goes_empty : length first ≡ 0 → false ≡ goes_on n first l
+  goes_empty e = go first e
     where
       go : (m : List ℕ) → length m ≡ 0 → false ≡ goes_on n m l
       go [] e = sym (and-false (ltb n row_lines_most))

@@ -33,10 +33,10 @@ module _ {A : Type 0} (p : A → Bool) where
       (rw (e.0, f.0), f.1)
 
 module _ {A : Type 0} (keeps : List A → A → Bool) where
-  pub first_break-cons : (before : List A) (x : A) (l : List A) → first_break keeps before (x ∷ l) ≡ none
+  pub first_break_cons : (before : List A) (x : A) (l : List A) → first_break keeps before (x ∷ l) ≡ none
       → (keeps before x ≡ true) × (first_break keeps (before ++ (x ∷ [])) l ≡ none)
   unfolding first_break
-  first_break-cons before x l h = go (keeps before x) refl h
+  first_break_cons before x l h = go (keeps before x) refl h
     where
       after : Option ℕ
       after = first_break keeps (before ++ (x ∷ [])) l
@@ -53,5 +53,5 @@ pub keeps_weaker : {A : Type 0} (p q : List A → A → Bool)
 unfolding first_break
 keeps_weaker p q f before [] h = refl
 keeps_weaker p q f before (x ∷ l) h =
-    let k = first_break-cons p before x l h in
+    let k = first_break_cons p before x l h in
     rw (f before x k.0) (keeps_weaker p q f (before ++ (x ∷ [])) l k.1)

@@ -39,8 +39,8 @@ digits_decimal (suc places) n lt = go (ltb n 10) refl (digits_decimal places (n 
         let ge : 10 ≤ n = ltb-false n 10 e in
         rw (split n) at (more {n = n / 10} {d = n % 10} (omega arith) ih (omega arith))
 
-pub decimal-is : (n : ℕ) → n < 10000000000 → Decimal n (decimal n)
-decimal-is n lt = digits_decimal 9 n lt
+pub decimal_is : (n : ℕ) → n < 10000000000 → Decimal n (decimal n)
+decimal_is n lt = digits_decimal 9 n lt
 
 -- ── one text for each number, and one number for each text ──
 
@@ -63,16 +63,16 @@ last_same (x ∷ s) (y ∷ t) a b e =
     let w = last_same s t a b q in
     (let w0 : s ≡ t = w.0 in cc, w.1)
 
-pub decimal-some : {n : ℕ} {s : List ℕ} → Decimal n s → 0 < length s
-decimal-some (one p) = omega arith
-decimal-some (more p x l) = simp length-append (omega arith)
+pub decimal_some : {n : ℕ} {s : List ℕ} → Decimal n s → 0 < length s
+decimal_some (one p) = omega arith
+decimal_some (more p x l) = simp length-append (omega arith)
 
 pub decimal_injective : {n m : ℕ} {s t : List ℕ} → Decimal n s → Decimal m t → s ≡ t → n ≡ m
 decimal_injective (one {d} p) (one {d = d'} q) e = let z : 48 + d ≡ 48 + d' = cc in omega arith
 decimal_injective (one p) (more {s = s} q y l) e =
-    absurd (omega (arith, decimal-some y, simp length-append at (ap length e)))
+    absurd (omega (arith, decimal_some y, simp length-append at (ap length e)))
 decimal_injective (more {s = s} p x l) (one q) e =
-    absurd (omega (arith, decimal-some x, simp length-append at (ap length e)))
+    absurd (omega (arith, decimal_some x, simp length-append at (ap length e)))
 decimal_injective (more {n} {d} {s} p x l) (more {n = n'} {d = d'} {s = s'} p' x' l') e =
     let w = last_same s s' (48 + d) (48 + d') e in
     let a : n ≡ n' = decimal_injective x x' w.0 in
@@ -80,30 +80,30 @@ decimal_injective (more {n} {d} {s} p x l) (more {n = n'} {d = d'} {s = s'} p' x
     omega arith
 
 -- the text of a number is what the relation says, and two numbers have two texts
-pub decimal-exact : (n : ℕ) (s : List ℕ) → n < 10000000000 → (s ≡ decimal n) ↔ Decimal n s
-decimal-exact n s lt = ((λ e. rw e (decimal-is n lt)), λ x. decimal_unique x (decimal-is n lt) refl)
+pub decimal_exact : (n : ℕ) (s : List ℕ) → n < 10000000000 → (s ≡ decimal n) ↔ Decimal n s
+decimal_exact n s lt = ((λ e. rw e (decimal_is n lt)), λ x. decimal_unique x (decimal_is n lt) refl)
 
 pub decimal_inj : (n m : ℕ) → n < 10000000000 → m < 10000000000 → decimal n ≡ decimal m → n ≡ m
-decimal_inj n m p q e = decimal_injective (decimal-is n p) (decimal-is m q) e
+decimal_inj n m p q e = decimal_injective (decimal_is n p) (decimal_is m q) e
 
 -- ── the digits ──
 
-digit-digits : (d : ℕ) → d < 10 → all (λ b. between 48 b 57) (digit d) ≡ true
+digit_digits : (d : ℕ) → d < 10 → all (λ b. between 48 b 57) (digit d) ≡ true
 unfolding all
-digit-digits d lt =
+digit_digits d lt =
     and_both (between 48 (48 + d) 57) true (true_between 48 (48 + d) 57 (omega arith) (omega arith)) refl
 
-pub decimal-digits : {n : ℕ} {s : List ℕ} → Decimal n s → all (λ b. between 48 b 57) s ≡ true
-decimal-digits (one {d} lt) = digit-digits d lt
-decimal-digits (more {d = d} {s = s} p x lt) =
-    all_append (λ b. between 48 b 57) s (digit d) (decimal-digits x) (digit-digits d lt)
+pub decimal_digits : {n : ℕ} {s : List ℕ} → Decimal n s → all (λ b. between 48 b 57) s ≡ true
+decimal_digits (one {d} lt) = digit_digits d lt
+decimal_digits (more {d = d} {s = s} p x lt) =
+    all_append (λ b. between 48 b 57) s (digit d) (decimal_digits x) (digit_digits d lt)
 
 -- the first digit, which is no 0 where more follow
-pub decimal-first : {n : ℕ} {s : List ℕ} → Decimal n s
+pub decimal_first : {n : ℕ} {s : List ℕ} → Decimal n s
     → (c : ℕ) × (v : List ℕ) × (s ≡ c ∷ v) × (between 48 c 57 ≡ true)
-decimal-first (one {d} lt) = (48 + d, [], refl, true_between 48 (48 + d) 57 (omega arith) (omega arith))
-decimal-first (more {d = d} p x lt) =
-    let w = decimal-first x in (w.0, w.1 ++ digit d, ap (λ (l : List ℕ). l ++ digit d) w.2, w.3)
+decimal_first (one {d} lt) = (48 + d, [], refl, true_between 48 (48 + d) 57 (omega arith) (omega arith))
+decimal_first (more {d = d} p x lt) =
+    let w = decimal_first x in (w.0, w.1 ++ digit d, ap (λ (l : List ℕ). l ++ digit d) w.2, w.3)
 
 pub decimal_lead : {n : ℕ} {s : List ℕ} → 0 < n → Decimal n s → (c : ℕ) × (v : List ℕ) × (s ≡ c ∷ v) × (49 ≤ c)
 decimal_lead p (one {d} lt) = (48 + d, [], refl, omega arith)

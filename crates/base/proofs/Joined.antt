@@ -6,20 +6,20 @@ use Rattle.base.specs.Lists.{all, joined}
 use Rattle.base.proofs.Lists.{and_left, and_right, all_append}
 
 module _ {A B : Type 0} (f : A → List B) where
-  pub joined-append : (l m : List A) → joined f (l ++ m) ≡ joined f l ++ joined f m
+  pub joined_append : (l m : List A) → joined f (l ++ m) ≡ joined f l ++ joined f m
   unfolding joined
-  joined-append [] m = refl
-  joined-append (x ∷ l) m =
-      ap (λ (r : List B). f x ++ r) (joined-append l m) ∙ sym (append_assoc (f x) (joined f l) (joined f m))
+  joined_append [] m = refl
+  joined_append (x ∷ l) m =
+      ap (λ (r : List B). f x ++ r) (joined_append l m) ∙ sym (append_assoc (f x) (joined f l) (joined f m))
 
-  pub joined-one : (x : A) → joined f (x ∷ []) ≡ f x
+  pub joined_one : (x : A) → joined f (x ∷ []) ≡ f x
   unfolding joined
-  joined-one x = append-nil (f x)
+  joined_one x = append-nil (f x)
 
-  pub all-joined : (p : A → Bool) (q : B → Bool) → ((x : A) → p x ≡ true → all q (f x) ≡ true)
+  pub all_joined : (p : A → Bool) (q : B → Bool) → ((x : A) → p x ≡ true → all q (f x) ≡ true)
       → (l : List A) → all p l ≡ true → all q (joined f l) ≡ true
   unfolding joined all
-  all-joined p q g [] h = refl
-  all-joined p q g (x ∷ l) h =
+  all_joined p q g [] h = refl
+  all_joined p q g (x ∷ l) h =
       all_append q (f x) (joined f l) (g x (and_left (p x) (all p l) h))
-      (all-joined p q g l (and_right (p x) (all p l) h))
+      (all_joined p q g l (and_right (p x) (all p l) h))

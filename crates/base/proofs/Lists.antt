@@ -34,8 +34,8 @@ or_cases true b e = inl refl
 or_cases false b e = inr e
 
 -- a test does not answer both
-pub not-both : (a : Bool) → a ≡ true → a ≡ false → ⊥
-not-both a p q = let z : ◌≡◌ {A = ℕ} 0 1 = cc in omega arith
+pub not_both : (a : Bool) → a ≡ true → a ≡ false → ⊥
+not_both a p q = let z : ◌≡◌ {A = ℕ} 0 1 = cc in omega arith
 
 -- a test that can't pass fails
 pub fails : (a : Bool) → (a ≡ true → ⊥) → a ≡ false
@@ -64,11 +64,11 @@ all_append p [] t x y = y
 all_append p (c ∷ s) t x y =
     and_both (p c) (all p (s ++ t)) (and_left (p c) (all p s) x) (all_append p s t (and_right (p c) (all p s) x) y)
 
-pub all-front : {A : Type 0} (p : A → Bool) (s t : List A) → all p (s ++ t) ≡ true → all p s ≡ true
+pub all_front : {A : Type 0} (p : A → Bool) (s t : List A) → all p (s ++ t) ≡ true → all p s ≡ true
 unfolding all
-all-front p [] t h = refl
-all-front p (c ∷ s) t h = and_both (p c) (all p s) (and_left (p c) (all p (s ++ t)) h)
-    (all-front p s t (and_right (p c) (all p (s ++ t)) h))
+all_front p [] t h = refl
+all_front p (c ∷ s) t h = and_both (p c) (all p s) (and_left (p c) (all p (s ++ t)) h)
+    (all_front p s t (and_right (p c) (all p (s ++ t)) h))
 
 pub all_back : {A : Type 0} (p : A → Bool) (s t : List A) → all p (s ++ t) ≡ true → all p t ≡ true
 unfolding all
@@ -93,7 +93,7 @@ any_mem p h (Memᴰ.tail {x = y} {xs = l} m) = or_right (p y) (any p l) (any_mem
 
 pub any_found : {A : Type 0} (p : A → Bool) (l : List A) → any p l ≡ true → (x : A) × Memᴰ x l × (p x ≡ true)
 unfolding any
-any_found p [] h = absurd (not-both false h refl)
+any_found p [] h = absurd (not_both false h refl)
 any_found {A} p (x ∷ l) h = go (or_cases (p x) (any p l) h) (any_found p l)
   where
     go : (p x ≡ true) ⊎ (any p l ≡ true) → (any p l ≡ true → (y : A) × Memᴰ y l × (p y ≡ true))
@@ -101,10 +101,10 @@ any_found {A} p (x ∷ l) h = go (or_cases (p x) (any p l) h) (any_found p l)
     go (inl e) f = (x, Memᴰ.head refl, e)
     go (inr e) f = let w = f e in (w.0, Memᴰ.tail w.1, w.2)
 
-pub any-fails : {A : Type 0} (p : A → Bool) (l : List A) → ((x : A) → p x ≡ false) → any p l ≡ false
+pub any_fails : {A : Type 0} (p : A → Bool) (l : List A) → ((x : A) → p x ≡ false) → any p l ≡ false
 unfolding any
-any-fails p [] f = refl
-any-fails p (x ∷ l) f = rw (f x) (any-fails p l f)
+any_fails p [] f = refl
+any_fails p (x ∷ l) f = rw (f x) (any_fails p l f)
 
 -- a weaker test
 pub all_weaken : {A : Type 0} (p q : A → Bool) → ((x : A) → p x ≡ true → q x ≡ true)
@@ -123,11 +123,11 @@ every_passes p f (x ∷ l) h = (f x (and_left (p x) (all p l) h), every_passes p
 
 -- a first element there is
 pub head_split : (p : ℕ → Bool) (s : List ℕ) → head_is p s ≡ true → (c : ℕ) × (v : List ℕ) × (s ≡ c ∷ v) × (p c ≡ true)
-head_split p [] h = absurd (not-both false h refl)
+head_split p [] h = absurd (not_both false h refl)
 head_split p (c ∷ v) h = (c, v, refl, h)
 
 pub any_none : {A : Type 0} (p : A → Bool) {x : A} {l : List A} → any p l ≡ false → Memᴰ x l → p x ≡ false
-any_none p {x} {l} h m = fails (p x) (λ e. not-both (any p l) (any_mem p e m) h)
+any_none p {x} {l} h m = fails (p x) (λ e. not_both (any p l) (any_mem p e m) h)
 
 -- ── equal lists ──
 
@@ -154,5 +154,5 @@ pub other_numbers : {A : Type 0} (numbers : A → List ℕ) (a b : A) → not (s
     → a ≡ b → ⊥
 other_numbers numbers a b n e = not_same (numbers a) (numbers b) n (ap numbers e)
 
-pub same-exact : (s t : List ℕ) → (same s t ≡ true) ↔ (s ≡ t)
-same-exact s t = (same_true s t, λ e. rw e (same_self t))
+pub same_exact : (s t : List ℕ) → (same s t ≡ true) ↔ (s ≡ t)
+same_exact s t = (same_true s t, λ e. rw e (same_self t))

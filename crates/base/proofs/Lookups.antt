@@ -8,14 +8,14 @@ use native.Mathlib.Omega.{arith}
 use lib.ListN.{length, get_elem?}
 use Rattle.base.specs.Lists.{all, any, Each, first_break}
 use Rattle.base.proofs.Lists.{or_left, or_right}
-use Rattle.base.proofs.Breaks.{first_break-cons}
+use Rattle.base.proofs.Breaks.{first_break_cons}
 
 -- ── tests over a joined list ──
 
-pub all-joined : {A : Type 0} (p : A → Bool) (s t : List A) → all p (s ++ t) ≡ (all p s && all p t)
+pub all_joined : {A : Type 0} (p : A → Bool) (s t : List A) → all p (s ++ t) ≡ (all p s && all p t)
 unfolding all
-all-joined p [] t = refl
-all-joined p (x ∷ s) t = go (p x) (all-joined p s t)
+all_joined p [] t = refl
+all_joined p (x ∷ s) t = go (p x) (all_joined p s t)
   where
     go : (b : Bool) → all p (s ++ t) ≡ (all p s && all p t) → (b && all p (s ++ t)) ≡ ((b && all p s) && all p t)
     go true e = e
@@ -24,67 +24,67 @@ all-joined p (x ∷ s) t = go (p x) (all-joined p s t)
 -- ── related lists ──
 
 module _ {A B : Type 0} (R : A → B → Type 0) where
-  pub each-any : (p : A → Bool) (q : B → Bool) → ((x : A) (y : B) → R x y → p x ≡ q y)
+  pub each_any : (p : A → Bool) (q : B → Bool) → ((x : A) (y : B) → R x y → p x ≡ q y)
       → (l : List A) (m : List B) → Each R l m → any p l ≡ any q m
   unfolding any
-  each-any p q f [] [] h = refl
-  each-any p q f [] (y ∷ m) h = absurd h
-  each-any p q f (x ∷ l) [] h = absurd h
-  each-any p q f (x ∷ l) (y ∷ m) h = rw (f x y h.0, each-any p q f l m h.1)
+  each_any p q f [] [] h = refl
+  each_any p q f [] (y ∷ m) h = absurd h
+  each_any p q f (x ∷ l) [] h = absurd h
+  each_any p q f (x ∷ l) (y ∷ m) h = rw (f x y h.0, each_any p q f l m h.1)
 
-  pub each-length : (l : List A) (m : List B) → Each R l m → length l ≡ length m
-  each-length [] [] h = refl
-  each-length [] (y ∷ m) h = absurd h
-  each-length (x ∷ l) [] h = absurd h
-  each-length (x ∷ l) (y ∷ m) h = ap suc (each-length l m h.1)
+  pub each_length : (l : List A) (m : List B) → Each R l m → length l ≡ length m
+  each_length [] [] h = refl
+  each_length [] (y ∷ m) h = absurd h
+  each_length (x ∷ l) [] h = absurd h
+  each_length (x ∷ l) (y ∷ m) h = ap suc (each_length l m h.1)
 
-  pub each-joined : (l : List A) (m : List B) → Each R l m → (l' : List A) (m' : List B) → Each R l' m'
+  pub each_joined : (l : List A) (m : List B) → Each R l m → (l' : List A) (m' : List B) → Each R l' m'
       → Each R (l ++ l') (m ++ m')
-  each-joined [] [] h l' m' h' = h'
-  each-joined [] (y ∷ m) h l' m' h' = absurd h
-  each-joined (x ∷ l) [] h l' m' h' = absurd h
-  each-joined (x ∷ l) (y ∷ m) h l' m' h' = (h.0, each-joined l m h.1 l' m' h')
+  each_joined [] [] h l' m' h' = h'
+  each_joined [] (y ∷ m) h l' m' h' = absurd h
+  each_joined (x ∷ l) [] h l' m' h' = absurd h
+  each_joined (x ∷ l) (y ∷ m) h l' m' h' = (h.0, each_joined l m h.1 l' m' h')
 
   -- a rule that says the same of two related elements with related elements before them, where these are the parts of
   -- two given lists, breaks first at the same index
-  pub each-breaks : (keeps : List A → A → Bool) (holds : List B → B → Bool) (before : List A) (earlier : List B)
+  pub each_breaks : (keeps : List A → A → Bool) (holds : List B → B → Bool) (before : List A) (earlier : List B)
       (l : List A) (m : List B) → Each R before earlier → Each R l m
       → ((b : List A) (x : A) (a : List A) (e : List B) (y : B) (c : List B)
       → before ++ l ≡ b ++ (x ∷ a) → earlier ++ m ≡ e ++ (y ∷ c) → Each R b e → R x y → keeps b x ≡ holds e y)
       → first_break keeps before l ≡ first_break holds earlier m
   unfolding first_break
-  each-breaks keeps holds before earlier [] [] p h f = refl
-  each-breaks keeps holds before earlier [] (y ∷ m) p h f = absurd h
-  each-breaks keeps holds before earlier (x ∷ l) [] p h f = absurd h
-  each-breaks keeps holds before earlier (x ∷ l) (y ∷ m) p h f =
+  each_breaks keeps holds before earlier [] [] p h f = refl
+  each_breaks keeps holds before earlier [] (y ∷ m) p h f = absurd h
+  each_breaks keeps holds before earlier (x ∷ l) [] p h f = absurd h
+  each_breaks keeps holds before earlier (x ∷ l) (y ∷ m) p h f =
       rw (
         f before x l earlier y m refl refl p h.0,
-        each-breaks keeps holds (before ++ (x ∷ [])) (earlier ++ (y ∷ [])) l m
-            (each-joined before earlier p (x ∷ []) (y ∷ []) (h.0, tt)) h.1
+        each_breaks keeps holds (before ++ (x ∷ [])) (earlier ++ (y ∷ [])) l m
+            (each_joined before earlier p (x ∷ []) (y ∷ []) (h.0, tt)) h.1
             (λ b x' a e y' c u v. f b x' a e y' c (sym (append_assoc before (x ∷ []) l) ∙ u)
             (sym (append_assoc earlier (y ∷ []) m) ∙ v)),
-        each-length before earlier p,
+        each_length before earlier p,
       )
 
 -- where no element breaks a rule, each keeps it
 kept_from : {A : Type 0} (keeps : List A → A → Bool) (earlier before : List A) (x : A) (l : List A)
     → first_break keeps earlier (before ++ (x ∷ l)) ≡ none → keeps (earlier ++ before) x ≡ true
-kept_from keeps earlier [] x l h = rw append-nil (first_break-cons keeps earlier x l h).0
+kept_from keeps earlier [] x l h = rw append-nil (first_break_cons keeps earlier x l h).0
 kept_from keeps earlier (y ∷ before) x l h =
     rw (append_assoc earlier (y ∷ []) before) at
-    (kept_from keeps (earlier ++ (y ∷ [])) before x l (first_break-cons keeps earlier y (before ++ (x ∷ l)) h).1)
+    (kept_from keeps (earlier ++ (y ∷ [])) before x l (first_break_cons keeps earlier y (before ++ (x ∷ l)) h).1)
 
 pub kept_at : {A : Type 0} (keeps : List A → A → Bool) (before : List A) (x : A) (l : List A)
     → first_break keeps [] (before ++ (x ∷ l)) ≡ none → keeps before x ≡ true
 kept_at keeps before x l h = kept_from keeps [] before x l h
 
 -- a rule that looks at no other element
-pub none-breaks : {A : Type 0} (keeps : List A → A → Bool) (before l : List A)
+pub none_breaks : {A : Type 0} (keeps : List A → A → Bool) (before l : List A)
     → ((b : List A) (i : ℕ) (x : A) → get_elem? l i ≡ some x → keeps b x ≡ true) → first_break keeps before l ≡ none
 unfolding first_break
-none-breaks keeps before [] f = refl
-none-breaks keeps before (x ∷ l) f =
-    rw (f before 0 x refl) (none-breaks keeps (before ++ (x ∷ [])) l (λ b i y e. f b (suc i) y e))
+none_breaks keeps before [] f = refl
+none_breaks keeps before (x ∷ l) f =
+    rw (f before 0 x refl) (none_breaks keeps (before ++ (x ∷ [])) l (λ b i y e. f b (suc i) y e))
 
 -- two tests that follow from one another
 pub test_eq : (a b : Bool) → (a ≡ true → b ≡ true) → (b ≡ true → a ≡ true) → a ≡ b

@@ -10,10 +10,10 @@ use lib.ListN.{length, drop, get_or}
 use lib.Seq.{drop-cons, drop-length}
 use Rattle.base.specs.Lists.{all, same, head_is, last_is}
 
-pub all-step : (p : ℕ → Bool) (l : List ℕ) (i : ℕ) → i < length l
+pub all_step : (p : ℕ → Bool) (l : List ℕ) (i : ℕ) → i < length l
     → all p (drop i l) ≡ (p (get_or l i 0) && all p (drop (i + 1) l))
 unfolding all
-all-step p l i h = rw (add-one i, drop-cons l i 0)
+all_step p l i h = rw (add-one i, drop-cons l i 0)
 
 pub all_end : (p : ℕ → Bool) (l : List ℕ) → all p (drop (length l) l) ≡ true
 unfolding all

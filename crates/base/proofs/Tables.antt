@@ -36,12 +36,12 @@ beq_eq false false e = refl
 pub agree : (p q : ℕ → Bool) (n : ℕ) → below (λ k. beq (p k) (q k)) n ≡ true → (k : ℕ) → k < n → p k ≡ q k
 agree p q n e k h = beq_eq (p k) (q k) (below_holds (λ k. beq (p k) (q k)) n e k h)
 
-tabulate-from : (f : ℕ → ℕ) (n i k : ℕ) → k < n → get_or (tabulate f i n) k 0 ≡ f (i + k)
+tabulate_from : (f : ℕ → ℕ) (n i k : ℕ) → k < n → get_or (tabulate f i n) k 0 ≡ f (i + k)
 unfolding tabulate
-tabulate-from f zero i k h = absurd (not-suc-le-zero h)
-tabulate-from f (suc n) i zero h = rw add-zero
-tabulate-from f (suc n) i (suc k) h = tabulate-from f n (suc i) k (le_of_suc-le-suc h) ∙ rw (suc-add, add-suc)
+tabulate_from f zero i k h = absurd (not-suc-le-zero h)
+tabulate_from f (suc n) i zero h = rw add-zero
+tabulate_from f (suc n) i (suc k) h = tabulate_from f n (suc i) k (le_of_suc-le-suc h) ∙ rw (suc-add, add-suc)
 
 -- a list that is made by a rule has it at each index
 pub get_d_tabulate : (f : ℕ → ℕ) (n k : ℕ) → k < n → get_or (tabulate f 0 n) k 0 ≡ f k
-get_d_tabulate f n k h = rw zero-add at (tabulate-from f n 0 k h)
+get_d_tabulate f n k h = rw zero-add at (tabulate_from f n 0 k h)

@@ -85,32 +85,32 @@ use Rattle.rules.specs.Cases.{
 }
 use Rattle.laws.proofs.WithinTest.{is_within, within, outside}
 use Rattle.laws.proofs.Unique.{stored_unique}
-use Rattle.laws.proofs.GoodTest.{told_by, answer_in, table-told}
-use Rattle.laws.proofs.Allowed.{good-stored, label_at, converted_in}
+use Rattle.laws.proofs.GoodTest.{told_by, answer_in, table_told}
+use Rattle.laws.proofs.Allowed.{good_stored, label_at, converted_in}
 use Rattle.laws.proofs.EditsTold.{cut_told, by_cut, put_told, by_put}
 use Rattle.laws.proofs.RuledOut.{answer_numbers, numbers, place_numbers}
 use Rattle.text_laws.specs.Reader.{Out, fail, got, expr}
-use Rattle.text_laws.proofs.ReaderUnique.{tree_unique, found-whole}
+use Rattle.text_laws.proofs.ReaderUnique.{tree_unique, found_whole}
 use Rattle.text_laws.proofs.ReaderExact.{exact}
-use Rattle.cases.proofs.SameTree.{same_tree, same-tree}
-use Rattle.text_laws.proofs.TextSeen.{seen, Seen, is_seen, outcome_of, outcome-is}
+use Rattle.cases.proofs.SameTree.{same_tree, same_tree_lem}
+use Rattle.text_laws.proofs.TextSeen.{seen, Seen, is_seen, outcome_of, outcome_is}
 
 -- ── equal by their numbers ──
 
-abbrev pub answer-from : List ℕ → Answer
-answer-from l = record { number = get_or l 0 0; place = get_or l 1 0; amount = get_or l 2 0 }
+abbrev pub answer_from : List ℕ → Answer
+answer_from l = record { number = get_or l 0 0; place = get_or l 1 0; amount = get_or l 2 0 }
 
-abbrev pub outcome-from : List ℕ → Outcome
-outcome-from l = record { answer = answer-from l; buffer = drop 3 l }
+abbrev pub outcome_from : List ℕ → Outcome
+outcome_from l = record { answer = answer_from l; buffer = drop 3 l }
 
 abbrev pub part_from_lem : List ℕ → Part
 part_from_lem l = record { start = get_or l 0 0; size = get_or l 1 0 }
 
-answer-same : (a b : Answer) → same (answer_numbers a) (answer_numbers b) ≡ true → a ≡ b
-answer-same a b h = ap answer-from (same_true _ _ h)
+answer_same : (a b : Answer) → same (answer_numbers a) (answer_numbers b) ≡ true → a ≡ b
+answer_same a b h = ap answer_from (same_true _ _ h)
 
-outcome-same : (o p : Outcome) → same (numbers o) (numbers p) ≡ true → o ≡ p
-outcome-same o p h = ap outcome-from (same_true _ _ h)
+outcome_same : (o p : Outcome) → same (numbers o) (numbers p) ≡ true → o ≡ p
+outcome_same o p h = ap outcome_from (same_true _ _ h)
 
 part_same : (p q : Part) → same (place_numbers p) (place_numbers q) ≡ true → p ≡ q
 part_same p q h = ap part_from_lem (same_true _ _ h)
@@ -126,14 +126,14 @@ is_tree t (got u []) = same_tree u t
 is_tree t (got u (b ∷ r)) = false
 
 -- what the reader finds in a text is spelled by it, and nothing else is
-found-only : (s : List ℕ) (t : Tree (List ℕ)) → is_tree t (read_whole s) ≡ true → SpellsOnly t s
-found-only s t h =
+found_only : (s : List ℕ) (t : Tree (List ℕ)) → is_tree t (read_whole s) ≡ true → SpellsOnly t s
+found_only s t h =
     let p : SpellsTree Unresolved t s = (exact open_most s t).0 (go (read_whole s) h) in
     (p, λ (u : Tree (List ℕ)) q. tree_unique q p)
   where
     go : (o : Out) → is_tree t o ≡ true → o ≡ got t []
     go fail e = absurd (false≢true e)
-    go (got u []) e = ap (λ (v : Tree (List ℕ)). got v []) (same-tree u t e)
+    go (got u []) e = ap (λ (v : Tree (List ℕ)). got v []) (same_tree_lem u t e)
     go (got u (b ∷ r)) e = absurd (false≢true e)
 
 abbrev pub is_whole : Out → Bool
@@ -143,7 +143,7 @@ is_whole (got t (b ∷ r)) = false
 
 -- where the reader finds no whole tree, none is spelled
 none_found : (s : List ℕ) → is_whole (read_whole s) ≡ false → (u : Tree (List ℕ)) → SpellsTree Unresolved u s → ⊥
-none_found s e u q = false≢true (sym e ∙ ap is_whole (found-whole q))
+none_found s e u q = false≢true (sym e ∙ ap is_whole (found_whole q))
 
 abbrev pub is_value_of : ℕ → Value → Bool
 is_value_of n (value m) = eqb m n
@@ -167,16 +167,16 @@ fault_of_lem n (fault f) h = (f, refl, eqb-true (fault_number f) n h)
 pub by_stored : {A : Type 0} (d : Description) → Within d → (f : Description → A) (e : A) (good : Dec (Good (stored d)))
     → by_table good f e ≡ f d
 by_stored d w f e (yes g) = ap f (stored_unique current g.description d g.within w g.is_stored)
-by_stored d w f e (no bad) = absurd (bad (good-stored d w))
+by_stored d w f e (no bad) = absurd (bad (good_stored d w))
 
 checked : (table : List ℕ) (a : Answer)
     → same (answer_numbers a) (answer_numbers (answer_in current table)) ≡ true → ChecksTable table a
-checked table a h good = answer-same a (answer_in current table) h ∙ table-told current table good
+checked table a h good = answer_same a (answer_in current table) h ∙ table_told current table good
 
 found_in : (d : Description) (name : List ℕ) (a : Answer) → Within d
     → same (answer_numbers a) (answer_numbers (first_named name 0 d.fields)) ≡ true → FindsField (stored d) name a
 found_in d name a w h good =
-    answer-same a (first_named name 0 d.fields) h ∙ sym (by_stored d w (λ c. first_named name 0 c.fields) _ good)
+    answer_same a (first_named name 0 d.fields) h ∙ sym (by_stored d w (λ c. first_named name 0 c.fields) _ good)
 
 abbrev pub is_label_at : Description → ℕ → List ℕ → ℕ → Bool
 is_label_at d i label start = same label (part_bytes (stored d) (label_at d i)) && eqb start (label_at d i).start
@@ -195,25 +195,25 @@ label_in_lem d i label start w h from good =
 readers_in_lem : (d : Description) (i : ℕ) (a : Answer) → Within d
     → same (answer_numbers a) (answer_numbers (readers_answer d.fields i)) ≡ true → CountsReaders (stored d) i a
 readers_in_lem d i a w h good =
-    answer-same a (readers_answer d.fields i) h ∙ sym (by_stored d w (λ c. readers_answer c.fields i) _ good)
+    answer_same a (readers_answer d.fields i) h ∙ sym (by_stored d w (λ c. readers_answer c.fields i) _ good)
 
 converted : (table out : List ℕ) (o : Outcome) → same (numbers o) (numbers (converted_in table out)) ≡ true
     → ConvertsTable table out o
 converted table out o h old =
-    outcome-same o (converted_in table out) h
+    outcome_same o (converted_in table out) h
     ∙ told_by uncounted table (λ d. delivered (stored d) out) (leaves not_good out) old
 
-cut-from : (d : Description) (first last : ℕ) (out : List ℕ) (o : Outcome) → Within d
+cut_from : (d : Description) (first last : ℕ) (out : List ℕ) (o : Outcome) → Within d
     → same (numbers o) (numbers (cut_told first last d out)) ≡ true → CutsFields (stored d) first last out o
-cut-from d first last out o w h good limited =
-    outcome-same o (cut_told first last d out) h
+cut_from d first last out o w h good limited =
+    outcome_same o (cut_told first last d out) h
     ∙ by_cut first last out d (limited (cut first last d))
     ∙ sym (by_stored d w (λ c. cut_outcome first last c (limited (cut first last c)) out) _ good)
 
 put_into_lem : (d : Description) (at : ℕ) (bytes out : List ℕ) (o : Outcome) → Within d
     → same (numbers o) (numbers (put_told at bytes d out)) ≡ true → PutsFields (stored d) at bytes out o
 put_into_lem d at bytes out o w h good joins =
-    outcome-same o (put_told at bytes d out) h
+    outcome_same o (put_told at bytes d out) h
     ∙ by_put at bytes out d (joins d)
     ∙ sym (by_stored d w (λ c. put_outcome at bytes c (joins c) out) _ good)
 
@@ -223,9 +223,9 @@ abbrev pub is_answer : Answer → Option Answer → Bool
 is_answer a none = false
 is_answer a (some b) = same (answer_numbers b) (answer_numbers a)
 
-answer-is : (a : Answer) (o : Option Answer) → is_answer a o ≡ true → o ≡ some a
-answer-is a none h = absurd (false≢true h)
-answer-is a (some b) h = ap some (answer-same b a h)
+answer_is : (a : Answer) (o : Option Answer) → is_answer a o ≡ true → o ≡ some a
+answer_is a none h = absurd (false≢true h)
+answer_is a (some b) h = ap some (answer_same b a h)
 
 none_is : (o : Option Answer) → is_none o ≡ true → o ≡ none
 none_is none h = refl
@@ -237,7 +237,7 @@ is_refused a (inr d) = false
 
 refused_by_lem : (text : List ℕ) (a : Answer) (s : Answer ⊎ Description) → Seen text s → is_refused a s ≡ true
     → Refuses text a
-refused_by_lem text a (inl b) p h = subst (Refuses text) (answer-same b a h) p
+refused_by_lem text a (inl b) p h = subst (Refuses text) (answer_same b a h) p
 refused_by_lem text a (inr d) p h = absurd (false≢true h)
 
 abbrev pub is_spelled : Description → Answer ⊎ Description → Bool
@@ -291,32 +291,32 @@ fitting d b f h = let e = and_true (is_within d) b h in (within d e.0, f (within
 
 pub right : (c : Case) → is_right c ≡ true → Holds c
 right (fits d) h = within d h
-right (reads d packet o) h = fitting d _ (λ w e. outcome-same _ _ e) h
+right (reads d packet o) h = fitting d _ (λ w e. outcome_same _ _ e) h
 right (reads_each d packet o) h = absurd (false≢true h)
 right (prints d packet text) h = fitting d _ (λ w e. same_true _ _ e) h
 right (hands d packet i part) h = fitting d _ (λ w e. part_same _ _ e) h
 right (finds d name a) h = fitting d _ (λ w e. found_in d name a w e) h
 right (labels d i label start) h = fitting d _ (λ w e. label_in_lem d i label start w e) h
 right (read_by d i a) h = fitting d _ (λ w e. readers_in_lem d i a w e) h
-right (cuts d first last out o) h = fitting d _ (λ w e. cut-from d first last out o w e) h
+right (cuts d first last out o) h = fitting d _ (λ w e. cut_from d first last out o w e) h
 right (puts d at bytes out o) h = fitting d _ (λ w e. put_into_lem d at bytes out o w e) h
 right (exceeds d) h = outside d (not-true (is_within d) h)
-right (values s t n) h = both _ _ (found-only s t) (value_of n (evaluate no_fields t)) h
+right (values s t n) h = both _ _ (found_only s t) (value_of n (evaluate no_fields t)) h
 right (faults s t n) h =
     let e = and_true (is_tree t (read_whole s)) (is_fault_of n (evaluate no_fields t)) h in
     let f = fault_of_lem n (evaluate no_fields t) e.1 in
-    (found-only s t e.0, f.0, f.1, f.2)
+    (found_only s t e.0, f.0, f.1, f.2)
 right (unspelled s) h = none_found s (not-true (is_whole (read_whole s)) h)
 right (spells text d) h = spelled_by text d (seen text) (is_seen text) h
 right (stores d table) h = fitting d _ (λ w e. same_true _ _ e) h
 right (checks table a) h = checked table a h
 right (converts table out o) h = converted table out o h
 right (unframed f) h = not-true (is_frame f) h
-right (breaks f forms a) h = both _ _ (λ e. e) (answer-is a (rule_broken f forms)) h
+right (breaks f forms a) h = both _ _ (λ e. e) (answer_is a (rule_broken f forms)) h
 right (keeps f forms) h = both _ _ (λ e. e) (none_is (rule_broken f forms)) h
 right (refuses text a) h = refused_by_lem text a (seen text) (is_seen text) h
-right (answers text out o) h = subst (ReadsText text out) (outcome-same _ _ h) (outcome-is text out)
-right (stands a b) h = answer-same a b h
+right (answers text out o) h = subst (ReadsText text out) (outcome_same _ _ h) (outcome_is text out)
+right (stands a b) h = answer_same a b h
 
 pub all_right : (cs : List Case) → all is_right cs ≡ true → AllHold cs
 all_right = every_passes is_right right

@@ -185,8 +185,8 @@ cases_hold = (
   },
 )
 
-pub all-marked : AllHold marked
-all-marked = cases_hold.0
+pub all_marked : AllHold marked
+all_marked = cases_hold.0
 
 pub worked : Worked
 worked = cases_hold.1

@@ -1,5 +1,4 @@
 -- Worked cases: fields that are cut out of a table, and put in. [02, R-4]
-use Rattle.std.specs.Borrow.{Bor}
 use Rattle.std.specs.Prelude.{List, [], ◌∷◌, ◌++◌, map, ℕ, suc, length, take, drop, set}
 use Rattle.std.proofs.Math.Option.{none, some}
 use Rattle.base.specs.Bytes.{bytes}

@@ -1,9 +1,9 @@
 -- In an accepted packet a field is present exactly where its condition is yes, and then its constraint is yes.
 use mathlib.Core.Path.{◌≡◌, refl, ap, ◌∙◌}
 use mathlib.Core.Bool.{Bool, true, false, cond}
-use mathlib.Core.Logic.{◌⊎◌, inl, inr}
+use mathlib.Core.Logic.{inl, inr}
 use mathlib.Core.List.{List, [], ◌∷◌, ◌++◌, append_assoc, append-nil}
-use Prim.Native.Nat.{ℕ, suc, ◌+◌, ◌<◌}
+use Prim.Native.Nat.{ℕ, ◌+◌, ◌<◌}
 use native.Mathlib.Omega.{arith}
 use lib.Dec.{ltb, eqb}
 use borrow.Author.Tests.{eqb-true, eqb-false}
@@ -11,31 +11,9 @@ use Rattle.base.specs.Lists.{sum}
 use Rattle.rules.specs.declared.Fault.TheVariants.{BitsMissing, ConstraintFalse}
 use Rattle.rules.specs.Values.{Value, value, fault}
 use Rattle.rules.specs.Fields.{Field, Description, fixed_bits}
-use Rattle.rules.specs.Reading.{
-  Entry,
-  absent,
-  Step,
-  step,
-  stop,
-  and_then,
-  Reading,
-  complete,
-  left_over,
-  read_on,
-  read_field,
-  read_field_in,
-  read_fields,
-  read_fields_in,
-  reading,
-  bit_total,
-  holds,
-  width_at,
-  entry_at,
-  constrained,
-  bounded,
-}
+use Rattle.rules.specs.Reading.{Entry, absent, Step, step, stop, and_then, complete, left_over, read_on, read_field, read_field_in, read_fields, read_fields_in, reading, bit_total, holds, width_at, entry_at, constrained, bounded}
 use Rattle.rules.specs.Cover.{IsYes, KeptBy, Kept}
-use Rattle.laws.proofs.Readings.{accepted-fields}
+use Rattle.laws.proofs.Readings.{accepted_fields}
 
 -- ── one field ──
 
@@ -49,9 +27,9 @@ positive n h = omega (arith, h)
 
 module _ (before : List Entry) (f : Field ℕ) where
   -- the condition is yes: what is left to show is the constraint
-  present-kept : IsYes (holds before f.condition) → (e : Entry) (next : ℕ) → e.present ≡ 1
+  present_kept : IsYes (holds before f.condition) → (e : Entry) (next : ℕ) → e.present ≡ 1
       → KeptIn before f (constrained before e next f.constraint)
-  present-kept y e next p = go (holds (before ++ (e ∷ [])) f.constraint) refl
+  present_kept y e next p = go (holds (before ++ (e ∷ [])) f.constraint) refl
     where
       test : (n : ℕ) (b : Bool) → eqb n 0 ≡ b → holds (before ++ (e ∷ [])) f.constraint ≡ value n
           → KeptIn before f (cond b (stop ConstraintFalse) (step e next))
@@ -63,27 +41,27 @@ module _ (before : List Entry) (f : Field ℕ) where
       go (value n) h = test n (eqb n 0) refl h
       go (fault x) h = tt
 
-  bounded-kept : IsYes (holds before f.condition) → (packet : List ℕ) (place n : ℕ)
+  bounded_kept : IsYes (holds before f.condition) → (packet : List ℕ) (place n : ℕ)
       → KeptIn before f (bounded packet before place f n)
-  bounded-kept y packet place n = go (ltb (bit_total packet) (place + n))
+  bounded_kept y packet place n = go (ltb (bit_total packet) (place + n))
     where
       e : Entry
       e = entry_at packet place f.width n
 
       go : (b : Bool) → KeptIn before f (cond b (stop BitsMissing) (constrained before e (place + n) f.constraint))
       go true = tt
-      go false = present-kept y e (place + n) refl
+      go false = present_kept y e (place + n) refl
 
-  field-kept : (packet : List ℕ) (place later : ℕ) → KeptIn before f (read_field packet before place later f)
+  field_kept : (packet : List ℕ) (place later : ℕ) → KeptIn before f (read_field packet before place later f)
   unfolding read_field_in
-  field-kept packet place later = go (holds before f.condition) refl
+  field_kept packet place later = go (holds before f.condition) refl
     where
       present : Step
       present = and_then (width_at packet before place later f.width) (bounded packet before place f)
 
       widths : IsYes (holds before f.condition) → (v : Value) → KeptIn before f (and_then v
           (bounded packet before place f))
-      widths y (value n) = bounded-kept y packet place n
+      widths y (value n) = bounded_kept y packet place n
       widths y (fault x) = tt
 
       test : (n : ℕ) (b : Bool) → eqb n 0 ≡ b → holds before f.condition ≡ value n
@@ -104,17 +82,17 @@ record Behind (before : List Entry) (fs : List (Field ℕ)) (all : List Entry) :
   joined : all ≡ before ++ more
   kept : Kept before fs more
 
-at-end : (before all : List Entry) (b : Bool) → cond b (complete before) left_over ≡ complete all → Behind before [] all
-at-end before all true h = record { more = []; joined = cc (append-nil before); kept = tt }
-at-end before all false h = let z : ◌≡◌ {A = ℕ} 0 1 = cc in absurd (omega arith)
+at_end : (before all : List Entry) (b : Bool) → cond b (complete before) left_over ≡ complete all → Behind before [] all
+at_end before all true h = record { more = []; joined = cc (append-nil before); kept = tt }
+at_end before all false h = let z : ◌≡◌ {A = ℕ} 0 1 = cc in absurd (omega arith)
 
-fields-kept : (packet : List ℕ) (before all : List Entry) (place : ℕ) (fs : List (Field ℕ))
+fields_kept : (packet : List ℕ) (before all : List Entry) (place : ℕ) (fs : List (Field ℕ))
     → read_fields packet before place fs ≡ complete all → Behind before fs all
 unfolding read_fields_in
-fields-kept packet before all place [] h = at-end before all (eqb place (bit_total packet)) h
-fields-kept packet before all place (f ∷ fs) h =
-    go (read_field packet before place (sum fixed_bits fs) f) (field-kept before f packet place (sum fixed_bits fs)) h
-    (λ more next. fields-kept packet more all next fs)
+fields_kept packet before all place [] h = at_end before all (eqb place (bit_total packet)) h
+fields_kept packet before all place (f ∷ fs) h =
+    go (read_field packet before place (sum fixed_bits fs) f) (field_kept before f packet place (sum fixed_bits fs)) h
+    (λ more next. fields_kept packet more all next fs)
   where
     go : (s : Step) → KeptIn before f s → read_on before s (λ more next. read_fields packet more next fs) ≡ complete all
         → ((more : List Entry) (next : ℕ) → read_fields packet more next fs ≡ complete all → Behind more fs all)
@@ -129,5 +107,5 @@ fields-kept packet before all place (f ∷ fs) h =
 pub conditions_kept : (d : Description) (packet : List ℕ) (entries : List Entry) → reading d packet ≡ complete entries
     → Kept [] d.fields entries
 conditions_kept d packet entries h =
-    let w = fields-kept packet [] entries 0 d.fields (accepted-fields d packet entries h) in
+    let w = fields_kept packet [] entries 0 d.fields (accepted_fields d packet entries h) in
     rw w.joined w.kept

@@ -12,7 +12,7 @@ use Rattle.rules.specs.Trees.{le2, has_operators}
 use Rattle.rules.specs.Editions.{current, uncounted}
 use Rattle.base.specs.Lists.{all, joined, first_break}
 use Rattle.base.proofs.Lists.{and_left, and_right, and_both, between_true}
-use Rattle.base.proofs.Breaks.{first_break-cons}
+use Rattle.base.proofs.Breaks.{first_break_cons}
 use Rattle.rules.specs.Fields.{Width, fixed, measured, rest, Field, Description, trees}
 use Rattle.rules.specs.Within.{keeps_operators_in}
 use Rattle.rules.specs.References.{readers}
@@ -23,10 +23,10 @@ use Rattle.rules.specs.Promises.{Outcome, leaves, delivered, packet_outcome_in, 
 use Rattle.rules.specs.Results.{RecordKept, ConvertedGood, ConvertedBytes, OldReading, ConvertedReads}
 use Rattle.rules.specs.Results.{OldConverted, OldExactly}
 use Rattle.laws.proofs.OperatorLaws.{Widens}
-use Rattle.laws.proofs.Earlier.{within_by, within_more, reading_like, outcome-more}
+use Rattle.laws.proofs.Earlier.{within_by, within_more, reading_like, outcome_more}
 use Rattle.laws.proofs.Unique.{stored_unique}
 use Rattle.laws.proofs.Decidable.{good_decidable_in}
-use Rattle.laws.proofs.Delivered.{not-refused, written-at-start}
+use Rattle.laws.proofs.Delivered.{not_refused, written_at_start}
 
 pub uncounted_widens : Widens uncounted current
 uncounted_widens = record {
@@ -58,9 +58,9 @@ module _ (table out : List ℕ) where
           → (old : GoodIn uncounted table) × (take n after ≡ stored old.description)
           × (n ≡ length (stored old.description))
       go (yes old) =
-          let q = written-at-start (stored old.description) out after n (p (yes old)) in
+          let q = written_at_start (stored old.description) out after n (p (yes old)) in
           (old, q.2, q.0)
-      go (no bad) = absurd (not-refused n 20 0 after out (p (no bad)))
+      go (no bad) = absurd (not_refused n 20 0 after out (p (no bad)))
 
 -- the table of an old description is good
 becomes : {table : List ℕ} (new : List ℕ) (old : GoodIn uncounted table) → new ≡ stored old.description
@@ -81,21 +81,21 @@ converted_good table out after n p =
     (q.0, g.0, g.1)
 
 -- the records of both editions
-old-joined : (numbers : ℕ → ℕ) (k : ℕ) (fs : List (Field ℕ))
+old_joined : (numbers : ℕ → ℕ) (k : ℕ) (fs : List (Field ℕ))
     → records_in uncounted numbers k fs ≡ joined (λ f. record_of (kind_in uncounted f.width) (field_body f)) fs
 unfolding records_in stored_field_in joined
-old-joined numbers k [] = refl
-old-joined numbers k (f ∷ fs) =
-    ap (λ (l : List ℕ). record_of (kind_in uncounted f.width) (field_body f) ++ l) (old-joined numbers (suc k) fs)
+old_joined numbers k [] = refl
+old_joined numbers k (f ∷ fs) =
+    ap (λ (l : List ℕ). record_of (kind_in uncounted f.width) (field_body f) ++ l) (old_joined numbers (suc k) fs)
 
-two-more : (numbers : ℕ → ℕ) (k : ℕ) (fs : List (Field ℕ))
+two_more : (numbers : ℕ → ℕ) (k : ℕ) (fs : List (Field ℕ))
     → length (records numbers k fs) ≡ length (records_in uncounted numbers k fs) + 2 * length fs
 unfolding records_in stored_field_in le2
-two-more numbers k [] = omega arith
-two-more numbers k (f ∷ fs) =
+two_more numbers k [] = omega arith
+two_more numbers k (f ∷ fs) =
     omega (
       arith,
-      two-more numbers (suc k) fs,
+      two_more numbers (suc k) fs,
       length-append (field_body f) (records numbers (suc k) fs),
       length-append (field_body f) (records_in uncounted numbers (suc k) fs),
     )
@@ -114,11 +114,11 @@ converted_bytes table out after n p =
       first,
       last,
       fs,
-      sym is ∙ ap (λ (l : List ℕ). first ++ (l ++ last)) (old-joined (readers fs) 0 fs),
+      sym is ∙ ap (λ (l : List ℕ). first ++ (l ++ last)) (old_joined (readers fs) 0 fs),
       q.1,
       q.2 ∙ omega (
         arith,
-        two-more (readers fs) 0 fs,
+        two_more (readers fs) 0 fs,
         ap length is,
         length-append first (old ++ last),
         length-append old last,
@@ -127,8 +127,8 @@ converted_bytes table out after n p =
       ),
     )
 
-pub old-reading : OldReading
-old-reading d w packet le =
+pub old_reading : OldReading
+old_reading d w packet le =
     sym (reading_like uncounted current uncounted_widens d w.operators packet (le-ltb uncounted.packet
     (length packet) le))
 
@@ -145,7 +145,7 @@ converted_reads table out after n p packet run o r long =
         stored_unique current g.description good.description g.within good.within
         (g.is_stored ∙ sym good.is_stored) ∙ same in
         let e : o ≡ packet_outcome_in uncounted d packet run = r (yes old) in
-        e ∙ outcome-more uncounted current uncounted_widens d old.within.operators packet run
+        e ∙ outcome_more uncounted current uncounted_widens d old.within.operators packet run
         (λ z. long (ap (λ (x : Outcome). x.answer.number) e ∙ z))
         ∙ ap (λ (x : Description). packet_outcome_in current x packet run) (sym one)
     go old good same (no bad) = absurd (bad good)
@@ -160,30 +160,30 @@ old_converted table old out o p =
 
 -- ── descriptions of old tables ──
 
-kept-none-added : (before fs : List (Field ℕ)) → first_break (keeps_operators_in uncounted) before fs ≡ none
+kept_none_added : (before fs : List (Field ℕ)) → first_break (keeps_operators_in uncounted) before fs ≡ none
     → all (λ f. all (has_operators (λ o. not (is_added o))) (trees f)) fs ≡ true
 unfolding all
-kept-none-added before [] h = refl
-kept-none-added before (f ∷ fs) h =
-    let k = first_break-cons (keeps_operators_in uncounted) before f fs h in
+kept_none_added before [] h = refl
+kept_none_added before (f ∷ fs) h =
+    let k = first_break_cons (keeps_operators_in uncounted) before f fs h in
     and_both (all (has_operators (λ o. not (is_added o))) (trees f)) _ k.0
-    (kept-none-added (before ++ (f ∷ [])) fs k.1)
+    (kept_none_added (before ++ (f ∷ [])) fs k.1)
 
-none-added-kept : (before fs : List (Field ℕ))
+none_added_kept : (before fs : List (Field ℕ))
     → all (λ f. all (has_operators (λ o. not (is_added o))) (trees f)) fs ≡ true
     → first_break (keeps_operators_in uncounted) before fs ≡ none
 unfolding all first_break
-none-added-kept before [] h = refl
-none-added-kept before (f ∷ fs) h =
+none_added_kept before [] h = refl
+none_added_kept before (f ∷ fs) h =
     let plain = all (has_operators (λ o. not (is_added o))) (trees f) in
-    rw (and_left plain _ h) (none-added-kept (before ++ (f ∷ [])) fs (and_right plain _ h))
+    rw (and_left plain _ h) (none_added_kept (before ++ (f ∷ [])) fs (and_right plain _ h))
 
 pub old_exactly : OldExactly
 old_exactly d = (
   λ w. (
     within_more uncounted current uncounted_widens d w,
     (between_true 1 (length d.fields) 64 w.count).1,
-    kept-none-added [] d.fields w.operators,
+    kept_none_added [] d.fields w.operators,
   ),
-  λ w few plain. within_by current uncounted d w few (none-added-kept [] d.fields plain),
+  λ w few plain. within_by current uncounted d w few (none_added_kept [] d.fields plain),
 )

@@ -11,8 +11,8 @@ use lib.ListN.{length, length-append}
 use borrow.Author.Tests.{eq-eqb, ne_eqb}
 use Rattle.base.specs.Lists.{all, joined, sum, list_of, first_break}
 use Rattle.base.proofs.Lists.{between_true, and_both, and_left, and_right}
-use Rattle.base.proofs.Breaks.{first_break-cons}
-use Rattle.base.proofs.Joined.{joined-append}
+use Rattle.base.proofs.Breaks.{first_break_cons}
+use Rattle.base.proofs.Joined.{joined_append}
 use Rattle.rules.specs.Limits.{fields_most}
 use Rattle.rules.specs.Trees.{Tree, num, read, two, negation, le4, stored_tree, stored_length, is_small}
 use Rattle.rules.specs.Fields.{Width, fixed, measured, rest, Field, width_trees, trees}
@@ -59,8 +59,8 @@ width_few (fixed n) = omega arith
 width_few (measured u t) = omega arith
 width_few rest = omega arith
 
-trees-few : (f : Field ℕ) → length (trees f) ≤ 3
-trees-few f =
+trees_few : (f : Field ℕ) → length (trees f) ≤ 3
+trees_few f =
     let w = width_trees f.width in
     let c = list_of f.constraint in
     let k = list_of f.condition in
@@ -82,7 +82,7 @@ fields_bound [] h = omega arith
 fields_bound (f ∷ fs) h =
     omega (
       arith,
-      trees-few f,
+      trees_few f,
       trees_bound (trees f) (and_left (small f) (all small fs) h),
       fields_bound fs (and_right (small f) (all small fs) h),
       length-append (joined tree_reads (trees f)) (joined field_reads fs),
@@ -90,10 +90,10 @@ fields_bound (f ∷ fs) h =
 
 -- ── counts ──
 
-pub times-append : (i : ℕ) (l m : List ℕ) → times i (l ++ m) ≡ times i l + times i m
+pub times_append : (i : ℕ) (l m : List ℕ) → times i (l ++ m) ≡ times i l + times i m
 unfolding times sum
-times-append i [] m = omega arith
-times-append i (j ∷ l) m = omega (arith, times-append i l m)
+times_append i [] m = omega arith
+times_append i (j ∷ l) m = omega (arith, times_append i l m)
 
 times_bound : (i : ℕ) (l : List ℕ) → times i l ≤ length l
 unfolding times sum
@@ -104,27 +104,27 @@ times_bound i (j ∷ l) = go (eqb j i) (times_bound i l)
     go true h = omega arith
     go false h = omega arith
 
-sizes-small : (before fs : List (Field ℕ)) → first_break keeps_size before fs ≡ none → all small fs ≡ true
+sizes_small : (before fs : List (Field ℕ)) → first_break keeps_size before fs ≡ none → all small fs ≡ true
 unfolding all
-sizes-small before [] h = refl
-sizes-small before (f ∷ fs) h =
-    let e = first_break-cons keeps_size before f fs h in
-    and_both (small f) (all small fs) e.0 (sizes-small (before ++ (f ∷ [])) fs e.1)
+sizes_small before [] h = refl
+sizes_small before (f ∷ fs) h =
+    let e = first_break_cons keeps_size before f fs h in
+    and_both (small f) (all small fs) e.0 (sizes_small (before ++ (f ∷ [])) fs e.1)
 
-others-small : (i : ℕ) (fs : List (Field ℕ)) → all small fs ≡ true → all small (others i fs) ≡ true
+others_small : (i : ℕ) (fs : List (Field ℕ)) → all small fs ≡ true → all small (others i fs) ≡ true
 unfolding all
-others-small zero [] h = refl
-others-small (suc i) [] h = refl
-others-small zero (f ∷ fs) h = and_right (small f) (all small fs) h
-others-small (suc i) (f ∷ fs) h =
+others_small zero [] h = refl
+others_small (suc i) [] h = refl
+others_small zero (f ∷ fs) h = and_right (small f) (all small fs) h
+others_small (suc i) (f ∷ fs) h =
     and_both (small f) (all small (others i fs)) (and_left (small f) (all small fs) h)
-    (others-small i fs (and_right (small f) (all small fs) h))
+    (others_small i fs (and_right (small f) (all small fs) h))
 
-others-few : (i : ℕ) (fs : List (Field ℕ)) → length (others i fs) ≤ length fs
-others-few zero [] = omega arith
-others-few (suc i) [] = omega arith
-others-few zero (f ∷ fs) = omega arith
-others-few (suc i) (f ∷ fs) = omega (arith, others-few i fs)
+others_few : (i : ℕ) (fs : List (Field ℕ)) → length (others i fs) ≤ length fs
+others_few zero [] = omega arith
+others_few (suc i) [] = omega arith
+others_few zero (f ∷ fs) = omega arith
+others_few (suc i) (f ∷ fs) = omega (arith, others_few i fs)
 
 pub readers_fit : ReadersFit
 unfolding readers
@@ -134,8 +134,8 @@ readers_fit d w i =
     omega (
       arith,
       times_bound i (joined field_reads o),
-      fields_bound o (others-small i fs (sizes-small [] fs w.size)),
-      others-few i fs,
+      fields_bound o (others_small i fs (sizes_small [] fs w.size)),
+      others_few i fs,
       (between_true 1 (length fs) fields_most w.count).1,
     )
 
@@ -146,51 +146,51 @@ unfoldable pub readers_from : ℕ → List (Field ℕ) → ℕ → ℕ
 readers_from k [] i = 0
 readers_from k (f ∷ fs) i = cond (eqb i k) 0 (times i (field_reads f)) + readers_from (suc k) fs i
 
-pub readers-append : (k : ℕ) (l m : List (Field ℕ)) (i : ℕ)
+pub readers_append : (k : ℕ) (l m : List (Field ℕ)) (i : ℕ)
     → readers_from k (l ++ m) i ≡ readers_from k l i + readers_from (k + length l) m i
 unfolding readers_from
-readers-append k [] m i = let e : k + 0 ≡ k = omega arith in rw e (omega arith)
-readers-append k (f ∷ l) m i =
+readers_append k [] m i = let e : k + 0 ≡ k = omega arith in rw e (omega arith)
+readers_append k (f ∷ l) m i =
     let e : k + suc (length l) ≡ suc k + length l = omega arith in
-    rw e (omega (arith, readers-append (suc k) l m i))
+    rw e (omega (arith, readers_append (suc k) l m i))
 
 -- all of them where no field is that of index i
-none-own : (k : ℕ) (fs : List (Field ℕ)) (i : ℕ) → i < k → readers_from k fs i ≡ times i (joined field_reads fs)
+none_own : (k : ℕ) (fs : List (Field ℕ)) (i : ℕ) → i < k → readers_from k fs i ≡ times i (joined field_reads fs)
 unfolding readers_from joined times sum
-none-own k [] i lt = refl
-none-own k (f ∷ fs) i lt =
+none_own k [] i lt = refl
+none_own k (f ∷ fs) i lt =
     rw (ne_eqb i k (λ e. omega (arith, e)))
-    (omega (arith, none-own (suc k) fs i (omega arith), times-append i (field_reads f) (joined field_reads fs)))
+    (omega (arith, none_own (suc k) fs i (omega arith), times_append i (field_reads f) (joined field_reads fs)))
 
 -- those from an index on are those of all other fields
-pub others-from : (k : ℕ) (l : List (Field ℕ)) (j : ℕ)
+pub others_from : (k : ℕ) (l : List (Field ℕ)) (j : ℕ)
     → readers_from k l (k + j) ≡ times (k + j) (joined field_reads (others j l))
 unfolding readers_from joined times sum
-others-from k [] zero = refl
-others-from k [] (suc j) = refl
-others-from k (f ∷ l) zero =
+others_from k [] zero = refl
+others_from k [] (suc j) = refl
+others_from k (f ∷ l) zero =
     let e : k + 0 ≡ k = omega arith in
-    rw (e, eq-eqb k k refl) (omega (arith, none-own (suc k) l k (omega arith)))
-others-from k (f ∷ l) (suc j) =
+    rw (e, eq-eqb k k refl) (omega (arith, none_own (suc k) l k (omega arith)))
+others_from k (f ∷ l) (suc j) =
     let e : k + suc j ≡ suc k + j = omega arith in
-    let rec = others-from (suc k) l j in
+    let rec = others_from (suc k) l j in
     rw (ne_eqb (k + suc j) k (λ z. omega (arith, z)), e)
-    (omega (arith, rec, times-append (suc k + j) (field_reads f) (joined field_reads (others j l))))
+    (omega (arith, rec, times_append (suc k + j) (field_reads f) (joined field_reads (others j l))))
 
 pub readers_are : (fs : List (Field ℕ)) (i : ℕ) → readers_from 0 fs i ≡ readers fs i
 unfolding readers
-readers_are fs i = rw zero-add at (others-from 0 fs i)
+readers_are fs i = rw zero-add at (others_from 0 fs i)
 
 -- ── all references less the own ones ──
 
-others-at : (xs : List (Field ℕ)) (f : Field ℕ) (ys : List (Field ℕ)) → others (length xs) (xs ++ (f ∷ ys)) ≡ xs ++ ys
-others-at [] f ys = refl
-others-at (x ∷ xs) f ys = ap (λ (l : List (Field ℕ)). x ∷ l) (others-at xs f ys)
+others_at : (xs : List (Field ℕ)) (f : Field ℕ) (ys : List (Field ℕ)) → others (length xs) (xs ++ (f ∷ ys)) ≡ xs ++ ys
+others_at [] f ys = refl
+others_at (x ∷ xs) f ys = ap (λ (l : List (Field ℕ)). x ∷ l) (others_at xs f ys)
 
-times-joined : (i : ℕ) (l m : List (Field ℕ))
+times_joined : (i : ℕ) (l m : List (Field ℕ))
     → times i (joined field_reads (l ++ m)) ≡ times i (joined field_reads l) + times i (joined field_reads m)
-times-joined i l m =
-    ap (times i) (joined-append field_reads l m) ∙ times-append i (joined field_reads l) (joined field_reads m)
+times_joined i l m =
+    ap (times i) (joined_append field_reads l m) ∙ times_append i (joined field_reads l) (joined field_reads m)
 
 pub readers_meant : ReadersMeant
 unfolding readers joined
@@ -199,5 +199,5 @@ readers_meant xs f ys =
     let behind = joined field_reads ys in
     let apart : times n (joined field_reads (others n (xs ++ (f ∷ ys)))) ≡ times n (joined field_reads xs) + times n
     behind =
-    ap (λ (l : List (Field ℕ)). times n (joined field_reads l)) (others-at xs f ys) ∙ times-joined n xs ys in
-    omega (arith, apart, times-joined n xs (f ∷ ys), times-append n (field_reads f) behind)
+    ap (λ (l : List (Field ℕ)). times n (joined field_reads l)) (others_at xs f ys) ∙ times_joined n xs ys in
+    omega (arith, apart, times_joined n xs (f ∷ ys), times_append n (field_reads f) behind)

@@ -6,7 +6,7 @@ use Prim.Native.Nat.{ℕ, suc, ◌+◌, ◌≤◌}
 use native.Mathlib.Omega.{arith}
 use lib.ListN.{length, length-append, length-map, take, drop, take-append-drop}
 use Rattle.base.specs.Lists.{all}
-use Rattle.base.proofs.Lists.{all_append, all-front, all_back, between_true}
+use Rattle.base.proofs.Lists.{all_append, all_front, all_back, between_true}
 use Rattle.rules.specs.Limits.{fields_most}
 use Rattle.rules.specs.Editions.{current}
 use Rattle.rules.specs.Fields.{Field, Description}
@@ -23,11 +23,11 @@ module _ (first last : ℕ) where
       → all p (remaining first last fs) ≡ true
   all_outside p fs h =
       all_append p (take first fs) (drop (suc last) fs)
-      (all-front p (take first fs) (drop first fs) (rw (take-append-drop first fs) h))
+      (all_front p (take first fs) (drop first fs) (rw (take-append-drop first fs) h))
       (all_back p (take (suc last) fs) (drop (suc last) fs) (rw (take-append-drop (suc last) fs) h))
 
-  remaining-few : (fs : List (Field ℕ)) → length (remaining first last fs) ≤ length fs + length fs
-  remaining-few fs =
+  remaining_few : (fs : List (Field ℕ)) → length (remaining first last fs) ≤ length fs + length fs
+  remaining_few fs =
       omega (
         arith,
         length-append (take first fs) (drop (suc last) fs),
@@ -52,7 +52,7 @@ module _ (first last : ℕ) where
             omega (
               arith,
               length-map fs (renumbered g),
-              remaining-few d.fields,
+              remaining_few d.fields,
               (between_true 1 (length d.fields) fields_most w.count).1,
             );
         form = kept.0;
@@ -60,9 +60,9 @@ module _ (first last : ℕ) where
       }
 
   -- only this description has these bytes
-  pub cut-judged : (d : Description) → Within d → (Q M : ℕ → ℕ) (c : Description) → Within c
+  pub cut_judged : (d : Description) → Within d → (Q M : ℕ → ℕ) (c : Description) → Within c
       → stored_with current M c ≡ stored_with current Q (cut first last d) → c ≡ cut first last d
-  cut-judged d w Q M c v h =
+  cut_judged d w Q M c v h =
       sym (described_with current M c v)
       ∙ ap (described_in current) h
       ∙ described_sound current Q (cut first last d) (cut_sound d w)

@@ -10,7 +10,7 @@ use lib.ListN.{length, length-append, length-map, take, drop, take-append-drop}
 use lib.Seq.{take-append_seam, drop-append_seam, length-take-le}
 use borrow.Author.Tests.{leb-true, ltb-true, eq-eqb, not-true}
 use Rattle.base.specs.Lists.{all, any, between}
-use Rattle.base.proofs.Lists.{or_false_left, or_false_right, all_append, all-front, all_back}
+use Rattle.base.proofs.Lists.{or_false_left, or_false_right, all_append, all_front, all_back}
 use Rattle.base.proofs.Breaks.{and_true, all_cons}
 use Rattle.rules.specs.Fields.{Field, Description}
 use Rattle.rules.specs.References.{field_reads}
@@ -29,8 +29,8 @@ use Rattle.rules.specs.Edits.{
   first_reader,
 }
 use Rattle.rules.specs.Promises.{is_run}
-use Rattle.laws.proofs.Renumbering.{closed-opened, opened-closed, comes_back, fields_back}
-use Rattle.laws.proofs.Runs.{remaining-between, run-between, split_run}
+use Rattle.laws.proofs.Renumbering.{closed_opened, opened_closed, comes_back, fields_back}
+use Rattle.laws.proofs.Runs.{remaining_between, run_between, split_run}
 use Rattle.laws.proofs.RunReads.{away, none_reads, reads_none, opened_away}
 
 -- a test that always passes
@@ -56,34 +56,34 @@ module _ (at last : ℕ) (gs : List (Field ℕ)) (d : Description)
   start : length (take at old) ≡ at
   start = length-take-le at old (rw (length-map d.fields (renumbered (opened at (length gs)))) inside)
 
-  remaining-put : remaining at last (put at gs d).fields ≡ old
+  remaining_put : remaining at last (put at gs d).fields ≡ old
   unfolding put
-  remaining-put =
-      remaining-between (take at old) gs (drop at old) at last start end ∙ take-append-drop at old
+  remaining_put =
+      remaining_between (take at old) gs (drop at old) at last start end ∙ take-append-drop at old
 
-  pub cut-put : cut at last (put at gs d) ≡ d
+  pub cut_put : cut at last (put at gs d) ≡ d
   unfolding cut put
-  cut-put =
+  cut_put =
       let n = length gs in
       let size : run_length at last ≡ n = omega (arith, end) in
       let back = all_always (λ x. all (comes_back (opened at n) (closed at n)) (field_reads x))
       (λ x. all_always (comes_back (opened at n) (closed at n))
-      (λ i. eq-eqb (closed at n (opened at n i)) i (closed-opened at n i)) (field_reads x)) d.fields in
+      (λ i. eq-eqb (closed at n (opened at n i)) i (closed_opened at n i)) (field_reads x)) d.fields in
       ap (with_fields d)
-      (rw (size, remaining-put) (fields_back (opened at n) (closed at n) d.fields back))
+      (rw (size, remaining_put) (fields_back (opened at n) (closed at n) d.fields back))
 
   -- no old field reads a new one
-  pub put-unread : first_reader at last (put at gs d).fields ≡ none
+  pub put_unread : first_reader at last (put at gs d).fields ≡ none
   unfolding put
-  put-unread =
+  put_unread =
       let parts : all (away at last) (take at old ++ drop at old) ≡ true =
       rw (take-append-drop at old) (opened_away at (length gs) last end d.fields) in
       reads_none at last (take at old) gs (drop at old) start end
-      (all-front (away at last) (take at old) (drop at old) parts)
+      (all_front (away at last) (take at old) (drop at old) parts)
       (all_back (away at last) (take at old) (drop at old) parts)
 
-inserted-length : (at : ℕ) (gs fs : List (Field ℕ)) → length (inserted at gs fs) ≡ length fs + length gs
-inserted-length at gs fs =
+inserted_length : (at : ℕ) (gs fs : List (Field ℕ)) → length (inserted at gs fs) ≡ length fs + length gs
+inserted_length at gs fs =
     omega (
       arith,
       length-append (take at fs) (gs ++ drop at fs),
@@ -92,12 +92,12 @@ inserted-length at gs fs =
       ap length (take-append-drop at fs),
     )
 
-pub put-length : (at : ℕ) (gs : List (Field ℕ)) (d : Description)
+pub put_length : (at : ℕ) (gs : List (Field ℕ)) (d : Description)
     → length (put at gs d).fields ≡ length d.fields + length gs
 unfolding put
-put-length at gs d =
+put_length at gs d =
     let old = map (renumbered (opened at (length gs))) d.fields in
-    inserted-length at gs old
+    inserted_length at gs old
     ∙ ap (λ (n : ℕ). n + length gs) (length-map d.fields (renumbered (opened at (length gs))))
 
 -- ── putting in what was cut ──
@@ -111,7 +111,7 @@ away_back first last low (i ∷ l) h =
     let c : ℕ → Bool = λ j. between first j last in
     let n = run_length first last in
     let e = eq-eqb (opened first n (closed first n i)) i
-    (opened-closed first last i low (or_false_left (c i) (any c l) h)) in
+    (opened_closed first last i low (or_false_left (c i) (any c l) h)) in
     rw e (away_back first last low l (or_false_right (c i) (any c l) h))
 
 fields_away : (first last : ℕ) → first ≤ last → (fs : List (Field ℕ)) → all (away first last) fs ≡ true
@@ -142,25 +142,25 @@ module _ (xs gs ys : List (Field ℕ)) (first last : ℕ) (d : Description)
       (fields_back (closed first (run_length first last)) (opened first (run_length first last)) (xs ++ ys)
       (fields_away first last low (xs ++ ys) (all_append (away first last) xs ys e.0 e.1)))
 
-  put-cut-parts : first_reader first last whole ≡ none
+  put_cut_parts : first_reader first last whole ≡ none
       → put first (run first last whole) (cut first last (with_fields d whole)) ≡ with_fields d whole
   unfolding put cut
-  put-cut-parts h =
+  put_cut_parts h =
       let size : run_length first last ≡ length gs = omega (arith, end) in
       ap (with_fields d)
       (rw (
-        run-between xs gs ys first last start end,
-        remaining-between xs gs ys first last start end,
+        run_between xs gs ys first last start end,
+        remaining_between xs gs ys first last start end,
         size,
         numbers_again h,
       ) parts_again)
 
-pub put-cut : (first last : ℕ) (d : Description) → first ≤ last → last < length d.fields
+pub put_cut : (first last : ℕ) (d : Description) → first ≤ last → last < length d.fields
     → first_reader first last d.fields ≡ none → put first (run first last d.fields) (cut first last d) ≡ d
-put-cut first last d low high =
+put_cut first last d low high =
     let s = split_run first last d.fields low high in
     subst
     (λ (fs : List (Field ℕ)). first_reader first last fs ≡ none
     → put first (run first last fs) (cut first last (with_fields d fs)) ≡ with_fields d fs)
     (sym s.whole)
-    (put-cut-parts s.xs s.gs s.ys first last d s.start s.end low)
+    (put_cut_parts s.xs s.gs s.ys first last d s.start s.end low)

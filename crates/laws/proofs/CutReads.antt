@@ -3,7 +3,7 @@ use mathlib.Core.Path.{◌≡◌, refl, ap, sym, ◌∙◌}
 use mathlib.Core.Bool.{Bool, true, false, ◌||◌, not}
 use mathlib.Core.Logic.{◌⊎◌, inl, inr}
 use mathlib.Core.List.{List, [], ◌∷◌, ◌++◌, map, map-append, append_assoc}
-use mathlib.Core.Option.{none, some}
+use mathlib.Core.Option.{none}
 use Prim.Native.Nat.{ℕ, suc, ◌+◌, ◌-◌, ◌≤◌, ◌<◌}
 use native.Mathlib.Omega.{arith}
 use lib.Dec.{leb, ltb}
@@ -20,14 +20,14 @@ use Rattle.rules.specs.Cover.{entries_in}
 use Rattle.rules.specs.Stored.{stored, Good}
 use Rattle.rules.specs.Promises.{is_run}
 use Rattle.rules.specs.EditResults.{spread, width_of, ReadsOutside, CutReads}
-use Rattle.laws.proofs.Delivered.{written-at-start}
+use Rattle.laws.proofs.Delivered.{written_at_start}
 use Rattle.laws.proofs.EditsDone.{cut_done}
-use Rattle.laws.proofs.RunCover.{read-to-run}
-use Rattle.laws.proofs.Renumbering.{closed-low, closed-high}
-use Rattle.laws.proofs.RenumberedReads.{fixed-sum, field_alike}
-use Rattle.laws.proofs.ReadSteps.{width_one, ReadTo, field-read}
-use Rattle.laws.proofs.SpreadLaws.{outside, spread-append, spread-front, spread-length, spread-width}
-use Rattle.laws.proofs.SpreadLaws.{alike-front, alike-spread}
+use Rattle.laws.proofs.RunCover.{read_to_run}
+use Rattle.laws.proofs.Renumbering.{closed_low, closed_high}
+use Rattle.laws.proofs.RenumberedReads.{fixed_sum, field_alike}
+use Rattle.laws.proofs.ReadSteps.{width_one, ReadTo, field_read}
+use Rattle.laws.proofs.SpreadLaws.{outside, spread_append, spread_front, spread_length, spread_width}
+use Rattle.laws.proofs.SpreadLaws.{alike_front, alike_spread}
 
 -- ── a list parted at an element ──
 
@@ -38,8 +38,8 @@ module _ {A : Type 0} (l b a : List A) (x : A) (i : ℕ) (whole : l ≡ b ++ (x 
   regrouped : l ≡ (b ++ (x ∷ [])) ++ a
   regrouped = whole ∙ sym (append_assoc b (x ∷ []) a)
 
-  take-to : take (suc i) l ≡ b ++ (x ∷ [])
-  take-to = rw regrouped (take_at (b ++ (x ∷ [])) a (suc i) with_one)
+  take_to : take (suc i) l ≡ b ++ (x ∷ [])
+  take_to = rw regrouped (take_at (b ++ (x ∷ [])) a (suc i) with_one)
 
   drop_past : drop (suc i) l ≡ a
   drop_past = rw regrouped (drop_at (b ++ (x ∷ [])) a (suc i) with_one)
@@ -65,7 +65,7 @@ module _ (first last : ℕ) (run : first ≤ last) (b a : List (Field ℕ)) (f :
         before = b;
         after = take k a ++ behind;
         whole = ap (λ (l : List (Field ℕ)). l ++ behind) front ∙ append_assoc b (f ∷ take k a) behind;
-        size = size ∙ sym (closed-low first (run_length first last) i low);
+        size = size ∙ sym (closed_low first (run_length first last) i low);
       }
 
   remains_high : last < i → Remains first last i (b ++ (f ∷ a)) f
@@ -79,7 +79,7 @@ module _ (first last : ℕ) (run : first ≤ last) (b a : List (Field ℕ)) (f :
         after = a;
         whole = rw (take-append-le first b (f ∷ a) p, drop-append-le (suc last) b (f ∷ a) q)
             (sym (append_assoc (take first b) (drop (suc last) b) (f ∷ a)));
-        size = rw (closed-high first n i above) (omega (
+        size = rw (closed_high first n i above) (omega (
           arith,
           size,
           length-append (take first b) (drop (suc last) b),
@@ -114,7 +114,7 @@ read_at : (packet : List ℕ) (all es more : List Entry) (e : Entry) (i later : 
     ≡ step (get_or all i absent) (width_of (take (suc i) all))
 read_at packet all es more e i later f whole size reads =
     rw (
-      take-to all es more e i whole size,
+      take_to all es more e i whole size,
       whole,
       take_at es (e ∷ more) i size,
       get_or_at es e more absent i size,
@@ -140,32 +140,32 @@ module _ (first last : ℕ) (run : first ≤ last) (packet : List ℕ) (f : Fiel
       → ReadsBy (spread first size entries) i later
   read_low entries i later low r =
       let es = r.before in
-      let same : length es ≡ i = r.size ∙ closed-low first size i low in
+      let same : length es ≡ i = r.size ∙ closed_low first size i low in
       let few : length es < first = omega (arith, same) in
       let most : length es ≤ first = omega arith in
-      let s = spread-front first size es r.entry r.more few in
+      let s = spread_front first size es r.entry r.more few in
       read_at packet (spread first size entries) es s.0 r.entry i later f
       (ap (spread first size) r.whole ∙ s.1) same
-      (sym (field_alike (closed first size) (λ j. between first j last) es es (alike-front first last run es most)
-      (λ own. alike-front first last run (es ++ (own ∷ [])) (omega (arith, few, length-append es (own ∷ []))))
+      (sym (field_alike (closed first size) (λ j. between first j last) es es (alike_front first last run es most)
+      (λ own. alike_front first last run (es ++ (own ∷ [])) (omega (arith, few, length-append es (own ∷ []))))
       packet (width_of es) later f away)
       ∙ r.reads)
 
-  read-high : (entries : List Entry) (i later : ℕ) → last < i → Read entries i later
+  read_high : (entries : List Entry) (i later : ℕ) → last < i → Read entries i later
       → ReadsBy (spread first size entries) i later
-  read-high entries i later high r =
+  read_high entries i later high r =
       let es = r.before in
       let old = spread first size es in
       let above : first ≤ i = omega arith in
-      let new : length es ≡ i - size = r.size ∙ closed-high first size i above in
+      let new : length es ≡ i - size = r.size ∙ closed_high first size i above in
       let many : first ≤ length es = omega (arith, new) in
-      let same : length old ≡ i = spread-length first size es many ∙ omega (arith, new) in
-      let wide = spread-width first size es in
+      let same : length old ≡ i = spread_length first size es many ∙ omega (arith, new) in
+      let wide = spread_width first size es in
       read_at packet (spread first size entries) old r.more r.entry i later f
-      (ap (spread first size) r.whole ∙ spread-append first size es (r.entry ∷ r.more) many) same
+      (ap (spread first size) r.whole ∙ spread_append first size es (r.entry ∷ r.more) many) same
       (rw wide (sym (field_alike (closed first size) (λ j. between first j last) es old
-      (alike-spread first last run es many)
-      (λ own. rw (← spread-append first size es (own ∷ []) many) (alike-spread first last run (es ++ (own ∷ []))
+      (alike_spread first last run es many)
+      (λ own. rw (← spread_append first size es (own ∷ []) many) (alike_spread first last run (es ++ (own ∷ []))
       (omega (arith, many, length-append es (own ∷ [])))))
       packet (width_of es) later f away)
       ∙ r.reads))
@@ -176,17 +176,17 @@ module _ (first last : ℕ) (run : first ≤ last) (packet : List ℕ) (f : Fiel
     where
       go : (i < first) ⊎ (last < i) → ReadsBy (spread first size entries) i later
       go (inl low) = read_low entries i later low r
-      go (inr high) = read-high entries i later high r
+      go (inr high) = read_high entries i later high r
 
 -- ── all remaining fields ──
 
 -- a packet that is accepted without the run reads as the definitions with the run say
-pub cut-reading : (d : Description) (first last : ℕ) → is_run first last d.fields ≡ true
+pub cut_reading : (d : Description) (first last : ℕ) → is_run first last d.fields ≡ true
     → first_reader first last d.fields ≡ none → (packet : List ℕ) (entries : List Entry)
     → reading (cut first last d) packet ≡ complete entries
     → ReadsOutside first last d packet (spread first (run_length first last) entries)
 unfolding cut
-cut-reading d first last is none_reads packet entries h i f e out =
+cut_reading d first last is none_reads packet entries h i f e out =
     let n = run_length first last in
     let g = closed first n in
     let run = leb-true first last (and_true (leb first last) (ltb last (length d.fields)) is).0 in
@@ -198,23 +198,23 @@ cut-reading d first last is none_reads packet entries h i f e out =
     let fields : map (renumbered g) (remaining first last d.fields)
     ≡ map (renumbered g) m.before ++ (renumbered g f ∷ map (renumbered g) m.after)
     = ap (map (renumbered g)) m.whole ∙ map-append (renumbered g) m.before (f ∷ m.after) in
-    let r = field-read (cut first last d) packet entries (map (renumbered g) m.before) (renumbered g f)
+    let r = field_read (cut first last d) packet entries (map (renumbered g) m.before) (renumbered g f)
     (map (renumbered g) m.after) fields h in
-    let r₁ = rw (fixed-sum g m.after, length-map m.before (renumbered g), m.size) at r in
+    let r₁ = rw (fixed_sum g m.after, length-map m.before (renumbered g), m.size) at r in
     rw (drop_past (remaining first last d.fields) m.before m.after f (g i) m.whole m.size)
     (read_outside first last run packet f away entries i (sum fixed_bits m.after) out r₁)
 
 -- ── by a table that was cut ──
 
-pub cut-reads : CutReads
-cut-reads table out after first last n h =
+pub cut_reads : CutReads
+cut_reads table out after first last n h =
     let w = cut_done table out after first last n h in
     let d = w.good.description in
     let c = cut first last d in
-    let bytes = (written-at-start (stored c) out after n w.written).2 in
+    let bytes = (written_at_start (stored c) out after n w.written).2 in
     let new : Good (take n after) = record { description = c; within = w.within; is_stored = sym bytes } in (
       w.good,
-      λ packet lent numbers total r. cut-reading d first last w.whole w.unread packet
+      λ packet lent numbers total r. cut_reading d first last w.whole w.unread packet
           (entries_in (length c.fields) numbers)
-          (read-to-run c packet lent numbers total (r (yes new))).1,
+          (read_to_run c packet lent numbers total (r (yes new))).1,
     )

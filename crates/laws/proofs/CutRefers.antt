@@ -14,8 +14,8 @@ use Rattle.base.proofs.Lookups.{kept_at, element_below, element_parts, element_m
 use Rattle.rules.specs.Fields.{Field}
 use Rattle.rules.specs.Edits.{renumbered, closed, run_length, remaining, cut, reads_run, first_reader}
 use Rattle.rules.specs.EditResults.{CutRefers}
-use Rattle.laws.proofs.Renumbering.{closed-low, closed-high, field-reads}
-use Rattle.laws.proofs.Runs.{remaining-between, split_run}
+use Rattle.laws.proofs.Renumbering.{closed_low, closed_high, field_reads_lem}
+use Rattle.laws.proofs.Runs.{remaining_between, split_run}
 use Rattle.laws.proofs.CutPut.{run_bounds}
 
 -- the element of an index behind a front
@@ -38,7 +38,7 @@ module _ (xs gs ys : List (Field ℕ)) (first last : ℕ) (start : length xs ≡
       go : (b : Bool) → ltb i first ≡ b → get_elem? (xs ++ ys) (closed first n i) ≡ get_elem? (xs ++ (gs ++ ys)) i
       go true e =
           let lt : i < length xs = omega (arith, start, ltb-true i first e) in
-          rw (closed-low first n i (ltb-true i first e))
+          rw (closed_low first n i (ltb-true i first e))
           (element_below xs ys i lt ∙ sym (element_below xs (gs ++ ys) i lt))
       go false e =
           let high = ltb-false i first e in
@@ -46,7 +46,7 @@ module _ (xs gs ys : List (Field ℕ)) (first last : ℕ) (start : length xs ≡
           let j : ℕ = i - suc last in
           let new : i - n ≡ length xs + j = omega (arith, start, end, beyond, high) in
           let old : i ≡ length xs + (length gs + j) = omega (arith, start, end, beyond) in
-          ap (get_elem? (xs ++ ys)) (closed-high first n i high ∙ new) ∙ element_behind xs ys j
+          ap (get_elem? (xs ++ ys)) (closed_high first n i high ∙ new) ∙ element_behind xs ys j
           ∙ sym (element_behind gs ys j) ∙ sym (element_behind xs (gs ++ ys) (length gs + j))
           ∙ ap (get_elem? (xs ++ (gs ++ ys))) (sym old)
 
@@ -59,7 +59,7 @@ remaining_element first last fs low high i outside =
     (λ (l : List (Field ℕ)). get_elem? (remaining first last l) (closed first (run_length first last) i) ≡ get_elem? l i)
     (sym s.whole)
     (ap (λ (l : List (Field ℕ)). get_elem? l (closed first (run_length first last) i))
-    (remaining-between s.xs s.gs s.ys first last s.start s.end)
+    (remaining_between s.xs s.gs s.ys first last s.start s.end)
     ∙ closed_element s.xs s.gs s.ys first last s.start s.end i outside)
 
 -- a field outside the run reads none in it
@@ -82,5 +82,5 @@ cut_refers d first last whole unread i f at outside =
       element_map (renumbered g) (remaining first last d.fields) (g i) f
           (remaining_element first last d.fields bounds.0 bounds.1 i outside ∙ at),
       outside_away first last d.fields unread i f at outside,
-      field-reads g f,
+      field_reads_lem g f,
     )

@@ -10,7 +10,7 @@ use Rattle.rules.specs.Within.{WithinIn}
 use Rattle.rules.specs.Stored.{stored_in, GoodIn, Good}
 use Rattle.rules.specs.Results.{GoodDecidable}
 use Rattle.laws.proofs.Readers.{described_in}
-use Rattle.laws.proofs.Unique.{described-stored}
+use Rattle.laws.proofs.Unique.{described_stored}
 use Rattle.laws.proofs.WithinTest.{is_within_in, within_in, outside_in}
 
 pub both_decidable : {A B : Type 0} → Dec A → Dec B → Dec (A × B)
@@ -25,15 +25,15 @@ within_decidable e d = go (is_within_in e d) refl
     go true h = yes (within_in e d h)
     go false h = no (outside_in e d h)
 
-pub described-good : (e : Edition) (table : List ℕ) (g : GoodIn e table) → g.description ≡ described_in e table
-described-good e table g =
-    sym (described-stored e g.description g.within) ∙ ap (described_in e) g.is_stored
+pub described_good : (e : Edition) (table : List ℕ) (g : GoodIn e table) → g.description ≡ described_in e table
+described_good e table g =
+    sym (described_stored e g.description g.within) ∙ ap (described_in e) g.is_stored
 
 pub good_decidable_in : GoodDecidable
 good_decidable_in e table =
     map_dec
     (λ p. record { description = described_in e table; within = p.0; is_stored = p.1 })
-    (λ g. (rw (← described-good e table g) g.within, rw (← described-good e table g) g.is_stored))
+    (λ g. (rw (← described_good e table g) g.within, rw (← described_good e table g) g.is_stored))
     (both_decidable (within_decidable e (described_in e table))
     (List-discrete ℕ_discrete (stored_in e (described_in e table)) table))
 

@@ -13,19 +13,19 @@ use Rattle.rules.specs.Promises.{Outcome, leaves, overlaid, delivered}
 use Rattle.rules.specs.EditResults.{WrittenAtStart}
 
 -- no refusal is accepted
-pub not-refused : (n k place : ℕ) (after out : List ℕ) → leaves (accepted n) after ≡ leaves (refused (suc k) place) out
+pub not_refused : (n k place : ℕ) (after out : List ℕ) → leaves (accepted n) after ≡ leaves (refused (suc k) place) out
     → ⊥
-not-refused n k place after out e =
+not_refused n k place after out e =
     let z : 0 ≡ suc k = ap (λ (o : Outcome). o.answer.number) e in omega (arith, z)
 
-pub written-at-start : WrittenAtStart
+pub written_at_start : WrittenAtStart
 unfolding delivered
-written-at-start w out after n h = go (ltb (length out) (length w)) refl h
+written_at_start w out after n h = go (ltb (length out) (length w)) refl h
   where
     go : (b : Bool) → ltb (length out) (length w) ≡ b → leaves (accepted n) after
         ≡ cond b (leaves (refused 11 0) out) (leaves (accepted (length w)) (overlaid w out))
         → (n ≡ length w) × (n ≤ length out) × (take n after ≡ w) × (drop n after ≡ drop n out)
-    go true short e = absurd (not-refused n 10 0 after out e)
+    go true short e = absurd (not_refused n 10 0 after out e)
     go false room e =
         let size : n ≡ length w = ap (λ (o : Outcome). o.answer.amount) e in
         let bytes : after ≡ overlaid w out = ap (λ (o : Outcome). o.buffer) e in (

@@ -19,7 +19,7 @@ use Rattle.rules.specs.Promises.{Outcome, leaves, not_good, by_table, reading_an
 use Rattle.rules.specs.Promises.{ChecksTableIn, ReadsPacketIn}
 use Rattle.rules.specs.Results.{EarlierStaysGood, FewGoodEarlier, LargerRefusedEarlier, LargerUnreadEarlier}
 use Rattle.rules.specs.Results.{TableAnswersStay, PacketAnswersStay}
-use Rattle.laws.proofs.OperatorLaws.{Widens, operators-more, fields_like}
+use Rattle.laws.proofs.OperatorLaws.{Widens, operators_more, fields_like}
 use Rattle.laws.proofs.Unique.{stored_unique}
 use Rattle.laws.proofs.Decidable.{good_decidable_in}
 
@@ -45,34 +45,34 @@ module _ (a b : Edition) (wide : Widens a b) where
   pub within_more : (d : Description) → WithinIn a d → WithinIn b d
   within_more d w =
       let c = between_true 1 (length d.fields) a.fields w.count in
-      within_by a b d w (omega (arith, c.1, wide.fields)) (operators-more a b wide d.fields w.operators)
+      within_by a b d w (omega (arith, c.1, wide.fields)) (operators_more a b wide d.fields w.operators)
 
   -- ── packets ──
 
   module _ (d : Description) (known : Keeps (keeps_operators_in a) d.fields) (packet : List ℕ) where
-    short-more : is_too_long_in a packet ≡ false → is_too_long_in b packet ≡ false
-    short-more e =
+    short_more : is_too_long_in a packet ≡ false → is_too_long_in b packet ≡ false
+    short_more e =
         le-ltb b.packet (length packet) (omega (arith, ltb-false a.packet (length packet) e, wide.packet))
 
     pub reading_like : is_too_long_in a packet ≡ false → reading_in a d packet ≡ reading_in b d packet
     unfolding reading_in
-    reading_like e = rw (e, short-more e) (fields_like a b wide packet d.fields [] known [] 0)
+    reading_like e = rw (e, short_more e) (fields_like a b wide packet d.fields [] known [] 0)
 
     module _ (run : List ℕ) where
       outcome_like : is_too_long_in a packet ≡ false → packet_outcome_in a d packet run ≡ packet_outcome_in b d packet run
       unfolding packet_outcome_in
-      outcome_like e = rw (reading_like e, e, short-more e)
+      outcome_like e = rw (reading_like e, e, short_more e)
 
-      outcome-long : is_too_long_in a packet ≡ true → (packet_outcome_in a d packet run).answer.number ≡ 22
+      outcome_long : is_too_long_in a packet ≡ true → (packet_outcome_in a d packet run).answer.number ≡ 22
       unfolding packet_outcome_in reading_in reading_answer
-      outcome-long e = rw e refl
+      outcome_long e = rw e refl
 
-      pub outcome-more : ((packet_outcome_in a d packet run).answer.number ≡ 22 → ⊥)
+      pub outcome_more : ((packet_outcome_in a d packet run).answer.number ≡ 22 → ⊥)
           → packet_outcome_in a d packet run ≡ packet_outcome_in b d packet run
-      outcome-more ne = go (is_too_long_in a packet) refl
+      outcome_more ne = go (is_too_long_in a packet) refl
         where
           go : (x : Bool) → is_too_long_in a packet ≡ x → packet_outcome_in a d packet run ≡ packet_outcome_in b d packet run
-          go true e = absurd (ne (outcome-long e))
+          go true e = absurd (ne (outcome_long e))
           go false e = outcome_like e
 
 -- ── editions of one stored form ──
@@ -160,7 +160,7 @@ module _ (a b : Edition) (wide : Widens a b) (alike : AlikeStored a b) where
       stays table (λ d. packet_outcome_in a d packet run) (λ d. packet_outcome_in b d packet run)
       (leaves not_good run) o p (λ e. ne (ap (λ (x : Outcome). x.answer.number) e))
       (λ d w e.
-      e ∙ outcome-more a b wide d w.operators packet run (λ q. long (ap (λ (x : Outcome). x.answer.number) e ∙ q)))
+      e ∙ outcome_more a b wide d w.operators packet run (λ q. long (ap (λ (x : Outcome). x.answer.number) e ∙ q)))
 
 -- ── the earlier edition and the one in force ──
 
@@ -172,35 +172,35 @@ earlier_widens = record {
   means = λ o h x y. refl;
 }
 
-pub earlier-alike : AlikeStored earlier current
-earlier-alike = record { kind = refl; keeps = refl }
+pub earlier_alike : AlikeStored earlier current
+earlier_alike = record { kind = refl; keeps = refl }
 
 pub earlier_stays_good : EarlierStaysGood
-earlier_stays_good table old = stays_good earlier current earlier_widens earlier-alike table old
+earlier_stays_good table old = stays_good earlier current earlier_widens earlier_alike table old
 
-pub few-good-earlier : FewGoodEarlier
-few-good-earlier table good few =
-    good_less earlier current earlier_widens earlier-alike table good few good.within.operators
+pub few_good_earlier : FewGoodEarlier
+few_good_earlier table good few =
+    good_less earlier current earlier_widens earlier_alike table good few good.within.operators
 
 larger_bad : (table : List ℕ) (good : Good table) → 65 ≤ length good.description.fields → GoodIn earlier table → ⊥
 larger_bad table good more old =
     let c = between_true 1 (length old.description.fields) earlier.fields old.within.count in
-    let e = good_like earlier current earlier_widens earlier-alike table old good in
+    let e = good_like earlier current earlier_widens earlier_alike table old good in
     let le : length good.description.fields ≤ earlier.fields =
     subst (λ (d : Description). length d.fields ≤ earlier.fields) e c.1 in
     omega (arith, le, more)
 
-pub larger-refused-earlier : LargerRefusedEarlier
-larger-refused-earlier table good more =
+pub larger_refused_earlier : LargerRefusedEarlier
+larger_refused_earlier table good more =
     let bad = larger_bad table good more in (bad, λ a p. p (no bad), λ packet run o p. p (no bad))
 
-pub larger-unread-earlier : LargerUnreadEarlier
-larger-unread-earlier table good more A a b (yes old) = absurd (larger_bad table good more old)
-larger-unread-earlier table good more A a b (no bad) = refl
+pub larger_unread_earlier : LargerUnreadEarlier
+larger_unread_earlier table good more A a b (yes old) = absurd (larger_bad table good more old)
+larger_unread_earlier table good more A a b (no bad) = refl
 
-pub table-answers_stay : TableAnswersStay
-table-answers_stay table a p ne = table_stays earlier current earlier_widens earlier-alike table a p ne
+pub table_answers_stay : TableAnswersStay
+table_answers_stay table a p ne = table_stays earlier current earlier_widens earlier_alike table a p ne
 
-pub packet-answers_stay : PacketAnswersStay
-packet-answers_stay table packet run o p ne long =
-    packet_stays earlier current earlier_widens earlier-alike table packet run o p ne long
+pub packet_answers_stay : PacketAnswersStay
+packet_answers_stay table packet run o p ne long =
+    packet_stays earlier current earlier_widens earlier_alike table packet run o p ne long

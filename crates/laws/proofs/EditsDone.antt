@@ -32,14 +32,14 @@ use Rattle.rules.specs.Promises.{
 }
 use Rattle.rules.specs.EditResults.{CutGood, PutGood}
 use Rattle.laws.proofs.Decidable.{within_decidable, good_decidable}
-use Rattle.laws.proofs.Delivered.{not-refused, written-at-start}
+use Rattle.laws.proofs.Delivered.{not_refused, written_at_start}
 use Rattle.laws.proofs.Joining.{joins_decidable}
 
 -- the table of a description, where it was written, is good
-abbrev written-good : (d : Description) (out after : List ℕ) (n : ℕ) → Within d
+abbrev written_good : (d : Description) (out after : List ℕ) (n : ℕ) → Within d
     → leaves (accepted n) after ≡ delivered (stored d) out → Good (take n after)
-written-good d out after n w h =
-    record { description = d; within = w; is_stored = sym (written-at-start (stored d) out after n h).2 }
+written_good d out after n w h =
+    record { description = d; within = w; is_stored = sym (written_at_start (stored d) out after n h).2 }
 
 -- ── cutting ──
 
@@ -59,23 +59,23 @@ module _ (table out after : List ℕ) (first last n : ℕ) where
     abbrev result : Description
     result = cut first last good.description
 
-    cut-limits : is_run first last fields ≡ true → first_reader first last fields ≡ none → (fits : Dec (Within result))
+    cut_limits : is_run first last fields ≡ true → first_reader first last fields ≡ none → (fits : Dec (Within result))
         → leaves (accepted n) after ≡ by_limits fits out → CutDone
-    cut-limits whole unread (yes w) h =
+    cut_limits whole unread (yes w) h =
         record { good = good; whole = whole; unread = unread; within = w; written = h }
-    cut-limits whole unread (no beyond) h = absurd (not-refused n 33 0 after out h)
+    cut_limits whole unread (no beyond) h = absurd (not_refused n 33 0 after out h)
 
-    cut-read : (fits : Dec (Within result)) → is_run first last fields ≡ true → (r : Option ℕ)
+    cut_read : (fits : Dec (Within result)) → is_run first last fields ≡ true → (r : Option ℕ)
         → first_reader first last fields ≡ r → leaves (accepted n) after ≡ unless_read r out (by_limits fits out)
         → CutDone
-    cut-read fits whole none unread h = cut-limits whole unread fits h
-    cut-read fits whole (some i) e h = absurd (not-refused n 30 (suc i) after out h)
+    cut_read fits whole none unread h = cut_limits whole unread fits h
+    cut_read fits whole (some i) e h = absurd (not_refused n 30 (suc i) after out h)
 
-    cut-run : (fits : Dec (Within result)) (b : Bool) → is_run first last fields ≡ b → leaves (accepted n) after
+    cut_run : (fits : Dec (Within result)) (b : Bool) → is_run first last fields ≡ b → leaves (accepted n) after
         ≡ cond b (unless_read (first_reader first last fields) out (by_limits fits out)) (leaves (refused 30 0) out)
         → CutDone
-    cut-run fits true whole h = cut-read fits whole (first_reader first last fields) refl h
-    cut-run fits false e h = absurd (not-refused n 29 0 after out h)
+    cut_run fits true whole h = cut_read fits whole (first_reader first last fields) refl h
+    cut_run fits false e h = absurd (not_refused n 29 0 after out h)
 
   pub cut_done : CutsFields table first last out (leaves (accepted n) after) → CutDone
   unfolding cut_outcome
@@ -86,14 +86,14 @@ module _ (table out after : List ℕ) (first last n : ℕ) where
           (leaves not_good out) → CutDone
       go (yes good) h =
           let d = good.description in
-          cut-run good (within_decidable current (cut first last d)) (is_run first last d.fields) refl h
-      go (no bad) h = absurd (not-refused n 20 0 after out h)
+          cut_run good (within_decidable current (cut first last d)) (is_run first last d.fields) refl h
+      go (no bad) h = absurd (not_refused n 20 0 after out h)
 
-pub cut-good : CutGood
-cut-good table out after first last n p =
+pub cut_good : CutGood
+cut_good table out after first last n p =
     let c = cut_done table out after first last n p in
     let d = cut first last c.good.description in
-    (c.good, written-good d out after n c.within c.written, refl)
+    (c.good, written_good d out after n c.within c.written, refl)
 
 -- ── putting in ──
 
@@ -110,18 +110,18 @@ module _ (table bytes out after : List ℕ) (at n : ℕ) where
     abbrev count : ℕ
     count = length good.description.fields
 
-    put-records : is_empty bytes ≡ false → at ≤ count → (joins : Dec (Joins at bytes good.description))
+    put_records : is_empty bytes ≡ false → at ≤ count → (joins : Dec (Joins at bytes good.description))
         → leaves (accepted n) after ≡ by_records joins out → PutDone
-    put-records given inside (yes j) h =
+    put_records given inside (yes j) h =
         record { good = good; given = given; inside = inside; joins = j; written = h }
-    put-records given inside (no none_do) h = absurd (not-refused n 33 0 after out h)
+    put_records given inside (no none_do) h = absurd (not_refused n 33 0 after out h)
 
-    put-place : (joins : Dec (Joins at bytes good.description)) (b : Bool) → (is_empty bytes || ltb count at) ≡ b
+    put_place : (joins : Dec (Joins at bytes good.description)) (b : Bool) → (is_empty bytes || ltb count at) ≡ b
         → leaves (accepted n) after ≡ cond b (leaves (refused 30 0) out) (by_records joins out) → PutDone
-    put-place joins true e h = absurd (not-refused n 29 0 after out h)
-    put-place joins false e h =
+    put_place joins true e h = absurd (not_refused n 29 0 after out h)
+    put_place joins false e h =
         let far = ltb count at in
-        put-records (or_false_left (is_empty bytes) far e) (ltb-false count at (or_false_right (is_empty bytes) far e))
+        put_records (or_false_left (is_empty bytes) far e) (ltb-false count at (or_false_right (is_empty bytes) far e))
         joins h
 
   pub put_done : PutsFields table at bytes out (leaves (accepted n) after) → PutDone
@@ -132,11 +132,11 @@ module _ (table bytes out after : List ℕ) (at n : ℕ) where
           ≡ by_table good (λ d. put_outcome at bytes d (joins_decidable at bytes d) out) (leaves not_good out) → PutDone
       go (yes good) h =
           let d = good.description in
-          put-place good (joins_decidable at bytes d) (is_empty bytes || ltb (length d.fields) at) refl h
-      go (no bad) h = absurd (not-refused n 20 0 after out h)
+          put_place good (joins_decidable at bytes d) (is_empty bytes || ltb (length d.fields) at) refl h
+      go (no bad) h = absurd (not_refused n 20 0 after out h)
 
-pub put-good : PutGood
-put-good table bytes out after at n p =
+pub put_good : PutGood
+put_good table bytes out after at n p =
     let c = put_done table bytes out after at n p in
     let d = put at c.joins.fields c.good.description in
-    (c.good, written-good d out after n c.joins.within c.written, c.joins, refl)
+    (c.good, written_good d out after n c.joins.within c.written, c.joins, refl)

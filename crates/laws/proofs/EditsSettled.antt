@@ -49,10 +49,10 @@ by_limits_lem d out (yes v) (no beyond) = absurd (beyond v)
 by_limits_lem d out (no beyond) (yes w) = absurd (beyond w)
 by_limits_lem d out (no v) (no w) = refl
 
-cut-same : (first last : ℕ) (out : List ℕ) (d : Description) (a b : Dec (Within (cut first last d)))
+cut_same : (first last : ℕ) (out : List ℕ) (d : Description) (a b : Dec (Within (cut first last d)))
     → cut_outcome first last d a out ≡ cut_outcome first last d b out
 unfolding cut_outcome
-cut-same first last out d a b =
+cut_same first last out d a b =
     ap (λ (o : Outcome). cond (is_run first last d.fields) (unless_read (first_reader first last d.fields) out o)
     (leaves (refused 30 0) out)) (by_limits_lem (cut first last d) out a b)
 
@@ -64,7 +64,7 @@ cut_settled table out first last =
     let good = good_decidable table in (
       by_table good (result fits) (leaves not_good out),
       λ g f. by_table_lem table (result fits) (result f) (leaves not_good out)
-          (λ d. cut-same first last out d (fits (cut first last d)) (f (cut first last d))) good g,
+          (λ d. cut_same first last out d (fits (cut first last d)) (f (cut first last d))) good g,
       λ p h. h good fits,
     )
 

@@ -6,7 +6,7 @@ use Prim.Native.Nat.{ℕ}
 use lib.Dec.{ltb}
 use lib.ListN.{length}
 use Rattle.base.specs.Lists.{same, is_empty}
-use Rattle.base.proofs.Lists.{and_both, not-both, same_true, same_self}
+use Rattle.base.proofs.Lists.{and_both, not_both, same_true, same_self}
 use Rattle.base.proofs.Breaks.{and_true}
 use Rattle.rules.specs.Fields.{Field, Description}
 use Rattle.rules.specs.Editions.{current}
@@ -34,7 +34,7 @@ use Rattle.laws.proofs.Decidable.{within_decidable, good_decidable}
 use Rattle.laws.proofs.WithinTest.{is_within, within, outside, inside_in}
 use Rattle.laws.proofs.GoodTest.{is_good_in, told_by}
 use Rattle.laws.proofs.Readers.{described_in}
-use Rattle.laws.proofs.Joining.{number_at, fields_in, only-fields, same_bytes, joins_decidable}
+use Rattle.laws.proofs.Joining.{number_at, fields_in, only_fields, same_bytes, joins_decidable}
 use Rattle.laws.proofs.EditsSettled.{by_table_lem}
 
 -- what a table's description gives, or 21
@@ -51,8 +51,8 @@ edited_told table f g out same good =
 abbrev pub limits_told : Description → List ℕ → Outcome
 limits_told d out = cond (is_within d) (delivered (stored d) out) (leaves (refused 34 0) out)
 
-limits-told : (d : Description) (out : List ℕ) (fits : Dec (Within d)) → limits_told d out ≡ by_limits fits out
-limits-told d out fits = go (is_within d) refl fits
+limits_told_lem : (d : Description) (out : List ℕ) (fits : Dec (Within d)) → limits_told d out ≡ by_limits fits out
+limits_told_lem d out fits = go (is_within d) refl fits
   where
     go : (b : Bool) → is_within d ≡ b → (fits : Dec (Within d))
         → cond b (delivered (stored d) out) (leaves (refused 34 0) out) ≡ by_limits fits out
@@ -75,20 +75,20 @@ pub by_cut : (first last : ℕ) (out : List ℕ) (d : Description) (fits : Dec (
 unfolding cut_outcome
 by_cut first last out d fits =
     ap (λ (o : Outcome). cond (is_run first last d.fields) (unless_read (first_reader first last d.fields) out o)
-    (leaves (refused 30 0) out)) (limits-told (cut first last d) out fits)
+    (leaves (refused 30 0) out)) (limits_told_lem (cut first last d) out fits)
 
-pub cut-told : (table : List ℕ) (first last : ℕ) (out : List ℕ) → CutsFields table first last out
+pub cut_told_lem : (table : List ℕ) (first last : ℕ) (out : List ℕ) → CutsFields table first last out
     (cut_in table first last out)
-cut-told table first last out good fits =
+cut_told_lem table first last out good fits =
     edited_told table (λ d. cut_told first last d out) (λ d. cut_outcome first last d (fits (cut first last d)) out) out
     (λ d. by_cut first last out d (fits (cut first last d))) good
 
-pub cut-only : (table : List ℕ) (first last : ℕ) (out : List ℕ) (o : Outcome) → CutsFields table first last out o
+pub cut_only : (table : List ℕ) (first last : ℕ) (out : List ℕ) (o : Outcome) → CutsFields table first last out o
     → o ≡ cut_in table first last out
-cut-only table first last out o p =
+cut_only table first last out o p =
     let good = good_decidable table in
     let fits = within_decidable current in
-    p good fits ∙ sym (cut-told table first last out good fits)
+    p good fits ∙ sym (cut_told_lem table first last out good fits)
 
 -- ── putting in ──
 
@@ -108,25 +108,25 @@ joining at bytes d h =
 
 not_joining : (at : ℕ) (bytes : List ℕ) (d : Description) → is_joining at bytes d ≡ false → Joins at bytes d → ⊥
 not_joining at bytes d h j =
-    let q = sym (only-fields at bytes d j) in
+    let q = sym (only_fields at bytes d j) in
     let s = subst (λ (fs : List (Field ℕ)). records (number_at bytes) 0 fs ≡ bytes) q (same_bytes at bytes d j) in
     let w = subst (λ (fs : List (Field ℕ)). Within (put at fs d)) q j.within in
-    not-both (is_joining at bytes d)
+    not_both (is_joining at bytes d)
     (and_both _ _ (ap (λ (l : List ℕ). same l bytes) s ∙ same_self bytes) (inside_in current _ w)) h
 
 abbrev pub records_told : ℕ → List ℕ → Description → List ℕ → Outcome
 records_told at bytes d out =
     cond (is_joining at bytes d) (delivered (stored (put at (fields_in bytes) d)) out) (leaves (refused 34 0) out)
 
-records-told : (at : ℕ) (bytes : List ℕ) (d : Description) (out : List ℕ) (joins : Dec (Joins at bytes d))
+records_told_lem : (at : ℕ) (bytes : List ℕ) (d : Description) (out : List ℕ) (joins : Dec (Joins at bytes d))
     → records_told at bytes d out ≡ by_records joins out
-records-told at bytes d out joins = go (is_joining at bytes d) refl joins
+records_told_lem at bytes d out joins = go (is_joining at bytes d) refl joins
   where
     go : (b : Bool) → is_joining at bytes d ≡ b → (joins : Dec (Joins at bytes d))
         → cond b (delivered (stored (put at (fields_in bytes) d)) out) (leaves (refused 34 0) out)
         ≡ by_records joins out
     go true h (yes j) =
-        ap (λ (fs : List (Field ℕ)). delivered (stored (put at fs d)) out) (only-fields at bytes d j)
+        ap (λ (fs : List (Field ℕ)). delivered (stored (put at fs d)) out) (only_fields at bytes d j)
     go true h (no none_do) = absurd (none_do (joining at bytes d h))
     go false h (yes j) = absurd (not_joining at bytes d h j)
     go false h (no none_do) = refl
@@ -143,11 +143,11 @@ pub by_put : (at : ℕ) (bytes out : List ℕ) (d : Description) (joins : Dec (J
 unfolding put_outcome
 by_put at bytes out d joins =
     ap (λ (o : Outcome). cond (is_empty bytes || ltb (length d.fields) at) (leaves (refused 30 0) out) o)
-    (records-told at bytes d out joins)
+    (records_told_lem at bytes d out joins)
 
-pub put-told : (table : List ℕ) (at : ℕ) (bytes out : List ℕ) → PutsFields table at bytes out
+pub put_told_lem : (table : List ℕ) (at : ℕ) (bytes out : List ℕ) → PutsFields table at bytes out
     (put_in table at bytes out)
-put-told table at bytes out good joins =
+put_told_lem table at bytes out good joins =
     edited_told table (λ d. put_told at bytes d out) (λ d. put_outcome at bytes d (joins d) out) out
     (λ d. by_put at bytes out d (joins d)) good
 
@@ -156,4 +156,4 @@ pub put_only : (table : List ℕ) (at : ℕ) (bytes out : List ℕ) (o : Outcome
 put_only table at bytes out o p =
     let good = good_decidable table in
     let joins = joins_decidable at bytes in
-    p good joins ∙ sym (put-told table at bytes out good joins)
+    p good joins ∙ sym (put_told_lem table at bytes out good joins)

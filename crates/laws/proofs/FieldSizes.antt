@@ -24,35 +24,35 @@ use Rattle.rules.specs.Stored.{
   stored_field,
   stored_field_in,
 }
-use Rattle.laws.proofs.PlacesOfNumbers.{length-le2}
-use Rattle.laws.proofs.ReadsTrees.{small_bounds, length-stored}
-use Rattle.laws.proofs.ReadsFields.{label-length, short-length, formed-parts}
+use Rattle.laws.proofs.PlacesOfNumbers.{length_le2}
+use Rattle.laws.proofs.ReadsTrees.{small_bounds, length_stored}
+use Rattle.laws.proofs.ReadsFields.{label_length, short_length, formed_parts}
 
-pub length-counted : (l : List ℕ) → length (counted l) ≡ 2 + length l
-length-counted l = omega (arith, length-append (le2 (length l)) l, length-le2 (length l))
+pub length_counted : (l : List ℕ) → length (counted l) ≡ 2 + length l
+length_counted l = omega (arith, length-append (le2 (length l)) l, length_le2 (length l))
 
-pub small-length : (t : Tree ℕ) → is_small t ≡ true → length (stored_expression t) ≤ stored_most
-small-length t h = omega (arith, (small_bounds t h).1, length-stored (λ i. i) (λ i. 0) t)
+pub small_length : (t : Tree ℕ) → is_small t ≡ true → length (stored_expression t) ≤ stored_most
+small_length t h = omega (arith, (small_bounds t h).1, length_stored (λ i. i) (λ i. 0) t)
 
 maybe_size : (o : Option (Tree ℕ)) → all is_small (list_of o) ≡ true → length (stored_maybe o) ≤ stored_most
 maybe_size none h = omega arith
-maybe_size (some t) h = small-length t (all_one is_small t h)
+maybe_size (some t) h = small_length t (all_one is_small t h)
 
-name-size : (o : Option (List ℕ)) → if_any is_short o ≡ true → length (stored_name o) ≤ short_most
-name-size none h = omega arith
-name-size (some w) h = short-length w h
+name_size : (o : Option (List ℕ)) → if_any is_short o ≡ true → length (stored_name o) ≤ short_most
+name_size none h = omega arith
+name_size (some w) h = short_length w h
 
-width-size : (w : Width ℕ) → all is_small (width_trees w) ≡ true → length (stored_width w) ≤ 4 + stored_most
-width-size (fixed n) h = omega (arith, length-le2 n)
-width-size (measured u t) h =
+width_size_lem : (w : Width ℕ) → all is_small (width_trees w) ≡ true → length (stored_width w) ≤ 4 + stored_most
+width_size_lem (fixed n) h = omega (arith, length_le2 n)
+width_size_lem (measured u t) h =
     omega (
       arith,
       length-append (le2 u) (counted (stored_expression t)),
-      length-le2 u,
-      length-counted (stored_expression t),
-      small-length t (all_one is_small t h),
+      length_le2 u,
+      length_counted (stored_expression t),
+      small_length t (all_one is_small t h),
     )
-width-size rest h = omega arith
+width_size_lem rest h = omega arith
 
 -- the parts of a field fit their limits
 pub record Sizes (f : Field ℕ) : Type 0 where
@@ -62,25 +62,25 @@ pub record Sizes (f : Field ℕ) : Type 0 where
   pub constraint : length (stored_maybe f.constraint) ≤ stored_most
   pub condition : length (stored_maybe f.condition) ≤ stored_most
 
-pub field-sizes : (f : Field ℕ) → is_formed f ≡ true → all is_small (trees f) ≡ true → Sizes f
-field-sizes f formed small =
+pub field_sizes : (f : Field ℕ) → is_formed f ≡ true → all is_small (trees f) ≡ true → Sizes f
+field_sizes f formed small =
     let c = list_of f.constraint in
     let k = list_of f.condition in
-    let e = formed-parts f formed in
+    let e = formed_parts f formed in
     let size = all_append is_small (width_trees f.width) (c ++ k) small in
     let sizes = all_append is_small c k size.1 in
     record {
-      label = label-length f.label e.0;
-      short = name-size f.short e.1;
-      width = width-size f.width size.0;
+      label = label_length f.label e.0;
+      short = name_size f.short e.1;
+      width = width_size_lem f.width size.0;
       constraint = maybe_size f.constraint sizes.0;
       condition = maybe_size f.condition sizes.1;
     }
 
 -- with a length, a kind and a number in front of it
-pub body-size : (f : Field ℕ) → Sizes f → 6 + length (field_body f) ≤ 18 + label_most + short_most + 3 * stored_most
+pub body_size : (f : Field ℕ) → Sizes f → 6 + length (field_body f) ≤ 18 + label_most + short_most + 3 * stored_most
 unfolding field_body
-body-size f z =
+body_size f z =
     let l = counted f.label in
     let n = counted (stored_name f.short) in
     let w = stored_width f.width in
@@ -92,10 +92,10 @@ body-size f z =
       length-append n (w ++ (c ++ k)),
       length-append w (c ++ k),
       length-append c k,
-      length-counted f.label,
-      length-counted (stored_name f.short),
-      length-counted (stored_maybe f.constraint),
-      length-counted (stored_maybe f.condition),
+      length_counted f.label,
+      length_counted (stored_name f.short),
+      length_counted (stored_maybe f.constraint),
+      length_counted (stored_maybe f.condition),
       z.label,
       z.short,
       z.width,
@@ -112,7 +112,7 @@ record_size n f =
       length-append (le2 (4 + length body)) (le2 (kind_number f.width) ++ body),
       length-append (le2 (kind_number f.width)) body,
       length-append (le2 n) (field_body f),
-      length-le2 (4 + length body),
-      length-le2 (kind_number f.width),
-      length-le2 n,
+      length_le2 (4 + length body),
+      length_le2 (kind_number f.width),
+      length_le2 n,
     )

@@ -8,7 +8,7 @@ use native.Mathlib.Omega.{arith}
 use native.Mathlib.Decide.{dec_lt}
 use lib.ListN.{length, get_elem?}
 use Rattle.base.specs.Lists.{any, same, if_any, list_of, first_break}
-use Rattle.base.proofs.Lists.{or_left, or_right, not-both, any_found, any_mem, same_true, same_self}
+use Rattle.base.proofs.Lists.{or_left, or_right, not_both, any_found, any_mem, same_true, same_self}
 use Rattle.base.proofs.Breaks.{or_true}
 use Rattle.base.proofs.Lookups.{test_eq, kept_at, element_below, element_parts, element_any}
 use Rattle.rules.specs.Names.{is_short}
@@ -31,8 +31,8 @@ module _ {N : Type 0} where
       labelled e k = let is = same_true w f.label k in by_label (sym is) (rw is e)
 
       behind : (b : Bool) → is_short f.label ≡ b → any (same w) (cond b (f.label ∷ []) []) ≡ true → P
-      behind true t k = or_true (same w f.label) false (labelled t) (λ z. absurd (not-both false z refl)) k
-      behind false t k = absurd (not-both false k refl)
+      behind true t k = or_true (same w f.label) false (labelled t) (λ z. absurd (not_both false z refl)) k
+      behind false t k = absurd (not_both false k refl)
 
       go : (o : Option (List ℕ)) → f.short ≡ o
           → any (same w) (list_of o ++ cond (is_short f.label) (f.label ∷ []) []) ≡ true → P
@@ -53,9 +53,9 @@ module _ {N : Type 0} where
   read_short f w p h = read_cases f w h (λ e. rw e at p) (λ e k. k)
 
   -- fields that share a name clash
-  pub shared-clash : (f g : Field N) (w : List ℕ) → any (same w) (field_names f) ≡ true
+  pub shared_clash : (f g : Field N) (w : List ℕ) → any (same w) (field_names f) ≡ true
       → any (same w) (field_names g) ≡ true → clash f g ≡ true
-  shared-clash f g w p q =
+  shared_clash f g w p q =
       let s = any_found (same w) (field_names f) p in
       let is : w ≡ s.0 = same_true w s.0 s.2 in
       any_mem (λ a. any (same a) (field_names g)) (rw is at q) s.1
@@ -67,7 +67,7 @@ module _ {N : Type 0} where
       turned : (f g : Field N) → clash f g ≡ true → clash g f ≡ true
       turned f g h =
           let s = any_found (λ a. any (same a) (field_names g)) (field_names f) h in
-          shared-clash g f s.0 s.2 (any_mem (same s.0) (same_self s.0) s.1)
+          shared_clash g f s.0 s.2 (any_mem (same s.0) (same_self s.0) s.1)
 
 -- ── the field of a name ──
 
@@ -90,8 +90,8 @@ module _ {N : Type 0} (fields : List (Field N)) (kept : first_break keeps_names 
       let e : get_elem? s.0 i ≡ some x =
       sym (element_below s.0 (y ∷ s.1) i below) ∙ (rw s.2 at p.1) in
       let a : any (clash y) s.0 ≡ true =
-      element_any (clash y) s.0 i x e (shared-clash y x w q.2 p.2) in
-      not-both (not (any (clash y) s.0)) k (rw a)
+      element_any (clash y) s.0 i x e (shared_clash y x w q.2 p.2) in
+      not_both (not (any (clash y) s.0)) k (rw a)
 
   pub bearer_unique : (i j : ℕ) (w : List ℕ) → BearsIn fields i w → BearsIn fields j w → i ≡ j
   bearer_unique i j w p q = go (dec_lt i j) (dec_lt j i)
@@ -126,7 +126,7 @@ first_bearer s (f ∷ fs) k i b = go (any (same s) (field_names f)) refl i b (fi
     go true e i b rec = (0, (f, refl, e), ap accepted (omega arith))
     go false e zero b rec =
         let is : f ≡ b.0 = some-injective f b.0 b.1 in
-        absurd (not-both (any (same s) (field_names f)) (rw is b.2) e)
+        absurd (not_both (any (same s) (field_names f)) (rw is b.2) e)
     go false e (suc i) b rec =
         let r = rec i b in
         let n : suc k + r.0 ≡ k + suc r.0 = omega arith in

@@ -17,9 +17,9 @@ use Rattle.rules.specs.Stored.{record_of, kind_in, field_body, head_body, stored
 use Rattle.rules.specs.Stored.{stored_with, stored_in, GoodIn, Good}
 use Rattle.rules.specs.Results.{WrongNumberRefused, OldRefused}
 use Rattle.laws.proofs.Readers.{and_then, read_two, read_counted, described_in}
-use Rattle.laws.proofs.ReadsNumbers.{read_two_le2, skip-le2, read_counted_counted}
-use Rattle.laws.proofs.ReadsFields.{label-length, kind_bound}
-use Rattle.laws.proofs.Unique.{row_bound, count_bound, described_with, described-stored}
+use Rattle.laws.proofs.ReadsNumbers.{read_two_le2, skip_le2, read_counted_counted}
+use Rattle.laws.proofs.ReadsFields.{label_length, kind_bound}
+use Rattle.laws.proofs.Unique.{row_bound, count_bound, described_with, described_stored}
 use Rattle.laws.proofs.Counting.{readers_fit}
 
 -- ── what two bytes say ──
@@ -40,9 +40,9 @@ le2_mod n =
     less_mod : (k : ℕ) → k < 256 → k % 256 ≡ k
     less_mod k lt = omega arith
 
-pub le2-same : (n m : ℕ) → le2 n ≡ le2 m → n % 65536 ≡ m % 65536
+pub le2_same : (n m : ℕ) → le2 n ≡ le2 m → n % 65536 ≡ m % 65536
 unfolding le2
-le2-same n m h =
+le2_same n m h =
     let a : n % 256 ≡ m % 256 = ap (λ (l : List ℕ). get_or l 0 0) h in
     let b : n / 256 % 256 ≡ m / 256 % 256 = ap (λ (l : List ℕ). get_or l 1 0) h in
     omega (arith, a, b, two_digits n, two_digits m)
@@ -65,24 +65,24 @@ pub record_number : (n m : ℕ) (f : Field ℕ) → stored_field n f ≡ stored_
 unfolding stored_field_in le2
 record_number n m f h = ap (λ (l : List ℕ). take 2 (drop 4 l)) h
 
-pub numbers-same : (a b : ℕ → ℕ) (k : ℕ) (fs : List (Field ℕ)) (r s : List ℕ)
+pub numbers_same : (a b : ℕ → ℕ) (k : ℕ) (fs : List (Field ℕ)) (r s : List ℕ)
     → records a k fs ++ r ≡ records b k fs ++ s → (j : ℕ) → j < length fs → le2 (a (k + j)) ≡ le2 (b (k + j))
 unfolding records_in
-numbers-same a b k [] r s h j lt = absurd (omega arith)
-numbers-same a b k (f ∷ fs) r s h zero lt =
+numbers_same a b k [] r s h j lt = absurd (omega arith)
+numbers_same a b k (f ∷ fs) r s h zero lt =
     let x = stored_field (a k) f in
     let y = stored_field (b k) f in
     let e = front_same x y (records a (suc k) fs ++ r) (records b (suc k) fs ++ s) (record_length (a k) (b k) f)
     (sym (append_assoc x (records a (suc k) fs) r) ∙ h ∙ append_assoc y (records b (suc k) fs) s) in
     let z : k + 0 ≡ k = omega arith in
     rw z (record_number (a k) (b k) f e.0)
-numbers-same a b k (f ∷ fs) r s h (suc j) lt =
+numbers_same a b k (f ∷ fs) r s h (suc j) lt =
     let x = stored_field (a k) f in
     let y = stored_field (b k) f in
     let e = front_same x y (records a (suc k) fs ++ r) (records b (suc k) fs ++ s) (record_length (a k) (b k) f)
     (sym (append_assoc x (records a (suc k) fs) r) ∙ h ∙ append_assoc y (records b (suc k) fs) s) in
     let z : k + suc j ≡ suc k + j = omega arith in
-    rw z (numbers-same a b (suc k) fs r s e.1 j (omega arith))
+    rw z (numbers_same a b (suc k) fs r s e.1 j (omega arith))
 
 -- and equal numbers make equal records
 pub records_by : (a b : ℕ → ℕ) (k : ℕ) (fs : List (Field ℕ))
@@ -98,26 +98,26 @@ records_by a b k (f ∷ fs) h =
     (records_by a b (suc k) fs (λ j lt.
     let m : k + suc j ≡ suc k + j = omega arith in rw m at (h (suc j) (omega arith))))
 
-wrong-number_bad : (d : Description) → Within d → (numbers : ℕ → ℕ) (i : ℕ) → i < length d.fields
+wrong_number_bad : (d : Description) → Within d → (numbers : ℕ → ℕ) (i : ℕ) → i < length d.fields
     → (numbers i % 65536 ≡ readers d.fields i → ⊥) → Good (stored_with current numbers d) → ⊥
 unfolding stored_in stored_with
-wrong-number_bad d w numbers i lt ne g =
+wrong_number_bad d w numbers i lt ne g =
     let one : g.description ≡ d =
-    sym (described-stored current g.description g.within) ∙ ap (described_in current) g.is_stored
+    sym (described_stored current g.description g.within) ∙ ap (described_in current) g.is_stored
     ∙ described_with current numbers d w in
     let same : stored_in current d ≡ stored_with current numbers d =
     subst (λ (c : Description). stored_in current c ≡ stored_with current numbers d) one g.is_stored in
     let head = record_of 1 (head_body d) in
     let e = front_same head head _ _ refl same in
-    let n = numbers-same (readers d.fields) numbers 0 d.fields _ _ e.1 i lt in
+    let n = numbers_same (readers d.fields) numbers 0 d.fields _ _ e.1 i lt in
     let n' : le2 (readers d.fields i) ≡ le2 (numbers i) = rw zero-add at n in
-    let m = le2-same (readers d.fields i) (numbers i) n' in
+    let m = le2_same (readers d.fields i) (numbers i) n' in
     let fit = readers_fit d w i in
     ne (omega (arith, m, fit))
 
-pub wrong-number-refused : WrongNumberRefused
-wrong-number-refused d w numbers i lt ne =
-    let bad = wrong-number_bad d w numbers i lt ne in (bad, λ a p. p (no bad))
+pub wrong_number_refused : WrongNumberRefused
+wrong_number_refused d w numbers i lt ne =
+    let bad = wrong_number_bad d w numbers i lt ne in (bad, λ a p. p (no bad))
 
 -- ── the kind of the first field's record ──
 
@@ -135,16 +135,16 @@ first_kind_lem : (e : Edition) (name : List ℕ) (row : ℕ) (l : List (Field �
 unfolding first_kind stored_in stored_with records_in stored_field_in head_body
 first_kind_lem e name row [] w = absurd (omega (arith, between_true 1 0 e.fields w.count))
 first_kind_lem e name row (f ∷ fs) w =
-    let short : length name < 65536 = omega (arith, label-length name w.name) in (
+    let short : length name < 65536 = omega (arith, label_length name w.name) in (
       f.width,
       simp (
         append_assoc,
-        skip-le2,
+        skip_le2,
         read_two_le2 row (row_bound row w.row),
         read_two_le2 (suc (length fs)) (count_bound e (suc (length fs)) w.count),
         read_counted_counted name short,
       ) (ap (λ (p : ℕ × List ℕ). p.0)
-          (ap read_two (skip-le2 _ _) ∙ read_two_le2 (kind_in e f.width) (kind_bound e f.width) _)),
+          (ap read_two (skip_le2 _ _) ∙ read_two_le2 (kind_in e f.width) (kind_bound e f.width) _)),
     )
 
 new_kind : (w : Width ℕ) → 12 ≤ kind_in current w
@@ -152,20 +152,20 @@ new_kind (fixed n) = omega arith
 new_kind (measured u t) = omega arith
 new_kind rest = omega arith
 
-kind-most : (e : Edition) (w : Width ℕ) → kind_in e w ≤ e.fixed_kind + 2
-kind-most e (fixed n) = omega arith
-kind-most e (measured u t) = omega arith
-kind-most e rest = omega arith
+kind_most : (e : Edition) (w : Width ℕ) → kind_in e w ≤ e.fixed_kind + 2
+kind_most e (fixed n) = omega arith
+kind_most e (measured u t) = omega arith
+kind_most e rest = omega arith
 
-not-both-good : (e : Edition) → e.fixed_kind ≡ 2 → (table : List ℕ) → GoodIn e table → Good table → ⊥
-not-both-good edition two table old good =
+not_both_good : (e : Edition) → e.fixed_kind ≡ 2 → (table : List ℕ) → GoodIn e table → Good table → ⊥
+not_both_good edition two table old good =
     let c = old.description in
     let d = good.description in
     let a = first_kind_lem edition c.name c.row_width c.fields old.within in
     let b = first_kind_lem current d.name d.row_width d.fields good.within in
     let e : kind_in edition a.0 ≡ kind_in current b.0 =
     sym a.1 ∙ ap first_kind (old.is_stored ∙ sym good.is_stored) ∙ b.1 in
-    omega (arith, e, two, kind-most edition a.0, new_kind b.0)
+    omega (arith, e, two, kind_most edition a.0, new_kind b.0)
 
-pub old-refused : OldRefused
-old-refused e two table old = let bad = not-both-good e two table old in (bad, λ a p. p (no bad))
+pub old_refused : OldRefused
+old_refused e two table old = let bad = not_both_good e two table old in (bad, λ a p. p (no bad))

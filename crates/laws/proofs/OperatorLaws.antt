@@ -6,8 +6,8 @@ use mathlib.Core.Option.{Option, none, some}
 use Prim.Native.Nat.{ℕ, ◌+◌, ◌≤◌}
 use Rattle.base.specs.Lists.{all, list_of, first_break, sum}
 use Rattle.base.proofs.Lists.{and_left, and_right, and_both, all_of, all_weaken}
-use Rattle.base.proofs.Breaks.{all_one, all_append, first_break-cons, keeps_weaker}
-use Rattle.base.proofs.Lookups.{none-breaks}
+use Rattle.base.proofs.Breaks.{all_one, all_append, first_break_cons, keeps_weaker}
+use Rattle.base.proofs.Lookups.{none_breaks}
 use Rattle.rules.specs.declared.Op.{Op}
 use Rattle.rules.specs.Editions.{Edition, current}
 use Rattle.rules.specs.Trees.{Tree, num, read, two, negation, has_operators}
@@ -62,11 +62,11 @@ tree_known (two o a b) =
     and_both (has_operators current.knows a) (has_operators current.knows b) (tree_known a) (tree_known b)
 tree_known (negation a) = tree_known a
 
-pub knows-all : {N : Type 0} (f : Field N) → knows_all_in current f ≡ true
-knows-all f = all_of (has_operators current.knows) (trees f) (λ t m. tree_known t)
+pub knows_all : {N : Type 0} (f : Field N) → knows_all_in current f ≡ true
+knows_all f = all_of (has_operators current.knows) (trees f) (λ t m. tree_known t)
 
 pub keeps_known : {N : Type 0} (before l : List (Field N)) → first_break (keeps_operators_in current) before l ≡ none
-keeps_known before l = none-breaks (keeps_operators_in current) before l (λ b i f g. knows-all f)
+keeps_known before l = none_breaks (keeps_operators_in current) before l (λ b i f g. knows_all f)
 
 -- ── what one edition knows, another one knows, and means the same by it ──
 
@@ -77,8 +77,8 @@ pub record Widens (a b : Edition) : Type 0 where
   pub means : (o : Op) → a.knows o ≡ true → (x y : ℕ) → a.means o x y ≡ b.means o x y
 
 module _ (a b : Edition) (w : Widens a b) where
-  pub operators-more : {N : Type 0} (l : List (Field N)) → Keeps (keeps_operators_in a) l → Keeps (keeps_operators_in b) l
-  operators-more l h =
+  pub operators_more : {N : Type 0} (l : List (Field N)) → Keeps (keeps_operators_in a) l → Keeps (keeps_operators_in b) l
+  operators_more l h =
       keeps_weaker (keeps_operators_in a) (keeps_operators_in b) (λ before f k. field_known a b w.knows f k) [] l h
 
   evaluate_like : {N : Type 0} (env : N → Value) (t : Tree N) → has_operators a.knows t ≡ true
@@ -149,7 +149,7 @@ module _ (a b : Edition) (w : Widens a b) where
   unfolding read_fields_in
   fields_like packet [] before h entries place = refl
   fields_like packet (f ∷ l) before h entries place =
-      let k = first_break-cons (keeps_operators_in a) before f l h in
+      let k = first_break_cons (keeps_operators_in a) before f l h in
       rw (field_like packet entries place (sum fixed_bits l) f k.0)
       (on (read_field_in b packet entries place (sum fixed_bits l) f)
       (fields_like packet l (before ++ (f ∷ [])) k.1))

@@ -6,7 +6,7 @@ use Prim.Native.Nat.{ℕ, zero, suc, ◌+◌, ◌≤◌, ◌<◌}
 use native.Mathlib.Omega.{arith}
 use lib.ListN.{length, length-append, take, drop, take-append-drop}
 use Rattle.base.specs.Lists.{all}
-use Rattle.base.proofs.Lists.{all-front, all_back, between_true}
+use Rattle.base.proofs.Lists.{all_front, all_back, between_true}
 use Rattle.rules.specs.Limits.{fields_most}
 use Rattle.rules.specs.Trees.{le2}
 use Rattle.rules.specs.Editions.{Edition, current}
@@ -17,14 +17,14 @@ use Rattle.rules.specs.Stored.{counted, record_of, records, records_in, stored_f
 use Rattle.rules.specs.Promises.{Joins}
 use Rattle.laws.specs.Records.{whole}
 use Rattle.laws.proofs.Readers.{read_field, read_fields, described_in}
-use Rattle.laws.proofs.ReadsNumbers.{read_two_le2, skip-le2, read_counted_counted}
-use Rattle.laws.proofs.ReadsFields.{label-length}
+use Rattle.laws.proofs.ReadsNumbers.{read_two_le2, skip_le2, read_counted_counted}
+use Rattle.laws.proofs.ReadsFields.{label_length}
 use Rattle.laws.proofs.Unique.{row_bound, described_with}
 use Rattle.laws.proofs.Numbers.{front_same}
 use Rattle.laws.proofs.FieldSizes.{record_size}
-use Rattle.laws.proofs.CutPut.{put-length}
-use Rattle.laws.proofs.RecordsJoined.{records_shift, records-both}
-use Rattle.laws.proofs.Whole.{is_sound, within_sound, sound_stays, begun, apart, whole-once, sound_whole}
+use Rattle.laws.proofs.CutPut.{put_length}
+use Rattle.laws.proofs.RecordsJoined.{records_shift, records_both}
+use Rattle.laws.proofs.Whole.{is_sound, within_sound, sound_stays, begun, apart, whole_once, sound_whole}
 
 -- ── records that join ──
 
@@ -34,27 +34,27 @@ module _ (at : ℕ) (bytes : List ℕ) (d : Description) where
   joins_sound j =
       let old = map (renumbered (opened at (length j.fields))) d.fields in
       let sound = within_sound [] (put at j.fields d).fields j.within.form j.within.size in
-      all-front is_sound j.fields (drop at old) (all_back is_sound (take at old) (j.fields ++ drop at old) sound)
+      all_front is_sound j.fields (drop at old) (all_back is_sound (take at old) (j.fields ++ drop at old) sound)
 
   -- bytes that are no whole records do not join
   pub joins_whole : (j : Joins at bytes d) → whole (length j.fields) bytes ≡ true
   joins_whole j =
       ap (whole (length j.fields)) (sym j.are_stored) ∙ sound_whole j.numbers 0 j.fields (joins_sound j)
 
-  pub whole-count : (k : ℕ) → whole k bytes ≡ true → (j : Joins at bytes d) → length j.fields ≡ k
-  whole-count k h j = whole-once (length j.fields) k bytes (joins_whole j) h
+  pub whole_count : (k : ℕ) → whole k bytes ≡ true → (j : Joins at bytes d) → length j.fields ≡ k
+  whole_count k h j = whole_once (length j.fields) k bytes (joins_whole j) h
 
   pub joins_few : (j : Joins at bytes d) → length d.fields + length j.fields ≤ fields_most
   joins_few j =
       let few = (between_true 1 (length (put at j.fields d).fields) fields_most j.within.count).1 in
-      omega (arith, put-length at j.fields d, few)
+      omega (arith, put_length at j.fields d, few)
 
 -- ── records between known ones ──
 
-no-records : (numbers : ℕ → ℕ) (k : ℕ) (l : List (Field ℕ)) → records numbers k l ≡ [] → l ≡ []
+no_records : (numbers : ℕ → ℕ) (k : ℕ) (l : List (Field ℕ)) → records numbers k l ≡ [] → l ≡ []
 unfolding records_in
-no-records numbers k [] h = refl
-no-records numbers k (f ∷ l) h =
+no_records numbers k [] h = refl
+no_records numbers k (f ∷ l) h =
     absurd
     (omega (
       arith,
@@ -64,12 +64,12 @@ no-records numbers k (f ∷ l) h =
     ))
 
 -- equal records are those of equal fields, whatever their numbers are
-fields-same : (N M : ℕ → ℕ) (j k : ℕ) (xs es : List (Field ℕ)) → all is_sound xs ≡ true → all is_sound es ≡ true
+fields_same : (N M : ℕ → ℕ) (j k : ℕ) (xs es : List (Field ℕ)) → all is_sound xs ≡ true → all is_sound es ≡ true
     → records M k es ≡ records N j xs → es ≡ xs
-fields-same N M j k xs es p q h =
+fields_same N M j k xs es p q h =
     let b = begun N M j k xs es [] p q (h ∙ sym (append-nil (records N j xs))) in
     b.parts
-    ∙ ap (λ (l : List (Field ℕ)). xs ++ l) (no-records M (k + length xs) b.more b.back)
+    ∙ ap (λ (l : List (Field ℕ)). xs ++ l) (no_records M (k + length xs) b.more b.back)
     ∙ append-nil xs
 
 sound_more : (es xs more : List (Field ℕ)) → es ≡ xs ++ more → all is_sound es ≡ true → all is_sound more ≡ true
@@ -92,7 +92,7 @@ between N M j k bytes xs ys es h p q sound same =
     let sound₁ = sound_more es xs b.more b.parts sound in
     let c = apart k bytes (records N j ys) M m b.more h sound₁ b.back in
     let sound₂ = sound_more b.more c.front c.more c.parts sound₁ in
-    let last = fields-same N M j (m + length c.front) ys c.more q sound₂ c.back in
+    let last = fields_same N M j (m + length c.front) ys c.more q sound₂ c.back in
     record {
       new = c.front;
       kept = λ i. M (m + i);
@@ -107,8 +107,8 @@ between N M j k bytes xs ys es h p q sound same =
 abbrev head_of : ℕ → ℕ → List ℕ → List ℕ
 head_of row n name = record_of 1 (le2 row ++ (le2 n ++ counted name))
 
-head-same : (a b m n : ℕ) (v w : List ℕ) → a ≡ b → m ≡ n → v ≡ w → head_of a m v ≡ head_of b n w
-head-same a b m n v w p q r = rw (p, q, r)
+head_same : (a b m n : ℕ) (v w : List ℕ) → a ≡ b → m ≡ n → v ≡ w → head_of a m v ≡ head_of b n w
+head_same a b m n v w p q r = rw (p, q, r)
 
 abbrev made : List ℕ → ℕ → List (Field ℕ) → Description
 made name row fs = record { name = name; row_width = row; fields = fs }
@@ -126,9 +126,9 @@ module _ (at k : ℕ) (d : Description) where
   abbrev pub moved : List (Field ℕ)
   moved = map (renumbered (opened at k)) d.fields
 
-  put-moved : (new : List (Field ℕ)) → length new ≡ k → put at new d ≡ with_fields d (inserted at new moved)
+  put_moved : (new : List (Field ℕ)) → length new ≡ k → put at new d ≡ with_fields d (inserted at new moved)
   unfolding put
-  put-moved new size =
+  put_moved new size =
       ap (λ (n : ℕ). with_fields d (inserted at new (map (renumbered (opened at n)) d.fields))) size
 
   sound_moved : Within d → (all is_sound (take at moved) ≡ true) × (all is_sound (drop at moved) ≡ true)
@@ -136,7 +136,7 @@ module _ (at k : ℕ) (d : Description) where
       let sound : all is_sound (take at moved ++ drop at moved) ≡ true =
       rw (take-append-drop at moved)
       (sound_stays (opened at k) d.fields (within_sound [] d.fields w.form w.size)) in
-      (all-front is_sound (take at moved) (drop at moved) sound, all_back is_sound (take at moved) (drop at moved) sound)
+      (all_front is_sound (take at moved) (drop at moved) sound, all_back is_sound (take at moved) (drop at moved) sound)
 
 module _ (at k : ℕ) (numbers : ℕ → ℕ) (bytes : List ℕ) (d : Description) where
   abbrev xs : List (Field ℕ)
@@ -161,16 +161,16 @@ module _ (at k : ℕ) (numbers : ℕ → ℕ) (bytes : List ℕ) (d : Descriptio
   unfolding stored_with head_body
   joins_candidate j size =
       let new = j.fields in
-      let back = records-both j.numbers numbers 0 at new ys in
-      let both = records-both numbers back.0 0 0 xs (new ++ ys) in
+      let back = records_both j.numbers numbers 0 at new ys in
+      let both = records_both numbers back.0 0 0 xs (new ++ ys) in
       let filled = inserted at new (moved at k d) in
-      let same = put-moved at k d new size in
+      let same = put_moved at k d new size in
       let bytes_of : middle ≡ records both.0 0 filled =
       ap (λ (l : List ℕ). records numbers 0 xs ++ (l ++ records numbers at ys)) (sym j.are_stored)
       ∙ ap (λ (l : List ℕ). records numbers 0 xs ++ l) back.1
       ∙ both.1 in
       let count : length d.fields + k ≡ length filled =
-      omega (arith, size, put-length at new d, ap (λ (x : Description). length x.fields) same) in (
+      omega (arith, size, put_length at new d, ap (λ (x : Description). length x.fields) same) in (
         both.0,
         ap (λ (n : ℕ). head_of d.row_width n d.name ++ (middle ++ record_of 5 [])) count
             ∙ ap (λ (l : List ℕ). head_of d.row_width (length filled) d.name ++ (l ++ record_of 5 [])) bytes_of
@@ -184,10 +184,10 @@ module _ (at k : ℕ) (numbers : ℕ → ℕ) (bytes : List ℕ) (d : Descriptio
       ≡ made d.name d.row_width (read_fields current (length d.fields + k) (middle ++ record_of 5 [])).0
   unfolding described_in
   candidate_described w few =
-      let name : length d.name < 65536 = omega (arith, label-length d.name w.name) in
+      let name : length d.name < 65536 = omega (arith, label_length d.name w.name) in
       simp (
         append_assoc,
-        skip-le2,
+        skip_le2,
         read_two_le2 d.row_width (row_bound d.row_width w.row),
         read_two_le2 (length d.fields + k) few,
         read_counted_counted d.name name,
@@ -200,15 +200,15 @@ module _ (at k : ℕ) (numbers : ℕ → ℕ) (bytes : List ℕ) (d : Descriptio
       let same : c ≡ put at b.new d =
       described_as c.name d.name c.row_width d.row_width c.fields (xs ++ (b.new ++ ys)) name row
       b.parts
-      ∙ sym (put-moved at k d b.new b.count) in
+      ∙ sym (put_moved at k d b.new b.count) in
       (record { fields = b.new; numbers = b.kept; are_stored = b.are_stored; within = subst Within same v }, sym same)
 
   -- a description with the candidate's bytes is that with the fields of the records, which join
-  pub put-judged : Within d → length d.fields + k < 65536 → whole k bytes ≡ true
+  pub put_judged : Within d → length d.fields + k < 65536 → whole k bytes ≡ true
       → (M : ℕ → ℕ) (c : Description) → Within c → stored_with current M c ≡ candidate
       → (j : Joins at bytes d) × (put at j.fields d ≡ c)
   unfolding stored_with head_body
-  put-judged w few h M c v is =
+  put_judged w few h M c v is =
       let n = length d.fields + k in
       let last = record_of 5 [] in
       let same : c ≡ made d.name d.row_width (read_fields current n (middle ++ last)).0 =
@@ -217,7 +217,7 @@ module _ (at k : ℕ) (numbers : ℕ → ℕ) (bytes : List ℕ) (d : Descriptio
       let row : c.row_width ≡ d.row_width = ap (λ (x : Description). x.row_width) same in
       let count : length c.fields ≡ n =
       ap (λ (x : Description). length x.fields) same ∙ read_count current n (middle ++ last) in
-      let head = head-same c.row_width d.row_width (length c.fields) n c.name d.name row count name in
+      let head = head_same c.row_width d.row_width (length c.fields) n c.name d.name row count name in
       let ours = records M 0 c.fields in
       let ends : ours ++ last ≡ middle ++ last =
       (front_same (record_of 1 (head_body c)) (head_of d.row_width n d.name) _ _ (ap length head) is).1 in

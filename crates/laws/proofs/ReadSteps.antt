@@ -21,17 +21,17 @@ use Rattle.rules.specs.Reading.{
   reading,
 }
 use Rattle.rules.specs.EditResults.{width_of}
-use Rattle.laws.proofs.Readings.{accepted-fields}
-use Rattle.laws.proofs.Cover.{Placed, field-placed, fields-behind}
+use Rattle.laws.proofs.Readings.{accepted_fields}
+use Rattle.laws.proofs.Cover.{Placed, field_placed, fields_behind}
 
-pub width-append : (l m : List Entry) → width_of (l ++ m) ≡ width_of l + width_of m
+pub width_append : (l m : List Entry) → width_of (l ++ m) ≡ width_of l + width_of m
 unfolding sum
-width-append [] m = omega arith
-width-append (e ∷ l) m = omega (arith, width-append l m)
+width_append [] m = omega arith
+width_append (e ∷ l) m = omega (arith, width_append l m)
 
 pub width_one : (l : List Entry) (e : Entry) → width_of (l ++ (e ∷ [])) ≡ width_of l + e.width
 unfolding sum
-width_one l e = omega (arith, width-append l (e ∷ []))
+width_one l e = omega (arith, width_append l (e ∷ []))
 
 -- the next place is behind the entry
 next_place : (place : ℕ) (e : Entry) (next : ℕ) → Placed place (step e next) → next ≡ place + e.width
@@ -59,8 +59,8 @@ here packet before all f after h =
         → read_on before s (λ more next. read_fields packet more next after) ≡ complete all
         → ReadTo packet all (length before) (sum fixed_bits after) f
     go (step e next) r h =
-        let w = fields-behind packet (before ++ (e ∷ [])) all next after h in
-        let p = rw r at (field-placed packet before (width_of before) (sum fixed_bits after) f) in
+        let w = fields_behind packet (before ++ (e ∷ [])) all next after h in
+        let p = rw r at (field_placed packet before (width_of before) (sum fixed_bits after) f) in
         record {
           before = before;
           entry = e;
@@ -81,7 +81,7 @@ fields_read packet before all place [] f after p h =
     rw n (here packet before all f after (rw p at h))
 fields_read packet before all place (x ∷ fs) f after p h =
     go (read_field packet before place (sum fixed_bits (fs ++ (f ∷ after))) x)
-    (field-placed packet before place (sum fixed_bits (fs ++ (f ∷ after))) x) h
+    (field_placed packet before place (sum fixed_bits (fs ++ (f ∷ after))) x) h
     (λ more next. fields_read packet more all next fs f after)
   where
     go : (s : Step) → Placed place s
@@ -99,10 +99,10 @@ fields_read packet before all place (x ∷ fs) f after p h =
     go (stop y) q h ih = let z : ◌≡◌ {A = ℕ} 0 1 = cc in absurd (omega arith)
 
 -- a field behind others, and before others
-pub field-read : (d : Description) (packet : List ℕ) (entries : List Entry) (fs : List (Field ℕ)) (f : Field ℕ)
+pub field_read : (d : Description) (packet : List ℕ) (entries : List Entry) (fs : List (Field ℕ)) (f : Field ℕ)
     (after : List (Field ℕ)) → d.fields ≡ fs ++ (f ∷ after) → reading d packet ≡ complete entries
     → ReadTo packet entries (length fs) (sum fixed_bits after) f
 unfolding sum
-field-read d packet entries fs f after e h =
+field_read d packet entries fs f after e h =
     rw zero-add at
-    (fields_read packet [] entries 0 fs f after refl (rw e at (accepted-fields d packet entries h)))
+    (fields_read packet [] entries 0 fs f after refl (rw e at (accepted_fields d packet entries h)))

@@ -9,9 +9,9 @@ use lib.Dec.{ltb}
 use lib.ListN.{length, length-append, get_elem?}
 use borrow.Author.Tests.{ltb-true, lt-ltb}
 use Rattle.base.specs.Lists.{all, if_any, joined, list_of, first_break}
-use Rattle.base.proofs.Lists.{and_left, and_right, and_both, all_append, all-front, all_back, all_weaken}
-use Rattle.base.proofs.Breaks.{all_cons, all_one, first_break-cons}
-use Rattle.base.proofs.Joined.{joined-append, joined-one}
+use Rattle.base.proofs.Lists.{and_left, and_right, and_both, all_append, all_front, all_back, all_weaken}
+use Rattle.base.proofs.Breaks.{all_cons, all_one, first_break_cons}
+use Rattle.base.proofs.Joined.{joined_append, joined_one}
 use Rattle.rules.specs.declared.ValueType.{ValueType}
 use Rattle.rules.specs.declared.ValueType.TheVariants.{Number, YesNo}
 use Rattle.rules.specs.Operators.{takes, gives}
@@ -29,13 +29,13 @@ width_reads w = joined tree_reads (width_trees w)
 abbrev maybe_reads : Option (Tree ℕ) → List ℕ
 maybe_reads o = joined tree_reads (list_of o)
 
-reads-parts : (f : Field ℕ)
+reads_parts : (f : Field ℕ)
     → field_reads f ≡ width_reads f.width ++ (maybe_reads f.constraint ++ maybe_reads f.condition)
 unfolding field_reads
-reads-parts f =
-    joined-append tree_reads (width_trees f.width) (list_of f.constraint ++ list_of f.condition)
+reads_parts f =
+    joined_append tree_reads (width_trees f.width) (list_of f.constraint ++ list_of f.condition)
     ∙ ap (λ (l : List ℕ). width_reads f.width ++ l)
-    (joined-append tree_reads (list_of f.constraint) (list_of f.condition))
+    (joined_append tree_reads (list_of f.constraint) (list_of f.condition))
 
 -- ── a tree of a type reads what it may ──
 
@@ -55,13 +55,13 @@ module _ (may : ℕ → Bool) where
   width_may : (w : Width ℕ) → width_has_type may w ≡ true → all may (width_reads w) ≡ true
   unfolding all joined
   width_may (fixed n) h = refl
-  width_may (measured u t) h = rw (joined-one tree_reads t) (tree_may Number t h)
+  width_may (measured u t) h = rw (joined_one tree_reads t) (tree_may Number t h)
   width_may rest h = refl
 
   maybe_may : (o : Option (Tree ℕ)) → if_any (has_type may YesNo) o ≡ true → all may (maybe_reads o) ≡ true
   unfolding all joined
   maybe_may none h = refl
-  maybe_may (some t) h = rw (joined-one tree_reads t) (tree_may YesNo t h)
+  maybe_may (some t) h = rw (joined_one tree_reads t) (tree_may YesNo t h)
 
 -- ── what may be read is listed ──
 
@@ -94,7 +94,7 @@ module _ (m : ℕ) where
       let x = listed_below before most _ (width_may (index_readable before) f.width (and_left w (c && k) h)) in
       let y = listed_below own own_most _ (maybe_may (index_readable own) f.constraint (and_left c k e)) in
       let z = listed_below before most _ (maybe_may (index_readable before) f.condition (and_right c k e)) in
-      rw (reads-parts f)
+      rw (reads_parts f)
       (all_append below (width_reads f.width) (maybe_reads f.constraint ++ maybe_reads f.condition) x
       (all_append below (maybe_reads f.constraint) (maybe_reads f.condition) y z))
 
@@ -103,7 +103,7 @@ module _ (m : ℕ) where
   unfolding all
   fields_below before [] le h = refl
   fields_below before (f ∷ l) le h =
-      let e = first_break-cons (keeps_types index_readable) before f l h in
+      let e = first_break_cons (keeps_types index_readable) before f l h in
       let longer : length (before ++ (f ∷ [])) ≡ length before + 1 = length-append before (f ∷ []) in
       and_both (all below (field_reads f)) (all (λ x. all below (field_reads x)) l)
       (field_below before f (omega arith) e.0)
@@ -116,44 +116,44 @@ reads_below d w = fields_below (length d.fields) [] d.fields (omega arith) w.typ
 -- ── two numberings that are alike below m ──
 
 module _ (g h : ℕ → ℕ) (m : ℕ) (alike : (i : ℕ) → i < m → g i ≡ h i) where
-  tree-alike : (t : Tree ℕ) → all (below m) (tree_reads t) ≡ true → renumbered_tree g t ≡ renumbered_tree h t
+  tree_alike : (t : Tree ℕ) → all (below m) (tree_reads t) ≡ true → renumbered_tree g t ≡ renumbered_tree h t
   unfolding renumbered_tree tree_reads
-  tree-alike (num n) e = refl
-  tree-alike (read i) e = ap read (alike i (ltb-true i m (all_one (below m) i e)))
-  tree-alike (two o a b) e =
+  tree_alike (num n) e = refl
+  tree_alike (read i) e = ap read (alike i (ltb-true i m (all_one (below m) i e)))
+  tree_alike (two o a b) e =
       rw (
-        tree-alike a (all-front (below m) (tree_reads a) (tree_reads b) e),
-        tree-alike b (all_back (below m) (tree_reads a) (tree_reads b) e),
+        tree_alike a (all_front (below m) (tree_reads a) (tree_reads b) e),
+        tree_alike b (all_back (below m) (tree_reads a) (tree_reads b) e),
       )
-  tree-alike (negation a) e = rw (tree-alike a e)
+  tree_alike (negation a) e = rw (tree_alike a e)
 
   maybe_alike : (o : Option (Tree ℕ)) → all (below m) (maybe_reads o) ≡ true
       → renumbered_maybe g o ≡ renumbered_maybe h o
   maybe_alike none e = refl
-  maybe_alike (some t) e = ap some (tree-alike t (rw (← joined-one tree_reads t) e))
+  maybe_alike (some t) e = ap some (tree_alike t (rw (← joined_one tree_reads t) e))
 
-  width-alike : (w : Width ℕ) → all (below m) (width_reads w) ≡ true → renumbered_width g w ≡ renumbered_width h w
-  width-alike (fixed n) e = refl
-  width-alike (measured u t) e = ap (measured u) (tree-alike t (rw (← joined-one tree_reads t) e))
-  width-alike rest e = refl
+  width_alike : (w : Width ℕ) → all (below m) (width_reads w) ≡ true → renumbered_width g w ≡ renumbered_width h w
+  width_alike (fixed n) e = refl
+  width_alike (measured u t) e = ap (measured u) (tree_alike t (rw (← joined_one tree_reads t) e))
+  width_alike rest e = refl
 
-  pub renumbered-alike : (f : Field ℕ) → all (λ i. ltb i m) (field_reads f) ≡ true → renumbered g f ≡ renumbered h f
+  pub renumbered_alike : (f : Field ℕ) → all (λ i. ltb i m) (field_reads f) ≡ true → renumbered g f ≡ renumbered h f
   unfolding renumbered
-  renumbered-alike f e =
+  renumbered_alike f e =
       let w = width_reads f.width in
       let c = maybe_reads f.constraint in
       let k = maybe_reads f.condition in
-      let p : all (below m) (w ++ (c ++ k)) ≡ true = ap (all (below m)) (sym (reads-parts f)) ∙ e in
+      let p : all (below m) (w ++ (c ++ k)) ≡ true = ap (all (below m)) (sym (reads_parts f)) ∙ e in
       let q = all_back (below m) w (c ++ k) p in
       rw (
-        width-alike f.width (all-front (below m) w (c ++ k) p),
-        maybe_alike f.constraint (all-front (below m) c k q),
+        width_alike f.width (all_front (below m) w (c ++ k) p),
+        maybe_alike f.constraint (all_front (below m) c k q),
         maybe_alike f.condition (all_back (below m) c k q),
       )
 
-  pub fields-alike : (fs : List (Field ℕ)) → all (λ f. all (λ i. ltb i m) (field_reads f)) fs ≡ true
+  pub fields_alike : (fs : List (Field ℕ)) → all (λ f. all (λ i. ltb i m) (field_reads f)) fs ≡ true
       → map (renumbered g) fs ≡ map (renumbered h) fs
-  fields-alike [] e = refl
-  fields-alike (f ∷ fs) e =
+  fields_alike [] e = refl
+  fields_alike (f ∷ fs) e =
       let b = all_cons (λ x. all (below m) (field_reads x)) f fs e in
-      rw (renumbered-alike f b.0, fields-alike fs b.1)
+      rw (renumbered_alike f b.0, fields_alike fs b.1)

@@ -9,7 +9,7 @@ use lib.Dec.{leb, eqb}
 use lib.ListN.{length, drop}
 use borrow.Author.Tests.{leb-true, ltb-true, eqb-true, eq-eqb, ne_eqb}
 use Rattle.base.specs.Lists.{all, head_is, between, if_any, list_of, first_break}
-use Rattle.base.proofs.Breaks.{and_true, or_true, all_one, all_append, first_break-cons}
+use Rattle.base.proofs.Breaks.{and_true, or_true, all_one, all_append, first_break_cons}
 use Rattle.rules.specs.Limits.{label_most, short_most, fixed_most}
 use Rattle.rules.specs.Names.{is_letter, is_word_byte, is_reserved, is_label, is_short}
 use Rattle.rules.specs.Trees.{Tree, le2, is_small, is_in_range, is_number}
@@ -38,35 +38,35 @@ use Rattle.laws.proofs.Readers.{
   read_field,
   read_fields,
 }
-use Rattle.laws.proofs.ReadsNumbers.{read_two_le2, skip-le2, read_counted_counted}
+use Rattle.laws.proofs.ReadsNumbers.{read_two_le2, skip_le2, read_counted_counted}
 use Rattle.laws.proofs.ReadsTrees.{tree_of_stored, stored_some, stored_short}
 
 -- ── names ──
 
-pub label-length : (w : List ℕ) → is_label w ≡ true → length w ≤ label_most
+pub label_length : (w : List ℕ) → is_label w ≡ true → length w ≤ label_most
 unfolding is_label
-label-length w h = leb-true _ _ (and_true (leb (length w) label_most) _ h).0
+label_length w h = leb-true _ _ (and_true (leb (length w) label_most) _ h).0
 
-pub short-length : (w : List ℕ) → is_short w ≡ true → length w ≤ short_most
+pub short_length : (w : List ℕ) → is_short w ≡ true → length w ≤ short_most
 unfolding is_short
-short-length w h =
+short_length w h =
     let e = and_true (head_is is_letter w) (all is_word_byte w && (leb (length w) short_most && not (is_reserved w))) h in
     let f = and_true (all is_word_byte w) (leb (length w) short_most && not (is_reserved w)) e.1 in
     leb-true _ _ (and_true (leb (length w) short_most) (not (is_reserved w)) f.1).0
 
 -- the empty list is no short name
-short-some : (w : List ℕ) → is_short w ≡ true → unless_empty (λ l. l) w ≡ some w
+short_some : (w : List ℕ) → is_short w ≡ true → unless_empty (λ l. l) w ≡ some w
 unfolding is_short
-short-some [] h = absurd (let z : ◌≡◌ {A = ℕ} 0 1 = cc in omega arith)
-short-some (b ∷ w) h = refl
+short_some [] h = absurd (let z : ◌≡◌ {A = ℕ} 0 1 = cc in omega arith)
+short_some (b ∷ w) h = refl
 
-name-length : (o : Option (List ℕ)) → if_any is_short o ≡ true → length (stored_name o) < 65536
-name-length none h = omega arith
-name-length (some w) h = omega (arith, short-length w h)
+name_length : (o : Option (List ℕ)) → if_any is_short o ≡ true → length (stored_name o) < 65536
+name_length none h = omega arith
+name_length (some w) h = omega (arith, short_length w h)
 
-name-stored : (o : Option (List ℕ)) → if_any is_short o ≡ true → unless_empty (λ l. l) (stored_name o) ≡ o
-name-stored none h = refl
-name-stored (some w) h = short-some w h
+name_stored : (o : Option (List ℕ)) → if_any is_short o ≡ true → unless_empty (λ l. l) (stored_name o) ≡ o
+name_stored none h = refl
+name_stored (some w) h = short_some w h
 
 -- ── trees that may be missing ──
 
@@ -94,35 +94,35 @@ kind_bound e (fixed n) = omega (arith, ltb-true (e.fixed_kind + 2) 65536 e.short
 kind_bound e (measured u t) = omega (arith, ltb-true (e.fixed_kind + 2) 65536 e.short)
 kind_bound e rest = omega (arith, ltb-true (e.fixed_kind + 2) 65536 e.short)
 
-read_width-stored : (e : Edition) (w : Width ℕ) → is_width w ≡ true → all is_in_range (width_trees w) ≡ true
+read_width_stored : (e : Edition) (w : Width ℕ) → is_width w ≡ true → all is_in_range (width_trees w) ≡ true
     → all is_small (width_trees w) ≡ true → (r : List ℕ)
     → read_width e.fixed_kind (kind_in e w) (stored_width w ++ r) ≡ (w, r)
 unfolding read_width read_fixed read_measured
-read_width-stored e (fixed n) h range small r =
+read_width_stored e (fixed n) h range small r =
     rw (eq-eqb e.fixed_kind e.fixed_kind refl, read_two_le2 n (fixed_bound n h))
-read_width-stored e (measured u t) h range small r =
+read_width_stored e (measured u t) h range small r =
     let bound = unit_bound u (and_true (eqb u 1 || eqb u 8) (not (is_number t)) h).0 in
     let in_range_lem = all_one is_in_range t range in
-    let is-small = all_one is_small t small in
+    let is_small_lem = all_one is_small t small in
     let k = e.fixed_kind in
     simp (
       ne_eqb (k + 1) k (λ q. omega arith),
       eq-eqb (k + 1) (k + 1) refl,
       append_assoc,
       read_two_le2 u bound,
-      read_counted_counted (stored_expression t) (stored_short t is-small),
-      tree_of_stored t in_range_lem is-small,
+      read_counted_counted (stored_expression t) (stored_short t is_small_lem),
+      tree_of_stored t in_range_lem is_small_lem,
     )
-read_width-stored e rest h range small r =
+read_width_stored e rest h range small r =
     let k = e.fixed_kind in
     rw (ne_eqb (k + 2) k (λ q. omega arith), ne_eqb (k + 2) (k + 1) (λ q. omega arith))
 
 -- ── fields ──
 
-pub formed-parts : {N : Type 0} (f : Field N) → is_formed f ≡ true
+pub formed_parts : {N : Type 0} (f : Field N) → is_formed f ≡ true
     → (is_label f.label ≡ true) × (if_any is_short f.short ≡ true) × (is_width f.width ≡ true)
     × (all is_in_range (trees f) ≡ true)
-formed-parts f h =
+formed_parts f h =
     let numbers = all is_in_range (trees f) in
     let e = and_true (is_label f.label) (if_any is_short f.short && (is_width f.width && numbers)) h in
     let s = and_true (if_any is_short f.short) (is_width f.width && numbers) e.1 in
@@ -130,56 +130,56 @@ formed-parts f h =
     (e.0, s.0, w.0, w.1)
 
 -- of which the names
-pub formed-names : {N : Type 0} (f : Field N) → is_formed f ≡ true
+pub formed_names : {N : Type 0} (f : Field N) → is_formed f ≡ true
     → (is_label f.label ≡ true) × (if_any is_short f.short ≡ true)
-formed-names f h = let e = formed-parts f h in (e.0, e.1)
+formed_names f h = let e = formed_parts f h in (e.0, e.1)
 
-behind-kept : (e : Edition) (n : ℕ) (s : List ℕ) → behind_kept e (kept_in e n ++ s) ≡ s
+behind_kept_lem : (e : Edition) (n : ℕ) (s : List ℕ) → behind_kept e (kept_in e n ++ s) ≡ s
 unfolding le2
-behind-kept e n s = go e.keeps_readers
+behind_kept_lem e n s = go e.keeps_readers
   where
     go : (b : Bool) → cond b (drop 2 (cond b (le2 n) [] ++ s)) (cond b (le2 n) [] ++ s) ≡ s
     go true = refl
     go false = refl
 
-pub read_field-stored : (e : Edition) (n : ℕ) (f : Field ℕ) → is_formed f ≡ true → all is_small (trees f) ≡ true
+pub read_field_stored : (e : Edition) (n : ℕ) (f : Field ℕ) → is_formed f ≡ true → all is_small (trees f) ≡ true
     → (r : List ℕ) → read_field e (stored_field_in e n f ++ r) ≡ (f, r)
 unfolding read_field stored_field_in field_body field_from
-read_field-stored edition n f formed small r =
+read_field_stored edition n f formed small r =
     let w = width_trees f.width in
     let c = list_of f.constraint in
     let k = list_of f.condition in
-    let e = formed-parts f formed in
+    let e = formed_parts f formed in
     let range = all_append is_in_range w (c ++ k) e.3 in
     let ranges = all_append is_in_range c k range.1 in
     let size = all_append is_small w (c ++ k) small in
     let sizes = all_append is_small c k size.1 in
-    let label : length f.label < 65536 = omega (arith, label-length f.label e.0) in
+    let label : length f.label < 65536 = omega (arith, label_length f.label e.0) in
     simp (
       append_assoc,
-      skip-le2,
+      skip_le2,
       read_two_le2 (kind_in edition f.width) (kind_bound edition f.width),
-      behind-kept edition n,
+      behind_kept_lem edition n,
       read_counted_counted f.label label,
-      read_counted_counted (stored_name f.short) (name-length f.short e.1),
-      read_width-stored edition f.width e.2 range.0 size.0,
+      read_counted_counted (stored_name f.short) (name_length f.short e.1),
+      read_width_stored edition f.width e.2 range.0 size.0,
       read_counted_counted (stored_maybe f.constraint) (maybe_length f.constraint sizes.0),
       read_counted_counted (stored_maybe f.condition) (maybe_length f.condition sizes.1),
-      name-stored f.short e.1,
+      name_stored f.short e.1,
       maybe_stored f.constraint ranges.0 sizes.0,
       maybe_stored f.condition ranges.1 sizes.1,
     )
 
-pub read_fields-stored : (e : Edition) (numbers : ℕ → ℕ) (i : ℕ) (before l : List (Field ℕ))
+pub read_fields_stored : (e : Edition) (numbers : ℕ → ℕ) (i : ℕ) (before l : List (Field ℕ))
     → first_break keeps_form before l ≡ none → first_break keeps_size before l ≡ none → (r : List ℕ)
     → read_fields e (length l) (records_in e numbers i l ++ r) ≡ (l, r)
 unfolding read_fields records_in
-read_fields-stored e numbers i before [] formed small r = refl
-read_fields-stored e numbers i before (f ∷ l) formed small r =
-    let a = first_break-cons keeps_form before f l formed in
-    let b = first_break-cons keeps_size before f l small in
+read_fields_stored e numbers i before [] formed small r = refl
+read_fields_stored e numbers i before (f ∷ l) formed small r =
+    let a = first_break_cons keeps_form before f l formed in
+    let b = first_break_cons keeps_size before f l small in
     rw (
       append_assoc (stored_field_in e (numbers i) f) (records_in e numbers (suc i) l) r,
-      read_field-stored e (numbers i) f a.0 b.0,
-      read_fields-stored e numbers (suc i) (before ++ (f ∷ [])) l a.1 b.1,
+      read_field_stored e (numbers i) f a.0 b.0,
+      read_fields_stored e numbers (suc i) (before ++ (f ∷ [])) l a.1 b.1,
     )

@@ -32,9 +32,9 @@ read_four_le4 n h r =
     λ i. (v i, r)
 
 -- a number that is not looked at
-pub skip-le2 : (n : ℕ) (r : List ℕ) → drop 2 (le2 n ++ r) ≡ r
+pub skip_le2 : (n : ℕ) (r : List ℕ) → drop 2 (le2 n ++ r) ≡ r
 unfolding le2
-skip-le2 n r = refl
+skip_le2 n r = refl
 
 pub read_counted_counted : (l : List ℕ) → length l < 65536 → (r : List ℕ)
     → read_counted (le2 (length l) ++ (l ++ r)) ≡ (l, r)

@@ -8,9 +8,9 @@ use Rattle.rules.specs.Trees.{Tree, num, read, two, negation, depth, stored_tree
 use Rattle.rules.specs.Fields.{Width, fixed, measured, rest, Field, width_trees, trees}
 use Rattle.rules.specs.Within.{is_width, is_formed}
 use Rattle.base.specs.Lists.{all, list_of}
-use Rattle.base.proofs.Lookups.{all-joined}
+use Rattle.base.proofs.Lookups.{all_joined}
 use Rattle.rules.specs.Stored.{stored_expression}
-use Rattle.laws.proofs.ReadsTrees.{length-stored}
+use Rattle.laws.proofs.ReadsTrees.{length_stored}
 use Rattle.rules.specs.Edits.{renumbered_tree, renumbered_maybe, renumbered_width, renumbered}
 
 pub stored_mapped : (g : ℕ → ℕ) (t : Tree ℕ) → stored_expression (renumbered_tree g t) ≡ stored_tree g t
@@ -23,7 +23,7 @@ stored_mapped g (negation a) = rw (stored_mapped g a)
 -- its length, depth and numbers stay
 pub mapped_length : (g : ℕ → ℕ) (t : Tree ℕ) → length (stored_expression (renumbered_tree g t)) ≡ length
     (stored_expression t)
-mapped_length g t = rw (stored_mapped g t) (length-stored g (λ i. i) t)
+mapped_length g t = rw (stored_mapped g t) (length_stored g (λ i. i) t)
 
 pub mapped_depth : (g : ℕ → ℕ) (t : Tree ℕ) → depth (renumbered_tree g t) ≡ depth t
 unfolding renumbered_tree depth
@@ -79,7 +79,7 @@ module _ (g : ℕ → ℕ) (p : Tree ℕ → Bool) (stays : (t : Tree ℕ) → p
   in_field : (f : Field ℕ) → all p (trees (renumbered g f)) ≡ all p (trees f)
   unfolding renumbered
   in_field f =
-      simp (all-joined, in_width f.width, in_maybe f.constraint, in_maybe f.condition)
+      simp (all_joined, in_width f.width, in_maybe f.constraint, in_maybe f.condition)
 
 pub formed_stays : (g : ℕ → ℕ) (f : Field ℕ) → is_formed (renumbered g f) ≡ is_formed f
 unfolding renumbered

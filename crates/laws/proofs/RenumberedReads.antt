@@ -6,7 +6,7 @@ use mathlib.Core.Option.{Option, none, some}
 use Prim.Native.Nat.{ℕ}
 use Rattle.base.specs.Lists.{any, joined, list_of, sum}
 use Rattle.base.proofs.Lists.{or_false_left, or_false_right}
-use Rattle.base.proofs.Joined.{joined-append, joined-one}
+use Rattle.base.proofs.Joined.{joined_append, joined_one}
 use Rattle.rules.specs.Trees.{Tree, num, read, two, negation}
 use Rattle.rules.specs.Values.{Value, value, fault, Meaning, evaluate_by}
 use Rattle.rules.specs.Fields.{Width, fixed, measured, rest, Field, width_trees, fixed_width_bits, fixed_bits}
@@ -30,11 +30,11 @@ use Rattle.rules.specs.Reading.{
 
 -- ── widths ──
 
-width-bits : (g : ℕ → ℕ) (w : Width ℕ) (packet : List ℕ) (place : ℕ)
+width_bits : (g : ℕ → ℕ) (w : Width ℕ) (packet : List ℕ) (place : ℕ)
     → number_at packet place (renumbered_width g w) ≡ number_at packet place w
-width-bits g (fixed n) packet place = refl
-width-bits g (measured u t) packet place = refl
-width-bits g rest packet place = refl
+width_bits g (fixed n) packet place = refl
+width_bits g (measured u t) packet place = refl
+width_bits g rest packet place = refl
 
 fixed_stays : (g : ℕ → ℕ) (f : Field ℕ) → fixed_bits (renumbered g f) ≡ fixed_bits f
 unfolding renumbered
@@ -46,18 +46,18 @@ fixed_stays g f = go f.width
     go rest = refl
 
 -- the fixed widths stay
-pub fixed-sum : (g : ℕ → ℕ) (fs : List (Field ℕ)) → sum fixed_bits (map (renumbered g) fs) ≡ sum fixed_bits fs
+pub fixed_sum : (g : ℕ → ℕ) (fs : List (Field ℕ)) → sum fixed_bits (map (renumbered g) fs) ≡ sum fixed_bits fs
 unfolding sum
-fixed-sum g [] = refl
-fixed-sum g (f ∷ fs) = rw (fixed_stays g f, fixed-sum g fs)
+fixed_sum g [] = refl
+fixed_sum g (f ∷ fs) = rw (fixed_stays g f, fixed_sum g fs)
 
 -- ── tests of parts ──
 
-pub any-parts : (p : ℕ → Bool) (l m : List ℕ) → any p (l ++ m) ≡ false → (any p l ≡ false) × (any p m ≡ false)
+pub any_parts : (p : ℕ → Bool) (l m : List ℕ) → any p (l ++ m) ≡ false → (any p l ≡ false) × (any p m ≡ false)
 unfolding any
-any-parts p [] m h = (refl, h)
-any-parts p (i ∷ l) m h =
-    let e = any-parts p l m (or_false_right (p i) (any p (l ++ m)) h) in
+any_parts p [] m h = (refl, h)
+any_parts p (i ∷ l) m h =
+    let e = any_parts p l m (or_false_right (p i) (any p (l ++ m)) h) in
     (rw (or_false_left (p i) (any p (l ++ m)) h) e.0, e.1)
 
 -- ── a field ──
@@ -73,41 +73,41 @@ module _ (g : ℕ → ℕ) (out : ℕ → Bool) where
   Alike es old = (i : ℕ) → out i ≡ false → value_in es (g i) ≡ value_in old i
 
   module _ (es old : List Entry) (alike : Alike es old) where
-    tree-alike : (means : Meaning) (t : Tree ℕ) → any out (tree_reads t) ≡ false
+    tree_alike : (means : Meaning) (t : Tree ℕ) → any out (tree_reads t) ≡ false
         → evaluate_by means (value_in es) (renumbered_tree g t) ≡ evaluate_by means (value_in old) t
     unfolding evaluate_by renumbered_tree tree_reads any
-    tree-alike means (num n) h = refl
-    tree-alike means (read i) h = alike i (or_false_left (out i) false h)
-    tree-alike means (two o a b) h =
-        let e = any-parts out (tree_reads a) (tree_reads b) h in
-        rw (tree-alike means a e.0, tree-alike means b e.1)
-    tree-alike means (negation a) h = rw (tree-alike means a h)
+    tree_alike means (num n) h = refl
+    tree_alike means (read i) h = alike i (or_false_left (out i) false h)
+    tree_alike means (two o a b) h =
+        let e = any_parts out (tree_reads a) (tree_reads b) h in
+        rw (tree_alike means a e.0, tree_alike means b e.1)
+    tree_alike means (negation a) h = rw (tree_alike means a h)
 
     maybe_alike : (o : Option (Tree ℕ)) → any out (joined tree_reads (list_of o)) ≡ false
         → holds es (renumbered_maybe g o) ≡ holds old o
     maybe_alike none h = refl
-    maybe_alike (some t) h = tree-alike current.means t (rw (← joined-one tree_reads t) h)
+    maybe_alike (some t) h = tree_alike current.means t (rw (← joined_one tree_reads t) h)
 
-    width-alike : (packet : List ℕ) (place later : ℕ) (w : Width ℕ)
+    width_alike : (packet : List ℕ) (place later : ℕ) (w : Width ℕ)
         → any out (joined tree_reads (width_trees w)) ≡ false
         → width_at packet es place later (renumbered_width g w) ≡ width_at packet old place later w
-    width-alike packet place later (fixed n) h = refl
-    width-alike packet place later (measured u t) h =
-        ap (scaled u) (tree-alike current.means t (rw (← joined-one tree_reads t) h))
-    width-alike packet place later rest h = refl
+    width_alike packet place later (fixed n) h = refl
+    width_alike packet place later (measured u t) h =
+        ap (scaled u) (tree_alike current.means t (rw (← joined_one tree_reads t) h))
+    width_alike packet place later rest h = refl
 
   -- the entries before the field are alike, and stay so with the field's own entry
   module _ (es old : List Entry) (alike : Alike es old)
-      (own-alike : (own : Entry) → Alike (es ++ (own ∷ [])) (old ++ (own ∷ []))) where
-    bounded-alike : (packet : List ℕ) (place : ℕ) (f : Field ℕ) (n : ℕ)
+      (own_alike : (own : Entry) → Alike (es ++ (own ∷ [])) (old ++ (own ∷ []))) where
+    bounded_alike : (packet : List ℕ) (place : ℕ) (f : Field ℕ) (n : ℕ)
         → any out (joined tree_reads (list_of f.constraint)) ≡ false
         → bounded packet es place (renumbered g f) n ≡ bounded packet old place f n
     unfolding renumbered
-    bounded-alike packet place f n h =
+    bounded_alike packet place f n h =
         let own = entry_at packet place f.width n in
         rw (
-          width-bits g f.width packet place,
-          maybe_alike (es ++ (own ∷ [])) (old ++ (own ∷ [])) (own-alike own) f.constraint h,
+          width_bits g f.width packet place,
+          maybe_alike (es ++ (own ∷ [])) (old ++ (own ∷ [])) (own_alike own) f.constraint h,
         )
 
     pub field_alike : (packet : List ℕ) (place later : ℕ) (f : Field ℕ) → any out (field_reads f) ≡ false
@@ -117,15 +117,15 @@ module _ (g : ℕ → ℕ) (out : ℕ → Bool) where
         let w = width_trees f.width in
         let c = list_of f.constraint in
         let k = list_of f.condition in
-        let e = any-parts out (joined tree_reads w) (joined tree_reads (c ++ k))
-        (rw (← joined-append tree_reads w (c ++ k)) h) in
-        let s = any-parts out (joined tree_reads c) (joined tree_reads k)
-        (rw (← joined-append tree_reads c k) e.1) in
+        let e = any_parts out (joined tree_reads w) (joined tree_reads (c ++ k))
+        (rw (← joined_append tree_reads w (c ++ k)) h) in
+        let s = any_parts out (joined tree_reads c) (joined tree_reads k)
+        (rw (← joined_append tree_reads c k) e.1) in
         let behind = then_same (width_at packet old place later f.width)
         (bounded packet es place (renumbered g f)) (bounded packet old place f)
-        (λ n. bounded-alike packet place f n s.0) in
+        (λ n. bounded_alike packet place f n s.0) in
         rw (
           maybe_alike es old alike f.condition s.1,
-          width-alike es old alike packet place later f.width e.0,
+          width_alike es old alike packet place later f.width e.0,
           behind,
         )

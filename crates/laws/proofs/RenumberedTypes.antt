@@ -6,7 +6,7 @@ use mathlib.Core.Option.{Option, none, some}
 use Prim.Native.Nat.{ℕ, zero, suc}
 use Rattle.base.specs.Lists.{any, is_none, if_any, joined, list_of}
 use Rattle.base.proofs.Lists.{and_left, and_right, and_both, or_false_left}
-use Rattle.base.proofs.Joined.{joined-append, joined-one}
+use Rattle.base.proofs.Joined.{joined_append, joined_one}
 use Rattle.rules.specs.declared.ValueType.{ValueType}
 use Rattle.rules.specs.declared.ValueType.TheVariants.{Number, YesNo}
 use Rattle.rules.specs.Operators.{takes, gives}
@@ -16,7 +16,7 @@ use Rattle.rules.specs.Fields.{is_fixed_width, is_fixed, is_rest_width, is_rest,
 use Rattle.rules.specs.References.{tree_reads, field_reads}
 use Rattle.rules.specs.Within.{clash, width_has_type, keeps_types, is_readable, index_readable}
 use Rattle.rules.specs.Edits.{renumbered_tree, renumbered_maybe, renumbered_width, renumbered}
-use Rattle.laws.proofs.RenumberedReads.{any-parts}
+use Rattle.laws.proofs.RenumberedReads.{any_parts}
 
 -- ── what stays ──
 
@@ -83,7 +83,7 @@ module _ (g : ℕ → ℕ) (out : ℕ → Bool) where
         let l = has_type new (takes o) (renumbered_tree g a) in
         let r = has_type new (takes o) (renumbered_tree g b) in
         let both = and_right s (p && q) h in
-        let parts = any-parts out (tree_reads a) (tree_reads b) e in
+        let parts = any_parts out (tree_reads a) (tree_reads b) e in
         and_both s (l && r) (and_left s (p && q) h)
         (and_both l r (tree_typed (takes o) a parts.0 (and_left p q both))
         (tree_typed (takes o) b parts.1 (and_right p q both)))
@@ -95,12 +95,12 @@ module _ (g : ℕ → ℕ) (out : ℕ → Bool) where
     maybe_typed : (o : Option (Tree ℕ)) → any out (joined tree_reads (list_of o)) ≡ false
         → if_any (has_type old YesNo) o ≡ true → if_any (has_type new YesNo) (renumbered_maybe g o) ≡ true
     maybe_typed none e h = refl
-    maybe_typed (some t) e h = tree_typed YesNo t (rw (← joined-one tree_reads t) e) h
+    maybe_typed (some t) e h = tree_typed YesNo t (rw (← joined_one tree_reads t) e) h
 
     width_typed : (w : Width ℕ) → any out (joined tree_reads (width_trees w)) ≡ false
         → width_has_type old w ≡ true → width_has_type new (renumbered_width g w) ≡ true
     width_typed (fixed n) e h = refl
-    width_typed (measured u t) e h = tree_typed Number t (rw (← joined-one tree_reads t) e) h
+    width_typed (measured u t) e h = tree_typed Number t (rw (← joined_one tree_reads t) e) h
     width_typed rest e h = refl
 
   typed_parts : (c : List (Field ℕ)) (f : Field ℕ)
@@ -121,10 +121,10 @@ module _ (g : ℕ → ℕ) (out : ℕ → Bool) where
       let ws = width_trees f.width in
       let cs = list_of f.constraint in
       let ks = list_of f.condition in
-      let x = any-parts out (joined tree_reads ws) (joined tree_reads (cs ++ ks))
-      (rw (← joined-append tree_reads ws (cs ++ ks)) e) in
-      let y = any-parts out (joined tree_reads cs) (joined tree_reads ks)
-      (rw (← joined-append tree_reads cs ks) x.1) in
+      let x = any_parts out (joined tree_reads ws) (joined tree_reads (cs ++ ks))
+      (rw (← joined_append tree_reads ws (cs ++ ks)) e) in
+      let y = any_parts out (joined tree_reads cs) (joined tree_reads ks)
+      (rw (← joined_append tree_reads cs ks) x.1) in
       let mine = b ++ (f ∷ []) in
       let w = width_has_type (index_readable b) f.width in
       let s = if_any (has_type (index_readable mine) YesNo) f.constraint in

@@ -65,34 +65,34 @@ use Rattle.laws.proofs.WithinTest.{is_within, within}
 use Rattle.laws.proofs.GoodTest.{answer_in}
 use Rattle.laws.proofs.Readers as Tables
 use Rattle.laws.proofs.Allowed.{
-  table-only,
+  table_only,
   outcome_in,
-  answer-only,
-  outcome-only_in,
-  outcome-only,
-  listing-only,
+  answer_only,
+  outcome_only_in,
+  outcome_only,
+  listing_only,
   part_only,
-  part_place-only,
-  field-only,
+  part_place_only,
+  field_only,
   found_in,
-  found-only,
+  found_only,
   label_at,
-  label-only,
-  label-place-only,
-  count-only,
-  kind-only,
+  label_only,
+  label_place_only,
+  count_only,
+  kind_only,
   short_at,
-  short-only,
-  short-place-only,
-  partly-only,
-  readers-only,
+  short_only,
+  short_place_only,
+  partly_only,
+  readers_only,
   readers_in,
-  readers-only_in,
+  readers_only_in,
   converted_in,
   converted_only,
 }
 use Rattle.laws.proofs.Joining.{read_records, number_at}
-use Rattle.laws.proofs.EditsTold.{cut_in, cut-only, put_in, put_only}
+use Rattle.laws.proofs.EditsTold.{cut_in, cut_only, put_in, put_only}
 use Rattle.laws.specs.Wrong.{
   Claim,
   checks,
@@ -235,40 +235,40 @@ is_fitting (converts_with n table a after) = true
 is_fitting (cuts_with n table first last a after) = true
 is_fitting (puts_with n table at records a after) = true
 
-two-parts : {m n : ℕ} {s t : List ℕ} → (s ≡ t) × (m ≡ n) → m ∷ s ≡ n ∷ t
-two-parts {n = n} {s = s} q = ap (λ (k : ℕ). k ∷ s) q.1 ∙ ap (λ (l : List ℕ). n ∷ l) q.0
+two_parts : {m n : ℕ} {s t : List ℕ} → (s ≡ t) × (m ≡ n) → m ∷ s ≡ n ∷ t
+two_parts {n = n} {s = s} q = ap (λ (k : ℕ). k ∷ s) q.1 ∙ ap (λ (l : List ℕ). n ∷ l) q.0
 
 pub claim_only : (c : Claim) → is_fitting c ≡ true → Claimed c → claimed c ≡ given c
-claim_only (checks d a) h p = ap answer_numbers (table-only d a (within d h) p)
-claim_only (checks_in e table a) h p = ap answer_numbers (answer-only e table a p)
+claim_only (checks d a) h p = ap answer_numbers (table_only d a (within d h) p)
+claim_only (checks_in e table a) h p = ap answer_numbers (answer_only e table a p)
 claim_only (reads_in e n table packet a after) h p =
-    ap numbers (outcome-only_in e table packet (replicate n 9) (leaves a after) p)
+    ap numbers (outcome_only_in e table packet (replicate n 9) (leaves a after) p)
 claim_only (reads_with n d packet a after) h p =
-    ap numbers (outcome-only d packet (replicate n 9) (leaves a after) (within d h) p)
+    ap numbers (outcome_only d packet (replicate n 9) (leaves a after) (within d h) p)
 claim_only (lists_with n d packet a after) h p =
-    ap numbers (listing-only d packet (replicate n 9) (leaves a after) (within d h) p)
-claim_only (hands d packet i bytes start) h p = two-parts (part_only d packet i p.0 bytes start (within d h) p.1)
-claim_only (places_part d packet i part) h p = ap place_numbers (part_place-only d packet i part (within d h) p)
-claim_only (finds d name a) h p = ap answer_numbers (field-only d name a (within d h) p)
-claim_only (finds_in table name a) h p = ap answer_numbers (found-only table name a p)
-claim_only (labels d i bytes start) h p = two-parts (label-only d i p.0 bytes start (within d h) p.1)
-claim_only (places_label d i part) h p = ap place_numbers (label-place-only d i part (within d h) p)
+    ap numbers (listing_only d packet (replicate n 9) (leaves a after) (within d h) p)
+claim_only (hands d packet i bytes start) h p = two_parts (part_only d packet i p.0 bytes start (within d h) p.1)
+claim_only (places_part d packet i part) h p = ap place_numbers (part_place_only d packet i part (within d h) p)
+claim_only (finds d name a) h p = ap answer_numbers (field_only d name a (within d h) p)
+claim_only (finds_in table name a) h p = ap answer_numbers (found_only table name a p)
+claim_only (labels d i bytes start) h p = two_parts (label_only d i p.0 bytes start (within d h) p.1)
+claim_only (places_label d i part) h p = ap place_numbers (label_place_only d i part (within d h) p)
 claim_only (tells_number r n) h p = ap single p
 claim_only (tells_place r n) h p = ap single p
 claim_only (tells_amount r n) h p = ap single p
 claim_only (tells_limits l) h p = p
-claim_only (counts d a) h p = ap answer_numbers (count-only d a (within d h) p)
-claim_only (tells_kind d i a) h p = ap answer_numbers (kind-only d i a (within d h) p)
-claim_only (shorts d i bytes start) h p = two-parts (short-only d i p.0 bytes start (within d h) p.1)
-claim_only (places_short d i part) h p = ap place_numbers (short-place-only d i part (within d h) p)
+claim_only (counts d a) h p = ap answer_numbers (count_only d a (within d h) p)
+claim_only (tells_kind d i a) h p = ap answer_numbers (kind_only d i a (within d h) p)
+claim_only (shorts d i bytes start) h p = two_parts (short_only d i p.0 bytes start (within d h) p.1)
+claim_only (places_short d i part) h p = ap place_numbers (short_place_only d i part (within d h) p)
 claim_only (partly_with m d packet a after n) h p =
-    ap partly_numbers (partly-only d packet (replicate m 9) (leaves_partly a after n) (within d h) p)
-claim_only (counts_readers d i a) h p = ap answer_numbers (readers-only d i a (within d h) p)
-claim_only (counts_readers_in table i a) h p = ap answer_numbers (readers-only_in table i a p)
+    ap partly_numbers (partly_only d packet (replicate m 9) (leaves_partly a after n) (within d h) p)
+claim_only (counts_readers d i a) h p = ap answer_numbers (readers_only d i a (within d h) p)
+claim_only (counts_readers_in table i a) h p = ap answer_numbers (readers_only_in table i a p)
 claim_only (converts_with n table a after) h p =
     ap numbers (converted_only table (replicate n 9) (leaves a after) p)
 claim_only (cuts_with n table first last a after) h p =
-    ap numbers (cut-only table first last (replicate n 9) (leaves a after) p)
+    ap numbers (cut_only table first last (replicate n 9) (leaves a after) p)
 claim_only (puts_with n table at records a after) h p =
     ap numbers (put_only table at records (replicate n 9) (leaves a after) p)
 
@@ -288,7 +288,7 @@ every_claim = wrong ++ (wrong_limits ++ (wrong_names ++ (wrong_operators ++ (wro
     ++ (wrong_records ++ (wrong_edits ++ wrong_puts))))))
 
 -- each wrong program's answer is ruled out
-pub all-ruled_out : AllFalse every_claim
+pub all_ruled_out : AllFalse every_claim
 unfolding digits all any same last_is sum joined first_break operator operators is_letter is_digit is_space is_word_byte
     is_label_byte no_two_spaces is_label reserved is_reserved is_short depth le2 le4 stored_tree is_in_range has_type
     has_operators power apply decides evaluate_by rows_fit tree_reads field_reads times readers stored_in stored_with
@@ -299,4 +299,4 @@ unfolding digits all any same last_is sum joined first_break operator operators 
     Tables.tree_of Tables.read_fixed Tables.read_measured Tables.read_width Tables.field_from Tables.read_field
     Tables.read_fields Tables.described_in renumbered_tree renumbered closed opened cut put first_reader read_records
     number_at
-all-ruled_out = all_out every_claim refl
+all_ruled_out = all_out every_claim refl

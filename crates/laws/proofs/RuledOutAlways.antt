@@ -46,10 +46,10 @@ use Rattle.rules.specs.Promises.{
   put_outcome,
   PutsFields,
 }
-use Rattle.laws.proofs.Readings.{Told, reading-told}
+use Rattle.laws.proofs.Readings.{Told, reading_told}
 use Rattle.laws.proofs.Decidable.{within_decidable, good_decidable, good_decidable_in}
 use Rattle.laws.proofs.Joining.{joins_decidable}
-use Rattle.laws.proofs.Allowed.{table-only, outcome-only, readers-only}
+use Rattle.laws.proofs.Allowed.{table_only, outcome_only, readers_only}
 
 -- ── outcomes ──
 
@@ -77,7 +77,7 @@ unfolding packet_outcome_in
 packet_fair d packet run =
     either (Fair packet run) (not (is_too_long packet) && ltb (length run) (4 * length d.fields)) _ _
     (refused_fair packet run 23 0 (omega arith))
-    (reading_fair packet run (reading d packet) (reading-told d packet))
+    (reading_fair packet run (reading d packet) (reading_told d packet))
 
 table_fair : (table packet run : List ℕ) (good : Dec (Good table))
     → Fair packet run (by_table good (λ d. packet_outcome d packet run) (leaves not_good run))
@@ -88,34 +88,34 @@ table_fair table packet run (no bad) = refused_fair packet run 21 0 (omega arith
 
 module _ (table packet run after : List ℕ) where
   -- no other bit total is answered
-  pub total-only : (n : ℕ) → ReadsPacket table packet run (leaves (accepted n) after) → n ≡ 8 * length packet
-  total-only n p =
+  pub total_only : (n : ℕ) → ReadsPacket table packet run (leaves (accepted n) after) → n ≡ 8 * length packet
+  total_only n p =
       let good = good_decidable table in
       let e = p good in
       let f = table_fair table packet run good in
       ap (λ (o : Outcome). o.answer.amount) e ∙ f.total (sym (ap (λ (o : Outcome). o.answer.number) e))
 
   -- a refusal changes nothing
-  pub refusal-keeps : (r : PacketAnswer) → ((of_packet r).number ≡ 0 → ⊥)
+  pub refusal_keeps : (r : PacketAnswer) → ((of_packet r).number ≡ 0 → ⊥)
       → ReadsPacket table packet run (leaves (of_packet r) after)
       → after ≡ run
-  refusal-keeps r n p =
+  refusal_keeps r n p =
       let good = good_decidable table in
       let e = p good in
       let f = table_fair table packet run good in
       ap (λ (o : Outcome). o.buffer) e ∙ f.keeps (λ z. n (ap (λ (o : Outcome). o.answer.number) e ∙ z))
 
   -- a table that is not good is 21, whatever the packet
-  pub bad_table-only : (r : PacketAnswer) → (Good table → ⊥) → ReadsPacket table packet run (leaves (of_packet r) after)
+  pub bad_table_only : (r : PacketAnswer) → (Good table → ⊥) → ReadsPacket table packet run (leaves (of_packet r) after)
       → leaves (of_packet r) after ≡ leaves not_good run
-  bad_table-only r bad p = p (no bad)
+  bad_table_only r bad p = p (no bad)
 
 -- ── for all good tables ──
 
 -- 21 for a good table
 pub good_checked : (d : Description) → Within d → ChecksTable (stored d) not_good → ⊥
 good_checked d w p =
-    let z : ◌≡◌ {A = ℕ} 21 0 = ap (λ (a : Answer). a.number) (table-only d not_good w p) in
+    let z : ◌≡◌ {A = ℕ} 21 0 = ap (λ (a : Answer). a.number) (table_only d not_good w p) in
     omega arith
 
 reading_other : (packet : List ℕ) (r : Reading) → Told r → (reading_answer r packet).number ≡ 21 → ⊥
@@ -124,22 +124,22 @@ reading_other packet (complete entries) t e = omega arith
 reading_other packet (refusing a) t e = omega (arith, t.0, e)
 
 -- and for a packet by one
-pub good-read : (d : Description) (packet run after : List ℕ) → Within d
+pub good_read : (d : Description) (packet run after : List ℕ) → Within d
     → ReadsPacket (stored d) packet run (leaves not_good after) → ⊥
 unfolding packet_outcome_in
-good-read d packet run after w p =
+good_read d packet run after w p =
     either (λ (o : Outcome). o.answer.number ≡ 21 → ⊥)
     (not (is_too_long packet) && ltb (length run) (4 * length d.fields)) (leaves (refused 23 0) run)
     (leaves (reading_answer (reading d packet) packet) (run_after (reading d packet) run))
-    (λ e. omega arith) (reading_other packet (reading d packet) (reading-told d packet))
-    (sym (ap (λ (o : Outcome). o.answer.number) (outcome-only d packet run (leaves not_good after) w p)))
+    (λ e. omega arith) (reading_other packet (reading d packet) (reading_told d packet))
+    (sym (ap (λ (o : Outcome). o.answer.number) (outcome_only d packet run (leaves not_good after) w p)))
 
 -- and for how often a field is read by others
-pub good-counted : (d : Description) (i : ℕ) → Within d → CountsReaders (stored d) i not_good → ⊥
-good-counted d i w p =
+pub good_counted : (d : Description) (i : ℕ) → Within d → CountsReaders (stored d) i not_good → ⊥
+good_counted d i w p =
     either (λ (a : Answer). a.number ≡ 21 → ⊥) (ltb i (length d.fields)) (accepted (readers d.fields i))
     (refused 30 0) (λ e. omega arith) (λ e. omega arith)
-    (sym (ap (λ (a : Answer). a.number) (readers-only d i not_good w p)))
+    (sym (ap (λ (a : Answer). a.number) (readers_only d i not_good w p)))
 
 -- ── an old table converted ── [02, R-5]
 
@@ -179,42 +179,42 @@ module _ (table out after : List ℕ) where
       (delivers (stored old.description) out).good (sym (ap (λ (o : Outcome). o.answer.number) (p (yes old))))
 
   -- a table that was not good is 21, and the output as it was
-  pub not-old-only : (r : ConversionAnswer) → (GoodIn uncounted table → ⊥)
+  pub not_old_only : (r : ConversionAnswer) → (GoodIn uncounted table → ⊥)
       → ConvertsTable table out (leaves (of_conversion r) after) → leaves (of_conversion r) after ≡ leaves not_good out
-  not-old-only r bad p = p (no bad)
+  not_old_only r bad p = p (no bad)
 
 -- ── fields cut out and put in ── [02, R-4]
 
-limits-delivers : (d : Description) (fits : Dec (Within d)) (out : List ℕ) → Delivers out (by_limits fits out)
-limits-delivers d (yes w) out = delivers (stored d) out
-limits-delivers d (no beyond) out = refuses out 34 (λ e. omega arith)
+limits_delivers : (d : Description) (fits : Dec (Within d)) (out : List ℕ) → Delivers out (by_limits fits out)
+limits_delivers d (yes w) out = delivers (stored d) out
+limits_delivers d (no beyond) out = refuses out 34 (λ e. omega arith)
 
-unread-delivers : (r : Option ℕ) (out : List ℕ) (o : Outcome) → Delivers out o → Delivers out (unless_read r out o)
-unread-delivers none out o p = p
-unread-delivers (some i) out o p =
+unread_delivers : (r : Option ℕ) (out : List ℕ) (o : Outcome) → Delivers out o → Delivers out (unless_read r out o)
+unread_delivers none out o p = p
+unread_delivers (some i) out o p =
     record { keeps = λ e. refl; good = λ e. omega arith; place = λ e. absurd (e refl) }
 
-cut-delivers : (first last : ℕ) (d : Description) (fits : Dec (Within (cut first last d))) (out : List ℕ)
+cut_delivers : (first last : ℕ) (d : Description) (fits : Dec (Within (cut first last d))) (out : List ℕ)
     → Delivers out (cut_outcome first last d fits out)
 unfolding cut_outcome
-cut-delivers first last d fits out =
+cut_delivers first last d fits out =
     either (Delivers out) (is_run first last d.fields)
     (unless_read (first_reader first last d.fields) out (by_limits fits out)) (leaves (refused 30 0) out)
-    (unread-delivers (first_reader first last d.fields) out (by_limits fits out)
-    (limits-delivers (cut first last d) fits out))
+    (unread_delivers (first_reader first last d.fields) out (by_limits fits out)
+    (limits_delivers (cut first last d) fits out))
     (refuses out 30 (λ e. omega arith))
 
-records-delivers : (at : ℕ) (bytes : List ℕ) (d : Description) (joins : Dec (Joins at bytes d)) (out : List ℕ)
+records_delivers : (at : ℕ) (bytes : List ℕ) (d : Description) (joins : Dec (Joins at bytes d)) (out : List ℕ)
     → Delivers out (by_records joins out)
-records-delivers at bytes d (yes j) out = delivers (stored (put at j.fields d)) out
-records-delivers at bytes d (no none_do) out = refuses out 34 (λ e. omega arith)
+records_delivers at bytes d (yes j) out = delivers (stored (put at j.fields d)) out
+records_delivers at bytes d (no none_do) out = refuses out 34 (λ e. omega arith)
 
-put-delivers : (at : ℕ) (bytes : List ℕ) (d : Description) (joins : Dec (Joins at bytes d)) (out : List ℕ)
+put_delivers : (at : ℕ) (bytes : List ℕ) (d : Description) (joins : Dec (Joins at bytes d)) (out : List ℕ)
     → Delivers out (put_outcome at bytes d joins out)
 unfolding put_outcome
-put-delivers at bytes d joins out =
+put_delivers at bytes d joins out =
     either (Delivers out) (is_empty bytes || ltb (length d.fields) at) (leaves (refused 30 0) out)
-    (by_records joins out) (refuses out 30 (λ e. omega arith)) (records-delivers at bytes d joins out)
+    (by_records joins out) (refuses out 30 (λ e. omega arith)) (records_delivers at bytes d joins out)
 
 -- putting in is never 31
 put_other : (at : ℕ) (bytes : List ℕ) (d : Description) (joins : Dec (Joins at bytes d)) (out : List ℕ)
@@ -259,7 +259,7 @@ module _ (table out after : List ℕ) (a : Answer) where
     cut_result d = cut_outcome first last d (within_decidable current (cut first last d)) out
 
     cut_fair : (d : Description) → Delivers out (cut_result d)
-    cut_fair d = cut-delivers first last d (within_decidable current (cut first last d)) out
+    cut_fair d = cut_delivers first last d (within_decidable current (cut first last d)) out
 
     -- a refusal changes nothing
     pub cut_keeps : (a.number ≡ 0 → ⊥) → after ≡ out
@@ -268,25 +268,25 @@ module _ (table out after : List ℕ) (a : Answer) where
         edit_keeps table out after cut_result a cut_fair n good (p good (within_decidable current))
 
     -- no place but that of 31
-    pub cut-place : (a.number ≡ 31 → ⊥) → a.place ≡ 0
-    cut-place n =
+    pub cut_place : (a.number ≡ 31 → ⊥) → a.place ≡ 0
+    cut_place n =
         let good = good_decidable table in
         edit_place table out after cut_result a cut_fair n good (p good (within_decidable current))
 
     -- 21 for a good table
-    pub good-cut : Good table → a.number ≡ 21 → ⊥
-    good-cut g = edit_good table out after cut_result a cut_fair g (p (yes g) (within_decidable current))
+    pub good_cut : Good table → a.number ≡ 21 → ⊥
+    good_cut g = edit_good table out after cut_result a cut_fair g (p (yes g) (within_decidable current))
 
     -- a table that is not good is 21, and the output as it was
-    pub bad_cut-only : (Good table → ⊥) → leaves a after ≡ leaves not_good out
-    bad_cut-only bad = p (no bad) (within_decidable current)
+    pub bad_cut_only : (Good table → ⊥) → leaves a after ≡ leaves not_good out
+    bad_cut_only bad = p (no bad) (within_decidable current)
 
   module _ (at : ℕ) (bytes : List ℕ) (p : PutsFields table at bytes out (leaves a after)) where
     abbrev put_result : Description → Outcome
     put_result d = put_outcome at bytes d (joins_decidable at bytes d) out
 
     put_fair : (d : Description) → Delivers out (put_result d)
-    put_fair d = put-delivers at bytes d (joins_decidable at bytes d) out
+    put_fair d = put_delivers at bytes d (joins_decidable at bytes d) out
 
     -- the same of putting in, which is never 31
     pub put_keeps : (a.number ≡ 0 → ⊥) → after ≡ out
@@ -294,8 +294,8 @@ module _ (table out after : List ℕ) (a : Answer) where
         let good = good_decidable table in
         edit_keeps table out after put_result a put_fair n good (p good (joins_decidable at bytes))
 
-    pub put-unread : a.number ≡ 31 → ⊥
-    put-unread z = go (good_decidable table) (p (good_decidable table) (joins_decidable at bytes))
+    pub put_unread : a.number ≡ 31 → ⊥
+    put_unread z = go (good_decidable table) (p (good_decidable table) (joins_decidable at bytes))
       where
         go : (good : Dec (Good table)) → leaves a after ≡ by_table good put_result (leaves not_good out) → ⊥
         go (yes g) e =
@@ -303,13 +303,13 @@ module _ (table out after : List ℕ) (a : Answer) where
             (sym (ap (λ (o : Outcome). o.answer.number) e) ∙ z)
         go (no bad) e = omega (arith, ap (λ (o : Outcome). o.answer.number) e, z)
 
-    pub put-place : a.place ≡ 0
-    put-place =
+    pub put_place : a.place ≡ 0
+    put_place =
         let good = good_decidable table in
-        edit_place table out after put_result a put_fair put-unread good (p good (joins_decidable at bytes))
+        edit_place table out after put_result a put_fair put_unread good (p good (joins_decidable at bytes))
 
-    pub good-put : Good table → a.number ≡ 21 → ⊥
-    good-put g = edit_good table out after put_result a put_fair g (p (yes g) (joins_decidable at bytes))
+    pub good_put : Good table → a.number ≡ 21 → ⊥
+    good_put g = edit_good table out after put_result a put_fair g (p (yes g) (joins_decidable at bytes))
 
-    pub bad_put-only : (Good table → ⊥) → leaves a after ≡ leaves not_good out
-    bad_put-only bad = p (no bad) (joins_decidable at bytes)
+    pub bad_put_only : (Good table → ⊥) → leaves a after ≡ leaves not_good out
+    bad_put_only bad = p (no bad) (joins_decidable at bytes)

@@ -23,22 +23,22 @@ use Rattle.rules.specs.Promises.{
   packet_outcome_in,
 }
 use Rattle.rules.specs.Results.{PacketCovered}
-use Rattle.laws.proofs.Readings.{Told, reading-told}
+use Rattle.laws.proofs.Readings.{Told, reading_told}
 use Rattle.laws.proofs.Decidable.{good_decidable}
 use Rattle.laws.proofs.Cover.{cover_unique, cover_in_order}
 use Rattle.laws.proofs.Conditions.{conditions_kept}
 
-entries-back : (es : List Entry) (rest : List ℕ) → entries_in (length es) (joined numbers_of es ++ rest) ≡ es
+entries_back : (es : List Entry) (rest : List ℕ) → entries_in (length es) (joined numbers_of es ++ rest) ≡ es
 unfolding entries_in joined
-entries-back [] rest = refl
-entries-back (e ∷ es) rest = ap (λ l. e ∷ l) (entries-back es rest)
+entries_back [] rest = refl
+entries_back (e ∷ es) rest = ap (λ l. e ∷ l) (entries_back es rest)
 
-pub kept-length : (before : List Entry) (fs : List (Field ℕ)) (es : List Entry) → Kept before fs es
+pub kept_length : (before : List Entry) (fs : List (Field ℕ)) (es : List Entry) → Kept before fs es
     → length es ≡ length fs
-kept-length before [] [] k = refl
-kept-length before [] (e ∷ es) k = absurd k
-kept-length before (f ∷ fs) [] k = absurd k
-kept-length before (f ∷ fs) (e ∷ es) k = ap suc (kept-length (before ++ (e ∷ [])) fs es k.1)
+kept_length before [] [] k = refl
+kept_length before [] (e ∷ es) k = absurd k
+kept_length before (f ∷ fs) [] k = absurd k
+kept_length before (f ∷ fs) (e ∷ es) k = ap suc (kept_length (before ++ (e ∷ [])) fs es k.1)
 
 module _ (d : Description) (packet run after : List ℕ) (n : ℕ) where
   -- the packet was read to the entries in the run
@@ -49,17 +49,17 @@ module _ (d : Description) (packet run after : List ℕ) (n : ℕ) where
       → leaves (accepted n) after ≡ leaves (reading_answer got packet) (run_after got run) → ReadToRun
   unfolding reading_answer
   completed (complete es) t h e =
-      let k : length es ≡ length d.fields = kept-length [] d.fields es (conditions_kept d packet es h) in
+      let k : length es ≡ length d.fields = kept_length [] d.fields es (conditions_kept d packet es h) in
       let w = joined numbers_of es in
       let b : after ≡ w ++ drop (length w) run = ap (λ (o : Outcome). o.buffer) e in
-      let back : entries_in (length d.fields) after ≡ es = rw (← k, b) (entries-back es _) in
+      let back : entries_in (length d.fields) after ≡ es = rw (← k, b) (entries_back es _) in
       (ap (λ (x : Outcome). x.answer.amount) e, rw back h)
   completed (refusing a) t h e =
       let z : 0 ≡ a.number = ap (λ (x : Outcome). x.answer.number) e in absurd (omega (arith, t.0))
 
-  pub read-to-run : leaves (accepted n) after ≡ packet_outcome d packet run → ReadToRun
+  pub read_to_run : leaves (accepted n) after ≡ packet_outcome d packet run → ReadToRun
   unfolding packet_outcome_in
-  read-to-run = go (not (is_too_long packet) && ltb (length run) (4 * length d.fields))
+  read_to_run = go (not (is_too_long packet) && ltb (length run) (4 * length d.fields))
     where
       go : (x : Bool)
           → leaves (accepted n) after
@@ -67,7 +67,7 @@ module _ (d : Description) (packet run after : List ℕ) (n : ℕ) where
           (leaves (reading_answer (reading d packet) packet) (run_after (reading d packet) run))
           → ReadToRun
       go true e = absurd (omega (arith, ap (λ (x : Outcome). x.answer.number) e))
-      go false e = completed (reading d packet) (reading-told d packet) refl e
+      go false e = completed (reading d packet) (reading_told d packet) refl e
 
   covering : ReadToRun → Covered d packet (entries_in (length d.fields) after) n
   covering r =
@@ -90,6 +90,6 @@ packet_covered table packet run after n h = go (good_decidable table) (h (good_d
         → (g : Good table) × Covered g.description packet (entries_in (length g.description.fields) after) n
     go (yes g) e = (
       g,
-      covering g.description packet run after n (read-to-run g.description packet run after n e),
+      covering g.description packet run after n (read_to_run g.description packet run after n e),
     )
     go (no m) e = absurd (omega (arith, ap (λ (o : Outcome). o.answer.number) e))

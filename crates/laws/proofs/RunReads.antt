@@ -9,11 +9,11 @@ use lib.ListN.{length, length-append}
 use borrow.Author.Tests.{le-leb, lt-leb}
 use Rattle.base.specs.Lists.{all, any, between, first_break}
 use Rattle.base.proofs.Lists.{and_both, and_left, and_right, or_left, or_right}
-use Rattle.base.proofs.Breaks.{first_break-cons}
+use Rattle.base.proofs.Breaks.{first_break_cons}
 use Rattle.rules.specs.Fields.{Field}
 use Rattle.rules.specs.References.{field_reads}
 use Rattle.rules.specs.Edits.{renumbered, opened, reads_run, first_reader}
-use Rattle.laws.proofs.Renumbering.{opened_outside, field-reads}
+use Rattle.laws.proofs.Renumbering.{opened_outside, field_reads_lem}
 
 -- ── no break, in parts ──
 
@@ -23,13 +23,13 @@ module _ {A : Type 0} (keeps : List A → A → Bool) where
   unfolding first_break
   kept_cons before x l e h = rw e h
 
-  pub kept-parts : (before l m : List A) → first_break keeps before (l ++ m) ≡ none
+  pub kept_parts : (before l m : List A) → first_break keeps before (l ++ m) ≡ none
       → (first_break keeps before l ≡ none) × (first_break keeps (before ++ l) m ≡ none)
   unfolding first_break
-  kept-parts before [] m h = (refl, rw (append-nil before) h)
-  kept-parts before (x ∷ l) m h =
-      let e = first_break-cons keeps before x (l ++ m) h in
-      let k = kept-parts (before ++ (x ∷ [])) l m e.1 in
+  kept_parts before [] m h = (refl, rw (append-nil before) h)
+  kept_parts before (x ∷ l) m h =
+      let e = first_break_cons keeps before x (l ++ m) h in
+      let k = kept_parts (before ++ (x ∷ [])) l m e.1 in
       (kept_cons before x l e.0 k.0, rw (append_assoc before (x ∷ []) l) at k.1)
 
   pub kept_append : (before l m : List A) → first_break keeps before l ≡ none → first_break keeps (before ++ l) m ≡ none
@@ -37,7 +37,7 @@ module _ {A : Type 0} (keeps : List A → A → Bool) where
   unfolding first_break
   kept_append before [] m h k = rw (append-nil before) at k
   kept_append before (x ∷ l) m h k =
-      let e = first_break-cons keeps before x l h in
+      let e = first_break_cons keeps before x l h in
       kept_cons before x (l ++ m) e.0
       (kept_append (before ++ (x ∷ [])) l m e.1 (rw (append_assoc before (x ∷ []) l) k))
 
@@ -54,9 +54,9 @@ module _ (first last : ℕ) where
   abbrev Parts : Bool → List (Field ℕ) → List (Field ℕ) → Type 0
   Parts part before l = (i : ℕ) → length before ≤ i → i < length before + length l → between first i last ≡ part
 
-  parts-behind : (part : Bool) (before : List (Field ℕ)) (f : Field ℕ) (l : List (Field ℕ))
+  parts_behind : (part : Bool) (before : List (Field ℕ)) (f : Field ℕ) (l : List (Field ℕ))
       → Parts part before (f ∷ l) → Parts part (before ++ (f ∷ [])) l
-  parts-behind part before f l h i p q =
+  parts_behind part before f l h i p q =
       let longer = length-append before (f ∷ []) in
       h i (omega (arith, longer, p)) (omega (arith, longer, q))
 
@@ -65,10 +65,10 @@ module _ (first last : ℕ) where
   unfolding all
   kept_away before [] out h = refl
   kept_away before (f ∷ l) out h =
-      let e = first_break-cons keeps_away before f l h in
+      let e = first_break_cons keeps_away before f l h in
       let here = out (length before) (omega arith) (omega arith) in
       and_both (away f) (all away l) (rw here at e.0)
-      (kept_away (before ++ (f ∷ [])) l (parts-behind false before f l out) e.1)
+      (kept_away (before ++ (f ∷ [])) l (parts_behind false before f l out) e.1)
 
   away_kept : (before l : List (Field ℕ)) → all away l ≡ true → first_break keeps_away before l ≡ none
   unfolding all first_break
@@ -78,21 +78,21 @@ module _ (first last : ℕ) where
       (or_right (between first (length before) last) (away f) (and_left (away f) (all away l) h))
       (away_kept (before ++ (f ∷ [])) l (and_right (away f) (all away l) h))
 
-  inside-kept : (before l : List (Field ℕ)) → Parts true before l → first_break keeps_away before l ≡ none
+  inside_kept : (before l : List (Field ℕ)) → Parts true before l → first_break keeps_away before l ≡ none
   unfolding first_break
-  inside-kept before [] h = refl
-  inside-kept before (f ∷ l) h =
+  inside_kept before [] h = refl
+  inside_kept before (f ∷ l) h =
       kept_cons keeps_away before f l
       (or_left (between first (length before) last) (away f) (h (length before) (omega arith) (omega arith)))
-      (inside-kept (before ++ (f ∷ [])) l (parts-behind true before f l h))
+      (inside_kept (before ++ (f ∷ [])) l (parts_behind true before f l h))
 
   -- a run gs between xs and ys
   module _ (xs gs ys : List (Field ℕ)) (start : length xs ≡ first) (end : suc last ≡ first + length gs) where
     pub none_reads : first_reader first last (xs ++ (gs ++ ys)) ≡ none → (all away xs ≡ true) × (all away ys ≡ true)
     unfolding first_reader
     none_reads h =
-        let e = kept-parts keeps_away [] xs (gs ++ ys) h in
-        let k = kept-parts keeps_away xs gs ys e.1 in (
+        let e = kept_parts keeps_away [] xs (gs ++ ys) h in
+        let k = kept_parts keeps_away xs gs ys e.1 in (
           kept_away [] xs (λ i p q. let low : i < first = omega (arith, start) in rw (lt-leb first i low)) e.0,
           kept_away (xs ++ gs) ys
               (λ i p q.
@@ -108,7 +108,7 @@ module _ (first last : ℕ) where
     reads_none p q =
         kept_append keeps_away [] xs (gs ++ ys) (away_kept [] xs p)
         (kept_append keeps_away xs gs ys
-        (inside-kept xs gs
+        (inside_kept xs gs
         (λ i low high.
         let above : first ≤ i = omega (arith, start) in
         let within : i ≤ last = omega (arith, start, end) in
@@ -117,10 +117,10 @@ module _ (first last : ℕ) where
 
 -- ── old fields read no new one ──
 
-any-map-none : (p : ℕ → Bool) (g : ℕ → ℕ) (l : List ℕ) → ((i : ℕ) → p (g i) ≡ false) → any p (map g l) ≡ false
+any_map_none : (p : ℕ → Bool) (g : ℕ → ℕ) (l : List ℕ) → ((i : ℕ) → p (g i) ≡ false) → any p (map g l) ≡ false
 unfolding any
-any-map-none p g [] h = refl
-any-map-none p g (i ∷ l) h = rw (h i) (any-map-none p g l h)
+any_map_none p g [] h = refl
+any_map_none p g (i ∷ l) h = rw (h i) (any_map_none p g l h)
 
 pub opened_away : (at n last : ℕ) → suc last ≡ at + n → (fs : List (Field ℕ))
     → all (away at last) (map (renumbered (opened at n)) fs) ≡ true
@@ -129,5 +129,5 @@ opened_away at n last h [] = refl
 opened_away at n last h (f ∷ fs) =
     let g = opened at n in
     let e : any (λ i. between at i last) (field_reads (renumbered g f)) ≡ false =
-    rw (field-reads g f) (any-map-none (λ i. between at i last) g (field_reads f) (λ i. opened_outside at n last i h)) in
+    rw (field_reads_lem g f) (any_map_none (λ i. between at i last) g (field_reads f) (λ i. opened_outside at n last i h)) in
     rw e (opened_away at n last h fs)

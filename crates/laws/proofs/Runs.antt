@@ -11,23 +11,23 @@ use Rattle.rules.specs.Edits.{run_length, run, remaining}
 -- fields xs, a run gs from first to last, and fields ys
 module _ (xs gs ys : List (Field ℕ)) (first last : ℕ) (start : length xs ≡ first) (end : suc last ≡ first + length gs)
   where
-    before-run : take first (xs ++ (gs ++ ys)) ≡ xs
-    before-run = rw (← start) (take-append_seam xs (gs ++ ys))
+    before_run : take first (xs ++ (gs ++ ys)) ≡ xs
+    before_run = rw (← start) (take-append_seam xs (gs ++ ys))
 
-    from-run : drop first (xs ++ (gs ++ ys)) ≡ gs ++ ys
-    from-run = rw (← start) (drop-append_seam xs (gs ++ ys))
+    from_run : drop first (xs ++ (gs ++ ys)) ≡ gs ++ ys
+    from_run = rw (← start) (drop-append_seam xs (gs ++ ys))
 
-    behind-run : drop (suc last) (xs ++ (gs ++ ys)) ≡ ys
-    behind-run = rw (end, ← start) (drop-append-add xs (gs ++ ys) (length gs) ∙ drop-append_seam gs ys)
+    behind_run : drop (suc last) (xs ++ (gs ++ ys)) ≡ ys
+    behind_run = rw (end, ← start) (drop-append-add xs (gs ++ ys) (length gs) ∙ drop-append_seam gs ys)
 
     size : run_length first last ≡ length gs
     size = omega (arith, end)
 
-    pub remaining-between : remaining first last (xs ++ (gs ++ ys)) ≡ xs ++ ys
-    remaining-between = rw (before-run, behind-run)
+    pub remaining_between : remaining first last (xs ++ (gs ++ ys)) ≡ xs ++ ys
+    remaining_between = rw (before_run, behind_run)
 
-    pub run-between : run first last (xs ++ (gs ++ ys)) ≡ gs
-    run-between = rw (from-run, size) (take-append_seam gs ys)
+    pub run_between : run first last (xs ++ (gs ++ ys)) ≡ gs
+    run_between = rw (from_run, size) (take-append_seam gs ys)
 
 -- fields with a run in them are those before it, the run and those behind it
 pub record Split (first last : ℕ) (fs : List (Field ℕ)) : Type 0 where

@@ -49,10 +49,10 @@ use Rattle.laws.proofs.Decidable.{good_decidable, good_decidable_in}
 table_of : Answer → TableAnswer
 table_of a = cond (eqb a.number 0) (TableAnswer.Good a.amount) TableAnswer.NotGood
 
-table-back : (r : TableAnswer) → table_of (of_table r) ≡ r
+table_back : (r : TableAnswer) → table_of (of_table r) ≡ r
 unfolding table_of of_table
-table-back (TableAnswer.Good n) = refl
-table-back TableAnswer.NotGood = refl
+table_back (TableAnswer.Good n) = refl
+table_back TableAnswer.NotGood = refl
 
 packet_of : Answer → PacketAnswer
 packet_of a =
@@ -66,18 +66,18 @@ packet_of a =
     (cond (eqb a.number 27) (PacketAnswer.Refused Fault.OutOfRange a.place)
     (cond (eqb a.number 29) (PacketAnswer.Refused Fault.ZeroDivisor a.place) PacketAnswer.LeftOver))))))))
 
-packet-back : (r : PacketAnswer) → packet_of (of_packet r) ≡ r
+packet_back : (r : PacketAnswer) → packet_of (of_packet r) ≡ r
 unfolding packet_of of_packet fault_number
-packet-back (PacketAnswer.Accepted n) = refl
-packet-back PacketAnswer.NotGood = refl
-packet-back PacketAnswer.TooLong = refl
-packet-back PacketAnswer.ShortRun = refl
-packet-back (PacketAnswer.Refused Fault.BitsMissing i) = refl
-packet-back (PacketAnswer.Refused Fault.ConstraintFalse i) = refl
-packet-back (PacketAnswer.Refused Fault.AbsentRead i) = refl
-packet-back (PacketAnswer.Refused Fault.OutOfRange i) = refl
-packet-back (PacketAnswer.Refused Fault.ZeroDivisor i) = refl
-packet-back PacketAnswer.LeftOver = refl
+packet_back (PacketAnswer.Accepted n) = refl
+packet_back PacketAnswer.NotGood = refl
+packet_back PacketAnswer.TooLong = refl
+packet_back PacketAnswer.ShortRun = refl
+packet_back (PacketAnswer.Refused Fault.BitsMissing i) = refl
+packet_back (PacketAnswer.Refused Fault.ConstraintFalse i) = refl
+packet_back (PacketAnswer.Refused Fault.AbsentRead i) = refl
+packet_back (PacketAnswer.Refused Fault.OutOfRange i) = refl
+packet_back (PacketAnswer.Refused Fault.ZeroDivisor i) = refl
+packet_back PacketAnswer.LeftOver = refl
 
 field_of : Answer → FieldAnswer
 field_of a =
@@ -93,10 +93,10 @@ field_back FieldAnswer.Unknown = refl
 listing_of : Answer → ListingAnswer
 listing_of a = cond (eqb a.number 0) (ListingAnswer.Written a.amount) ListingAnswer.NoRoom
 
-listing-back : (r : ListingAnswer) → listing_of (of_listing r) ≡ r
+listing_back : (r : ListingAnswer) → listing_of (of_listing r) ≡ r
 unfolding listing_of of_listing
-listing-back (ListingAnswer.Written n) = refl
-listing-back ListingAnswer.NoRoom = refl
+listing_back (ListingAnswer.Written n) = refl
+listing_back ListingAnswer.NoRoom = refl
 
 text_of : Answer → TextAnswer
 text_of a =
@@ -112,20 +112,20 @@ text_of a =
     (cond (eqb a.number 9) (TextAnswer.BadName a.place)
     (cond (eqb a.number 10) (TextAnswer.BadRest a.place) TextAnswer.NoRoom))))))))))
 
-text-back : (r : TextAnswer) → text_of (of_text r) ≡ r
+text_back : (r : TextAnswer) → text_of (of_text r) ≡ r
 unfolding text_of of_text
-text-back (TextAnswer.Accepted n) = refl
-text-back TextAnswer.TooLong = refl
-text-back TextAnswer.BadByte = refl
-text-back (TextAnswer.BadLine p) = refl
-text-back TextAnswer.TooMany = refl
-text-back (TextAnswer.BadForm p) = refl
-text-back (TextAnswer.OverLimit p) = refl
-text-back (TextAnswer.Mismatch p) = refl
-text-back (TextAnswer.Repeated p) = refl
-text-back (TextAnswer.BadName p) = refl
-text-back (TextAnswer.BadRest p) = refl
-text-back TextAnswer.NoRoom = refl
+text_back (TextAnswer.Accepted n) = refl
+text_back TextAnswer.TooLong = refl
+text_back TextAnswer.BadByte = refl
+text_back (TextAnswer.BadLine p) = refl
+text_back TextAnswer.TooMany = refl
+text_back (TextAnswer.BadForm p) = refl
+text_back (TextAnswer.OverLimit p) = refl
+text_back (TextAnswer.Mismatch p) = refl
+text_back (TextAnswer.Repeated p) = refl
+text_back (TextAnswer.BadName p) = refl
+text_back (TextAnswer.BadRest p) = refl
+text_back TextAnswer.NoRoom = refl
 
 conversion_of : Answer → ConversionAnswer
 conversion_of a =
@@ -138,20 +138,20 @@ conversion_back (ConversionAnswer.Converted n) = refl
 conversion_back ConversionAnswer.NotGood = refl
 conversion_back ConversionAnswer.NoRoom = refl
 
-pub table-number : (a b : TableAnswer) → of_table a ≡ of_table b → a ≡ b
-table-number a b e = sym (table-back a) ∙ ap table_of e ∙ table-back b
+pub table_number : (a b : TableAnswer) → of_table a ≡ of_table b → a ≡ b
+table_number a b e = sym (table_back a) ∙ ap table_of e ∙ table_back b
 
-pub packet-number : (a b : PacketAnswer) → of_packet a ≡ of_packet b → a ≡ b
-packet-number a b e = sym (packet-back a) ∙ ap packet_of e ∙ packet-back b
+pub packet_number : (a b : PacketAnswer) → of_packet a ≡ of_packet b → a ≡ b
+packet_number a b e = sym (packet_back a) ∙ ap packet_of e ∙ packet_back b
 
-pub listing-number : (a b : ListingAnswer) → of_listing a ≡ of_listing b → a ≡ b
-listing-number a b e = sym (listing-back a) ∙ ap listing_of e ∙ listing-back b
+pub listing_number : (a b : ListingAnswer) → of_listing a ≡ of_listing b → a ≡ b
+listing_number a b e = sym (listing_back a) ∙ ap listing_of e ∙ listing_back b
 
-pub field-number : (a b : FieldAnswer) → of_field a ≡ of_field b → a ≡ b
-field-number a b e = sym (field_back a) ∙ ap field_of e ∙ field_back b
+pub field_number : (a b : FieldAnswer) → of_field a ≡ of_field b → a ≡ b
+field_number a b e = sym (field_back a) ∙ ap field_of e ∙ field_back b
 
-pub text-number : (a b : TextAnswer) → of_text a ≡ of_text b → a ≡ b
-text-number a b e = sym (text-back a) ∙ ap text_of e ∙ text-back b
+pub text_number : (a b : TextAnswer) → of_text a ≡ of_text b → a ≡ b
+text_number a b e = sym (text_back a) ∙ ap text_of e ∙ text_back b
 
 pub conversion_number : (a b : ConversionAnswer) → of_conversion a ≡ of_conversion b → a ≡ b
 conversion_number a b e = sym (conversion_back a) ∙ ap conversion_of e ∙ conversion_back b
@@ -171,14 +171,14 @@ apart told back a b after other e =
 
 pub table_settled : (table : List ℕ) (a b : TableAnswer) → ChecksTable table (of_table a) → ChecksTable table (of_table b)
     → a ≡ b
-table_settled table a b p q = table-number a b (both table _ (of_table a) (of_table b) p q)
+table_settled table a b p q = table_number a b (both table _ (of_table a) (of_table b) p q)
 
 pub packet_settled : (table packet run : List ℕ) (a b : PacketAnswer) (after other : List ℕ)
     → ReadsPacket table packet run (leaves (of_packet a) after)
     → ReadsPacket table packet run (leaves (of_packet b) other)
     → (a ≡ b) × (after ≡ other)
 packet_settled table packet run a b after other p q =
-    apart of_packet packet-number a b after other
+    apart of_packet packet_number a b after other
     (both table _ (leaves (of_packet a) after) (leaves (of_packet b) other) p q)
 
 pub listing_settled : (table packet out : List ℕ) (a b : ListingAnswer) (after other : List ℕ)
@@ -186,12 +186,12 @@ pub listing_settled : (table packet out : List ℕ) (a b : ListingAnswer) (after
     → ListsPacket table packet out (leaves (of_listing b) other)
     → (a ≡ b) × (after ≡ other)
 listing_settled table packet out a b after other p q =
-    apart of_listing listing-number a b after other
+    apart of_listing listing_number a b after other
     (both table _ (leaves (of_listing a) after) (leaves (of_listing b) other) p q)
 
 pub index_settled : (table name : List ℕ) (a b : FieldAnswer) → FindsField table name (of_field a)
     → FindsField table name (of_field b) → a ≡ b
-index_settled table name a b p q = field-number a b (both table _ (of_field a) (of_field b) p q)
+index_settled table name a b p q = field_number a b (both table _ (of_field a) (of_field b) p q)
 
 -- the part that is lent, and its place
 lent_settled : (table buffer : List ℕ) (from : ℕ × ℕ) (part : Dec (Good table) → Part) (bytes others : List ℕ)
@@ -207,39 +207,39 @@ pub lent_part_settled : (table packet : List ℕ) (i : ℕ) (from : ℕ × ℕ) 
 lent_part_settled table packet i from bytes others at other p q =
     lent_settled table packet from (λ good. part_by good packet i) bytes others at other p q
 
-pub lent-label_settled : (table : List ℕ) (i : ℕ) (from : ℕ × ℕ) (bytes others : List ℕ) (at other : ℕ × ℕ)
+pub lent_label_settled : (table : List ℕ) (i : ℕ) (from : ℕ × ℕ) (bytes others : List ℕ) (at other : ℕ × ℕ)
     → LendsLabel table i from bytes at → LendsLabel table i from others other → (bytes ≡ others) × (at ≡ other)
-lent-label_settled table i from bytes others at other p q =
+lent_label_settled table i from bytes others at other p q =
     lent_settled table table from (λ good. label_by good i) bytes others at other p q
 
 pub part_place_settled : (table packet : List ℕ) (i : ℕ) (part other : Part) → PlacesPart table packet i part
     → PlacesPart table packet i other → part ≡ other
 part_place_settled table packet i part other p q = both table _ part other p q
 
-pub label-place_settled : (table : List ℕ) (i : ℕ) (part other : Part) → PlacesLabel table i part
+pub label_place_settled : (table : List ℕ) (i : ℕ) (part other : Part) → PlacesLabel table i part
     → PlacesLabel table i other → part ≡ other
-label-place_settled table i part other p q = both table _ part other p q
+label_place_settled table i part other p q = both table _ part other p q
 
-pub lent-short_settled : (table : List ℕ) (i : ℕ) (from : ℕ × ℕ) (bytes others : List ℕ) (at other : ℕ × ℕ)
+pub lent_short_settled : (table : List ℕ) (i : ℕ) (from : ℕ × ℕ) (bytes others : List ℕ) (at other : ℕ × ℕ)
     → LendsShort table i from bytes at → LendsShort table i from others other → (bytes ≡ others) × (at ≡ other)
-lent-short_settled table i from bytes others at other p q =
+lent_short_settled table i from bytes others at other p q =
     lent_settled table table from (λ good. short_by good i) bytes others at other p q
 
-pub short-place_settled : (table : List ℕ) (i : ℕ) (part other : Part) → PlacesShort table i part
+pub short_place_settled : (table : List ℕ) (i : ℕ) (part other : Part) → PlacesShort table i part
     → PlacesShort table i other → part ≡ other
-short-place_settled table i part other p q = both table _ part other p q
+short_place_settled table i part other p q = both table _ part other p q
 
 pub count_settled : (table : List ℕ) (a b : TableAnswer) → CountsFields table (of_table a)
     → CountsFields table (of_table b) → a ≡ b
-count_settled table a b p q = table-number a b (both table _ (of_table a) (of_table b) p q)
+count_settled table a b p q = table_number a b (both table _ (of_table a) (of_table b) p q)
 
 pub kind_settled : (table : List ℕ) (i : ℕ) (a b : FieldAnswer) → TellsKind table i (of_field a)
     → TellsKind table i (of_field b) → a ≡ b
-kind_settled table i a b p q = field-number a b (both table _ (of_field a) (of_field b) p q)
+kind_settled table i a b p q = field_number a b (both table _ (of_field a) (of_field b) p q)
 
 pub readers_settled : (table : List ℕ) (i : ℕ) (a b : FieldAnswer) → CountsReaders table i (of_field a)
     → CountsReaders table i (of_field b) → a ≡ b
-readers_settled table i a b p q = field-number a b (both table _ (of_field a) (of_field b) p q)
+readers_settled table i a b p q = field_number a b (both table _ (of_field a) (of_field b) p q)
 
 pub conversion_settled : (table out : List ℕ) (a b : ConversionAnswer) (after other : List ℕ)
     → ConvertsTable table out (leaves (of_conversion a) after)
@@ -254,7 +254,7 @@ pub partly_settled : (table packet run : List ℕ) (a b : PacketAnswer) (after o
     → ReadsPartly table packet run (leaves_partly (of_packet b) other m) → (a ≡ b) × (after ≡ other) × (n ≡ m)
 partly_settled table packet run a b after other n m p q =
     let e = both table _ (leaves_partly (of_packet a) after n) (leaves_partly (of_packet b) other m) p q in
-    let o = apart of_packet packet-number a b after other (ap (λ (x : Partly). x.outcome) e) in
+    let o = apart of_packet packet_number a b after other (ap (λ (x : Partly). x.outcome) e) in
     (o.0, o.1, ap (λ (x : Partly). x.count) e)
 
 -- a text, whose outcome is the only one (text_laws, TextResults)
@@ -262,4 +262,4 @@ pub text_settled : TextUnique → (text out : List ℕ) (a b : TextAnswer) (afte
     → ReadsText text out (leaves (of_text a) after) → ReadsText text out (leaves (of_text b) other)
     → (a ≡ b) × (after ≡ other)
 text_settled unique text out a b after other p q =
-    apart of_text text-number a b after other (unique text out (leaves (of_text a) after) (leaves (of_text b) other) p q)
+    apart of_text text_number a b after other (unique text out (leaves (of_text a) after) (leaves (of_text b) other) p q)

@@ -33,9 +33,9 @@ use Rattle.base.specs.Lists.{between, sum}
 use Rattle.rules.specs.Edits.{closed, run_length}
 use Rattle.rules.specs.Reading.{Entry, absent, value_in}
 use Rattle.rules.specs.EditResults.{spread, width_of}
-use Rattle.laws.proofs.Renumbering.{closed-low, closed-high}
+use Rattle.laws.proofs.Renumbering.{closed_low, closed_high}
 use Rattle.laws.proofs.RenumberedReads.{Alike}
-use Rattle.laws.proofs.ReadSteps.{width-append}
+use Rattle.laws.proofs.ReadSteps.{width_append}
 
 -- an index outside a run lies before it or behind it
 pub outside : (first i last : ℕ) → between first i last ≡ false → (i < first) ⊎ (last < i)
@@ -48,17 +48,17 @@ outside first i last h = go (ltb i first) refl
 -- ── with others behind them ──
 
 module _ (at n : ℕ) where
-  pub spread-append : (es more : List Entry) → at ≤ length es → spread at n (es ++ more) ≡ spread at n es ++ more
-  spread-append es more le =
+  pub spread_append : (es more : List Entry) → at ≤ length es → spread at n (es ++ more) ≡ spread at n es ++ more
+  spread_append es more le =
       let gap = replicate n absent in
       rw (take-append-le at es more le, drop-append-le at es more le)
       (sym (append_assoc (take at es) (gap ++ drop at es) more
       ∙ ap (λ (l : List Entry). take at es ++ l) (append_assoc gap (drop at es) more)))
 
   -- few entries and one more stay where they are
-  pub spread-front : (es : List Entry) (e : Entry) (more : List Entry) → length es < at
+  pub spread_front : (es : List Entry) (e : Entry) (more : List Entry) → length es < at
       → (rest : List Entry) × (spread at n (es ++ (e ∷ more)) ≡ es ++ (e ∷ rest))
-  spread-front es e more lt =
+  spread_front es e more lt =
       let k = at - suc (length es) in
       let behind = replicate n absent ++ drop at (es ++ (e ∷ more)) in
       let s : at ≡ length es + suc k = omega arith in
@@ -68,8 +68,8 @@ module _ (at n : ℕ) where
         ap (λ (l : List Entry). l ++ behind) front ∙ append_assoc es (e ∷ take k more) behind,
       )
 
-  pub spread-length : (es : List Entry) → at ≤ length es → length (spread at n es) ≡ length es + n
-  spread-length es le =
+  pub spread_length : (es : List Entry) → at ≤ length es → length (spread at n es) ≡ length es + n
+  spread_length es le =
       let gap = replicate n absent in
       omega (
         arith,
@@ -82,32 +82,32 @@ module _ (at n : ℕ) where
 
 -- ── widths ──
 
-absent-width : (n : ℕ) → width_of (replicate n absent) ≡ 0
+absent_width : (n : ℕ) → width_of (replicate n absent) ≡ 0
 unfolding sum
-absent-width zero = refl
-absent-width (suc n) = omega (arith, absent-width n)
+absent_width zero = refl
+absent_width (suc n) = omega (arith, absent_width n)
 
-pub spread-width : (at n : ℕ) (es : List Entry) → width_of (spread at n es) ≡ width_of es
-spread-width at n es =
+pub spread_width : (at n : ℕ) (es : List Entry) → width_of (spread at n es) ≡ width_of es
+spread_width at n es =
     let gap = replicate n absent in
     omega (
       arith,
-      width-append (take at es) (gap ++ drop at es),
-      width-append gap (drop at es),
-      absent-width n,
-      ap width_of (sym (take-append-drop at es)) ∙ width-append (take at es) (drop at es),
+      width_append (take at es) (gap ++ drop at es),
+      width_append gap (drop at es),
+      absent_width n,
+      ap width_of (sym (take-append-drop at es)) ∙ width_append (take at es) (drop at es),
     )
 
 -- ── what stands at an index ──
 
 module _ (at n : ℕ) (es : List Entry) (le : at ≤ length es) where
-  entry-low : (i : ℕ) → i < at → get_or (spread at n es) i absent ≡ get_or es i absent
-  entry-low i lt =
+  entry_low : (i : ℕ) → i < at → get_or (spread at n es) i absent ≡ get_or es i absent
+  entry_low i lt =
       let front : i < length (take at es) = omega (arith, length-take-le at es le) in
       get_or-append (take at es) (replicate n absent ++ drop at es) absent i front ∙ get_or-take at es i absent lt
 
-  entry-high : (i : ℕ) → at + n ≤ i → get_or (spread at n es) i absent ≡ get_or es (i - n) absent
-  entry-high i lo =
+  entry_high : (i : ℕ) → at + n ≤ i → get_or (spread at n es) i absent ≡ get_or es (i - n) absent
+  entry_high i lo =
       let gap = replicate n absent in
       let k = i - (at + n) in
       let s : i ≡ length (take at es) + (length gap + k)
@@ -128,32 +128,32 @@ module _ (first last : ℕ) (run : first ≤ last) where
   SpreadAlike es old = Alike (closed first (run_length first last)) (λ i. between first i last) es old
 
   -- before the run nothing is spread
-  pub alike-front : (es : List Entry) → length es ≤ first → SpreadAlike es es
-  alike-front es few i h = go (outside first i last h)
+  pub alike_front : (es : List Entry) → length es ≤ first → SpreadAlike es es
+  alike_front es few i h = go (outside first i last h)
     where
       n : ℕ
       n = run_length first last
 
       go : (i < first) ⊎ (last < i) → value_in es (closed first n i) ≡ value_in es i
-      go (inl low) = rw (closed-low first n i low) refl
+      go (inl low) = rw (closed_low first n i low) refl
       go (inr high) =
           let above : first ≤ i = omega arith in
           let none : length es ≤ i - n = omega arith in
           let none_old : length es ≤ i = omega arith in
-          rw (closed-high first n i above) (value_same es es (i - n) i
+          rw (closed_high first n i above) (value_same es es (i - n) i
           (get_or-eq_default es absent none ∙ sym (get_or-eq_default es absent none_old)))
 
-  pub alike-spread : (es : List Entry) → first ≤ length es → SpreadAlike es (spread first (run_length first last) es)
-  alike-spread es le i h = go (outside first i last h)
+  pub alike_spread : (es : List Entry) → first ≤ length es → SpreadAlike es (spread first (run_length first last) es)
+  alike_spread es le i h = go (outside first i last h)
     where
       n : ℕ
       n = run_length first last
 
       go : (i < first) ⊎ (last < i) → value_in es (closed first n i) ≡ value_in (spread first n es) i
       go (inl low) =
-          rw (closed-low first n i low) (value_same es (spread first n es) i i (sym (entry-low first n es le i low)))
+          rw (closed_low first n i low) (value_same es (spread first n es) i i (sym (entry_low first n es le i low)))
       go (inr high) =
           let above : first ≤ i = omega arith in
           let beyond : first + n ≤ i = omega arith in
-          rw (closed-high first n i above) (value_same es (spread first n es) (i - n) i
-          (sym (entry-high first n es le i beyond)))
+          rw (closed_high first n i above) (value_same es (spread first n es) (i - n) i
+          (sym (entry_high first n es le i beyond)))

@@ -16,8 +16,8 @@ use Rattle.rules.specs.Stored.{stored_field_in, records_in, records, stored, Goo
 use Rattle.rules.specs.Edits.{renumbered, closed, run_length, run, remaining, cut, put, first_reader}
 use Rattle.rules.specs.Promises.{delivered, by_table, is_run, by_limits, cut_outcome, Joins, put_outcome}
 use Rattle.rules.specs.EditResults.{CutUndoesPut, PutUndoesCut}
-use Rattle.laws.proofs.Delivered.{written-at-start}
-use Rattle.laws.proofs.CutPut.{run_bounds, cut-put, put-unread, put-length, put-cut}
+use Rattle.laws.proofs.Delivered.{written_at_start}
+use Rattle.laws.proofs.CutPut.{run_bounds, cut_put, put_unread, put_length, put_cut}
 use Rattle.laws.proofs.EditsDone.{cut_done, put_done}
 use Rattle.laws.proofs.EditsSettled.{by_table_lem, by_limits_lem, by_records_lem}
 
@@ -30,36 +30,36 @@ by_stored d w table e f x good =
 -- ── cutting what was put in ──
 
 -- bytes that are not none are the records of some fields
-some-fields : (numbers : ℕ → ℕ) (gs : List (Field ℕ)) → is_empty (records numbers 0 gs) ≡ false → 0 < length gs
+some_fields : (numbers : ℕ → ℕ) (gs : List (Field ℕ)) → is_empty (records numbers 0 gs) ≡ false → 0 < length gs
 unfolding records_in
-some-fields numbers [] h = absurd (let z : ◌≡◌ {A = ℕ} 0 1 = cc in omega arith)
-some-fields numbers (g ∷ gs) h = omega arith
+some_fields numbers [] h = absurd (let z : ◌≡◌ {A = ℕ} 0 1 = cc in omega arith)
+some_fields numbers (g ∷ gs) h = omega arith
 
 module _ (at last : ℕ) (gs : List (Field ℕ)) (d : Description)
     (end : suc last ≡ at + length gs) (more : 0 < length gs) (inside : at ≤ length d.fields) where
-  is-run : is_run at last (put at gs d).fields ≡ true
-  is-run =
+  is_run_lem : is_run at last (put at gs d).fields ≡ true
+  is_run_lem =
       let a : at ≤ last = omega (arith, end) in
-      let b : last < length (put at gs d).fields = omega (arith, end, put-length at gs d) in
+      let b : last < length (put at gs d).fields = omega (arith, end, put_length at gs d) in
       rw (le-leb at last a, lt-ltb last (length (put at gs d).fields) b)
 
   cut_again : Within d → (fits : (e : Description) → Dec (Within e)) (out : List ℕ)
       → cut_outcome at last (put at gs d) (fits (cut at last (put at gs d))) out ≡ delivered (stored d) out
   unfolding cut_outcome
   cut_again w fits out =
-      rw (is-run, put-unread at last gs d end inside)
+      rw (is_run_lem, put_unread at last gs d end inside)
       (subst (λ (e : Description). by_limits (fits e) out ≡ delivered (stored d) out)
-      (sym (cut-put at last gs d end inside)) (by_limits_lem d out (fits d) (yes w)))
+      (sym (cut_put at last gs d end inside)) (by_limits_lem d out (fits d) (yes w)))
 
 pub cut_undoes_put : CutUndoesPut
 cut_undoes_put table bytes out after at n p =
     let c = put_done table bytes out after at n p in
     let d = c.good.description in
     let gs = c.joins.fields in
-    let more : 0 < length gs = some-fields c.joins.numbers gs (rw c.joins.are_stored c.given) in
+    let more : 0 < length gs = some_fields c.joins.numbers gs (rw c.joins.are_stored c.given) in
     let last : ℕ = at + length gs - 1 in
     let end : suc last ≡ at + length gs = omega (arith, more) in
-    let new = (written-at-start (stored (put at gs d)) out after n c.written).2 in (
+    let new = (written_at_start (stored (put at gs d)) out after n c.written).2 in (
       c.good,
       c.joins,
       last,
@@ -74,10 +74,10 @@ cut_undoes_put table bytes out after at n p =
 -- ── putting in what was cut ──
 
 -- some fields have records that are not none
-some-records : (numbers : ℕ → ℕ) (gs : List (Field ℕ)) → 0 < length gs → is_empty (records numbers 0 gs) ≡ false
+some_records : (numbers : ℕ → ℕ) (gs : List (Field ℕ)) → 0 < length gs → is_empty (records numbers 0 gs) ≡ false
 unfolding records_in stored_field_in le2
-some-records numbers [] h = absurd (omega arith)
-some-records numbers (g ∷ gs) h = refl
+some_records numbers [] h = absurd (omega arith)
+some_records numbers (g ∷ gs) h = refl
 
 module _ (first last : ℕ) (d : Description) (whole : is_run first last d.fields ≡ true)
     (unread : first_reader first last d.fields ≡ none) (within : Within d) (numbers : ℕ → ℕ) where
@@ -91,7 +91,7 @@ module _ (first last : ℕ) (d : Description) (whole : is_run first last d.field
   high = (run_bounds first last d.fields whole).1
 
   back : put first gone (cut first last d) ≡ d
-  back = put-cut first last d low high unread
+  back = put_cut first last d low high unread
 
   abbrev joins_back : Joins first (records numbers 0 gone) (cut first last d)
   joins_back =
@@ -104,9 +104,9 @@ module _ (first last : ℕ) (d : Description) (whole : is_run first last d.field
       rw (length-drop first d.fields) (omega (arith, low, high)) in
       omega (arith, low, length-take-le (run_length first last) after fits)
 
-  place-there : first ≤ length (cut first last d).fields
+  place_there : first ≤ length (cut first last d).fields
   unfolding cut
-  place-there =
+  place_there =
       let l : first ≤ length d.fields = omega (arith, low, high) in
       omega (
         arith,
@@ -120,8 +120,8 @@ module _ (first last : ℕ) (d : Description) (whole : is_run first last d.field
   unfolding put_outcome
   put_again joins out =
       rw (
-        some-records numbers gone some_gone,
-        le-ltb (length (cut first last d).fields) first place-there,
+        some_records numbers gone some_gone,
+        le-ltb (length (cut first last d).fields) first place_there,
       ) (by_records_lem first (records numbers 0 gone) (cut first last d) out joins (yes joins_back)
       ∙ ap (λ (e : Description). delivered (stored e) out) back)
 
@@ -129,7 +129,7 @@ pub put_undoes_cut : PutUndoesCut
 put_undoes_cut table out after first last n p =
     let c = cut_done table out after first last n p in
     let d = c.good.description in
-    let new = (written-at-start (stored (cut first last d)) out after n c.written).2 in (
+    let new = (written_at_start (stored (cut first last d)) out after n c.written).2 in (
       c.good,
       λ numbers room good joins. sym
           (by_stored (cut first last d) c.within (take n after) new

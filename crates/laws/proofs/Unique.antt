@@ -17,8 +17,8 @@ use Rattle.rules.specs.References.{readers}
 use Rattle.rules.specs.Stored.{head_body, stored_with, stored_in}
 use Rattle.rules.specs.Results.{StoredUnique}
 use Rattle.laws.proofs.Readers.{described_in}
-use Rattle.laws.proofs.ReadsNumbers.{read_two_le2, skip-le2, read_counted_counted}
-use Rattle.laws.proofs.ReadsFields.{label-length, read_fields-stored}
+use Rattle.laws.proofs.ReadsNumbers.{read_two_le2, skip_le2, read_counted_counted}
+use Rattle.laws.proofs.ReadsFields.{label_length, read_fields_stored}
 
 pub row_bound : (w : ℕ) → is_row_width w ≡ true → w < 65536
 row_bound w h =
@@ -49,14 +49,14 @@ pub described_sound : (e : Edition) (numbers : ℕ → ℕ) (d : Description) �
     → described_in e (stored_with e numbers d) ≡ d
 unfolding described_in stored_with head_body
 described_sound e numbers d s =
-    let name : length d.name < 65536 = omega (arith, label-length d.name s.name) in
+    let name : length d.name < 65536 = omega (arith, label_length d.name s.name) in
     simp (
       append_assoc,
-      skip-le2,
+      skip_le2,
       read_two_le2 d.row_width (row_bound d.row_width s.row),
       read_two_le2 (length d.fields) s.count,
       read_counted_counted d.name name,
-      read_fields-stored e numbers 0 [] d.fields s.form s.size,
+      read_fields_stored e numbers 0 [] d.fields s.form s.size,
     )
 
 pub described_with : (e : Edition) (numbers : ℕ → ℕ) (d : Description) → WithinIn e d
@@ -70,10 +70,10 @@ described_with e numbers d w =
       size = w.size;
     })
 
-pub described-stored : (e : Edition) (d : Description) → WithinIn e d → described_in e (stored_in e d) ≡ d
+pub described_stored : (e : Edition) (d : Description) → WithinIn e d → described_in e (stored_in e d) ≡ d
 unfolding stored_in
-described-stored e d w = described_with e (readers d.fields) d w
+described_stored e d w = described_with e (readers d.fields) d w
 
 -- two descriptions within the limits that have one stored table are equal
 pub stored_unique : StoredUnique
-stored_unique e c d v w h = sym (described-stored e c v) ∙ ap (described_in e) h ∙ described-stored e d w
+stored_unique e c d v w h = sym (described_stored e c v) ∙ ap (described_in e) h ∙ described_stored e d w

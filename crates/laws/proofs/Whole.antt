@@ -11,7 +11,7 @@ use lib.Seq.{take-append_seam, drop-append_seam, take-append-le, drop-append-le}
 use borrow.Author.Tests.{leb-true, le-leb}
 use Rattle.base.specs.Lists.{all, first_break}
 use Rattle.base.proofs.Lists.{and_both}
-use Rattle.base.proofs.Breaks.{and_true, all_cons, first_break-cons}
+use Rattle.base.proofs.Breaks.{and_true, all_cons, first_break_cons}
 use Rattle.rules.specs.Trees.{le2, is_small}
 use Rattle.rules.specs.Fields.{Field, trees}
 use Rattle.rules.specs.Editions.{current}
@@ -22,11 +22,11 @@ use Rattle.laws.specs.Places.{two_at}
 use Rattle.laws.specs.Records.{whole}
 use Rattle.laws.proofs.Readers.{read_two, read_field}
 use Rattle.laws.proofs.ReadsNumbers.{read_two_le2}
-use Rattle.laws.proofs.ReadsFields.{read_field-stored}
-use Rattle.laws.proofs.PlacesOfNumbers.{length-le2}
+use Rattle.laws.proofs.ReadsFields.{read_field_stored}
+use Rattle.laws.proofs.PlacesOfNumbers.{length_le2}
 use Rattle.laws.proofs.RenumberedLaws.{formed_stays, small_stays}
-use Rattle.laws.proofs.RecordsJoined.{records_here, records-next}
-use Rattle.laws.proofs.FieldSizes.{field-sizes, body-size, record_size}
+use Rattle.laws.proofs.RecordsJoined.{records_here, records_next}
+use Rattle.laws.proofs.FieldSizes.{field_sizes, body_size, record_size}
 
 -- ── fields that are sound ──
 
@@ -42,8 +42,8 @@ pub within_sound : (before fs : List (Field ℕ)) → first_break keeps_form bef
 unfolding all
 within_sound before [] formed small = refl
 within_sound before (f ∷ fs) formed small =
-    let e = first_break-cons keeps_form before f fs formed in
-    let s = first_break-cons keeps_size before f fs small in
+    let e = first_break_cons keeps_form before f fs formed in
+    let s = first_break_cons keeps_size before f fs small in
     and_both (is_sound f) (all is_sound fs) (and_both (is_formed f) (all is_small (trees f)) e.0 s.0)
     (within_sound (before ++ (f ∷ [])) fs e.1 s.1)
 
@@ -70,17 +70,17 @@ sound_stays g (f ∷ fs) h =
 record_short : (n : ℕ) (f : Field ℕ) → is_sound f ≡ true → length (stored_field n f) < 65536
 record_short n f h =
     let s = sound_parts f h in
-    omega (arith, record_size n f, body-size f (field-sizes f s.0 s.1))
+    omega (arith, record_size n f, body_size f (field_sizes f s.0 s.1))
 
-pub first-number : (n : ℕ) (f : Field ℕ) (r : List ℕ) → is_sound f ≡ true
+pub first_number : (n : ℕ) (f : Field ℕ) (r : List ℕ) → is_sound f ≡ true
     → two_at (stored_field n f ++ r) 0 ≡ length (stored_field n f)
 unfolding stored_field_in two_at read_two
-first-number n f r h =
+first_number n f r h =
     let inner = le2 n ++ field_body f in
     let m = 4 + length inner in
     let body = le2 (kind_number f.width) ++ inner in
     let size : m ≡ length (stored_field n f) =
-    omega (arith, record_size n f, length-append (le2 n) (field_body f), length-le2 n) in
+    omega (arith, record_size n f, length-append (le2 n) (field_body f), length_le2 n) in
     let short : m < 65536 = omega (arith, size, record_short n f h) in
     ap (λ (l : List ℕ). (read_two l).0) (append_assoc (le2 m) body r)
     ∙ ap (λ (p : ℕ × List ℕ). p.0) (read_two_le2 m short (body ++ r))
@@ -116,42 +116,42 @@ begun N M j k (x ∷ xs) (f ∷ es) r p q h =
     let ours = records M (suc k) es in
     let rest = records N (suc j) xs ++ r in
     let e : ◌≡◌ {A = Field ℕ × List ℕ} (f, ours) (x, rest) =
-    sym (read_field-stored current (M k) f t.0 t.1 ours)
+    sym (read_field_stored current (M k) f t.0 t.1 ours)
     ∙ ap (read_field current) (h ∙ append_assoc (stored_field (N j) x) (records N (suc j) xs) r)
-    ∙ read_field-stored current (N j) x s.0 s.1 rest in
+    ∙ read_field_stored current (N j) x s.0 s.1 rest in
     let i = begun N M (suc j) (suc k) xs es r a.1 b.1 (ap (λ (v : Field ℕ × List ℕ). v.1) e) in
     record {
       more = i.more;
       parts =
           ap (λ (g : Field ℕ). g ∷ es) (ap (λ (v : Field ℕ × List ℕ). v.0) e)
           ∙ ap (λ (l : List (Field ℕ)). x ∷ l) i.parts;
-      back = records-next M k x xs i.more ∙ i.back;
+      back = records_next M k x xs i.more ∙ i.back;
     }
 
 -- ── records that are handed in ──
 
 -- what it says of the first record
-whole-first : (n : ℕ) (s : List ℕ) → whole (suc n) s ≡ true
+whole_first : (n : ℕ) (s : List ℕ) → whole (suc n) s ≡ true
     → (6 ≤ two_at s 0) × (two_at s 0 ≤ length s) × (whole n (drop (two_at s 0) s) ≡ true)
 unfolding whole
-whole-first n s h =
+whole_first n s h =
     let m = two_at s 0 in
     let a = and_true (leb 6 m) (leb m (length s) && whole n (drop m s)) h in
     let b = and_true (leb m (length s)) (whole n (drop m s)) a.1 in
     (leb-true 6 m a.0, leb-true m (length s) b.0, b.1)
 
-whole-none : (s : List ℕ) → whole zero s ≡ true → s ≡ []
+whole_none : (s : List ℕ) → whole zero s ≡ true → s ≡ []
 unfolding whole
-whole-none [] h = refl
-whole-none (b ∷ s) h = absurd (let z : ◌≡◌ {A = ℕ} 0 1 = cc in omega arith)
+whole_none [] h = refl
+whole_none (b ∷ s) h = absurd (let z : ◌≡◌ {A = ℕ} 0 1 = cc in omega arith)
 
 -- bytes are whole records in one number only
-pub whole-once : (k m : ℕ) (s : List ℕ) → whole k s ≡ true → whole m s ≡ true → k ≡ m
-whole-once zero zero s h i = refl
-whole-once zero (suc m) s h i = absurd (omega (arith, ap length (whole-none s h), whole-first m s i))
-whole-once (suc k) zero s h i = absurd (omega (arith, ap length (whole-none s i), whole-first k s h))
-whole-once (suc k) (suc m) s h i =
-    ap suc (whole-once k m (drop (two_at s 0) s) (whole-first k s h).2 (whole-first m s i).2)
+pub whole_once : (k m : ℕ) (s : List ℕ) → whole k s ≡ true → whole m s ≡ true → k ≡ m
+whole_once zero zero s h i = refl
+whole_once zero (suc m) s h i = absurd (omega (arith, ap length (whole_none s h), whole_first m s i))
+whole_once (suc k) zero s h i = absurd (omega (arith, ap length (whole_none s i), whole_first k s h))
+whole_once (suc k) (suc m) s h i =
+    ap suc (whole_once k m (drop (two_at s 0) s) (whole_first k s h).2 (whole_first m s i).2)
 
 -- the records of sound fields are whole
 pub sound_whole : (numbers : ℕ → ℕ) (k : ℕ) (gs : List (Field ℕ)) → all is_sound gs ≡ true
@@ -165,7 +165,7 @@ sound_whole numbers k (f ∷ gs) h =
     let six : 6 ≤ length one = omega (arith, record_size (numbers k) f) in
     let fits : length one ≤ length (one ++ r) = omega (arith, length-append one r) in
     rw (
-      first-number (numbers k) f r b.0,
+      first_number (numbers k) f r b.0,
       le-leb 6 (length one) six,
       le-leb (length one) (length (one ++ r)) fits,
       drop-append_seam one r,
@@ -195,9 +195,9 @@ first_apart : (n m : ℕ) (s r : List ℕ) (f : Field ℕ) (back : List ℕ) →
 first_apart n m s r f back w sound h =
     let one = stored_field m f in
     let l = length one in
-    let v = whole-first n s w in
+    let v = whole_first n s w in
     let size : two_at s 0 ≡ l =
-    sym (first_two s r (omega (arith, v))) ∙ ap (λ (t : List ℕ). two_at t 0) (sym h) ∙ first-number m f back sound in
+    sym (first_two s r (omega (arith, v))) ∙ ap (λ (t : List ℕ). two_at t 0) (sym h) ∙ first_number m f back sound in
     let fits : l ≤ length s = omega (arith, size, v) in
     let first : one ≡ take l s =
     sym (take-append_seam one back) ∙ ap (take l) h ∙ take-append-le l s r fits in (
@@ -210,7 +210,7 @@ pub apart : (n : ℕ) (s r : List ℕ) (M : ℕ → ℕ) (k : ℕ) (es : List (F
     → all is_sound es ≡ true → records M k es ≡ s ++ r → Apart M k n es s r
 unfolding records_in
 apart zero s r M k es w q h =
-    let e = whole-none s w in
+    let e = whole_none s w in
     record {
       front = [];
       more = es;
@@ -219,7 +219,7 @@ apart zero s r M k es w q h =
       back = records_here M k es ∙ h ∙ ap (λ (l : List ℕ). l ++ r) e;
       count = refl;
     }
-apart (suc n) s r M k [] w q h = absurd (omega (arith, ap length h, length-append s r, whole-first n s w))
+apart (suc n) s r M k [] w q h = absurd (omega (arith, ap length h, length-append s r, whole_first n s w))
 apart (suc n) s r M k (f ∷ es) w q h =
     let one = stored_field (M k) f in
     let b = all_cons is_sound f es q in
@@ -230,6 +230,6 @@ apart (suc n) s r M k (f ∷ es) w q h =
       more = i.more;
       parts = ap (λ (t : List (Field ℕ)). f ∷ t) i.parts;
       fore = ap (λ (t : List ℕ). one ++ t) i.fore ∙ e.0;
-      back = records-next M k f i.front i.more ∙ i.back;
+      back = records_next M k f i.front i.more ∙ i.back;
       count = ap suc i.count;
     }

@@ -8,7 +8,7 @@ use native.Mathlib.Omega.{arith}
 use lib.ListN.{length}
 use Rattle.base.specs.Lists.{all, first_break}
 use Rattle.base.proofs.Lists.{and_both, between_true}
-use Rattle.base.proofs.Breaks.{all_cons, first_break-cons}
+use Rattle.base.proofs.Breaks.{all_cons, first_break_cons}
 use Rattle.rules.specs.declared.Op.{Op}
 use Rattle.rules.specs.Editions.{current, without_added}
 use Rattle.rules.specs.Operators.{is_added}
@@ -51,38 +51,38 @@ module _ (means : Meaning) where
 
   -- ── a description without them ──
 
-  none-added-kept : (before l : List (Field ℕ))
+  none_added_kept : (before l : List (Field ℕ))
       → all (λ f. all (has_operators (without_added means).knows) (trees f)) l ≡ true
       → first_break (keeps_operators_in (without_added means)) before l ≡ none
   unfolding first_break
-  none-added-kept before [] h = refl
-  none-added-kept before (f ∷ l) h =
+  none_added_kept before [] h = refl
+  none_added_kept before (f ∷ l) h =
       let e = all_cons (λ g. all (has_operators (without_added means).knows) (trees g)) f l h in
-      rw e.0 (none-added-kept (before ++ (f ∷ [])) l e.1)
+      rw e.0 (none_added_kept (before ++ (f ∷ [])) l e.1)
 
-  kept-none-added : (before l : List (Field ℕ)) → first_break (keeps_operators_in (without_added means)) before l ≡ none
+  kept_none_added : (before l : List (Field ℕ)) → first_break (keeps_operators_in (without_added means)) before l ≡ none
       → all (λ f. all (has_operators (without_added means).knows) (trees f)) l ≡ true
   unfolding all
-  kept-none-added before [] h = refl
-  kept-none-added before (f ∷ l) h =
-      let k = first_break-cons (keeps_operators_in (without_added means)) before f l h in
+  kept_none_added before [] h = refl
+  kept_none_added before (f ∷ l) h =
+      let k = first_break_cons (keeps_operators_in (without_added means)) before f l h in
       and_both (all (has_operators (without_added means).knows) (trees f))
       (all (λ g. all (has_operators (without_added means).knows) (trees g)) l) k.0
-      (kept-none-added (before ++ (f ∷ [])) l k.1)
+      (kept_none_added (before ++ (f ∷ [])) l k.1)
 
   good_without : (table : List ℕ) (good : Good table) → NoneAdded good.description
       → (old : GoodIn (without_added means) table) × (old.description ≡ good.description)
   good_without table good free =
       let c = between_true 1 (length good.description.fields) current.fields good.within.count in
       good_less (without_added means) current without_widens without_alike table good c.1
-      (none-added-kept [] good.description.fields free)
+      (none_added_kept [] good.description.fields free)
 
   reading_stays : (d : Description) → NoneAdded d → (packet : List ℕ)
       → reading d packet ≡ reading_in (without_added means) d packet
   unfolding reading_in
   reading_stays d free packet =
       rw (fields_like (without_added means) current without_widens packet d.fields []
-      (none-added-kept [] d.fields free) [] 0)
+      (none_added_kept [] d.fields free) [] 0)
 
   outcome_stays : (d : Description) → NoneAdded d → (packet run : List ℕ)
       → packet_outcome_in current d packet run ≡ packet_outcome_in (without_added means) d packet run
@@ -117,14 +117,14 @@ module _ (means : Meaning) where
       from p (no bad) = absurd (bad good)
 
   -- 22 is the same number of bytes, so no answer but 21 changes
-  packet-same : (table packet run : List ℕ) (o : Outcome) → ReadsPacketIn (without_added means) table packet run o
+  packet_same : (table packet run : List ℕ) (o : Outcome) → ReadsPacketIn (without_added means) table packet run o
       → (o.answer.number ≡ 21 → ⊥) → ReadsPacket table packet run o
-  packet-same table packet run o p ne = go (good_decidable_in (without_added means) table)
+  packet_same table packet run o p ne = go (good_decidable_in (without_added means) table)
     where
       go : Dec (GoodIn (without_added means) table) → ReadsPacket table packet run o
       go (yes old) =
           let good = stays_good (without_added means) current without_widens without_alike table old in
-          let free = kept-none-added [] old.description.fields old.within.operators in
+          let free = kept_none_added [] old.description.fields old.within.operators in
           (reads_stay table good.0 (subst NoneAdded (sym good.1) free) packet run o).1 p
       go (no bad) = absurd (ne (ap (λ (x : Outcome). x.answer.number) (p (no bad))))
 
@@ -132,23 +132,23 @@ pub without_stays_good : WithoutStaysGood
 without_stays_good means table old =
     stays_good (without_added means) current (without_widens means) (without_alike means) table old
 
-pub none-added-good_without : NoneAddedGoodWithout
-none-added-good_without means table good = (
+pub none_added_good_without : NoneAddedGoodWithout
+none_added_good_without means table good = (
   good_without means table good,
   λ old.
       let e = good_like (without_added means) current (without_widens means) (without_alike means) table old good in
-      subst NoneAdded e (kept-none-added means [] old.description.fields old.within.operators),
+      subst NoneAdded e (kept_none_added means [] old.description.fields old.within.operators),
 )
 
-pub none-added-reading_stays : NoneAddedReadingStays
-none-added-reading_stays means d free packet = reading_stays means d free packet
+pub none_added_reading_stays : NoneAddedReadingStays
+none_added_reading_stays means d free packet = reading_stays means d free packet
 
-pub none-added-reads_stay : NoneAddedReadsStay
-none-added-reads_stay means table good free packet run o = reads_stay means table good free packet run o
+pub none_added_reads_stay : NoneAddedReadsStay
+none_added_reads_stay means table good free packet run o = reads_stay means table good free packet run o
 
 pub without_table_stays : WithoutTableStays
 without_table_stays means table a p ne =
     table_stays (without_added means) current (without_widens means) (without_alike means) table a p ne
 
 pub without_packet_stays : WithoutPacketStays
-without_packet_stays means table packet run o p ne = packet-same means table packet run o p ne
+without_packet_stays means table packet run o p ne = packet_same means table packet run o p ne

@@ -5,14 +5,14 @@ use mathlib.Core.List.{List, [], ◌∷◌}
 use mathlib.Core.Option.{Option, none, some}
 use Prim.Native.Nat.{ℕ}
 use Rattle.base.specs.Lists.{any, same, if_any, list_of}
-use Rattle.base.proofs.Lists.{not-both, fails, same_true, same_self}
+use Rattle.base.proofs.Lists.{not_both, fails, same_true, same_self}
 use Rattle.rules.specs.Limits.{short_most}
 use Rattle.rules.specs.Names.{is_short}
 use Rattle.rules.specs.Fields.{Field}
 use Rattle.rules.specs.Stored.{stored_name}
 use Rattle.rules.specs.Within.{clash}
 use Rattle.names.specs.Repeats.{pad_to, same_name, held_word, names_meet}
-use Rattle.names.proofs.PadLaws.{held_same, none_first, none-second}
+use Rattle.names.proofs.PadLaws.{held_same, none_first, none_second}
 
 -- the order of two words does not matter
 pub same_turn : (a b : List ℕ) → same a b ≡ same b a
@@ -20,8 +20,8 @@ same_turn a b = go (same a b) refl (same b a) refl
   where
     go : (x : Bool) → same a b ≡ x → (y : Bool) → same b a ≡ y → x ≡ y
     go true e true f = refl
-    go true e false f = absurd (not-both (same b a) (rw (same_true a b e) (same_self b)) f)
-    go false e true f = absurd (not-both (same a b) (rw (same_true b a f) (same_self a)) e)
+    go true e false f = absurd (not_both (same b a) (rw (same_true a b e) (same_self b)) f)
+    go false e true f = absurd (not_both (same a b) (rw (same_true b a f) (same_self a)) e)
     go false e false f = refl
 
 -- a short name and a label as they are held
@@ -30,7 +30,7 @@ word_same s l p = go (is_short l) refl
   where
     go : (b : Bool) → is_short l ≡ b → same_name (pad_to short_most s) (pad_to short_most (cond b l [])) ≡ same s l
     go true e = held_same s l p e
-    go false e = none-second s p ∙ sym (fails (same s l) (λ h. not-both (is_short l) (rw (same_true s l h) at p) e))
+    go false e = none_second s p ∙ sym (fails (same s l) (λ h. not_both (is_short l) (rw (same_true s l h) at p) e))
 
 -- a short name as it is held, or none
 abbrev pub held_short : Option (List ℕ) → List ℕ
@@ -63,12 +63,12 @@ both_shape false false true false = refl
 both_shape false false false true = refl
 both_shape false false false false = refl
 
-pub clash-held : {N : Type 0} (f g : Field N) → if_any is_short f.short ≡ true → if_any is_short g.short ≡ true
+pub clash_held_lem : {N : Type 0} (f g : Field N) → if_any is_short f.short ≡ true → if_any is_short g.short ≡ true
     → clash f g
     ≡ (same f.label g.label
     || names_meet (held_short f.short) (held_word f.label) (held_short g.short) (held_word g.label))
 unfolding any names_meet
-clash-held f g p q = go f.short g.short p q
+clash_held_lem f g p q = go f.short g.short p q
   where
     l : List ℕ
     l = f.label
@@ -81,7 +81,7 @@ clash-held f g p q = go f.short g.short p q
         ≡ (same l m || names_meet (held_short a) (held_word l) (held_short b) (held_word m))
     go none none p q = rw (none_first (held_short none), none_first (held_word m), none_first (held_word l))
         (none_shape (same l m))
-    go (some a) none p q = rw (none-second a p, word_same a m p, none_first (held_word l))
+    go (some a) none p q = rw (none_second a p, word_same a m p, none_first (held_word l))
         (first_shape (same l m) (same a m))
     go none (some b) p q = rw (none_first (held_short (some b)), none_first (held_word m), word_same b l q, same_turn b l)
         (second_shape (same l m) (same l b))

@@ -67,12 +67,12 @@ module _ (classes : List ℕ) (known : classes ≡ class_table) (b : ℕ) (fits 
   unfolding is_word_byte
   word_in = rw (letter_in, digit_in) refl
 
-pub name-word : (classes : List ℕ) (label : Bool) (b : ℕ) → is_word_in classes b ≡ true
+pub name_word : (classes : List ℕ) (label : Bool) (b : ℕ) → is_word_in classes b ≡ true
     → is_name_in classes label b ≡ true
-name-word classes true b e = rw e
-name-word classes false b e = e
+name_word classes true b e = rw e
+name_word classes false b e = e
 
 -- a byte that is no letter or digit, in a label
-pub name-label : (classes : List ℕ) (label : Bool) (b : ℕ) → is_word_in classes b ≡ false → label ≡ true
+pub name_label : (classes : List ℕ) (label : Bool) (b : ℕ) → is_word_in classes b ≡ false → label ≡ true
     → is_name_in classes label b ≡ (has_class space_class classes b || eqb b 45)
-name-label classes label b e h = rw (h, e)
+name_label classes label b e h = rw (h, e)

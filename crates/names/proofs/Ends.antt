@@ -1,5 +1,5 @@
 -- The ends of a label and the test of a short name, as the code takes them.
-use mathlib.Core.Path.{◌≡◌, refl, ◌∙◌}
+use mathlib.Core.Path.{◌≡◌, refl}
 use mathlib.Core.Bool.{Bool, true, false, ◌&&◌, ◌||◌, not}
 use mathlib.Core.List.{List, [], ◌∷◌}
 use Prim.Native.Nat.{ℕ, suc, ◌<◌}
@@ -18,9 +18,9 @@ or_false true = refl
 or_false false = refl
 
 module _ (classes : List ℕ) where
-  pub no-ends : (l : List ℕ) → length l ≡ 0 → has_ends_in classes l ≡ false
-  no-ends [] h = refl
-  no-ends (x ∷ l) h = absurd (omega arith)
+  pub no_ends : (l : List ℕ) → length l ≡ 0 → has_ends_in classes l ≡ false
+  no_ends [] h = refl
+  no_ends (x ∷ l) h = absurd (omega arith)
 
   pub ends_are : (l : List ℕ) (n : ℕ) → length l ≡ suc n
       → has_ends_in classes l ≡ (is_word_in classes (get_or l 0 0) && is_word_in classes (get_or l n 0))
@@ -32,11 +32,11 @@ module _ (classes : List ℕ) where
   no_short (x ∷ l) h = absurd (omega arith)
 
   -- in the order in which the code tests
-  pub short-is : (l : List ℕ) → 0 < length l
+  pub short_is : (l : List ℕ) → 0 < length l
       → is_short_in classes l ≡ (has_class letter_class classes (get_or l 0 0)
       && (leb (length l) short_most && (all (is_name_in classes false) l && not (is_reserved l))))
   unfolding is_short_in
-  short-is l h =
+  short_is l h =
       rw (head_get_d (has_class letter_class classes) l h) (swap (has_class letter_class classes (get_or l 0 0))
       (all (is_name_in classes false) l) (leb (length l) short_most))
     where

@@ -8,13 +8,13 @@ use lib.Dec.{eqb}
 use lib.ListN.{length, drop, get_or, set, length-set}
 use lib.Seq.{drop-cons, drop-length}
 use Rattle.base.specs.Lists.{same}
-use Rattle.base.proofs.Lists.{and_left, and_right, not-both, fails, same_true}
+use Rattle.base.proofs.Lists.{and_left, and_right, not_both, fails, same_true}
 use Rattle.base.proofs.Breaks.{or_true}
 use borrow.Author.Tests.{eqb-true, eq-eqb}
 use native.Mathlib.Omega.{arith}
 use Rattle.names.specs.Repeats.{remainders, same_name, names_meet, names_alike}
 use Rattle.names.specs.Keys.{key_part, key_from, word_key, is_new, start_of_both}
-use Rattle.names.proofs.PairLaws.{Inner, Seen, seen_on, seen-kept, inner_starts, inner_none}
+use Rattle.names.proofs.PairLaws.{Inner, Seen, seen_on, seen_kept, inner_starts, inner_none}
 
 pub key_step : (w : List ℕ) (key i b : ℕ) → i < length w → b ≡ get_or w i 0
     → key_from key (drop i w) ≡ key_from (key % key_part * 256 + b) (drop (i + 1) w)
@@ -33,7 +33,7 @@ keys_apart key a b h = fails (same a b) (λ e. h (ap key (same_true a b e)))
 pub same_keys : (a b : List ℕ) → same_name a b ≡ true → (get_or a 0 0 ≡ 0 → ⊥) × (a ≡ b)
 unfolding same_name
 same_keys a b h = (
-  λ z. not-both (not (eqb (get_or a 0 0) 0)) (and_left _ (same a b) h) (rw (eq-eqb _ _ z)),
+  λ z. not_both (not (eqb (get_or a 0 0) 0)) (and_left _ (same a b) h) (rw (eq-eqb _ _ z)),
   same_true a b (and_right (not (eqb (get_or a 0 0) 0)) (same a b) h),
 )
 
@@ -54,7 +54,7 @@ pub new_apart_turned : (seen a b : List ℕ) → is_new seen b ≡ true → get_
 new_apart_turned seen a b n one = fails (same_name b a) (λ h.
     let k = same_keys b a h in
     let other : same_name a b ≡ true = rw k.1 (rw k.1 at h) in
-    not-both (same_name a b) other (new_apart seen a b n one))
+    not_both (same_name a b) other (new_apart seen a b n one))
 
 -- ── names of two sorts, that may meet ──
 
@@ -71,17 +71,17 @@ module _ (shorts words : List (List ℕ)) where
       let a = word_key (get_or shorts j []) % remainders in
       let b = word_key (get_or words j []) % remainders in
       let long : length (set seen a 1) ≡ remainders = length-set seen a 1 ∙ size in (
-        seen-kept (λ k. word_key (get_or shorts k [])) (j + 1) (set seen a 1) b (omega arith)
+        seen_kept (λ k. word_key (get_or shorts k [])) (j + 1) (set seen a 1) b (omega arith)
             (seen_on (λ k. word_key (get_or shorts k [])) j seen size h.0),
         seen_on (λ k. word_key (get_or words k [])) j (set seen a 1) long
-            (seen-kept (λ k. word_key (get_or words k [])) j seen a (omega arith) h.1),
+            (seen_kept (λ k. word_key (get_or words k [])) j seen a (omega arith) h.1),
       )
 
   -- where both names of j are new, no earlier names meet them
-  pub both-from : (j : ℕ) (seen : List ℕ) → BothSeen j seen
+  pub both_from : (j : ℕ) (seen : List ℕ) → BothSeen j seen
       → Inner (names_alike shorts words) j (start_of_both seen (get_or shorts j []) (get_or words j []) j)
   unfolding start_of_both names_meet
-  both-from j seen h = go (is_new seen a && is_new seen v) refl
+  both_from j seen h = go (is_new seen a && is_new seen v) refl
     where
       a : List ℕ
       a = get_or shorts j []

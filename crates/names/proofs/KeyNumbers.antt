@@ -49,9 +49,9 @@ keys_exact (x ∷ w) (y ∷ v) m k j size long p q below under e =
     let r : j * 256 + y < 256 * bound m = omega arith in
     let next = keys_exact w v (suc m) (k * 256 + x) (j * 256 + y) (omega arith) (omega arith)
     (λ i. p (suc i)) (λ i. q (suc i)) u r (rw (a, b) at e) in
-    let same-front : k ≡ j = omega (arith, next.0) in
+    let same_front : k ≡ j = omega (arith, next.0) in
     let same_byte : x ≡ y = omega (arith, next.0) in
-    (same-front, ap₂ {C = List ℕ} ◌∷◌ same_byte next.1)
+    (same_front, ap₂ {C = List ℕ} ◌∷◌ same_byte next.1)
 
 -- no byte of 8 is lost
 key_whole : (w : List ℕ) (m k : ℕ) → m + length w ≡ short_most → ((i : ℕ) → get_or w i 0 < 256) → k < bound m

@@ -1,13 +1,13 @@
 -- By the table of the classes, labels and short names are those of the rules.
-use mathlib.Core.Path.{◌≡◌, refl, ◌∙◌, ap, fun_ext}
+use mathlib.Core.Path.{◌≡◌, refl, ap, fun_ext}
 use mathlib.Core.Bool.{Bool, true, false, ◌&&◌, ◌||◌, not}
 use mathlib.Core.List.{List, [], ◌∷◌}
-use Prim.Native.Nat.{ℕ, zero, suc, ◌≤◌, ◌<◌}
+use Prim.Native.Nat.{ℕ, zero, suc, ◌≤◌}
 use native.Mathlib.Omega.{arith}
-use lib.Dec.{ltb, leb, eqb}
+use lib.Dec.{ltb, leb}
 use lib.ListN.{length, get_or, get_or-eq_default}
 use borrow.Author.Tests.{ltb-true, ltb-false, lt-leb, ne_eqb}
-use Rattle.base.specs.Lists.{tabulate, all, head_is, last_is}
+use Rattle.base.specs.Lists.{tabulate}
 use Rattle.rules.specs.Names.{is_letter, is_digit, is_space, class_of, is_word_byte, is_label_byte}
 use Rattle.rules.specs.Names.{no_two_spaces, is_label, is_short}
 use Rattle.names.specs.Classes.{letter_class, digit_class, space_class, class_table, has_class, is_word_in}
@@ -16,15 +16,15 @@ use Rattle.names.proofs.ClassRules.{letter_in, digit_in, space_in}
 
 -- ── a number above the bytes has no class ──
 
-length-tabulate : (f : ℕ → ℕ) (i n : ℕ) → length (tabulate f i n) ≡ n
+length_tabulate : (f : ℕ → ℕ) (i n : ℕ) → length (tabulate f i n) ≡ n
 unfolding tabulate
-length-tabulate f i zero = refl
-length-tabulate f i (suc n) = ap suc (length-tabulate f (suc i) n)
+length_tabulate f i zero = refl
+length_tabulate f i (suc n) = ap suc (length_tabulate f (suc i) n)
 
 module _ (b : ℕ) (above : 256 ≤ b) where
   no_class : get_or class_table b 0 ≡ 0
   unfolding class_table
-  no_class = get_or-eq_default (tabulate class_of 0 256) 0 (rw (length-tabulate class_of 0 256) above)
+  no_class = get_or-eq_default (tabulate class_of 0 256) 0 (rw (length_tabulate class_of 0 256) above)
 
   no_letter : is_letter b ≡ false
   unfolding is_letter
@@ -61,9 +61,9 @@ letter_table b = go (ltb b 256) refl
     go true t = letter_in class_table refl b (ltb-true b 256 t)
     go false t = let le = ltb-false b 256 t in rw (no_class b le, no_letter b le) refl
 
-digit-table : (b : ℕ) → has_class digit_class class_table b ≡ is_digit b
+digit_table : (b : ℕ) → has_class digit_class class_table b ≡ is_digit b
 unfolding has_class
-digit-table b = go (ltb b 256) refl
+digit_table b = go (ltb b 256) refl
   where
     go : (x : Bool) → ltb b 256 ≡ x → has_class digit_class class_table b ≡ is_digit b
     go true t = digit_in class_table refl b (ltb-true b 256 t)
@@ -85,31 +85,31 @@ spaces = fun_ext space_table
 
 words : is_word_in class_table ≡ is_word_byte
 unfolding is_word_byte
-words = fun_ext (λ b. rw (letter_table b, digit-table b) refl)
+words = fun_ext (λ b. rw (letter_table b, digit_table b) refl)
 
-label-bytes : is_name_in class_table true ≡ is_label_byte
+label_bytes_lem : is_name_in class_table true ≡ is_label_byte
 unfolding is_label_byte is_word_byte
-label-bytes = fun_ext (λ b. rw (letter_table b, digit-table b, space_table b) refl)
+label_bytes_lem = fun_ext (λ b. rw (letter_table b, digit_table b, space_table b) refl)
 
-no-two : (l : List ℕ) → no_two is_space l ≡ no_two_spaces l
+no_two_lem : (l : List ℕ) → no_two is_space l ≡ no_two_spaces l
 unfolding no_two no_two_spaces
-no-two [] = refl
-no-two (a ∷ []) = refl
-no-two (a ∷ b ∷ l) = ap (λ (x : Bool). not (is_space a && is_space b) && x) (no-two (b ∷ l))
+no_two_lem [] = refl
+no_two_lem (a ∷ []) = refl
+no_two_lem (a ∷ b ∷ l) = ap (λ (x : Bool). not (is_space a && is_space b) && x) (no_two_lem (b ∷ l))
 
 -- ── names ──
 
-pub label-table : (w : List ℕ) → is_label_in class_table w ≡ is_label w
+pub label_table : (w : List ℕ) → is_label_in class_table w ≡ is_label w
 unfolding is_label_in is_label
-label-table w = rw (label-bytes, words, spaces, no-two w) refl
+label_table w = rw (label_bytes_lem, words, spaces, no_two_lem w) refl
 
-pub short-table : (w : List ℕ) → is_short_in class_table w ≡ is_short w
+pub short_table : (w : List ℕ) → is_short_in class_table w ≡ is_short w
 unfolding is_short_in is_short
-short-table w = rw (letters, words) refl
+short_table w = rw (letters, words) refl
 
 -- a lent table that is it
 pub label_in_lem : (classes : List ℕ) → classes ≡ class_table → (w : List ℕ) → is_label_in classes w ≡ is_label w
-label_in_lem classes known w = rw known (label-table w)
+label_in_lem classes known w = rw known (label_table w)
 
 pub short_in_lem : (classes : List ℕ) → classes ≡ class_table → (w : List ℕ) → is_short_in classes w ≡ is_short w
-short_in_lem classes known w = rw known (short-table w)
+short_in_lem classes known w = rw known (short_table w)

@@ -10,7 +10,7 @@ use lib.ListN.{length, take, get_or, set}
 use lib.Seq.{take_all, take-suc-set}
 use borrow.Author.Tests.{ne_eqb, eqb-true, leb-true}
 use Rattle.base.specs.Lists.{all, same, head_is, between}
-use Rattle.base.proofs.Lists.{not-both, same_self, between_true}
+use Rattle.base.proofs.Lists.{not_both, same_self, between_true}
 use Rattle.base.proofs.Breaks.{and_true, or_true, all_cons}
 use Rattle.rules.specs.Limits.{label_most, short_most}
 use Rattle.rules.specs.Names.{is_letter, is_digit, is_space, is_word_byte, is_label_byte, has_word_ends, no_two_spaces}
@@ -55,9 +55,9 @@ pub record Held (w : List ℕ) : Type 0 where
   pub bytes : all is_word_byte w ≡ true
   pub size : length w ≤ short_most
 
-pub short-held : (w : List ℕ) → is_short w ≡ true → Held w × (head_is is_letter w ≡ true)
+pub short_held : (w : List ℕ) → is_short w ≡ true → Held w × (head_is is_letter w ≡ true)
 unfolding is_short
-short-held w h =
+short_held w h =
     let e = and_true (head_is is_letter w) (all is_word_byte w && (leb (length w) short_most && not (is_reserved w))) h in
     let f = and_true (all is_word_byte w) (leb (length w) short_most && not (is_reserved w)) e.1 in
     let g = and_true (leb (length w) short_most) (not (is_reserved w)) f.1 in
@@ -87,43 +87,43 @@ module _ (p : ℕ → Bool) (some : (b : ℕ) → p b ≡ true → 0 < b) where
 pub held_same : (a b : List ℕ) → is_short a ≡ true → is_short b ≡ true → same_name (pad_to short_most a)
     (pad_to short_most b) ≡ same a b
 unfolding same_name pad_to
-held_same [] b p q = absurd (not-both false (short-held [] p).1 refl)
+held_same [] b p q = absurd (not_both false (short_held [] p).1 refl)
 held_same (x ∷ a) b p q =
-    let h = (short-held (x ∷ a) p).0 in
-    let k = (short-held b q).0 in
+    let h = (short_held (x ∷ a) p).0 in
+    let k = (short_held b q).0 in
     let z = word_byte x (all_cons is_word_byte x a h.bytes).0 in
     rw (ne_eqb x 0 (λ e. omega arith)) (pad_same is_word_byte word_byte short_most (x ∷ a) b h.bytes k.bytes
     h.size k.size)
 
 -- two labels that are held
-label-byte : (b : ℕ) → is_label_byte b ≡ true → 0 < b
+label_byte : (b : ℕ) → is_label_byte b ≡ true → 0 < b
 unfolding is_label_byte is_space
-label-byte b h =
+label_byte b h =
     or_true (is_word_byte b) (eqb b 32 || eqb b 45) (word_byte b)
     (λ e. or_true (eqb b 32) (eqb b 45)
     (λ f. omega (arith, eqb-true b 32 f)) (λ f. omega (arith, eqb-true b 45 f)) e) h
 
-label-held : (w : List ℕ) → is_label w ≡ true → (all is_label_byte w ≡ true) × (length w ≤ label_most)
+label_held : (w : List ℕ) → is_label w ≡ true → (all is_label_byte w ≡ true) × (length w ≤ label_most)
 unfolding is_label
-label-held w h =
+label_held w h =
     let e = and_true (leb (length w) label_most) (all is_label_byte w && (has_word_ends w && no_two_spaces w)) h in
     ((and_true (all is_label_byte w) (has_word_ends w && no_two_spaces w) e.1).0, leb-true _ _ e.0)
 
 pub label_same : (a b : List ℕ) → is_label a ≡ true → is_label b ≡ true
     → same (pad_to label_most a) (pad_to label_most b) ≡ same a b
 label_same a b h k =
-    let p = label-held a h in
-    let q = label-held b k in
-    pad_same is_label_byte label-byte label_most a b p.0 q.0 p.1 q.1
+    let p = label_held a h in
+    let q = label_held b k in
+    pad_same is_label_byte label_byte label_most a b p.0 q.0 p.1 q.1
 
 pub none_first : (b : List ℕ) → same_name (pad_to short_most []) b ≡ false
 unfolding same_name pad_to
 none_first b = refl
 
-pub none-second : (a : List ℕ) → is_short a ≡ true → same_name (pad_to short_most a) (pad_to short_most []) ≡ false
+pub none_second : (a : List ℕ) → is_short a ≡ true → same_name (pad_to short_most a) (pad_to short_most []) ≡ false
 unfolding same_name pad_to same
-none-second [] p = refl
-none-second (x ∷ a) p =
-    let h = (short-held (x ∷ a) p).0 in
+none_second [] p = refl
+none_second (x ∷ a) p =
+    let h = (short_held (x ∷ a) p).0 in
     let z = word_byte x (all_cons is_word_byte x a h.bytes).0 in
     rw (ne_eqb x 0 (λ e. omega arith))

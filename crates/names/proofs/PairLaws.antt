@@ -21,13 +21,13 @@ abbrev pub Later : (ℕ → ℕ → Bool) → ℕ → ℕ → Type 0
 Later alike n j = (j ≤ n) × (first_repeat alike n ≡ first_from (repeats alike) j (n - j))
 
 -- a search begins at j where its remainder is not marked, else at the first
-pub start-fresh : (seen : List ℕ) (key j : ℕ) → get_or seen (key % remainders) 0 ≡ 0 → j ≡ start_of seen key j
+pub start_fresh : (seen : List ℕ) (key j : ℕ) → get_or seen (key % remainders) 0 ≡ 0 → j ≡ start_of seen key j
 unfolding start_of
-start-fresh seen key j e = rw (eq-eqb _ _ e)
+start_fresh seen key j e = rw (eq-eqb _ _ e)
 
-pub start-marked : (seen : List ℕ) (key j : ℕ) → (get_or seen (key % remainders) 0 ≡ 0 → ⊥) → 0 ≡ start_of seen key j
+pub start_marked : (seen : List ℕ) (key j : ℕ) → (get_or seen (key % remainders) 0 ≡ 0 → ⊥) → 0 ≡ start_of seen key j
 unfolding start_of
-start-marked seen key j n = rw (ne_eqb _ _ n)
+start_marked seen key j n = rw (ne_eqb _ _ n)
 
 -- the remainders of the keys before j are marked
 abbrev pub Seen : (ℕ → ℕ) → ℕ → List ℕ → Type 0
@@ -55,9 +55,9 @@ seen_on key j seen size h k lt = go (eqb (key k % remainders) (key j % remainder
             absurd (other (ap (λ (x : ℕ). key x % remainders) e))
 
 -- marking one more leaves what is marked
-pub seen-kept : (key : ℕ → ℕ) (j : ℕ) (seen : List ℕ) (m : ℕ) → m < length seen → Seen key j seen
+pub seen_kept : (key : ℕ → ℕ) (j : ℕ) (seen : List ℕ) (m : ℕ) → m < length seen → Seen key j seen
     → Seen key j (set seen m 1)
-seen-kept key j seen m fits h k lt = go (eqb (key k % remainders) m) refl
+seen_kept key j seen m fits h k lt = go (eqb (key k % remainders) m) refl
   where
     go : (b : Bool) → eqb (key k % remainders) m ≡ b → get_or (set seen m 1) (key k % remainders) 0 ≡ 1
     go true t = rw (eqb-true (key k % remainders) m t, get_or-set_same seen m 1 0 fits) refl
@@ -74,25 +74,25 @@ module _ (alike : ℕ → ℕ → Bool) where
     pub inner_on : i < j → alike i j ≡ false → Inner alike j (i + 1)
     inner_on lt other = (omega arith, inner.1 ∙ search_step (λ k. alike k j) i j lt ∙ simp other)
 
-    repeats-none : j ≤ i → repeats alike j ≡ false
-    repeats-none le =
+    repeats_none : j ≤ i → repeats alike j ≡ false
+    repeats_none le =
         let s : i ≡ j = omega arith in
         let f : first_from (λ k. alike k j) 0 j ≡ j = inner.1 ∙ rw s (search_end (λ k. alike k j) j) in
         le-ltb (first_from (λ k. alike k j) 0 j) j (omega (arith, f))
 
-    repeats-found : i < j → alike i j ≡ true → repeats alike j ≡ true
-    repeats-found lt like =
+    repeats_found : i < j → alike i j ≡ true → repeats alike j ≡ true
+    repeats_found lt like =
         let f : first_from (λ k. alike k j) 0 j ≡ i = inner.1 ∙ search_step (λ k. alike k j) i j lt ∙ simp like in
         lt-ltb (first_from (λ k. alike k j) 0 j) j (omega (arith, f))
 
     pub later_on : j < n → j ≤ i → Later alike n j → Later alike n (j + 1)
     later_on lt le later =
-        let none = repeats-none le in
+        let none = repeats_none le in
         (omega arith, later.1 ∙ search_step (repeats alike) j n lt ∙ simp none)
 
     pub later_found : i < j → j < n → alike i j ≡ true → Later alike n j → j ≡ first_repeat alike n
     later_found lt le like later =
-        let found = repeats-found lt like in
+        let found = repeats_found lt like in
         sym (later.1 ∙ search_step (repeats alike) j n le ∙ simp found)
 
   -- a search from j on, where nothing is like it

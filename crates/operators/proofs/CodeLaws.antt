@@ -41,31 +41,31 @@ codes c =
 
 -- ── from a byte to its code ──
 
-pub code-number : code_of number_code ≡ Code.Number
+pub code_number : code_of number_code ≡ Code.Number
 unfolding code_of
-code-number = refl
+code_number = refl
 
-pub code-field : code_of field_code ≡ Code.Field
+pub code_field : code_of field_code ≡ Code.Field
 unfolding code_of
-code-field = refl
+code_field = refl
 
-pub code-not : code_of not_code ≡ Code.Not
+pub code_not : code_of not_code ≡ Code.Not
 unfolding code_of
-code-not = refl
+code_not = refl
 
-pub code-two : (o : Op) → code_of (code o) ≡ Code.Two o
+pub code_two : (o : Op) → code_of (code o) ≡ Code.Two o
 unfolding code_of code_in operator operators
-code-two Or = refl
-code-two And = refl
-code-two Eq = refl
-code-two Ne = refl
-code-two Lt = refl
-code-two Le = refl
-code-two Gt = refl
-code-two Ge = refl
-code-two Add = refl
-code-two Sub = refl
-code-two Mul = refl
-code-two Div = refl
-code-two Rem = refl
-code-two Pow = refl
+code_two Or = refl
+code_two And = refl
+code_two Eq = refl
+code_two Ne = refl
+code_two Lt = refl
+code_two Le = refl
+code_two Gt = refl
+code_two Ge = refl
+code_two Add = refl
+code_two Sub = refl
+code_two Mul = refl
+code_two Div = refl
+code_two Rem = refl
+code_two Pow = refl

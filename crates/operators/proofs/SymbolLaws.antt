@@ -8,7 +8,7 @@ use lib.Dec.{eqb}
 use lib.ListN.{length}
 use borrow.Author.Tests.{eq-eqb}
 use Rattle.base.specs.Lists.{same}
-use Rattle.base.proofs.Lists.{same_true, fails, not-both}
+use Rattle.base.proofs.Lists.{same_true, fails, not_both}
 use Rattle.rules.specs.declared.Op.{Op}
 use Rattle.rules.specs.Operators.{symbol}
 use Rattle.operators.specs.declared.symbols.Symbol.{Symbol}
@@ -20,15 +20,15 @@ of_length n [] = []
 of_length n (o ∷ os) = cond (eqb (length (symbol o)) n) (o ∷ of_length n os) (of_length n os)
 
 -- no other operator matters for a word of the length
-pub symbol_of-length : (os : List Op) (w : List ℕ) (m : Symbol)
+pub symbol_of_length : (os : List Op) (w : List ℕ) (m : Symbol)
     → symbol_in os w m ≡ symbol_in (of_length (length w) os) w m
 unfolding symbol_in of_length
-symbol_of-length [] w m = refl
-symbol_of-length (o ∷ os) w m = go (eqb (length (symbol o)) (length w)) refl (symbol_of-length os w m)
+symbol_of_length [] w m = refl
+symbol_of_length (o ∷ os) w m = go (eqb (length (symbol o)) (length w)) refl (symbol_of_length os w m)
   where
     other : eqb (length (symbol o)) (length w) ≡ false → same w (symbol o) ≡ false
     other e = fails (same w (symbol o)) (λ t.
-        not-both (eqb (length (symbol o)) (length w))
+        not_both (eqb (length (symbol o)) (length w))
         (eq-eqb (length (symbol o)) (length w) (sym (ap length (same_true w (symbol o) t)))) e)
 
     go : (b : Bool) → eqb (length (symbol o)) (length w) ≡ b

@@ -33,9 +33,9 @@ bits_add s at j (suc k) =
     rw (e, p, t) (omega (arith, bits_add s at j k))
 
 -- the n bits behind o bits and in front of spare bits
-pub bits-between : (s : List ℕ) (at o n spare total : ℕ) → total ≡ o + n + spare
+pub bits_between : (s : List ℕ) (at o n spare total : ℕ) → total ≡ o + n + spare
     → bits_at s at total / 2 ^ spare % 2 ^ n ≡ bits_at s (at + o) n
-bits-between s at o n spare total e =
+bits_between s at o n spare total e =
     rw (
       e,
       bits_add s at (o + n) spare,
@@ -46,24 +46,24 @@ bits-between s at o n spare total e =
 
 -- ── bytes ──
 
-byte-front : (s : List ℕ) (b j : ℕ) → get_or s b 0 < 256 → j ≤ 8 → bits_at s (8 * b) j ≡ get_or s b 0 / 2 ^ (8 - j)
+byte_front : (s : List ℕ) (b j : ℕ) → get_or s b 0 < 256 → j ≤ 8 → bits_at s (8 * b) j ≡ get_or s b 0 / 2 ^ (8 - j)
 unfolding bits_at
-byte-front s b zero h le = let e : get_or s b 0 / 256 ≡ 0 = omega arith in sym e
-byte-front s b (suc j) h le =
+byte_front s b zero h le = let e : get_or s b 0 / 256 ≡ 0 = omega arith in sym e
+byte_front s b (suc j) h le =
     let q : (8 * b + j) / 8 ≡ b = omega arith in
     let r : (8 * b + j) % 8 ≡ j = omega arith in
     let n : 8 - j ≡ 7 - j + 1 = omega arith in
     let m : 8 - suc j ≡ 7 - j = omega arith in
     let x = get_or s b 0 / 2 ^ (7 - j) in
     let y : get_or s b 0 / 2 ^ (7 - j + 1) ≡ x / 2 = sym (shr-shr (get_or s b 0) (7 - j) 1) in
-    rw (q, r, m, byte-front s b j h (omega arith), n, y) (omega arith)
+    rw (q, r, m, byte_front s b j h (omega arith), n, y) (omega arith)
 
-pub bytes-step : (s : List ℕ) (first m : ℕ) → get_or s (first + m) 0 < 256
+pub bytes_step : (s : List ℕ) (first m : ℕ) → get_or s (first + m) 0 < 256
     → bits_at s (8 * first) (8 * (m + 1)) ≡ 256 * bits_at s (8 * first) (8 * m) + get_or s (first + m) 0
-bytes-step s first m h =
+bytes_step s first m h =
     let e : 8 * (m + 1) ≡ 8 * m + 8 = omega arith in
     let p : 8 * first + 8 * m ≡ 8 * (first + m) = omega arith in
-    let b = byte-front s (first + m) 8 h (omega arith) in
+    let b = byte_front s (first + m) 8 h (omega arith) in
     let d : get_or s (first + m) 0 / 2 ^ (8 - 8) ≡ get_or s (first + m) 0 = omega arith in
     rw (e, bits_add s (8 * first) (8 * m) 8, p, b, d) (omega arith)
 
@@ -75,14 +75,14 @@ one_shifted n h =
     let le : 1 + n ≤ 64 = omega arith in
     shl_exact 1 n 64 lt le ∙ one-mul (2 ^ n)
 
-pub bits-taken : (s : List ℕ) (place n v : ℕ) → n ≤ 32
+pub bits_taken : (s : List ℕ) (place n v : ℕ) → n ≤ 32
     → v ≡ bits_at s (8 * (place / 8)) (8 * ((place + n + 7) / 8 - place / 8))
     → v / 2 ^ (8 * (place / 8 + ((place + n + 7) / 8 - place / 8)) - (place + n)) % (1 * 2 ^ n % 2 ^ 64)
     ≡ bits_at s place n
-bits-taken s place n v h is =
+bits_taken s place n v h is =
     let first = place / 8 in
     let m = (place + n + 7) / 8 - place / 8 in
     let spare = 8 * (first + m) - (place + n) in
     let total : 8 * m ≡ place % 8 + n + spare = omega arith in
     let start : 8 * first + place % 8 ≡ place = omega arith in
-    rw (one_shifted n h, is, bits-between s (8 * first) (place % 8) n spare (8 * m) total, start)
+    rw (one_shifted n h, is, bits_between s (8 * first) (place % 8) n spare (8 * m) total, start)

@@ -9,13 +9,13 @@ use native.Mathlib.Nat.{zero-add, sub-zero}
 use lib.ListN.{length, take, drop, get_or, length-append, length-drop, take-append-drop, get_or-append}
 use lib.Seq.{length-take-le, take-append_seam, drop-append_seam, get_or-take, get_or-drop}
 use Rattle.base.specs.Lists.{all, first_break}
-use Rattle.base.proofs.Lists.{and_left, and_right, and_both, between_true, not-both}
+use Rattle.base.proofs.Lists.{and_left, and_right, and_both, between_true, not_both}
 use borrow.Author.Tests.{not-true, not-false}
-use Rattle.base.proofs.Breaks.{first_break-cons}
+use Rattle.base.proofs.Breaks.{first_break_cons}
 use Rattle.laws.specs.Places.{Stands, IsBytes, two_at}
-use Rattle.laws.proofs.Places.{stands-left}
-use Rattle.laws.proofs.PlacesOfNumbers.{length-le2}
-use Rattle.laws.proofs.ReadsFields.{label-length}
+use Rattle.laws.proofs.Places.{stands_left}
+use Rattle.laws.proofs.PlacesOfNumbers.{length_le2}
+use Rattle.laws.proofs.ReadsFields.{label_length}
 use Rattle.laws.proofs.Unique.{described_with}
 use Rattle.laws.proofs.Readers.{described_in}
 use Rattle.laws.proofs.Numbers.{front_same}
@@ -36,30 +36,30 @@ use Rattle.packets.specs.TableTest.{head_test}
 use Rattle.packets.specs.declared.conversions.Widened.{Widened}
 use Rattle.packets.specs.declared.conversions.Widened.TheVariants.{Bytes, Bad}
 use Rattle.packets.specs.Conversions.{old_most, widen_from, widen_table, WidensTo, NumbersTable, adds_any}
-use Rattle.laws.proofs.FieldSizes.{field-sizes, body-size}
-use Rattle.packets.proofs.TableSteps.{head-is}
-use Rattle.packets.proofs.TableParts.{head-length, HeadOf, head-found, whole-stands, stored-length}
-use Rattle.packets.proofs.TableHead.{head-count, fields_stand}
-use Rattle.packets.proofs.WidenLaws.{widen-records, widen-back}
+use Rattle.laws.proofs.FieldSizes.{field_sizes, body_size}
+use Rattle.packets.proofs.TableSteps.{head_is_lem}
+use Rattle.packets.proofs.TableParts.{head_length, HeadOf, head_found, whole_stands, stored_length_lem}
+use Rattle.packets.proofs.TableHead.{head_count, fields_stand}
+use Rattle.packets.proofs.WidenLaws.{widen_records, widen_back}
 use Rattle.packets.proofs.PlainLaws.{is_plain_field, adds_stored}
 
 -- ── an old good table ──
 
 -- the numbers do not matter, as none is kept
-pub old-alike : (a b : ℕ → ℕ) (k l : ℕ) (fs : List (Field ℕ)) → records_in uncounted a k fs ≡ records_in uncounted b l fs
+pub old_alike : (a b : ℕ → ℕ) (k l : ℕ) (fs : List (Field ℕ)) → records_in uncounted a k fs ≡ records_in uncounted b l fs
 unfolding records_in stored_field_in
-old-alike a b k l [] = refl
-old-alike a b k l (f ∷ fs) =
-    ap (λ (r : List ℕ). record_of (kind_in uncounted f.width) (field_body f) ++ r) (old-alike a b (suc k) (suc l) fs)
+old_alike a b k l [] = refl
+old_alike a b k l (f ∷ fs) =
+    ap (λ (r : List ℕ). record_of (kind_in uncounted f.width) (field_body f) ++ r) (old_alike a b (suc k) (suc l) fs)
 
-old-records : (numbers : ℕ → ℕ) (k : ℕ) (before fs : List (Field ℕ)) → first_break keeps_form before fs ≡ none
+old_records : (numbers : ℕ → ℕ) (k : ℕ) (before fs : List (Field ℕ)) → first_break keeps_form before fs ≡ none
     → first_break keeps_size before fs ≡ none → length (records_in uncounted numbers k fs) ≤ 424 * length fs
 unfolding records_in stored_field_in
-old-records numbers k before [] hf hs = omega arith
-old-records numbers k before (f ∷ fs) hf hs =
-    let kf = first_break-cons keeps_form before f fs hf in
-    let ks = first_break-cons keeps_size before f fs hs in
-    let z = body-size f (field-sizes f kf.0 ks.0) in
+old_records numbers k before [] hf hs = omega arith
+old_records numbers k before (f ∷ fs) hf hs =
+    let kf = first_break_cons keeps_form before f fs hf in
+    let ks = first_break_cons keeps_size before f fs hs in
+    let z = body_size f (field_sizes f kf.0 ks.0) in
     let body = field_body f in
     let kind = kind_in uncounted f.width in
     omega (
@@ -68,20 +68,20 @@ old-records numbers k before (f ∷ fs) hf hs =
       length-append (record_of kind body) (records_in uncounted numbers (suc k) fs),
       length-append (le2 (4 + length body)) (le2 kind ++ body),
       length-append (le2 kind) body,
-      length-le2 (4 + length body),
-      length-le2 kind,
-      old-records numbers (suc k) (before ++ (f ∷ [])) fs kf.1 ks.1,
+      length_le2 (4 + length body),
+      length_le2 kind,
+      old_records numbers (suc k) (before ++ (f ∷ [])) fs kf.1 ks.1,
     )
 
-head-size : (d : Description) → length (record_of 1 (head_body d)) ≡ 10 + length d.name
-head-size d =
+head_size : (d : Description) → length (record_of 1 (head_body d)) ≡ 10 + length d.name
+head_size d =
     omega (
       arith,
       length-append (le2 (4 + length (head_body d))) (le2 1 ++ head_body d),
       length-append (le2 1) (head_body d),
-      length-le2 (4 + length (head_body d)),
-      length-le2 1,
-      head-length d,
+      length_le2 (4 + length (head_body d)),
+      length_le2 1,
+      head_length d,
     )
 
 module _ (table : List ℕ) (old : GoodIn uncounted table) where
@@ -104,16 +104,16 @@ module _ (table : List ℕ) (old : GoodIn uncounted table) where
   unfolding stored_in stored_with
   is = old.is_stored
 
-  old-head : HeadOf table d (length head)
-  old-head =
-      let st = whole-stands table (head ++ behind) is in
+  old_head : HeadOf table d (length head)
+  old_head =
+      let st = whole_stands table (head ++ behind) is in
       let z = zero-add (length head) in
       let size : length head ≤ length table = omega (arith, ap length is, length-append head behind) in
-      let h = stands-left table 0 (length table) head behind st in
-      head-found table d (length head) now_within size (subst (λ (e : ℕ). Stands table 0 head e) z h)
+      let h = stands_left table 0 (length table) head behind st in
+      head_found table d (length head) now_within size (subst (λ (e : ℕ). Stands table 0 head e) z h)
 
-  pub old-short : length table ≤ old_most
-  old-short =
+  pub old_short : length table ≤ old_most
+  old_short =
       let c = between_true 1 (length d.fields) 64 old.within.count in
       omega (
         arith,
@@ -121,29 +121,29 @@ module _ (table : List ℕ) (old : GoodIn uncounted table) where
         ap length is,
         length-append head behind,
         length-append (records_in uncounted n 0 d.fields) (record_of 5 []),
-        head-size d,
-        label-length d.name old.within.name,
-        old-records n 0 [] d.fields old.within.form old.within.size,
+        head_size d,
+        label_length d.name old.within.name,
+        old_records n 0 [] d.fields old.within.form old.within.size,
         length-append (le2 4) (le2 5 ++ []),
         length-append (le2 5) [],
-        length-le2 4,
-        length-le2 5,
+        length_le2 4,
+        length_le2 5,
       )
 
   pub old_test : head_test table ≡ true
-  old_test = old-head.test
+  old_test = old_head.test
 
-  pub old-few : two_at table 6 ≤ 64
-  old-few =
+  pub old_few : two_at table 6 ≤ 64
+  old_few =
       let c = between_true 1 (length d.fields) 64 old.within.count in
-      omega (arith, c, old-head.count)
+      omega (arith, c, old_head.count)
 
   -- with the number 0 in each record it is a table of the same description
   pub old_widens : widen_table table ≡ some (stored_with current (λ i. 0) d)
   unfolding widen_table stored_with
   old_widens =
-      let h = old-head in
-      let size : two_at table 0 ≡ length head = omega (arith, (head-is table h.test).size, h.next) in
+      let h = old_head in
+      let size : two_at table 0 ≡ length head = omega (arith, (head_is_lem table h.test).size, h.next) in
       let back : drop (two_at table 0) table ≡ behind =
       ap₂ {C = List ℕ} (λ (m : ℕ) (l : List ℕ). drop m l) size (sym is) ∙ drop-append_seam head behind in
       let front : take (two_at table 0) table ≡ head =
@@ -152,36 +152,36 @@ module _ (table : List ℕ) (old : GoodIn uncounted table) where
         front,
         back,
         h.count,
-        widen-records n 0 [] d.fields (record_of 5 []) old.within.form
+        widen_records n 0 [] d.fields (record_of 5 []) old.within.form
             old.within.size,
       ) refl
 
 -- ── a table that was widened ──
 
-two-same : (a l : List ℕ) (n at : ℕ) → at + 2 ≤ n → n ≤ length a → two_at (take n a ++ l) at ≡ two_at a at
+two_same : (a l : List ℕ) (n at : ℕ) → at + 2 ≤ n → n ≤ length a → two_at (take n a ++ l) at ≡ two_at a at
 unfolding two_at
-two-same a l n at le low =
+two_same a l n at le low =
     let size = length-take-le n a low in
     let one : (i : ℕ) → i < n → get_or (take n a ++ l) i 0 ≡ get_or a i 0 = λ i lt.
     get_or-append (take n a) l 0 i (omega (arith, size, lt)) ∙ get_or-take n a i 0 lt in
     ap₂ {C = ℕ} (λ (x y : ℕ). x + 256 * y) (one at (omega arith)) (one (at + 1) (omega arith))
 
 -- operators that are all known are kept
-plain-kept : (before fs : List (Field ℕ)) → all is_plain_field fs ≡ true
+plain_kept : (before fs : List (Field ℕ)) → all is_plain_field fs ≡ true
     → first_break (keeps_operators_in uncounted) before fs ≡ none
 unfolding all first_break
-plain-kept before [] h = refl
-plain-kept before (f ∷ fs) h =
+plain_kept before [] h = refl
+plain_kept before (f ∷ fs) h =
     rw (and_left (is_plain_field f) (all is_plain_field fs) h)
-    (plain-kept (before ++ (f ∷ [])) fs (and_right (is_plain_field f) (all is_plain_field fs) h))
+    (plain_kept (before ++ (f ∷ [])) fs (and_right (is_plain_field f) (all is_plain_field fs) h))
 
-kept-plain : (before fs : List (Field ℕ)) → first_break (keeps_operators_in uncounted) before fs ≡ none
+kept_plain : (before fs : List (Field ℕ)) → first_break (keeps_operators_in uncounted) before fs ≡ none
     → all is_plain_field fs ≡ true
 unfolding all
-kept-plain before [] h = refl
-kept-plain before (f ∷ fs) h =
-    let k = first_break-cons (keeps_operators_in uncounted) before f fs h in
-    and_both (is_plain_field f) (all is_plain_field fs) k.0 (kept-plain (before ++ (f ∷ [])) fs k.1)
+kept_plain before [] h = refl
+kept_plain before (f ∷ fs) h =
+    let k = first_break_cons (keeps_operators_in uncounted) before f fs h in
+    and_both (is_plain_field f) (all is_plain_field fs) k.0 (kept_plain (before ++ (f ∷ [])) fs k.1)
 
 module _ (table : List ℕ) (b : IsBytes table) (low : length table ≤ old_most) (test : head_test table ≡ true)
     (numbers : ℕ → ℕ) (c : Description) (w : Within c) where
@@ -203,47 +203,47 @@ module _ (table : List ℕ) (b : IsBytes table) (low : length table ≤ old_most
       go (some v) is h =
           let head = record_of 1 (head_body c) in
           let whole : take size table ++ v ≡ head ++ records_of = some-injective _ _ h in
-          let t = head-is table test in
-          let st = whole-stands (head ++ records_of) (head ++ records_of) refl in
+          let t = head_is_lem table test in
+          let st = whole_stands (head ++ records_of) (head ++ records_of) refl in
           let z = zero-add (length head) in
-          let hf = head-found (head ++ records_of) c (length head) w
+          let hf = head_found (head ++ records_of) c (length head) w
           (omega (arith, length-append head records_of))
           (subst (λ (i : ℕ). Stands (head ++ records_of) 0 head i) z
-          (stands-left (head ++ records_of) 0 (length (head ++ records_of)) head records_of st)) in
+          (stands_left (head ++ records_of) 0 (length (head ++ records_of)) head records_of st)) in
           let at_zero : two_at (head ++ records_of) 0 ≡ size =
           ap (λ (l : List ℕ). two_at l 0) (sym whole)
-          ∙ two-same table v size 0 (omega (arith, t.size)) (omega (arith, t.size, t.end)) in
+          ∙ two_same table v size 0 (omega (arith, t.size)) (omega (arith, t.size, t.end)) in
           let at_six : two_at (head ++ records_of) 6 ≡ two_at table 6 =
           ap (λ (l : List ℕ). two_at l 6) (sym whole)
-          ∙ two-same table v size 6 (omega (arith, t.size)) (omega (arith, t.size, t.end)) in
+          ∙ two_same table v size 6 (omega (arith, t.size)) (omega (arith, t.size, t.end)) in
           let first : length head ≡ size =
-          omega (arith, at_zero, hf.next, (head-is (head ++ records_of) hf.test).size) in
-          let front-size = length-take-le size table (omega (arith, t.size, t.end)) in
-          let q = front_same (take size table) head v records_of (front-size ∙ sym first) whole in
+          omega (arith, at_zero, hf.next, (head_is_lem (head ++ records_of) hf.test).size) in
+          let front_size = length-take-le size table (omega (arith, t.size, t.end)) in
+          let q = front_same (take size table) head v records_of (front_size ∙ sym first) whole in
           let count : two_at table 6 ≡ length c.fields = sym at_six ∙ hf.count in
           let len = length-drop size table in
-          let back = widen-back numbers 0 [] c.fields (drop size table) (record_of 5 [])
+          let back = widen_back numbers 0 [] c.fields (drop size table) (record_of 5 [])
           (λ i. rw (get_or-drop size table i 0) (b (size + i))) (omega (arith, len, low)) w.form w.size
           (ap (λ (m : ℕ). widen_from m (drop size table)) (sym count) ∙ is ∙ ap some q.1) in
           sym (sym (take-append-drop size table)
           ∙ ap₂ {C = List ℕ} (λ (x y : List ℕ). x ++ y) q.0 back)
 
-  pub old-good : widen_table table ≡ some (stored_with current numbers c) → two_at table 6 ≤ 64
+  pub old_good : widen_table table ≡ some (stored_with current numbers c) → two_at table 6 ≤ 64
       → all is_plain_field c.fields ≡ true → GoodIn uncounted table
   unfolding stored_in stored_with
-  old-good e few plain =
+  old_good e few plain =
       let is = was_old e in
-      let st = whole-stands table (stored_with uncounted numbers c) is in
+      let st = whole_stands table (stored_with uncounted numbers c) is in
       let head = record_of 1 (head_body c) in
       let z = zero-add (length head) in
-      let hf = head-found table c (length head) w
+      let hf = head_found table c (length head) w
       (omega (arith, ap length is, length-append head (records_in uncounted numbers 0 c.fields ++ record_of 5 [])))
-      (subst (λ (i : ℕ). Stands table 0 head i) z (stands-left table 0 (length table) head _ st)) in
+      (subst (λ (i : ℕ). Stands table 0 head i) z (stands_left table 0 (length table) head _ st)) in
       record {
         description = c;
-        within = within_by current uncounted c w (omega (arith, few, hf.count)) (plain-kept [] c.fields plain);
+        within = within_by current uncounted c w (omega (arith, few, hf.count)) (plain_kept [] c.fields plain);
         is_stored = ap (λ (l : List ℕ). head ++ (l ++ record_of 5 []))
-            (old-alike (readers c.fields) numbers 0 0 c.fields) ∙ is;
+            (old_alike (readers c.fields) numbers 0 0 c.fields) ∙ is;
       }
 
 -- ── the outcome ──
@@ -257,17 +257,17 @@ module _ (table out : List ℕ) where
   refused_by_lem bad (yes old) = absurd (bad old)
   refused_by_lem bad (no b) = refl
 
-  pub refused-long : old_most < length table → Refused
-  refused-long lt = refused_by_lem (λ old. let le = old-short table old in omega (arith, le, lt))
+  pub refused_long_lem : old_most < length table → Refused
+  refused_long_lem lt = refused_by_lem (λ old. let le = old_short table old in omega (arith, le, lt))
 
-  pub refused-head : head_test table ≡ false → Refused
-  refused-head h = refused_by_lem (λ old. not-both (head_test table) (old_test table old) h)
+  pub refused_head : head_test table ≡ false → Refused
+  refused_head h = refused_by_lem (λ old. not_both (head_test table) (old_test table old) h)
 
-  pub refused-many : 64 < two_at table 6 → Refused
-  refused-many lt = refused_by_lem (λ old. let le = old-few table old in omega (arith, le, lt))
+  pub refused_many : 64 < two_at table 6 → Refused
+  refused_many lt = refused_by_lem (λ old. let le = old_few table old in omega (arith, le, lt))
 
-  pub refused-widen : widen_table table ≡ none → Refused
-  refused-widen e = refused_by_lem (λ old. none-ne-some _ (sym e ∙ old_widens table old))
+  pub refused_widen : widen_table table ≡ none → Refused
+  refused_widen e = refused_by_lem (λ old. none-ne-some _ (sym e ∙ old_widens table old))
 
   -- of a table that was widened, and numbered
   module _ (w : List ℕ) (is : widen_table table ≡ some w) where
@@ -296,46 +296,46 @@ module _ (table out : List ℕ) where
       adds_are =
           let within = right.1 in
           let st = right.3 in
-          rw (head-count c after st within)
+          rw (head_count c after st within)
           (adds_stored (readers c.fields) after c.fields (two_at after 0) (length after) (record_of 5 [])
-          within.form within.size (stored-length c within after st) (fields_stand c after st within))
+          within.form within.size (stored_length_lem c within after st) (fields_stand c after st within))
 
       all_plain : (old : GoodIn uncounted table) → all is_plain_field c.fields ≡ true
       all_plain old =
-          rw (same old) (kept-plain [] old.description.fields old.within.operators)
+          rw (same old) (kept_plain [] old.description.fields old.within.operators)
 
-      pub refused-added : adds_any after ≡ true → Refused
-      refused-added h =
+      pub refused_added : adds_any after ≡ true → Refused
+      refused_added h =
           refused_by_lem (λ old.
-          not-both (all is_plain_field c.fields) (all_plain old)
+          not_both (all is_plain_field c.fields) (all_plain old)
           (not-true (all is_plain_field c.fields) (sym adds_are ∙ h)))
 
-      pub accepted-old : IsBytes table → length table ≤ old_most → head_test table ≡ true → two_at table 6 ≤ 64
+      pub accepted_old : IsBytes table → length table ≤ old_most → head_test table ≡ true → two_at table 6 ≤ 64
           → adds_any after ≡ false → ConvertsTable table out (delivered after out)
-      accepted-old b low test few h (yes old) =
+      accepted_old b low test few h (yes old) =
           ap (λ (l : List ℕ). delivered l out) (sym right.3 ∙ ap stored (same old))
-      accepted-old b low test few h (no bad) =
-          absurd (bad (old-good table b low test right.2.0 c right.1
+      accepted_old b low test few h (no bad) =
+          absurd (bad (old_good table b low test right.2.0 c right.1
           (is ∙ ap some (sym right.2.1)) few
           (not-false (all is_plain_field c.fields) (sym adds_are ∙ h))))
 
 -- ── the steps of the code ──
 
 -- the bytes that were widened to
-bytes-some : (x : Option (List ℕ)) (r : Widened) (after : List ℕ) (n : ℕ) → r ≡ Bytes n → WidensTo x r after
+bytes_some : (x : Option (List ℕ)) (r : Widened) (after : List ℕ) (n : ℕ) → r ≡ Bytes n → WidensTo x r after
     → (x ≡ some (take n after)) × (n ≤ length after)
-bytes-some none (Bytes m) after n e h = absurd h
-bytes-some none Bad after n e h = let z : ◌≡◌ {A = ℕ} 0 1 = cc in absurd (omega arith)
-bytes-some (some w) (Bytes m) after n e h =
+bytes_some none (Bytes m) after n e h = absurd h
+bytes_some none Bad after n e h = let z : ◌≡◌ {A = ℕ} 0 1 = cc in absurd (omega arith)
+bytes_some (some w) (Bytes m) after n e h =
     let k : m ≡ n = cc in
     let t : take n after ≡ w = rw k at h.0 in
     let q = ap length t in
-    let l = length-take-most n after in
+    let l = length_take_most n after in
     (ap some (sym t), omega (arith, q, k, h.1, l))
   where
-    length-take-most : (n : ℕ) (l : List ℕ) → length (take n l) ≤ length l
-    length-take-most n l = omega (arith, length-append (take n l) (drop n l), ap length (take-append-drop n l))
-bytes-some (some w) Bad after n e h = absurd h
+    length_take_most : (n : ℕ) (l : List ℕ) → length (take n l) ≤ length l
+    length_take_most n l = omega (arith, length-append (take n l) (drop n l), ap length (take-append-drop n l))
+bytes_some (some w) Bad after n e h = absurd h
 
 bad_none : (x : Option (List ℕ)) (r : Widened) (after : List ℕ) → r ≡ Bad → WidensTo x r after → x ≡ none
 bad_none none r after e h = refl
@@ -344,30 +344,30 @@ bad_none (some w) Bad after e h = absurd h
 
 pub by_bad : (table out scratch : List ℕ) {r : Widened} → WidensTo (widen_table table) r scratch → r ≡ Bad
     → ConvertsTable table out (leaves (of_conversion ConversionAnswer.NotGood) out)
-by_bad table out scratch {r} h e = refused-widen table out (bad_none (widen_table table) r scratch e h)
+by_bad table out scratch {r} h e = refused_widen table out (bad_none (widen_table table) r scratch e h)
 
 -- the part of the scratch that was written
 pub widened_part : (table scratch : List ℕ) (n : ℕ) {r : Widened} → WidensTo (widen_table table) r scratch → r ≡ Bytes n
     → (widen_table table ≡ some (take (n - 0) scratch)) × (n ≤ length scratch)
 widened_part table scratch n {r} h e =
-    let q = bytes-some (widen_table table) r scratch n e h in
+    let q = bytes_some (widen_table table) r scratch n e h in
     (rw (sub-zero n) q.0, q.1)
 
 module _ (table out w : List ℕ) (is : widen_table table ≡ some w) (after : List ℕ) {x : Bool}
-    (numbered-to : NumbersTable x w after) where
+    (numbered_to : NumbersTable x w after) where
   known : (b : Bool) → x ≡ b → NumbersTable b w after
-  known b f = subst (λ (c : Bool). NumbersTable c w after) f numbered-to
+  known b f = subst (λ (c : Bool). NumbersTable c w after) f numbered_to
 
   pub by_shape : x ≡ false → ConvertsTable table out (leaves (of_conversion ConversionAnswer.NotGood) out)
   by_shape f = refused_shape table out w is after (known false f)
 
   module _ (t : x ≡ true) {y : Bool} (added : y ≡ adds_any after) where
     pub by_added : y ≡ true → ConvertsTable table out (leaves (of_conversion ConversionAnswer.NotGood) out)
-    by_added f = refused-added table out w is after (known true t) (sym added ∙ f)
+    by_added f = refused_added table out w is after (known true t) (sym added ∙ f)
 
     pub by_all : y ≡ false → IsBytes table → length table ≤ old_most → head_test table ≡ true → two_at table 6 ≤ 64
         → ConvertsTable table out (delivered after out)
-    by_all f b low test few = accepted-old table out w is after (known true t) b low test few (sym added ∙ f)
+    by_all f b low test few = accepted_old table out w is after (known true t) b low test few (sym added ∙ f)
 
 -- what was delivered
 pub with_room : (table out after whole : List ℕ) (n : ℕ) {z : Bool} → ConvertsTable table out (delivered whole out)

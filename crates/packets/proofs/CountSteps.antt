@@ -15,7 +15,7 @@ use Rattle.laws.specs.Places.{two_at}
 use Rattle.rules.specs.References.{times}
 use Rattle.references.specs.Scans.{codes_from, references}
 use Rattle.references.specs.Tallies.{tallied}
-use Rattle.references.proofs.TallyLaws.{tallied-length, tallied-append, tallied-at, tallied-small}
+use Rattle.references.proofs.TallyLaws.{tallied_length, tallied_append, tallied_at, tallied_small}
 use Rattle.writing.specs.declared.spans.Span.{Span}
 use Rattle.packets.specs.declared.records.Parts.{Parts}
 use Rattle.packets.specs.Parts.{parts_at}
@@ -38,9 +38,9 @@ pub record_length : (s : List ℕ) (p : Parts) (own : ℕ) (counts : List ℕ)
     → length (record_tallied s p own counts) ≡ length counts
 unfolding record_tallied
 record_length s p own counts =
-    tallied-length own _ (references (bytes_in s p.condition))
-    ∙ tallied-length own _ (references (bytes_in s p.constraint))
-    ∙ tallied-length own counts (references (bytes_in s p.tree))
+    tallied_length own _ (references (bytes_in s p.condition))
+    ∙ tallied_length own _ (references (bytes_in s p.constraint))
+    ∙ tallied_length own counts (references (bytes_in s p.tree))
 
 -- three tallies are one
 record_one : (s : List ℕ) (p : Parts) (own : ℕ) (counts : List ℕ)
@@ -50,7 +50,7 @@ record_one s p own counts =
     let a = references (bytes_in s p.tree) in
     let b = references (bytes_in s p.constraint) in
     let c = references (bytes_in s p.condition) in
-    sym (tallied-append own (tallied own counts a) b c) ∙ sym (tallied-append own counts a (b ++ c))
+    sym (tallied_append own (tallied own counts a) b c) ∙ sym (tallied_append own counts a (b ++ c))
 
 -- ── all records ──
 
@@ -60,8 +60,8 @@ pub record Tallying (s : List ℕ) (count from i at : ℕ) (counts : List ℕ) :
   pub sum : (j : ℕ) → j < length counts
       → (get_or counts j 0 + reads_from s i (count - i) at j) % 65536 ≡ reads_from s 0 count from j % 65536
 
-pub tally-start : (s : List ℕ) (count from : ℕ) (counts : List ℕ) → Zeros counts → Tallying s count from 0 from counts
-tally-start s count from counts z = record {
+pub tally_start : (s : List ℕ) (count from : ℕ) (counts : List ℕ) → Zeros counts → Tallying s count from 0 from counts
+tally_start s count from counts z = record {
   small = λ j lt. let e = z j in omega (arith, e);
   sum = λ j lt.
       let e : get_or counts j 0 + reads_from s 0 (count - 0) from j ≡ reads_from s 0 count from j =
@@ -81,11 +81,11 @@ tally_again s count from i at counts lt h =
     record {
       small = λ j q.
           let here : j < length counts = omega (arith, n, q) in
-          rw one (tallied-small i counts (part_reads s p) j here (h.small j here));
+          rw one (tallied_small i counts (part_reads s p) j here (h.small j here));
       sum = λ j q.
           let here : j < length counts = omega (arith, n, q) in
           let e = ap (λ (l : List ℕ). get_or l j 0) one
-          ∙ tallied-at i counts (part_reads s p) j here (h.small j here) in
+          ∙ tallied_at i counts (part_reads s p) j here (h.small j here) in
           let old = h.sum j here in
           let old' : (get_or counts j 0 + (cond (eqb j i) 0 (times j (part_reads s p))
           + reads_from s (suc i) (count - (i + 1)) p.next j)) % 65536 ≡ reads_from s 0 count from j % 65536 =
@@ -121,9 +121,9 @@ module _ (s places : List ℕ) (counts : ℕ → ℕ) where
   unfolding kept_from
   kept_step i n lt = let m : n - i ≡ suc (n - (i + 1)) = omega arith in rw m refl
 
-  pub kept-end : (i n : ℕ) → n ≤ i → kept_from s places counts i (n - i) ≡ true
+  pub kept_end : (i n : ℕ) → n ≤ i → kept_from s places counts i (n - i) ≡ true
   unfolding kept_from
-  kept-end i n le = let m : n - i ≡ 0 = omega arith in rw m refl
+  kept_end i n le = let m : n - i ≡ 0 = omega arith in rw m refl
 
   pub kept_true : (i n : ℕ) → kept_from s places counts i n ≡ true → (j : ℕ) → j < n
       → two_at s (get_or places (i + j) 0 + 4) ≡ counts (i + j)

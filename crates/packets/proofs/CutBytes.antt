@@ -11,8 +11,8 @@ use Rattle.laws.specs.Places.{two_at}
 use Rattle.laws.proofs.CutPut.{run_bounds}
 use Rattle.laws.proofs.CutCandidate.{all_outside}
 use Rattle.laws.proofs.Whole.{is_sound, within_sound, sound_kept}
-use Rattle.laws.proofs.RecordsJoined.{records-append, records-both}
-use Rattle.laws.proofs.ReadsBelow.{reads_below, fields-alike}
+use Rattle.laws.proofs.RecordsJoined.{records_append, records_both}
+use Rattle.laws.proofs.ReadsBelow.{reads_below, fields_alike}
 use Rattle.rules.specs.Limits.{fields_most}
 use Rattle.rules.specs.Editions.{current}
 use Rattle.rules.specs.Fields.{Field, Description}
@@ -26,17 +26,17 @@ use Rattle.packets.specs.Parts.{table_most}
 use Rattle.packets.specs.Lookups.{place_from}
 use Rattle.packets.specs.Shifts.{shifted_from}
 use Rattle.packets.specs.EditSteps.{start_with, MayCut}
-use Rattle.packets.proofs.TableHead.{head_first, head-count, count_most}
-use Rattle.packets.proofs.TableParts.{stored-length}
-use Rattle.packets.proofs.EditBytes.{head_with, head_stays, place_is, behind-place, start_is, place_bounds}
-use Rattle.packets.proofs.EditWrites.{more-put, rest_of, in_front_lem}
-use Rattle.packets.proofs.ShiftLaws.{renumbered-length, shifted_stored}
+use Rattle.packets.proofs.TableHead.{head_first, head_count, count_most}
+use Rattle.packets.proofs.TableParts.{stored_length_lem}
+use Rattle.packets.proofs.EditBytes.{head_with, head_stays, place_is, behind_place, start_is, place_bounds}
+use Rattle.packets.proofs.EditWrites.{more_put, rest_of, in_front_lem}
+use Rattle.packets.proofs.ShiftLaws.{renumbered_length, shifted_stored}
 
 -- in one byte an index below 256 stays what it is without a run
-down-alike : (first n i : ℕ) → i < 256
+down_alike : (first n i : ℕ) → i < 256
     → new_index (record { from = first; by = n; up = false }) i ≡ closed first n i
 unfolding new_index closed
-down-alike first n i byte = go (ltb i first)
+down_alike first n i byte = go (ltb i first)
   where
     go : (b : Bool) → cond b i (i - n) % 256 ≡ cond b i (i - n)
     go true = omega arith
@@ -68,8 +68,8 @@ module _ (table : List ℕ) (first last : ℕ) (may : MayCut table first last) w
   bounds : (first ≤ last) × (last < length fs)
   bounds = run_bounds first last fs may.run
 
-  count-is : length outside ≡ length fs - n
-  count-is =
+  count_is : length outside ≡ length fs - n
+  count_is =
       omega (
         arith,
         bounds,
@@ -87,10 +87,10 @@ module _ (table : List ℕ) (first last : ℕ) (may : MayCut table first last) w
       let both : records numbers 0 (take (suc last) fs) ≡ records numbers 0 (take first fs) ++ more =
       ap (λ (m : ℕ). records numbers 0 (take m fs)) (sym e)
       ∙ ap (records numbers 0) (take-add first k fs)
-      ∙ records-append numbers 0 (take first fs) (take k (drop first fs)) in
+      ∙ records_append numbers 0 (take first fs) (take k (drop first fs)) in
       omega (arith, ap length both, length-append (records numbers 0 (take first fs)) more)
 
-  module _ (start next count : ℕ) (at-start : start ≡ place_from table first (two_at table 0))
+  module _ (start next count : ℕ) (at_start : start ≡ place_from table first (two_at table 0))
       (at_next : next ≡ place_from table (last + 1) (two_at table 0)) (less : count ≡ two_at table 6 - (last + 1 - first))
     where
       abbrev built : List ℕ
@@ -102,17 +102,17 @@ module _ (table : List ℕ) (first last : ℕ) (may : MayCut table first last) w
       behind : next ≡ place_from table (suc last) (two_at table 0)
       behind = at_next ∙ ap (λ (k : ℕ). place_from table k (two_at table 0)) one_more
 
-      fits-first : first ≤ length fs
-      fits-first = omega (arith, bounds)
+      fits_first : first ≤ length fs
+      fits_first = omega (arith, bounds)
 
       fits_last : suc last ≤ length fs
       fits_last = omega (arith, bounds)
 
-      pub cut-room : (8 ≤ start) × (start ≤ next) × (next ≤ length table) × (length table ≤ table_most)
-      cut-room =
-          let a = place_bounds table good first start fits-first at-start in
+      pub cut_room : (8 ≤ start) × (start ≤ next) × (next ≤ length table) × (length table ≤ table_most)
+      cut_room =
+          let a = place_bounds table good first start fits_first at_start in
           let b = place_bounds table good (suc last) next fits_last behind in
-          let p = at-start ∙ place_is table good first fits-first in
+          let p = at_start ∙ place_is table good first fits_first in
           let q = behind ∙ place_is table good (suc last) fits_last in
           let head = record_of 1 (head_body d) in (
             a.0,
@@ -125,21 +125,21 @@ module _ (table : List ℕ) (first last : ℕ) (may : MayCut table first last) w
               length-append head (records numbers 0 (take (suc last) fs)),
             ),
             b.1,
-            stored-length d good.within table good.is_stored,
+            stored_length_lem d good.within table good.is_stored,
           )
 
-      count-fields : length outside ≡ count
-      count-fields = omega (arith, less, count-is, head-count d table good.is_stored good.within, bounds)
+      count_fields : length outside ≡ count
+      count_fields = omega (arith, less, count_is, head_count d table good.is_stored good.within, bounds)
 
       -- the first record with the new number of fields, the records outside the run, the last record
       built_is : (Q : ℕ → ℕ) × (built ≡ head_with d count ++ (records Q 0 outside ++ record_of 5 []))
       built_is =
           let xs = records numbers 0 (take first fs) in
           let ys = records numbers (suc last) (drop (suc last) fs) in
-          let both = records-both numbers numbers 0 (suc last) (take first fs) (drop (suc last) fs) in (
+          let both = records_both numbers numbers 0 (suc last) (take first fs) (drop (suc last) fs) in (
             both.0,
-            ap₂ {C = List ℕ} (λ (a b : List ℕ). a ++ b) (start_is table good first start fits-first at-start count)
-                (behind-place table good (suc last) next fits_last behind)
+            ap₂ {C = List ℕ} (λ (a b : List ℕ). a ++ b) (start_is table good first start fits_first at_start count)
+                (behind_place table good (suc last) next fits_last behind)
                 ∙ append_assoc (head_with d count) xs (ys ++ record_of 5 [])
                 ∙ ap (λ (l : List ℕ). head_with d count ++ l) (sym (append_assoc xs ys (record_of 5 [])))
                 ∙ ap (λ (l : List ℕ). head_with d count ++ (l ++ record_of 5 [])) both.1,
@@ -147,9 +147,9 @@ module _ (table : List ℕ) (first last : ℕ) (may : MayCut table first last) w
 
       built_length : length built ≡ start + (length table - next)
       built_length =
-          let r = cut-room in
-          let p = at-start ∙ place_is table good first fits-first in
-          let e = ap length (start_is table good first start fits-first at-start count) in
+          let r = cut_room in
+          let p = at_start ∙ place_is table good first fits_first in
+          let e = ap length (start_is table good first start fits_first at_start count) in
           let head = record_of 1 (head_body d) in
           omega (
             arith,
@@ -167,8 +167,8 @@ module _ (table : List ℕ) (first last : ℕ) (may : MayCut table first last) w
       alike =
           let most = count_most d good.within in
           let e : last + 1 - first ≡ n = omega arith in
-          fields-alike shifts (closed first n) (length fs)
-          (λ i lt. rw e (down-alike first n i (omega (arith, lt, most)))) outside
+          fields_alike shifts (closed first n) (length fs)
+          (λ i lt. rw e (down_alike first n i (omega (arith, lt, most)))) outside
           (all_outside first last _ fs (reads_below d good.within))
 
       -- the records outside, renumbered where they stand
@@ -182,20 +182,20 @@ module _ (table : List ℕ) (first last : ℕ) (may : MayCut table first last) w
           let sound = all_outside first last is_sound fs (within_sound [] fs good.within.form good.within.size)
           in
           let kept = sound_kept [] outside sound in
-          let r = cut-room in
+          let r = cut_room in
           let l = length-append head (records Q 0 outside ++ last5) in
           let m = length-append (records Q 0 outside) last5 in
           let low : length head + length (records Q 0 outside) ≤ table_most =
           omega (arith, ap length is, l, m, built_length, r) in
-          let first-size : two_at table 0 ≡ length head =
+          let first_size : two_at table 0 ≡ length head =
           head_first d table good.is_stored good.within ∙ sym (head_stays d count) in
           let whole : built ++ post ≡ head ++ (records Q 0 outside ++ (last5 ++ post)) =
           ap (λ (x : List ℕ). x ++ post) is
           ∙ append_assoc head (records Q 0 outside ++ last5) post
           ∙ ap (λ (x : List ℕ). head ++ x) (append_assoc (records Q 0 outside) last5 post) in
           e
-          ∙ ap (λ (k : ℕ). shifted_from shifts k (two_at table 0) (built ++ post)) (sym count-fields)
-          ∙ ap (λ (p : ℕ). shifted_from shifts (length outside) p (built ++ post)) first-size
+          ∙ ap (λ (k : ℕ). shifted_from shifts k (two_at table 0) (built ++ post)) (sym count_fields)
+          ∙ ap (λ (p : ℕ). shifted_from shifts (length outside) p (built ++ post)) first_size
           ∙ ap (shifted_from shifts (length outside) (length head)) whole
           ∙ shifted_stored shifts Q 0 head [] outside (last5 ++ post) kept.0 kept.1 low
           ∙ ap (λ (x : List (Field ℕ)). head ++ (records Q 0 x ++ (last5 ++ post))) alike
@@ -210,7 +210,7 @@ module _ (table : List ℕ) (first last : ℕ) (may : MayCut table first last) w
           let head = head_with d count in
           let last5 = record_of 5 [] in
           let result = map (renumbered (closed first n)) outside in
-          let fields_are : length result ≡ count = length-map outside (renumbered (closed first n)) ∙ count-fields in
+          let fields_are : length result ≡ count = length-map outside (renumbered (closed first n)) ∙ count_fields in
           let table_is : stored_with current Q (cut first last d) ≡ head ++ (records Q 0 result ++ last5) =
           ap (λ (k : ℕ). head_with d k ++ (records Q 0 result ++ last5)) fields_are in (
             Q,
@@ -224,7 +224,7 @@ module _ (table : List ℕ) (first last : ℕ) (may : MayCut table first last) w
               ap length b.1,
               length-append head (records Q 0 outside ++ last5),
               length-append (records Q 0 outside) last5,
-              renumbered-length (closed first n) Q 0 outside,
+              renumbered_length (closed first n) Q 0 outside,
               length-append head (records Q 0 result ++ last5),
               length-append (records Q 0 result) last5,
             ),
@@ -232,7 +232,7 @@ module _ (table : List ℕ) (first last : ℕ) (may : MayCut table first last) w
 
   pub cut_bounds : (first ≤ last) × (last < two_at table 6) × (two_at table 6 ≤ fields_most)
   cut_bounds =
-      let c = head-count d table good.is_stored good.within in
+      let c = head_count d table good.is_stored good.within in
       (bounds.0, omega (arith, bounds.1, c), omega (arith, count_most d good.within, c))
 
   -- what the code leaves in the buffer that it builds in
@@ -242,23 +242,23 @@ module _ (table : List ℕ) (first last : ℕ) (may : MayCut table first last) w
       → placed size s₂ ≡ put s₁ to (take (length table - next) (drop next table))
       → s₃ ≡ shifted_from shifts (n - (last + 1 - first)) head s₂
       → (Q : ℕ → ℕ) × (stored_with current Q (cut first last d) ≡ take (size - 0) s₃) × (size ≤ length s₃)
-  cut_ready scratch s₁ s₂ s₃ n head start next to size is_n is-head is-start is-next room w e shifted =
+  cut_ready scratch s₁ s₂ s₃ n head start next to size is_n is_head_lem is_start is_next room w e shifted =
       let count = n - (last + 1 - first) in
       let less : count ≡ two_at table 6 - (last + 1 - first) = ap (λ (m : ℕ). m - (last + 1 - first)) is_n in
-      let r = cut-room start next count is-start is-next less in
-      let length-is = built_length start next count is-start is-next less in
+      let r = cut_room start next count is_start is_next less in
+      let length_is = built_length start next count is_start is_next less in
       let front = start_with table start count in
       let e' : placed size s₂ ≡ put s₁ to (drop next table) = rw (rest_of table next) at e in
       let all_of = length-append front (drop next table) in
       let fits : length front + length (drop next table) ≤ length scratch =
-      omega (arith, all_of, length-is, r.1, r.2, r.3, room) in
-      let f = in_front_lem (more-put (drop next table) w fits e') in
+      omega (arith, all_of, length_is, r.1, r.2, r.3, room) in
+      let f = in_front_lem (more_put (drop next table) w fits e') in
       let post = drop size s₂ in
       let there : s₃ ≡ shifted_from shifts count (two_at table 0) ((front ++ drop next table) ++ post) =
       shifted
-      ∙ ap (λ (p : ℕ). shifted_from shifts count p s₂) is-head
+      ∙ ap (λ (p : ℕ). shifted_from shifts count p s₂) is_head_lem
       ∙ ap (shifted_from shifts count (two_at table 0)) f.0 in
-      let b = cut_built start next count is-start is-next less post s₃ there in
+      let b = cut_built start next count is_start is_next less post s₃ there in
       let made = stored_with current b.0 (cut first last d) in
       let sizes : length made ≡ size - 0 = omega (arith, b.2, f.1) in (
         b.0,

@@ -12,7 +12,7 @@ use borrow.Author.Tests.{le-leb, lt-leb, lt-ltb, le-ltb}
 use Rattle.base.specs.Lists.{between, first_break}
 use Rattle.laws.specs.Places.{two_at}
 use Rattle.laws.proofs.Unique.{stored_unique}
-use Rattle.laws.proofs.CutCandidate.{cut-judged}
+use Rattle.laws.proofs.CutCandidate.{cut_judged}
 use Rattle.rules.specs.declared.TableAnswer.{TableAnswer}
 use Rattle.rules.specs.declared.EditAnswer.{EditAnswer}
 use Rattle.rules.specs.Editions.{current}
@@ -24,27 +24,27 @@ use Rattle.rules.specs.Stored.{record_of, stored_with, stored, Good}
 use Rattle.rules.specs.Answers.{refused, of_table, of_edit}
 use Rattle.rules.specs.Promises.{Outcome, leaves, delivered, ChecksTable, is_run, by_limits, cut_outcome, CutsFields}
 use Rattle.references.specs.declared.scans.Wanted.TheVariants.{Run}
-use Rattle.references.proofs.ScanLaws.{any-joined}
+use Rattle.references.proofs.ScanLaws.{any_joined}
 use Rattle.packets.specs.Expressions.{having_from}
 use Rattle.packets.specs.EditSteps.{Judged, right, wrong, MayCut}
-use Rattle.packets.proofs.TableHead.{head-count, fields_stand}
-use Rattle.packets.proofs.TableParts.{stored-length}
+use Rattle.packets.proofs.TableHead.{head_count, fields_stand}
+use Rattle.packets.proofs.TableParts.{stored_length_lem}
 use Rattle.packets.proofs.PacketPromises.{not_good}
 use Rattle.packets.proofs.HavingLaws.{or_end, lacks, having_stored}
 
 -- good tables of the same bytes have one description
-pub one-description : (table : List ℕ) (g h : Good table) → g.description ≡ h.description
-one-description table g h =
+pub one_description : (table : List ℕ) (g h : Good table) → g.description ≡ h.description
+one_description table g h =
     stored_unique current g.description h.description g.within h.within (g.is_stored ∙ sym h.is_stored)
 
 -- ── the first reader ──
 
 -- rules that say the same are broken at the same place
-breaks-alike : (p q : List (Field ℕ) → Field ℕ → Bool) → ((b : List (Field ℕ)) (x : Field ℕ) → p b x ≡ q b x)
+breaks_alike : (p q : List (Field ℕ) → Field ℕ → Bool) → ((b : List (Field ℕ)) (x : Field ℕ) → p b x ≡ q b x)
     → (before l : List (Field ℕ)) → first_break p before l ≡ first_break q before l
 unfolding first_break
-breaks-alike p q h before [] = refl
-breaks-alike p q h before (x ∷ l) = rw (h before x, breaks-alike p q h (before ++ (x ∷ [])) l)
+breaks_alike p q h before [] = refl
+breaks_alike p q h before (x ∷ l) = rw (h before x, breaks_alike p q h (before ++ (x ∷ [])) l)
 
 -- and within the list
 pub break_inside : (p : List (Field ℕ) → Field ℕ → Bool) (before l : List (Field ℕ)) (n : ℕ)
@@ -73,13 +73,13 @@ module _ (table : List ℕ) (good : Good table) (first last : ℕ) where
       let w = good.within in
       let is = good.is_stored in
       let z = zero-add (length fs) in
-      let alike = breaks-alike (lacks (Run first last))
+      let alike = breaks_alike (lacks (Run first last))
       (λ before f. between first (length before) last || not (reads_run first last f))
       (λ b f. ap (λ (x : Bool). between first (length b) last || not x)
-      (any-joined (λ i. between first i last) tree_reads (trees f))) [] fs in
-      rw (head-count d table is w)
+      (any_joined (λ i. between first i last) tree_reads (trees f))) [] fs in
+      rw (head_count d table is w)
       (rw z at (having_stored (Run first last) (readers fs) 0 table [] fs (two_at table 0) (length table) (record_of 5 [])
-      w.form w.size (stored-length d w table is) (fields_stand d table is w))
+      w.form w.size (stored_length_lem d w table is) (fields_stand d table is w))
       ∙ ap (or_end (length fs)) alike)
 
   some_reader : (o : Option ℕ) → first_reader first last fs ≡ o → (r : ℕ) → r ≡ or_end (length fs) o → r < length fs
@@ -115,37 +115,37 @@ module _ (table out : List ℕ) (first last : ℕ) where
         → Cuts o
     by_good o h (yes g) fits =
         h fits
-        ∙ ap (λ (e : Description). cut_outcome first last e (fits (cut first last e)) out) (one-description table good g)
+        ∙ ap (λ (e : Description). cut_outcome first last e (fits (cut first last e)) out) (one_description table good g)
     by_good o h (no bad) fits = absurd (bad good)
 
-    pub cut-empty : last < first → Cuts (leaves (of_edit EditAnswer.NoFields) out)
+    pub cut_empty : last < first → Cuts (leaves (of_edit EditAnswer.NoFields) out)
     unfolding of_edit cut_outcome
-    cut-empty lt = by_good _ (λ fits. rw (lt-leb first last lt) refl)
+    cut_empty lt = by_good _ (λ fits. rw (lt-leb first last lt) refl)
 
-    pub cut-beyond : first ≤ last → two_at table 6 ≤ last → Cuts (leaves (of_edit EditAnswer.NoFields) out)
+    pub cut_beyond : first ≤ last → two_at table 6 ≤ last → Cuts (leaves (of_edit EditAnswer.NoFields) out)
     unfolding of_edit cut_outcome
-    cut-beyond low le =
-        let c = head-count d table good.is_stored good.within in
+    cut_beyond low le =
+        let c = head_count d table good.is_stored good.within in
         by_good _ (λ fits. rw (le-leb first last low, le-ltb last (length d.fields) (omega (arith, c, le))) refl)
 
     module _ (low : first ≤ last) (high : last < two_at table 6) where
       in_run : is_run first last d.fields ≡ true
       in_run =
-          let c = head-count d table good.is_stored good.within in
+          let c = head_count d table good.is_stored good.within in
           rw (le-leb first last low, lt-ltb last (length d.fields) (omega (arith, c, high))) refl
 
       module _ (r : ℕ) (found : r ≡ having_from (Run first last) table 0 (two_at table 6) (two_at table 0)) where
-        pub cut-read : r < two_at table 6 → Cuts (leaves (of_edit (EditAnswer.StillRead (r + 1))) out)
+        pub cut_read : r < two_at table 6 → Cuts (leaves (of_edit (EditAnswer.StillRead (r + 1))) out)
         unfolding of_edit cut_outcome
-        cut-read lt =
-            let c = head-count d table good.is_stored good.within in
+        cut_read lt =
+            let c = head_count d table good.is_stored good.within in
             let e = some_reader table good first last (first_reader first last d.fields) refl r
             (found ∙ reader_is table good first last) (omega (arith, c, lt)) in
             by_good _ (λ fits. rw (in_run, e, add-one r) refl)
 
         pub may_cut : two_at table 6 ≤ r → MayCut table first last
         may_cut le =
-            let c = head-count d table good.is_stored good.within in record {
+            let c = head_count d table good.is_stored good.within in record {
               good = good;
               run = in_run;
               unread = no_reader table good first last (first_reader first last d.fields) refl r
@@ -157,18 +157,18 @@ module _ (table out : List ℕ) (first last : ℕ) where
     abbrev result : Description
     result = cut first last may.good.description
 
-    pub judged-cut : (bytes : List ℕ) → stored_with current numbers result ≡ bytes → (o : Outcome) → Judged bytes out o
+    pub judged_cut : (bytes : List ℕ) → stored_with current numbers result ≡ bytes → (o : Outcome) → Judged bytes out o
         → Cuts o
     unfolding cut_outcome
-    judged-cut bytes is o (right other c within same) =
-        let e = cut-judged first last may.good.description may.good.within numbers other c within
+    judged_cut bytes is o (right other c within same) =
+        let e = cut_judged first last may.good.description may.good.within numbers other c within
         (same ∙ sym is) in
         by_good may.good _ (λ fits. rw (may.run, may.unread) (go e (fits result)))
       where
         go : c ≡ result → (x : Dec (Within result)) → delivered (stored c) out ≡ by_limits x out
         go e (yes v) = ap (λ (x : Description). delivered (stored x) out) e
         go e (no beyond) = absurd (beyond (subst Within e within))
-    judged-cut bytes is o (wrong none_is) =
+    judged_cut bytes is o (wrong none_is) =
         by_good may.good _ (λ fits. rw (may.run, may.unread) (go (fits result)))
       where
         go : (x : Dec (Within result)) → leaves (refused 34 0) out ≡ by_limits x out

@@ -6,8 +6,8 @@ use native.Mathlib.Omega.{arith}
 use lib.ListN.{length, take, drop, length-append, take-append-drop}
 use lib.Seq.{take_at, drop_at, take-take, length-take-le}
 use Rattle.laws.specs.Places.{two_at}
-use Rattle.laws.proofs.PlacesOfNumbers.{length-le2}
-use Rattle.laws.proofs.RecordsJoined.{records-append}
+use Rattle.laws.proofs.PlacesOfNumbers.{length_le2}
+use Rattle.laws.proofs.RecordsJoined.{records_append}
 use Rattle.rules.specs.Trees.{le2}
 use Rattle.rules.specs.Fields.{Field, Description}
 use Rattle.rules.specs.References.{readers}
@@ -15,7 +15,7 @@ use Rattle.rules.specs.Stored.{counted, record_of, records, head_body, stored_wi
 use Rattle.packets.specs.Lookups.{place_from}
 use Rattle.packets.specs.EditSteps.{start_with}
 use Rattle.packets.proofs.TableHead.{head_first, fields_stand}
-use Rattle.packets.proofs.TableParts.{head-length, stored-length}
+use Rattle.packets.proofs.TableParts.{head_length, stored_length_lem}
 use Rattle.packets.proofs.LookupStored.{place_upto}
 
 drop_of_take : (n m : ℕ) (l : List ℕ) → drop n (take m l) ≡ take (m - n) (drop n l)
@@ -60,7 +60,7 @@ module _ (table : List ℕ) (good : Good table) where
       let size : 0 + length (take i fs) ≡ i = omega (arith, length-take-le i fs le) in
       let both : records numbers 0 fs ≡ front ++ behind =
       ap (records numbers 0) (sym (take-append-drop i fs))
-      ∙ records-append numbers 0 (take i fs) (drop i fs)
+      ∙ records_append numbers 0 (take i fs) (drop i fs)
       ∙ ap (λ (k : ℕ). front ++ records numbers k (drop i fs)) size in
       sym good.is_stored
       ∙ ap (λ (l : List ℕ). head ++ (l ++ record_of 5 [])) both
@@ -73,7 +73,7 @@ module _ (table : List ℕ) (good : Good table) where
   place_is i le =
       let w = good.within in
       let st = fields_stand d table good.is_stored w in
-      let p = place_upto numbers table (length table) (record_of 5 []) (stored-length d w table good.is_stored) 0 fs []
+      let p = place_upto numbers table (length table) (record_of 5 []) (stored_length_lem d w table good.is_stored) 0 fs []
       i (two_at table 0) w.form w.size st le in
       omega (arith, p, head_first d table good.is_stored w, length-append head (records numbers 0 (take i fs)))
 
@@ -81,11 +81,11 @@ module _ (table : List ℕ) (good : Good table) where
     at_place : length (head ++ records numbers 0 (take i fs)) ≡ place
     at_place = sym (is ∙ place_is i le)
 
-    pub behind-place : drop place table ≡ records numbers i (drop i fs) ++ record_of 5 []
-    behind-place = ap (drop place) (parted i le) ∙ drop_at (head ++ records numbers 0 (take i fs)) _ place at_place
+    pub behind_place : drop place table ≡ records numbers i (drop i fs) ++ record_of 5 []
+    behind_place = ap (drop place) (parted i le) ∙ drop_at (head ++ records numbers 0 (take i fs)) _ place at_place
 
-    pub before-place : take place table ≡ head ++ records numbers 0 (take i fs)
-    before-place = ap (take place) (parted i le) ∙ take_at (head ++ records numbers 0 (take i fs)) _ place at_place
+    pub before_place : take place table ≡ head ++ records numbers 0 (take i fs)
+    before_place = ap (take place) (parted i le) ∙ take_at (head ++ records numbers 0 (take i fs)) _ place at_place
 
     -- the place lies behind the first record
     pub place_bounds : (8 ≤ place) × (place ≤ length table) × (length head ≤ place)
@@ -94,11 +94,11 @@ module _ (table : List ℕ) (good : Good table) where
         let m = ap length (parted i le) in
         let all = length-append (head ++ records numbers 0 (take i fs))
         (records numbers i (drop i fs) ++ record_of 5 []) in
-        let h = head-length d in
+        let h = head_length d in
         let l = length-append (le2 (4 + length (head_body d))) (le2 1 ++ head_body d) in
         let b = length-append (le2 1) (head_body d) in
-        let x = length-le2 (4 + length (head_body d)) in
-        let y = length-le2 1 in (
+        let x = length_le2 (4 + length (head_body d)) in
+        let y = length_le2 1 in (
           omega (arith, at_place, n, h, l, b, x, y),
           omega (arith, at_place, m, all),
           omega (arith, at_place, n),
@@ -109,7 +109,7 @@ module _ (table : List ℕ) (good : Good table) where
     start_is count =
         let rest_of = counted d.name ++ records numbers 0 (take i fs) in
         let whole : take place table ≡ le2 (4 + length (head_body d)) ++ (le2 1 ++ (le2 d.row_width
-        ++ (le2 (length fs) ++ rest_of))) = before-place in
+        ++ (le2 (length fs) ++ rest_of))) = before_place in
         let eight = place_bounds.0 in
         let first : take 6 table ≡ le2 (4 + length (head_body d)) ++ (le2 1 ++ le2 d.row_width) =
         sym (take-take 6 place table (omega (arith, eight))) ∙ ap (take 6) whole in

@@ -30,13 +30,13 @@ use Rattle.rules.specs.Reading.{
   read_field_in,
   bit_total,
 }
-use Rattle.laws.proofs.ReadsFields.{formed-parts}
+use Rattle.laws.proofs.ReadsFields.{formed_parts}
 use Rattle.packets.specs.declared.records.Parts.{Parts}
 use Rattle.packets.specs.PartsStand.{PartsStand}
 use Rattle.packets.specs.Steps.{numbers_in, holds_at, later_bits, field_step}
 use Rattle.packets.specs.Walks.{put_at, kept_at, step_after, run_with}
-use Rattle.packets.proofs.RunEntries.{Begins, put-begins, run_agrees}
-use Rattle.packets.proofs.FieldReads.{opened, holds-reads, width-reads}
+use Rattle.packets.proofs.RunEntries.{Begins, put_begins, run_agrees}
+use Rattle.packets.proofs.FieldReads.{opened, holds_reads, width_reads}
 
 -- a step of the reading behind some entries, and the code's step with the run after it
 abbrev pub Matches : List Entry → List ℕ → Step → Step → Type 0
@@ -109,20 +109,20 @@ module _ (s packet run : List ℕ) (before : List (Field ℕ)) (entries : List E
     (room : 4 * length entries + 4 ≤ length run)
     (formed : is_formed f ≡ true) (small : all is_small (trees f) ≡ true)
     (typed : keeps_types index_readable before f ≡ true) (stands : PartsStand s p f) where
-  own-entry : (e : Entry) → holds_at s (put_at run (length entries) (numbers_in e)) p.constraint
+  own_entry : (e : Entry) → holds_at s (put_at run (length entries) (numbers_in e)) p.constraint
       ≡ holds (entries ++ (e ∷ [])) f.constraint
-  own-entry e =
+  own_entry e =
       let k = if_any (has_type (index_readable (before ++ (f ∷ []))) YesNo) f.constraint in
       let c = if_any (has_type (index_readable before) YesNo) f.condition in
       let types = and_true (width_has_type (index_readable before) f.width) (k && c) typed in
       let l = list_of f.constraint ++ list_of f.condition in
-      let ranges = all_append is_in_range (width_trees f.width) l (formed-parts f formed).3 in
+      let ranges = all_append is_in_range (width_trees f.width) l (formed_parts f formed).3 in
       let smalls = all_append is_small (width_trees f.width) l small in
       let n : length (entries ++ (e ∷ [])) ≡ length (before ++ (f ∷ [])) =
       omega (arith, length-append entries (e ∷ []), length-append before (f ∷ [])) in
-      holds-reads s (put_at run (length entries) (numbers_in e)) (before ++ (f ∷ [])) (entries ++ (e ∷ []))
+      holds_reads s (put_at run (length entries) (numbers_in e)) (before ++ (f ∷ [])) (entries ++ (e ∷ []))
       (run_agrees (before ++ (f ∷ [])) (entries ++ (e ∷ [])) (put_at run (length entries) (numbers_in e)) n
-      (put-begins run entries e begins room))
+      (put_begins run entries e begins room))
       f.constraint p.constraint (and_true k c types.1).0
       (all_append is_in_range (list_of f.constraint) (list_of f.condition) ranges.1).0
       (all_append is_small (list_of f.constraint) (list_of f.condition) smalls.1).0
@@ -138,17 +138,17 @@ module _ (s packet run : List ℕ) (before : List (Field ℕ)) (entries : List E
       let c = if_any (has_type (index_readable before) YesNo) f.condition in
       let types = and_true (width_has_type (index_readable before) f.width) (k && c) typed in
       let l = list_of f.constraint ++ list_of f.condition in
-      let form = formed-parts f formed in
+      let form = formed_parts f formed in
       let ranges = all_append is_in_range (width_trees f.width) l form.3 in
       let smalls = all_append is_small (width_trees f.width) l small in
       let agrees = run_agrees before entries run counts begins in
-      let e = holds-reads s run before entries agrees f.condition p.condition (and_true k c types.1).1
+      let e = holds_reads s run before entries agrees f.condition p.condition (and_true k c types.1).1
       (all_append is_in_range (list_of f.constraint) (list_of f.condition) ranges.1).1
       (all_append is_small (list_of f.constraint) (list_of f.condition) smalls.1).1
       stands.condition in
       let w =
-      width-reads s run before entries agrees packet f.width p later total place stands.kind stands.width
+      width_reads s run before entries agrees packet f.width p later total place stands.kind stands.width
       form.2 types.0 ranges.0 smalls.0 sums in
       rw (e, w)
-      (condition_matches s packet run entries place f p (λ d. put-begins run entries d begins room) own-entry
+      (condition_matches s packet run entries place f p (λ d. put_begins run entries d begins room) own_entry
       (holds entries f.condition) (width_at packet entries place total f.width))

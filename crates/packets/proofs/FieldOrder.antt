@@ -10,13 +10,13 @@ use lib.Dec.{leb, eqb}
 use lib.ListN.{length}
 use borrow.Author.Tests.{ne_eqb}
 use Rattle.base.specs.Lists.{any, is_empty, is_none, if_any, list_of}
-use Rattle.base.proofs.Lists.{not-both}
+use Rattle.base.proofs.Lists.{not_both}
 use Rattle.rules.specs.Names.{is_short}
 use Rattle.rules.specs.Trees.{Tree}
 use Rattle.rules.specs.Fields.{Width, fixed, measured, rest, Field, is_rest, fixed_bits}
 use Rattle.rules.specs.Within.{keeps_rest, is_readable, index_readable, rows_fit}
 use Rattle.rules.specs.Stored.{kind_number, stored_expression, stored_name, stored_maybe}
-use Rattle.names.proofs.PadLaws.{short-held}
+use Rattle.names.proofs.PadLaws.{short_held}
 use Rattle.packets.specs.declared.records.Parts.{Parts}
 use Rattle.packets.specs.StoredTrees.{marked}
 use Rattle.packets.specs.PartsStand.{WidthStands, PartsStand}
@@ -35,45 +35,45 @@ mark_true : (b : Bool) → eqb (cond b 1 0) 1 ≡ b
 mark_true true = refl
 mark_true false = refl
 
-marked-at : (l : List (Field ℕ)) (i : ℕ) → marked (marks_of l) i ≡ index_readable l i
-marked-at [] i = refl
-marked-at (f ∷ l) zero = mark_true (is_readable (some f))
-marked-at (f ∷ l) (suc i) = marked-at l i
+marked_at : (l : List (Field ℕ)) (i : ℕ) → marked (marks_of l) i ≡ index_readable l i
+marked_at [] i = refl
+marked_at (f ∷ l) zero = mark_true (is_readable (some f))
+marked_at (f ∷ l) (suc i) = marked_at l i
 
 pub marked_readable : (l : List (Field ℕ)) → marked (marks_of l) ≡ index_readable l
-marked_readable l = λ k i. marked-at l i k
+marked_readable l = λ k i. marked_at l i k
 
-pub marks-end : (l : List (Field ℕ)) (f : Field ℕ) → marks_of (l ++ (f ∷ [])) ≡ marks_of l ++ (mark f ∷ [])
-marks-end [] f = refl
-marks-end (g ∷ l) f = ap (λ (m : List ℕ). mark g ∷ m) (marks-end l f)
+pub marks_end : (l : List (Field ℕ)) (f : Field ℕ) → marks_of (l ++ (f ∷ [])) ≡ marks_of l ++ (mark f ∷ [])
+marks_end [] f = refl
+marks_end (g ∷ l) f = ap (λ (m : List ℕ). mark g ∷ m) (marks_end l f)
 
 -- a short name is not empty
-named-length : (o : Option (List ℕ)) → if_any is_short o ≡ true → eqb (length (stored_name o)) 0 ≡ is_empty (list_of o)
-named-length none h = refl
-named-length (some []) h = absurd (not-both false (short-held [] h).1 refl)
-named-length (some (x ∷ w)) h = ne_eqb (suc (length w)) 0 (λ e. omega arith)
+named_length : (o : Option (List ℕ)) → if_any is_short o ≡ true → eqb (length (stored_name o)) 0 ≡ is_empty (list_of o)
+named_length none h = refl
+named_length (some []) h = absurd (not_both false (short_held [] h).1 refl)
+named_length (some (x ∷ w)) h = ne_eqb (suc (length w)) 0 (λ e. omega arith)
 
 -- a field has a name by which it may be read where it has a short name, or its label b is such a word
-named-mark : (o : Option (List ℕ)) (b : Bool) (l : List ℕ)
+named_mark : (o : Option (List ℕ)) (b : Bool) (l : List ℕ)
     → ◌≡◌ {A = ℕ} (cond b 1 (cond (is_empty (list_of o)) 0 1))
     (cond (not (is_empty (list_of o ++ cond b (l ∷ []) []))) 1 0)
-named-mark none true l = refl
-named-mark none false l = refl
-named-mark (some w) true l = refl
-named-mark (some w) false l = refl
+named_mark none true l = refl
+named_mark none false l = refl
+named_mark (some w) true l = refl
+named_mark (some w) false l = refl
 
 module _ (s : List ℕ) (p : Parts) where
-  pub mark-is : (f : Field ℕ) → PartsStand s p f → if_any is_short f.short ≡ true → mark_of s p ≡ mark f
+  pub mark_is : (f : Field ℕ) → PartsStand s p f → if_any is_short f.short ≡ true → mark_of s p ≡ mark f
   unfolding mark_by
-  mark-is f st h = go f.width refl
+  mark_is f st h = go f.width refl
     where
       l : eqb p.short.len 0 ≡ is_empty (list_of f.short)
-      l = rw (in_length s p.short (stored_name f.short) st.short) (named-length f.short h)
+      l = rw (in_length s p.short (stored_name f.short) st.short) (named_length f.short h)
 
       go : (w : Width ℕ) → f.width ≡ w → mark_of s p ≡ mark f
       go (fixed n) e =
           rw (st.kind, e, l, bytes_are s p.label f.label st.label)
-          (named-mark f.short (is_short f.label) f.label)
+          (named_mark f.short (is_short f.label) f.label)
       go (measured u t) e = rw (st.kind, e)
       go rest e = rw (st.kind, e)
 
@@ -87,8 +87,8 @@ module _ (s : List ℕ) (p : Parts) where
       go (measured u t) k d e = rw (k, e)
       go rest k d e = rw (k, e)
 
-  pub rest-is : (f : Field ℕ) → PartsStand s p f → eqb p.kind 14 ≡ is_rest f
-  rest-is f st = go f.width st.kind refl
+  pub rest_is : (f : Field ℕ) → PartsStand s p f → eqb p.kind 14 ≡ is_rest f
+  rest_is f st = go f.width st.kind refl
     where
       go : (w : Width ℕ) → p.kind ≡ kind_number w → f.width ≡ w → eqb p.kind 14 ≡ is_rest f
       go (fixed n) k e = rw (k, e)
@@ -137,10 +137,10 @@ order_is s p f before w place st = go f.width st.kind st.width refl
     go (measured u t) k d e = rw (k, e, or_false (not (any is_rest before)))
     go rest k d e = rw (k, e, or_false (not (any is_rest before)))
 
-pub any-end : {A : Type 0} (p : A → Bool) (l : List A) (x : A) → any p (l ++ (x ∷ [])) ≡ (any p l || p x)
+pub any_end : {A : Type 0} (p : A → Bool) (l : List A) (x : A) → any p (l ++ (x ∷ [])) ≡ (any p l || p x)
 unfolding any
-any-end p [] x = or_false (p x)
-any-end p (y ∷ l) x = go (p y) (any-end p l x)
+any_end p [] x = or_false (p x)
+any_end p (y ∷ l) x = go (p y) (any_end p l x)
   where
     go : (b : Bool) → any p (l ++ (x ∷ [])) ≡ (any p l || p x)
         → (b || any p (l ++ (x ∷ []))) ≡ ((b || any p l) || p x)

@@ -32,8 +32,8 @@ use Rattle.packets.proofs.PartBytes.{
   in_length,
   empty_in,
   tree_sound,
-  tree-complete,
-  number-byte,
+  tree_complete,
+  number_byte,
 }
 
 -- ── short names ──
@@ -48,11 +48,11 @@ short_sound s p le h = go (or_cases (eqb p.len 0) (is_short (bytes_in s p)) h)
     go (inl e) = (none, refl, empty_in s p (eqb-true p.len 0 e))
     go (inr e) = (some (bytes_in s p), e, bytes_stand s p le)
 
-pub short-complete : (s : List ℕ) (p : Span) (o : Option (List ℕ)) → if_any is_short o ≡ true → In s p (stored_name o)
+pub short_complete : (s : List ℕ) (p : Span) (o : Option (List ℕ)) → if_any is_short o ≡ true → In s p (stored_name o)
     → short_test s p ≡ true
 unfolding short_test
-short-complete s p none h q = rw (eq-eqb p.len 0 (in_length s p [] q))
-short-complete s p (some w) h q = lists.or_right (eqb p.len 0) (is_short (bytes_in s p)) (rw (bytes_are s p w q) h)
+short_complete s p none h q = rw (eq-eqb p.len 0 (in_length s p [] q))
+short_complete s p (some w) h q = lists.or_right (eqb p.len 0) (is_short (bytes_in s p)) (rw (bytes_are s p w q) h)
 
 -- ── widths ──
 
@@ -87,7 +87,7 @@ module _ (s marks : List ℕ) (p : Parts) where
       let n = and_left (not (eqb (get_or s p.tree.at 0) 1)) (tree_test s marks Number p.tree) ok' in
       let t = q.0 in
       let u : (eqb p.number 1 || eqb p.number 8) ≡ true = rw e at h in
-      let m : not (is_number t) ≡ true = rw (← number-byte s p.tree t q.1.stands) n in (
+      let m : not (is_number t) ≡ true = rw (← number_byte s p.tree t q.1.stands) n in (
         measured p.number t,
         record {
           kind = e;
@@ -112,20 +112,20 @@ module _ (s marks : List ℕ) (p : Parts) where
           let nf : p.kind ≡ 13 → ⊥ = eqb-false p.kind 13 f in
           (rest, rest_in (omega (arith, n, ne, nf)))
 
-  pub width-complete : (w : Width ℕ) → WidthIn s marks p w
+  pub width_complete : (w : Width ℕ) → WidthIn s marks p w
       → (number_test p.kind p.number ≡ true) × (width_test s marks p ≡ true) × (between 12 p.kind 14 ≡ true)
   unfolding number_test width_test
-  width-complete (fixed n) h = rw h.kind (rw h.stands h.formed, refl, refl)
-  width-complete (measured u t) h =
+  width_complete (fixed n) h = rw h.kind (rw h.stands h.formed, refl, refl)
+  width_complete (measured u t) h =
       let f = h.formed in
       let a = and_left (eqb u 1 || eqb u 8) (not (is_number t)) f in
       let b = and_right (eqb u 1 || eqb u 8) (not (is_number t)) f in
-      let c = tree-complete s marks Number p.tree t (record {
+      let c = tree_complete s marks Number p.tree t (record {
         typed = h.typed;
         range = all_one is_in_range t h.range;
         small = all_one is_small t h.small;
         stands = h.stands.1;
       }) in
-      let d : not (eqb (get_or s p.tree.at 0) 1) ≡ true = rw (number-byte s p.tree t h.stands.1) b in
+      let d : not (eqb (get_or s p.tree.at 0) 1) ≡ true = rw (number_byte s p.tree t h.stands.1) b in
       rw h.kind (rw h.stands.0 a, and_both (not (eqb (get_or s p.tree.at 0) 1)) _ d c, refl)
-  width-complete rest h = rw h.kind (refl, refl, refl)
+  width_complete rest h = rw h.kind (refl, refl, refl)

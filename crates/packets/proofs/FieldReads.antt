@@ -40,22 +40,22 @@ use Rattle.packets.specs.Steps.{
   bounded_at,
   present_at,
 }
-use Rattle.packets.proofs.TreeValues.{value-stored, evaluate_agree}
+use Rattle.packets.proofs.TreeValues.{value_stored, evaluate_agree}
 
-placed-value : (v : Value) (next : ℕ) → value_of (placed v next) ≡ v
-placed-value (value n) next = refl
-placed-value (fault f) next = refl
+placed_value : (v : Value) (next : ℕ) → value_of (placed v next) ≡ v
+placed_value (value n) next = refl
+placed_value (fault f) next = refl
 
-stored-long : (t : Tree ℕ) → 0 < length (stored_expression t)
+stored_long : (t : Tree ℕ) → 0 < length (stored_expression t)
 unfolding stored_tree
-stored-long (num n) = omega arith
-stored-long (read a) = omega arith
-stored-long (two o a b) = omega arith
-stored-long (negation a) = omega arith
+stored_long (num n) = omega arith
+stored_long (read a) = omega arith
+stored_long (two o a b) = omega arith
+stored_long (negation a) = omega arith
 
-unit-is : (u : ℕ) → (eqb u 1 || eqb u 8) ≡ true → unit_of u ≡ u
+unit_is : (u : ℕ) → (eqb u 1 || eqb u 8) ≡ true → unit_of u ≡ u
 unfolding unit_of
-unit-is u h =
+unit_is u h =
     or_true (eqb u 1) (eqb u 8) (λ e. let q = eqb-true u 1 e in rw q) (λ e. let q = eqb-true u 8 e in rw q) h
 
 -- the bits of a fixed field's record, 0 for another's
@@ -76,39 +76,39 @@ opened packet place w n =
 -- the run's values are those of the entries
 module _ (s run : List ℕ) (before : List (Field ℕ)) (entries : List Entry)
     (agrees : (i : ℕ) → index_readable before i ≡ true → run_value run i ≡ value_in entries i) where
-  tree-reads : (k : ValueType) (t : Tree ℕ) (at next : ℕ) → has_type (index_readable before) k t ≡ true
+  tree_reads_lem : (k : ValueType) (t : Tree ℕ) (at next : ℕ) → has_type (index_readable before) k t ≡ true
       → is_in_range t ≡ true → is_small t ≡ true → Stands s at (stored_expression t) next
       → tree_value s run at ≡ evaluate (value_in entries) t
   unfolding tree_value
-  tree-reads k t at next typed range small p =
-      let e = value-stored depth_most s run at t next range (small_bounds t small).0 p in
+  tree_reads_lem k t at next typed range small p =
+      let e = value_stored depth_most s run at t next range (small_bounds t small).0 p in
       rw e
-      (placed-value (evaluate (run_value run) t) next
+      (placed_value (evaluate (run_value run) t) next
       ∙ evaluate_agree (index_readable before) k t (run_value run) (value_in entries) typed agrees)
 
-  pub holds-reads : (o : Option (Tree ℕ)) (p : Span) → if_any (has_type (index_readable before) YesNo) o ≡ true
+  pub holds_reads : (o : Option (Tree ℕ)) (p : Span) → if_any (has_type (index_readable before) YesNo) o ≡ true
       → all is_in_range (list_of o) ≡ true → all is_small (list_of o) ≡ true → In s p (stored_maybe o)
       → holds_at s run p ≡ holds entries o
   unfolding holds_at
-  holds-reads none p typed range small q =
+  holds_reads none p typed range small q =
       let e : p.len ≡ 0 = omega (arith, q.end) in
       rw (eq-eqb p.len 0 e)
-  holds-reads (some t) p typed range small q =
-      let lt = stored-long t in
+  holds_reads (some t) p typed range small q =
+      let lt = stored_long t in
       let e : eqb p.len 0 ≡ false = ne_eqb p.len 0 (λ z. omega (arith, q.end)) in
-      rw e (tree-reads YesNo t p.at _ typed (all_one is_in_range t range) (all_one is_small t small) q)
+      rw e (tree_reads_lem YesNo t p.at _ typed (all_one is_in_range t range) (all_one is_small t small) q)
 
-  pub width-reads : (packet : List ℕ) (w : Width ℕ) (p : Parts) (later total place : ℕ) → p.kind ≡ kind_number w
+  pub width_reads : (packet : List ℕ) (w : Width ℕ) (p : Parts) (later total place : ℕ) → p.kind ≡ kind_number w
       → WidthStands s p.number p.tree w → is_width w ≡ true → width_has_type (index_readable before) w ≡ true
       → all is_in_range (width_trees w) ≡ true → all is_small (width_trees w) ≡ true → later_bits later s p.next ≡ total
       → present_at s packet run p later place ≡ and_then (width_at packet entries place total w) (opened packet place w)
   unfolding present_at extent_at bounded_at number_of measured_at rest_at
-  width-reads packet (fixed n) p later total place kind stands form typed range small sums =
+  width_reads packet (fixed n) p later total place kind stands form typed range small sums =
       let le : leb n fixed_most ≡ true = (and_true (leb 1 n) (leb n fixed_most) form).1 in
       rw (fixed_part p (fixed n) kind s p.tree stands form, kind, le)
-  width-reads packet (measured u t) p later total place kind stands form typed range small sums =
-      let unit = unit-is u (and_true (eqb u 1 || eqb u 8) (not (is_number t)) form).0 in
+  width_reads packet (measured u t) p later total place kind stands form typed range small sums =
+      let unit = unit_is u (and_true (eqb u 1 || eqb u 8) (not (is_number t)) form).0 in
       let e =
-      tree-reads Number t p.tree.at _ typed (all_one is_in_range t range) (all_one is_small t small) stands.1 in
+      tree_reads_lem Number t p.tree.at _ typed (all_one is_in_range t range) (all_one is_small t small) stands.1 in
       rw (kind, stands.0, unit, e)
-  width-reads packet rest p later total place kind stands form typed range small sums = rw (kind, sums)
+  width_reads packet rest p later total place kind stands form typed range small sums = rw (kind, sums)

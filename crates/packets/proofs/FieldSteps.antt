@@ -27,9 +27,9 @@ use Rattle.packets.specs.FieldTest.{
 }
 
 -- a width's place and its tree's end are not behind the width's end
-width-ends : (s : List ℕ) (k a : ℕ) → (a ≤ (width_at s k a).next) × (ending (width_at s k a).tree ≤ (width_at s k a).next)
+width_ends : (s : List ℕ) (k a : ℕ) → (a ≤ (width_at s k a).next) × (ending (width_at s k a).tree ≤ (width_at s k a).next)
 unfolding width_at
-width-ends s k a = go (eqb k 12) (eqb k 13)
+width_ends s k a = go (eqb k 12) (eqb k 13)
   where
     first : WidthParts
     first = width_of (two_at s a) (span_of a 0) (a + 2)
@@ -47,10 +47,10 @@ width-ends s k a = go (eqb k 12) (eqb k 13)
     go false true = (omega arith, omega arith)
     go false false = (omega arith, omega arith)
 
-pub parts-inside : (s : List ℕ) (at : ℕ) → (parts_at s at).next ≤ length s → Inside s (parts_at s at)
+pub parts_inside : (s : List ℕ) (at : ℕ) → (parts_at s at).next ≤ length s → Inside s (parts_at s at)
 unfolding parts_at
-parts-inside s at h =
-    let e = width-ends s (two_at s (at + 2)) (ending (span_at s (ending (span_at s (at + 6))))) in
+parts_inside s at h =
+    let e = width_ends s (two_at s (at + 2)) (ending (span_at s (ending (span_at s (at + 6))))) in
     record {
       label = omega (arith, h, e);
       short = omega (arith, h, e);
@@ -69,11 +69,11 @@ pub field_next : (w place : ℕ) (ended : Bool) (s : List ℕ) (at : ℕ) (p : P
 unfolding field_test
 field_next w place ended s at p h = bounds_next s at p (and_left (bounds_test s at p) _ h)
 
-pub field-ends : (w place : ℕ) (ended : Bool) (s : List ℕ) (at : ℕ) (p : Parts)
+pub field_ends : (w place : ℕ) (ended : Bool) (s : List ℕ) (at : ℕ) (p : Parts)
     → field_test w place ended s at p ≡ true
     → at + two_at s at ≡ p.next
 unfolding field_test bounds_test
-field-ends w place ended s at p h =
+field_ends w place ended s at p h =
     let bounds = and_left (bounds_test s at p) _ h in
     let rest = and_right (leb p.next (length s)) _ bounds in
     eqb-true _ _ (and_left (eqb (at + two_at s at) p.next) _ rest)
@@ -81,7 +81,7 @@ field-ends w place ended s at p h =
 pub inside_of : (s : List ℕ) (at : ℕ) (p : Parts) → p ≡ parts_at s at → bounds_test s at p ≡ true → Inside s p
 inside_of s at p e h =
     let n : (parts_at s at).next ≤ length s = rw e at (bounds_next s at p h) in
-    rw e (parts-inside s at n)
+    rw e (parts_inside s at n)
 
 -- a fixed field has at most so many bits
 pub bits_small : (w place : ℕ) (ended : Bool) (s : List ℕ) (at : ℕ) (p : Parts)

@@ -19,7 +19,7 @@ use Rattle.rules.specs.Trees.{Tree, is_small, is_in_range, has_type}
 use Rattle.rules.specs.Fields.{Width, Field, width_trees, trees}
 use Rattle.rules.specs.Within.{is_width, is_formed, width_has_type}
 use Rattle.rules.specs.Stored.{stored_field, stored_name, stored_maybe}
-use Rattle.laws.proofs.ReadsFields.{formed-parts}
+use Rattle.laws.proofs.ReadsFields.{formed_parts}
 use Rattle.writing.specs.declared.spans.Span.{Span}
 use Rattle.packets.specs.declared.records.Parts.{Parts}
 use Rattle.packets.specs.StoredTrees.{marked}
@@ -37,9 +37,9 @@ use Rattle.packets.specs.FieldTest.{
 }
 use Rattle.packets.proofs.FieldBounds.{field_bounds}
 use Rattle.packets.proofs.RecordLaws.{record_parts, record_build}
-use Rattle.packets.proofs.FieldSteps.{parts-inside}
+use Rattle.packets.proofs.FieldSteps.{parts_inside}
 use Rattle.packets.proofs.PartBytes.{bytes_stand, bytes_are, MaybeIn, maybe_sound, maybe_complete, maybe_stands}
-use Rattle.packets.proofs.FieldParts.{short_sound, short-complete, WidthIn, width_sound, width-complete}
+use Rattle.packets.proofs.FieldParts.{short_sound, short_complete, WidthIn, width_sound, width_complete}
 
 -- what the tests of a record's form and trees say of its field: marks are of what may be read before it, and with it
 pub record Keeps (marks own : List ℕ) (f : Field ℕ) : Type 0 where
@@ -129,18 +129,18 @@ module _ (s marks own : List ℕ) (p : Parts) where
       (maybe_sound s own p.constraint b (and_left (maybe_test s own p.constraint) _ m))
       (maybe_sound s marks p.condition b (and_right (maybe_test s own p.constraint) _ m))
 
-  pub field-complete : (f : Field ℕ) → PartsStand s p f → Keeps marks own f
+  pub field_complete : (f : Field ℕ) → PartsStand s p f → Keeps marks own f
       → (form_test s p ≡ true) × (trees_test s marks own p ≡ true) × (between 12 p.kind 14 ≡ true)
   unfolding form_test trees_test
-  field-complete f st h =
+  field_complete f st h =
       let c = list_of f.constraint in
       let d = list_of f.condition in
-      let e = formed-parts f h.formed in
+      let e = formed_parts f h.formed in
       let range = breaks.all_append is_in_range (width_trees f.width) (c ++ d) e.3 in
       let ranges = breaks.all_append is_in_range c d range.1 in
       let size = breaks.all_append is_small (width_trees f.width) (c ++ d) h.small in
       let sizes = breaks.all_append is_small c d size.1 in
-      let w = width-complete s marks p f.width (record {
+      let w = width_complete s marks p f.width (record {
         kind = st.kind;
         stands = st.width;
         formed = e.2;
@@ -150,7 +150,7 @@ module _ (s marks own : List ℕ) (p : Parts) where
       }) in
       let l : is_label (bytes_in s p.label) ≡ true = rw (bytes_are s p.label f.label st.label) e.0 in (
         and_both (is_label (bytes_in s p.label)) _ l
-            (and_both (short_test s p.short) _ (short-complete s p.short f.short e.1 st.short) w.0),
+            (and_both (short_test s p.short) _ (short_complete s p.short f.short e.1 st.short) w.0),
         and_both (width_test s marks p) _ w.1
             (and_both (maybe_test s own p.constraint) _
             (maybe_complete s own p.constraint f.constraint
@@ -174,7 +174,7 @@ module _ (s marks own : List ℕ) (at : ℕ) where
       let r = and_right (leb p.next (length s)) _ h in
       let e = eqb-true _ _ (and_left (eqb (at + two_at s at) p.next) _ r) in
       let k = and_right (eqb (at + two_at s at) p.next) _ r in
-      let q = field_sound s marks own p b (parts-inside s at le) k form tree in
+      let q = field_sound s marks own p b (parts_inside s at le) k form tree in
       (q.0, q.1, q.2, record_build s at q.0 b le e q.1)
 
   pub record_complete : (n : ℕ) (f : Field ℕ) (next : ℕ) → Keeps marks own f → Stands s at (stored_field n f) next
@@ -185,7 +185,7 @@ module _ (s marks own : List ℕ) (at : ℕ) where
   record_complete n f next h st le =
       let p = parts_at s at in
       let q = record_parts s at next n f (field_bounds f h.formed h.small) st in
-      let r = field-complete s marks own p f q.0 h in
+      let r = field_complete s marks own p f q.0 h in
       let m : p.next ≤ length s = omega (arith, q.1, le) in
       let e : at + two_at s at ≡ p.next = q.2 ∙ sym q.1 in (
         and_both (leb p.next (length s)) _ (le-leb _ _ m)

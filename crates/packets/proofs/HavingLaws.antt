@@ -8,15 +8,15 @@ use native.Mathlib.Omega.{arith}
 use lib.ListN.{length, take, drop, length-append}
 use borrow.Author.Tests.{lt-ltb, le-ltb, eq-eqb, ne_eqb}
 use Rattle.base.specs.Lists.{any, list_of, first_break}
-use Rattle.base.proofs.Breaks.{first_break-cons}
+use Rattle.base.proofs.Breaks.{first_break_cons}
 use Rattle.laws.specs.Places.{Stands, two_at}
-use Rattle.laws.proofs.Places.{stands-left, stands-right, stands-some}
+use Rattle.laws.proofs.Places.{stands_left, stands_right, stands_some}
 use Rattle.rules.specs.Trees.{Tree, num, read, two, negation, stored_tree}
 use Rattle.rules.specs.Fields.{Width, fixed, measured, rest, Field, width_trees, trees}
 use Rattle.rules.specs.Within.{keeps_form, keeps_size}
 use Rattle.rules.specs.Stored.{kind_number, stored_expression, stored_maybe, stored_field, records, records_in}
 use Rattle.references.specs.declared.scans.Wanted.{Wanted}
-use Rattle.references.proofs.ScanLaws.{any_append, tree_has, has-stored}
+use Rattle.references.proofs.ScanLaws.{any_append, tree_has, has_stored}
 use Rattle.writing.specs.declared.spans.Span.{Span}
 use Rattle.packets.specs.Parts.{table_most, ending, width_at, parts_at}
 use Rattle.packets.specs.PartsStand.{In, WidthStands, PartsStand}
@@ -67,7 +67,7 @@ module _ (w : Wanted) (s : List ℕ) where
   part_some p t i =
       let b = first_byte t in
       let q : In s p (b.0 ∷ b.1) = subst (In s p) b.2 i in
-      let inside = stands-some s p.at (ending p) b.0 b.1 q in
+      let inside = stands_some s p.at (ending p) b.0 b.1 q in
       let n : p.len ≡ suc (length b.1) = omega (arith, q.end) in
       let z : p.len ≡ 0 → ⊥ = λ e. omega (arith, e, n) in
       let m : p.at + p.len - p.at ≡ p.len = omega arith in
@@ -78,7 +78,7 @@ module _ (w : Wanted) (s : List ℕ) where
         le-ltb (length s) p.at (omega (arith, inside)),
         le-ltb (length s - p.at) p.len (omega (arith, inside)),
         bytes,
-      ) (has-stored w t)
+      ) (has_stored w t)
 
   part_none : (p : Span) → p.len ≡ 0 → part_has w s p ≡ false
   unfolding part_has
@@ -134,9 +134,9 @@ turned : (b : Bool) (x y : ℕ) → cond b x y ≡ cond (not b) y x
 turned true x y = refl
 turned false x y = refl
 
-or-end : (b : Bool) (n k : ℕ) (o : Option ℕ) → or_end n (cond b o (some k)) ≡ cond b (or_end n o) k
-or-end true n k o = refl
-or-end false n k o = refl
+or_end_lem : (b : Bool) (n k : ℕ) (o : Option ℕ) → or_end n (cond b o (some k)) ≡ cond b (or_end n o) k
+or_end_lem true n k o = refl
+or_end_lem false n k o = refl
 
 pub having_stored : (w : Wanted) (numbers : ℕ → ℕ) (k : ℕ) (s : List ℕ) (before fs : List (Field ℕ)) (place end : ℕ)
     (r : List ℕ) → first_break keeps_form before fs ≡ none → first_break keeps_size before fs ≡ none → end ≤ table_most
@@ -146,16 +146,16 @@ pub having_stored : (w : Wanted) (numbers : ℕ → ℕ) (k : ℕ) (s : List ℕ
 unfolding having_from has_it records_in first_break
 having_stored w numbers k s before [] place end r hf hs le p = omega arith
 having_stored w numbers k s before (f ∷ fs) place end r hf hs le p =
-    let kf = first_break-cons keeps_form before f fs hf in
-    let ks = first_break-cons keeps_size before f fs hs in
+    let kf = first_break_cons keeps_form before f fs hf in
+    let ks = first_break_cons keeps_size before f fs hs in
     let here = stored_field (numbers k) f in
     let p' : Stands s place (here ++ (records numbers (suc k) fs ++ r)) end
     = rw (append_assoc here (records numbers (suc k) fs) r) at p in
     let q = record_parts s place (place + length here) (numbers k) f (field_bounds f kf.0 ks.0)
-    (stands-left s place end _ _ p') in
+    (stands_left s place end _ _ p') in
     let more = before ++ (f ∷ []) in
     let ih = having_stored w numbers (suc k) s more fs (place + length here) end r kf.1 ks.1 le
-    (stands-right s place end here _ p') in
+    (stands_right s place end here _ p') in
     let one : length more ≡ length before + 1 = length-append before (f ∷ []) in
     let all_of : length before + 1 + length fs ≡ length before + suc (length fs) = omega arith in
     let n = length before in
@@ -166,4 +166,4 @@ having_stored w numbers k s before (f ∷ fs) place end r hf hs le p =
     rw (le-ltb table_most place (omega (arith, p.end)), record_has_lem w s place f q.0, q.1)
     (turned (not passed && field_has w f) n _
     ∙ ap₂ {C = ℕ} (λ (b : Bool) (m : ℕ). cond b m n) (not_it passed (field_has w f)) next
-    ∙ sym (or-end (passed || not (field_has w f)) (n + suc (length fs)) n _))
+    ∙ sym (or_end_lem (passed || not (field_has w f)) (n + suc (length fs)) n _))

@@ -15,13 +15,13 @@ use Rattle.packets.specs.Parts.{table_most, parts_at}
 use Rattle.writing.specs.Writes.{Writes}
 use Rattle.rules.specs.Listing.{refused_line, bits_line}
 use Rattle.writing.specs.Fits.{Fits}
-use Rattle.writing.proofs.FitsLaws.{fits-none, fits_join}
+use Rattle.writing.proofs.FitsLaws.{fits_none, fits_join}
 use Rattle.packets.specs.LineTexts.{entry_in, state_text, line_text, lines_from, line_most, listing_most}
-use Rattle.packets.proofs.WriteLaws.{digits-length, state_length}
+use Rattle.packets.proofs.WriteLaws.{digits_length, state_length}
 
-pub line-length : (s : List ℕ) (p : Parts) (run : List ℕ) (i : ℕ) → length (line_text s p run i) ≤ line_most
+pub line_length : (s : List ℕ) (p : Parts) (run : List ℕ) (i : ℕ) → length (line_text s p run i) ≤ line_most
 unfolding line_text
-line-length s p run i = go (ltb label_most p.label.len) refl (ltb (length s) p.label.at || ltb
+line_length s p run i = go (ltb label_most p.label.len) refl (ltb (length s) p.label.at || ltb
     (length s - p.label.at) p.label.len)
   where
     text : List ℕ
@@ -38,10 +38,10 @@ line-length s p run i = go (ltb label_most p.label.len) refl (ltb (length s) p.l
         simp length-append (omega (arith, q, l, ltb-false label_most p.label.len e))
 
 -- as many lines as there are fields
-pub lines-length : (s run : List ℕ) (i n place : ℕ) → length (lines_from s run i n place) ≤ line_most * n
+pub lines_length : (s run : List ℕ) (i n place : ℕ) → length (lines_from s run i n place) ≤ line_most * n
 unfolding lines_from
-lines-length s run i zero place = omega arith
-lines-length s run i (suc n) place = go (ltb table_most place) (lines-length s run (i + 1) n (parts_at s place).next)
+lines_length s run i zero place = omega arith
+lines_length s run i (suc n) place = go (ltb table_most place) (lines_length s run (i + 1) n (parts_at s place).next)
   where
     line : List ℕ
     line = line_text s (parts_at s place) run i
@@ -51,7 +51,7 @@ lines-length s run i (suc n) place = go (ltb table_most place) (lines-length s r
 
     go : (b : Bool) → length more ≤ line_most * n → length (cond b [] (line ++ more)) ≤ line_most * suc n
     go true ih = omega arith
-    go false ih = omega (arith, length-append line more, line-length s (parts_at s place) run i)
+    go false ih = omega (arith, length-append line more, line_length s (parts_at s place) run i)
 
 -- what is written of the n lines once i of them are
 pub record Lines (before : List ℕ) (at : ℕ) (s : List ℕ) (place : ℕ) (run : List ℕ) (n : ℕ) (out : List ℕ)
@@ -66,7 +66,7 @@ pub lines_start : (before : List ℕ) (at : ℕ) (s : List ℕ) (place : ℕ) (r
 lines_start before at s place run n = record {
   inside = omega arith;
   done = [];
-  wrote = fits-none before at;
+  wrote = fits_none before at;
   left = rw sub-zero;
 }
 
@@ -85,10 +85,10 @@ module _
     unfolding lines_from
     lines_end l h = ended l (let z : n - i ≡ 0 = omega arith in rw z)
 
-    pub lines-stop : Lines before at s place run n out next begin i → i < n → table_most < begin
+    pub lines_stop : Lines before at s place run n out next begin i → i < n → table_most < begin
         → Fits before at (lines_from s run 0 n place) out next
     unfolding lines_from
-    lines-stop l h k = ended l (let z : n - i ≡ suc (n - (i + 1)) = omega arith in rw (z, lt-ltb table_most begin k))
+    lines_stop l h k = ended l (let z : n - i ≡ suc (n - (i + 1)) = omega arith in rw (z, lt-ltb table_most begin k))
 
     pub lines_step : Lines before at s place run n out next begin i → i < n → begin ≤ table_most
         → {after : List ℕ} {more : ℕ} → Fits out next (line_text s (parts_at s begin) run i) after more
@@ -108,19 +108,19 @@ module _
 
 -- ── room in a buffer for listings ──
 
-pub listing-inside : {before after : List ℕ} {next : ℕ} (s run : List ℕ) (n place total : ℕ) → n ≤ fields_most
+pub listing_inside : {before after : List ℕ} {next : ℕ} (s run : List ℕ) (n place total : ℕ) → n ≤ fields_most
     → listing_most ≤ length before
     → Fits before 0 (lines_from s run 0 n place ++ (bits_line total ++ bytes "\n")) after next
     → Writes before 0 (lines_from s run 0 n place ++ (bits_line total ++ bytes "\n")) after next
-listing-inside s run n place total few room f =
-    let b : length (bits_line total ++ bytes "\n") ≤ 16 = simp length-append (omega (arith, digits-length 10 total)) in
+listing_inside s run n place total few room f =
+    let b : length (bits_line total ++ bytes "\n") ≤ 16 = simp length-append (omega (arith, digits_length 10 total)) in
     let l = length-append (lines_from s run 0 n place) (bits_line total ++ bytes "\n") in
-    f.inside (omega (arith, lines-length s run 0 n place))
+    f.inside (omega (arith, lines_length s run 0 n place))
 
-pub refusal-inside : {before after : List ℕ} {next : ℕ} (number place : ℕ) → 40 ≤ length before
+pub refusal_inside : {before after : List ℕ} {next : ℕ} (number place : ℕ) → 40 ≤ length before
     → Fits before 0 (refused_line number place ++ bytes "\n") after next
     → Writes before 0 (refused_line number place ++ bytes "\n") after next
-refusal-inside number place room f =
+refusal_inside number place room f =
     let l : length (refused_line number place ++ bytes "\n") ≤ 33 =
-    simp length-append (omega (arith, digits-length 10 number, digits-length 10 place)) in
+    simp length-append (omega (arith, digits_length 10 number, digits_length 10 place)) in
     f.inside (omega arith)

@@ -20,19 +20,19 @@ use Rattle.packets.specs.RunRead.{RunHolds}
 use Rattle.writing.specs.Writes.{Writes}
 use Rattle.packets.specs.Listings.{ListsStored, ListsInto}
 use Rattle.packets.specs.LineTexts.{entry_in, lines_from}
-use Rattle.packets.proofs.TableHead.{head-count, fields_stand}
+use Rattle.packets.proofs.TableHead.{head_count, fields_stand}
 use Rattle.packets.specs.Parts.{table_most}
-use Rattle.packets.proofs.TableParts.{stored-length}
-use Rattle.packets.proofs.RunEntries.{run-number, run-present}
+use Rattle.packets.proofs.TableParts.{stored_length_lem}
+use Rattle.packets.proofs.RunEntries.{run_number, run_present}
 use Rattle.packets.proofs.LinesStored.{lines_stored}
 use Rattle.packets.proofs.ListingTexts.{
-  listing-lines,
-  listing-refused,
-  accepted-entries,
-  entries-length,
+  listing_lines,
+  listing_refused,
+  accepted_entries,
+  entries_length,
   one_line,
 }
-use Rattle.laws.proofs.Readings.{reading-told}
+use Rattle.laws.proofs.Readings.{reading_told}
 
 module _ (s packet : List ℕ) (d : Description) (w : Within d) (is : stored d ≡ s) (run : List ℕ) (a : PacketAnswer)
     (h : RunHolds (reading d packet) packet a run) where
@@ -42,45 +42,45 @@ module _ (s packet : List ℕ) (d : Description) (w : Within d) (is : stored d �
   entries_in_lem es e k lt =
       let b = h.front es e in
       rw zero-add (λ i. record {
-        present = run-present run es k b lt i;
-        offset = run-number run es k 1 b lt (omega arith) i;
-        width = run-number run es k 2 b lt (omega arith) i;
-        value = run-number run es k 3 b lt (omega arith) i;
+        present = run_present run es k b lt i;
+        offset = run_number run es k 1 b lt (omega arith) i;
+        width = run_number run es k 2 b lt (omega arith) i;
+        value = run_number run es k 3 b lt (omega arith) i;
       })
 
   lines_are : (es : List Entry) → reading d packet ≡ complete es
       → lines_from s run 0 (two_at s 6) (two_at s 0) ≡ lines_text (entry_lines d.fields es)
   lines_are es e =
-      let l : length s ≤ table_most = stored-length d w s is in
-      rw (head-count d s is w)
+      let l : length s ≤ table_most = stored_length_lem d w s is in
+      rw (head_count d s is w)
       (lines_stored (readers d.fields) 0 s run d.fields es [] 0 (two_at s 0) (length s) (record_of 5 []) w.form w.size
-      (entries-length d packet es e) l (fields_stand d s is w) (entries_in_lem es e))
+      (entries_length d packet es e) l (fields_stand d s is w) (entries_in_lem es e))
 
-  pub listed-accepted : (of_packet a).number ≡ 0
+  pub listed_accepted : (of_packet a).number ≡ 0
       → lines_from s run 0 (two_at s 6) (two_at s 0) ++ (bits_line (of_packet a).amount ++ (10 ∷ [])) ≡ listing d packet
   unfolding reading_answer
-  listed-accepted n =
-      let c = accepted-entries (reading d packet) (reading-told d packet) packet
+  listed_accepted n =
+      let c = accepted_entries (reading d packet) (reading_told d packet) packet
       (sym (ap (λ (x : Answer). x.number) h.answer) ∙ n) in
       let v : (of_packet a).amount ≡ bit_total packet
       = ap (λ (x : Answer). x.amount) h.answer ∙ rw (c.1, reading_answer) refl in
       ap (λ (n : ℕ). lines_from s run 0 (two_at s 6) (two_at s 0) ++ (bits_line n ++ (10 ∷ []))) v
       ∙ ap (λ (l : List ℕ). l ++ (bits_line (bit_total packet) ++ (10 ∷ []))) (lines_are c.0 c.1)
-      ∙ sym (listing-lines d packet c.0 c.1)
+      ∙ sym (listing_lines d packet c.0 c.1)
 
-  pub listed-refused : ((of_packet a).number ≡ 0 → ⊥)
+  pub listed_refused : ((of_packet a).number ≡ 0 → ⊥)
       → refused_line (of_packet a).number (of_packet a).place ++ (10 ∷ []) ≡ listing d packet
-  listed-refused n =
+  listed_refused n =
       let e = h.answer in
-      rw e (sym (listing-refused d packet (λ z. n (rw e z))))
+      rw e (sym (listing_refused d packet (λ z. n (rw e z))))
 
 -- ── by any table ──
 
-good-answer : (table : List ℕ) (r : TableAnswer) (n : ℕ) → r ≡ TableAnswer.Good n → (good : Dec (Good table))
+good_answer : (table : List ℕ) (r : TableAnswer) (n : ℕ) → r ≡ TableAnswer.Good n → (good : Dec (Good table))
     → of_table r ≡ by_table good (λ d. accepted (length table)) not_good → (g : Good table) × (good ≡ yes g)
 unfolding of_table
-good-answer table r n e (yes g) h = (g, refl)
-good-answer table r n e (no b) h = let z : ◌≡◌ {A = Answer} (accepted n) not_good = rw (e, of_table) at h in
+good_answer table r n e (yes g) h = (g, refl)
+good_answer table r n e (no b) h = let z : ◌≡◌ {A = Answer} (accepted n) not_good = rw (e, of_table) at h in
     let q : ◌≡◌ {A = ℕ} 0 21 = ap (λ (x : Answer). x.number) z in absurd (omega arith)
 
 pub into_good : (table packet before after : List ℕ) (next : ℕ) (r : TableAnswer) (n : ℕ)
@@ -91,7 +91,7 @@ into_good table packet before after next r n c e l = record { text = go; inside 
     go : (good : Dec (Good table))
         → Writes before 0 (by_table good (λ d. listing d packet) (lines_text (refusal not_good))) after next
     go (yes g) = l.text g.description g.within g.is_stored
-    go (no b) = let w = good-answer table r n e (no b) (c (no b)) in absurd (b w.0)
+    go (no b) = let w = good_answer table r n e (no b) (c (no b)) in absurd (b w.0)
 
 pub into_bad : (table packet before after : List ℕ) (next : ℕ) (r : TableAnswer) → ChecksTable table (of_table r)
     → r ≡ TableAnswer.NotGood → Writes before 0 (refused_line 21 0 ++ (10 ∷ [])) after next → next ≤ length before

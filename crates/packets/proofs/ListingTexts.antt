@@ -12,17 +12,17 @@ use Rattle.rules.specs.Reading.{Entry, Reading, complete, refusing, reading, bit
 use Rattle.rules.specs.Listing.{refused_line, entry_lines, bits_line, lines_text}
 use Rattle.rules.specs.Promises.{reading_answer, reading_lines, listing}
 use Rattle.laws.proofs.Conditions.{conditions_kept}
-use Rattle.laws.proofs.RunCover.{kept-length}
+use Rattle.laws.proofs.RunCover.{kept_length}
 use Rattle.packets.specs.Parts.{table_most, parts_at}
 use Rattle.packets.specs.LineTexts.{line_text, lines_from}
-use Rattle.packets.proofs.LinesWritten.{line-length}
+use Rattle.packets.proofs.LinesWritten.{line_length}
 use Rattle.laws.proofs.Readings.{Told}
 
-lines-append : (l m : List (List ℕ)) → lines_text (l ++ m) ≡ lines_text l ++ lines_text m
+lines_append : (l m : List (List ℕ)) → lines_text (l ++ m) ≡ lines_text l ++ lines_text m
 unfolding lines_text joined
-lines-append [] m = refl
-lines-append (x ∷ l) m =
-    ap (λ (t : List ℕ). (x ++ (10 ∷ [])) ++ t) (lines-append l m)
+lines_append [] m = refl
+lines_append (x ∷ l) m =
+    ap (λ (t : List ℕ). (x ++ (10 ∷ [])) ++ t) (lines_append l m)
     ∙ sym (append_assoc (x ++ (10 ∷ [])) (lines_text l) (lines_text m))
 
 pub one_line : (x : List ℕ) → lines_text (x ∷ []) ≡ x ++ (10 ∷ [])
@@ -30,44 +30,44 @@ unfolding lines_text joined
 one_line x = append-nil (x ++ (10 ∷ []))
 
 -- an accepted packet
-pub listing-lines : (d : Description) (packet : List ℕ) (es : List Entry) → reading d packet ≡ complete es
+pub listing_lines : (d : Description) (packet : List ℕ) (es : List Entry) → reading d packet ≡ complete es
     → listing d packet ≡ lines_text (entry_lines d.fields es) ++ (bits_line (bit_total packet) ++ (10 ∷ []))
 unfolding reading_lines
-listing-lines d packet es h =
+listing_lines d packet es h =
     rw (h, reading_lines)
-    (lines-append (entry_lines d.fields es) (bits_line (bit_total packet) ∷ [])
+    (lines_append (entry_lines d.fields es) (bits_line (bit_total packet) ∷ [])
     ∙ ap (λ (t : List ℕ). lines_text (entry_lines d.fields es) ++ t) (one_line (bits_line (bit_total packet))))
 
 -- a number other than 0 is a refusal
-refused-lines : (d : Description) (packet : List ℕ) (r : Reading) → ((reading_answer r packet).number ≡ 0 → ⊥)
+refused_lines : (d : Description) (packet : List ℕ) (r : Reading) → ((reading_answer r packet).number ≡ 0 → ⊥)
     → lines_text (reading_lines d r packet)
     ≡ refused_line (reading_answer r packet).number (reading_answer r packet).place ++ (10 ∷ [])
 unfolding reading_lines reading_answer
-refused-lines d packet (complete es) n = absurd (n refl)
-refused-lines d packet (refusing a) n = one_line (refused_line a.number a.place)
+refused_lines d packet (complete es) n = absurd (n refl)
+refused_lines d packet (refusing a) n = one_line (refused_line a.number a.place)
 
-pub listing-refused : (d : Description) (packet : List ℕ) → ((reading_answer (reading d packet) packet).number ≡ 0 → ⊥)
+pub listing_refused : (d : Description) (packet : List ℕ) → ((reading_answer (reading d packet) packet).number ≡ 0 → ⊥)
     → listing d packet
     ≡ refused_line (reading_answer (reading d packet) packet).number (reading_answer
     (reading d packet) packet).place ++ (10 ∷ [])
-listing-refused d packet n = refused-lines d packet (reading d packet) n
+listing_refused d packet n = refused_lines d packet (reading d packet) n
 
 -- and 0 is a complete reading
-pub accepted-entries : (r : Reading) → Told r → (packet : List ℕ) → (reading_answer r packet).number ≡ 0
+pub accepted_entries : (r : Reading) → Told r → (packet : List ℕ) → (reading_answer r packet).number ≡ 0
     → (es : List Entry) × (r ≡ complete es)
 unfolding reading_answer
-accepted-entries (complete es) t packet e = (es, refl)
-accepted-entries (refusing a) t packet e = absurd (omega (arith, e, t.0))
+accepted_entries (complete es) t packet e = (es, refl)
+accepted_entries (refusing a) t packet e = absurd (omega (arith, e, t.0))
 
 -- an entry for each field
-pub entries-length : (d : Description) (packet : List ℕ) (es : List Entry) → reading d packet ≡ complete es
+pub entries_length : (d : Description) (packet : List ℕ) (es : List Entry) → reading d packet ≡ complete es
     → length es ≡ length d.fields
-entries-length d packet es h = kept-length [] d.fields es (conditions_kept d packet es h)
+entries_length d packet es h = kept_length [] d.fields es (conditions_kept d packet es h)
 
-pub lines-length : (s run : List ℕ) (n i place : ℕ) → length (lines_from s run i n place) ≤ 75 * n
+pub lines_length : (s run : List ℕ) (n i place : ℕ) → length (lines_from s run i n place) ≤ 75 * n
 unfolding lines_from
-lines-length s run zero i place = omega arith
-lines-length s run (suc n) i place = go (ltb table_most place) (lines-length s run n (i + 1) (parts_at s place).next)
+lines_length s run zero i place = omega arith
+lines_length s run (suc n) i place = go (ltb table_most place) (lines_length s run n (i + 1) (parts_at s place).next)
   where
     more : List ℕ
     more = lines_from s run (i + 1) n (parts_at s place).next
@@ -76,4 +76,4 @@ lines-length s run (suc n) i place = go (ltb table_most place) (lines-length s r
         (parts_at s place) run i ++ more)) ≤ 75 * suc n
     go true h = omega arith
     go false h = rw (length-append (line_text s (parts_at s place) run i) more)
-        (omega (arith, line-length s (parts_at s place) run i))
+        (omega (arith, line_length s (parts_at s place) run i))

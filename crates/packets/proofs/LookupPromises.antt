@@ -10,7 +10,7 @@ use native.Mathlib.Nat.{zero-add}
 use borrow.Author.Tests.{lt-ltb, le-ltb, eq-eqb, ne_eqb}
 use Rattle.base.specs.Lists.{if_any}
 use Rattle.laws.specs.Places.{two_at}
-use Rattle.laws.proofs.Places.{stands-some}
+use Rattle.laws.proofs.Places.{stands_some}
 use Rattle.laws.proofs.Counting.{readers_fit}
 use Rattle.rules.specs.declared.TableAnswer.{TableAnswer}
 use Rattle.rules.specs.declared.FieldAnswer.{FieldAnswer}
@@ -41,10 +41,10 @@ use Rattle.packets.specs.PartsStand.{In}
 use Rattle.packets.specs.Lookups.{place_from, find_from}
 use Rattle.packets.specs.Found.{Finds, span_in, label_in, filled_span, short_in, kind_in, readers_in}
 use Rattle.packets.specs.Found.{OnTable, OnLabel, OnShort}
-use Rattle.packets.proofs.TableHead.{head_first, head-count, fields_stand}
-use Rattle.packets.proofs.TableParts.{stored-length}
+use Rattle.packets.proofs.TableHead.{head_first, head_count, fields_stand}
+use Rattle.packets.proofs.TableParts.{stored_length_lem}
 use Rattle.packets.proofs.LinesStored.{label_inside}
-use Rattle.packets.proofs.LookupStored.{find-stored, Placed, place-stored}
+use Rattle.packets.proofs.LookupStored.{find_stored, Placed, place_stored}
 use Rattle.packets.proofs.PacketPromises.{not_good}
 
 -- ── the index of a name ──
@@ -55,14 +55,14 @@ module _ (table name : List ℕ) where
   index_bad h (yes g) = let q = ap (λ (a : Answer). a.number) (h (yes g)) in absurd (omega (arith, q))
   index_bad h (no b) = refl
 
-  pub index-found : Good table → FindsField table name (of_field (find_from table name 0 (two_at table 6) (two_at table 0)))
-  index-found g (no b) = absurd (b g)
-  index-found g (yes k) =
+  pub index_found : Good table → FindsField table name (of_field (find_from table name 0 (two_at table 6) (two_at table 0)))
+  index_found g (no b) = absurd (b g)
+  index_found g (yes k) =
       let d = k.description in
       let w = k.within in
-      let l : length table ≤ table_most = stored-length d w table k.is_stored in
-      rw (head-count d table k.is_stored w)
-      (find-stored (readers d.fields) table (length table) (record_of 5 []) l 0 name d.fields [] 0 (two_at table 0)
+      let l : length table ≤ table_most = stored_length_lem d w table k.is_stored in
+      rw (head_count d table k.is_stored w)
+      (find_stored (readers d.fields) table (length table) (record_of 5 []) l 0 name d.fields [] 0 (two_at table 0)
       w.form w.size
       (fields_stand d table k.is_stored w))
 
@@ -75,10 +75,10 @@ module _ (table : List ℕ) where
   count_bad r h e (yes k) = absurd (not_good table (rw e at h) k)
   count_bad r h e (no b) = refl
 
-  pub count-told : Good table → CountsFields table (of_table (TableAnswer.Good (two_at table 6)))
+  pub count_told : Good table → CountsFields table (of_table (TableAnswer.Good (two_at table 6)))
   unfolding of_table
-  count-told g (yes k) = rw (head-count k.description table k.is_stored k.within)
-  count-told g (no b) = absurd (b g)
+  count_told g (yes k) = rw (head_count k.description table k.is_stored k.within)
+  count_told g (no b) = absurd (b g)
 
 -- ── the field of an index ──
 
@@ -89,16 +89,16 @@ beyond (f ∷ fs) zero h = absurd (omega arith)
 beyond (f ∷ fs) (suc k) h = beyond fs k (omega arith)
 
 -- a short name's part, behind the label
-short-span : (s : List ℕ) (p : Span) (label : Part) (o : Option (List ℕ)) → if_any is_short o ≡ true
+short_span : (s : List ℕ) (p : Span) (label : Part) (o : Option (List ℕ)) → if_any is_short o ≡ true
     → In s p (stored_name o) → p.at ≡ label.start + label.size + 2
     → (ending (filled_span p) ≤ length s)
     × (filled_span p ≡ span_of (short_part label o).start (short_part label o).size)
 unfolding filled_span is_short
-short-span s p label none h i a = rw (eq-eqb p.len 0 (omega (arith, i.end))) (omega arith, refl)
-short-span s p label (some []) h i a = absurd (false≢true h)
-short-span s p label (some (x ∷ w)) h i a =
+short_span s p label none h i a = rw (eq-eqb p.len 0 (omega (arith, i.end))) (omega arith, refl)
+short_span s p label (some []) h i a = absurd (false≢true h)
+short_span s p label (some (x ∷ w)) h i a =
     let n : p.len ≡ length (x ∷ w) = omega (arith, i.end) in
-    let inside = stands-some s p.at (ending p) x w i in
+    let inside = stands_some s p.at (ending p) x w i in
     let z : p.len ≡ 0 → ⊥ = λ e. omega arith in
     rw (ne_eqb p.len 0 z) (inside, λ j. record { at = a j; len = n j })
 
@@ -125,7 +125,7 @@ module _ (table : List ℕ) (i : ℕ) where
 
   outside : (k : Good table) → two_at table 6 ≤ i → get_elem? k.description.fields i ≡ none
   outside k h =
-      let c = head-count k.description table k.is_stored k.within in
+      let c = head_count k.description table k.is_stored k.within in
       beyond k.description.fields i (omega (arith, c))
 
   -- the number of references to each field
@@ -133,14 +133,14 @@ module _ (table : List ℕ) (i : ℕ) where
   numbers k = readers k.description.fields
 
   pub placed : (k : Good table) → i < two_at table 6 → Placed (numbers k) table (length table) (record_of 5 [])
-      (stored-length k.description k.within table k.is_stored) 0 k.description.fields i
+      (stored_length_lem k.description k.within table k.is_stored) 0 k.description.fields i
       (two_at table 0)
   placed k h =
       let d = k.description in
       let w = k.within in
-      place-stored (numbers k) table (length table) (record_of 5 []) _ 0 d.fields [] i (two_at table 0) w.form
+      place_stored (numbers k) table (length table) (record_of 5 []) _ 0 d.fields [] i (two_at table 0) w.form
       w.size
-      (fields_stand d table k.is_stored w) (omega (arith, head-count d table k.is_stored w))
+      (fields_stand d table k.is_stored w) (omega (arith, head_count d table k.is_stored w))
 
   -- a part of the record, where each decision has it or none
   span_on : (part : Dec (Good table) → Part) (span : Parts → Span) → ((b : Good table → ⊥) → part (no b) ≡ no_part)
@@ -167,35 +167,35 @@ module _ (table : List ℕ) (i : ℕ) where
 
   -- ── kind ──
 
-  pub kind-told : (r : FieldRecord) → Finds table i r → TellsKind table i (of_field (kind_in r))
+  pub kind_told : (r : FieldRecord) → Finds table i r → TellsKind table i (of_field (kind_in r))
   unfolding of_field
-  kind-told FieldRecord.NotGood bad (yes k) = absurd (bad k)
-  kind-told FieldRecord.NotGood bad (no b) = refl
-  kind-told FieldRecord.Unknown h (yes k) = rw (outside k h.1)
-  kind-told FieldRecord.Unknown h (no b) = absurd (b h.0)
-  kind-told (FieldRecord.At p) h (yes k) =
+  kind_told FieldRecord.NotGood bad (yes k) = absurd (bad k)
+  kind_told FieldRecord.NotGood bad (no b) = refl
+  kind_told FieldRecord.Unknown h (yes k) = rw (outside k h.1)
+  kind_told FieldRecord.Unknown h (no b) = absurd (b h.0)
+  kind_told (FieldRecord.At p) h (yes k) =
       let q = placed k h.1 in rw (q.element, h.2, q.parts_are.kind)
-  kind-told (FieldRecord.At p) h (no b) = absurd (b h.0)
+  kind_told (FieldRecord.At p) h (no b) = absurd (b h.0)
 
   -- ── readers ──
 
-  pub readers-told : (r : FieldRecord) → Finds table i r → CountsReaders table i (of_field (readers_in r))
+  pub readers_told : (r : FieldRecord) → Finds table i r → CountsReaders table i (of_field (readers_in r))
   unfolding of_field parts_at
-  readers-told FieldRecord.NotGood bad (yes k) = absurd (bad k)
-  readers-told FieldRecord.NotGood bad (no b) = refl
-  readers-told FieldRecord.Unknown h (yes k) =
-      let c = head-count k.description table k.is_stored k.within in
+  readers_told FieldRecord.NotGood bad (yes k) = absurd (bad k)
+  readers_told FieldRecord.NotGood bad (no b) = refl
+  readers_told FieldRecord.Unknown h (yes k) =
+      let c = head_count k.description table k.is_stored k.within in
       rw (le-ltb i (length k.description.fields) (omega (arith, c, h.1))) refl
-  readers-told FieldRecord.Unknown h (no b) = absurd (b h.0)
-  readers-told (FieldRecord.At p) h (yes k) =
+  readers_told FieldRecord.Unknown h (no b) = absurd (b h.0)
+  readers_told (FieldRecord.At p) h (yes k) =
       let d = k.description in
-      let c = head-count d table k.is_stored k.within in
+      let c = head_count d table k.is_stored k.within in
       let q = (placed k h.1).number_is in
       let fit = readers_fit d k.within i in
       let z : 0 + i ≡ i = zero-add i in
       let n : two_at table (here + 4) ≡ readers d.fields i = omega (arith, rw z at q, fit) in
       rw (lt-ltb i (length d.fields) (omega (arith, c, h.1)), h.2, n) refl
-  readers-told (FieldRecord.At p) h (no b) = absurd (b h.0)
+  readers_told (FieldRecord.At p) h (no b) = absurd (b h.0)
 
   -- ── label ──
 
@@ -208,11 +208,11 @@ module _ (table : List ℕ) (i : ℕ) where
       let first = head_first k.description table k.is_stored k.within in
       (omega (arith, q.place_is, first), omega (arith, q.parts_are.label.end))
 
-  label-found : (k : Good table) → i < two_at table 6
+  label_found : (k : Good table) → i < two_at table 6
       → (ending (parts_at table here).label ≤ length table)
       × ((parts_at table here).label ≡ span_of (label_by (yes k) i).start (label_by (yes k) i).size)
   unfolding label_by
-  label-found k h =
+  label_found k h =
       let q = placed k h in
       let e = label_facts k h in (
         label_inside table _ _ q.field.label q.label_is q.parts_are.label,
@@ -221,22 +221,22 @@ module _ (table : List ℕ) (i : ℕ) where
 
   pub label_on : (r : FieldRecord) → Finds table i r → OnLabel table i (label_in r)
   unfolding label_by
-  label_on = span_on _ (λ p. p.label) (λ b. refl) (λ k h. rw (outside k h)) label-found
+  label_on = span_on _ (λ p. p.label) (λ b. refl) (λ k h. rw (outside k h)) label_found
 
   -- ── short name ──
 
-  short-found : (k : Good table) → i < two_at table 6
+  short_found : (k : Good table) → i < two_at table 6
       → (ending (filled_span (parts_at table here).short) ≤ length table)
       × (filled_span (parts_at table here).short ≡ span_of (short_by (yes k) i).start (short_by (yes k) i).size)
   unfolding short_by parts_at
-  short-found k h =
+  short_found k h =
       let q = placed k h in
       let e = label_facts k h in
       let label = label_of k.description i (some q.field) in
       let a : (parts_at table here).short.at ≡ label.start + label.size + 2 = omega (arith, e.0, e.1) in
       rw (q.element, short_by)
-      (short-span table (parts_at table here).short label q.field.short q.short-is q.parts_are.short a)
+      (short_span table (parts_at table here).short label q.field.short q.short_is q.parts_are.short a)
 
   pub short_on : (r : FieldRecord) → Finds table i r → OnShort table i (short_in r)
   unfolding short_by
-  short_on = span_on _ (λ p. filled_span p.short) (λ b. refl) (λ k h. rw (outside k h)) short-found
+  short_on = span_on _ (λ p. filled_span p.short) (λ b. refl) (λ k h. rw (outside k h)) short_found

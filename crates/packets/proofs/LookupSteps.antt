@@ -37,30 +37,30 @@ module _ (s : List ℕ) (n k place : ℕ) where
   unfolding place_from
   place_end h = let z : n - k ≡ 0 = omega arith in rw z
 
-  pub place-stop : k < n → table_most < place → place_from s (n - k) place ≡ place
+  pub place_stop : k < n → table_most < place → place_from s (n - k) place ≡ place
   unfolding place_from
-  place-stop h t = let z : n - k ≡ suc (n - (k + 1)) = omega arith in rw (z, lt-ltb table_most place t)
+  place_stop h t = let z : n - k ≡ suc (n - (k + 1)) = omega arith in rw (z, lt-ltb table_most place t)
 
-  pub place-step : k < n → place ≤ table_most → place_from s (n - k) place ≡ place_from s (n - (k + 1))
+  pub place_step : k < n → place ≤ table_most → place_from s (n - k) place ≡ place_from s (n - (k + 1))
       (parts_at s place).next
   unfolding place_from
-  place-step h t = let z : n - k ≡ suc (n - (k + 1)) = omega arith in rw (z, le-ltb table_most place t)
+  place_step h t = let z : n - k ≡ suc (n - (k + 1)) = omega arith in rw (z, le-ltb table_most place t)
 
 module _ (s name : List ℕ) (n i place : ℕ) where
-  pub find-end : n ≤ i → find_from s name i (n - i) place ≡ FieldAnswer.Unknown
+  pub find_end : n ≤ i → find_from s name i (n - i) place ≡ FieldAnswer.Unknown
   unfolding find_from
-  find-end h = let z : n - i ≡ 0 = omega arith in rw z
+  find_end h = let z : n - i ≡ 0 = omega arith in rw z
 
-  pub find-stop : i < n → table_most < place → find_from s name i (n - i) place ≡ FieldAnswer.Unknown
+  pub find_stop : i < n → table_most < place → find_from s name i (n - i) place ≡ FieldAnswer.Unknown
   unfolding find_from
-  find-stop h t = let z : n - i ≡ suc (n - (i + 1)) = omega arith in rw (z, lt-ltb table_most place t)
+  find_stop h t = let z : n - i ≡ suc (n - (i + 1)) = omega arith in rw (z, lt-ltb table_most place t)
 
   pub find_here : i < n → place ≤ table_most → has_name s (parts_at s place) name ≡ true
       → find_from s name i (n - i) place ≡ FieldAnswer.At i
   unfolding find_from
   find_here h t e = let z : n - i ≡ suc (n - (i + 1)) = omega arith in rw (z, le-ltb table_most place t, e)
 
-  pub find-next : i < n → place ≤ table_most → has_name s (parts_at s place) name ≡ false
+  pub find_next : i < n → place ≤ table_most → has_name s (parts_at s place) name ≡ false
       → find_from s name i (n - i) place ≡ find_from s name (i + 1) (n - (i + 1)) (parts_at s place).next
   unfolding find_from
-  find-next h t e = let z : n - i ≡ suc (n - (i + 1)) = omega arith in rw (z, le-ltb table_most place t, e)
+  find_next h t e = let z : n - i ≡ suc (n - (i + 1)) = omega arith in rw (z, le-ltb table_most place t, e)

@@ -13,15 +13,15 @@ use borrow.Author.Tests.{le-ltb, eq-eqb, ne_eqb}
 use Rattle.base.specs.Lists.{all, any, same, if_any, list_of, first_break}
 use Rattle.rules.specs.declared.FieldAnswer.{FieldAnswer}
 use Rattle.laws.specs.Places.{Stands, two_at}
-use Rattle.laws.proofs.Places.{stands-left, stands-right, stands-some}
-use Rattle.base.proofs.Breaks.{first_break-cons}
+use Rattle.laws.proofs.Places.{stands_left, stands_right, stands_some}
+use Rattle.base.proofs.Breaks.{first_break_cons}
 use Rattle.rules.specs.Names.{is_label, is_short}
 use Rattle.rules.specs.Fields.{Field, field_names}
 use Rattle.rules.specs.Within.{keeps_form, keeps_size}
 use Rattle.rules.specs.Stored.{stored_name, stored_field, records, records_in}
 use Rattle.rules.specs.Answers.{accepted, of_field}
 use Rattle.rules.specs.Promises.{first_named}
-use Rattle.laws.proofs.ReadsFields.{formed-parts}
+use Rattle.laws.proofs.ReadsFields.{formed_parts}
 use Rattle.writing.specs.declared.spans.Span.{Span}
 use Rattle.packets.specs.declared.records.Parts.{Parts}
 use Rattle.packets.specs.Parts.{table_most, ending, parts_at}
@@ -36,7 +36,7 @@ named_some : (s : List ℕ) (p : Span) (name : List ℕ) (x : ℕ) (w : List ℕ
 unfolding is_named_in
 named_some s p name x w l =
     let n : p.len ≡ length (x ∷ w) = omega (arith, l.end) in
-    let inside = stands-some s p.at (ending p) x w l in
+    let inside = stands_some s p.at (ending p) x w l in
     let t : take p.len (drop p.at s) ≡ x ∷ w
     = rw l.text (take_at (x ∷ w) (drop (ending p) s) p.len (sym n)) in
     let z : p.len ≡ 0 → ⊥ = λ e. omega arith in
@@ -51,28 +51,28 @@ named_none : (s : List ℕ) (p : Span) (name : List ℕ) → In s p [] → is_na
 unfolding is_named_in
 named_none s p name l = rw (eq-eqb p.len 0 (omega (arith, l.end)))
 
-named-label : (s : List ℕ) (p : Span) (name l : List ℕ) → is_label l ≡ true → In s p l
+named_label : (s : List ℕ) (p : Span) (name l : List ℕ) → is_label l ≡ true → In s p l
     → is_named_in s p name ≡ same name l
 unfolding is_label all
-named-label s p name [] h i = absurd (false≢true h)
-named-label s p name (x ∷ l) h i = named_some s p name x l i
+named_label s p name [] h i = absurd (false≢true h)
+named_label s p name (x ∷ l) h i = named_some s p name x l i
 
 or_false : (b : Bool) → b ≡ b || false
 or_false true = refl
 or_false false = refl
 
-named-short : (s : List ℕ) (p : Span) (name : List ℕ) (o : Option (List ℕ)) → if_any is_short o ≡ true
+named_short : (s : List ℕ) (p : Span) (name : List ℕ) (o : Option (List ℕ)) → if_any is_short o ≡ true
     → In s p (stored_name o) → is_named_in s p name ≡ any (same name) (list_of o)
 unfolding is_short any
-named-short s p name none h i = named_none s p name i
-named-short s p name (some []) h i = absurd (false≢true h)
-named-short s p name (some (x ∷ w)) h i = named_some s p name x w i ∙ or_false (same name (x ∷ w))
+named_short s p name none h i = named_none s p name i
+named_short s p name (some []) h i = absurd (false≢true h)
+named_short s p name (some (x ∷ w)) h i = named_some s p name x w i ∙ or_false (same name (x ∷ w))
 
-has-name : (s : List ℕ) (p : Parts) (name : List ℕ) (f : Field ℕ) → is_label f.label ≡ true
+has_name_lem : (s : List ℕ) (p : Parts) (name : List ℕ) (f : Field ℕ) → is_label f.label ≡ true
     → if_any is_short f.short ≡ true → PartsStand s p f → has_name s p name ≡ any (same name) (field_names f)
 unfolding has_name any
-has-name s p name f l h q =
-    rw (named-label s p.label name f.label l q.label, named-short s p.short name f.short h q.short)
+has_name_lem s p name f l h q =
+    rw (named_label s p.label name f.label l q.label, named_short s p.short name f.short h q.short)
 
 -- ── one record after the other ──
 
@@ -94,14 +94,14 @@ module _ (numbers : ℕ → ℕ) (s : List ℕ) (end : ℕ) (r : List ℕ) (shor
       → Front k f fs before place
   unfolding records_in
   front k f fs before place hf hs p =
-      let kf = first_break-cons keeps_form before f fs hf in
-      let ks = first_break-cons keeps_size before f fs hs in
+      let kf = first_break_cons keeps_form before f fs hf in
+      let ks = first_break_cons keeps_size before f fs hs in
       let here = stored_field (numbers k) f in
       let p' : Stands s place (here ++ (records numbers (suc k) fs ++ r)) end
       = rw (append_assoc here (records numbers (suc k) fs) r) at p in
       let b = field_bounds f kf.0 ks.0 in
-      let w = record_parts s place (place + length here) (numbers k) f b (stands-left s place end _ _ p') in
-      let q = formed-parts f kf.0 in
+      let w = record_parts s place (place + length here) (numbers k) f b (stands_left s place end _ _ p') in
+      let q = formed_parts f kf.0 in
       record {
         formed = kf.1;
         sized = ks.1;
@@ -110,23 +110,23 @@ module _ (numbers : ℕ → ℕ) (s : List ℕ) (end : ℕ) (r : List ℕ) (shor
         parts = w.0;
         number = w.3;
         next = w.1;
-        more = stands-right s place end here _ p';
+        more = stands_right s place end here _ p';
         low = omega (arith, p.end);
       }
 
-  pub find-stored : (k : ℕ) (name : List ℕ) (fs before : List (Field ℕ)) (i place : ℕ)
+  pub find_stored : (k : ℕ) (name : List ℕ) (fs before : List (Field ℕ)) (i place : ℕ)
       → first_break keeps_form before fs ≡ none
       → first_break keeps_size before fs ≡ none → Stands s place (records numbers k fs ++ r) end
       → of_field (find_from s name i (length fs) place) ≡ first_named name i fs
   unfolding find_from first_named of_field
-  find-stored k name [] before i place hf hs p = refl
-  find-stored k name (f ∷ fs) before i place hf hs p =
+  find_stored k name [] before i place hf hs p = refl
+  find_stored k name (f ∷ fs) before i place hf hs p =
       let w = front k f fs before place hf hs p in
-      let ih = find-stored (suc k) name fs (before ++ (f ∷ [])) (i + 1) (place + length (stored_field (numbers k) f))
+      let ih = find_stored (suc k) name fs (before ++ (f ∷ [])) (i + 1) (place + length (stored_field (numbers k) f))
       w.formed w.sized w.more in
       rw (
         le-ltb table_most place w.low,
-        has-name s (parts_at s place) name f w.label w.name w.parts,
+        has_name_lem s (parts_at s place) name f w.label w.name w.parts,
         w.next,
       )
       (go (any (same name) (field_names f)) (ih ∙ ap (λ (n : ℕ). first_named name n fs) (add-one i)))
@@ -147,29 +147,29 @@ module _ (numbers : ℕ → ℕ) (s : List ℕ) (end : ℕ) (r : List ℕ) (shor
     pub place_is : place_from s i place ≡ place + length (records numbers k (take i fs))
     pub number_is : two_at s (place_from s i place + 4) ≡ numbers (k + i) % 65536
     pub label_is : is_label field.label ≡ true
-    pub short-is : if_any is_short field.short ≡ true
+    pub short_is : if_any is_short field.short ≡ true
     pub parts_are : PartsStand s (parts_at s (place_from s i place)) field
-    pub is-low : place_from s i place ≤ table_most
+    pub is_low : place_from s i place ≤ table_most
 
-  pub place-stored : (k : ℕ) (fs before : List (Field ℕ)) (i place : ℕ) → first_break keeps_form before fs ≡ none
+  pub place_stored : (k : ℕ) (fs before : List (Field ℕ)) (i place : ℕ) → first_break keeps_form before fs ≡ none
       → first_break keeps_size before fs ≡ none → Stands s place (records numbers k fs ++ r) end → i < length fs
       → Placed k fs i place
   unfolding place_from records_in
-  place-stored k [] before i place hf hs p lt = absurd (omega arith)
-  place-stored k (f ∷ fs) before zero place hf hs p lt = let w = front k f fs before place hf hs p in record {
+  place_stored k [] before i place hf hs p lt = absurd (omega arith)
+  place_stored k (f ∷ fs) before zero place hf hs p lt = let w = front k f fs before place hf hs p in record {
     field = f;
     element = refl;
     place_is = omega arith;
     number_is = w.number ∙ ap (λ (j : ℕ). numbers j % 65536) (sym (add-zero k));
     label_is = w.label;
-    short-is = w.name;
+    short_is = w.name;
     parts_are = w.parts;
-    is-low = w.low;
+    is_low = w.low;
   }
-  place-stored k (f ∷ fs) before (suc i) place hf hs p lt =
+  place_stored k (f ∷ fs) before (suc i) place hf hs p lt =
       let w = front k f fs before place hf hs p in
       let here = stored_field (numbers k) f in
-      let ih = place-stored (suc k) fs (before ++ (f ∷ [])) i (place + length here) w.formed w.sized w.more
+      let ih = place_stored (suc k) fs (before ++ (f ∷ [])) i (place + length here) w.formed w.sized w.more
       (omega arith) in
       let one : suc k + i ≡ k + suc i = omega arith in
       let e : place_from s (suc i) place ≡ place_from s i (place + length here)
@@ -180,9 +180,9 @@ module _ (numbers : ℕ → ℕ) (s : List ℕ) (end : ℕ) (r : List ℕ) (shor
         place_is = e ∙ omega (arith, ih.place_is, length-append here (records numbers (suc k) (take i fs)));
         number_is = rw e (ih.number_is ∙ ap (λ (j : ℕ). numbers j % 65536) one);
         label_is = ih.label_is;
-        short-is = ih.short-is;
+        short_is = ih.short_is;
         parts_are = rw e ih.parts_are;
-        is-low = rw e ih.is-low;
+        is_low = rw e ih.is_low;
       }
 
   -- the place behind so many records

@@ -19,17 +19,17 @@ use Rattle.base.proofs.Lists.{
   or_false_left,
   or_false_right,
 }
-use Rattle.laws.proofs.Places.{stands-left, stands-right}
-use Rattle.base.proofs.Breaks.{first_break-cons}
+use Rattle.laws.proofs.Places.{stands_left, stands_right}
+use Rattle.base.proofs.Breaks.{first_break_cons}
 use Rattle.rules.specs.Limits.{short_most}
 use Rattle.rules.specs.Names.{is_short}
 use Rattle.rules.specs.Fields.{Field, rest}
 use Rattle.rules.specs.Within.{is_formed, keeps_form, keeps_size, clash, keeps_names}
 use Rattle.rules.specs.Stored.{stored_field, records, records_in}
-use Rattle.laws.proofs.ReadsFields.{formed-parts}
+use Rattle.laws.proofs.ReadsFields.{formed_parts}
 use Rattle.names.specs.Repeats.{pad_to, held_word, names_alike, first_repeat}
 use Rattle.names.proofs.RepeatLaws.{no_repeat, repeat_none}
-use Rattle.names.proofs.ClashLaws.{held_short, clash-held}
+use Rattle.names.proofs.ClashLaws.{held_short, clash_held_lem}
 use Rattle.laws.proofs.NameLaws.{clash_turn}
 use Rattle.packets.specs.Parts.{parts_at}
 use Rattle.packets.specs.PartsStand.{PartsStand}
@@ -93,7 +93,7 @@ unique_parts : (before l : List (Field ℕ)) → first_break keeps_names before 
     → (i j : ℕ) → i < j → length before ≤ j → j < length (before ++ l) → Apart (before ++ l) i j
 unique_parts before [] h i j p q r = absurd (omega (arith, length-append before []))
 unique_parts before (f ∷ l) h i j p q r =
-    let e = first_break-cons keeps_names before f l h in
+    let e = first_break_cons keeps_names before f l h in
     go (not-true (any (clash f) before) e.0) (ltb (length before) j) refl
     (unique_parts (before ++ (f ∷ [])) l e.1)
   where
@@ -115,12 +115,12 @@ unique_parts before (f ∷ l) h i j p q r =
 
 -- ── the names at the places of the records ──
 
-form-at : (before l : List (Field ℕ)) → first_break keeps_form before l ≡ none → (i : ℕ) → i < length l
+form_at : (before l : List (Field ℕ)) → first_break keeps_form before l ≡ none → (i : ℕ) → i < length l
     → is_formed (nth l i) ≡ true
-form-at before [] h i lt = absurd (omega arith)
-form-at before (f ∷ l) h zero lt = (first_break-cons keeps_form before f l h).0
-form-at before (f ∷ l) h (suc i) lt =
-    form-at (before ++ (f ∷ [])) l (first_break-cons keeps_form before f l h).1 i (omega arith)
+form_at before [] h i lt = absurd (omega arith)
+form_at before (f ∷ l) h zero lt = (first_break_cons keeps_form before f l h).0
+form_at before (f ∷ l) h (suc i) lt =
+    form_at (before ++ (f ∷ [])) l (first_break_cons keeps_form before f l h).1 i (omega arith)
 
 -- the parts of a field's record, and its number
 parts_nth : (numbers : ℕ → ℕ) (k : ℕ) (s : List ℕ) (before l : List (Field ℕ)) → first_break keeps_form before l ≡ none
@@ -131,25 +131,25 @@ unfolding records_in places_from
 parts_nth numbers k s before [] form size at next st i lt = absurd (omega arith)
 parts_nth numbers k s before (f ∷ l) form size at next st zero lt =
     let q = record_parts s at (at + length (stored_field (numbers k) f)) (numbers k) f
-    (field_bounds f (first_break-cons keeps_form before f l form).0 (first_break-cons keeps_size before f l size).0)
-    (stands-left s at next (stored_field (numbers k) f) (records numbers (suc k) l) st) in
+    (field_bounds f (first_break_cons keeps_form before f l form).0 (first_break_cons keeps_size before f l size).0)
+    (stands_left s at next (stored_field (numbers k) f) (records numbers (suc k) l) st) in
     (q.0, q.3 ∙ ap (λ (j : ℕ). numbers j % 65536) (sym (add-zero k)))
 parts_nth numbers k s before (f ∷ l) form size at next st (suc i) lt =
-    let a = first_break-cons keeps_form before f l form in
-    let b = first_break-cons keeps_size before f l size in
+    let a = first_break_cons keeps_form before f l form in
+    let b = first_break_cons keeps_size before f l size in
     let one = stored_field (numbers k) f in
     let mid = at + length one in
     let q = record_parts s at mid (numbers k) f (field_bounds f a.0 b.0)
-    (stands-left s at next one (records numbers (suc k) l) st) in
-    let r = stands-right s at next one (records numbers (suc k) l) st in
+    (stands_left s at next one (records numbers (suc k) l) st) in
+    let r = stands_right s at next one (records numbers (suc k) l) st in
     let e : suc k + i ≡ k + suc i = omega arith in
     let p = parts_nth numbers (suc k) s (before ++ (f ∷ [])) l a.1 b.1 mid next r i (omega arith) in
     rw q.1 (p.0, p.1 ∙ ap (λ (j : ℕ). numbers j % 65536) e)
 
-pub places-length : (s : List ℕ) (n at : ℕ) → length (places_from s n at) ≡ n
+pub places_length : (s : List ℕ) (n at : ℕ) → length (places_from s n at) ≡ n
 unfolding places_from
-places-length s zero at = refl
-places-length s (suc n) at = ap suc (places-length s n (parts_at s at).next)
+places_length s zero at = refl
+places_length s (suc n) at = ap suc (places_length s n (parts_at s at).next)
 
 pub get_d_mapped : (f : ℕ → List ℕ) (l : List ℕ) (i : ℕ) → i < length l → get_or (map f l) i [] ≡ f (get_or l i 0)
 get_d_mapped f [] i h = absurd (omega arith)
@@ -173,15 +173,15 @@ module _ (numbers : ℕ → ℕ) (s : List ℕ) (l : List (Field ℕ)) (at next 
   short_nth : (i : ℕ) → i < length l → get_or (shorts_at s places) i [] ≡ held_short (nth l i).short
   unfolding held_in
   short_nth i lt =
-      get_d_mapped (short_at s) places i (omega (arith, places-length s (length l) at))
+      get_d_mapped (short_at s) places i (omega (arith, places_length s (length l) at))
       ∙ ap (pad_to short_most) (bytes_are s _ _ (parts_nth numbers 0 s [] l form size at next st i lt).0.short)
 
   word_nth : (i : ℕ) → i < length l → get_or (words_at s places) i [] ≡ held_word (nth l i).label
   word_nth i lt =
-      get_d_mapped (word_at s) places i (omega (arith, places-length s (length l) at)) ∙ ap held_word (label_nth i lt)
+      get_d_mapped (word_at s) places i (omega (arith, places_length s (length l) at)) ∙ ap held_word (label_nth i lt)
 
-  short-good : (i : ℕ) → i < length l → if_any is_short (nth l i).short ≡ true
-  short-good i lt = (formed-parts (nth l i) (form-at [] l form i lt)).1
+  short_good : (i : ℕ) → i < length l → if_any is_short (nth l i).short ≡ true
+  short_good i lt = (formed_parts (nth l i) (form_at [] l form i lt)).1
 
   -- the names of two records meet where those of the fields clash
   alike_is : (i j : ℕ) → i < length l → j < length l
@@ -189,7 +189,7 @@ module _ (numbers : ℕ → ℕ) (s : List ℕ) (l : List (Field ℕ)) (at next 
       ≡ clash (nth l j) (nth l i)
   alike_is i j p q =
       rw (label_nth i p, label_nth j q, short_nth i p, short_nth j q, word_nth i p, word_nth j q)
-      (sym (clash-held (nth l i) (nth l j) (short-good i p) (short-good j q)) ∙ clash_turn (nth l i) (nth l j))
+      (sym (clash_held_lem (nth l i) (nth l j) (short_good i p) (short_good j q)) ∙ clash_turn (nth l i) (nth l j))
 
   -- the numbers in the records
   pub number_nth : (i : ℕ) → i < length l → two_at s (get_or places i 0 + 4) ≡ numbers i % 65536
@@ -207,9 +207,9 @@ module _ (numbers : ℕ → ℕ) (s : List ℕ) (l : List (Field ℕ)) (at next 
       unique_build [] l (λ i j p q.
       sym (alike_is i j (omega arith) q) ∙ or_neither (labels_alike s places i j) (alike i j) (a i j p q) (b i j p q))
 
-  pub names-complete : first_break keeps_names [] l ≡ none → names_test s (length l) at ≡ true
+  pub names_complete : first_break keeps_names [] l ≡ none → names_test s (length l) at ≡ true
   unfolding names_test
-  names-complete h =
+  names_complete h =
       let n = length l in
       let alike = names_alike (shorts_at s places) (words_at s places) in
       let apart : (i j : ℕ) → i < j → j < n → (labels_alike s places i j || alike i j) ≡ false = λ i j p q.

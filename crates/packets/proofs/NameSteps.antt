@@ -17,7 +17,7 @@ use Rattle.names.proofs.KeyLaws.{keys_apart}
 use Rattle.writing.specs.declared.spans.Span.{Span}
 use Rattle.packets.specs.Parts.{parts_at}
 use Rattle.packets.proofs.WalkSteps.{take_own}
-use Rattle.packets.proofs.NameLaws.{get_d_mapped, places-length}
+use Rattle.packets.proofs.NameLaws.{get_d_mapped, places_length}
 use Rattle.packets.specs.NamesTest.{
   places_from,
   FieldPlaces,
@@ -41,9 +41,9 @@ use Rattle.packets.specs.NamesTest.{
 -- ── places ──
 
 module _ (s : List ℕ) (n i at from : ℕ) where
-  places-step : i < n → places_from s (n - i) at ≡ at ∷ places_from s (n - (i + 1)) (parts_at s at).next
+  places_step : i < n → places_from s (n - i) at ≡ at ∷ places_from s (n - (i + 1)) (parts_at s at).next
   unfolding places_from
-  places-step lt = let m : n - i ≡ suc (n - (i + 1)) = omega arith in rw m
+  places_step lt = let m : n - i ≡ suc (n - (i + 1)) = omega arith in rw m
 
   pub places_again : (places all : List ℕ) → i < n → i < length places
       → take i places ++ places_from s (n - i) at ≡ all
@@ -51,7 +51,7 @@ module _ (s : List ℕ) (n i at from : ℕ) where
   places_again places all lt lp e =
       let next = places_from s (n - (i + 1)) (parts_at s at).next in
       rw (take_own places i at lp, append_assoc (take i places) (at ∷ []) next)
-      (rw (places-step lt) at e)
+      (rw (places_step lt) at e)
 
   pub places_done : (places all : List ℕ) → i ≡ n → take i places ++ places_from s (n - i) at ≡ all
       → take n places ≡ all
@@ -62,11 +62,11 @@ module _ (s : List ℕ) (n i at from : ℕ) where
       rw e at (sym (append-nil (take i places)) ∙ q)
 
   -- the place that comes next
-  place-next : (places : List ℕ) → i < n → i < length places
+  place_next : (places : List ℕ) → i < n → i < length places
       → take i places ++ places_from s (n - i) at ≡ places_from s n from → get_or (places_from s n from) i 0 ≡ at
-  place-next places lt lp e =
+  place_next places lt lp e =
       let l : length (take i places) ≡ i = length-take-le i places (omega arith) in
-      rw (← e, places-step lt) (get_or_at (take i places) at (places_from s (n - (i + 1)) (parts_at s at).next) 0 i l)
+      rw (← e, places_step lt) (get_or_at (take i places) at (places_from s (n - (i + 1)) (parts_at s at).next) 0 i l)
 
 -- ── what is put into an array, one element after the other ──
 
@@ -90,9 +90,9 @@ pub record Gathering (s : List ℕ) (n from i at : ℕ) (places keys : List ℕ)
     pub held : HeldNames s (places_from s n from) i shorts
     pub worded : HeldWords s (places_from s n from) i words
 
-pub gather-start : (s : List ℕ) (n from : ℕ) (places keys : List ℕ) (shorts words : List (List ℕ))
+pub gather_start : (s : List ℕ) (n from : ℕ) (places keys : List ℕ) (shorts words : List (List ℕ))
     → Gathering s n from 0 from places keys shorts words
-gather-start s n from places keys shorts words = record {
+gather_start s n from places keys shorts words = record {
   left = rw sub-zero;
   keyed = λ k lt. absurd (omega arith);
   held = λ k lt. absurd (omega arith);
@@ -106,7 +106,7 @@ module _ (s : List ℕ) (n from i at : ℕ) (places keys : List ℕ) (shorts wor
       (set shorts i (short_at s at)) (set words i (word_at s at))
   gather_again lt lp lk ls lw =
       let all : ℕ → ℕ = λ k. get_or (places_from s n from) k 0 in
-      let here : all i ≡ at = place-next s n i at from places lt lp g.left in
+      let here : all i ≡ at = place_next s n i at from places lt lp g.left in
       record {
         left = places_again s n i at from places _ lt lp g.left;
         keyed = filled_again (λ k. label_key s (all k)) 0 keys i _ lk g.keyed (rw here);
@@ -133,9 +133,9 @@ labels_apart s places keys n i j h p q apart =
 
 -- ── a record without a short name, or whose label may not be read ──
 
-pub label-none : (w : List ℕ) → is_short w ≡ false → replicate short_most 0 ≡ held_word w
+pub label_none : (w : List ℕ) → is_short w ≡ false → replicate short_most 0 ≡ held_word w
 unfolding pad_to
-label-none w e = rw e
+label_none w e = rw e
 
 pub short_none : (s : List ℕ) (p : Span) → p.len ≡ 0 → replicate short_most 0 ≡ held_in s p
 unfolding held_in pad_to
@@ -149,18 +149,18 @@ module _ (s : List ℕ) (n : ℕ) (places all : List ℕ) where
   pub same_place : take n places ≡ all → (i : ℕ) → i < n → get_or places i 0 ≡ get_or all i 0
   same_place e i lt = sym (get_or-take n places i 0 lt) ∙ ap (λ (l : List ℕ). get_or l i 0) e
 
-  pub all-places : take n places ≡ all → FieldPlaces s n all → FieldPlaces s n places
-  all-places e h i lt = rw (same_place e i lt) (h i lt)
+  pub all_places : take n places ≡ all → FieldPlaces s n all → FieldPlaces s n places
+  all_places e h i lt = rw (same_place e i lt) (h i lt)
 
-  pub all-labels : take n places ≡ all → first_repeat (labels_alike s places) n ≡ first_repeat (labels_alike s all) n
-  all-labels e =
+  pub all_labels : take n places ≡ all → first_repeat (labels_alike s places) n ≡ first_repeat (labels_alike s all) n
+  all_labels e =
       repeat_same (labels_alike s places) (labels_alike s all) n (λ i j p q.
       rw (same_place e i (omega arith), same_place e j q))
 
-  pub all-names : (shorts words : List (List ℕ)) → take n places ≡ all → length all ≡ n
+  pub all_names : (shorts words : List (List ℕ)) → take n places ≡ all → length all ≡ n
       → HeldNames s places n shorts → HeldWords s places n words
       → first_repeat (names_alike shorts words) n ≡ first_repeat (names_alike (shorts_at s all) (words_at s all)) n
-  all-names shorts words e z h k =
+  all_names shorts words e z h k =
       let one : (i : ℕ) → i < n → get_or shorts i [] ≡ get_or (shorts_at s all) i [] = λ i lt.
       h i lt ∙ ap (short_at s) (same_place e i lt) ∙ sym (get_d_mapped (short_at s) all i (omega arith)) in
       let two : (i : ℕ) → i < n → get_or words i [] ≡ get_or (words_at s all) i [] = λ i lt.
@@ -184,6 +184,6 @@ module _ (s : List ℕ) (n from : ℕ) (places keys : List ℕ) (shorts words : 
       let worded : HeldWords s places n words = λ i lt.
       rw (same_place s n places all g.placed i lt) (g.worded i lt) in
       rw (
-        all-labels s n places all g.placed,
-        all-names s n places all shorts words g.placed (places-length s n from) held worded,
+        all_labels s n places all g.placed,
+        all_names s n places all shorts words g.placed (places_length s n from) held worded,
       )

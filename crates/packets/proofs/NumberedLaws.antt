@@ -12,8 +12,8 @@ use lib.Seq.{take_all, drop-length, take-append_seam, drop-append_seam}
 use borrow.Rule.Slice.PartMut.{put_mid, Post-is}
 use borrow.Author.Tests.{le-leb, lt-leb, lt-ltb}
 use Rattle.base.specs.Lists.{all, first_break}
-use Rattle.base.proofs.Lists.{and_both, not-both}
-use Rattle.base.proofs.Breaks.{first_break-cons}
+use Rattle.base.proofs.Lists.{and_both, not_both}
+use Rattle.base.proofs.Breaks.{first_break_cons}
 use Rattle.laws.specs.Places.{IsBytes, two_at}
 use Rattle.laws.proofs.Numbers.{le2_mod}
 use Rattle.rules.specs.Trees.{le2}
@@ -22,12 +22,12 @@ use Rattle.rules.specs.References.{readers}
 use Rattle.rules.specs.Within.{keeps_form, keeps_size}
 use Rattle.rules.specs.Stored.{record_of, field_body, head_body, records, stored_with, stored_in}
 use Rattle.references.specs.Numbers.{numbered}
-use Rattle.references.proofs.NumberLaws.{numbered-records}
+use Rattle.references.proofs.NumberLaws.{numbered_records}
 use Rattle.packets.specs.Parts.{table_most}
 use Rattle.packets.specs.CountsTest.{reads_from, Tallied}
 use Rattle.packets.specs.TableTest.{head_test, fields_test, shape_test}
 use Rattle.packets.specs.Conversions.{NumbersTable}
-use Rattle.laws.proofs.FieldSizes.{field-sizes, body-size}
+use Rattle.laws.proofs.FieldSizes.{field_sizes, body_size}
 use Rattle.packets.proofs.TableLaws.{shape_sound, shape_complete, standing, standing_kept}
 
 -- the records' lengths fit into two bytes
@@ -36,9 +36,9 @@ pub all_fit : (before fs : List (Field ℕ)) → first_break keeps_form before f
 unfolding all
 all_fit before [] hf hs = refl
 all_fit before (f ∷ fs) hf hs =
-    let kf = first_break-cons keeps_form before f fs hf in
-    let ks = first_break-cons keeps_size before f fs hs in
-    let z = body-size f (field-sizes f kf.0 ks.0) in
+    let kf = first_break_cons keeps_form before f fs hf in
+    let ks = first_break_cons keeps_size before f fs hs in
+    let z = body_size f (field_sizes f kf.0 ks.0) in
     and_both (ltb (6 + length (field_body f)) 65536) _ (lt-ltb (6 + length (field_body f)) 65536 (omega (arith, z)))
     (all_fit (before ++ (f ∷ [])) fs kf.1 ks.1)
 
@@ -52,11 +52,11 @@ module _ (s : List ℕ) where
   shape_is short head fields =
       and_both (leb (length s) table_most) _ (le-leb _ _ short) (and_both (head_test s) _ head fields)
 
-  pub numbers-put : (counts : List ℕ) → IsBytes s → shape_test s ≡ true → Tallied s (two_at s 6) from counts
+  pub numbers_put : (counts : List ℕ) → IsBytes s → shape_test s ≡ true → Tallied s (two_at s 6) from counts
       → two_at s 6 ≤ length counts
       → NumbersTable true s (take from s ++ numbered (two_at s 6) counts (drop from s))
   unfolding stored_in stored_with
-  numbers-put counts b shape t room =
+  numbers_put counts b shape t room =
       let q = shape_sound (standing s) s b (standing_kept s) shape in
       let d = q.description in
       let w = q.within in
@@ -74,16 +74,16 @@ module _ (s : List ℕ) where
       let put : numbered (two_at s 6) counts (drop from s)
       ≡ records (readers d.fields) 0 d.fields ++ record_of 5 [] =
       ap₂ {C = List ℕ} (λ (n : ℕ) (l : List ℕ). numbered n counts l) (sym q.count) back
-      ∙ numbered-records counts (standing s) (readers d.fields) 0 d.fields (record_of 5 [])
+      ∙ numbered_records counts (standing s) (readers d.fields) 0 d.fields (record_of 5 [])
       (all_fit [] d.fields w.form w.size) true_numbers in
       (d, w, (standing s, is), sym (ap₂ {C = List ℕ} (λ (a c : List ℕ). a ++ c) front put))
 
   -- as the code puts them: into the part from the first field's record to the end
-  pub numbers-there : (counts part : List ℕ) (at n : ℕ) → at ≡ from → n ≡ two_at s 6 → from ≤ length s → IsBytes s
+  pub numbers_there : (counts part : List ℕ) (at n : ℕ) → at ≡ from → n ≡ two_at s 6 → from ≤ length s → IsBytes s
       → shape_test s ≡ true → Tallied s (two_at s 6) from counts → two_at s 6 ≤ length counts
       → part ≡ numbered n counts (take (length s - at) (drop at s))
       → NumbersTable true s (put_mid at (length s - at) s part)
-  numbers-there counts part at n a k le b shape t room is =
+  numbers_there counts part at n a k le b shape t room is =
       let rest_of : take (length s - from) (drop from s) ≡ drop from s =
       take_all (length s - from) (drop from s) (omega (arith, length-drop from s)) in
       let here : part ≡ numbered (two_at s 6) counts (drop from s) =
@@ -93,20 +93,20 @@ module _ (s : List ℕ) where
       rw a (ap (λ (l : List ℕ). take from s ++ (part ++ l)) (Post-is from (length s) s le ∙ end)
       ∙ ap (λ (l : List ℕ). take from s ++ l) (append-nil part)) in
       subst (NumbersTable true s) (sym (whole ∙ ap (λ (l : List ℕ). take from s ++ l) here))
-      (numbers-put counts b shape t room)
+      (numbers_put counts b shape t room)
 
-  pub numbers-not : (after : List ℕ) → shape_test s ≡ false → NumbersTable false s after
-  numbers-not after h d w numbers is = not-both (shape_test s) (shape_complete numbers s d w is) h
+  pub numbers_not : (after : List ℕ) → shape_test s ≡ false → NumbersTable false s after
+  numbers_not after h d w numbers is = not_both (shape_test s) (shape_complete numbers s d w is) h
 
   -- the tests one by one
-  pub long-not : table_most < length s → shape_test s ≡ false
+  pub long_not : table_most < length s → shape_test s ≡ false
   unfolding shape_test
-  long-not h = rw (lt-leb _ _ h) refl
+  long_not h = rw (lt-leb _ _ h) refl
 
-  pub head-not : length s ≤ table_most → head_test s ≡ false → shape_test s ≡ false
+  pub head_not : length s ≤ table_most → head_test s ≡ false → shape_test s ≡ false
   unfolding shape_test
-  head-not short h = rw (le-leb _ _ short, h) refl
+  head_not short h = rw (le-leb _ _ short, h) refl
 
-  pub fields-not : length s ≤ table_most → head_test s ≡ true → fields_test s ≡ false → shape_test s ≡ false
+  pub fields_not : length s ≤ table_most → head_test s ≡ true → fields_test s ≡ false → shape_test s ≡ false
   unfolding shape_test
-  fields-not short head h = rw (le-leb _ _ short, head, h) refl
+  fields_not short head h = rw (le-leb _ _ short, head, h) refl

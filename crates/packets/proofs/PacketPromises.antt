@@ -24,15 +24,15 @@ use Rattle.rules.specs.Promises.{
   ReadsPacket,
 }
 use Rattle.rules.specs.declared.Fault.{Fault}
-use Rattle.laws.proofs.Readings.{Told, reading-told}
+use Rattle.laws.proofs.Readings.{Told, reading_told}
 use Rattle.laws.proofs.Decidable.{good_decidable}
 use Rattle.laws.proofs.Conditions.{conditions_kept}
-use Rattle.laws.proofs.RunCover.{kept-length}
+use Rattle.laws.proofs.RunCover.{kept_length}
 use Rattle.rules.specs.Limits.{fields_most, packet_most}
 use Rattle.packets.specs.FieldParts.{is_accepted}
 use Rattle.packets.specs.RunRead.{ReadsRun}
-use Rattle.packets.proofs.RunEntries.{length-joined}
-use Rattle.packets.proofs.HeadReads.{head-stands}
+use Rattle.packets.proofs.RunEntries.{length_joined}
+use Rattle.packets.proofs.HeadReads.{head_stands}
 
 -- ── tables ──
 
@@ -49,28 +49,28 @@ good_of table k h = go (good_decidable table) refl
     go (no n) e = let q = ap (λ (a : Answer). a.number) (h (no n)) in absurd (omega (arith, q))
 
 -- the answer of a check, told apart
-pub good-from : (table : List ℕ) (r : TableAnswer) (k : ℕ) → ChecksTable table (of_table r) → r ≡ TableAnswer.Good k
+pub good_from : (table : List ℕ) (r : TableAnswer) (k : ℕ) → ChecksTable table (of_table r) → r ≡ TableAnswer.Good k
     → Good table
-good-from table r k h e = good_of table k (rw e at h)
+good_from table r k h e = good_of table k (rw e at h)
 
 pub bad_from : (table : List ℕ) (r : TableAnswer) → ChecksTable table (of_table r) → r ≡ TableAnswer.NotGood
     → ChecksTable table (of_table TableAnswer.NotGood)
 bad_from table r h e = rw e at h
 
-pub good-count : (table : List ℕ) (g : Good table) → two_at table 6 ≡ length g.description.fields
-good-count table g = (head-stands g.description g.within table g.is_stored).count
+pub good_count : (table : List ℕ) (g : Good table) → two_at table 6 ≡ length g.description.fields
+good_count table g = (head_stands g.description g.within table g.is_stored).count
 
-pub good-few : (table : List ℕ) → Good table → two_at table 6 ≤ fields_most
-good-few table g =
-    let h = head-stands g.description g.within table g.is_stored in
+pub good_few : (table : List ℕ) → Good table → two_at table 6 ≤ fields_most
+good_few table g =
+    let h = head_stands g.description g.within table g.is_stored in
     omega (arith, h.count, h.few)
 
 -- ── readings ──
 
 -- an accepted packet has an entry for each field
-pub entries-count : (d : Description) (packet : List ℕ) (es : List Entry) → reading d packet ≡ complete es
+pub entries_count : (d : Description) (packet : List ℕ) (es : List Entry) → reading d packet ≡ complete es
     → length es ≡ length d.fields
-entries-count d packet es h = kept-length [] d.fields es (conditions_kept d packet es h)
+entries_count d packet es h = kept_length [] d.fields es (conditions_kept d packet es h)
 
 fault_positive : (f : Fault) → fault_number f ≡ 0 → ⊥
 unfolding fault_number
@@ -99,12 +99,12 @@ zero_accepted (PacketAnswer.Refused f i) h = absurd (fault_positive f h)
 zero_accepted PacketAnswer.LeftOver h = absurd (omega (arith, h))
 
 -- the entries of an accepted packet
-pub accepted-complete : (got : Reading) → Told got → (packet : List ℕ) (r : PacketAnswer)
+pub accepted_complete : (got : Reading) → Told got → (packet : List ℕ) (r : PacketAnswer)
     → of_packet r ≡ reading_answer got packet
     → is_accepted r ≡ true → (es : List Entry) × (got ≡ complete es)
 unfolding reading_answer
-accepted-complete (complete es) t packet r e h = (es, refl)
-accepted-complete (refusing a) t packet r e h =
+accepted_complete (complete es) t packet r e h = (es, refl)
+accepted_complete (refusing a) t packet r e h =
     let q = ap (λ (a : Answer). a.number) e in absurd (omega (arith, q, accepted_zero r h, t.0))
 
 pub refused_open : (got : Reading) (packet : List ℕ) (r : PacketAnswer) → of_packet r ≡ reading_answer got packet
@@ -116,9 +116,9 @@ refused_open got packet r e h es c =
     let z : ◌≡◌ {A = ℕ} 0 1 = cc in
     omega arith
 
-run-kept : (got : Reading) (run : List ℕ) → ((es : List Entry) → got ≡ complete es → ⊥) → run_after got run ≡ run
-run-kept (complete es) run h = absurd (h es refl)
-run-kept (refusing a) run h = refl
+run_kept : (got : Reading) (run : List ℕ) → ((es : List Entry) → got ≡ complete es → ⊥) → run_after got run ≡ run
+run_kept (complete es) run h = absurd (h es refl)
+run_kept (refusing a) run h = refl
 
 -- ── the promise ──
 
@@ -131,11 +131,11 @@ module _ (table packet run : List ℕ) (r : PacketAnswer) (after : List ℕ) whe
   by_good good h (no n) = absurd (n good)
 
 module _ (table packet run : List ℕ) where
-  pub packet-not-good : ChecksTable table (of_table TableAnswer.NotGood)
+  pub packet_not_good : ChecksTable table (of_table TableAnswer.NotGood)
       → ReadsPacket table packet run (leaves (of_packet PacketAnswer.NotGood) run)
   unfolding of_packet
-  packet-not-good h (yes g) = absurd (not_good table h g)
-  packet-not-good h (no n) = refl
+  packet_not_good h (yes g) = absurd (not_good table h g)
+  packet_not_good h (no n) = refl
 
   pub packet_too_long : Good table → packet_most < length packet
       → ReadsPacket table packet run (leaves (of_packet PacketAnswer.TooLong) run)
@@ -144,13 +144,13 @@ module _ (table packet run : List ℕ) where
       let far : ltb packet_most (length packet) ≡ true = lt-ltb packet_most (length packet) lt in
       by_good table packet run PacketAnswer.TooLong run good (λ g. rw far)
 
-  pub packet-short-run : Good table → length packet ≤ packet_most → length run < 4 * two_at table 6
+  pub packet_short_run : Good table → length packet ≤ packet_most → length run < 4 * two_at table 6
       → ReadsPacket table packet run (leaves (of_packet PacketAnswer.ShortRun) run)
   unfolding of_packet packet_outcome_in
-  packet-short-run good le lt =
+  packet_short_run good le lt =
       let near : ltb packet_most (length packet) ≡ false = le-ltb packet_most (length packet) le in
       by_good table packet run PacketAnswer.ShortRun run good (λ g.
-      let n = good-count table g in
+      let n = good_count table g in
       let few : ltb (length run) (4 * length g.description.fields) ≡ true =
       lt-ltb (length run) (4 * length g.description.fields) (omega arith) in
       rw (near, few))
@@ -163,26 +163,26 @@ module _ (table packet run : List ℕ) where
     answered after h =
         let near : ltb packet_most (length packet) ≡ false = le-ltb packet_most (length packet) le in
         by_good table packet run r after good (λ g.
-        let n = good-count table g in
+        let n = good_count table g in
         let many : ltb (length run) (4 * length g.description.fields) ≡ false =
         le-ltb (length run) (4 * length g.description.fields) (omega arith) in
         let e = (reads g.description g.within g.is_stored).answer in
         rw (near, many, e, h g))
 
-    pub packet-accepted : is_accepted r ≡ true
+    pub packet_accepted : is_accepted r ≡ true
         → ReadsPacket table packet run
         (leaves (of_packet r) (take (4 * two_at table 6) numbers ++ drop (4 * two_at table 6) run))
-    packet-accepted h = answered _ (λ g.
+    packet_accepted h = answered _ (λ g.
         let holds = reads g.description g.within g.is_stored in
-        let c = accepted-complete (reading g.description packet) (reading-told g.description packet) packet r
+        let c = accepted_complete (reading g.description packet) (reading_told g.description packet) packet r
         holds.answer h in
-        let n = good-count table g in
-        let m = entries-count g.description packet c.0 c.1 in
+        let n = good_count table g in
+        let m = entries_count g.description packet c.0 c.1 in
         let k : 4 * two_at table 6 ≡ 4 * length c.0 = omega arith in
-        rw (c.1, k, holds.front c.0 c.1, length-joined c.0))
+        rw (c.1, k, holds.front c.0 c.1, length_joined c.0))
 
-    pub packet-refused : is_accepted r ≡ false → ReadsPacket table packet run (leaves (of_packet r) run)
-    packet-refused h = answered run (λ g.
+    pub packet_refused : is_accepted r ≡ false → ReadsPacket table packet run (leaves (of_packet r) run)
+    packet_refused h = answered run (λ g.
         let e = (reads g.description g.within g.is_stored).answer in
         let got = reading g.description packet in
-        sym (run-kept got run (refused_open got packet r e h)))
+        sym (run_kept got run (refused_open got packet r e h)))

@@ -28,14 +28,14 @@ use Rattle.packets.specs.Steps.{
   numbers_in,
 }
 use Rattle.packets.specs.Walks.{put_at, kept_at, step_after, run_with, ended, stopped, walk_from}
-use Rattle.packets.proofs.StepLaws.{found-field, found-stop}
+use Rattle.packets.proofs.StepLaws.{found_field, found_stop}
 
-pub length-put : (run : List ℕ) (i : ℕ) (e : Numbers) → length (put_at run i e) ≡ length run
+pub length_put : (run : List ℕ) (i : ℕ) (e : Numbers) → length (put_at run i e) ≡ length run
 unfolding put_at
-length-put run i e = simp length-set
+length_put run i e = simp length-set
 
 pub length_with : (run : List ℕ) (i : ℕ) (s : Step) → length (run_with run i s) ≡ length run
-length_with run i (step e next) = length-put run i _
+length_with run i (step e next) = length_put run i _
 length_with run i (stop f) = refl
 
 -- ── one field ──
@@ -47,24 +47,24 @@ module _ (s packet run : List ℕ) (n i place at : ℕ) (p : Parts) (found : Fou
       → step_after s run i (record_at s at) (field_step s packet run (record_at s at) (n - (i + 1)) place) ≡ t
   here t h = let d : n - i - 1 ≡ n - (i + 1) = omega arith in rw (← parts, ← d) h
 
-  pub walk-to : (e : Numbers) (next : ℕ) → after ≡ run_with run i (field_step s packet run p (n - i - 1) place)
+  pub walk_to : (e : Numbers) (next : ℕ) → after ≡ run_with run i (field_step s packet run p (n - i - 1) place)
       → found ≡ Found.Field e next
       → walk_from s packet (n - i) i run place at ≡ walk_from s packet (n - (i + 1)) (i + 1) after next p.next
   unfolding walk_from
-  walk-to e next left to =
+  walk_to e next left to =
       let m : n - i ≡ suc (n - (i + 1)) = omega arith in
       let d : n - i - 1 ≡ n - (i + 1) = omega arith in
       let t = step_after s run i p (field_step s packet run p (n - i - 1) place) in
-      rw (m, here (step (entry_in e) next) (found-field found t e next goes to), left, d, parts)
+      rw (m, here (step (entry_in e) next) (found_field found t e next goes to), left, d, parts)
 
-  pub walk-stop : (f : Fault) → after ≡ run_with run i (field_step s packet run p (n - i - 1) place)
+  pub walk_stop : (f : Fault) → after ≡ run_with run i (field_step s packet run p (n - i - 1) place)
       → found ≡ Found.Stop f → walk_from s packet (n - i) i run place at ≡ stopped f (i + 1) after
   unfolding walk_from
-  walk-stop f left to =
+  walk_stop f left to =
       let m : n - i ≡ suc (n - (i + 1)) = omega arith in
       let d : n - i - 1 ≡ n - (i + 1) = omega arith in
       let t = step_after s run i p (field_step s packet run p (n - i - 1) place) in
-      rw (m, here (stop f) (found-stop found t f goes to), left, d, parts)
+      rw (m, here (stop f) (found_stop found t f goes to), left, d, parts)
 
 pub walk_end : (s packet run : List ℕ) (n place at : ℕ) → walk_from s packet (n - n) n run place at ≡ ended run place
 unfolding walk_from
@@ -86,38 +86,38 @@ inside_either : (total : ℕ) (b : Bool) (s t : Step) → (b ≡ true → Inside
 inside_either total true s t p q = p refl
 inside_either total false s t p q = q refl
 
-bounded-inside : (packet : List ℕ) (kind place width : ℕ)
+bounded_inside : (packet : List ℕ) (kind place width : ℕ)
     → Inside (bit_total packet) (bounded_at packet kind place width)
 unfolding bounded_at
-bounded-inside packet kind place width =
+bounded_inside packet kind place width =
     inside_either (bit_total packet) (ltb (bit_total packet) (place + width)) (stop _)
     (step (present_entry packet kind place width) (place + width)) (λ e. tt) (λ e. ltb-false _ _ e)
 
-field-inside : (s packet run : List ℕ) (p : Parts) (later place : ℕ) → place ≤ bit_total packet
+field_inside : (s packet run : List ℕ) (p : Parts) (later place : ℕ) → place ≤ bit_total packet
     → Inside (bit_total packet) (field_step s packet run p later place)
 unfolding field_step present_at
-field-inside s packet run p later place h =
+field_inside s packet run p later place h =
     inside_both (bit_total packet) (holds_at s run p.condition) _ (λ c.
     inside_either (bit_total packet) (eqb c 0) (step _ place) (present_at s packet run p later place) (λ e. h) (λ e.
     inside_both (bit_total packet) (extent_at s packet run p later place) (bounded_at packet p.kind place)
-    (bounded-inside packet p.kind place)))
+    (bounded_inside packet p.kind place)))
 
-after-inside : (s run : List ℕ) (i : ℕ) (p : Parts) (total : ℕ) (t : Step) → Inside total t
+after_inside : (s run : List ℕ) (i : ℕ) (p : Parts) (total : ℕ) (t : Step) → Inside total t
     → Inside total (step_after s run i p t)
 unfolding step_after kept_at
-after-inside s run i p total (step e m) q =
+after_inside s run i p total (step e m) q =
     let own = put_at run i (numbers_in e) in
     inside_either total (eqb e.present 0) (step e m) (kept_at s own p.constraint e m) (λ x. q) (λ x.
     inside_both total (holds_at s own p.constraint) _ (λ c.
     inside_either total (eqb c 0) (stop ConstraintFalse) (step e m) (λ y. tt) (λ y. q)))
-after-inside s run i p total (stop f) q = tt
+after_inside s run i p total (stop f) q = tt
 
-pub step-inside : (s packet run : List ℕ) (i : ℕ) (p : Parts) (later place : ℕ) (found : Found)
+pub step_inside : (s packet run : List ℕ) (i : ℕ) (p : Parts) (later place : ℕ) (found : Found)
     (e : Numbers) (next : ℕ) → place ≤ bit_total packet → found ≡ found_of (step_after s run i p
     (field_step s packet run p later place))
     → found ≡ Found.Field e next → next ≤ bit_total packet
-step-inside s packet run i p later place found e next h goes to =
+step_inside s packet run i p later place found e next h goes to =
     let st = field_step s packet run p later place in
     let t = step_after s run i p st in
-    let q = after-inside s run i p (bit_total packet) st (field-inside s packet run p later place h) in
-    rw (found-field found t e next goes to) at q
+    let q = after_inside s run i p (bit_total packet) st (field_inside s packet run p later place h) in
+    rw (found_field found t e next goes to) at q

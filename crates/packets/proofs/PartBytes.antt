@@ -11,8 +11,8 @@ use lib.ListN.{length, get_or, drop}
 use lib.Seq.{take-append_seam}
 use borrow.Author.Tests.{leb-true, le-leb, eqb-true, eq-eqb, ne_eqb}
 use Rattle.laws.specs.Places.{Stands, IsBytes}
-use Rattle.laws.proofs.Places.{stands_part, stands-none, stands-byte}
-use Rattle.base.proofs.Lists.{and_left, and_right, and_both, not-both, or_cases}
+use Rattle.laws.proofs.Places.{stands_part, stands_none, stands_byte}
+use Rattle.base.proofs.Lists.{and_left, and_right, and_both, not_both, or_cases}
 use Rattle.rules.specs.declared.Op.{Op}
 use Rattle.rules.specs.declared.Op.TheVariants.{Or, And, Eq, Ne, Lt, Le, Gt, Ge, Add, Sub, Mul, Div, Rem, Pow}
 use Rattle.rules.specs.declared.ValueType.{ValueType}
@@ -35,17 +35,17 @@ use Rattle.rules.specs.Trees.{
   same_type,
 }
 use Rattle.rules.specs.Stored.{stored_expression, stored_maybe}
-use Rattle.laws.proofs.ReadsTrees.{small_bounds, length-stored}
+use Rattle.laws.proofs.ReadsTrees.{small_bounds, length_stored}
 use Rattle.writing.specs.declared.spans.Span.{Span}
 use Rattle.packets.specs.declared.trees.Checked.{Checked}
 use Rattle.packets.specs.StoredTrees.{marked, check_at}
 use Rattle.packets.specs.Parts.{ending}
 use Rattle.packets.specs.PartsStand.{In}
 use Rattle.packets.specs.FieldTest.{bytes_in, ends_as, tree_test, maybe_test}
-use Rattle.laws.proofs.FieldSizes.{small-length}
+use Rattle.laws.proofs.FieldSizes.{small_length}
 use Rattle.packets.proofs.TreeTypes.{same_type_true, same_type_self}
 use Rattle.packets.proofs.TreeSound.{check_sound}
-use Rattle.packets.proofs.TreeComplete.{check-complete}
+use Rattle.packets.proofs.TreeComplete.{check_complete}
 
 -- ── bytes ──
 
@@ -70,8 +70,8 @@ pub record TreeIn (s marks : List ℕ) (k : ValueType) (p : Span) (t : Tree ℕ)
   pub small : is_small t ≡ true
   pub stands : In s p (stored_expression t)
 
-stands-to : (s : List ℕ) (a b c : ℕ) (w : List ℕ) → b ≡ c → Stands s a w b → Stands s a w c
-stands-to s a b c w e p = rw e at p
+stands_to : (s : List ℕ) (a b c : ℕ) (w : List ℕ) → b ≡ c → Stands s a w b → Stands s a w c
+stands_to s a b c w e p = rw e at p
 
 typed_as : (marks : List ℕ) (j k : ValueType) (t : Tree ℕ) → j ≡ k → has_type (marked marks) j t ≡ true
     → has_type (marked marks) k t ≡ true
@@ -86,15 +86,15 @@ module _ (s marks : List ℕ) (k : ValueType) (p : Span) where
     where
       go : (c : Checked) → check_at depth_most s marks p.at ≡ c → ends_as k (ending p) c ≡ true → p.len ≤ stored_most
           → (t : Tree ℕ) × TreeIn s marks k p t
-      go Checked.Bad e f le = absurd (not-both false f refl)
+      go Checked.Bad e f le = absurd (not_both false f refl)
       go (Checked.Tree j next) e f le =
           let a : j ≡ k = same_type_true j k (and_left (same_type j k) (eqb next.at (ending p)) f) in
           let b : next.at ≡ ending p = eqb-true next.at (ending p)
           (and_right (same_type j k) (eqb next.at (ending p)) f) in
           let q = check_sound depth_most s marks p.at j next h e in
-          let st : In s p (stored_expression q.0) = stands-to s p.at next.at (ending p) _ b q.4 in
+          let st : In s p (stored_expression q.0) = stands_to s p.at next.at (ending p) _ b q.4 in
           let l : stored_length q.0 ≤ stored_most = omega
-          (arith, in_length s p _ st, length-stored (λ i. i) (λ i. 0) q.0) in (
+          (arith, in_length s p _ st, length_stored (λ i. i) (λ i. 0) q.0) in (
             q.0,
             record {
               typed = typed_as marks j k q.0 a q.1;
@@ -105,12 +105,12 @@ module _ (s marks : List ℕ) (k : ValueType) (p : Span) where
             },
           )
 
-  pub tree-complete : (t : Tree ℕ) → TreeIn s marks k p t → tree_test s marks k p ≡ true
+  pub tree_complete : (t : Tree ℕ) → TreeIn s marks k p t → tree_test s marks k p ≡ true
   unfolding tree_test
-  tree-complete t h =
-      let e = check-complete depth_most s marks p.at t k (ending p) h.typed h.range (small_bounds t h.small).0
+  tree_complete t h =
+      let e = check_complete depth_most s marks p.at t k (ending p) h.typed h.range (small_bounds t h.small).0
       h.stands in
-      let l : p.len ≤ stored_most = omega (arith, in_length s p _ h.stands, small-length t h.small) in
+      let l : p.len ≤ stored_most = omega (arith, in_length s p _ h.stands, small_length t h.small) in
       rw (le-leb p.len stored_most l, e, same_type_self k, eq-eqb (ending p) (ending p) refl)
 
 -- ── a tree that may be missing ──
@@ -129,7 +129,7 @@ stored_positive (negation a) = omega arith
 pub empty_in : (s : List ℕ) (p : Span) → p.len ≡ 0 → In s p []
 empty_in s p e =
     let f : ending p ≡ p.at = omega arith in
-    rw f (stands-none s p.at)
+    rw f (stands_none s p.at)
 
 module _ (s marks : List ℕ) (p : Span) where
   pub maybe_sound : IsBytes s → maybe_test s marks p ≡ true → (o : Option (Tree ℕ)) × MaybeIn s marks p o
@@ -146,7 +146,7 @@ module _ (s marks : List ℕ) (p : Span) where
   maybe_complete (some t) h =
       let l = in_length s p _ h.stands in
       let z = stored_positive t in
-      rw (ne_eqb p.len 0 (λ e. omega arith)) (tree-complete s marks YesNo p t h)
+      rw (ne_eqb p.len 0 (λ e. omega arith)) (tree_complete s marks YesNo p t h)
 
   pub maybe_stands : (o : Option (Tree ℕ)) → MaybeIn s marks p o → In s p (stored_maybe o)
   maybe_stands none h = h
@@ -171,10 +171,10 @@ code_other Div = refl
 code_other Rem = refl
 code_other Pow = refl
 
-pub number-byte : (s : List ℕ) (p : Span) (t : Tree ℕ) → In s p (stored_expression t)
+pub number_byte : (s : List ℕ) (p : Span) (t : Tree ℕ) → In s p (stored_expression t)
     → eqb (get_or s p.at 0) 1 ≡ is_number t
 unfolding stored_tree
-number-byte s p (num n) h = rw (stands-byte s p.at (ending p) _ _ h)
-number-byte s p (read i) h = rw (stands-byte s p.at (ending p) _ _ h)
-number-byte s p (two o a b) h = rw (stands-byte s p.at (ending p) _ _ h) (code_other o)
-number-byte s p (negation a) h = rw (stands-byte s p.at (ending p) _ _ h)
+number_byte s p (num n) h = rw (stands_byte s p.at (ending p) _ _ h)
+number_byte s p (read i) h = rw (stands_byte s p.at (ending p) _ _ h)
+number_byte s p (two o a b) h = rw (stands_byte s p.at (ending p) _ _ h) (code_other o)
+number_byte s p (negation a) h = rw (stands_byte s p.at (ending p) _ _ h)

@@ -29,45 +29,45 @@ use Rattle.rules.specs.Reading.{
 use Rattle.rules.specs.Cover.{InOrder}
 use Rattle.rules.specs.Promises.{ChecksTable, part_by, PlacesPart, moved_by, LendsPart}
 use Rattle.rules.specs.Answers.{of_table}
-use Rattle.laws.proofs.Readings.{reading-told}
+use Rattle.laws.proofs.Readings.{reading_told}
 use Rattle.laws.proofs.Cover.{cover_in_order}
 use Rattle.laws.proofs.Decidable.{good_decidable}
 use Rattle.packets.specs.declared.readings.Bytes.{Bytes}
 use Rattle.packets.specs.FieldParts.{is_accepted, bytes_of, part_at, OnPacket}
 use Rattle.packets.specs.RunRead.{ReadsRun}
-use Rattle.packets.proofs.RunEntries.{Begins, run-present, run-number}
+use Rattle.packets.proofs.RunEntries.{Begins, run_present, run_number}
 use Rattle.packets.proofs.PacketPromises.{
   not_good,
-  good-count,
-  entries-count,
-  accepted-complete,
+  good_count,
+  entries_count,
+  accepted_complete,
   refused_open,
 }
 
 -- ── entries lie within the packet ──
 
-order-end : (es : List Entry) (place end : ℕ) → InOrder place es end → place ≤ end
-order-end [] place end p = omega (arith, p)
-order-end (e ∷ es) place end (inl p) = order-end es place end p.1
-order-end (e ∷ es) place end (inr p) = let q = order-end es (place + e.width) end p.2 in omega arith
+order_end : (es : List Entry) (place end : ℕ) → InOrder place es end → place ≤ end
+order_end [] place end p = omega (arith, p)
+order_end (e ∷ es) place end (inl p) = order_end es place end p.1
+order_end (e ∷ es) place end (inr p) = let q = order_end es (place + e.width) end p.2 in omega arith
 
-order-entry : (es : List Entry) (place end i : ℕ) → InOrder place es end
+order_entry : (es : List Entry) (place end i : ℕ) → InOrder place es end
     → (get_or es i absent).offset + (get_or es i absent).width ≤ end
-order-entry [] place end zero p = omega arith
-order-entry [] place end (suc i) p = omega arith
-order-entry (e ∷ es) place end zero (inl p) =
+order_entry [] place end zero p = omega arith
+order_entry [] place end (suc i) p = omega arith
+order_entry (e ∷ es) place end zero (inl p) =
     let o : e.offset ≡ 0 = ap (λ (x : Entry). x.offset) p.0 in
     let w : e.width ≡ 0 = ap (λ (x : Entry). x.width) p.0 in
     omega arith
-order-entry (e ∷ es) place end zero (inr p) =
-    let q = order-end es (place + e.width) end p.2 in
+order_entry (e ∷ es) place end zero (inr p) =
+    let q = order_end es (place + e.width) end p.2 in
     let o = p.1 in
     omega arith
-order-entry (e ∷ es) place end (suc i) (inl p) = order-entry es place end i p.1
-order-entry (e ∷ es) place end (suc i) (inr p) = order-entry es (place + e.width) end i p.2
+order_entry (e ∷ es) place end (suc i) (inl p) = order_entry es place end i p.1
+order_entry (e ∷ es) place end (suc i) (inr p) = order_entry es (place + e.width) end i p.2
 
-entry-inside : (e : Entry) (n : ℕ) → e.offset + e.width ≤ 8 * n → (entry_part e).start + (entry_part e).size ≤ n
-entry-inside e n h = go (is_whole e)
+entry_inside : (e : Entry) (n : ℕ) → e.offset + e.width ≤ 8 * n → (entry_part e).start + (entry_part e).size ≤ n
+entry_inside e n h = go (is_whole e)
   where
     go : (x : Bool)
         → (cond x (record { start = e.offset / 8; size = e.width / 8 }) no_part).start
@@ -95,9 +95,9 @@ unfolding part_at
 bytes_part run es i b lt =
     let e = get_or es i absent in
     rw (
-      run-present run es i b lt,
-      run-number run es i 1 b lt (omega arith),
-      run-number run es i 2 b lt (omega arith),
+      run_present run es i b lt,
+      run_number run es i 1 b lt (omega arith),
+      run_number run es i 2 b lt (omega arith),
     )
     (nested (eqb e.present 1) (eqb (e.offset % 8) 0) (eqb (e.width % 8) 0) (e.offset / 8) (e.width / 8))
 
@@ -116,9 +116,9 @@ module _ (table packet : List ℕ) (i : ℕ) where
       go (yes g) = h g
       go (no n) = absurd (n good)
 
-  pub part_not-good : ChecksTable table (of_table TableAnswer.NotGood) → OnPacket table packet i (bytes_of 0 0)
+  pub part_not_good : ChecksTable table (of_table TableAnswer.NotGood) → OnPacket table packet i (bytes_of 0 0)
   unfolding part_by
-  part_not-good h = none_is go
+  part_not_good h = none_is go
     where
       go : (x : Dec (Good table)) → part_by x packet i ≡ no_part
       go (yes g) = absurd (not_good table h g)
@@ -134,7 +134,7 @@ module _ (table packet : List ℕ) (i : ℕ) where
 
   pub part_outside : Good table → two_at table 6 ≤ i → OnPacket table packet i (bytes_of 0 0)
   part_outside good le = by_good good (λ g. past_none (reading g.description packet) (λ es e.
-      omega (arith, good-count table g, entries-count g.description packet es e)))
+      omega (arith, good_count table g, entries_count g.description packet es e)))
 
   module _ (r : PacketAnswer) (numbers : List ℕ) (good : Good table) (reads : ReadsRun table packet r numbers) where
     pub part_refused : is_accepted r ≡ false → OnPacket table packet i (bytes_of 0 0)
@@ -148,7 +148,7 @@ module _ (table packet : List ℕ) (i : ℕ) where
       where
         entries : (g : Good table) → (es : List Entry) × (reading g.description packet ≡ complete es)
         entries g =
-            accepted-complete (reading g.description packet) (reading-told g.description packet) packet r
+            accepted_complete (reading g.description packet) (reading_told g.description packet) packet r
             (reads g.description g.within g.is_stored).answer h
 
         found : (g : Good table) → part_at numbers i ≡ of_part (entry_part (get_or (entries g).0 i absent))
@@ -156,7 +156,7 @@ module _ (table packet : List ℕ) (i : ℕ) where
             let es = (entries g).0 in
             let e = (entries g).1 in
             bytes_part numbers es i ((reads g.description g.within g.is_stored).front es e)
-            (omega (arith, good-count table g, entries-count g.description packet es e))
+            (omega (arith, good_count table g, entries_count g.description packet es e))
 
         is : (x : Dec (Good table)) → part_at numbers i ≡ of_part (part_by x packet i)
         is (yes g) = rw (entries g).1 (found g)
@@ -166,7 +166,7 @@ module _ (table packet : List ℕ) (i : ℕ) where
         within g =
             let es = (entries g).0 in
             let o = (cover_in_order g.description packet es (entries g).1).0 in
-            rw (found g) (entry-inside (get_or es i absent) (length packet) (order-entry es 0 (bit_total packet) i o))
+            rw (found g) (entry_inside (get_or es i absent) (length packet) (order_entry es 0 (bit_total packet) i o))
 
 -- ── what is handed back ──
 

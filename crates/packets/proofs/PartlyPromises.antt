@@ -18,9 +18,9 @@ use Rattle.rules.specs.Reading.{reading_in, entries_before}
 use Rattle.rules.specs.Promises.{reading_answer, Partly, leaves_partly, partly_outcome, ChecksTable, ReadsPartly}
 use Rattle.packets.specs.Walks.{Walks}
 use Rattle.packets.specs.RunRead.{count_in, RunBegins}
-use Rattle.packets.proofs.RunEntries.{length-joined}
-use Rattle.packets.proofs.WalkReads.{run-begins, walks_read}
-use Rattle.packets.proofs.PacketPromises.{not_good, good-count}
+use Rattle.packets.proofs.RunEntries.{length_joined}
+use Rattle.packets.proofs.WalkReads.{run_begins, walks_read}
+use Rattle.packets.proofs.PacketPromises.{not_good, good_count}
 
 -- the answer for a good table serves for every decision
 by_good : (table packet run : List ℕ) (p : Partly) → Good table
@@ -29,11 +29,11 @@ by_good table packet run p good h (yes g) = h g
 by_good table packet run p good h (no n) = absurd (n good)
 
 module _ (table packet run : List ℕ) where
-  pub partly-not-good : ChecksTable table (of_table TableAnswer.NotGood)
+  pub partly_not_good : ChecksTable table (of_table TableAnswer.NotGood)
       → ReadsPartly table packet run (leaves_partly (of_packet PacketAnswer.NotGood) run 0)
   unfolding of_packet
-  partly-not-good h (yes g) = absurd (not_good table h g)
-  partly-not-good h (no n) = refl
+  partly_not_good h (yes g) = absurd (not_good table h g)
+  partly_not_good h (no n) = refl
 
   pub partly_too_long : Good table → packet_most < length packet
       → ReadsPartly table packet run (leaves_partly (of_packet PacketAnswer.TooLong) run 0)
@@ -42,13 +42,13 @@ module _ (table packet run : List ℕ) where
       let far : ltb packet_most (length packet) ≡ true = lt-ltb packet_most (length packet) lt in
       by_good table packet run _ good (λ g. rw far)
 
-  pub partly-short-run : Good table → length packet ≤ packet_most → length run < 4 * two_at table 6
+  pub partly_short_run : Good table → length packet ≤ packet_most → length run < 4 * two_at table 6
       → ReadsPartly table packet run (leaves_partly (of_packet PacketAnswer.ShortRun) run 0)
   unfolding of_packet partly_outcome
-  partly-short-run good le lt =
+  partly_short_run good le lt =
       let near : ltb packet_most (length packet) ≡ false = le-ltb packet_most (length packet) le in
       by_good table packet run _ good (λ g.
-      let n = good-count table g in
+      let n = good_count table g in
       let few : ltb (length run) (4 * length g.description.fields) ≡ true =
       lt-ltb (length run) (4 * length g.description.fields) (omega arith) in
       rw (near, few))
@@ -59,24 +59,24 @@ module _ (table packet run : List ℕ) where
       (walks : Walks table packet own r numbers) (is : n ≡ count_in r (two_at table 6)) where
     begun : (g : Good table)
         → RunBegins (length g.description.fields) (entries_before g.description packet) r numbers
-    begun g = run-begins g.description table packet own r numbers g.within g.is_stored long le walks
+    begun g = run_begins g.description table packet own r numbers g.within g.is_stored long le walks
 
     counted : (g : Good table) → n ≡ length (entries_before g.description packet)
-    counted g = is ∙ rw (good-count table g) (begun g).count
+    counted g = is ∙ rw (good_count table g) (begun g).count
 
-    pub partly-most : n ≤ two_at table 6
-    partly-most = omega (arith, counted good, (begun good).most, good-count table good)
+    pub partly_most : n ≤ two_at table 6
+    partly_most = omega (arith, counted good, (begun good).most, good_count table good)
 
-    pub partly-read : 4 * two_at table 6 ≤ length run
+    pub partly_read : 4 * two_at table 6 ≤ length run
         → ReadsPartly table packet run
         (leaves_partly (of_packet r) (take (4 * n) numbers ++ drop (4 * n) run) n)
     unfolding partly_outcome
-    partly-read room =
+    partly_read room =
         let near : ltb packet_most (length packet) ≡ false = le-ltb packet_most (length packet) le in
         by_good table packet run _ good (λ g.
-        let k = good-count table g in
+        let k = good_count table g in
         let many : ltb (length run) (4 * length g.description.fields) ≡ false =
         le-ltb (length run) (4 * length g.description.fields) (omega arith) in
         let e = (walks_read table packet own long le walks g.description g.within g.is_stored).answer in
         let es = entries_before g.description packet in
-        rw (near, many, e, counted g, (begun g).front, length-joined es))
+        rw (near, many, e, counted g, (begun g).front, length_joined es))

@@ -5,8 +5,8 @@ use Prim.Native.Nat.{ℕ, ◌+◌, ◌-◌, ◌<◌, ◌≤◌}
 use native.Mathlib.Omega.{arith}
 use lib.ListN.{length}
 use Rattle.laws.specs.Places.{Stands, IsBytes, two_at}
-use Rattle.laws.proofs.Places.{stands-none, stands_join, stands-left, stands-right}
-use Rattle.laws.proofs.PlacesOfNumbers.{length-le2, stands-two, two-stands}
+use Rattle.laws.proofs.Places.{stands_none, stands_join, stands_left, stands_right}
+use Rattle.laws.proofs.PlacesOfNumbers.{length_le2, stands_two, two_stands}
 use Rattle.rules.specs.Trees.{le2}
 use Rattle.rules.specs.Fields.{Width, fixed, measured, rest}
 use Rattle.rules.specs.Stored.{
@@ -21,15 +21,15 @@ use Rattle.packets.specs.PartsStand.{In, WidthStands}
 -- ── a length and the bytes behind it ──
 
 module _ (s : List ℕ) (a b : ℕ) (l : List ℕ) where
-  pub counted-length : length l < 65536 → Stands s a (counted l) b → two_at s a ≡ length l
-  counted-length h p = stands-two s a (a + length (le2 (length l))) (length l) (stands-left s a b (le2
+  pub counted_length : length l < 65536 → Stands s a (counted l) b → two_at s a ≡ length l
+  counted_length h p = stands_two s a (a + length (le2 (length l))) (length l) (stands_left s a b (le2
       (length l)) l p) h
 
   pub counted_in : length l < 65536 → Stands s a (counted l) b → In s (span_at s a) l × (ending (span_at s a) ≡ b)
   counted_in h p =
-      let e = counted-length h p in
-      let q = stands-right s a b (le2 (length l)) l p in
-      let n : a + length (le2 (length l)) ≡ a + 2 = rw (length-le2 (length l)) in
+      let e = counted_length h p in
+      let q = stands_right s a b (le2 (length l)) l p in
+      let n : a + length (le2 (length l)) ≡ a + 2 = rw (length_le2 (length l)) in
       let q' : Stands s (a + 2) l b = rw n at q in
       let m : ending (span_at s a) ≡ b = omega (arith, e, q'.end) in
       (rw m q', m)
@@ -38,7 +38,7 @@ module _ (s : List ℕ) (a b : ℕ) (l : List ℕ) where
       (counted l) b
   counted_build h le m p =
       let e : two_at s a ≡ length l = omega (arith, p.end) in
-      stands_join s a (a + 2) b (le2 (length l)) l (rw e at (two-stands s a h le)) (rw m at p)
+      stands_join s a (a + 2) b (le2 (length l)) l (rw e at (two_stands s a h le)) (rw m at p)
 
 -- ── a width ──
 
@@ -53,23 +53,23 @@ module _ (s : List ℕ) (a b : ℕ) where
       → WidthStands s (width_at s (kind_number w) a).number (width_at s (kind_number w) a).tree w
       × ((width_at s (kind_number w) a).next ≡ b)
   unfolding width_at
-  width_in (fixed n) h p = (stands-two s a b n p h, omega (arith, p.end, length-le2 n))
+  width_in (fixed n) h p = (stands_two s a b n p h, omega (arith, p.end, length_le2 n))
   width_in (measured u t) h p =
-      let l = stands-left s a b (le2 u) (counted (stored_expression t)) p in
-      let r = stands-right s a b (le2 u) (counted (stored_expression t)) p in
-      let n : a + length (le2 u) ≡ a + 2 = rw (length-le2 u) in
+      let l = stands_left s a b (le2 u) (counted (stored_expression t)) p in
+      let r = stands_right s a b (le2 u) (counted (stored_expression t)) p in
+      let n : a + length (le2 u) ≡ a + 2 = rw (length_le2 u) in
       let r' : Stands s (a + 2) (counted (stored_expression t)) b = rw n at r in
       let q = counted_in s (a + 2) b (stored_expression t) h.1 r' in
-      ((stands-two s a (a + length (le2 u)) u l h.0, q.0), q.1)
+      ((stands_two s a (a + length (le2 u)) u l h.0, q.0), q.1)
   width_in rest h p = (tt, omega (arith, p.end))
 
   pub width_build : (w : Width ℕ) → IsBytes s → b ≤ length s
       → WidthStands s (width_at s (kind_number w) a).number (width_at s (kind_number w) a).tree w
       → (width_at s (kind_number w) a).next ≡ b → Stands s a (stored_width w) b
   unfolding width_at
-  width_build (fixed n) h le p e = rw (p, e) at (two-stands s a h (omega arith))
+  width_build (fixed n) h le p e = rw (p, e) at (two_stands s a h (omega arith))
   width_build (measured u t) h le p e =
       stands_join s a (a + 2) b (le2 u) (counted (stored_expression t))
-      (rw p.0 at (two-stands s a h (omega arith)))
+      (rw p.0 at (two_stands s a h (omega arith)))
       (counted_build s (a + 2) b (stored_expression t) h (omega arith) e p.1)
-  width_build rest h le p e = rw e (stands-none s b)
+  width_build rest h le p e = rw e (stands_none s b)

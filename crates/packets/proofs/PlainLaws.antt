@@ -37,12 +37,12 @@ none_other (t ∷ l) = go (is_plain t) (none_other l)
     go true h = h
     go false h = refl
 
-plain-found : (before fs : List (Field ℕ))
+plain_found : (before fs : List (Field ℕ))
     → ltb (or_end (length before + length fs) (first_break (lacks Added) before fs)) (length before + length fs)
     ≡ not (all is_plain_field fs)
 unfolding all first_break
-plain-found before [] = le-ltb (length before + 0) (length before + 0) (omega arith)
-plain-found before (f ∷ fs) = rw (none_other (trees f)) (go (is_plain_field f) (plain-found (before ++ (f ∷ [])) fs))
+plain_found before [] = le-ltb (length before + 0) (length before + 0) (omega arith)
+plain_found before (f ∷ fs) = rw (none_other (trees f)) (go (is_plain_field f) (plain_found (before ++ (f ∷ [])) fs))
   where
     n : ℕ
     n = length before + suc (length fs)
@@ -68,4 +68,4 @@ adds_stored numbers s fs place end r hf hs le p =
     let z = zero-add (length fs) in
     let e : having_from Added s 0 (length fs) place ≡ or_end (length fs) (first_break (lacks Added) [] fs) =
     rw z at (having_stored Added numbers 0 s [] fs place end r hf hs le p) in
-    rw e (rw z at (plain-found [] fs))
+    rw e (rw z at (plain_found [] fs))

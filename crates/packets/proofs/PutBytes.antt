@@ -8,10 +8,10 @@ use lib.Dec.{ltb}
 use lib.ListN.{length, take, drop, length-append, length-drop, take-append-drop}
 use lib.Seq.{length-take-le, take_at}
 use Rattle.base.specs.Lists.{all}
-use Rattle.base.proofs.Lists.{all-front, all_back}
+use Rattle.base.proofs.Lists.{all_front, all_back}
 use Rattle.laws.specs.Places.{two_at}
 use Rattle.laws.proofs.Whole.{is_sound, within_sound, sound_kept}
-use Rattle.laws.proofs.ReadsBelow.{reads_below, fields-alike}
+use Rattle.laws.proofs.ReadsBelow.{reads_below, fields_alike}
 use Rattle.laws.proofs.PutCandidate.{moved, candidate}
 use Rattle.rules.specs.Limits.{fields_most}
 use Rattle.rules.specs.Fields.{Field, Description}
@@ -25,40 +25,40 @@ use Rattle.packets.specs.Parts.{table_most}
 use Rattle.packets.specs.Lookups.{place_from}
 use Rattle.packets.specs.Shifts.{shifted_from}
 use Rattle.packets.specs.EditSteps.{start_with, MayPut}
-use Rattle.packets.proofs.TableHead.{head_first, head-count}
-use Rattle.packets.proofs.EditWrites.{more-put, rest_of, in_front_lem}
+use Rattle.packets.proofs.TableHead.{head_first, head_count}
+use Rattle.packets.proofs.EditWrites.{more_put, rest_of, in_front_lem}
 use Rattle.packets.proofs.EditBytes.{
   head_with,
   head_stays,
   parted,
   place_is,
-  behind-place,
+  behind_place,
   start_is,
   place_bounds,
 }
-use Rattle.packets.proofs.ShiftLaws.{renumbered-length, shifted_stored}
+use Rattle.packets.proofs.ShiftLaws.{renumbered_length, shifted_stored}
 
-take-map : (f : Field ℕ → Field ℕ) (n : ℕ) (l : List (Field ℕ)) → take n (map f l) ≡ map f (take n l)
-take-map f zero l = refl
-take-map f (suc n) [] = refl
-take-map f (suc n) (x ∷ l) = ap (λ (r : List (Field ℕ)). f x ∷ r) (take-map f n l)
+take_map : (f : Field ℕ → Field ℕ) (n : ℕ) (l : List (Field ℕ)) → take n (map f l) ≡ map f (take n l)
+take_map f zero l = refl
+take_map f (suc n) [] = refl
+take_map f (suc n) (x ∷ l) = ap (λ (r : List (Field ℕ)). f x ∷ r) (take_map f n l)
 
-drop-map : (f : Field ℕ → Field ℕ) (n : ℕ) (l : List (Field ℕ)) → drop n (map f l) ≡ map f (drop n l)
-drop-map f zero l = refl
-drop-map f (suc n) [] = refl
-drop-map f (suc n) (x ∷ l) = drop-map f n l
+drop_map : (f : Field ℕ → Field ℕ) (n : ℕ) (l : List (Field ℕ)) → drop n (map f l) ≡ map f (drop n l)
+drop_map f zero l = refl
+drop_map f (suc n) [] = refl
+drop_map f (suc n) (x ∷ l) = drop_map f n l
 
 -- a test of each field holds of those before and behind a place
-all-parts : (p : Field ℕ → Bool) (at : ℕ) (fs : List (Field ℕ)) → all p fs ≡ true
+all_parts : (p : Field ℕ → Bool) (at : ℕ) (fs : List (Field ℕ)) → all p fs ≡ true
     → (all p (take at fs) ≡ true) × (all p (drop at fs) ≡ true)
-all-parts p at fs h =
+all_parts p at fs h =
     let w : all p (take at fs ++ drop at fs) ≡ true = rw (take-append-drop at fs) h in
-    (all-front p (take at fs) (drop at fs) w, all_back p (take at fs) (drop at fs) w)
+    (all_front p (take at fs) (drop at fs) w, all_back p (take at fs) (drop at fs) w)
 
 -- in one byte an index goes up by few fields
-up-alike : (at n i : ℕ) → i + n < 256 → new_index (record { from = at; by = n; up = true }) i ≡ opened at n i
+up_alike : (at n i : ℕ) → i + n < 256 → new_index (record { from = at; by = n; up = true }) i ≡ opened at n i
 unfolding new_index opened
-up-alike at n i byte = go (ltb i at)
+up_alike at n i byte = go (ltb i at)
   where
     go : (b : Bool) → cond b i (i + n) % 256 ≡ cond b i (i + n)
     go true = omega arith
@@ -92,10 +92,10 @@ module _ (table : List ℕ) (good : Good table) (at k : ℕ) (bytes : List ℕ)
     pub candidate_length : length (candidate at k numbers bytes d) ≡ length table + length bytes
     candidate_length =
         let f = renumbered (opened at k) in
-        let x = ap (λ (l : List (Field ℕ)). length (records numbers 0 l)) (take-map f at fs)
-        ∙ renumbered-length (opened at k) numbers 0 xs in
-        let y = ap (λ (l : List (Field ℕ)). length (records numbers at l)) (drop-map f at fs)
-        ∙ renumbered-length (opened at k) numbers at ys in
+        let x = ap (λ (l : List (Field ℕ)). length (records numbers 0 l)) (take_map f at fs)
+        ∙ renumbered_length (opened at k) numbers 0 xs in
+        let y = ap (λ (l : List (Field ℕ)). length (records numbers at l)) (drop_map f at fs)
+        ∙ renumbered_length (opened at k) numbers at ys in
         let first = record_of 1 (head_body d) in
         let a = records numbers 0 (take at (moved at k d)) in
         let b = records numbers at (drop at (moved at k d)) in
@@ -146,32 +146,32 @@ module _ (table : List ℕ) (at k : ℕ) (bytes : List ℕ) (may : MayPut table 
 
   pub put_bounds : (at ≤ two_at table 6) × (two_at table 6 + k ≤ fields_most)
   put_bounds =
-      let c = head-count into table good.is_stored good.within in
+      let c = head_count into table good.is_stored good.within in
       (omega (arith, may.inside, c), omega (arith, may.few, c))
 
-  pub place-room : (place : ℕ) → place ≡ place_from table at (two_at table 0)
+  pub place_room : (place : ℕ) → place ≡ place_from table at (two_at table 0)
       → (8 ≤ place) × (place ≤ length table) × (length table + length bytes ≤ table_most)
-  place-room place is =
+  place_room place is =
       let b = place_bounds table good at place may.inside is in
       (b.0, b.1, may.short)
 
   -- by the new numbering in one byte
   alike : (l : List (Field ℕ)) → all (λ f. all (λ i. ltb i count) (field_reads f)) l ≡ true
       → map (renumbered g) l ≡ map (renumbered (opened at k)) l
-  alike l h = fields-alike g (opened at k) count (λ i lt. up-alike at k i (omega (arith, lt, may.few))) l h
+  alike l h = fields_alike g (opened at k) count (λ i lt. up_alike at k i (omega (arith, lt, may.few))) l h
 
-  both-alike : (map (renumbered g) before ≡ take at (moved at k into))
+  both_alike : (map (renumbered g) before ≡ take at (moved at k into))
       × (map (renumbered g) behind ≡ drop at (moved at k into))
-  both-alike =
-      let p = all-parts _ at into.fields (reads_below into good.within) in
+  both_alike =
+      let p = all_parts _ at into.fields (reads_below into good.within) in
       let f = renumbered (opened at k) in (
-        alike before p.0 ∙ sym (take-map f at into.fields),
+        alike before p.0 ∙ sym (take_map f at into.fields),
         alike behind p.1 ∙ sym
-            (drop-map f at into.fields),
+            (drop_map f at into.fields),
       )
 
   sound : (all is_sound before ≡ true) × (all is_sound behind ≡ true)
-  sound = all-parts is_sound at into.fields (within_sound [] into.fields good.within.form good.within.size)
+  sound = all_parts is_sound at into.fields (within_sound [] into.fields good.within.form good.within.size)
 
   -- the records before the place and behind it get the new numbering
   shifted_all : (s t u post : List ℕ) (to : ℕ)
@@ -197,7 +197,7 @@ module _ (table : List ℕ) (at k : ℕ) (bytes : List ℕ) (may : MayPut table 
         place,
         length-append first (x ++ bytes),
         length-append x bytes,
-        renumbered-length g kept 0 before,
+        renumbered_length g kept 0 before,
       ) in
       let regrouped : t ≡ pre ++ (old ++ (end ++ post)) =
       one ∙ ap (λ (l : List ℕ). first ++ l) (sym (append_assoc x bytes (old ++ (end ++ post))))
@@ -209,7 +209,7 @@ module _ (table : List ℕ) (at k : ℕ) (bytes : List ℕ) (may : MayPut table 
       let y' = records kept at (drop at (moved at k into)) in
       two
       ∙ ap₂ {C = List ℕ} (λ (a b : List ℕ). (first ++ (a ++ bytes)) ++ (b ++ (end ++ post)))
-      (ap (records kept 0) both-alike.0) (ap (records kept at) both-alike.1)
+      (ap (records kept 0) both_alike.0) (ap (records kept at) both_alike.1)
       ∙ regroup first x' bytes y' end post
     where
       regroup : (h a b c e p : List ℕ)
@@ -217,49 +217,49 @@ module _ (table : List ℕ) (at k : ℕ) (bytes : List ℕ) (may : MayPut table 
       regroup h a b c e p = simp append_assoc refl
 
   module _ (scratch s₁ s₂ s₃ s₄ s₅ : List ℕ) (n head place to next size : ℕ) (is_n : n ≡ two_at table 6)
-      (is-head : head ≡ two_at table 0) (is-place : place ≡ place_from table at (two_at table 0))
+      (is_head_lem : head ≡ two_at table 0) (is_place : place ≡ place_from table at (two_at table 0))
       (room : length scratch ≡ table_most) where
     n_is : n ≡ count
-    n_is = is_n ∙ head-count into table good.is_stored good.within
+    n_is = is_n ∙ head_count into table good.is_stored good.within
 
     start : start_with table place (n + k) ≡ first ++ records kept 0 before
     start =
         ap (start_with table place) (ap (λ (m : ℕ). m + k) n_is)
-        ∙ start_is table good at place may.inside is-place (count + k)
+        ∙ start_is table good at place may.inside is_place (count + k)
 
-    rest-is : drop place table ≡ records kept at behind ++ end
-    rest-is = behind-place table good at place may.inside is-place
+    rest_is : drop place table ≡ records kept at behind ++ end
+    rest_is = behind_place table good at place may.inside is_place
 
     lengths : length first + length (records kept 0 before) ≡ place
     lengths =
-        let p = is-place ∙ place_is table good at may.inside in
+        let p = is_place ∙ place_is table good at may.inside in
         let h = record_of 1 (head_body into) in
         omega (arith, p, head_stays into (count + k), length-append h (records kept 0 before))
 
-    abbrev rest-there : List ℕ → List ℕ
-    rest-there post = records kept at behind ++ (end ++ post)
+    abbrev rest_there : List ℕ → List ℕ
+    rest_there post = records kept at behind ++ (end ++ post)
 
     -- what was written, and where the records handed in end
     written : Writes scratch 0 (start_with table place (n + k)) s₁ to → placed next s₂ ≡ put s₁ to bytes
         → placed size s₃ ≡ put s₂ next (take (length table - place) (drop place table))
-        → (s₃ ≡ first ++ (records kept 0 before ++ (bytes ++ rest-there (drop size s₃))))
+        → (s₃ ≡ first ++ (records kept 0 before ++ (bytes ++ rest_there (drop size s₃))))
         × (next ≡ length first + length (records kept 0 before) + length bytes)
         × (size ≡ length table + length bytes)
     written w e₂ e₃ =
-        let r = place-room place is-place in
+        let r = place_room place is_place in
         let front = start_with table place (n + k) in
         let l₁ = ap length start in
         let l₂ = length-append first (records kept 0 before) in
         let l₃ = length-drop place table in
         let l₄ = length-append front bytes in
         let l₅ = length-append (front ++ bytes) (drop place table) in
-        let w₂ = more-put bytes w (omega (arith, l₁, l₂, lengths, r, room)) e₂ in
+        let w₂ = more_put bytes w (omega (arith, l₁, l₂, lengths, r, room)) e₂ in
         let e₃' : placed size s₃ ≡ put s₂ next (drop place table) = rw (rest_of table place) at e₃ in
-        let w₃ = more-put (drop place table) w₂ (omega (arith, l₁, l₂, l₃, l₄, lengths, r, room)) e₃' in
+        let w₃ = more_put (drop place table) w₂ (omega (arith, l₁, l₂, l₃, l₄, lengths, r, room)) e₃' in
         let f₂ = in_front_lem w₂ in
         let f₃ = in_front_lem w₃ in (
           f₃.0
-              ∙ ap₂ {C = List ℕ} (λ (a b : List ℕ). ((a ++ bytes) ++ b) ++ drop size s₃) start rest-is
+              ∙ ap₂ {C = List ℕ} (λ (a b : List ℕ). ((a ++ bytes) ++ b) ++ drop size s₃) start rest_is
               ∙ regroup first (records kept 0 before) bytes (records kept at behind) end (drop size s₃),
           omega (arith, f₂.1, l₁, l₂, l₄),
           omega (arith, f₃.1, l₅, l₄, l₁, l₂, l₃, lengths, r.1),
@@ -275,17 +275,17 @@ module _ (table : List ℕ) (at k : ℕ) (bytes : List ℕ) (may : MayPut table 
         → (candidate at k kept bytes into ≡ take (size - 0) s₅) × (size ≤ length s₅)
     put_ready w e₂ e₃ e₄ e₅ =
         let there = written w e₂ e₃ in
-        let r = place-room place is-place in
+        let r = place_room place is_place in
         let post = drop size s₃ in
-        let l₁ = ap length rest-is in
+        let l₁ = ap length rest_is in
         let l₂ = length-append (records kept at behind) end in
         let l₃ = length-drop place table in
         let before_n : at ≡ length before = sym (length-take-le at into.fields may.inside) in
         let behind_n : n - at ≡ length behind = omega (arith, n_is, length-drop at into.fields) in
-        let head-is : head ≡ length first =
-        is-head ∙ head_first into table good.is_stored good.within ∙ sym (head_stays into (count + k)) in
+        let head_is_lem : head ≡ length first =
+        is_head_lem ∙ head_first into table good.is_stored good.within ∙ sym (head_stays into (count + k)) in
         let done = shifted_all s₃ s₄ s₅ post next there.0 (omega (arith, lengths, l₁, l₂, l₃, r)) there.1
-        (e₄ ∙ ap₂ {C = List ℕ} (λ (a b : ℕ). shifted_from g a b s₃) before_n head-is)
+        (e₄ ∙ ap₂ {C = List ℕ} (λ (a b : ℕ). shifted_from g a b s₃) before_n head_is_lem)
         (e₅ ∙ ap (λ (a : ℕ). shifted_from g a next s₄) behind_n) in
         let made = candidate at k kept bytes into in
         let sizes : length made ≡ size - 0 =

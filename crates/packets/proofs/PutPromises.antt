@@ -9,7 +9,7 @@ use lib.ListN.{length}
 use borrow.Author.Tests.{lt-ltb, le-ltb}
 use Rattle.base.specs.Lists.{is_empty}
 use Rattle.laws.specs.Places.{two_at}
-use Rattle.laws.proofs.PutCandidate.{candidate, joins_whole, whole-count, joins_few, joins_candidate, put-judged}
+use Rattle.laws.proofs.PutCandidate.{candidate, joins_whole, whole_count, joins_few, joins_candidate, put_judged}
 use Rattle.rules.specs.declared.TableAnswer.{TableAnswer}
 use Rattle.rules.specs.declared.EditAnswer.{EditAnswer}
 use Rattle.rules.specs.Limits.{fields_most}
@@ -24,14 +24,14 @@ use Rattle.packets.specs.declared.edits.Counted.{Counted}
 use Rattle.packets.specs.declared.edits.Counted.TheVariants.{Records, Bad}
 use Rattle.packets.specs.Parts.{table_most}
 use Rattle.packets.specs.EditSteps.{Judged, right, wrong, CountsTo, MayPut}
-use Rattle.packets.proofs.TableHead.{head-count, count_most}
-use Rattle.packets.proofs.TableParts.{stored-length, table-length}
+use Rattle.packets.proofs.TableHead.{head_count, count_most}
+use Rattle.packets.proofs.TableParts.{stored_length_lem, table_length}
 use Rattle.packets.proofs.PacketPromises.{not_good}
-use Rattle.packets.proofs.CutPromises.{one-description}
+use Rattle.packets.proofs.CutPromises.{one_description}
 use Rattle.packets.proofs.PutBytes.{candidate_length}
 
-pub good-short : (table : List ℕ) → Good table → length table ≤ table_most
-good-short table g = stored-length g.description g.within table g.is_stored
+pub good_short : (table : List ℕ) → Good table → length table ≤ table_most
+good_short table g = stored_length_lem g.description g.within table g.is_stored
 
 module _ (table bytes out : List ℕ) (at : ℕ) where
   abbrev Puts : Outcome → Type 0
@@ -50,21 +50,21 @@ module _ (table bytes out : List ℕ) (at : ℕ) where
     by_good : (o : Outcome)
         → ((joins : (e : Description) → Dec (Joins at bytes e)) → o ≡ put_outcome at bytes d (joins d) out) → Puts o
     by_good o h (yes g) joins =
-        h joins ∙ ap (λ (e : Description). put_outcome at bytes e (joins e) out) (one-description table good g)
+        h joins ∙ ap (λ (e : Description). put_outcome at bytes e (joins e) out) (one_description table good g)
     by_good o h (no bad) joins = absurd (bad good)
 
-    pub put-none : length bytes ≡ 0 → Puts (leaves (of_edit EditAnswer.NoFields) out)
+    pub put_none : length bytes ≡ 0 → Puts (leaves (of_edit EditAnswer.NoFields) out)
     unfolding of_edit put_outcome
-    put-none e = by_good _ (λ joins. rw (go bytes e) refl)
+    put_none e = by_good _ (λ joins. rw (go bytes e) refl)
       where
         go : (l : List ℕ) → length l ≡ 0 → is_empty l ≡ true
         go [] z = refl
         go (b ∷ l) z = absurd (omega (arith, z))
 
-    pub put-beyond : two_at table 6 < at → Puts (leaves (of_edit EditAnswer.NoFields) out)
+    pub put_beyond : two_at table 6 < at → Puts (leaves (of_edit EditAnswer.NoFields) out)
     unfolding of_edit put_outcome
-    put-beyond lt =
-        let c = head-count d table good.is_stored good.within in
+    put_beyond lt =
+        let c = head_count d table good.is_stored good.within in
         by_good _ (λ joins. rw (lt-ltb (length d.fields) at (omega (arith, c, lt))) (go (is_empty bytes) joins))
       where
         go : (b : Bool) (joins : (e : Description) → Dec (Joins at bytes e))
@@ -77,9 +77,9 @@ module _ (table bytes out : List ℕ) (at : ℕ) where
       placed_at : (is_empty bytes || ltb (length d.fields) at) ≡ false
       placed_at = rw (given, le-ltb (length d.fields) at inside) refl
 
-      put-not : (Joins at bytes d → ⊥) → Puts (leaves (refused 34 0) out)
+      put_not : (Joins at bytes d → ⊥) → Puts (leaves (refused 34 0) out)
       unfolding put_outcome
-      put-not none_do = by_good _ (λ joins. rw placed_at (go (joins d)))
+      put_not none_do = by_good _ (λ joins. rw placed_at (go (joins d)))
         where
           go : (x : Dec (Joins at bytes d)) → leaves (refused 34 0) out ≡ by_records x out
           go (yes j) = absurd (none_do j)
@@ -103,7 +103,7 @@ module _ (table bytes out : List ℕ) (at : ℕ) where
           go (b ∷ l) n = refl
 
       inside : at ≤ length d.fields
-      inside = omega (arith, at_most, head-count d table good.is_stored good.within)
+      inside = omega (arith, at_most, head_count d table good.is_stored good.within)
 
       -- what joins is no longer than a table may be
       short : Joins at bytes d → length table + length bytes ≤ table_most
@@ -114,24 +114,24 @@ module _ (table bytes out : List ℕ) (at : ℕ) where
             arith,
             candidate_length table good at (length j.fields) bytes inside,
             ap length q.1,
-            table-length q.0 (put at j.fields d) j.within,
+            table_length q.0 (put at j.fields d) j.within,
           )
 
-      pub put-long : table_most - length table < length bytes → Puts (leaves (of_edit EditAnswer.BeyondLimits) out)
+      pub put_long : table_most - length table < length bytes → Puts (leaves (of_edit EditAnswer.BeyondLimits) out)
       unfolding of_edit
-      put-long lt =
-          put-not given inside
+      put_long lt =
+          put_not given inside
           (λ j. let le = short j in
-          omega (arith, le, lt, good-short table good))
+          omega (arith, le, lt, good_short table good))
 
       module _ (most : ℕ) (limit : most ≡ fields_most - two_at table 6) where
-        pub put-uncounted : (r : Counted) → CountsTo bytes most r → r ≡ Bad
+        pub put_uncounted : (r : Counted) → CountsTo bytes most r → r ≡ Bad
             → Puts (leaves (of_edit EditAnswer.BeyondLimits) out)
         unfolding of_edit
-        put-uncounted r h e =
+        put_uncounted r h e =
             let none_do : CountsTo bytes most Bad = rw e at h in
-            let c = head-count d table good.is_stored good.within in
-            put-not given inside
+            let c = head_count d table good.is_stored good.within in
+            put_not given inside
             (λ j. none_do (length j.fields)
             (omega (arith, joins_few at bytes d j, limit, c)) (joins_whole at bytes d j))
 
@@ -139,8 +139,8 @@ module _ (table bytes out : List ℕ) (at : ℕ) where
             → length bytes ≤ table_most - length table → MayPut table at k bytes
         may_put r k h e fits =
             let q : CountsTo bytes most (Records k) = rw e at h in
-            let c = head-count d table good.is_stored good.within in
-            let l = good-short table good in
+            let c = head_count d table good.is_stored good.within in
+            let l = good_short table good in
             let few = count_most d good.within in record {
               good = good;
               inside = inside;
@@ -151,19 +151,19 @@ module _ (table bytes out : List ℕ) (at : ℕ) where
             }
 
   -- what was built of records with a place for them was judged
-  pub judged-put : (k : ℕ) (may : MayPut table at k bytes) (built : List ℕ)
+  pub judged_put : (k : ℕ) (may : MayPut table at k bytes) (built : List ℕ)
       → candidate at k (readers may.good.description.fields) bytes may.good.description ≡ built → (o : Outcome)
       → Judged built out o → Puts o
-  judged-put k may built is o (right other c within same) =
+  judged_put k may built is o (right other c within same) =
       let d = may.good.description in
       let n = readers d.fields in
-      let j = put-judged at k n bytes d may.good.within (omega (arith, may.few)) may.records other c within
+      let j = put_judged at k n bytes d may.good.within (omega (arith, may.few)) may.records other c within
       (same ∙ sym is) in
       subst Puts (ap (λ (x : Description). delivered (stored x) out) j.1)
       (put_right may.good may.given may.inside j.0)
-  judged-put k may built is o (wrong none_is) =
+  judged_put k may built is o (wrong none_is) =
       let d = may.good.description in
       let n = readers d.fields in
-      put-not may.good may.given may.inside
-      (λ j. let q = joins_candidate at k n bytes d j (whole-count at bytes d k may.records j) in
+      put_not may.good may.given may.inside
+      (λ j. let q = joins_candidate at k n bytes d j (whole_count at bytes d k may.records j) in
       none_is q.0 (put at j.fields d) j.within (sym q.1 ∙ is))

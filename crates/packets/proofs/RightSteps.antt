@@ -5,7 +5,7 @@ use mathlib.Core.List.{List, []}
 use Prim.Native.Nat.{ℕ, ◌+◌, ◌%◌, ◌<◌, ◌≤◌}
 use native.Mathlib.Omega.{arith}
 use lib.ListN.{length, get_or, take}
-use Rattle.base.proofs.Lists.{not-both}
+use Rattle.base.proofs.Lists.{not_both}
 use Rattle.laws.specs.Places.{two_at}
 use Rattle.packets.specs.declared.tables.Walked.{Walked}
 use Rattle.packets.specs.declared.tables.Walked.TheVariants.{Past, Bad}
@@ -13,33 +13,33 @@ use Rattle.packets.specs.Parts.{table_most}
 use Rattle.packets.specs.NamesTest.{places_from}
 use Rattle.packets.specs.CountsTest.{reads_from, kept_from, numbers_test}
 use Rattle.packets.specs.TableTest.{walk_at, head_test, after_fields, fields_test, GatheredAll}
-use Rattle.packets.proofs.NameSteps.{same_place, all-places}
+use Rattle.packets.proofs.NameSteps.{same_place, all_places}
 use Rattle.packets.proofs.CountSteps.{kept_like}
-use Rattle.packets.proofs.TableSteps.{head-is, walk-places}
+use Rattle.packets.proofs.TableSteps.{head_is_lem, walk_places}
 
 -- the places of the records lie in the table
-pub right-places : (s places : List ℕ) → length s ≤ table_most → head_test s ≡ true → fields_test s ≡ true
+pub right_places : (s places : List ℕ) → length s ≤ table_most → head_test s ≡ true → fields_test s ≡ true
     → take (two_at s 6) places ≡ places_from s (two_at s 6) (10 + two_at s 8)
     → (i : ℕ) → i < two_at s 6 → get_or places i 0 ≤ table_most
-right-places s places short head fields e i lt =
+right_places s places short head fields e i lt =
     go (walk_at (two_at s 4) (two_at s 6) [] 0 false s (10 + two_at s 8)) refl fields
   where
     go : (x : Walked) → walk_at (two_at s 4) (two_at s 6) [] 0 false s (10 + two_at s 8) ≡ x → after_fields s x ≡ true
         → get_or places i 0 ≤ table_most
     go (Past at) is f =
-        (all-places s (two_at s 6) places (places_from s (two_at s 6) (10 + two_at s 8)) e
-        (walk-places _ _ _ _ _ _ _ _ short (head-is s head).end is) i lt).place
-    go Bad is f = absurd (not-both false f refl)
+        (all_places s (two_at s 6) places (places_from s (two_at s 6) (10 + two_at s 8)) e
+        (walk_places _ _ _ _ _ _ _ _ short (head_is_lem s head).end is) i lt).place
+    go Bad is f = absurd (not_both false f refl)
 
 pub gathered_true : (s places counts : List ℕ) {r : Bool} → r ≡ true → GatheredAll r s places counts
     → GatheredAll true s places counts
 gathered_true s places counts e g = rw e at g
 
 -- the counts are those that the test goes by
-pub right-numbers : (s places counts : List ℕ) (n : ℕ) {r : Bool} → r ≡ kept_from s places (λ i. get_or counts i 0) 0 n
+pub right_numbers : (s places counts : List ℕ) (n : ℕ) {r : Bool} → r ≡ kept_from s places (λ i. get_or counts i 0) 0 n
     → n ≡ two_at s 6 → GatheredAll true s places counts → two_at s 6 ≤ length counts
     → r ≡ numbers_test s (two_at s 6) (10 + two_at s 8)
-right-numbers s places counts n h is g le =
+right_numbers s places counts n h is g le =
     let all = places_from s (two_at s 6) (10 + two_at s 8) in
     h ∙ rw is
     (kept_like s places all (λ i. get_or counts i 0) (λ i. reads_from s 0 (two_at s 6) (10 + two_at s 8) i % 65536)

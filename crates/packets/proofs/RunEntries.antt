@@ -32,41 +32,41 @@ joined_at (e ∷ es) (suc i) k lt h =
     let z : 4 * suc i + k ≡ suc (suc (suc (suc (4 * i + k)))) = omega arith in
     rw z (joined_at es i k (omega arith) h)
 
-pub run-number : (run : List ℕ) (es : List Entry) (i k : ℕ) → Begins run es → i < length es → k < 4
+pub run_number : (run : List ℕ) (es : List Entry) (i k : ℕ) → Begins run es → i < length es → k < 4
     → get_or run (4 * i + k) 0 ≡ get_or (numbers_of (get_or es i absent)) k 0
-run-number run es i k b lt h =
+run_number run es i k b lt h =
     let j : 4 * i + k < 4 * length es = omega arith in
     sym (get_or-take (4 * length es) run (4 * i + k) 0 j) ∙ rw b (joined_at es i k lt h)
 
-pub run-present : (run : List ℕ) (es : List Entry) (i : ℕ) → Begins run es → i < length es
+pub run_present : (run : List ℕ) (es : List Entry) (i : ℕ) → Begins run es → i < length es
     → get_or run (4 * i) 0 ≡ (get_or es i absent).present
-run-present run es i b lt =
+run_present run es i b lt =
     let z : 4 * i + 0 ≡ 4 * i = omega arith in
-    rw z at (run-number run es i 0 b lt (omega arith))
+    rw z at (run_number run es i 0 b lt (omega arith))
 
-pub run-value : (run : List ℕ) (es : List Entry) (i : ℕ) → Begins run es → i < length es
+pub run_value_lem : (run : List ℕ) (es : List Entry) (i : ℕ) → Begins run es → i < length es
     → value_in es i ≡ run_value run i
 unfolding value_in
-run-value run es i b lt =
-    rw (run-present run es i b lt, run-number run es i 3 b lt (omega arith))
+run_value_lem run es i b lt =
+    rw (run_present run es i b lt, run_number run es i 3 b lt (omega arith))
 
 -- ── one entry more ──
 
-pub length-joined : (es : List Entry) → length (joined numbers_of es) ≡ 4 * length es
+pub length_joined : (es : List Entry) → length (joined numbers_of es) ≡ 4 * length es
 unfolding joined
-length-joined [] = refl
-length-joined (e ∷ es) = omega (arith, length-joined es, length-append (numbers_of e) (joined numbers_of es))
+length_joined [] = refl
+length_joined (e ∷ es) = omega (arith, length_joined es, length-append (numbers_of e) (joined numbers_of es))
 
-pub joined-more : (es : List Entry) (e : Entry)
+pub joined_more : (es : List Entry) (e : Entry)
     → joined numbers_of (es ++ (e ∷ [])) ≡ joined numbers_of es ++ numbers_of e
 unfolding joined
-joined-more [] e = refl
-joined-more (d ∷ es) e = rw (joined-more es e, append_assoc (numbers_of d) (joined numbers_of es) (numbers_of e))
+joined_more [] e = refl
+joined_more (d ∷ es) e = rw (joined_more es e, append_assoc (numbers_of d) (joined numbers_of es) (numbers_of e))
 
-put-take : (run : List ℕ) (i : ℕ) (e : Entry) → 4 * i + 4 ≤ length run
+put_take : (run : List ℕ) (i : ℕ) (e : Entry) → 4 * i + 4 ≤ length run
     → take (4 * i + 4) (put_at run i (numbers_in e)) ≡ take (4 * i) run ++ numbers_of e
 unfolding put_at
-put-take run i e h =
+put_take run i e h =
     let a = 4 * i in
     let r₁ = set run a e.present in
     let r₂ = set r₁ (a + 1) e.offset in
@@ -93,11 +93,11 @@ put-take run i e h =
     ap (λ k. take k (set r₃ (a + 3) e.value)) n₄ ∙ e₃ ∙ ap (λ l. l ++ (e.value ∷ [])) f₃
     ∙ simp append_assoc
 
-pub put-begins : (run : List ℕ) (es : List Entry) (e : Entry) → Begins run es → 4 * length es + 4 ≤ length run
+pub put_begins : (run : List ℕ) (es : List Entry) (e : Entry) → Begins run es → 4 * length es + 4 ≤ length run
     → Begins (put_at run (length es) (numbers_in e)) (es ++ (e ∷ []))
-put-begins run es e b h =
+put_begins run es e b h =
     let n : 4 * length (es ++ (e ∷ [])) ≡ 4 * length es + 4 = omega (arith, length-append es (e ∷ [])) in
-    rw (n, joined-more es e, ← b) (put-take run (length es) e h)
+    rw (n, joined_more es e, ← b) (put_take run (length es) e h)
 
 -- what stands before an entry stays
 pub put_keeps : (run : List ℕ) (es : List Entry) (i : ℕ) (e : Numbers) → length es ≤ i → Begins run es
@@ -128,4 +128,4 @@ pub run_agrees : (before : List (Field ℕ)) (es : List Entry) (run : List ℕ) 
     → (i : ℕ) → index_readable before i ≡ true → run_value run i ≡ value_in es i
 run_agrees before es run e b i h =
     let lt = readable_listed before i h in
-    sym (run-value run es i b (omega arith))
+    sym (run_value_lem run es i b (omega arith))

@@ -8,11 +8,11 @@ use lib.ListN.{length, drop, length-append}
 use lib.Seq.{take-append_seam, drop-append_seam}
 use borrow.Author.Tests.{le-ltb, ne_eqb}
 use Rattle.base.specs.Lists.{first_break}
-use Rattle.base.proofs.Breaks.{first_break-cons}
+use Rattle.base.proofs.Breaks.{first_break_cons}
 use Rattle.laws.specs.Places.{Stands, two_at}
 use Rattle.laws.proofs.Places.{drop_more}
-use Rattle.laws.proofs.PlacesOfNumbers.{length-le2}
-use Rattle.laws.proofs.FieldSizes.{length-counted, record_size}
+use Rattle.laws.proofs.PlacesOfNumbers.{length_le2}
+use Rattle.laws.proofs.FieldSizes.{length_counted, record_size}
 use Rattle.laws.proofs.RenumberedLaws.{mapped_length}
 use Rattle.rules.specs.Trees.{Tree, le2}
 use Rattle.rules.specs.Fields.{Width, fixed, measured, rest, Field}
@@ -32,7 +32,7 @@ use Rattle.rules.specs.Stored.{
   records_in,
 }
 use Rattle.references.specs.Renumbered.{renumbered_from, renumbered_bytes}
-use Rattle.references.proofs.RenumberLaws.{renumber-stored}
+use Rattle.references.proofs.RenumberLaws.{renumber_stored}
 use Rattle.writing.specs.declared.spans.Span.{Span}
 use Rattle.packets.specs.Parts.{table_most, span_of, ending, width_at, parts_at}
 use Rattle.packets.specs.PartsStand.{WidthStands}
@@ -48,19 +48,19 @@ maybe_length : (g : ℕ → ℕ) (o : Option (Tree ℕ)) → length (stored_mayb
 maybe_length g none = refl
 maybe_length g (some t) = mapped_length g t
 
-measured-length : (u : ℕ) (w : List ℕ) → length (le2 u ++ counted w) ≡ 4 + length w
-measured-length u w = omega (arith, length-append (le2 u) (counted w), length-le2 u, length-counted w)
+measured_length : (u : ℕ) (w : List ℕ) → length (le2 u ++ counted w) ≡ 4 + length w
+measured_length u w = omega (arith, length-append (le2 u) (counted w), length_le2 u, length_counted w)
 
-width-length : (g : ℕ → ℕ) (w : Width ℕ) → length (stored_width (renumbered_width g w)) ≡ length (stored_width w)
-width-length g (fixed n) = refl
-width-length g (measured u t) =
+width_length : (g : ℕ → ℕ) (w : Width ℕ) → length (stored_width (renumbered_width g w)) ≡ length (stored_width w)
+width_length g (fixed n) = refl
+width_length g (measured u t) =
     omega (
       arith,
-      measured-length u (stored_expression t),
-      measured-length u (stored_expression (renumbered_tree g t)),
+      measured_length u (stored_expression t),
+      measured_length u (stored_expression (renumbered_tree g t)),
       mapped_length g t,
     )
-width-length g rest = refl
+width_length g rest = refl
 
 -- ── one part ──
 
@@ -110,7 +110,7 @@ module _ (g : ℕ → ℕ) where
   maybe_bytes : (o : Option (Tree ℕ)) → renumbered_bytes g (stored_maybe o) ≡ stored_maybe (renumbered_maybe g o)
   unfolding renumbered_from
   maybe_bytes none = refl
-  maybe_bytes (some t) = renumber-stored g t
+  maybe_bytes (some t) = renumber_stored g t
 
   counted_shifted : (X Y : List ℕ) (o : Option (Tree ℕ)) (p : Span) → p.at ≡ length X + 2
       → p.len ≡ length (stored_maybe o)
@@ -122,7 +122,7 @@ module _ (g : ℕ → ℕ) where
       let front = le2 (length w) in
       let join : (l : List ℕ) → X ++ ((front ++ l) ++ Y) ≡ (X ++ front) ++ (l ++ Y) =
       λ l. simp append_assoc refl in
-      let e : length (X ++ front) ≡ length X + 2 = omega (arith, length-append X front, length-le2 (length w)) in
+      let e : length (X ++ front) ≡ length X + 2 = omega (arith, length-append X front, length_le2 (length w)) in
       ap (part_shifted g p) (join w)
       ∙ part_shifted_lem (X ++ front) w Y p (at ∙ sym e) len
       ∙ ap (λ (l : List ℕ). (X ++ front) ++ (l ++ Y)) (maybe_bytes o)
@@ -135,7 +135,7 @@ module _ (g : ℕ → ℕ) where
   width_shifted X Y (measured u t) p h =
       let join : (l : List ℕ) → X ++ ((le2 u ++ l) ++ Y) ≡ (X ++ le2 u) ++ (l ++ Y) =
       λ l. simp append_assoc refl in
-      let e : p.at ≡ length (X ++ le2 u) + 2 = omega (arith, h.0, length-append X (le2 u), length-le2 u) in
+      let e : p.at ≡ length (X ++ le2 u) + 2 = omega (arith, h.0, length-append X (le2 u), length_le2 u) in
       ap (part_shifted g p) (join (counted (stored_expression t)))
       ∙ counted_shifted (X ++ le2 u) Y (some t) p e h.1
       ∙ sym (join (counted (stored_expression (renumbered_tree g t))))
@@ -170,7 +170,7 @@ module _ (f : Field ℕ) where
   unfolding stored_field_in field_body
   record_joined n =
       let size : 4 + length (le2 n ++ field_body f) ≡ 6 + length (field_body f) =
-      omega (arith, length-append (le2 n) (field_body f), length-le2 n) in
+      omega (arith, length-append (le2 n) (field_body f), length_le2 n) in
       rw size (simp append_assoc refl)
 
   record_length : (n : ℕ) → length (stored_field n f)
@@ -202,11 +202,11 @@ module _ (g : ℕ → ℕ) (X Y : List ℕ) (f : Field ℕ) (tree constraint con
       let c' = counted (stored_maybe (renumbered_maybe g f.constraint)) in
       let k' = counted (stored_maybe (renumbered_maybe g f.condition)) in
       let size₁ : length (X ++ w') ≡ length X + length (width_bytes f) =
-      length-append X w' ∙ ap (λ (m : ℕ). length X + m) (width-length g f.width) in
+      length-append X w' ∙ ap (λ (m : ℕ). length X + m) (width_length g f.width) in
       let same : length c' ≡ length c = omega (
         arith,
-        length-counted (stored_maybe f.constraint),
-        length-counted (stored_maybe (renumbered_maybe g f.constraint)),
+        length_counted (stored_maybe f.constraint),
+        length_counted (stored_maybe (renumbered_maybe g f.constraint)),
         maybe_length g f.constraint,
       ) in
       let e₁ : constraint.at ≡ length (X ++ w') + 2 = omega (arith, at₁, size₁) in
@@ -222,21 +222,21 @@ module _ (g : ℕ → ℕ) (X Y : List ℕ) (f : Field ℕ) (tree constraint con
       ∙ append_assoc X w' (c' ++ (k' ++ Y))
 
 -- where a record's width stands, by the place of its constraint
-width-place : (s : List ℕ) (at a : ℕ) (w : Width ℕ) → two_at s (at + 2) ≡ kind_number w
+width_place : (s : List ℕ) (at a : ℕ) (w : Width ℕ) → two_at s (at + 2) ≡ kind_number w
     → WidthStands s (parts_at s at).number (parts_at s at).tree w
     → (parts_at s at).constraint.at ≡ a + length (stored_width w) + 2 → AtWidth (parts_at s at).tree a w
 unfolding parts_at width_at
-width-place s at a (fixed n) k i e = rw k refl
-width-place s at a (measured u t) k i e =
+width_place s at a (fixed n) k i e = rw k refl
+width_place s at a (measured u t) k i e =
     let p = parts_at s at in
     let len : p.tree.len ≡ length (stored_expression t) = in_length s p.tree (stored_expression t) i.1 in
     let next : p.constraint.at ≡ ending p.tree + 2 = rw k refl in
-    (omega (arith, len, next, e, measured-length u (stored_expression t)), len)
-width-place s at a rest k i e = rw k refl
+    (omega (arith, len, next, e, measured_length u (stored_expression t)), len)
+width_place s at a rest k i e = rw k refl
 
 -- a list that stands behind another
-stands-behind : (pre w post : List ℕ) → Stands (pre ++ (w ++ post)) (length pre) w (length pre + length w)
-stands-behind pre w post =
+stands_behind : (pre w post : List ℕ) → Stands (pre ++ (w ++ post)) (length pre) w (length pre + length w)
+stands_behind pre w post =
     let e = drop-append_seam pre (w ++ post) in
     record {
       text = e ∙ ap (λ (l : List ℕ). w ++ l) (sym (drop_more (pre ++ (w ++ post)) (length pre) w post e));
@@ -248,7 +248,7 @@ body_stays : (g : ℕ → ℕ) (f : Field ℕ) → length (field_body (renumbere
 unfolding field_body renumbered
 body_stays g f = simp (
   length-append,
-  width-length g f.width,
+  width_length g f.width,
   maybe_length g f.constraint,
   maybe_length g f.condition,
 )
@@ -275,20 +275,20 @@ record_shifted_lem g n f pre post b =
     let here = length pre in
     let p = parts_at s here in
     let f' = renumbered g f in
-    let q = record_parts s here (here + length (stored_field n f)) n f b (stands-behind pre (stored_field n f) post) in
+    let q = record_parts s here (here + length (stored_field n f)) n f b (stands_behind pre (stored_field n f) post) in
     let X = pre ++ head_of f n in
     let size = length-append pre (head_of f n) in
     let sizes = record_length f n in
     let c = in_length s p.constraint (stored_maybe f.constraint) q.0.constraint in
     let k = in_length s p.condition (stored_maybe f.condition) q.0.condition in
-    let cs = length-counted (stored_maybe f.constraint) in
-    let ks = length-counted (stored_maybe f.condition) in
+    let cs = length_counted (stored_maybe f.constraint) in
+    let ks = length_counted (stored_maybe f.condition) in
     let next₁ : p.next ≡ p.condition.at + p.condition.len = refl in
     let next₂ : p.condition.at ≡ p.constraint.at + p.constraint.len + 2 = refl in
     let at₂ : p.condition.at ≡ length X + length (width_bytes f) + length (constraint_bytes f) + 2 =
     omega (arith, next₁, q.1, size, sizes, k, ks) in
     let at₁ : p.constraint.at ≡ length X + length (width_bytes f) + 2 = omega (arith, next₂, at₂, c, cs) in
-    let w = width-place s here (length X) f.width q.0.kind q.0.width at₁ in
+    let w = width_place s here (length X) f.width q.0.kind q.0.width at₁ in
     ap (record_shifted g p) (record_between n f pre post)
     ∙ three_shifted g X post f p.tree p.constraint p.condition w at₁ c at₂ k
     ∙ ap (λ (h : List ℕ). (pre ++ h) ++ (width_bytes f' ++ (constraint_bytes f' ++ (condition_bytes f' ++ post))))
@@ -300,13 +300,13 @@ record_stays g n f = omega (arith, record_size n f, record_size n (renumbered g 
 
 -- ── all records ──
 
-pub renumbered-length : (g : ℕ → ℕ) (numbers : ℕ → ℕ) (k : ℕ) (fs : List (Field ℕ))
+pub renumbered_length : (g : ℕ → ℕ) (numbers : ℕ → ℕ) (k : ℕ) (fs : List (Field ℕ))
     → length (records numbers k (map (renumbered g) fs)) ≡ length (records numbers k fs)
 unfolding records_in
-renumbered-length g numbers k [] = refl
-renumbered-length g numbers k (f ∷ fs) =
+renumbered_length g numbers k [] = refl
+renumbered_length g numbers k (f ∷ fs) =
     length-append (stored_field (numbers k) (renumbered g f)) (records numbers (suc k) (map (renumbered g) fs))
-    ∙ ap₂ {C = ℕ} (λ (a b : ℕ). a + b) (record_stays g (numbers k) f) (renumbered-length g numbers (suc k) fs)
+    ∙ ap₂ {C = ℕ} (λ (a b : ℕ). a + b) (record_stays g (numbers k) f) (renumbered_length g numbers (suc k) fs)
     ∙ sym (length-append (stored_field (numbers k) f) (records numbers (suc k) fs))
 
 pub shifted_stored : (g : ℕ → ℕ) (numbers : ℕ → ℕ) (k : ℕ) (pre : List ℕ) (before fs : List (Field ℕ)) (post : List ℕ)
@@ -317,8 +317,8 @@ pub shifted_stored : (g : ℕ → ℕ) (numbers : ℕ → ℕ) (k : ℕ) (pre : 
 unfolding shifted_from records_in
 shifted_stored g numbers k pre before [] post hf hs le = refl
 shifted_stored g numbers k pre before (f ∷ fs) post hf hs le =
-    let kf = first_break-cons keeps_form before f fs hf in
-    let ks = first_break-cons keeps_size before f fs hs in
+    let kf = first_break_cons keeps_form before f fs hf in
+    let ks = first_break_cons keeps_size before f fs hs in
     let n = numbers k in
     let b = field_bounds f kf.0 ks.0 in
     let here = stored_field n f in
@@ -328,7 +328,7 @@ shifted_stored g numbers k pre before (f ∷ fs) post hf hs le =
     let s = pre ++ (here ++ (others ++ post)) in
     let start : length pre ≤ table_most = omega (arith, le) in
     let place : (parts_at s (length pre)).next ≡ length (pre ++ here') =
-    (record_parts s (length pre) (length pre + length here) n f b (stands-behind pre here (others ++ post))).1
+    (record_parts s (length pre) (length pre + length here) n f b (stands_behind pre here (others ++ post))).1
     ∙ ap (λ (m : ℕ). length pre + m) (sym (record_stays g n f))
     ∙ sym (length-append pre here') in
     let after : record_shifted g (parts_at s (length pre)) s ≡ (pre ++ here') ++ (others ++ post) =

@@ -23,22 +23,22 @@ later_end s n sum at = rw sub_self (omega arith)
 
 -- ── answers of the code taken back ──
 
-pub got-value : (r : Got) (v : Value) (n : ℕ) → r ≡ got_of v → r ≡ Got.Value n → v ≡ value n
-got-value r (value m) n e h = cc
-got-value r (fault f) n e h = cc
+pub got_value : (r : Got) (v : Value) (n : ℕ) → r ≡ got_of v → r ≡ Got.Value n → v ≡ value n
+got_value r (value m) n e h = cc
+got_value r (fault f) n e h = cc
 
-pub got-stop : (r : Got) (v : Value) (f : Fault) → r ≡ got_of v → r ≡ Got.Stop f → v ≡ fault f
-got-stop r (value m) f e h = cc
-got-stop r (fault g) f e h = cc
+pub got_stop : (r : Got) (v : Value) (f : Fault) → r ≡ got_of v → r ≡ Got.Stop f → v ≡ fault f
+got_stop r (value m) f e h = cc
+got_stop r (fault g) f e h = cc
 
-pub found-field : (r : Found) (s : Step) (e : Numbers) (next : ℕ) → r ≡ found_of s → r ≡ Found.Field e next
+pub found_field : (r : Found) (s : Step) (e : Numbers) (next : ℕ) → r ≡ found_of s → r ≡ Found.Field e next
     → s ≡ step (entry_in e) next
-found-field r (step d m) e next h k =
+found_field r (step d m) e next h k =
     let p : numbers_in d ≡ e = cc in
     let q : m ≡ next = cc in
     rw (← p, q)
-found-field r (stop f) e next h k = cc
+found_field r (stop f) e next h k = cc
 
-pub found-stop : (r : Found) (s : Step) (f : Fault) → r ≡ found_of s → r ≡ Found.Stop f → s ≡ stop f
-found-stop r (step d m) f h k = cc
-found-stop r (stop g) f h k = cc
+pub found_stop : (r : Found) (s : Step) (f : Fault) → r ≡ found_of s → r ≡ Found.Stop f → s ≡ stop f
+found_stop r (step d m) f h k = cc
+found_stop r (stop g) f h k = cc

@@ -10,9 +10,9 @@ use lib.ListN.{length, get_or}
 use borrow.Author.Tests.{le-leb}
 use Rattle.base.specs.Lists.{any}
 use Rattle.laws.specs.Places.{Stands, IsBytes, two_at}
-use Rattle.base.proofs.Lists.{and_left, and_right, and_both, not-both}
+use Rattle.base.proofs.Lists.{and_left, and_right, and_both, not_both}
 use Rattle.laws.proofs.OperatorLaws.{keeps_known}
-use Rattle.laws.proofs.Places.{stands_join, stands-left, stands-right}
+use Rattle.laws.proofs.Places.{stands_join, stands_left, stands_right}
 use Rattle.laws.proofs.Counting.{readers_are}
 use Rattle.laws.proofs.Numbers.{le2_mod, records_by}
 use Rattle.rules.specs.declared.TableAnswer.{TableAnswer}
@@ -31,20 +31,20 @@ use Rattle.packets.specs.FieldTest.{bytes_in}
 use Rattle.packets.specs.NamesTest.{places_from, names_test}
 use Rattle.packets.specs.CountsTest.{reads_from, numbers_test}
 use Rattle.packets.specs.TableTest.{walk_at, head_test, last_test, after_fields, fields_test, table_test, shape_test}
-use Rattle.packets.proofs.WalkLaws.{FieldsIn, KeptAt, walk_sound, walk-complete}
-use Rattle.packets.proofs.NameLaws.{number_nth, names_sound, names-complete}
+use Rattle.packets.proofs.WalkLaws.{FieldsIn, KeptAt, walk_sound, walk_complete}
+use Rattle.packets.proofs.NameLaws.{number_nth, names_sound, names_complete}
 use Rattle.packets.proofs.CountSteps.{kept_true, true_kept}
-use Rattle.packets.proofs.CountLaws.{reads-stored}
-use Rattle.packets.proofs.TableSteps.{HeadIs, head-is}
+use Rattle.packets.proofs.CountLaws.{reads_stored}
+use Rattle.packets.proofs.TableSteps.{HeadIs, head_is_lem}
 use Rattle.packets.proofs.TableParts.{
-  head-stands,
+  head_stands,
   HeadOf,
-  head-found,
+  head_found,
   last_stands,
   last_found,
   whole_is,
-  whole-stands,
-  table-length,
+  whole_stands,
+  table_length,
 }
 
 abbrev walked : List ℕ → Walked
@@ -68,7 +68,7 @@ unfolding stored_with
 shaped_of numbers s at l b h count fields last names =
     let from = 10 + two_at s 8 in
     let d : Description = record { name = bytes_in s (span_at s 8); row_width = two_at s 4; fields = l } in
-    let head = head-stands s d b h refl (sym count) refl in
+    let head = head_stands s d b h refl (sym count) refl in
     let tail = stands_join s from at (length s) (records numbers 0 l) (record_of 5 []) fields.stands
     (last_stands s at b last) in
     record {
@@ -90,7 +90,7 @@ shaped_of numbers s at l b h count fields last names =
       first = omega (arith, head.end);
       count = count;
       counted = λ i.
-          rw (← count) (reads-stored numbers 0 s [] l fields.form fields.size from at fields.stands i)
+          rw (← count) (reads_stored numbers 0 s [] l fields.form fields.size from at fields.stands i)
           ∙ readers_are l i;
     }
 
@@ -99,14 +99,14 @@ pub shape_sound : (numbers : ℕ → ℕ) (s : List ℕ) → IsBytes s → KeptA
 unfolding shape_test any
 shape_sound numbers s b kept h =
     let r = and_right (leb (length s) table_most) _ h in
-    go (head-is s (and_left (head_test s) _ r)) (walked s) refl (and_right (head_test s) _ r)
+    go (head_is_lem s (and_left (head_test s) _ r)) (walked s) refl (and_right (head_test s) _ r)
   where
     go : HeadIs s → (x : Walked) → walked s ≡ x → after_fields s x ≡ true → Shaped s numbers
     go head (Past at) e f =
         let q = walk_sound numbers 0 (two_at s 4) (two_at s 6) [] 0 s (10 + two_at s 8) at b kept e in
         shaped_of numbers s at q.0 b head q.1 q.2 (and_left (last_test s at) _ f)
         (and_right (last_test s at) _ f)
-    go head Bad e f = absurd (not-both false f refl)
+    go head Bad e f = absurd (not_both false f refl)
 
 -- tables of like numbers
 pub stored_by : (a b : ℕ → ℕ) (d : Description)
@@ -161,14 +161,14 @@ module _ (numbers : ℕ → ℕ) (s : List ℕ) (d : Description) (w : Within d)
   found =
       let l = d.fields in
       let head = record_of 1 (head_body d) in
-      let st = whole-stands s (stored_with current numbers d) is in
+      let st = whole_stands s (stored_with current numbers d) is in
       let from = 0 + length head in
       let at = from + length (records numbers 0 l) in
-      let right = stands-right s 0 (length s) head _ st in
-      let fields = stands-left s from (length s) (records numbers 0 l) (record_of 5 []) right in
-      let last = stands-right s from (length s) (records numbers 0 l) (record_of 5 []) right in
+      let right = stands_right s 0 (length s) head _ st in
+      let fields = stands_left s from (length s) (records numbers 0 l) (record_of 5 []) right in
+      let last = stands_right s from (length s) (records numbers 0 l) (record_of 5 []) right in
       let end : at ≤ length s = omega (arith, last.end) in
-      let h = head-found s d from w (omega arith) (stands-left s 0 (length s) head _ st) in
+      let h = head_found s d from w (omega arith) (stands_left s 0 (length s) head _ st) in
       let e = h.next in
       record {
         at = 10 + two_at s 8 + length (records numbers 0 l);
@@ -186,7 +186,7 @@ module _ (numbers : ℕ → ℕ) (s : List ℕ) (d : Description) (w : Within d)
       let h = f.head in
       let from = 10 + two_at s 8 in
       let walk : walk_at d.row_width (length l) [] 0 false s from ≡ Past f.at =
-      walk-complete numbers 0 d.row_width [] 0 s from f.at l f.end (record {
+      walk_complete numbers 0 d.row_width [] 0 s from f.at l f.end (record {
         stands = f.fields;
         form = w.form;
         size = w.size;
@@ -194,31 +194,31 @@ module _ (numbers : ℕ → ℕ) (s : List ℕ) (d : Description) (w : Within d)
         rests = w.rests;
         rows = w.rows;
       }) in
-      let names = names-complete numbers s l from f.at w.form w.size f.fields w.names in
+      let names = names_complete numbers s l from f.at w.form w.size f.fields w.names in
       let names' : names_test s (two_at s 6) from ≡ true = rw h.count names in
       let walk' : walked s ≡ Past f.at = rw (h.row, h.count) walk in
       let after : after_fields s (walked s) ≡ true = rw walk'
       (and_both (last_test s f.at) _ f.last names') in
-      let most : length s ≤ table_most = rw (← is) (table-length numbers d w) in
+      let most : length s ≤ table_most = rw (← is) (table_length numbers d w) in
       and_both (leb (length s) table_most) _ (le-leb _ _ most) (and_both (head_test s) _ h.test after)
 
   -- the numbers that stand there
-  pub number-stands : (j : ℕ) → j < two_at s 6 → standing s j ≡ numbers j % 65536
-  number-stands j lt =
+  pub number_stands : (j : ℕ) → j < two_at s 6 → standing s j ≡ numbers j % 65536
+  number_stands j lt =
       let f = found in
       let c = f.head.count in
       rw c (number_nth numbers s d.fields (10 + two_at s 8) f.at w.form w.size f.fields j
       (omega (arith, c, lt)))
 
-  pub reads-there : (i : ℕ) → reads_from s 0 (two_at s 6) (10 + two_at s 8) i ≡ readers d.fields i
-  reads-there i =
+  pub reads_there : (i : ℕ) → reads_from s 0 (two_at s 6) (10 + two_at s 8) i ≡ readers d.fields i
+  reads_there i =
       let f = found in
-      rw f.head.count (reads-stored numbers 0 s [] d.fields w.form w.size (10 + two_at s 8) f.at
+      rw f.head.count (reads_stored numbers 0 s [] d.fields w.form w.size (10 + two_at s 8) f.at
       f.fields i) ∙ readers_are d.fields i
 
-pub table-complete : (s : List ℕ) → Good s → table_test s ≡ true
+pub table_complete : (s : List ℕ) → Good s → table_test s ≡ true
 unfolding table_test shape_test stored_in
-table-complete s g =
+table_complete s g =
     let d = g.description in
     let n = readers d.fields in
     let shape = shape_complete n s d g.within g.is_stored in
@@ -226,8 +226,8 @@ table-complete s g =
     let kept : numbers_test s (two_at s 6) (10 + two_at s 8) ≡ true =
     true_kept s _ _ 0 (two_at s 6) (λ j lt.
     let z : 0 + j ≡ j = zero-add j in
-    rw z (number-stands n s d g.within g.is_stored j lt
-    ∙ ap (λ (m : ℕ). m % 65536) (sym (reads-there n s d g.within g.is_stored j)))) in
+    rw z (number_stands n s d g.within g.is_stored j lt
+    ∙ ap (λ (m : ℕ). m % 65536) (sym (reads_there n s d g.within g.is_stored j)))) in
     and_both (leb (length s) table_most) _ (and_left (leb (length s) table_most) _ shape)
     (and_both (head_test s) _ (and_left (head_test s) _ r)
     (and_both (fields_test s) _ (and_right (head_test s) _ r) kept))
@@ -241,5 +241,5 @@ accepts s b h (no bad) = absurd (bad (table_sound s b h))
 
 pub refuses : (s : List ℕ) → table_test s ≡ false → ChecksTable s (of_table TableAnswer.NotGood)
 unfolding of_table
-refuses s h (yes good) = absurd (not-both (table_test s) (table-complete s good) h)
+refuses s h (yes good) = absurd (not_both (table_test s) (table_complete s good) h)
 refuses s h (no bad) = refl

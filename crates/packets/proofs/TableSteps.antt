@@ -21,8 +21,8 @@ use Rattle.packets.specs.FieldTest.{bytes_in}
 use Rattle.packets.specs.NamesTest.{places_from, FieldPlaces, Gathered}
 use Rattle.packets.specs.CountsTest.{Tallied}
 use Rattle.packets.specs.TableTest.{walk_at, head_test, GatheredBy, TalliedBy, GatheredAll}
-use Rattle.packets.proofs.FieldSteps.{parts-inside, field_next}
-use Rattle.packets.proofs.WalkLaws.{past_bad, walk-parts}
+use Rattle.packets.proofs.FieldSteps.{parts_inside, field_next}
+use Rattle.packets.proofs.WalkLaws.{past_bad, walk_parts}
 
 -- ── the first record ──
 
@@ -34,9 +34,9 @@ pub record HeadIs (s : List ℕ) : Type 0 where
   pub count : between 1 (two_at s 6) fields_most ≡ true
   pub name : is_label (bytes_in s (span_at s 8)) ≡ true
 
-pub head-is : (s : List ℕ) → head_test s ≡ true → HeadIs s
+pub head_is_lem : (s : List ℕ) → head_test s ≡ true → HeadIs s
 unfolding head_test
-head-is s h =
+head_is_lem s h =
     let a = and_right (leb (10 + two_at s 8) (length s)) _ h in
     let b = and_right (eqb (two_at s 0) (10 + two_at s 8)) _ a in
     let c = and_right (eqb (two_at s 2) 1) _ b in
@@ -51,8 +51,8 @@ head-is s h =
     }
 
 -- the field records begin within the table
-pub head-inside : (s : List ℕ) → head_test s ≡ true → (n : ℕ) → n ≡ two_at s 0 → n ≤ length s
-head-inside s h n e = let is = head-is s h in omega (arith, is.size, is.end, e)
+pub head_inside : (s : List ℕ) → head_test s ≡ true → (n : ℕ) → n ≡ two_at s 0 → n ≤ length s
+head_inside s h n e = let is = head_is_lem s h in omega (arith, is.size, is.end, e)
 
 pub row_positive : (w : ℕ) → is_row_width w ≡ true → 0 < w
 row_positive w h =
@@ -72,23 +72,23 @@ walk_past w zero marks place ended s at next le h = go (eqb (place % w) 0) h
     go true f = let m : at ≡ next = cc in omega arith
     go false f = absurd (past_bad next f)
 walk_past w (suc n) marks place ended s at next le h =
-    let q = walk-parts w n marks place ended s at next h in
+    let q = walk_parts w n marks place ended s at next h in
     walk_past w n _ _ _ s (parts_at s at).next next (field_next w place ended s at (parts_at s at) q.0) q.2
 
-pub walk-places : (w n : ℕ) (marks : List ℕ) (place : ℕ) (ended : Bool) (s : List ℕ) (at next : ℕ)
+pub walk_places : (w n : ℕ) (marks : List ℕ) (place : ℕ) (ended : Bool) (s : List ℕ) (at next : ℕ)
     → length s ≤ table_most
     → at ≤ length s → walk_at w n marks place ended s at ≡ Past next → FieldPlaces s n (places_from s n at)
 unfolding places_from
-walk-places w zero marks place ended s at next short le h i lt = absurd (omega arith)
-walk-places w (suc n) marks place ended s at next short le h zero lt =
-    let q = walk-parts w n marks place ended s at next h in
+walk_places w zero marks place ended s at next short le h i lt = absurd (omega arith)
+walk_places w (suc n) marks place ended s at next short le h zero lt =
+    let q = walk_parts w n marks place ended s at next h in
     record {
       place = omega arith;
-      inside = parts-inside s at (field_next w place ended s at (parts_at s at) q.0);
+      inside = parts_inside s at (field_next w place ended s at (parts_at s at) q.0);
     }
-walk-places w (suc n) marks place ended s at next short le h (suc i) lt =
-    let q = walk-parts w n marks place ended s at next h in
-    walk-places w n _ _ _ s (parts_at s at).next next short (field_next w place ended s at (parts_at s at) q.0)
+walk_places w (suc n) marks place ended s at next short le h (suc i) lt =
+    let q = walk_parts w n marks place ended s at next h in
+    walk_places w n _ _ _ s (parts_at s at).next next short (field_next w place ended s at (parts_at s at) q.0)
     q.2 i (omega arith)
 
 pub count_most : (n : ℕ) → between 1 n fields_most ≡ true → n ≤ fields_most

@@ -9,8 +9,8 @@ use lib.ListN.{length, get_or}
 use borrow.Author.Tests.{le-leb, ltb-true, ltb-false}
 use Rattle.laws.specs.Places.{Stands, IsBytes, four_at}
 use Rattle.base.proofs.Lists.{and_both}
-use Rattle.laws.proofs.Places.{stands-none, stands-front, stands_join, four_below}
-use Rattle.laws.proofs.PlacesOfNumbers.{four-stands}
+use Rattle.laws.proofs.Places.{stands_none, stands_front, stands_join, four_below}
+use Rattle.laws.proofs.PlacesOfNumbers.{four_stands}
 use Rattle.rules.specs.declared.Op.{Op}
 use Rattle.rules.specs.declared.ValueType.{ValueType}
 use Rattle.rules.specs.declared.ValueType.TheVariants.{Number, YesNo}
@@ -47,19 +47,19 @@ moved d s marks at k ty n c h w = subst₂ (λ (j : ValueType) (m : Cursor). Fou
 
 -- ── numbers and fields ──
 
-number-found : (d : ℕ) (s marks : List ℕ) (at : ℕ) → IsBytes s → get_or s at 0 ≡ number_code → at + 4 < length s
+number_found : (d : ℕ) (s marks : List ℕ) (at : ℕ) → IsBytes s → get_or s at 0 ≡ number_code → at + 4 < length s
     → Found (suc d) s marks at Number (cursor (at + 5))
 unfolding stored_tree depth is_in_range has_type
-number-found d s marks at bs e lt =
+number_found d s marks at bs e lt =
     let n = four_at s (at + 1) in
     let most : n ≤ number_most = omega (arith, four_below s (at + 1) bs) in
     let five : at + 5 ≡ at + 1 + 4 = omega arith in
-    let four : Stands s (at + 1) (le4 n) (at + 5) = rw five (four-stands s (at + 1) bs (omega arith)) in (
+    let four : Stands s (at + 1) (le4 n) (at + 5) = rw five (four_stands s (at + 1) bs (omega arith)) in (
       num n,
       refl,
       le-leb n number_most most,
       omega arith,
-      stands-front s at (at + 1) (at + 5) number_code (le4 n) (omega arith) refl e four,
+      stands_front s at (at + 1) (at + 5) number_code (le4 n) (omega arith) refl e four,
       omega arith,
     )
 
@@ -72,7 +72,7 @@ sound_number d s marks at ty c bs lt e h = go (ltb (length s - at) 5) refl h
         → Found (suc d) s marks at ty c
     go true f g = absurd (clash ty c g)
     go false f g = moved (suc d) s marks at Number ty (cursor (at + 5)) c g
-        (number-found d s marks at bs e (omega (arith, ltb-false (length s - at) 5 f)))
+        (number_found d s marks at bs e (omega (arith, ltb-false (length s - at) 5 f)))
 
 field_found : (d : ℕ) (s marks : List ℕ) (at : ℕ) → get_or s at 0 ≡ field_code → at + 1 < length s
     → marked marks (get_or s (at + 1) 0) ≡ true → Found (suc d) s marks at Number (cursor (at + 2))
@@ -83,8 +83,8 @@ field_found d s marks at e lt f =
       f,
       refl,
       omega arith,
-      stands-front s at (at + 1) (at + 2) field_code (i ∷ []) (omega arith) refl e
-          (stands-front s (at + 1) (at + 2) (at + 2) i [] lt (omega arith) refl (stands-none s (at + 2))),
+      stands_front s at (at + 1) (at + 2) field_code (i ∷ []) (omega arith) refl e
+          (stands_front s (at + 1) (at + 2) (at + 2) i [] lt (omega arith) refl (stands_none s (at + 2))),
       omega arith,
     )
 
@@ -110,7 +110,7 @@ not_found d s marks at c lt e w = (
   w.1,
   w.2,
   omega (arith, w.3),
-  stands-front s at (at + 1) c.at not_code (stored_expression w.0) lt refl e w.4,
+  stands_front s at (at + 1) c.at not_code (stored_expression w.0) lt refl e w.4,
   w.5,
 )
 
@@ -123,18 +123,18 @@ sound_not d s marks at ty c lt e (Checked.Tree YesNo n) ih h =
     moved (suc d) s marks at YesNo ty n c h (not_found d s marks at n lt e (ih YesNo n refl))
 sound_not d s marks at ty c lt e Checked.Bad ih h = absurd (clash ty c h)
 
-two-found : (d : ℕ) (s marks : List ℕ) (at : ℕ) (o : Op) (mid c : Cursor) → at < length s → get_or s at 0 ≡ code o
+two_found : (d : ℕ) (s marks : List ℕ) (at : ℕ) (o : Op) (mid c : Cursor) → at < length s → get_or s at 0 ≡ code o
     → Found d s marks (at + 1) (takes o) mid → Found d s marks mid.at (takes o) c
     → Found (suc d) s marks at (gives o) c
 unfolding stored_tree depth is_in_range has_type
-two-found d s marks at o mid c lt e u v =
+two_found d s marks at o mid c lt e u v =
     let l = stored_expression u.0 in
     let r = stored_expression v.0 in (
       two o u.0 v.0,
       and_both _ _ (same_type_self (gives o)) (and_both _ _ u.1 v.1),
       and_both _ _ u.2 v.2,
       omega (arith, u.3, v.3),
-      stands-front s at (at + 1) c.at (code o) _ lt refl e
+      stands_front s at (at + 1) c.at (code o) _ lt refl e
           (stands_join s (at + 1) mid.at c.at l r u.4 v.4),
       v.5,
     )
@@ -158,7 +158,7 @@ sound_right d s marks at o ty c lt e a mid u (Checked.Tree b n) ih h =
     let w = joins o a b n ty c h in
     let left = subst (λ (k : ValueType). Found d s marks (at + 1) k mid) w.0 u in
     let right = subst (λ (k : ValueType). Found d s marks mid.at k n) w.1 (ih b n refl) in
-    moved (suc d) s marks at (gives o) ty n c w.2 (two-found d s marks at o mid n lt e left right)
+    moved (suc d) s marks at (gives o) ty n c w.2 (two_found d s marks at o mid n lt e left right)
 sound_right d s marks at o ty c lt e a mid u Checked.Bad ih h = absurd (clash ty c h)
 
 sound_left : (d : ℕ) (s marks : List ℕ) (at : ℕ) (o : Op) (ty : ValueType) (c : Cursor) → at < length s

@@ -12,9 +12,9 @@ use Rattle.packets.specs.declared.trees.Checked.{Checked}
 use Rattle.packets.specs.declared.trees.Evaluated.{Evaluated}
 use Rattle.packets.specs.StoredTrees.{check_at, check_code, skip_at, skip_code, value_at, value_code}
 
-pub check-none : (d : ℕ) (s marks : List ℕ) (at : ℕ) → d ≡ 0 → check_at d s marks at ≡ Checked.Bad
+pub check_none : (d : ℕ) (s marks : List ℕ) (at : ℕ) → d ≡ 0 → check_at d s marks at ≡ Checked.Bad
 unfolding check_at
-check-none d s marks at e = rw e
+check_none d s marks at e = rw e
 
 pub check_past : (d : ℕ) (s marks : List ℕ) (at : ℕ) → length s ≤ at → check_at d s marks at ≡ Checked.Bad
 unfolding check_at
@@ -22,15 +22,15 @@ check_past zero s marks at le = refl
 check_past (suc d) s marks at le = rw (le-ltb _ _ le)
 
 -- r is the code of the byte, and is k
-pub check-step : (d : ℕ) (s marks : List ℕ) (at : ℕ) {r k : Code} → (d ≡ 0 → ⊥) → at < length s
+pub check_step : (d : ℕ) (s marks : List ℕ) (at : ℕ) {r k : Code} → (d ≡ 0 → ⊥) → at < length s
     → r ≡ code_of (get_or s at 0) → r ≡ k → check_at d s marks at ≡ check_code k (check_at (d - 1) s marks) s marks at
 unfolding check_at
-check-step zero s marks at ne lt e f = absurd (ne refl)
-check-step (suc d) s marks at ne lt e f = rw (sub-one, lt-ltb _ _ lt, ← e, f)
+check_step zero s marks at ne lt e f = absurd (ne refl)
+check_step (suc d) s marks at ne lt e f = rw (sub-one, lt-ltb _ _ lt, ← e, f)
 
-pub skip-none : (d : ℕ) (s : List ℕ) (at : ℕ) → d ≡ 0 → skip_at d s at ≡ at
+pub skip_none : (d : ℕ) (s : List ℕ) (at : ℕ) → d ≡ 0 → skip_at d s at ≡ at
 unfolding skip_at
-skip-none d s at e = rw e
+skip_none d s at e = rw e
 
 pub skip_past : (d : ℕ) (s : List ℕ) (at : ℕ) → length s ≤ at → skip_at d s at ≡ at
 unfolding skip_at
@@ -53,9 +53,9 @@ unfolding value_at
 value_past zero s run at le = refl
 value_past (suc d) s run at le = rw (le-ltb _ _ le)
 
-pub value-step : (d : ℕ) (s run : List ℕ) (at : ℕ) {r k : Code} → (d ≡ 0 → ⊥) → at < length s
+pub value_step : (d : ℕ) (s run : List ℕ) (at : ℕ) {r k : Code} → (d ≡ 0 → ⊥) → at < length s
     → r ≡ code_of (get_or s at 0) → r ≡ k
     → value_at d s run at ≡ value_code k (value_at (d - 1) s run) (skip_at (d - 1) s) s run at
 unfolding value_at
-value-step zero s run at ne lt e f = absurd (ne refl)
-value-step (suc d) s run at ne lt e f = rw (sub-one, lt-ltb _ _ lt, ← e, f)
+value_step zero s run at ne lt e f = absurd (ne refl)
+value_step (suc d) s run at ne lt e f = rw (sub-one, lt-ltb _ _ lt, ← e, f)

@@ -11,8 +11,8 @@ use lib.ListN.{length, length-append}
 use borrow.Author.Tests.{eqb-true, le-ltb, lt-ltb}
 use Rattle.base.specs.Lists.{joined, sum, first_break}
 use Rattle.laws.specs.Places.{Stands, two_at}
-use Rattle.base.proofs.Breaks.{first_break-cons}
-use Rattle.laws.proofs.Places.{stands-left, stands-right}
+use Rattle.base.proofs.Breaks.{first_break_cons}
+use Rattle.laws.proofs.Places.{stands_left, stands_right}
 use Rattle.rules.specs.declared.PacketAnswer.{PacketAnswer}
 use Rattle.rules.specs.Fields.{Field, Description, fixed_bits}
 use Rattle.rules.specs.Within.{keeps_form, keeps_size, keeps_types, index_readable, Within}
@@ -39,7 +39,7 @@ use Rattle.rules.specs.Reading.{
   bit_total,
 }
 use Rattle.rules.specs.Promises.{reading_answer}
-use Rattle.laws.proofs.ReadsFields.{formed-parts}
+use Rattle.laws.proofs.ReadsFields.{formed_parts}
 use Rattle.rules.specs.Limits.{packet_most}
 use Rattle.packets.specs.Parts.{table_most}
 use Rattle.packets.specs.PartsStand.{PartsStand}
@@ -52,7 +52,7 @@ use Rattle.packets.proofs.RunEntries.{Begins, with_keeps}
 use Rattle.packets.proofs.FieldReads.{fixed_part}
 use Rattle.packets.proofs.FieldMatches.{Matches, field_matches}
 use Rattle.packets.proofs.PacketWalk.{length_with}
-use Rattle.packets.proofs.HeadReads.{head-stands}
+use Rattle.packets.proofs.HeadReads.{head_stands}
 
 -- ── records one behind the other ──
 
@@ -61,17 +61,17 @@ record First (numbers : ℕ → ℕ) (k : ℕ) (s : List ℕ) (at end : ℕ) (f 
   parts : PartsStand s (record_at s at) f
   later : Stands s (record_at s at).next (records numbers (suc k) fs) end
 
-first-stands : (numbers : ℕ → ℕ) (k : ℕ) (before : List (Field ℕ)) (f : Field ℕ) (fs : List (Field ℕ)) (s : List ℕ)
+first_stands : (numbers : ℕ → ℕ) (k : ℕ) (before : List (Field ℕ)) (f : Field ℕ) (fs : List (Field ℕ)) (s : List ℕ)
     (at end : ℕ)
     → first_break keeps_form before (f ∷ fs) ≡ none → first_break keeps_size before (f ∷ fs) ≡ none
     → Stands s at (records numbers k (f ∷ fs)) end → end ≤ table_most → First numbers k s at end f fs
 unfolding records_in record_at
-first-stands numbers k before f fs s at end form size p le =
-    let e = first_break-cons keeps_form before f fs form in
-    let z = first_break-cons keeps_size before f fs size in
+first_stands numbers k before f fs s at end form size p le =
+    let e = first_break_cons keeps_form before f fs form in
+    let z = first_break_cons keeps_size before f fs size in
     let one = stored_field (numbers k) f in
-    let here = stands-left s at end one (records numbers (suc k) fs) p in
-    let there = stands-right s at end one (records numbers (suc k) fs) p in
+    let here = stands_left s at end one (records numbers (suc k) fs) p in
+    let there = stands_right s at end one (records numbers (suc k) fs) p in
     let q = record_parts s at (at + length one) (numbers k) f (field_bounds f e.0 z.0) here in
     let near : ltb table_most at ≡ false = le-ltb table_most at (omega (arith, there.end)) in
     record { parts = rw near q.0; later = rw (near, q.1) there }
@@ -83,11 +83,11 @@ later_sum : (numbers : ℕ → ℕ) (k : ℕ) (before fs : List (Field ℕ)) (s 
 unfolding later_bits sum
 later_sum numbers k before [] s at end form size p le = refl
 later_sum numbers k before (f ∷ fs) s at end form size p le =
-    let e = first_break-cons keeps_form before f fs form in
-    let z = first_break-cons keeps_size before f fs size in
-    let q = first-stands numbers k before f fs s at end form size p le in
+    let e = first_break_cons keeps_form before f fs form in
+    let z = first_break_cons keeps_size before f fs size in
+    let q = first_stands numbers k before f fs s at end form size p le in
     let r = record_at s at in
-    let form = (formed-parts f e.0).2 in
+    let form = (formed_parts f e.0).2 in
     let bits = fixed_part r f.width q.parts.kind s r.tree q.parts.width form in
     rw (
       bits,
@@ -102,22 +102,22 @@ pub record WalkHolds (packet : List ℕ) (n : ℕ) (got : Reading) (es : List En
   pub answer : of_packet (walk_answer packet w) ≡ reading_answer got packet
   pub begins : RunBegins n es (walk_answer packet w) (walk_run w)
 
-at-end : (packet : List ℕ) (entries : List Entry) (run : List ℕ) (place : ℕ) → Begins run entries → (x : Bool)
+at_end : (packet : List ℕ) (entries : List Entry) (run : List ℕ) (place : ℕ) → Begins run entries → (x : Bool)
     → eqb place (bit_total packet) ≡ x
     → of_packet (cond x (PacketAnswer.Accepted place) PacketAnswer.LeftOver)
     ≡ reading_answer (cond x (complete entries) left_over) packet
 unfolding of_packet reading_answer
-at-end packet entries run place b true e = rw (eqb-true place (bit_total packet) e)
-at-end packet entries run place b false e = refl
+at_end packet entries run place b true e = rw (eqb-true place (bit_total packet) e)
+at_end packet entries run place b false e = refl
 
-end-count : (x : Bool) (place n : ℕ) → count_in (cond x (PacketAnswer.Accepted place) PacketAnswer.LeftOver) n ≡ n
+end_count : (x : Bool) (place n : ℕ) → count_in (cond x (PacketAnswer.Accepted place) PacketAnswer.LeftOver) n ≡ n
 unfolding count_in
-end-count true place n = refl
-end-count false place n = refl
+end_count true place n = refl
+end_count false place n = refl
 
-complete-is : (x : Bool) (entries es : List Entry) → cond x (complete entries) left_over ≡ complete es → entries ≡ es
-complete-is true entries es e = cc
-complete-is false entries es e = cc
+complete_is : (x : Bool) (entries es : List Entry) → cond x (complete entries) left_over ≡ complete es → entries ≡ es
+complete_is true entries es e = cc
+complete_is false entries es e = cc
 
 -- a complete reading has the entries of all fields
 on_complete : (entries : List Entry) (t : Step) (go : List Entry → ℕ → Reading) (more : List Entry → ℕ → List Entry)
@@ -126,14 +126,14 @@ on_complete : (entries : List Entry) (t : Step) (go : List Entry → ℕ → Rea
 on_complete entries (step e next) go more ih es h = ih (entries ++ (e ∷ [])) next es h
 on_complete entries (stop f) go more ih es h = let z : ◌≡◌ {A = ℕ} 0 1 = cc in absurd (omega arith)
 
-complete-before : (packet : List ℕ) (fs : List (Field ℕ)) (entries : List Entry) (place : ℕ) (es : List Entry)
+complete_before : (packet : List ℕ) (fs : List (Field ℕ)) (entries : List Entry) (place : ℕ) (es : List Entry)
     → read_fields packet entries place fs ≡ complete es → fields_before packet entries place fs ≡ es
 unfolding read_fields_in fields_before
-complete-before packet [] entries place es h = complete-is (eqb place (bit_total packet)) entries es h
-complete-before packet (f ∷ fs) entries place es h =
+complete_before packet [] entries place es h = complete_is (eqb place (bit_total packet)) entries es h
+complete_before packet (f ∷ fs) entries place es h =
     on_complete entries (read_field packet entries place (sum fixed_bits fs) f)
     (λ more next. read_fields packet more next fs) (λ more next. fields_before packet more next fs)
-    (λ l next other q. complete-before packet fs l next other q) es h
+    (λ l next other q. complete_before packet fs l next other q) es h
 
 walk_on : (packet : List ℕ) (n : ℕ) (after : List ℕ) (entries : List Entry) (go : List Entry → ℕ → Reading)
     (more : List Entry → ℕ → List Entry) (walk : List ℕ → ℕ → Walk) → length entries ≤ n → Begins after entries
@@ -148,7 +148,7 @@ walk_on packet n after entries go more walk le b ih (stop f) (step d m) q = absu
 walk_on packet n after entries go more walk le b ih (stop f) (stop g) q =
     record { answer = rw (q, add-one); begins = record { count = omega arith; most = le; front = b } }
 
-pub walk-reads : (numbers : ℕ → ℕ) (k : ℕ) (s packet : List ℕ) (fs before : List (Field ℕ)) (entries : List Entry)
+pub walk_reads : (numbers : ℕ → ℕ) (k : ℕ) (s packet : List ℕ) (fs before : List (Field ℕ)) (entries : List Entry)
     (run : List ℕ) (n place at end : ℕ)
     → length entries ≡ length before → n ≡ length entries + length fs → Begins run entries → 4 * n ≤ length run
     → first_break keeps_form before fs ≡ none → first_break keeps_size before fs ≡ none
@@ -157,20 +157,20 @@ pub walk-reads : (numbers : ℕ → ℕ) (k : ℕ) (s packet : List ℕ) (fs bef
     → WalkHolds packet n (read_fields packet entries place fs) (fields_before packet entries place fs)
     (walk_from s packet (length fs) (length entries) run place at)
 unfolding walk_from read_fields_in fields_before walk_answer
-walk-reads numbers k s packet [] before entries run n place at end counts all begins room form size types p le =
+walk_reads numbers k s packet [] before entries run n place at end counts all begins room form size types p le =
     record {
-      answer = at-end packet entries run place begins (eqb place (bit_total packet)) refl;
+      answer = at_end packet entries run place begins (eqb place (bit_total packet)) refl;
       begins = record {
-        count = end-count (eqb place (bit_total packet)) place n ∙ omega arith;
+        count = end_count (eqb place (bit_total packet)) place n ∙ omega arith;
         most = omega arith;
         front = begins;
       };
     }
-walk-reads numbers m s packet (f ∷ fs) before entries run n place at end counts all begins room form size types p le =
-    let q = first-stands numbers m before f fs s at end form size p le in
-    let e = first_break-cons keeps_form before f fs form in
-    let z = first_break-cons keeps_size before f fs size in
-    let k = first_break-cons (keeps_types index_readable) before f fs types in
+walk_reads numbers m s packet (f ∷ fs) before entries run n place at end counts all begins room form size types p le =
+    let q = first_stands numbers m before f fs s at end form size p le in
+    let e = first_break_cons keeps_form before f fs form in
+    let z = first_break_cons keeps_size before f fs size in
+    let k = first_break_cons (keeps_types index_readable) before f fs types in
     let r = record_at s at in
     let sums = later_sum numbers (suc m) (before ++ (f ∷ [])) fs s r.next end e.1 z.1 q.later le in
     let found = field_step s packet run r (length fs) place in
@@ -182,21 +182,21 @@ walk-reads numbers m s packet (f ∷ fs) before entries run n place at end count
     (omega arith) (with_keeps run entries found begins)
     (λ d next b.
     let j : length (entries ++ (d ∷ [])) ≡ length entries + 1 = length-append entries (d ∷ []) in
-    rw j at (walk-reads numbers (suc m) s packet fs (before ++ (f ∷ [])) (entries ++ (d ∷ [])) after n next r.next
+    rw j at (walk_reads numbers (suc m) s packet fs (before ++ (f ∷ [])) (entries ++ (d ∷ [])) after n next r.next
     end
     (omega (arith, length-append before (f ∷ []))) (omega arith) b (omega arith) e.1 z.1 k.1 q.later le))
     (read_field packet entries place (sum fixed_bits fs) f) (step_after s run (length entries) r found)
     (field_matches s packet run before entries place f r counts begins (omega arith) e.0 z.0 k.0 q.parts
     (length fs) (sum fixed_bits fs) sums)
 
-pub walk-all : (d : Description) → Within d → (s packet run : List ℕ) → stored d ≡ s → 4 * two_at s 6 ≤ length run
+pub walk_all_lem : (d : Description) → Within d → (s packet run : List ℕ) → stored d ≡ s → 4 * two_at s 6 ≤ length run
     → WalkHolds packet (length d.fields) (read_fields packet [] 0 d.fields)
     (fields_before packet [] 0 d.fields) (walk_all s packet run)
 unfolding walk_all joined
-walk-all d w s packet run e room =
-    let h = head-stands d w s e in
+walk_all_lem d w s packet run e room =
+    let h = head_stands d w s e in
     rw h.count
-    (walk-reads (readers d.fields) 0 s packet d.fields [] [] run (length d.fields) 0 (two_at s 0) h.end
+    (walk_reads (readers d.fields) 0 s packet d.fields [] [] run (length d.fields) 0 (two_at s 0) h.end
     refl (omega arith) refl
     (omega (arith, h.count, room)) w.form w.size w.types h.fields h.short)
 
@@ -204,22 +204,22 @@ walk-all d w s packet run e room =
 
 module _ (d : Description) (s packet run : List ℕ) (r : PacketAnswer) (after : List ℕ) where
   -- the entries of the fields before the first refused one
-  pub run-begins : Within d → stored d ≡ s → 4 * two_at s 6 ≤ length run → length packet ≤ packet_most
+  pub run_begins : Within d → stored d ≡ s → 4 * two_at s 6 ≤ length run → length packet ≤ packet_most
       → Walks s packet run r after → RunBegins (length d.fields) (entries_before d packet) r after
   unfolding entries_before
-  run-begins w e room le walks =
+  run_begins w e room le walks =
       let near : ltb packet_most (length packet) ≡ false = le-ltb packet_most (length packet) le in
-      rw (near, walks.0, walks.1) (walk-all d w s packet run e room).begins
+      rw (near, walks.0, walks.1) (walk_all_lem d w s packet run e room).begins
 
-  pub run-read : Within d → stored d ≡ s → 4 * two_at s 6 ≤ length run → length packet ≤ packet_most
+  pub run_read : Within d → stored d ≡ s → 4 * two_at s 6 ≤ length run → length packet ≤ packet_most
       → Walks s packet run r after → RunHolds (reading d packet) packet r after
   unfolding reading_in
-  run-read w e room le walks =
+  run_read w e room le walks =
       let near : ltb packet_most (length packet) ≡ false = le-ltb packet_most (length packet) le in
-      let h = walk-all d w s packet run e room in
+      let h = walk_all_lem d w s packet run e room in
       rw (near, walks.0, walks.1) (record {
         answer = h.answer;
-        front = λ es q. rw (complete-before packet d.fields [] 0 es q) at h.begins.front;
+        front = λ es q. rw (complete_before packet d.fields [] 0 es q) at h.begins.front;
       })
 
   pub run_long : packet_most < length packet → r ≡ PacketAnswer.TooLong → RunHolds (reading d packet) packet r after
@@ -232,4 +232,4 @@ module _ (d : Description) (s packet run : List ℕ) (r : PacketAnswer) (after :
 -- what a walk over all fields leaves in a run
 pub walks_read : (s packet run : List ℕ) {r : PacketAnswer} {after : List ℕ} → 4 * two_at s 6 ≤ length run
     → length packet ≤ packet_most → Walks s packet run r after → ReadsRun s packet r after
-walks_read s packet run room le w d within is = run-read d s packet run _ _ within is room le w
+walks_read s packet run room le w d within is = run_read d s packet run _ _ within is room le w

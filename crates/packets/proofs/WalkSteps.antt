@@ -16,8 +16,8 @@ use Rattle.packets.specs.FieldTest.{bytes_in, trees_test, field_test, mark_by, m
 use Rattle.packets.specs.TableTest.{walk_at}
 
 -- what stands before an element that is set, and with it
-pub take-before : {A : Type 0} (l : List A) (i : ℕ) (x : A) → take i (set l i x) ≡ take i l
-take-before l i x = take-set-le i l i x (omega arith)
+pub take_before : {A : Type 0} (l : List A) (i : ℕ) (x : A) → take i (set l i x) ≡ take i l
+take_before l i x = take-set-le i l i x (omega arith)
 
 pub take_own : {A : Type 0} (l : List A) (i : ℕ) (x : A) → i < length l
     → take (i + 1) (set l i x) ≡ take i l ++ (x ∷ [])
@@ -32,10 +32,10 @@ module _ (w n i : ℕ) (marks : List ℕ) (place : ℕ) (ended : Bool) (s : List
   unfolding walk_at
   walk_field lt e = let m : n - i ≡ suc (n - (i + 1)) = omega arith in rw (m, e)
 
-  pub walk-trees : i < n → field_test w place ended s at (parts_at s at) ≡ true
+  pub walk_trees : i < n → field_test w place ended s at (parts_at s at) ≡ true
       → trees_test s marks own (parts_at s at) ≡ false → walk_at w (n - i) marks place ended s at ≡ Bad
   unfolding walk_at
-  walk-trees lt e f = let m : n - i ≡ suc (n - (i + 1)) = omega arith in rw (m, e, f)
+  walk_trees lt e f = let m : n - i ≡ suc (n - (i + 1)) = omega arith in rw (m, e, f)
 
   pub walk_on : i < n → field_test w place ended s at (parts_at s at) ≡ true
       → trees_test s marks own (parts_at s at) ≡ true
@@ -50,13 +50,13 @@ module _ (w n i : ℕ) (marks : List ℕ) (place : ℕ) (ended : Bool) (s : List
   walk_end le = let m : n - i ≡ 0 = omega arith in rw m
 
 -- the code's mark, by its test of the label
-pub mark-word : (s : List ℕ) (p : Parts) {word : Bool} {x : ℕ} → word ≡ is_short (bytes_in s p.label)
+pub mark_word : (s : List ℕ) (p : Parts) {word : Bool} {x : ℕ} → word ≡ is_short (bytes_in s p.label)
     → x ≡ mark_by word p → x ≡ mark_of s p
-mark-word s p e h = rw (← e) h
+mark_word s p e h = rw (← e) h
 
 -- the code's test of the trees: the parts r that it holds are p, and the mark x is set
-pub own-trees : (marks : List ℕ) (i x : ℕ) (s : List ℕ) (r p : Parts) → r ≡ p → x ≡ mark_of s r → i < length marks
+pub own_trees : (marks : List ℕ) (i x : ℕ) (s : List ℕ) (r p : Parts) → r ≡ p → x ≡ mark_of s r → i < length marks
     → {b : Bool} → trees_test s (take i (set marks i x)) (take (i + 1) (set marks i x)) r ≡ b
     → trees_test s (take i marks) (take i marks ++ (mark_of s p ∷ [])) p ≡ b
-own-trees marks i x s r p e f lt h =
-    rw (← e, ← f) (rw (take-before marks i x, take_own marks i x lt) at h)
+own_trees marks i x s r p e f lt h =
+    rw (← e, ← f) (rw (take_before marks i x, take_own marks i x lt) at h)

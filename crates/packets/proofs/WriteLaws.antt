@@ -11,10 +11,10 @@ use Rattle.rules.specs.Listing.{entry_text}
 use Rattle.packets.specs.LineTexts.{state_text}
 
 -- no more digits than places
-pub digits-length : (places n : ℕ) → length (digits places n) ≤ places
+pub digits_length : (places n : ℕ) → length (digits places n) ≤ places
 unfolding digits
-digits-length zero n = omega arith
-digits-length (suc p) n = go (ltb n 10) (digits-length p (n / 10))
+digits_length zero n = omega arith
+digits_length (suc p) n = go (ltb n 10) (digits_length p (n / 10))
   where
     go : (b : Bool) → length (digits p (n / 10)) ≤ p
         → length (cond b (digit n) (digits p (n / 10) ++ digit (n % 10))) ≤ suc p
@@ -27,13 +27,13 @@ unfolding state_text
 state_length fixed e = go (is_present e) fixed
   where
     o : length (decimal e.offset) ≤ 10
-    o = digits-length 10 e.offset
+    o = digits_length 10 e.offset
 
     w : length (decimal e.width) ≤ 10
-    w = digits-length 10 e.width
+    w = digits_length 10 e.width
 
     v : length (decimal e.value) ≤ 10
-    v = digits-length 10 e.value
+    v = digits_length 10 e.value
 
     go : (b f : Bool) → length (cond b (entry_text f e) (bytes " absent")) ≤ 33
     go false f = omega arith

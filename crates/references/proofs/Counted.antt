@@ -7,15 +7,15 @@ use native.Mathlib.Omega.{arith}
 use lib.Dec.{eqb}
 use lib.ListN.{length, get_or, replicate, length-replicate, get_or-replicate}
 use Rattle.base.specs.Lists.{joined, list_of}
-use Rattle.base.proofs.Joined.{joined-append}
+use Rattle.base.proofs.Joined.{joined_append}
 use Rattle.rules.specs.Trees.{le2}
 use Rattle.rules.specs.Fields.{Field, width_trees}
 use Rattle.rules.specs.References.{tree_reads, field_reads, times, readers}
-use Rattle.laws.proofs.Counting.{readers_from, readers-append, readers_are}
+use Rattle.laws.proofs.Counting.{readers_from, readers_append, readers_are}
 use Rattle.laws.proofs.Numbers.{le2_mod}
 use Rattle.references.specs.Tallies.{tallied}
 use Rattle.references.specs.Counted.{Counted}
-use Rattle.references.proofs.TallyLaws.{tallied-length, tallied-append, tallied-at}
+use Rattle.references.proofs.TallyLaws.{tallied_length, tallied_append, tallied_at}
 
 none_reads : (i : ℕ) → readers [] i ≡ 0
 unfolding readers_from
@@ -31,50 +31,50 @@ counted_none n = record {
 }
 
 -- a field more is counted, whose own references are left out
-more-readers : (fs : List (Field ℕ)) (f : Field ℕ) (i : ℕ)
+more_readers : (fs : List (Field ℕ)) (f : Field ℕ) (i : ℕ)
     → readers (fs ++ (f ∷ [])) i ≡ readers fs i + cond (eqb i (length fs)) 0 (times i (field_reads f))
 unfolding readers_from
-more-readers fs f i =
-    let all = sym (readers_are (fs ++ (f ∷ [])) i) ∙ readers-append 0 fs (f ∷ []) i in
+more_readers fs f i =
+    let all = sym (readers_are (fs ++ (f ∷ [])) i) ∙ readers_append 0 fs (f ∷ []) i in
     let first = readers_are fs i in
     let own : 0 + length fs ≡ length fs = omega arith in
     let last : readers_from (0 + length fs) (f ∷ []) i ≡ readers_from (length fs) (f ∷ []) i =
     ap (λ (k : ℕ). readers_from k (f ∷ []) i) own in
     omega (arith, all, first, last)
 
-field-reads : (f : Field ℕ) → field_reads f
+field_reads_lem : (f : Field ℕ) → field_reads f
     ≡ joined tree_reads (width_trees f.width)
     ++ (joined tree_reads (list_of f.constraint) ++ joined tree_reads (list_of f.condition))
 unfolding field_reads
-field-reads f =
+field_reads_lem f =
     let w = width_trees f.width in
     let c = list_of f.constraint in
     let k = list_of f.condition in
-    joined-append tree_reads w (c ++ k)
-    ∙ ap (λ (l : List ℕ). joined tree_reads w ++ l) (joined-append tree_reads c k)
+    joined_append tree_reads w (c ++ k)
+    ∙ ap (λ (l : List ℕ). joined tree_reads w ++ l) (joined_append tree_reads c k)
 
-pub counted-more : (fs : List (Field ℕ)) (f : Field ℕ) (counts : List ℕ) → Counted fs counts
+pub counted_more : (fs : List (Field ℕ)) (f : Field ℕ) (counts : List ℕ) → Counted fs counts
     → Counted (fs ++ (f ∷ []))
     (tallied (length fs) (tallied (length fs) (tallied (length fs) counts (joined tree_reads (width_trees f.width)))
     (joined tree_reads (list_of f.constraint))) (joined tree_reads (list_of f.condition)))
-counted-more fs f counts h =
+counted_more fs f counts h =
     let n = length fs in
     let w = joined tree_reads (width_trees f.width) in
     let c = joined tree_reads (list_of f.constraint) in
     let k = joined tree_reads (list_of f.condition) in
     let e : tallied n counts (field_reads f) ≡ tallied n (tallied n (tallied n counts w) c) k =
-    ap (tallied n counts) (field-reads f) ∙ tallied-append n counts w (c ++ k)
-    ∙ tallied-append n (tallied n counts w) c k in
+    ap (tallied n counts) (field_reads_lem f) ∙ tallied_append n counts w (c ++ k)
+    ∙ tallied_append n (tallied n counts w) c k in
     subst (λ (l : List ℕ). Counted (fs ++ (f ∷ [])) l) e (record {
       each = λ i lt.
-          let size = tallied-length n counts (field_reads f) in
+          let size = tallied_length n counts (field_reads f) in
           let in_front_lem : i < length counts = omega (arith, size, lt) in
           let before = h.each i in_front_lem in
-          let here = tallied-at n counts (field_reads f) i in_front_lem (omega (arith, before)) in
-          let all = more-readers fs f i in
+          let here = tallied_at n counts (field_reads f) i in_front_lem (omega (arith, before)) in
+          let all = more_readers fs f i in
           omega (arith, before, here, all);
     })
 
-pub counted-numbers : (fs : List (Field ℕ)) (counts : List ℕ) → Counted fs counts → length fs ≤ length counts
+pub counted_numbers : (fs : List (Field ℕ)) (counts : List ℕ) → Counted fs counts → length fs ≤ length counts
     → (j : ℕ) → j < length fs → le2 (get_or counts j 0) ≡ le2 (readers fs j)
-counted-numbers fs counts h le j lt = ap le2 (h.each j (omega (arith, lt, le))) ∙ le2_mod (readers fs j)
+counted_numbers fs counts h le j lt = ap le2 (h.each j (omega (arith, lt, le))) ∙ le2_mod (readers fs j)

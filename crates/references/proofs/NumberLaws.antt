@@ -40,11 +40,11 @@ two_mod n r =
 -- ── records ──
 
 -- the record in front of the others
-numbered-one : (n : ℕ) (numbers : List ℕ) (kind x : ℕ) (body s : List ℕ) → 6 + length body < 65536
+numbered_one : (n : ℕ) (numbers : List ℕ) (kind x : ℕ) (body s : List ℕ) → 6 + length body < 65536
     → numbered (suc n) numbers (record_of kind (le2 x ++ body) ++ s)
     ≡ record_of kind (le2 (get_or numbers 0 0) ++ body) ++ numbered n (drop 1 numbers) s
 unfolding numbered le2
-numbered-one n numbers kind x body s h =
+numbered_one n numbers kind x body s h =
     let six : ℕ = suc (suc (suc (suc (suc (suc (length body)))))) in
     let m : two_at (record_of kind (le2 x ++ body) ++ s) 0 ≡ six =
     two_mod (4 + length (le2 x ++ body)) ((le2 kind ++ (le2 x ++ body)) ++ s) ∙ omega arith in
@@ -58,13 +58,13 @@ numbered-one n numbers kind x body s h =
 abbrev fits : Field ℕ → Bool
 fits f = ltb (6 + length (field_body f)) 65536
 
-pub numbered-records : (numbers : List ℕ) (old new : ℕ → ℕ) (k : ℕ) (fs : List (Field ℕ)) (r : List ℕ)
+pub numbered_records : (numbers : List ℕ) (old new : ℕ → ℕ) (k : ℕ) (fs : List (Field ℕ)) (r : List ℕ)
     → all (λ f. ltb (6 + length (field_body f)) 65536) fs ≡ true
     → ((j : ℕ) → j < length fs → le2 (get_or numbers j 0) ≡ le2 (new (k + j)))
     → numbered (length fs) numbers (records old k fs ++ r) ≡ records new k fs ++ r
 unfolding records_in stored_field_in numbered all
-numbered-records numbers old new k [] r h e = refl
-numbered-records numbers old new k (f ∷ fs) r h e =
+numbered_records numbers old new k [] r h e = refl
+numbered_records numbers old new k (f ∷ fs) r h e =
     let body = field_body f in
     let kind = kind_number f.width in
     let small = ltb-true (6 + length body) 65536 (and_left (fits f) (all fits fs) h) in
@@ -78,9 +78,9 @@ numbered-records numbers old new k (f ∷ fs) r h e =
     ∙ ap (λ n. le2 (new n)) n in
     let others = records old (suc k) fs in
     ap (numbered (suc (length fs)) numbers) (append_assoc (record_of kind (le2 (old k) ++ body)) others r)
-    ∙ numbered-one (length fs) numbers kind (old k) body (others ++ r) small
+    ∙ numbered_one (length fs) numbers kind (old k) body (others ++ r) small
     ∙ (λ i. record_of kind (first i ++ body)
-    ++ numbered-records (drop 1 numbers) old new (suc k) fs r (and_right (fits f) (all fits fs) h) more i)
+    ++ numbered_records (drop 1 numbers) old new (suc k) fs r (and_right (fits f) (all fits fs) h) more i)
     ∙ sym (append_assoc (record_of kind (le2 (new k) ++ body)) (records new (suc k) fs) r)
 
 -- ── at a place ──
@@ -96,18 +96,18 @@ stays (suc n) numbers s no_record = rw no
         (λ e. no_record (leb-true 6 (two_at s 0) (and_left (leb 6 (two_at s 0)) (leb (two_at s 0) (length s)) e))
         (leb-true (two_at s 0) (length s) (and_right (leb 6 (two_at s 0)) (leb (two_at s 0) (length s)) e)))
 
-two-drop : (s : List ℕ) (at : ℕ) → two_at (drop at s) 0 ≡ get_or s at 0 + 256 * get_or s (at + 1) 0
+two_drop : (s : List ℕ) (at : ℕ) → two_at (drop at s) 0 ≡ get_or s at 0 + 256 * get_or s (at + 1) 0
 unfolding two_at
-two-drop s at =
+two_drop s at =
     let z : at + 0 ≡ at = omega arith in
     rw (get_or-drop at s 0 0, get_or-drop at s 1 0, z)
 
 -- no record stands at a place
-pub numbered-ends : (n : ℕ) (numbers s : List ℕ) (at : ℕ)
+pub numbered_ends : (n : ℕ) (numbers s : List ℕ) (at : ℕ)
     → (6 ≤ get_or s at 0 + 256 * get_or s (at + 1) 0 → get_or s at 0 + 256 * get_or s (at + 1) 0 ≤ length s - at → ⊥)
     → take at s ++ numbered n numbers (drop at s) ≡ s
-numbered-ends n numbers s at no_record =
-    let t = two-drop s at in
+numbered_ends n numbers s at no_record =
+    let t = two_drop s at in
     let l = length-drop at s in
     rw (stays n numbers (drop at s) (λ a b. no_record (omega (arith, a, t)) (omega (arith, b, t, l))))
     (take-append-drop at s)
@@ -141,7 +141,7 @@ numbered_next n k numbers s at size x y lt low high e w =
     let d = drop at s in
     let m = n - (k + 1) in
     let nk : n - k ≡ suc m = omega arith in
-    let t : two_at d 0 ≡ size = two-drop s at ∙ sym e in
+    let t : two_at d 0 ≡ size = two_drop s at ∙ sym e in
     let fit : size ≤ length d = omega (arith, length-drop at s) in
     let z : k + 0 ≡ k = omega arith in
     let put = set (set s (at + 4) x) (at + 5) y in

@@ -14,11 +14,11 @@ use Rattle.rules.specs.Trees.{Tree, num, read, two, negation, le4, stored_tree}
 use Rattle.rules.specs.Stored.{stored_expression}
 use Rattle.rules.specs.Edits.{renumbered_tree}
 use Rattle.laws.proofs.RenumberedLaws.{stored_mapped}
-use Rattle.laws.proofs.Renumbering.{closed-low, closed-high, opened-low, opened-high}
+use Rattle.laws.proofs.Renumbering.{closed_low, closed_high, opened_low, opened_high}
 use Rattle.references.specs.declared.renumbering.Shift.{Shift}
 use Rattle.references.specs.Scans.{behind, codes_from}
 use Rattle.references.specs.Renumbered.{new_index, renumbered_from, renumbered_bytes}
-use Rattle.references.proofs.ScanLaws.{codes_cons, behind-field, op_codes}
+use Rattle.references.proofs.ScanLaws.{codes_cons, behind_field, op_codes}
 
 -- ── bytes passed over ──
 
@@ -35,10 +35,10 @@ at_code g b [] = refl
 at_code g b (c ∷ s) = refl
 
 -- a field's code and its index, and another code
-field-cons : (g : ℕ → ℕ) (i : ℕ) (s : List ℕ)
+field_cons : (g : ℕ → ℕ) (i : ℕ) (s : List ℕ)
     → renumbered_bytes g (field_code ∷ i ∷ s) ≡ field_code ∷ g i ∷ renumbered_bytes g s
 unfolding renumbered_from behind
-field-cons g i s = ap (λ (l : List ℕ). field_code ∷ g i ∷ l) (at_code g true s)
+field_cons g i s = ap (λ (l : List ℕ). field_code ∷ g i ∷ l) (at_code g true s)
 
 other_cons : (g : ℕ → ℕ) (c : ℕ) (s : List ℕ) → eqb c field_code ≡ false
     → renumbered_bytes g (c ∷ s) ≡ c ∷ (take (behind c) s ++ renumbered_bytes g (drop (behind c) s))
@@ -101,15 +101,15 @@ module _ (g : ℕ → ℕ) (s : List ℕ) (at : ℕ) (lt : at < length s) where
       (sym (append_assoc (take at s ++ (c ∷ [])) (take b (drop (suc at) s)) _ ∙ append_assoc (take at s) (c ∷ []) _))
 
   -- behind a field's code and its index, which is put there
-  pub renumber-field : (r v : ℕ) → at + 1 < length s → r ≤ length s → get_or s at 0 ≡ 2
+  pub renumber_field : (r v : ℕ) → at + 1 < length s → r ≤ length s → get_or s at 0 ≡ 2
       → codes_from 0 (drop at s) ≡ drop at s ∷ codes_from 0 (drop r s) → v ≡ g (get_or s (at + 1) 0)
       → take at s ++ renumbered_bytes g (drop at s)
       ≡ take r (set s (at + 1) v) ++ renumbered_bytes g (drop r (set s (at + 1) v))
-  renumber-field r v more le c e w =
+  renumber_field r v more le c e w =
       let i = get_or s (suc at) 0 in
       let d : drop r s ≡ drop (suc at + 1) s =
-      next_place s at r lt e ∙ ap (λ (b : ℕ). drop (suc at + b) s) (behind-field (get_or s at 0) c) in
-      let two-more : r ≡ suc (suc at) = omega (arith, ap length d, length-drop r s, length-drop (suc at + 1) s) in
+      next_place s at r lt e ∙ ap (λ (b : ℕ). drop (suc at + b) s) (behind_field (get_or s at 0) c) in
+      let two_more : r ≡ suc (suc at) = omega (arith, ap length d, length-drop r s, length-drop (suc at + 1) s) in
       let one : at + 1 ≡ suc at = omega arith in
       let next : suc at < length s = omega arith in
       let here : drop at s ≡ field_code ∷ i ∷ drop (suc (suc at)) s =
@@ -122,48 +122,48 @@ module _ (g : ℕ → ℕ) (s : List ℕ) (at : ℕ) (lt : at < length s) where
       ∙ ap (λ (l : List ℕ). l ++ (g i ∷ [])) (take-suc s at 0 lt ∙ ap (λ (x : ℕ). take at s ++ (x ∷ [])) c) in
       let back : drop (suc (suc at)) (set s (suc at) (g i)) ≡ drop (suc (suc at)) s =
       drop-set-lt (suc (suc at)) s (suc at) (g i) (omega arith) in
-      rw (one, value, two-more, front, back, here, field-cons g i (drop (suc (suc at)) s))
+      rw (one, value, two_more, front, back, here, field_cons g i (drop (suc (suc at)) s))
       (sym (append_assoc (take at s ++ (field_code ∷ [])) (g i ∷ []) _ ∙ append_assoc (take at s) (field_code ∷ []) _))
 
   -- a last code without what comes behind it
-  pub renumber-cut : length s ≤ at + 1 → take at s ++ renumbered_bytes g (drop at s) ≡ s
+  pub renumber_cut : length s ≤ at + 1 → take at s ++ renumbered_bytes g (drop at s) ≡ s
   unfolding renumbered_from
-  renumber-cut le =
+  renumber_cut le =
       let z : drop (suc at) s ≡ [] = drop_of_length-le s {i = suc at} (omega arith) in
       let d : drop at s ≡ get_or s at 0 ∷ [] = drop-cons s at 0 lt ∙ ap (λ (l : List ℕ). get_or s at 0 ∷ l) z in
       rw d (sym (ap (λ (l : List ℕ). take at s ++ l) d) ∙ take-append-drop at s)
 
-pub renumber-end : (g : ℕ → ℕ) (s : List ℕ) (at : ℕ) → length s ≤ at
+pub renumber_end : (g : ℕ → ℕ) (s : List ℕ) (at : ℕ) → length s ≤ at
     → take at s ++ renumbered_bytes g (drop at s) ≡ s
 unfolding renumbered_from
-renumber-end g s at le =
+renumber_end g s at le =
     let z : drop at s ≡ [] = drop_of_length-le s {i = at} le in
     let w : take at s ++ drop at s ≡ s = take-append-drop at s in
     rw z (rw z at w)
 
 -- ── stored trees ──
 
-renumber-front : (g : ℕ → ℕ) (t : Tree ℕ) (r : List ℕ)
+renumber_front : (g : ℕ → ℕ) (t : Tree ℕ) (r : List ℕ)
     → renumbered_bytes g (stored_expression t ++ r) ≡ stored_tree g t ++ renumbered_bytes g r
 unfolding stored_tree le4 behind
-renumber-front g (num n) r = other_cons g number_code (le4 n ++ r) refl
-renumber-front g (read i) r = field-cons g i r
-renumber-front g (two o a b) r =
+renumber_front g (num n) r = other_cons g number_code (le4 n ++ r) refl
+renumber_front g (read i) r = field_cons g i r
+renumber_front g (two o a b) r =
     let s = stored_expression a in
     let u = stored_expression b in
     other_cons g (code o) ((s ++ u) ++ r) (op_codes o).1
-    ∙ rw ((op_codes o).0, append_assoc s u r, renumber-front g a (u ++ r), renumber-front g b r)
+    ∙ rw ((op_codes o).0, append_assoc s u r, renumber_front g a (u ++ r), renumber_front g b r)
     (ap (λ (l : List ℕ). code o ∷ l) (sym (append_assoc (stored_tree g a) (stored_tree g b) (renumbered_bytes g r))))
-renumber-front g (negation a) r =
+renumber_front g (negation a) r =
     other_cons g not_code (stored_expression a ++ r) refl
-    ∙ ap (λ (l : List ℕ). not_code ∷ l) (renumber-front g a r)
+    ∙ ap (λ (l : List ℕ). not_code ∷ l) (renumber_front g a r)
 
-pub renumber-stored : (g : ℕ → ℕ) (t : Tree ℕ)
+pub renumber_stored : (g : ℕ → ℕ) (t : Tree ℕ)
     → renumbered_bytes g (stored_expression t) ≡ stored_expression (renumbered_tree g t)
 unfolding renumbered_from
-renumber-stored g t =
+renumber_stored g t =
     ap (renumbered_bytes g) (sym (append-nil (stored_expression t)))
-    ∙ renumber-front g t []
+    ∙ renumber_front g t []
     ∙ append-nil (stored_tree g t)
     ∙ sym (stored_mapped g t)
 
@@ -176,22 +176,22 @@ module _ (shift : Shift) (i : ℕ) (byte : i < 256) where
   abbrev by : ℕ
   by = shift.by
 
-  pub index-low : i < from → i ≡ new_index shift i
+  pub index_low : i < from → i ≡ new_index shift i
   unfolding new_index
-  index-low h = rw (opened-low from by i h, closed-low from by i h) (go shift.up)
+  index_low h = rw (opened_low from by i h, closed_low from by i h) (go shift.up)
     where
       go : (b : Bool) → i ≡ cond b i i % 256
       go true = omega arith
       go false = omega arith
 
-  pub index-up : from ≤ i → shift.up ≡ true → (i + by % 256) % 256 ≡ new_index shift i
+  pub index_up : from ≤ i → shift.up ≡ true → (i + by % 256) % 256 ≡ new_index shift i
   unfolding new_index
-  index-up h u = rw (u, opened-high from by i h) (omega arith)
+  index_up h u = rw (u, opened_high from by i h) (omega arith)
 
-  pub index-none : from ≤ i → shift.up ≡ false → i < by → 0 ≡ new_index shift i
+  pub index_none : from ≤ i → shift.up ≡ false → i < by → 0 ≡ new_index shift i
   unfolding new_index
-  index-none h u lt = let z : i - by ≡ 0 = omega arith in rw (u, closed-high from by i h, z) refl
+  index_none h u lt = let z : i - by ≡ 0 = omega arith in rw (u, closed_high from by i h, z) refl
 
-  pub index-down : from ≤ i → shift.up ≡ false → i - by ≡ new_index shift i
+  pub index_down : from ≤ i → shift.up ≡ false → i - by ≡ new_index shift i
   unfolding new_index
-  index-down h u = let z : (i - by) % 256 ≡ i - by = omega arith in rw (u, closed-high from by i h, z) refl
+  index_down h u = let z : (i - by) % 256 ≡ i - by = omega arith in rw (u, closed_high from by i h, z) refl

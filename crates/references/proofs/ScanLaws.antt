@@ -50,13 +50,13 @@ codes_last s at b lt e le =
     codes_next s at b (length s) lt e
     (drop_of_length-le s {i = suc at + b} le ∙ sym (drop_of_length-le s {i = length s} (omega arith)))
 
-pub behind-number : (c : ℕ) → c ≡ 1 → behind c ≡ 4
+pub behind_number : (c : ℕ) → c ≡ 1 → behind c ≡ 4
 unfolding behind
-behind-number c e = rw e refl
+behind_number c e = rw e refl
 
-pub behind-field : (c : ℕ) → c ≡ 2 → behind c ≡ 1
+pub behind_field : (c : ℕ) → c ≡ 2 → behind c ≡ 1
 unfolding behind
-behind-field c e = rw e refl
+behind_field c e = rw e refl
 
 pub behind_other : (c : ℕ) → (c ≡ 1 → ⊥) → (c ≡ 2 → ⊥) → behind c ≡ 0
 unfolding behind
@@ -64,62 +64,62 @@ behind_other c e f = rw (ne_eqb c 1 e, ne_eqb c 2 f)
 
 -- ── what a code reads ──
 
-index-none : (c : ℕ) (s : List ℕ) → eqb c field_code ≡ false → index_in (c ∷ s) ≡ []
+index_none : (c : ℕ) (s : List ℕ) → eqb c field_code ≡ false → index_in (c ∷ s) ≡ []
 unfolding index_in
-index-none c [] e = refl
-index-none c (i ∷ s) e = rw e
+index_none c [] e = refl
+index_none c (i ∷ s) e = rw e
 
 refs_cons : (c : ℕ) (s : List ℕ) → references (c ∷ s) ≡ index_in (c ∷ s) ++ references (drop (behind c) s)
 unfolding references joined
 refs_cons c s = ap (λ (l : List (List ℕ)). joined index_in l) (codes_cons c s)
 
-has-cons : (w : Wanted) (c : ℕ) (s : List ℕ)
+has_cons : (w : Wanted) (c : ℕ) (s : List ℕ)
     → has_code w (c ∷ s) ≡ (is_wanted w (c ∷ s) || has_code w (drop (behind c) s))
 unfolding has_code any
-has-cons w c s = ap (λ (l : List (List ℕ)). any (is_wanted w) l) (codes_cons c s)
+has_cons w c s = ap (λ (l : List (List ℕ)). any (is_wanted w) l) (codes_cons c s)
 
 -- ── at a place ──
 
-pub has-next : (w : Wanted) (s : List ℕ) (at r : ℕ) → codes_from 0 (drop at s) ≡ drop at s ∷ codes_from 0 (drop r s)
+pub has_next : (w : Wanted) (s : List ℕ) (at r : ℕ) → codes_from 0 (drop at s) ≡ drop at s ∷ codes_from 0 (drop r s)
     → has_code w (drop at s) ≡ (is_wanted w (drop at s) || has_code w (drop r s))
 unfolding has_code any
-has-next w s at r e = rw e refl
+has_next w s at r e = rw e refl
 
 pub has_here : (w : Wanted) (s : List ℕ) (at : ℕ) → at < length s → is_wanted w (drop at s) ≡ true
     → has_code w (drop at s) ≡ true
 has_here w s at lt e =
     let d = drop-cons s at 0 lt in
     let f : is_wanted w (get_or s at 0 ∷ drop (suc at) s) ≡ true = rw d at e in
-    rw (d, has-cons w (get_or s at 0) (drop (suc at) s), f)
+    rw (d, has_cons w (get_or s at 0) (drop (suc at) s), f)
 
 pub has_end : (w : Wanted) (s : List ℕ) → has_code w (drop (length s) s) ≡ false
 unfolding has_code codes_from any
 has_end w s = rw (drop-length s) refl
 
 -- the code of `/`, `%` or `^`
-pub added-at : (s : List ℕ) (at : ℕ) → at < length s → is_added_code (get_or s at 0) ≡ is_wanted Added (drop at s)
-added-at s at lt = rw (drop-cons s at 0 lt) refl
+pub added_at : (s : List ℕ) (at : ℕ) → at < length s → is_added_code (get_or s at 0) ≡ is_wanted Added (drop at s)
+added_at s at lt = rw (drop-cons s at 0 lt) refl
 
-pub references-next : (s : List ℕ) (at r : ℕ) (l : List ℕ)
+pub references_next : (s : List ℕ) (at r : ℕ) (l : List ℕ)
     → codes_from 0 (drop at s) ≡ drop at s ∷ codes_from 0 (drop r s) → index_in (drop at s) ≡ l
     → references (drop at s) ≡ l ++ references (drop r s)
 unfolding references joined
-references-next s at r l e f = rw (e, f)
+references_next s at r l e f = rw (e, f)
 
-pub references-end : (s : List ℕ) (at : ℕ) → length s ≤ at → references (drop at s) ≡ []
+pub references_end : (s : List ℕ) (at : ℕ) → length s ≤ at → references (drop at s) ≡ []
 unfolding references codes_from joined
-references-end s at le = rw (drop_of_length-le s {i = at} le) refl
+references_end s at le = rw (drop_of_length-le s {i = at} le) refl
 
-pub index-field : (s : List ℕ) (at : ℕ) → at + 1 < length s → get_or s at 0 ≡ 2
+pub index_field : (s : List ℕ) (at : ℕ) → at + 1 < length s → get_or s at 0 ≡ 2
     → index_in (drop at s) ≡ get_or s (at + 1) 0 ∷ []
 unfolding index_in
-index-field s at lt e =
+index_field s at lt e =
     rw (drop-cons s at 0 (omega arith), e, ← add-one at, drop-cons s (at + 1) 0 lt) refl
 
 pub index_other : (s : List ℕ) (at : ℕ) → at < length s → (get_or s at 0 ≡ 2 → ⊥) → index_in (drop at s) ≡ []
 index_other s at lt n =
     let c = get_or s at 0 in
-    rw (drop-cons s at 0 lt) (index-none c (drop (suc at) s) (ne_eqb c 2 n))
+    rw (drop-cons s at 0 lt) (index_none c (drop (suc at) s) (ne_eqb c 2 n))
 
 -- a field of a run is read by its code, and by no other, nor where its index is missing
 module _ (s : List ℕ) (at first last : ℕ) where
@@ -127,21 +127,21 @@ module _ (s : List ℕ) (at first last : ℕ) where
   unfolding any
   run_other lt n = rw (index_other s at lt n) refl
 
-  pub run-cut : at < length s → length s ≤ at + 1 → false ≡ is_wanted (Run first last) (drop at s)
+  pub run_cut : at < length s → length s ≤ at + 1 → false ≡ is_wanted (Run first last) (drop at s)
   unfolding any index_in
-  run-cut lt le =
+  run_cut lt le =
       let z : drop (suc at) s ≡ [] = drop_of_length-le s {i = suc at} (omega arith) in
       rw (drop-cons s at 0 lt, z) refl
 
-  pub run-field : at + 1 < length s → get_or s at 0 ≡ 2
+  pub run_field : at + 1 < length s → get_or s at 0 ≡ 2
       → between first (get_or s (at + 1) 0) last ≡ is_wanted (Run first last) (drop at s)
   unfolding any
-  run-field lt e = rw (index-field s at lt e) (sym (or_false (between first (get_or s (at + 1) 0) last)))
+  run_field lt e = rw (index_field s at lt e) (sym (or_false (between first (get_or s (at + 1) 0) last)))
 
 -- a last code without what comes behind it
-pub references-cut : (s : List ℕ) (at : ℕ) → at < length s → length s ≤ at + 1 → references (drop at s) ≡ []
+pub references_cut : (s : List ℕ) (at : ℕ) → at < length s → length s ≤ at + 1 → references (drop at s) ≡ []
 unfolding references codes_from joined index_in
-references-cut s at lt le =
+references_cut s at lt le =
     let z : drop (suc at) s ≡ [] = drop_of_length-le s {i = suc at} (omega arith) in
     rw (drop-cons s at 0 lt, z) refl
 
@@ -173,7 +173,7 @@ refs_front (two o a b) r =
     let u = stored_expression b in
     refs_cons (code o) ((s ++ u) ++ r)
     ∙ rw (
-      index-none (code o) ((s ++ u) ++ r) (op_codes o).1,
+      index_none (code o) ((s ++ u) ++ r) (op_codes o).1,
       (op_codes o).0,
       append_assoc s u r,
       refs_front a (u ++ r),
@@ -182,11 +182,11 @@ refs_front (two o a b) r =
     (sym (append_assoc (tree_reads a) (tree_reads b) (references r)))
 refs_front (negation a) r =
     refs_cons not_code (stored_expression a ++ r)
-    ∙ rw (index-none not_code (stored_expression a ++ r) refl) (refs_front a r)
+    ∙ rw (index_none not_code (stored_expression a ++ r) refl) (refs_front a r)
 
-pub references-stored : (t : Tree ℕ) → references (stored_expression t) ≡ tree_reads t
+pub references_stored : (t : Tree ℕ) → references (stored_expression t) ≡ tree_reads t
 unfolding references codes_from joined
-references-stored t =
+references_stored t =
     ap references (sym (append-nil (stored_expression t))) ∙ refs_front t [] ∙ append-nil (tree_reads t)
 
 -- ── what is found in them ──
@@ -197,19 +197,19 @@ either true x y z = refl
 either false true y z = refl
 either false false y z = refl
 
-added-front : (t : Tree ℕ) (r : List ℕ)
+added_front : (t : Tree ℕ) (r : List ℕ)
     → has_code Added (stored_expression t ++ r) ≡ (not (has_operators (λ o. not (is_added o)) t) || has_code Added r)
 unfolding stored_tree le4 has_operators behind
-added-front (num n) r = has-cons Added number_code (le4 n ++ r)
-added-front (read i) r = has-cons Added field_code (i ∷ r)
-added-front (two o a b) r =
+added_front (num n) r = has_cons Added number_code (le4 n ++ r)
+added_front (read i) r = has_cons Added field_code (i ∷ r)
+added_front (two o a b) r =
     let s = stored_expression a in
     let u = stored_expression b in
     let knows = has_operators (λ o. not (is_added o)) in
-    has-cons Added (code o) ((s ++ u) ++ r)
-    ∙ rw ((op_codes o).0, append_assoc s u r, added-front a (u ++ r), added-front b r)
+    has_cons Added (code o) ((s ++ u) ++ r)
+    ∙ rw ((op_codes o).0, append_assoc s u r, added_front a (u ++ r), added_front b r)
     (either (is_added o) (knows a) (knows b) (has_code Added r))
-added-front (negation a) r = has-cons Added not_code (stored_expression a ++ r) ∙ added-front a r
+added_front (negation a) r = has_cons Added not_code (stored_expression a ++ r) ∙ added_front a r
 
 pub any_append : {A : Type 0} (p : A → Bool) (l m : List A) → any p (l ++ m) ≡ (any p l || any p m)
 unfolding any
@@ -220,24 +220,24 @@ any_append p (x ∷ l) m = ap (λ (b : Bool). p x || b) (any_append p l m) ∙ o
     or_assoc true b c = refl
     or_assoc false b c = refl
 
-pub any-joined : {A : Type 0} (p : ℕ → Bool) (f : A → List ℕ) (l : List A)
+pub any_joined : {A : Type 0} (p : ℕ → Bool) (f : A → List ℕ) (l : List A)
     → any (λ x. any p (f x)) l ≡ any p (joined f l)
 unfolding any joined
-any-joined p f [] = refl
-any-joined p f (x ∷ l) =
-    ap (λ (b : Bool). any p (f x) || b) (any-joined p f l) ∙ sym (any_append p (f x) (joined f l))
+any_joined p f [] = refl
+any_joined p f (x ∷ l) =
+    ap (λ (b : Bool). any p (f x) || b) (any_joined p f l) ∙ sym (any_append p (f x) (joined f l))
 
 -- the tree has what is looked for
 abbrev pub tree_has : Wanted → Tree ℕ → Bool
 tree_has Added t = not (has_operators (λ o. not (is_added o)) t)
 tree_has (Run first last) t = any (λ i. between first i last) (tree_reads t)
 
-pub has-stored : (w : Wanted) (t : Tree ℕ) → has_code w (stored_expression t) ≡ tree_has w t
+pub has_stored : (w : Wanted) (t : Tree ℕ) → has_code w (stored_expression t) ≡ tree_has w t
 unfolding has_code codes_from references any
-has-stored Added t =
+has_stored Added t =
     ap (has_code Added) (sym (append-nil (stored_expression t)))
-    ∙ added-front t []
+    ∙ added_front t []
     ∙ or_false (not (has_operators (λ o. not (is_added o)) t))
-has-stored (Run first last) t =
-    any-joined (λ i. between first i last) index_in (codes_from 0 (stored_expression t))
-    ∙ ap (any (λ i. between first i last)) (references-stored t)
+has_stored (Run first last) t =
+    any_joined (λ i. between first i last) index_in (codes_from 0 (stored_expression t))
+    ∙ ap (any (λ i. between first i last)) (references_stored t)

@@ -13,10 +13,10 @@ use Rattle.rules.specs.References.{times}
 use Rattle.references.specs.Scans.{codes_from, index_in, references}
 use Rattle.references.specs.Tallies.{one_more, tallied}
 use Rattle.references.proofs.ScanLaws.{
-  references-next,
-  references-cut,
-  references-end,
-  index-field,
+  references_next,
+  references_cut,
+  references_end,
+  index_field,
   index_other,
 }
 
@@ -24,29 +24,29 @@ use Rattle.references.proofs.ScanLaws.{
 abbrev one : ℕ → List ℕ → ℕ → List ℕ
 one own counts i = cond (eqb i own) counts (set counts i (one_more (get_or counts i 0)))
 
-one-length : (own : ℕ) (counts : List ℕ) (i : ℕ) → length (one own counts i) ≡ length counts
-one-length own counts i = go (eqb i own)
+one_length : (own : ℕ) (counts : List ℕ) (i : ℕ) → length (one own counts i) ≡ length counts
+one_length own counts i = go (eqb i own)
   where
     go : (b : Bool) → length (cond b counts (set counts i (one_more (get_or counts i 0)))) ≡ length counts
     go true = refl
     go false = length-set counts i (one_more (get_or counts i 0))
 
-pub tallied-length : (own : ℕ) (counts l : List ℕ) → length (tallied own counts l) ≡ length counts
+pub tallied_length : (own : ℕ) (counts l : List ℕ) → length (tallied own counts l) ≡ length counts
 unfolding tallied
-tallied-length own counts [] = refl
-tallied-length own counts (i ∷ l) = tallied-length own (one own counts i) l ∙ one-length own counts i
+tallied_length own counts [] = refl
+tallied_length own counts (i ∷ l) = tallied_length own (one own counts i) l ∙ one_length own counts i
 
-pub tallied-append : (own : ℕ) (counts l m : List ℕ)
+pub tallied_append : (own : ℕ) (counts l m : List ℕ)
     → tallied own counts (l ++ m) ≡ tallied own (tallied own counts l) m
 unfolding tallied
-tallied-append own counts [] m = refl
-tallied-append own counts (i ∷ l) m = tallied-append own (one own counts i) l m
+tallied_append own counts [] m = refl
+tallied_append own counts (i ∷ l) m = tallied_append own (one own counts i) l m
 
 -- ── one index ──
 
-pub tallied-own : (own : ℕ) (counts : List ℕ) (i : ℕ) → i ≡ own → counts ≡ tallied own counts (i ∷ [])
+pub tallied_own : (own : ℕ) (counts : List ℕ) (i : ℕ) → i ≡ own → counts ≡ tallied own counts (i ∷ [])
 unfolding tallied
-tallied-own own counts i e = rw (eq-eqb i own e)
+tallied_own own counts i e = rw (eq-eqb i own e)
 
 pub tallied_out : (own : ℕ) (counts : List ℕ) (i : ℕ) → length counts ≤ i → counts ≡ tallied own counts (i ∷ [])
 unfolding tallied
@@ -56,10 +56,10 @@ tallied_out own counts i le = go (eqb i own)
     go true = refl
     go false = sym (set_out counts i (one_more (get_or counts i 0)) le)
 
-pub tallied-one : (own : ℕ) (counts : List ℕ) (i x : ℕ) → (i ≡ own → ⊥) → x ≡ one_more (get_or counts i 0)
+pub tallied_one : (own : ℕ) (counts : List ℕ) (i x : ℕ) → (i ≡ own → ⊥) → x ≡ one_more (get_or counts i 0)
     → set counts i x ≡ tallied own counts (i ∷ [])
 unfolding tallied
-tallied-one own counts i x n e = rw (ne_eqb i own n, e)
+tallied_one own counts i x n e = rw (ne_eqb i own n, e)
 
 -- ── at a place ──
 
@@ -67,16 +67,16 @@ next : (own : ℕ) (counts s : List ℕ) (at r : ℕ) (l : List ℕ)
     → codes_from 0 (drop at s) ≡ drop at s ∷ codes_from 0 (drop r s) → index_in (drop at s) ≡ l
     → tallied own counts (references (drop at s)) ≡ tallied own (tallied own counts l) (references (drop r s))
 next own counts s at r l e f =
-    ap (λ (m : List ℕ). tallied own counts m) (references-next s at r l e f)
-    ∙ tallied-append own counts l (references (drop r s))
+    ap (λ (m : List ℕ). tallied own counts m) (references_next s at r l e f)
+    ∙ tallied_append own counts l (references (drop r s))
 
 -- the counts after a field's code
-pub tally-field : (own : ℕ) (counts after s : List ℕ) (at r : ℕ) → at + 1 < length s → get_or s at 0 ≡ 2
+pub tally_field : (own : ℕ) (counts after s : List ℕ) (at r : ℕ) → at + 1 < length s → get_or s at 0 ≡ 2
     → codes_from 0 (drop at s) ≡ drop at s ∷ codes_from 0 (drop r s)
     → after ≡ tallied own counts (get_or s (at + 1) 0 ∷ [])
     → tallied own counts (references (drop at s)) ≡ tallied own after (references (drop r s))
-tally-field own counts after s at r lt c e f =
-    rw f (next own counts s at r (get_or s (at + 1) 0 ∷ []) e (index-field s at lt c))
+tally_field own counts after s at r lt c e f =
+    rw f (next own counts s at r (get_or s (at + 1) 0 ∷ []) e (index_field s at lt c))
 
 -- after another
 pub tally_other : (own : ℕ) (counts s : List ℕ) (at r : ℕ) → at < length s → (get_or s at 0 ≡ 2 → ⊥)
@@ -86,15 +86,15 @@ unfolding tallied
 tally_other own counts s at r lt c e = next own counts s at r [] e (index_other s at lt c)
 
 -- after a last code without what comes behind it, and at the end
-pub tally-cut : (own : ℕ) (counts s : List ℕ) (at : ℕ) → at < length s → length s ≤ at + 1
+pub tally_cut : (own : ℕ) (counts s : List ℕ) (at : ℕ) → at < length s → length s ≤ at + 1
     → tallied own counts (references (drop at s)) ≡ counts
 unfolding tallied
-tally-cut own counts s at lt le = rw (references-cut s at lt le) refl
+tally_cut own counts s at lt le = rw (references_cut s at lt le) refl
 
-pub tally-end : (own : ℕ) (counts s : List ℕ) (at : ℕ) → length s ≤ at
+pub tally_end : (own : ℕ) (counts s : List ℕ) (at : ℕ) → length s ≤ at
     → tallied own counts (references (drop at s)) ≡ counts
 unfolding tallied
-tally-end own counts s at le = rw (references-end s at le) refl
+tally_end own counts s at le = rw (references_end s at le) refl
 
 -- ── the count at an index ──
 
@@ -127,21 +127,21 @@ both : (b : Bool) (n x y : ℕ) → ((n + cond b 0 x) % 65536 + cond b 0 y) % 65
 both true n x y = omega arith
 both false n x y = omega arith
 
-pub tallied-at : (own : ℕ) (counts l : List ℕ) (i : ℕ) → i < length counts → get_or counts i 0 < 65536
+pub tallied_at : (own : ℕ) (counts l : List ℕ) (i : ℕ) → i < length counts → get_or counts i 0 < 65536
     → get_or (tallied own counts l) i 0 ≡ (get_or counts i 0 + cond (eqb i own) 0 (times i l)) % 65536
 unfolding tallied times sum
-tallied-at own counts [] i lt h = go (eqb i own)
+tallied_at own counts [] i lt h = go (eqb i own)
   where
     go : (b : Bool) → get_or counts i 0 ≡ (get_or counts i 0 + cond b 0 0) % 65536
     go true = omega arith
     go false = omega arith
-tallied-at own counts (j ∷ l) i lt h =
+tallied_at own counts (j ∷ l) i lt h =
     let e = one_at own counts j i lt h in
     let small : get_or (one own counts j) i 0 < 65536 = rw e (omega arith) in
-    let size = one-length own counts j in
-    tallied-at own (one own counts j) l i (omega (arith, size)) small
+    let size = one_length own counts j in
+    tallied_at own (one own counts j) l i (omega (arith, size)) small
     ∙ rw e (both (eqb i own) (get_or counts i 0) (cond (eqb j i) 1 0) (times i l))
 
-pub tallied-small : (own : ℕ) (counts l : List ℕ) (i : ℕ) → i < length counts → get_or counts i 0 < 65536
+pub tallied_small : (own : ℕ) (counts l : List ℕ) (i : ℕ) → i < length counts → get_or counts i 0 < 65536
     → get_or (tallied own counts l) i 0 < 65536
-tallied-small own counts l i lt h = rw (tallied-at own counts l i lt h) (omega arith)
+tallied_small own counts l i lt h = rw (tallied_at own counts l i lt h) (omega arith)

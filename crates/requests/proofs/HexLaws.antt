@@ -24,9 +24,9 @@ filling_none s out = record { size = refl; within = omega arith; place = omega a
 
 -- ── the next pair ──
 
-two-more : (s : List ℕ) (i : ℕ) → 2 ≤ length s - i
+two_more : (s : List ℕ) (i : ℕ) → 2 ≤ length s - i
     → drop i s ≡ get_or s i 0 ∷ get_or s (i + 1) 0 ∷ drop (i + 2) s
-two-more s i h =
+two_more s i h =
     let a : i < length s = omega arith in
     let b : suc i < length s = omega arith in
     let e : i + 2 ≡ suc (suc i) = omega arith in
@@ -35,7 +35,7 @@ two-more s i h =
 hex_step : (s : List ℕ) (i h l : ℕ) → 2 ≤ length s - i → h ≡ digit_of (get_or s i 0) → l ≡ digit_of (get_or s (i + 1) 0)
     → hex_bytes (drop i s) ≡ cond (ltb 15 h) [] (cond (ltb 15 l) [] ((16 * h + l) ∷ hex_bytes (drop (i + 2) s)))
 unfolding hex_bytes
-hex_step s i h l k e f = rw (e, f, two-more s i k)
+hex_step s i h l k e f = rw (e, f, two_more s i k)
 
 hex_short : (s : List ℕ) → length s < 2 → hex_bytes s ≡ []
 unfolding hex_bytes

@@ -41,6 +41,6 @@ ruled_out : (c : Claim) → is_other c ≡ true → Claimed c → ⊥
 ruled_out c h p = not_same (claimed c) (given c) h (claim_only c p)
 
 -- each wrong program's answer is ruled out
-pub all-ruled_out : AllFalse wrong
+pub all_ruled_out : AllFalse wrong
 unfolding all same before next_word digit_of number_from hex_bytes fitting
-all-ruled_out = every_passes is_other ruled_out wrong refl
+all_ruled_out = every_passes is_other ruled_out wrong refl

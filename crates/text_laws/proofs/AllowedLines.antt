@@ -30,12 +30,11 @@ use Rattle.rules.specs.Names.{
 }
 use Rattle.rules.specs.Trees.{Tree, num}
 use Rattle.rules.specs.Fields.{Width, fixed, measured, rest, Field}
-use Rattle.rules.specs.Within.{is_width}
 use Rattle.rules.specs.Expressions.{SpellsAt, number, field, two_sided, negated, parentheses, gap}
 use Rattle.rules.specs.Lines.{
   UnitWord,
   bit_word,
-  bits-word,
+  bits_word,
   byte_word,
   bytes_word,
   short_text,
@@ -46,8 +45,8 @@ use Rattle.rules.specs.Lines.{
   SpellsField,
 }
 use Rattle.text_laws.proofs.OperatorTable.{each}
-use Rattle.text_laws.proofs.ReaderWords.{number-bytes, short-bytes}
-use Rattle.laws.proofs.ReadsFields.{formed-names}
+use Rattle.text_laws.proofs.ReaderWords.{number_bytes_lem, short_bytes}
+use Rattle.laws.proofs.ReadsFields.{formed_names}
 
 -- each byte may stand in a line
 abbrev pub printable : List ℕ → Bool
@@ -85,9 +84,9 @@ label_printable b h = or_true (is_word_byte b) (eqb b 32 || eqb b 45) (word_prin
 pub words_printable : (s : List ℕ) → all is_word_byte s ≡ true → printable s ≡ true
 words_printable s h = all_weaken is_word_byte is_printable word_printable s h
 
-pub label-is_printable : (s : List ℕ) → is_label s ≡ true → printable s ≡ true
+pub label_is_printable : (s : List ℕ) → is_label s ≡ true → printable s ≡ true
 unfolding is_label
-label-is_printable s h = all_weaken is_label_byte is_printable label_printable s
+label_is_printable s h = all_weaken is_label_byte is_printable label_printable s
     (and_left (all is_label_byte s) (has_word_ends s && no_two_spaces s)
     (and_right (leb (length s) label_most) (all is_label_byte s && (has_word_ends s && no_two_spaces s)) h))
 
@@ -110,8 +109,8 @@ module _ {N : Type 0} {R : N → List ℕ → Type 0} (short : (a : N) (w : List
 
   pub tree_printable : {k b : ℕ} {t : Tree N} {s : List ℕ} → SpellsAt R k b t s → printable s ≡ true
   unfolding all is_printable
-  tree_printable (number {n = n} h e) = rw e (words_printable (decimal n) (number-bytes n h))
-  tree_printable (field {a = a} {s = s} r) = words_printable s (short-bytes s (short a s r))
+  tree_printable (number {n = n} h e) = rw e (words_printable (decimal n) (number_bytes_lem n h))
+  tree_printable (field {a = a} {s = s} r) = words_printable s (short_bytes s (short a s r))
   tree_printable (two_sided {o = o} {s = s} {u = u} g h l x y) =
       printable_both s (gap g ++ (symbol o ++ (gap h ++ u))) (tree_printable x)
       (printable_both (gap g) (symbol o ++ (gap h ++ u)) (gap_printable g)
@@ -125,7 +124,7 @@ module _ {N : Type 0} {R : N → List ℕ → Type 0} (short : (a : N) (w : List
   unit_printable : {u : ℕ} {s : List ℕ} → UnitWord u s → printable s ≡ true
   unfolding all is_printable
   unit_printable bit_word = refl
-  unit_printable bits-word = refl
+  unit_printable bits_word = refl
   unit_printable byte_word = refl
   unit_printable bytes_word = refl
 
@@ -150,7 +149,7 @@ module _ {N : Type 0} {R : N → List ℕ → Type 0} (short : (a : N) (w : List
   short_printable : (o : Option (List ℕ)) → if_any is_short o ≡ true → printable (short_text o) ≡ true
   unfolding all is_printable
   short_printable none h = refl
-  short_printable (some w) h = inside (bytes " (") w refl (words_printable w (short-bytes w h))
+  short_printable (some w) h = inside (bytes " (") w refl (words_printable w (short_bytes w h))
 
   remark_printable : (s : List ℕ) → Remark s → printable s ≡ true
   unfolding all is_printable
@@ -159,8 +158,8 @@ module _ {N : Type 0} {R : N → List ℕ → Type 0} (short : (a : N) (w : List
 
   pub field_printable : (x : Field N) (s : List ℕ) → SpellsField R x s → printable s ≡ true
   field_printable x s h =
-      let names = formed-names x h.formed in
-      let label : printable x.label ≡ true = label-is_printable x.label names.0 in
+      let names = formed_names x h.formed in
+      let label : printable x.label ≡ true = label_is_printable x.label names.0 in
       let name : printable (short_text x.short) ≡ true = short_printable x.short names.1 in
       let wide : printable h.line.width ≡ true = width_printable x.width h.line.width h.line.is_width in
       let own : printable h.line.constraint ≡ true =

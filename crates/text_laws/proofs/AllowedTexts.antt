@@ -20,12 +20,12 @@ use Rattle.rules.specs.Rows.{Cell, cell_text, Row, bit_row, long_row, bar_line, 
 use Rattle.rules.specs.Frames.{tens_at, tens, units_at, units, border_at, border, is_drawn_in, Frame, article, head_lines}
 use Rattle.rules.specs.Frames.{ended, frame_text, FrameOfIn}
 use Rattle.rules.specs.Spelling.{SpellsIn, Spells, NameOf}
-use Rattle.text_laws.proofs.NamedRules.{name-short}
-use Rattle.text_laws.proofs.CellTexts.{cell-all, columns-all}
+use Rattle.text_laws.proofs.NamedRules.{name_short}
+use Rattle.text_laws.proofs.CellTexts.{cell_all, columns_all}
 use Rattle.text_laws.proofs.RowReader.{drawn_fitted}
-use Rattle.text_laws.proofs.Resolve.{frame-parts}
-use Rattle.text_laws.proofs.AllowedLines.{printable, printable_both, label-is_printable, field_printable}
-use Rattle.text_laws.proofs.FormedLines.{formed-lines}
+use Rattle.text_laws.proofs.Resolve.{frame_parts}
+use Rattle.text_laws.proofs.AllowedLines.{printable, printable_both, label_is_printable, field_printable}
+use Rattle.text_laws.proofs.FormedLines.{formed_lines}
 
 -- ── rulers and borders ──
 
@@ -65,8 +65,8 @@ border_printable : (w : ℕ) → printable (border w) ≡ true
 unfolding border is_printable
 border_printable w = made_printable border_at (2 * w + 1) 0 (λ c lt. either_printable (eqb (c % 2) 0) 43 45 refl refl)
 
-row-width-most : (w : ℕ) → is_row_width w ≡ true → w ≤ 32
-row-width-most w h = or_true (eqb w 8) (eqb w 16 || eqb w 32) (small 8 (omega arith))
+row_width_most : (w : ℕ) → is_row_width w ≡ true → w ≤ 32
+row_width_most w h = or_true (eqb w 8) (eqb w 16 || eqb w 32) (small 8 (omega arith))
     (or_true (eqb w 16) (eqb w 32) (small 16 (omega arith)) (small 32 (omega arith))) h
   where
     small : (n : ℕ) → n ≤ 32 → eqb w n ≡ true → w ≤ 32
@@ -81,7 +81,7 @@ cells_printable [] h = refl
 cells_printable (c ∷ cs) h =
     let k = all_cons (λ c. is_label (cell_text c)) c cs h in
     and_both (all printable c.lines) (all (λ c. all printable c.lines) cs)
-    (cell-all is_printable space_printable c (label-is_printable (cell_text c) k.0)) (cells_printable cs k.1)
+    (cell_all is_printable space_printable c (label_is_printable (cell_text c) k.0)) (cells_printable cs k.1)
 
 strips_printable : (ss : List (List ℕ)) → all printable ss ≡ true → printable (joined (λ s. s ++ bytes "|") ss) ≡ true
 unfolding all joined is_printable
@@ -105,7 +105,7 @@ row_printable : (w : ℕ) (r : Row) → is_drawn_row row_lines_most w r ≡ true
     (row_lines r) ≡ true
 unfolding all row_lines is_printable
 row_printable w (bit_row bits lines) d h =
-    bars_printable lines (columns-all printable bits lines (drawn_fitted w bits lines d)
+    bars_printable lines (columns_all printable bits lines (drawn_fitted w bits lines d)
     (cells_printable (columns bits lines) h))
 row_printable w (long_row n s) d h =
     let c : Cell = record { bits = n; lines = s ∷ [] } in
@@ -135,12 +135,12 @@ head_printable : (e : Edition) → e.row_lines ≡ row_lines_most → (text : Li
     → all printable (head_lines f) ≡ true
 unfolding all is_printable head_lines
 head_printable e is text f h =
-    let p = frame-parts e text f h in
+    let p = frame_parts e text f h in
     let drawn : all (is_drawn_row row_lines_most f.row_width) f.rows ≡ true =
     subst (λ (n : ℕ). all (is_drawn_row n f.row_width) f.rows ≡ true) is p.2 in
     let opening : printable (article f.an ++ (f.name ++ bytes " is formatted as follows:")) ≡ true =
     printable_both (article f.an) (f.name ++ bytes " is formatted as follows:") (article_printable f.an)
-    (printable_both f.name (bytes " is formatted as follows:") (label-is_printable f.name p.0) refl) in
+    (printable_both f.name (bytes " is formatted as follows:") (label_is_printable f.name p.0) refl) in
     let rows : all printable (joined (λ r. row_lines r ++ (border f.row_width ∷ [])) f.rows
     ++ ([] ∷ bytes "where:" ∷ [] ∷ [])) ≡ true =
     all_append printable (joined (λ r. row_lines r ++ (border f.row_width ∷ [])) f.rows)
@@ -148,7 +148,7 @@ head_printable e is text f h =
     (and_right (is_drawn_in e f) (all is_labelled f.rows) h.is_framed)) refl in
     rw (
       opening,
-      tens_printable f.row_width (row-width-most f.row_width p.1),
+      tens_printable f.row_width (row_width_most f.row_width p.1),
       units_printable f.row_width,
       border_printable f.row_width,
     ) rows
@@ -182,8 +182,8 @@ spelled_allowed_in e is text d s =
     (lines_allowed (head_lines s.frame ++ s.frame.lines)
     (all_append printable (head_lines s.frame) s.frame.lines
     (head_printable e is text s.frame s.is_frame_of)
-    (lines_printable (NameOf d.fields) (name-short d.fields s.within.form) d.fields s.frame.lines
-    (formed-lines (NameOf d.fields) [] d.fields s.frame.lines s.within.form s.lines))))
+    (lines_printable (NameOf d.fields) (name_short d.fields s.within.form) d.fields s.frame.lines
+    (formed_lines (NameOf d.fields) [] d.fields s.frame.lines s.within.form s.lines))))
 
 pub spelled_allowed : (text : List ℕ) (d : Description) → Spells text d → all is_allowed text ≡ true
 spelled_allowed text d s = spelled_allowed_in current refl text d s

@@ -9,7 +9,7 @@ use native.Mathlib.Omega.{arith}
 use native.Mathlib.Decide.{dec_lt}
 use lib.ListN.{length, get_or}
 use Rattle.base.specs.Lists.{all, Each}
-use Rattle.base.proofs.Lists.{not-both}
+use Rattle.base.proofs.Lists.{not_both}
 use Rattle.rules.specs.Limits.{text_most}
 use Rattle.rules.specs.Names.{is_allowed}
 use Rattle.rules.specs.Fields.{Form, Description}
@@ -34,7 +34,7 @@ use Rattle.rules.specs.Refusals.{
 }
 use Rattle.rules.specs.Promises.{Outcome, leaves, delivered, ReadsText, spelled, refuses}
 use Rattle.rules.specs.Results.{SpellingUnique, TextUnique}
-use Rattle.text_laws.proofs.NamedForms.{FormsOf, forms-named, description_settled}
+use Rattle.text_laws.proofs.NamedForms.{FormsOf, forms_named, description_settled}
 use Rattle.text_laws.proofs.AllowedTexts.{spelled_allowed}
 
 -- ── lines without a form ──
@@ -48,17 +48,17 @@ first_unique lines i j p q = go (dec_lt i j) (dec_lt j i)
     go (no a) (no b) = omega arith
 
 -- a line of which there are forms has one
-formed-at : (forms : List Form) (lines : List (List ℕ)) → Each (SpellsField Unresolved) forms lines → (i : ℕ)
+formed_at : (forms : List Form) (lines : List (List ℕ)) → Each (SpellsField Unresolved) forms lines → (i : ℕ)
     → i < length lines → Formless (get_or lines i []) → ⊥
-formed-at [] [] h i lt f = absurd (omega arith)
-formed-at [] (l ∷ lines) h i lt f = absurd h
-formed-at (x ∷ forms) [] h i lt f = absurd h
-formed-at (x ∷ forms) (l ∷ lines) h zero lt f = f x h.0
-formed-at (x ∷ forms) (l ∷ lines) h (suc i) lt f = formed-at forms lines h.1 i (omega arith) f
+formed_at [] [] h i lt f = absurd (omega arith)
+formed_at [] (l ∷ lines) h i lt f = absurd h
+formed_at (x ∷ forms) [] h i lt f = absurd h
+formed_at (x ∷ forms) (l ∷ lines) h zero lt f = f x h.0
+formed_at (x ∷ forms) (l ∷ lines) h (suc i) lt f = formed_at forms lines h.1 i (omega arith) f
 
-all-formed : (forms : List Form) (lines : List (List ℕ)) → Each (SpellsField Unresolved) forms lines
+all_formed : (forms : List Form) (lines : List (List ℕ)) → Each (SpellsField Unresolved) forms lines
     → (i : ℕ) → FirstFormless lines i → ⊥
-all-formed forms lines h i p = formed-at forms lines h i p.there p.formless
+all_formed forms lines h i p = formed_at forms lines h i p.there p.formless
 
 -- ── what an outcome says of the text, one stage after the other ──
 
@@ -113,32 +113,32 @@ module _
 
     pub spelling_unique : SpellingUnique
     spelling_unique text d e s t =
-        let same-frame : s.frame ≡ t.frame = frame_unique text s.frame t.frame s.is_frame_of t.is_frame_of in
-        let p : FormsOf d s.frame = forms-named text d s in
-        let q : FormsOf e t.frame = forms-named text e t in
-        let same-forms : p.forms ≡ q.forms =
-        forms_unique p.forms q.forms s.frame.lines p.spelled (rw same-frame q.spelled) in
+        let same_frame : s.frame ≡ t.frame = frame_unique text s.frame t.frame s.is_frame_of t.is_frame_of in
+        let p : FormsOf d s.frame = forms_named text d s in
+        let q : FormsOf e t.frame = forms_named text e t in
+        let same_forms : p.forms ≡ q.forms =
+        forms_unique p.forms q.forms s.frame.lines p.spelled (rw same_frame q.spelled) in
         description_settled d e p.forms s.within
-        (sym s.name ∙ ap (λ (f : Frame). f.name) same-frame ∙ t.name)
-        (sym s.row ∙ ap (λ (f : Frame). f.row_width) same-frame ∙ t.row) p.named (rw same-forms q.named)
+        (sym s.name ∙ ap (λ (f : Frame). f.name) same_frame ∙ t.name)
+        (sym s.row ∙ ap (λ (f : Frame). f.row_width) same_frame ∙ t.row) p.named (rw same_forms q.named)
 
     -- ── only one outcome ──
 
     module _ (text out : List ℕ) where
-      seen-refuses : (a : Answer) → Refuses text a → First text out (leaves a out)
-      seen-refuses a (long h) = inl (h, refl)
-      seen-refuses a (byte le h) = inr (le, inl (h, refl))
-      seen-refuses a (line {k = k} p f r) = inr (p.size, inr (p.bytes, inl (k, f, r, refl)))
-      seen-refuses a (many {f = f} p fr h) = inr (p.size, inr (p.bytes, inr (f, fr, inl (h, refl))))
-      seen-refuses a (form {f = f} {i = i} p h) =
+      seen_refuses : (a : Answer) → Refuses text a → First text out (leaves a out)
+      seen_refuses a (long h) = inl (h, refl)
+      seen_refuses a (byte le h) = inr (le, inl (h, refl))
+      seen_refuses a (line {k = k} p f r) = inr (p.size, inr (p.bytes, inl (k, f, r, refl)))
+      seen_refuses a (many {f = f} p fr h) = inr (p.size, inr (p.bytes, inr (f, fr, inl (h, refl))))
+      seen_refuses a (form {f = f} {i = i} p h) =
           inr (p.plain.size, inr (p.plain.bytes, inr (f, p.is_frame_of, inr (p.few, inl (i, h, refl)))))
-      seen-refuses a (rule {f = f} forms p h e) =
+      seen_refuses a (rule {f = f} forms p h e) =
           let last : Fifth text out f (leaves a out) = inr (forms, h, inl (a, e, refl)) in
           inr (p.plain.size, inr (p.plain.bytes, inr (f, p.is_frame_of, inr (p.few, last))))
 
       seen : (o : Outcome) → ReadsText text out o → First text out o
       seen o (spelled {d = d} le s) =
-          let p = forms-named text d s in
+          let p = forms_named text d s in
           inr (
             le,
             inr (
@@ -146,7 +146,7 @@ module _
               inr (s.frame, s.is_frame_of, inr (p.is_few, inr (p.forms, p.spelled, inr (d, p.kept, s, refl)))),
             ),
           )
-      seen o (refuses {a = a} r) = seen-refuses a r
+      seen o (refuses {a = a} r) = seen_refuses a r
 
       only_last : (f : Frame) (forms : List Form) (o p : Outcome) → Last text out f forms o → Last text out f forms p
           → o ≡ p
@@ -165,16 +165,16 @@ module _
           ∙ ap (λ (i : ℕ). leaves (refused 5 (line_number f i)) out)
           (first_unique f.lines x.0 y.0 x.1 y.1)
           ∙ sym y.2
-      only_fifth f o p (inl x) (inr y) = absurd (all-formed y.0 f.lines y.1 x.0 x.1)
-      only_fifth f o p (inr x) (inl y) = absurd (all-formed x.0 f.lines x.1 y.0 y.1)
+      only_fifth f o p (inl x) (inr y) = absurd (all_formed y.0 f.lines y.1 x.0 x.1)
+      only_fifth f o p (inr x) (inl y) = absurd (all_formed x.0 f.lines x.1 y.0 y.1)
       only_fifth f o p (inr x) (inr y) =
           only_last f x.0 o p x.2
           (subst (λ (l : List Form). Last text out f l p) (forms_unique y.0 x.0 f.lines y.1 x.1) y.2)
 
       only_fourth : (f : Frame) (o p : Outcome) → Fourth text out f o → Fourth text out f p → o ≡ p
       only_fourth f o p (inl x) (inl y) = x.1 ∙ sym y.1
-      only_fourth f o p (inl x) (inr y) = absurd (not-both (is_overfull f) x.0 y.0)
-      only_fourth f o p (inr x) (inl y) = absurd (not-both (is_overfull f) y.0 x.0)
+      only_fourth f o p (inl x) (inr y) = absurd (not_both (is_overfull f) x.0 y.0)
+      only_fourth f o p (inr x) (inl y) = absurd (not_both (is_overfull f) y.0 x.0)
       only_fourth f o p (inr x) (inr y) = only_fifth f o p x.1 y.1
 
       only_third : (o p : Outcome) → Third text out o → Third text out p → o ≡ p
@@ -187,17 +187,17 @@ module _
           only_fourth x.0 o p x.2
           (subst (λ (f : Frame). Fourth text out f p) (frame_unique text y.0 x.0 y.1 x.1) y.2)
 
-      only-second : (o p : Outcome) → Second text out o → Second text out p → o ≡ p
-      only-second o p (inl x) (inl y) = x.1 ∙ sym y.1
-      only-second o p (inl x) (inr y) = absurd (not-both (all is_allowed text) y.0 x.0)
-      only-second o p (inr x) (inl y) = absurd (not-both (all is_allowed text) x.0 y.0)
-      only-second o p (inr x) (inr y) = only_third o p x.1 y.1
+      only_second : (o p : Outcome) → Second text out o → Second text out p → o ≡ p
+      only_second o p (inl x) (inl y) = x.1 ∙ sym y.1
+      only_second o p (inl x) (inr y) = absurd (not_both (all is_allowed text) y.0 x.0)
+      only_second o p (inr x) (inl y) = absurd (not_both (all is_allowed text) x.0 y.0)
+      only_second o p (inr x) (inr y) = only_third o p x.1 y.1
 
-      only-first : (o p : Outcome) → First text out o → First text out p → o ≡ p
-      only-first o p (inl x) (inl y) = x.1 ∙ sym y.1
-      only-first o p (inl x) (inr y) = absurd (let a : text_most < length text = x.0 in let b = y.0 in omega arith)
-      only-first o p (inr x) (inl y) = absurd (let a : text_most < length text = y.0 in let b = x.0 in omega arith)
-      only-first o p (inr x) (inr y) = only-second o p x.1 y.1
+      only_first_lem : (o p : Outcome) → First text out o → First text out p → o ≡ p
+      only_first_lem o p (inl x) (inl y) = x.1 ∙ sym y.1
+      only_first_lem o p (inl x) (inr y) = absurd (let a : text_most < length text = x.0 in let b = y.0 in omega arith)
+      only_first_lem o p (inr x) (inl y) = absurd (let a : text_most < length text = y.0 in let b = x.0 in omega arith)
+      only_first_lem o p (inr x) (inr y) = only_second o p x.1 y.1
 
     pub text_unique : TextUnique
-    text_unique text out o p a b = only-first text out o p (seen text out o a) (seen text out p b)
+    text_unique text out o p a b = only_first_lem text out o p (seen text out o a) (seen text out p b)

@@ -7,7 +7,7 @@ use Prim.Native.Nat.{ℕ}
 use lib.Dec.{eqb}
 use borrow.Author.Tests.{eqb-true}
 use Rattle.base.specs.Lists.{is_none}
-use Rattle.base.proofs.Lists.{not-both, fails}
+use Rattle.base.proofs.Lists.{not_both, fails}
 use Rattle.text_laws.specs.Reader.{after}
 use Rattle.text_laws.proofs.ReaderSymbols.{after_self}
 use Rattle.text_laws.specs.LineReader.{Got, miss, hit, bind, keep, given, passed, literal, begins}
@@ -18,23 +18,23 @@ Holds P miss = Unit {0}
 Holds P (hit a r) = P a r
 
 module _ {A : Type 0} (P : A → List ℕ → Type 0) where
-  pub holds-keep : (b : Bool) (a : A) (r : List ℕ) → (b ≡ true → P a r) → Holds P (keep b a r)
-  holds-keep true a r f = f refl
-  holds-keep false a r f = tt
+  pub holds_keep : (b : Bool) (a : A) (r : List ℕ) → (b ≡ true → P a r) → Holds P (keep b a r)
+  holds_keep true a r f = f refl
+  holds_keep false a r f = tt
 
-  pub holds-cond : (b : Bool) (g h : Got A) → (b ≡ true → Holds P g) → (b ≡ false → Holds P h) → Holds P (cond b g h)
-  holds-cond true g h f k = f refl
-  holds-cond false g h f k = k refl
+  pub holds_cond : (b : Bool) (g h : Got A) → (b ≡ true → Holds P g) → (b ≡ false → Holds P h) → Holds P (cond b g h)
+  holds_cond true g h f k = f refl
+  holds_cond false g h f k = k refl
 
-  pub holds-given : (o : Option A) (r : List ℕ) → ((a : A) → o ≡ some a → P a r) → Holds P (given o r)
-  holds-given none r f = tt
-  holds-given (some a) r f = f a refl
+  pub holds_given : (o : Option A) (r : List ℕ) → ((a : A) → o ≡ some a → P a r) → Holds P (given o r)
+  holds_given none r f = tt
+  holds_given (some a) r f = f a refl
 
 module _ {A B : Type 0} (P : A → List ℕ → Type 0) (Q : B → List ℕ → Type 0) where
-  pub holds-bind : (g : Got A) (f : A → List ℕ → Got B) → Holds P g → ((a : A) (r : List ℕ) → P a r → Holds Q (f a r))
+  pub holds_bind : (g : Got A) (f : A → List ℕ → Got B) → Holds P g → ((a : A) (r : List ℕ) → P a r → Holds Q (f a r))
       → Holds Q (bind g f)
-  holds-bind miss f h k = tt
-  holds-bind (hit a r) f h k = k a r h
+  holds_bind miss f h k = tt
+  holds_bind (hit a r) f h k = k a r h
 
 -- ── phrases ──
 
@@ -61,18 +61,18 @@ literal_sound w s = go (after w s) (after_sound w s)
     go none h = tt
     go (some r) h = h
 
-pub literal-finds : (w r : List ℕ) → literal w (w ++ r) ≡ hit tt r
+pub literal_finds : (w r : List ℕ) → literal w (w ++ r) ≡ hit tt r
 unfolding literal
-literal-finds w r = rw (after_self w r)
+literal_finds w r = rw (after_self w r)
 
 pub begins_split : (w s : List ℕ) → begins w s ≡ true → (z : List ℕ) × (s ≡ w ++ z)
 unfolding begins
 begins_split w s = go (after w s) (after_sound w s)
   where
     go : (a : Option (List ℕ)) → After w s a → not (is_none a) ≡ true → (z : List ℕ) × (s ≡ w ++ z)
-    go none h e = absurd (not-both false e refl)
+    go none h e = absurd (not_both false e refl)
     go (some z) h e = (z, h)
 
 -- a byte that passes a test is none that fails it
 pub differs : (p : ℕ → Bool) (c d : ℕ) → p c ≡ true → p d ≡ false → eqb d c ≡ false
-differs p c d t f = fails (eqb d c) (λ e. not-both (p c) t (ap p (sym (eqb-true d c e)) ∙ f))
+differs p c d t f = fails (eqb d c) (λ e. not_both (p c) t (ap p (sym (eqb-true d c e)) ∙ f))

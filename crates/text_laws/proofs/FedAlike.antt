@@ -5,14 +5,14 @@ use mathlib.Core.List.{List, [], ◌∷◌, ◌++◌, foldl}
 use Prim.Native.Nat.{ℕ, suc, ◌+◌, ◌≤◌}
 use lib.Dec.{ltb, eqb}
 use lib.ListN.{length}
-use Rattle.base.proofs.Lists.{not-both}
+use Rattle.base.proofs.Lists.{not_both}
 use Rattle.rules.specs.Answers.{refused}
 use Rattle.rules.specs.Limits.{text_most, line_most}
 use Rattle.rules.specs.Names.{is_allowed, line_feed}
 use Rattle.text_laws.specs.Fold.{Stage, lost, Found, Kept, losing, lined, is_lost, cut, put, over, fed}
 use Rattle.text_laws.specs.Fold.{lowest_at, outcome, finish, Alike}
-use Rattle.text_laws.proofs.Fed.{lost-stage, held}
-use Rattle.text_laws.proofs.FedRuns.{lost_by, fed-lost, lost_by_stage, fed_bad}
+use Rattle.text_laws.proofs.Fed.{lost_stage, held}
+use Rattle.text_laws.proofs.FedRuns.{lost_by, fed_lost, lost_by_stage, fed_bad}
 
 -- ── what is alike ──
 
@@ -32,10 +32,10 @@ alike_trans a b c h k = record {
 }
 
 -- where 1, 2 or 3 was found
-pub alike-lost : (a b : Kept) → a.found ≡ b.found → a.found.stage ≡ lost → Alike a b
-alike-lost a b e s = record {
+pub alike_lost : (a b : Kept) → a.found ≡ b.found → a.found.stage ≡ lost → Alike a b
+alike_lost a b e s = record {
   found = e;
-  line = λ h. absurd (not-both (is_lost a.found.stage) (ap is_lost s) h);
+  line = λ h. absurd (not_both (is_lost a.found.stage) (ap is_lost s) h);
 }
 
 -- and where not, states of one size are the same
@@ -49,14 +49,14 @@ pub bad_alike : (b : ℕ) (t : List ℕ) (k q : Kept) → is_allowed b ≡ false
     → q.found ≡ losing (refused 2 0) k.found → Alike (foldl fed k (b ∷ t)) q
 bad_alike b t k q h le e =
     let is = fed_bad b t k h le in
-    alike-lost (foldl fed k (b ∷ t)) q (is ∙ sym e) (ap (λ (f : Found). f.stage) is)
+    alike_lost (foldl fed k (b ∷ t)) q (is ∙ sym e) (ap (λ (f : Found). f.stage) is)
 
 -- ── bytes ──
 
 -- bytes so far, behind one more
-size-byte : (k : Kept) (b : ℕ) → (fed k b).size ≡ cond (ltb k.size text_most) (suc k.size) k.size
+size_byte : (k : Kept) (b : ℕ) → (fed k b).size ≡ cond (ltb k.size text_most) (suc k.size) k.size
 unfolding fed
-size-byte k b = go (ltb k.size text_most) (is_allowed b) (eqb b line_feed) (ltb (length k.line) line_most)
+size_byte k b = go (ltb k.size text_most) (is_allowed b) (eqb b line_feed) (ltb (length k.line) line_most)
   where
     go : (x y z v : Bool)
         → (cond x
@@ -72,40 +72,40 @@ size-byte k b = go (ltb k.size text_most) (is_allowed b) (eqb b line_feed) (ltb 
 
 same_size : (a b : Kept) (x : ℕ) → a.size ≡ b.size → (fed a x).size ≡ (fed b x).size
 same_size a b x n =
-    size-byte a x ∙ ap (λ (m : ℕ). cond (ltb m text_most) (suc m) m) n ∙ sym (size-byte b x)
+    size_byte a x ∙ ap (λ (m : ℕ). cond (ltb m text_most) (suc m) m) n ∙ sym (size_byte b x)
 
-alike-byte : (a b : Kept) (x : ℕ) → Alike a b → a.size ≡ b.size → Alike (fed a x) (fed b x)
-alike-byte a b x h n = go (is_lost a.found.stage) refl
+alike_byte : (a b : Kept) (x : ℕ) → Alike a b → a.size ≡ b.size → Alike (fed a x) (fed b x)
+alike_byte a b x h n = go (is_lost a.found.stage) refl
   where
     go : (y : Bool) → is_lost a.found.stage ≡ y → Alike (fed a x) (fed b x)
     go true e =
-        let s = lost-stage a.found.stage e in
-        let is = fed-lost a x s in
+        let s = lost_stage a.found.stage e in
+        let is = fed_lost a x s in
         let t : b.found.stage ≡ lost = ap (λ (f : Found). f.stage) (sym h.found) ∙ s in
-        alike-lost (fed a x) (fed b x)
-        (is ∙ ap₂ {C = Found} (λ (m : ℕ) (f : Found). lost_by m x f) n h.found ∙ sym (fed-lost b x t))
+        alike_lost (fed a x) (fed b x)
+        (is ∙ ap₂ {C = Found} (λ (m : ℕ) (f : Found). lost_by m x f) n h.found ∙ sym (fed_lost b x t))
         (ap (λ (f : Found). f.stage) is ∙ lost_by_stage a.size x a.found s)
     go false e = subst (λ (q : Kept). Alike (fed a x) (fed q x)) (alike_same a b h n e) (alike_refl (fed a x))
 
-pub fed-alike : (t : List ℕ) (a b : Kept) → Alike a b → a.size ≡ b.size → Alike (foldl fed a t) (foldl fed b t)
-fed-alike [] a b h n = h
-fed-alike (x ∷ t) a b h n = fed-alike t (fed a x) (fed b x) (alike-byte a b x h n) (same_size a b x n)
+pub fed_alike : (t : List ℕ) (a b : Kept) → Alike a b → a.size ≡ b.size → Alike (foldl fed a t) (foldl fed b t)
+fed_alike [] a b h n = h
+fed_alike (x ∷ t) a b h n = fed_alike t (fed a x) (fed b x) (alike_byte a b x h n) (same_size a b x n)
 
 -- ── the end ──
 
-pub finish-alike : (a b : Kept) (out : List ℕ) → Alike a b → finish a out ≡ finish b out
+pub finish_alike : (a b : Kept) (out : List ℕ) → Alike a b → finish a out ≡ finish b out
 unfolding finish lowest_at
-finish-alike a b out h = go (is_lost a.found.stage) refl
+finish_alike a b out h = go (is_lost a.found.stage) refl
   where
     -- no line matters
-    any-line : (s : Stage) (l m : List ℕ) (f : Found) → s ≡ lost → lowest_at s l f ≡ lowest_at s m f
-    any-line s l m f e =
+    any_line_lem : (s : Stage) (l m : List ℕ) (f : Found) → s ≡ lost → lowest_at s l f ≡ lowest_at s m f
+    any_line_lem s l m f e =
         ap (λ (z : Stage). lowest_at z l f) e ∙ sym (ap (λ (z : Stage). lowest_at z m f) e)
 
     go : (y : Bool) → is_lost a.found.stage ≡ y → finish a out ≡ finish b out
     go true e =
         ap (outcome a.found out)
-        (any-line a.found.stage a.line b.line a.found (lost-stage a.found.stage e))
+        (any_line_lem a.found.stage a.line b.line a.found (lost_stage a.found.stage e))
         ∙ ap (λ (f : Found). outcome f out (lowest_at f.stage b.line f)) h.found
     go false e =
         ap₂ (λ (l : List ℕ) (f : Found). outcome f out (lowest_at f.stage l f)) (h.line e) h.found

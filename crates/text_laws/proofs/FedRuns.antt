@@ -10,16 +10,16 @@ use lib.ListN.{length, take}
 use lib.Seq.{take_all}
 use borrow.Author.Tests.{lt-ltb, le-ltb, ne_eqb}
 use Rattle.base.specs.Lists.{all}
-use Rattle.base.proofs.Lists.{and_left, and_right, all_append, all_weaken, between_true, or_left, or_cases, not-both}
+use Rattle.base.proofs.Lists.{and_left, and_right, all_append, all_weaken, between_true, or_left, or_cases, not_both}
 use Rattle.rules.specs.Answers.{refused}
 use Rattle.rules.specs.Limits.{text_most, line_most}
 use Rattle.rules.specs.Names.{is_printable, is_allowed, line_feed}
 use Rattle.rules.specs.Frames.{is_line}
 use Rattle.text_laws.specs.Fold.{lost, Found, Kept, fresh, losing, lined, cut, unended, put, over, fed, kept}
 use Rattle.text_laws.specs.Steady.{Small, Steady}
-use Rattle.text_laws.proofs.Fed.{lost-line, cut-lost, held, begun_line, fed-plain, at_feed, at_byte, byte-size}
+use Rattle.text_laws.proofs.Fed.{lost_line, cut_lost, held, begun_line, fed_plain, at_feed, at_byte, byte_size}
 use Rattle.text_laws.proofs.Fed.{Lost, too_long}
-use Rattle.text_laws.proofs.Steadiness.{steady-line, steady-losing, steady-cut, steady-start}
+use Rattle.text_laws.proofs.Steadiness.{steady_line, steady_losing, steady_cut, steady_start}
 
 -- ── printable bytes ──
 
@@ -39,7 +39,7 @@ other_printable b h e = go (or_cases (is_printable b) (eqb b line_feed) h)
   where
     go : (is_printable b ≡ true) ⊎ (eqb b line_feed ≡ true) → is_printable b ≡ true
     go (inl k) = k
-    go (inr k) = absurd (not-both (eqb b line_feed) k e)
+    go (inr k) = absurd (not_both (eqb b line_feed) k e)
 
 pub all_allowed : (p : List ℕ) → all is_printable p ≡ true → all is_allowed p ≡ true
 all_allowed p h = all_weaken is_printable is_allowed printable_allowed p h
@@ -50,34 +50,34 @@ printable_line p h =
 
 -- ── a run of them ──
 
-pub unended-short : (f : Found) (l : List ℕ) → length l ≤ line_most → unended f l ≡ f
+pub unended_short : (f : Found) (l : List ℕ) → length l ≤ line_most → unended f l ≡ f
 unfolding unended
-unended-short f l le = rw (le-ltb line_most (length l) le) refl
+unended_short f l le = rw (le-ltb line_most (length l) le) refl
 
 printable_byte : (n : ℕ) (u : List ℕ) (f : Found) (b : ℕ) → n < text_most → is_printable b ≡ true
     → fed (begun_line n u f) b ≡ begun_line (suc n) (u ++ (b ∷ [])) f
 printable_byte n u f b lt h =
-    fed-plain n (take line_most u) (unended f u) b lt (printable_allowed b h)
+    fed_plain n (take line_most u) (unended f u) b lt (printable_allowed b h)
     ∙ (rw (printable_other b h) (at_byte (suc n) u f b))
 
-run-bytes : (p : List ℕ) (n : ℕ) (u : List ℕ) (f : Found) → all is_printable p ≡ true → n + length p ≤ text_most
+run_bytes : (p : List ℕ) (n : ℕ) (u : List ℕ) (f : Found) → all is_printable p ≡ true → n + length p ≤ text_most
     → foldl fed (begun_line n u f) p ≡ begun_line (n + length p) (u ++ p) f
 unfolding all
-run-bytes [] n u f h le = let z : n ≡ n + 0 = omega arith in rw (append-nil u, ← z) refl
-run-bytes (b ∷ p) n u f h le =
+run_bytes [] n u f h le = let z : n ≡ n + 0 = omega arith in rw (append-nil u, ← z) refl
+run_bytes (b ∷ p) n u f h le =
     let z : suc n + length p ≡ n + suc (length p) = omega arith in
     ap (λ (k : Kept). foldl fed k p)
     (printable_byte n u f b (omega arith) (and_left (is_printable b) (all is_printable p) h))
-    ∙ run-bytes p (suc n) (u ++ (b ∷ [])) f (and_right (is_printable b) (all is_printable p) h) (omega arith)
+    ∙ run_bytes p (suc n) (u ++ (b ∷ [])) f (and_right (is_printable b) (all is_printable p) h) (omega arith)
     ∙ ap₂ {C = Kept} (λ (m : ℕ) (l : List ℕ). begun_line m l f) z (append_assoc u (b ∷ []) p)
 
 -- what is kept has begun a line that is short enough
 as_begun : (k : Kept) → length k.line ≤ line_most → k ≡ begun_line k.size k.line k.found
 as_begun k short =
     ap₂ {C = Kept} (λ (l : List ℕ) (f : Found). held k.size l f) (sym (take_all line_most k.line short))
-    (sym (unended-short k.found k.line short))
+    (sym (unended_short k.found k.line short))
 
-pub fed-run : (p : List ℕ) (k : Kept) → all is_printable p ≡ true → k.size + length p ≤ text_most
+pub fed_run : (p : List ℕ) (k : Kept) → all is_printable p ≡ true → k.size + length p ≤ text_most
     → length k.line ≤ line_most
     → foldl fed k p
     ≡ record {
@@ -85,26 +85,26 @@ pub fed-run : (p : List ℕ) (k : Kept) → all is_printable p ≡ true → k.si
       line = take line_most (k.line ++ p);
       found = unended k.found (k.line ++ p);
     }
-fed-run p k h le short =
-    ap (λ (q : Kept). foldl fed q p) (as_begun k short) ∙ run-bytes p k.size k.line k.found h le
+fed_run p k h le short =
+    ap (λ (q : Kept). foldl fed q p) (as_begun k short) ∙ run_bytes p k.size k.line k.found h le
 
 -- and an LF
 feed_byte : (n : ℕ) (u : List ℕ) (f : Found) → n < text_most → Small f
     → fed (begun_line n u f) line_feed ≡ held (suc n) [] (lined f u)
 unfolding is_allowed is_printable
 feed_byte n u f lt s =
-    fed-plain n (take line_most u) (unended f u) line_feed lt refl
+    fed_plain n (take line_most u) (unended f u) line_feed lt refl
     ∙ ap (λ (g : Found). held (suc n) [] g) (at_feed u f s)
 
-pub fed-line : (p t : List ℕ) (k : Kept) → all is_printable p ≡ true → k.size + suc (length p + length t) ≤ text_most
+pub fed_line : (p t : List ℕ) (k : Kept) → all is_printable p ≡ true → k.size + suc (length p + length t) ≤ text_most
     → length k.line ≤ line_most → Small k.found
     → foldl fed k (p ++ (line_feed ∷ t))
     ≡ foldl fed
     (record { size = k.size + suc (length p); line = []; found = lined k.found (k.line ++ p) }) t
-fed-line p t k h le short s =
+fed_line p t k h le short s =
     let z : suc (k.size + length p) ≡ k.size + suc (length p) = omega arith in
     foldl-append fed k p (line_feed ∷ t)
-    ∙ ap (λ (q : Kept). foldl fed (fed q line_feed) t) (fed-run p k h (omega arith) short)
+    ∙ ap (λ (q : Kept). foldl fed (fed q line_feed) t) (fed_run p k h (omega arith) short)
     ∙ ap (λ (q : Kept). foldl fed q t)
     (feed_byte (k.size + length p) (k.line ++ p) k.found (omega arith) s
     ∙ ap (λ (n : ℕ). held n [] (lined k.found (k.line ++ p))) z)
@@ -116,9 +116,9 @@ abbrev pub lost_by : ℕ → ℕ → Found → Found
 lost_by n b f =
     cond (ltb n text_most) (cond (is_allowed b) f (losing (refused 2 0) f)) (losing (refused 1 0) f)
 
-pub fed-lost : (k : Kept) (b : ℕ) → k.found.stage ≡ lost → (fed k b).found ≡ lost_by k.size b k.found
+pub fed_lost : (k : Kept) (b : ℕ) → k.found.stage ≡ lost → (fed k b).found ≡ lost_by k.size b k.found
 unfolding fed
-fed-lost k b h = go (ltb k.size text_most) (is_allowed b) (eqb b line_feed) (ltb (length k.line) line_most)
+fed_lost k b h = go (ltb k.size text_most) (is_allowed b) (eqb b line_feed) (ltb (length k.line) line_most)
   where
     go : (x y z v : Bool)
         → (cond x
@@ -127,9 +127,9 @@ fed-lost k b h = go (ltb k.size text_most) (is_allowed b) (eqb b line_feed) (ltb
         (put k k.line (losing (refused 2 0) k.found)))
         (over k)).found
         ≡ cond x (cond y k.found (losing (refused 2 0) k.found)) (losing (refused 1 0) k.found)
-    go true true true v = lost-line k.found k.line h
+    go true true true v = lost_line k.found k.line h
     go true true false true = refl
-    go true true false false = cut-lost k.found h
+    go true true false false = cut_lost k.found h
     go true false z v = refl
     go false y z v = refl
 
@@ -148,10 +148,10 @@ two_stays : (t : List ℕ) (f : Found) (k : Kept) → k.found ≡ losing (refuse
 two_stays [] f k e le = e
 two_stays (b ∷ t) f k e le =
     let lt : k.size < text_most = omega arith in
-    let n = byte-size k b lt in
+    let n = byte_size k b lt in
     let s : k.found.stage ≡ lost = ap (λ (g : Found). g.stage) e in
     two_stays t f (fed k b)
-    (fed-lost k b s ∙ ap (lost_by k.size b) e ∙ (rw (lt-ltb k.size text_most lt) (go (is_allowed b))))
+    (fed_lost k b s ∙ ap (lost_by k.size b) e ∙ (rw (lt-ltb k.size text_most lt) (go (is_allowed b))))
     (omega (arith, n, le))
   where
     go : (y : Bool)
@@ -163,16 +163,16 @@ pub fed_bad : (b : ℕ) (t : List ℕ) (k : Kept) → is_allowed b ≡ false →
     → (foldl fed k (b ∷ t)).found ≡ losing (refused 2 0) k.found
 fed_bad b t k h le =
     let lt : k.size < text_most = omega arith in
-    let n = byte-size k b lt in
+    let n = byte_size k b lt in
     let e : fed k b ≡ put k k.line (losing (refused 2 0) k.found) =
     unfold fed in rw (lt-ltb k.size text_most lt, h) refl in
     two_stays t k.found (fed k b) (ap (λ (q : Kept). q.found) e) (omega (arith, n, le))
 
 -- ── any text ──
 
-line-byte : (k : Kept) (b : ℕ) → is_line k.line ≡ true → is_line (fed k b).line ≡ true
+line_byte : (k : Kept) (b : ℕ) → is_line k.line ≡ true → is_line (fed k b).line ≡ true
 unfolding fed all
-line-byte k b h =
+line_byte k b h =
     go (ltb k.size text_most) (is_allowed b) (eqb b line_feed) refl (ltb (length k.line) line_most)
   where
     go : (x y z : Bool) → eqb b line_feed ≡ z → (v : Bool)
@@ -187,33 +187,33 @@ line-byte k b h =
     go true false z e v = h
     go false y z e v = h
 
-pub fed-free : (t : List ℕ) (k : Kept) → is_line k.line ≡ true → is_line (foldl fed k t).line ≡ true
-fed-free [] k h = h
-fed-free (b ∷ t) k h = fed-free t (fed k b) (line-byte k b h)
+pub fed_free : (t : List ℕ) (k : Kept) → is_line k.line ≡ true → is_line (foldl fed k t).line ≡ true
+fed_free [] k h = h
+fed_free (b ∷ t) k h = fed_free t (fed k b) (line_byte k b h)
 
 -- the unfinished line has no LF
 pub kept_free : (t : List ℕ) → is_line (kept t).line ≡ true
 unfolding kept all
-kept_free t = fed-free t fresh refl
+kept_free t = fed_free t fresh refl
 
-pub fed-size : (t : List ℕ) (k : Kept) → k.size + length t ≤ text_most → (foldl fed k t).size ≡ k.size + length t
-fed-size [] k le = omega arith
-fed-size (b ∷ t) k le =
-    let n = byte-size k b (omega arith) in
-    let m = fed-size t (fed k b) (omega (arith, n, le)) in
+pub fed_size : (t : List ℕ) (k : Kept) → k.size + length t ≤ text_most → (foldl fed k t).size ≡ k.size + length t
+fed_size [] k le = omega arith
+fed_size (b ∷ t) k le =
+    let n = byte_size k b (omega arith) in
+    let m = fed_size t (fed k b) (omega (arith, n, le)) in
     omega (arith, n, m)
 
-pub kept-size : (t : List ℕ) → length t ≤ text_most → (kept t).size ≡ length t
+pub kept_size : (t : List ℕ) → length t ≤ text_most → (kept t).size ≡ length t
 unfolding kept
-kept-size t le = let n = fed-size t fresh (omega arith) in omega (arith, n)
+kept_size t le = let n = fed_size t fresh (omega arith) in omega (arith, n)
 
-pub kept-over : (t : List ℕ) → text_most < length t → Lost 1 (kept t)
+pub kept_over : (t : List ℕ) → text_most < length t → Lost 1 (kept t)
 unfolding kept
-kept-over t lt = too_long t fresh (omega arith) (omega arith)
+kept_over t lt = too_long t fresh (omega arith) (omega arith)
 
-pub steady-byte : (k : Kept) (b : ℕ) → Steady k.found → Steady (fed k b).found
+pub steady_byte : (k : Kept) (b : ℕ) → Steady k.found → Steady (fed k b).found
 unfolding fed
-steady-byte k b h =
+steady_byte k b h =
     go (ltb k.size text_most) (is_allowed b) (eqb b line_feed) (ltb (length k.line) line_most)
   where
     go : (x y z v : Bool)
@@ -222,16 +222,16 @@ steady-byte k b h =
         (cond v (put k (k.line ++ (b ∷ [])) k.found) (put k k.line (cut k.found))))
         (put k k.line (losing (refused 2 0) k.found)))
         (over k)).found
-    go true true true v = steady-line k.found k.line h
+    go true true true v = steady_line k.found k.line h
     go true true false true = h
-    go true true false false = steady-cut k.found h
-    go true false z v = steady-losing (refused 2 0) k.found h
-    go false y z v = steady-losing (refused 1 0) k.found h
+    go true true false false = steady_cut k.found h
+    go true false z v = steady_losing (refused 2 0) k.found h
+    go false y z v = steady_losing (refused 1 0) k.found h
 
-pub fed-steady : (t : List ℕ) (k : Kept) → Steady k.found → Steady (foldl fed k t).found
-fed-steady [] k h = h
-fed-steady (b ∷ t) k h = fed-steady t (fed k b) (steady-byte k b h)
+pub fed_steady : (t : List ℕ) (k : Kept) → Steady k.found → Steady (foldl fed k t).found
+fed_steady [] k h = h
+fed_steady (b ∷ t) k h = fed_steady t (fed k b) (steady_byte k b h)
 
-pub kept-steady : (t : List ℕ) → Steady (kept t).found
+pub kept_steady : (t : List ℕ) → Steady (kept t).found
 unfolding kept
-kept-steady t = fed-steady t fresh steady-start
+kept_steady t = fed_steady t fresh steady_start

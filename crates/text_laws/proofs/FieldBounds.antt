@@ -9,7 +9,7 @@ use lib.Dec.{ltb, leb}
 use lib.ListN.{length-append}
 use borrow.Author.Tests.{leb-false}
 use Rattle.base.specs.Lists.{all, list_of}
-use Rattle.base.proofs.Lists.{and_both, all_append, not-both, or_false_right}
+use Rattle.base.proofs.Lists.{and_both, all_append, not_both, or_false_right}
 use Rattle.rules.specs.Answers.{Answer, refused}
 use Rattle.rules.specs.Limits.{fields_most}
 use Rattle.rules.specs.Operators.{code}
@@ -28,22 +28,22 @@ use Rattle.text_laws.proofs.FormExact.{form_sound}
 -- ── names resolved in whatever way: the same form and size ──
 
 module _ {N : Type 0} (g : List ℕ → N) where
-  same-depth : (t : Tree (List ℕ)) → depth (rename_tree g t) ≡ depth t
+  same_depth : (t : Tree (List ℕ)) → depth (rename_tree g t) ≡ depth t
   unfolding depth rename_tree
-  same-depth (num n) = refl
-  same-depth (read w) = refl
-  same-depth (two o x y) = ap₂ (λ a b. suc (max a b)) (same-depth x) (same-depth y)
-  same-depth (negation x) = ap suc (same-depth x)
+  same_depth (num n) = refl
+  same_depth (read w) = refl
+  same_depth (two o x y) = ap₂ (λ a b. suc (max a b)) (same_depth x) (same_depth y)
+  same_depth (negation x) = ap suc (same_depth x)
 
-  same-stored : (t : Tree (List ℕ)) → stored_tree (λ a. 0) (rename_tree g t) ≡ stored_tree (λ w. 0) t
+  same_stored : (t : Tree (List ℕ)) → stored_tree (λ a. 0) (rename_tree g t) ≡ stored_tree (λ w. 0) t
   unfolding stored_tree rename_tree
-  same-stored (num n) = refl
-  same-stored (read w) = refl
-  same-stored (two o x y) = ap₂ (λ (a b : List ℕ). code o ∷ (a ++ b)) (same-stored x) (same-stored y)
-  same-stored (negation x) = rw (same-stored x) refl
+  same_stored (num n) = refl
+  same_stored (read w) = refl
+  same_stored (two o x y) = ap₂ (λ (a b : List ℕ). code o ∷ (a ++ b)) (same_stored x) (same_stored y)
+  same_stored (negation x) = rw (same_stored x) refl
 
-  same-small : (t : Tree (List ℕ)) → is_small (rename_tree g t) ≡ is_small t
-  same-small t = rw (same-depth t, same-stored t) refl
+  same_small : (t : Tree (List ℕ)) → is_small (rename_tree g t) ≡ is_small t
+  same_small t = rw (same_depth t, same_stored t) refl
 
   same_range : (t : Tree (List ℕ)) → is_in_range (rename_tree g t) ≡ is_in_range t
   unfolding is_in_range rename_tree
@@ -67,21 +67,21 @@ module _ {N : Type 0} (g : List ℕ → N) where
     maybe_trees none l m e = e
     maybe_trees (some t) l m e = rw (h t, e) refl
 
-    width-trees : (v : Width (List ℕ)) (l : List (Tree N)) (m : List (Tree (List ℕ))) → all p l ≡ all q m
+    width_trees_lem : (v : Width (List ℕ)) (l : List (Tree N)) (m : List (Tree (List ℕ))) → all p l ≡ all q m
         → all p (width_trees (rename_width g v) ++ l) ≡ all q (width_trees v ++ m)
     unfolding all
-    width-trees (fixed n) l m e = e
-    width-trees (measured u t) l m e = rw (h t, e) refl
-    width-trees rest l m e = e
+    width_trees_lem (fixed n) l m e = e
+    width_trees_lem (measured u t) l m e = rw (h t, e) refl
+    width_trees_lem rest l m e = e
 
     last_trees : (o : Option (Tree (List ℕ))) → all p (list_of (map (rename_tree g) o)) ≡ all q (list_of o)
     unfolding all
     last_trees none = refl
     last_trees (some t) = rw (h t) refl
 
-    field-trees : (x : Form) → all p (trees (rename_field g x)) ≡ all q (trees x)
-    field-trees x =
-        width-trees x.width _ (list_of x.constraint ++ list_of x.condition)
+    field_trees : (x : Form) → all p (trees (rename_field g x)) ≡ all q (trees x)
+    field_trees x =
+        width_trees_lem x.width _ (list_of x.constraint ++ list_of x.condition)
         (maybe_trees x.constraint _ (list_of x.condition) (last_trees x.condition))
 
   same_width : (v : Width (List ℕ)) → is_width (rename_width g v) ≡ is_width v
@@ -89,11 +89,11 @@ module _ {N : Type 0} (g : List ℕ → N) where
   same_width (measured u t) = rw (same_number t) refl
   same_width rest = refl
 
-  same-formed : (x : Form) → is_formed (rename_field g x) ≡ is_formed x
-  same-formed x = rw (same_width x.width, field-trees is_in_range is_in_range same_range x) refl
+  same_formed : (x : Form) → is_formed (rename_field g x) ≡ is_formed x
+  same_formed x = rw (same_width x.width, field_trees is_in_range is_in_range same_range x) refl
 
 kept_renamed : (g : List ℕ → ℕ) (x : Form) → is_kept (rename_field g x) ≡ is_kept x
-kept_renamed g x = rw (same-formed g x, field-trees g is_small is_small (same-small g) x) refl
+kept_renamed g x = rw (same_formed g x, field_trees g is_small is_small (same_small g) x) refl
 
 -- ── field lines ──
 
@@ -113,17 +113,17 @@ open_small cells p o before x h = go (keeps_size before x) refl
 
     go : (b : Bool) → keeps_size before x ≡ b → keeps_size before x ≡ true
     go true e = e
-    go false e = absurd (not-both (is_open (lower o (broken 6 p (rules cells) before x))) h (rw e (closed o)))
+    go false e = absurd (not_both (is_open (lower o (broken 6 p (rules cells) before x))) h (rw e (closed o)))
 
-few-form : (cells : List Slot) (p : ℕ) (j : Judged) (l : List ℕ) (o : Option Form) → read_form l ≡ o
+few_form : (cells : List Slot) (p : ℕ) (j : Judged) (l : List ℕ) (o : Option Form) → read_form l ≡ o
     → j.count < fields_most → FewFields j → FewFields (with_form cells p j o)
 unfolding with_form
-few-form cells p j l none e lt h = record {
+few_form cells p j l none e lt h = record {
   count = lt;
   fields = (let n = h.fields in omega arith);
   formed = h.formed;
 }
-few-form cells p j l (some x) e lt h =
+few_form cells p j l (some x) e lt h =
     go (is_open (lower j.lowest (broken 6 p (rules cells) (faces j.fields) x))) refl
   where
     here : Option Answer
@@ -153,12 +153,12 @@ few-form cells p j l (some x) e lt h =
       formed = h.formed;
     }
 
-pub few-judge : (cells : List Slot) (p : ℕ) (j : Judged) (l : List ℕ) → FewFields j → FewFields (judge cells p j l)
+pub few_judge : (cells : List Slot) (p : ℕ) (j : Judged) (l : List ℕ) → FewFields j → FewFields (judge cells p j l)
 unfolding judge
-few-judge cells p j l h = go (is_full j) refl
+few_judge cells p j l h = go (is_full j) refl
   where
     go : (b : Bool) → is_full j ≡ b → FewFields (cond b (many j) (with_form cells p j (read_form l)))
     go true e = record { count = h.count; fields = h.fields; formed = h.formed }
     go false e =
-        few-form cells p j l (read_form l) refl
+        few_form cells p j l (read_form l) refl
         (leb-false fields_most j.count (or_false_right (is_many j.lowest) (leb fields_most j.count) e)) h

@@ -9,14 +9,14 @@ use lib.Dec.{eqb}
 use borrow.Author.Tests.{eqb-true}
 use Rattle.base.specs.Bytes.{bytes}
 use Rattle.base.specs.Lists.{all, if_any, list_of}
-use Rattle.base.proofs.Lists.{and_left, and_right, and_both, not-both, all_append}
+use Rattle.base.proofs.Lists.{and_left, and_right, and_both, not_both, all_append}
 use Rattle.rules.specs.Names.{is_printable, is_label, is_short}
 use Rattle.rules.specs.Trees.{Tree, is_in_range}
 use Rattle.rules.specs.Fields.{Width, fixed, measured, rest, Form, width_trees, trees}
 use Rattle.rules.specs.Within.{is_width, is_formed}
 use Rattle.rules.specs.Expressions.{SpellsAt, number, field, two_sided, negated, parentheses}
 use Rattle.rules.specs.Lines.{short_text, Remark, SpellsWidth, SpellsMaybe, SpellsField, Unresolved}
-use Rattle.laws.proofs.OperatorLaws.{knows-all}
+use Rattle.laws.proofs.OperatorLaws.{knows_all}
 use Rattle.text_laws.specs.LineReader.{Got, miss, hit, literal, read_label, read_short, read_width}
 use Rattle.text_laws.specs.LineReader.{
   is_constraint,
@@ -27,11 +27,11 @@ use Rattle.text_laws.specs.LineReader.{
   is_remark,
 }
 use Rattle.text_laws.specs.LineReader.{form_of, read_form}
-use Rattle.text_laws.proofs.Combine.{Holds, holds-bind, literal_sound, literal-finds}
-use Rattle.text_laws.proofs.LineNames.{label_sound, label-finds, short_sound, short-finds, short-stop}
-use Rattle.text_laws.proofs.LinePhrases.{Closes, closes-stop, maybe_closes, MaybeFront, maybe_sound}
-use Rattle.text_laws.proofs.LinePhrases.{condition-finds, no-constraint, constraint-finds}
-use Rattle.text_laws.proofs.LineWidths.{WidthFront, width_sound, width-finds}
+use Rattle.text_laws.proofs.Combine.{Holds, holds_bind, literal_sound, literal_finds}
+use Rattle.text_laws.proofs.LineNames.{label_sound, label_finds, short_sound, short_finds, short_stop}
+use Rattle.text_laws.proofs.LinePhrases.{Closes, closes_stop, maybe_closes, MaybeFront, maybe_sound}
+use Rattle.text_laws.proofs.LinePhrases.{condition_finds, no_constraint, constraint_finds}
+use Rattle.text_laws.proofs.LineWidths.{WidthFront, width_sound, width_finds}
 
 -- ── numbers in range ──
 
@@ -87,7 +87,7 @@ module _ (s : List ℕ) where
         (all_append is_in_range (list_of x.constraint) (list_of x.condition)
         (maybe_in_range Unresolved (bytes "; ") x.constraint c.0 c.2)
         (maybe_in_range Unresolved (bytes "; present only when ") x.condition d.0 d.2)))));
-    operators = knows-all x;
+    operators = knows_all x;
     line = record {
       width = w.0;
       constraint = c.0;
@@ -104,15 +104,15 @@ module _ (s : List ℕ) where
   field_sound : Holds (FormFront s) (read_field s)
   unfolding read_field read_constraint read_condition
   field_sound =
-      holds-bind _ (FormFront s) (read_label s) _ (label_sound s) λ label s₁ l.
-      holds-bind _ (FormFront s) (read_short s₁) _ (short_sound s₁) λ short s₂ h.
-      holds-bind _ (FormFront s) (literal (bytes ": ") s₂) _ (literal_sound (bytes ": ") s₂) λ _ s₃ e.
-      holds-bind _ (FormFront s) (read_width s₃) _ (width_sound s₃) λ width s₄ w.
-      holds-bind _ (FormFront s) (read_constraint s₄) _
+      holds_bind _ (FormFront s) (read_label s) _ (label_sound s) λ label s₁ l.
+      holds_bind _ (FormFront s) (read_short s₁) _ (short_sound s₁) λ short s₂ h.
+      holds_bind _ (FormFront s) (literal (bytes ": ") s₂) _ (literal_sound (bytes ": ") s₂) λ _ s₃ e.
+      holds_bind _ (FormFront s) (read_width s₃) _ (width_sound s₃) λ width s₄ w.
+      holds_bind _ (FormFront s) (read_constraint s₄) _
       (maybe_sound (is_constraint s₄) (bytes "; ") s₄) λ constraint s₅ c.
-      holds-bind _ (FormFront s) (read_condition s₅) _
+      holds_bind _ (FormFront s) (read_condition s₅) _
       (maybe_sound (is_condition s₅) (bytes "; present only when ") s₅) λ condition s₆ d.
-      holds-bind _ (FormFront s) (literal (bytes ".") s₆) _ (literal_sound (bytes ".") s₆) λ _ s₇ f.
+      holds_bind _ (FormFront s) (literal (bytes ".") s₆) _ (literal_sound (bytes ".") s₆) λ _ s₇ f.
       whole (record { label = label; short = short; width = width; constraint = constraint; condition = condition })
       s₁ s₂ s₃ s₄ s₅ s₆ s₇ l h e w c d f
 
@@ -123,25 +123,25 @@ form_sound l x = go (read_field l) (field_sound l)
     kept : (y : Form) (r : List ℕ) → FormFront l y r → (b : Bool) → is_remark r ≡ b → cond b (some y) none ≡ some x
         → SpellsField Unresolved x l
     kept y r h true m e = let q : y ≡ x = cc in rw (← q) (h (remark_sound r m))
-    kept y r h false m e = let z : ◌≡◌ {A = Bool} true false = cc in absurd (not-both true refl z)
+    kept y r h false m e = let z : ◌≡◌ {A = Bool} true false = cc in absurd (not_both true refl z)
 
     go : (g : Got Form) → Holds (FormFront l) g → form_of g ≡ some x → SpellsField Unresolved x l
-    go miss h e = let z : ◌≡◌ {A = Bool} true false = cc in absurd (not-both true refl z)
+    go miss h e = let z : ◌≡◌ {A = Bool} true false = cc in absurd (not_both true refl z)
     go (hit y r) h e = kept y r h (is_remark r) refl e
 
 -- ── complete ──
 
-remark-finds : (r : List ℕ) → Remark r → is_remark r ≡ true
+remark_finds : (r : List ℕ) → Remark r → is_remark r ≡ true
 unfolding is_remark
-remark-finds r (inl e) = rw e refl
-remark-finds r (inr (z, e, h)) = rw e h
+remark_finds r (inl e) = rw e refl
+remark_finds r (inr (z, e, h)) = rw e h
 
-field-finds : (x : Form) (w c d r : List ℕ) → is_formed x ≡ true → SpellsWidth Unresolved x.width w
+field_finds : (x : Form) (w c d r : List ℕ) → is_formed x ≡ true → SpellsWidth Unresolved x.width w
     → SpellsMaybe Unresolved (bytes "; ") x.constraint c
     → SpellsMaybe Unresolved (bytes "; present only when ") x.condition d
     → read_field (x.label ++ (short_text x.short ++ (bytes ": " ++ (w ++ (c ++ (d ++ (bytes "." ++ r))))))) ≡ hit x r
 unfolding read_field
-field-finds x w c d r h W C D =
+field_finds x w c d r h W C D =
     let h₁ : (if_any is_short x.short && (is_width x.width && all is_in_range (trees x))) ≡ true =
     and_right (is_label x.label) _ h in
     let h₂ : (is_width x.width && all is_in_range (trees x)) ≡ true = and_right (if_any is_short x.short) _ h₁ in
@@ -150,26 +150,26 @@ field-finds x w c d r h W C D =
     let k₂ : Closes (c ++ (d ++ (46 ∷ r))) = maybe_closes (bytes " ") x.constraint c (d ++ (46 ∷ r)) C k₁ in
     let s₄ = c ++ (d ++ (46 ∷ r)) in
     let s₃ = w ++ s₄ in
-    rw (label-finds x.label (short_text x.short ++ (58 ∷ 32 ∷ s₃)) (and_left (is_label x.label) _ h)
-    (short-stop x.short (32 ∷ s₃)))
-    (rw (short-finds x.short (32 ∷ s₃) (and_left (if_any is_short x.short) _ h₁))
-    (rw (literal-finds (bytes ": ") s₃)
-    (rw (width-finds x.width w s₄ W (closes-stop s₄ k₂).ends (and_left (is_width x.width) _ h₂))
-    (rw (constraint-finds x.constraint c (d ++ (46 ∷ r)) C (closes-stop (d ++ (46 ∷ r)) k₁)
-    (no-constraint x.condition d r D))
-    (rw (condition-finds x.condition d r D) (rw (literal-finds (bytes ".") r) refl))))))
+    rw (label_finds x.label (short_text x.short ++ (58 ∷ 32 ∷ s₃)) (and_left (is_label x.label) _ h)
+    (short_stop x.short (32 ∷ s₃)))
+    (rw (short_finds x.short (32 ∷ s₃) (and_left (if_any is_short x.short) _ h₁))
+    (rw (literal_finds (bytes ": ") s₃)
+    (rw (width_finds x.width w s₄ W (closes_stop s₄ k₂).ends (and_left (is_width x.width) _ h₂))
+    (rw (constraint_finds x.constraint c (d ++ (46 ∷ r)) C (closes_stop (d ++ (46 ∷ r)) k₁)
+    (no_constraint x.condition d r D))
+    (rw (condition_finds x.condition d r D) (rw (literal_finds (bytes ".") r) refl))))))
 
-pub form-complete : (l : List ℕ) (x : Form) → SpellsField Unresolved x l → read_form l ≡ some x
+pub form_complete : (l : List ℕ) (x : Form) → SpellsField Unresolved x l → read_form l ≡ some x
 unfolding read_form
-form-complete l x q =
+form_complete l x q =
     let p = q.line in
-    rw p.is_text (rw (field-finds x p.width p.constraint p.condition p.remark q.formed p.is_width
-    p.is_constraint p.is_condition) (rw (remark-finds p.remark p.is_remark)))
+    rw p.is_text (rw (field_finds x p.width p.constraint p.condition p.remark q.formed p.is_width
+    p.is_constraint p.is_condition) (rw (remark_finds p.remark p.is_remark)))
 
 -- ── unique ──
 
 pub form_unique : (l : List ℕ) (x y : Form) → SpellsField Unresolved x l → SpellsField Unresolved y l → x ≡ y
 form_unique l x y p q =
-    let e : read_form l ≡ some x = form-complete l x p in
-    let f : read_form l ≡ some y = form-complete l y q in
+    let e : read_form l ≡ some x = form_complete l x p in
+    let f : read_form l ≡ some y = form_complete l y q in
     cc

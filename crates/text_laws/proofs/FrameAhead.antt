@@ -15,7 +15,7 @@ use Rattle.rules.specs.Frames.{tens, units, border, is_line, is_brief, Frame}
 use Rattle.text_laws.specs.FrameReader.{Top, State, begun, named, spaced, ruled, counted, bordered, rowed}
 use Rattle.text_laws.specs.FrameReader.{closed, headed, filled, rows_in}
 use Rattle.text_laws.proofs.FrameStates.{state_lines, IsTop, Sane, width_cases}
-use Rattle.text_laws.proofs.FrameSound.{framed-more, framed-row, more_rows, fields_are_lines}
+use Rattle.text_laws.proofs.FrameSound.{framed_more, framed_row, more_rows, fields_are_lines}
 use Rattle.text_laws.proofs.FrameRun.{Kept, frame_lines, frame_lines_are}
 
 -- a frame whose lines begin with these
@@ -52,23 +52,23 @@ plain_row_lem w h = width_cases (λ v. is_drawn_row row_lines_most v (plain_row 
 -- ── from the last state to the first ──
 
 module _ (p : Row → Bool) (plain : (w : ℕ) → is_row_width w ≡ true → p (plain_row w) ≡ true) where
-  filled-ahead : (h : Top) (rows : List Row) (ls : List (List ℕ)) → Sane (filled h rows ls) → all is_line ls ≡ true
+  filled_ahead : (h : Top) (rows : List Row) (ls : List (List ℕ)) → Sane (filled h rows ls) → all is_line ls ≡ true
       → all p rows ≡ true
       → Ahead p (state_lines (filled h rows ls))
   unfolding all
-  filled-ahead h rows ls s a g = record {
+  filled_ahead h rows ls s a g = record {
     frame = f;
     rows = g;
     kept = record {
       top = s.0;
-      some-row = s.2;
+      some_row = s.2;
       rows = s.1;
-      some-line = more ls;
+      some_line = more ls;
       lines = all_append is_line ls ([] ∷ []) a refl;
       brief = all_append is_brief ls ([] ∷ []) s.3 refl;
     };
     behind = [] ∷ [];
-    is_begun = frame_lines_are f ∙ framed-more h rows ([] ∷ bytes "where:" ∷ [] ∷ ls) ([] ∷ []);
+    is_begun = frame_lines_are f ∙ framed_more h rows ([] ∷ bytes "where:" ∷ [] ∷ ls) ([] ∷ []);
   }
     where
       f : Frame
@@ -78,78 +78,78 @@ module _ (p : Row → Bool) (plain : (w : ℕ) → is_row_width w ≡ true → p
       more [] = refl
       more (x ∷ l) = refl
 
-  closed-ahead : (h : Top) (rows : List Row) → Sane (closed h rows) → all p rows ≡ true
+  closed_ahead : (h : Top) (rows : List Row) → Sane (closed h rows) → all p rows ≡ true
       → Ahead p (state_lines (closed h rows))
   unfolding all
-  closed-ahead h rows s g =
+  closed_ahead h rows s g =
       shorter p (state_lines (closed h rows)) (bytes "where:" ∷ [] ∷ []) (state_lines (filled h rows []))
-      (framed-more h rows ([] ∷ []) (bytes "where:" ∷ [] ∷ [])) (filled-ahead h rows [] (s.0, s.1, s.2, refl) refl g)
+      (framed_more h rows ([] ∷ []) (bytes "where:" ∷ [] ∷ [])) (filled_ahead h rows [] (s.0, s.1, s.2, refl) refl g)
 
-  headed-ahead : (h : Top) (rows : List Row) → Sane (headed h rows) → all p rows ≡ true
+  headed_ahead : (h : Top) (rows : List Row) → Sane (headed h rows) → all p rows ≡ true
       → Ahead p (state_lines (headed h rows))
   unfolding all
-  headed-ahead h rows s g =
+  headed_ahead h rows s g =
       shorter p (state_lines (headed h rows)) ([] ∷ []) (state_lines (filled h rows []))
-      (framed-more h rows ([] ∷ bytes "where:" ∷ []) ([] ∷ [])) (filled-ahead h rows [] (s.0, s.1, s.2, refl) refl g)
+      (framed_more h rows ([] ∷ bytes "where:" ∷ []) ([] ∷ [])) (filled_ahead h rows [] (s.0, s.1, s.2, refl) refl g)
 
-  rowed-ahead : (h : Top) (rows : List Row) (r : Row) → Sane (rowed h rows r) → all p (rows ++ (r ∷ [])) ≡ true
+  rowed_ahead : (h : Top) (rows : List Row) (r : Row) → Sane (rowed h rows r) → all p (rows ++ (r ∷ [])) ≡ true
       → Ahead p (state_lines (rowed h rows r))
-  rowed-ahead h rows r s g =
+  rowed_ahead h rows r s g =
       shorter p (state_lines (rowed h rows r)) (border h.row_width ∷ [] ∷ []) (state_lines (closed h (rows ++ (r ∷
       []))))
-      (framed-row h rows r ([] ∷ []) ∙ framed-more h rows (row_lines r) (border h.row_width ∷ [] ∷ []))
-      (closed-ahead h (rows ++ (r ∷ [])) (s.0, more_rows h rows r s.1 s.2, more rows) g)
+      (framed_row h rows r ([] ∷ []) ∙ framed_more h rows (row_lines r) (border h.row_width ∷ [] ∷ []))
+      (closed_ahead h (rows ++ (r ∷ [])) (s.0, more_rows h rows r s.1 s.2, more rows) g)
     where
       more : (l : List Row) → is_empty (l ++ (r ∷ [])) ≡ false
       more [] = refl
       more (x ∷ l) = refl
 
-  bordered-ahead : (h : Top) (rows : List Row) → Sane (bordered h rows) → all p rows ≡ true
+  bordered_ahead : (h : Top) (rows : List Row) → Sane (bordered h rows) → all p rows ≡ true
       → Ahead p (state_lines (bordered h rows))
   unfolding all
-  bordered-ahead h rows s g =
+  bordered_ahead h rows s g =
       let r : Row = plain_row h.row_width in
       shorter p (state_lines (bordered h rows)) (row_lines r) (state_lines (rowed h rows r))
-      (framed-more h rows [] (row_lines r))
-      (rowed-ahead h rows r (s.0, s.1, plain_row_lem h.row_width s.0.1)
+      (framed_more h rows [] (row_lines r))
+      (rowed_ahead h rows r (s.0, s.1, plain_row_lem h.row_width s.0.1)
       (all_append p rows (r ∷ []) g (and_both (p r) true (plain h.row_width s.0.1) refl)))
 
-  ruled-ahead : (h : Top) → IsTop h → Ahead p (state_lines (ruled h))
+  ruled_ahead : (h : Top) → IsTop h → Ahead p (state_lines (ruled h))
   unfolding all joined
-  ruled-ahead h s =
+  ruled_ahead h s =
       shorter p (state_lines (ruled h)) (units h.row_width ∷ border h.row_width ∷ []) (state_lines (bordered h []))
       refl
-      (bordered-ahead h [] (s, refl) refl)
+      (bordered_ahead h [] (s, refl) refl)
 
-  counted-ahead : (h : Top) → IsTop h → Ahead p (state_lines (counted h))
+  counted_ahead : (h : Top) → IsTop h → Ahead p (state_lines (counted h))
   unfolding all joined
-  counted-ahead h s =
+  counted_ahead h s =
       shorter p (state_lines (counted h)) (border h.row_width ∷ []) (state_lines (bordered h [])) refl
-      (bordered-ahead h [] (s, refl) refl)
+      (bordered_ahead h [] (s, refl) refl)
 
-  spaced-ahead : (an : Bool) (n : List ℕ) → is_label n ≡ true → Ahead p (state_lines (spaced an n))
-  spaced-ahead an n s =
+  spaced_ahead : (an : Bool) (n : List ℕ) → is_label n ≡ true → Ahead p (state_lines (spaced an n))
+  spaced_ahead an n s =
       let h : Top = record { an = an; name = n; row_width = 8 } in
-      shorter p (state_lines (spaced an n)) (tens 8 ∷ []) (state_lines (ruled h)) refl (ruled-ahead h (s, refl))
+      shorter p (state_lines (spaced an n)) (tens 8 ∷ []) (state_lines (ruled h)) refl (ruled_ahead h (s, refl))
 
-  named-ahead : (an : Bool) (n : List ℕ) → is_label n ≡ true → Ahead p (state_lines (named an n))
-  named-ahead an n s = shorter p (state_lines (named an n)) ([] ∷ []) (state_lines (spaced an n)) refl (spaced-ahead an
+  named_ahead : (an : Bool) (n : List ℕ) → is_label n ≡ true → Ahead p (state_lines (named an n))
+  named_ahead an n s = shorter p (state_lines (named an n)) ([] ∷ []) (state_lines (spaced an n)) refl (spaced_ahead an
       n s)
 
   pub ahead_with : (s : State) → Sane s → all is_line (state_lines s) ≡ true → all p (rows_in s) ≡ true → Ahead p
       (state_lines s)
   ahead_with begun s a g =
       shorter p [] (state_lines (named false (bytes "x"))) (state_lines (named false (bytes "x"))) refl
-      (named-ahead false (bytes "x") letter)
-  ahead_with (named an n) s a g = named-ahead an n s
-  ahead_with (spaced an n) s a g = spaced-ahead an n s
-  ahead_with (ruled h) s a g = ruled-ahead h s
-  ahead_with (counted h) s a g = counted-ahead h s
-  ahead_with (bordered h rows) s a g = bordered-ahead h rows s g
-  ahead_with (rowed h rows r) s a g = rowed-ahead h rows r s g
-  ahead_with (closed h rows) s a g = closed-ahead h rows s g
-  ahead_with (headed h rows) s a g = headed-ahead h rows s g
-  ahead_with (filled h rows ls) s a g = filled-ahead h rows ls s (fields_are_lines h rows ls a) g
+      (named_ahead false (bytes "x") letter)
+  ahead_with (named an n) s a g = named_ahead an n s
+  ahead_with (spaced an n) s a g = spaced_ahead an n s
+  ahead_with (ruled h) s a g = ruled_ahead h s
+  ahead_with (counted h) s a g = counted_ahead h s
+  ahead_with (bordered h rows) s a g = bordered_ahead h rows s g
+  ahead_with (rowed h rows r) s a g = rowed_ahead h rows r s g
+  ahead_with (closed h rows) s a g = closed_ahead h rows s g
+  ahead_with (headed h rows) s a g = headed_ahead h rows s g
+  ahead_with (filled h rows ls) s a g = filled_ahead h rows ls s (fields_are_lines h rows ls a) g
 
 -- any frame that is drawn
 pub ahead : (s : State) → Sane s → all is_line (state_lines s) ≡ true → Ahead (λ r. true) (state_lines s)

@@ -13,11 +13,11 @@ use Rattle.rules.specs.Frames.{is_line, ended, is_drawn, Frame, frame_text, Fram
 use Rattle.text_laws.specs.FrameReader.{rest, lines_of, Top, State, begun, named, spaced, ruled, counted}
 use Rattle.text_laws.specs.FrameReader.{bordered, rowed, closed, headed, filled, on_state, run, whole, read_drawn}
 use Rattle.text_laws.specs.FrameReader.{if_labelled, read_frame}
-use Rattle.text_laws.proofs.SplitLaws.{split_joined, pieces_are_free, lines-joined, lines_end}
+use Rattle.text_laws.proofs.SplitLaws.{split_joined, pieces_are_free, lines_joined, lines_end}
 use Rattle.text_laws.proofs.FrameStates.{state_lines, Sane, Reached}
 use Rattle.text_laws.proofs.FrameSound.{fields_are_lines, run_sound}
-use Rattle.text_laws.proofs.FrameRun.{top_of, frame-kept, kept_frame, frame_lines, frame_lines_are}
-use Rattle.text_laws.proofs.FrameRun.{lines_are_lines, run-filled}
+use Rattle.text_laws.proofs.FrameRun.{top_of, frame_kept, kept_frame, frame_lines, frame_lines_are}
+use Rattle.text_laws.proofs.FrameRun.{lines_are_lines, run_filled}
 
 -- ── sound ──
 
@@ -30,11 +30,11 @@ abbrev Found : List ℕ → Option Frame → Type 0
 Found t none = Unit {0}
 Found t (some f) = DrawnOf t f
 
-filled-found : (t : List ℕ) (h : Top) (rows : List Row) (ls : List (List ℕ))
+filled_found : (t : List ℕ) (h : Top) (rows : List Row) (ls : List (List ℕ))
     → Sane (filled h rows ls) → state_lines (filled h rows ls) ≡ lines_of t → joined ended (lines_of t) ≡ t
     → all is_line (lines_of t) ≡ true → Found t (whole (filled h rows ls))
 unfolding whole
-filled-found t h rows ls s e j a = go (is_empty ls) refl
+filled_found t h rows ls s e j a = go (is_empty ls) refl
   where
     f : Frame
     f = record { an = h.an; name = h.name; row_width = h.row_width; rows = rows; lines = ls }
@@ -44,29 +44,29 @@ filled-found t h rows ls s e j a = go (is_empty ls) refl
     go false p = record {
       drawn = kept_frame f (record {
         top = s.0;
-        some-row = s.2;
+        some_row = s.2;
         rows = s.1;
-        some-line = p;
+        some_line = p;
         lines = fields_are_lines h rows ls (rw e a);
         brief = s.3;
       });
       is_text = unfold frame_text in ap (joined ended) (frame_lines_are f ∙ e) ∙ j;
     }
 
-run-found : (t : List ℕ) (o : Option State) → Reached (lines_of t) o → joined ended (lines_of t) ≡ t
+run_found : (t : List ℕ) (o : Option State) → Reached (lines_of t) o → joined ended (lines_of t) ≡ t
     → all is_line (lines_of t) ≡ true → Found t (on_state none whole o)
 unfolding whole
-run-found t none p j a = tt
-run-found t (some begun) p j a = tt
-run-found t (some (named an n)) p j a = tt
-run-found t (some (spaced an n)) p j a = tt
-run-found t (some (ruled h)) p j a = tt
-run-found t (some (counted h)) p j a = tt
-run-found t (some (bordered h rows)) p j a = tt
-run-found t (some (rowed h rows r)) p j a = tt
-run-found t (some (closed h rows)) p j a = tt
-run-found t (some (headed h rows)) p j a = tt
-run-found t (some (filled h rows ls)) p j a = filled-found t h rows ls p.0 p.1 j a
+run_found t none p j a = tt
+run_found t (some begun) p j a = tt
+run_found t (some (named an n)) p j a = tt
+run_found t (some (spaced an n)) p j a = tt
+run_found t (some (ruled h)) p j a = tt
+run_found t (some (counted h)) p j a = tt
+run_found t (some (bordered h rows)) p j a = tt
+run_found t (some (rowed h rows r)) p j a = tt
+run_found t (some (closed h rows)) p j a = tt
+run_found t (some (headed h rows)) p j a = tt
+run_found t (some (filled h rows ls)) p j a = filled_found t h rows ls p.0 p.1 j a
 
 found : (t : List ℕ) → Found t (read_drawn t)
 unfolding read_drawn
@@ -74,7 +74,7 @@ found t = go (rest line_feed t) (split_joined line_feed t)
   where
     go : (r : List ℕ) → joined ended (lines_of t) ++ r ≡ t
         → Found t (cond (is_empty r) (on_state none whole (run begun (lines_of t))) none)
-    go [] e = run-found t (run begun (lines_of t)) (run_sound (lines_of t) begun [] tt refl)
+    go [] e = run_found t (run begun (lines_of t)) (run_sound (lines_of t) begun [] tt refl)
         (sym (append-nil (joined ended (lines_of t))) ∙ e) (pieces_are_free line_feed t)
     go (b ∷ r) e = tt
 
@@ -97,37 +97,37 @@ frame_sound t f e = rw e at (labelled t (read_drawn t) (found t))
 
 -- ── complete ──
 
-whole-filled : (f : Frame) → is_empty f.lines ≡ false → whole (filled (top_of f) f.rows f.lines) ≡ some f
+whole_filled : (f : Frame) → is_empty f.lines ≡ false → whole (filled (top_of f) f.rows f.lines) ≡ some f
 unfolding whole
-whole-filled f e = rw e
+whole_filled f e = rw e
 
-pub drawn-complete : (t : List ℕ) (f : Frame) → DrawnOf t f → read_drawn t ≡ some f
+pub drawn_complete : (t : List ℕ) (f : Frame) → DrawnOf t f → read_drawn t ≡ some f
 unfolding read_drawn frame_text
-drawn-complete t f x =
-    let k = frame-kept f x.drawn in
+drawn_complete t f x =
+    let k = frame_kept f x.drawn in
     let a = lines_are_lines f k in
-    let l : lines_of t ≡ frame_lines f = ap lines_of (sym x.is_text) ∙ lines-joined (frame_lines f) a in
+    let l : lines_of t ≡ frame_lines f = ap lines_of (sym x.is_text) ∙ lines_joined (frame_lines f) a in
     let r : rest line_feed t ≡ [] = ap (rest line_feed) (sym x.is_text) ∙ lines_end (frame_lines f) a in
-    rw (r, l, frame_lines_are f, run-filled (top_of f) f.rows f.lines k.top k.rows k.some-row k.brief)
-    (whole-filled f k.some-line)
+    rw (r, l, frame_lines_are f, run_filled (top_of f) f.rows f.lines k.top k.rows k.some_row k.brief)
+    (whole_filled f k.some_line)
 
 -- a frame is drawn, and labelled
-pub frame-drawn : (t : List ℕ) (f : Frame) → FrameOf t f → DrawnOf t f
-frame-drawn t f x =
+pub frame_drawn : (t : List ℕ) (f : Frame) → FrameOf t f → DrawnOf t f
+frame_drawn t f x =
     record { drawn = and_left (is_drawn f) (all is_labelled f.rows) x.is_framed; is_text = x.is_text }
 
-pub frame-labelled : (t : List ℕ) (f : Frame) → FrameOf t f → all is_labelled f.rows ≡ true
-frame-labelled t f x = and_right (is_drawn f) (all is_labelled f.rows) x.is_framed
+pub frame_labelled : (t : List ℕ) (f : Frame) → FrameOf t f → all is_labelled f.rows ≡ true
+frame_labelled t f x = and_right (is_drawn f) (all is_labelled f.rows) x.is_framed
 
-pub frame-complete : (t : List ℕ) (f : Frame) → FrameOf t f → read_frame t ≡ some f
+pub frame_complete : (t : List ℕ) (f : Frame) → FrameOf t f → read_frame t ≡ some f
 unfolding read_frame if_labelled
-frame-complete t f x = rw (drawn-complete t f (frame-drawn t f x), frame-labelled t f x) refl
+frame_complete t f x = rw (drawn_complete t f (frame_drawn t f x), frame_labelled t f x) refl
 
 -- where none is read there is none
-pub frame-none : (t : List ℕ) → read_frame t ≡ none → (f : Frame) → FrameOf t f → ⊥
-frame-none t e f x = let p = frame-complete t f x in absurd (let z : ◌≡◌ {A = ℕ} 0 1 = cc in omega arith)
+pub frame_none : (t : List ℕ) → read_frame t ≡ none → (f : Frame) → FrameOf t f → ⊥
+frame_none t e f x = let p = frame_complete t f x in absurd (let z : ◌≡◌ {A = ℕ} 0 1 = cc in omega arith)
 
 -- ── one frame at most ──
 
 pub frame_unique : (t : List ℕ) (f g : Frame) → FrameOf t f → FrameOf t g → f ≡ g
-frame_unique t f g x y = let p = frame-complete t f x in let q = frame-complete t g y in cc
+frame_unique t f g x y = let p = frame_complete t f x in let q = frame_complete t g y in cc

@@ -13,7 +13,7 @@ use lib.Seq.{length-take-le, take_all}
 use borrow.Author.Tests.{lt-ltb, le-ltb}
 use Rattle.base.specs.Bytes.{bytes}
 use Rattle.base.specs.Lists.{all, same, is_empty, joined}
-use Rattle.base.proofs.Lists.{and_left, and_right, not-both}
+use Rattle.base.proofs.Lists.{and_left, and_right, not_both}
 use Rattle.rules.specs.Limits.{line_most, row_lines_most}
 use Rattle.rules.specs.Names.{line_feed}
 use Rattle.rules.specs.Rows.{Row, bit_row, long_row, bar_line, row_lines, is_drawn_row}
@@ -23,21 +23,21 @@ use Rattle.rules.specs.Refusals.{wrong_line}
 use Rattle.text_laws.specs.FrameReader.{lines_of, Top, State, begun, named, spaced, ruled, counted, bordered}
 use Rattle.text_laws.specs.FrameReader.{rowed, closed, headed, filled, row_or_end, on_same, on_brief, step, on_state}
 use Rattle.text_laws.specs.FrameReader.{run, right_from, right_lines, reach, rows_in, place_of}
-use Rattle.text_laws.proofs.SplitLaws.{pieces-joined, lines-joined, line_count-lines, first_lines-lines}
-use Rattle.text_laws.proofs.RowReader.{drawn_tall, drawn-front}
+use Rattle.text_laws.proofs.SplitLaws.{pieces_joined, lines_joined, line_count_lines, first_lines_lines}
+use Rattle.text_laws.proofs.RowReader.{drawn_tall, drawn_front}
 use Rattle.text_laws.proofs.FrameStates.{pairs, framed, state_lines, AreRows, Sane, Reached}
 use Rattle.text_laws.proofs.FrameSound.{run_sound}
-use Rattle.text_laws.proofs.FrameRun.{top_of, Kept, frame-kept, frame_lines, frame_lines_are, lines_are_lines}
-use Rattle.text_laws.proofs.FrameRun.{run-one, run_row, step-border, run_top}
-use Rattle.text_laws.proofs.FrameRight.{right-exact, take-lines}
+use Rattle.text_laws.proofs.FrameRun.{top_of, Kept, frame_kept, frame_lines, frame_lines_are, lines_are_lines}
+use Rattle.text_laws.proofs.FrameRun.{run_one, run_row, step_border, run_top}
+use Rattle.text_laws.proofs.FrameRight.{right_exact, take_lines}
 
 -- ── two ways to cut a list ──
 
-pub cut-lists : {A : Type 0} (a b ls ms : List A) → a ++ b ≡ ls ++ ms
+pub cut_lists : {A : Type 0} (a b ls ms : List A) → a ++ b ≡ ls ++ ms
     → ((c : List A) × (a ≡ ls ++ c)) ⊎ ((x : A) × (d : List A) × (ls ≡ a ++ (x ∷ d)) × (b ≡ x ∷ (d ++ ms)))
-cut-lists a b [] ms e = inl (a, refl)
-cut-lists [] b (y ∷ ls) ms e = inr (y, ls, refl, e)
-cut-lists {A = A} (x ∷ a) b (y ∷ ls) ms e = go (cut-lists a b ls ms (tails e)) (heads e)
+cut_lists a b [] ms e = inl (a, refl)
+cut_lists [] b (y ∷ ls) ms e = inr (y, ls, refl, e)
+cut_lists {A = A} (x ∷ a) b (y ∷ ls) ms e = go (cut_lists a b ls ms (tails e)) (heads e)
   where
     heads : {x y : A} {s t : List A} → ◌≡◌ {A = List A} (x ∷ s) (y ∷ t) → x ≡ y
     heads e = cc
@@ -53,36 +53,36 @@ cut-lists {A = A} (x ∷ a) b (y ∷ ls) ms e = go (cut-lists a b ls ms (tails e
 
 -- ── the first lines of a row ──
 
-front-map : (lines : List (List (List ℕ))) (ls c : List (List ℕ)) → map bar_line lines ≡ ls ++ c
+front_map : (lines : List (List (List ℕ))) (ls c : List (List ℕ)) → map bar_line lines ≡ ls ++ c
     → ls ≡ map bar_line (take (length ls) lines)
-front-map lines [] c e = refl
-front-map [] (l ∷ ls) c e = cc
-front-map (ss ∷ lines) (l ∷ ls) c e =
+front_map lines [] c e = refl
+front_map [] (l ∷ ls) c e = cc
+front_map (ss ∷ lines) (l ∷ ls) c e =
     let q : map bar_line lines ≡ ls ++ c = cc in
-    let r = front-map lines ls c q in
+    let r = front_map lines ls c q in
     let s : l ≡ bar_line ss = cc in
     cc
 
-cut-lines : (r : Row) (l : List ℕ) (ls c : List (List ℕ)) → row_lines r ≡ l ∷ (ls ++ c)
+cut_lines : (r : Row) (l : List ℕ) (ls c : List (List ℕ)) → row_lines r ≡ l ∷ (ls ++ c)
     → l ∷ ls ≡ row_lines (cut_row (suc (length ls)) r)
 unfolding row_lines
-cut-lines (bit_row bits lines) l ls c e = front-map lines (l ∷ ls) c e
-cut-lines (long_row n s) l [] c e = cc
-cut-lines (long_row n s) l (m ∷ ls) c e = cc
+cut_lines (bit_row bits lines) l ls c e = front_map lines (l ∷ ls) c e
+cut_lines (long_row n s) l [] c e = cc
+cut_lines (long_row n s) l (m ∷ ls) c e = cc
 
-drawn-cut : (w : ℕ) (r : Row) (m : ℕ) → is_drawn_row row_lines_most w r ≡ true → is_drawn_row row_lines_most w (cut_row (suc
+drawn_cut : (w : ℕ) (r : Row) (m : ℕ) → is_drawn_row row_lines_most w r ≡ true → is_drawn_row row_lines_most w (cut_row (suc
     m) r) ≡ true
-drawn-cut w (bit_row bits []) m h = h
-drawn-cut w (bit_row bits (ss ∷ lines)) m h =
-    drawn-front w bits ss (take m lines) (drop m lines) (rw (take-append-drop m lines) h)
-drawn-cut w (long_row n s) m h = h
+drawn_cut w (bit_row bits []) m h = h
+drawn_cut w (bit_row bits (ss ∷ lines)) m h =
+    drawn_front w bits ss (take m lines) (drop m lines) (rw (take-append-drop m lines) h)
+drawn_cut w (long_row n s) m h = h
 
-pub cut-whole : (r : Row) (m : ℕ) → length (row_lines r) ≤ m → cut_row m r ≡ r
+pub cut_whole : (r : Row) (m : ℕ) → length (row_lines r) ≤ m → cut_row m r ≡ r
 unfolding row_lines
-cut-whole (bit_row bits lines) m le =
+cut_whole (bit_row bits lines) m le =
     ap (λ (l : List (List (List ℕ))). bit_row bits l)
     (take_all m lines (let n = length-map lines bar_line in omega (arith, n, le)))
-cut-whole (long_row n s) m le = refl
+cut_whole (long_row n s) m le = refl
 
 -- ── the rows within some lines ──
 
@@ -91,10 +91,10 @@ unfolding rows_within
 within_none k n [] le = refl
 within_none k n (r ∷ rows) le = rw (le-ltb n k le) refl
 
-within-cut : (m n : ℕ) (r : Row) (rows : List Row) → suc m ≤ length (row_lines r)
+within_cut : (m n : ℕ) (r : Row) (rows : List Row) → suc m ≤ length (row_lines r)
     → rows_within (n + suc m) n (r ∷ rows) ≡ cut_row (suc m) r ∷ []
 unfolding rows_within
-within-cut m n r rows le =
+within_cut m n r rows le =
     let d : n + suc m - n ≡ suc m = omega arith in
     rw (
       lt-ltb n (n + suc m) (omega arith),
@@ -103,13 +103,13 @@ within-cut m n r rows le =
     )
     refl
 
-within-next : (m n : ℕ) (r : Row) (rows : List Row)
+within_next : (m n : ℕ) (r : Row) (rows : List Row)
     → rows_within (n + suc (length (row_lines r)) + m) n (r ∷ rows)
     ≡ r ∷ rows_within (n + suc (length (row_lines r)) + m) (n + suc (length (row_lines r))) rows
 unfolding rows_within
-within-next m n r rows =
+within_next m n r rows =
     let k : ℕ = n + suc (length (row_lines r)) + m in
-    rw (lt-ltb n k (omega arith), cut-whole r (k - n) (omega arith)) refl
+    rw (lt-ltb n k (omega arith), cut_whole r (k - n) (omega arith)) refl
 
 -- ── behind the rows ──
 
@@ -118,11 +118,11 @@ abbrev pub OnState : (State → Type 0) → Option State → Type 0
 OnState P none = Unit {0}
 OnState P (some q) = P q
 
-pub run-keeps : (P : State → Type 0) → ((s : State) (l : List ℕ) → P s → OnState P (step s l))
+pub run_keeps : (P : State → Type 0) → ((s : State) (l : List ℕ) → P s → OnState P (step s l))
     → (ls : List (List ℕ)) (s q : State) → P s → run s ls ≡ some q → P q
 unfolding run
-run-keeps P f [] s q p e = subst P (some-injective s q e) p
-run-keeps P f (l ∷ ls) s q p e = go (step s l) (f s l p) e (run-keeps P f ls)
+run_keeps P f [] s q p e = subst P (some-injective s q e) p
+run_keeps P f (l ∷ ls) s q p e = go (step s l) (f s l p) e (run_keeps P f ls)
   where
     go : (o : Option State) → OnState P o → on_state none (λ q. run q ls) o ≡ some q
         → ((s q : State) → P s → run s ls ≡ some q → P q) → P q
@@ -142,42 +142,42 @@ Behind rows (closed h rs) = rs ≡ rows
 Behind rows (headed h rs) = rs ≡ rows
 Behind rows (filled h rs ls) = rs ≡ rows
 
-behind-step : (rows : List Row) (s : State) (l : List ℕ) → Behind rows s → OnState (Behind rows) (step s l)
+behind_step : (rows : List Row) (s : State) (l : List ℕ) → Behind rows s → OnState (Behind rows) (step s l)
 unfolding step on_same on_brief
-behind-step rows begun l p = absurd p
-behind-step rows (named an n) l p = absurd p
-behind-step rows (spaced an n) l p = absurd p
-behind-step rows (ruled h) l p = absurd p
-behind-step rows (counted h) l p = absurd p
-behind-step rows (bordered h rs) l p = absurd p
-behind-step rows (rowed h rs r) l p = absurd p
-behind-step rows (closed h rs) l p = go (same l (bytes "where:"))
+behind_step rows begun l p = absurd p
+behind_step rows (named an n) l p = absurd p
+behind_step rows (spaced an n) l p = absurd p
+behind_step rows (ruled h) l p = absurd p
+behind_step rows (counted h) l p = absurd p
+behind_step rows (bordered h rs) l p = absurd p
+behind_step rows (rowed h rs r) l p = absurd p
+behind_step rows (closed h rs) l p = go (same l (bytes "where:"))
   where
     go : (b : Bool) → OnState (Behind rows) (cond b (some (headed h rs)) none)
     go true = p
     go false = tt
-behind-step rows (headed h rs) l p = go (same l [])
+behind_step rows (headed h rs) l p = go (same l [])
   where
     go : (b : Bool) → OnState (Behind rows) (cond b (some (filled h rs [])) none)
     go true = p
     go false = tt
-behind-step rows (filled h rs ls) l p = go (leb (length l) line_most)
+behind_step rows (filled h rs ls) l p = go (leb (length l) line_most)
   where
     go : (b : Bool) → OnState (Behind rows) (cond b (some (filled h rs (ls ++ (l ∷ [])))) none)
     go true = p
     go false = tt
 
-behind-rows : (rows : List Row) (q : State) → Behind rows q → rows_in q ≡ rows
-behind-rows rows begun p = absurd p
-behind-rows rows (named an n) p = absurd p
-behind-rows rows (spaced an n) p = absurd p
-behind-rows rows (ruled h) p = absurd p
-behind-rows rows (counted h) p = absurd p
-behind-rows rows (bordered h rs) p = absurd p
-behind-rows rows (rowed h rs r) p = absurd p
-behind-rows rows (closed h rs) p = p
-behind-rows rows (headed h rs) p = p
-behind-rows rows (filled h rs ls) p = p
+behind_rows : (rows : List Row) (q : State) → Behind rows q → rows_in q ≡ rows
+behind_rows rows begun p = absurd p
+behind_rows rows (named an n) p = absurd p
+behind_rows rows (spaced an n) p = absurd p
+behind_rows rows (ruled h) p = absurd p
+behind_rows rows (counted h) p = absurd p
+behind_rows rows (bordered h rs) p = absurd p
+behind_rows rows (rowed h rs r) p = absurd p
+behind_rows rows (closed h rs) p = p
+behind_rows rows (headed h rs) p = p
+behind_rows rows (filled h rs ls) p = p
 
 -- ── from a border on ──
 
@@ -194,7 +194,7 @@ within_end h done ([] ∷ ls) ms fs q e g = go (is_empty done) g
     go : (b : Bool) → on_state none (λ q. run q ls) (cond b none (some (closed h done))) ≡ some q → done ≡ rows_in q
     go true k = absurd (none-ne-some q k)
     go false k =
-        sym (behind-rows done q (run-keeps (Behind done) (behind-step done) ls (closed h done) q refl k))
+        sym (behind_rows done q (run_keeps (Behind done) (behind_step done) ls (closed h done) q refl k))
 
 -- behind a row, its border and d lines
 abbrev Beyond : Top → List Row → List Row → Row → List (List ℕ) → List (List ℕ) → ℕ → State → List (List ℕ) → Type 0
@@ -217,9 +217,9 @@ module _ (h : Top) (r : Row) (rows done : List Row) (n : ℕ) (q : State)
       let le : suc m ≤ length (row_lines r) =
       let x = ap length p in let y = length-append (l ∷ ls) c in omega (arith, x, y) in
       let s : run (bordered h done) (l ∷ ls) ≡ some (rowed h done (cut_row (suc m) r)) =
-      ap (run (bordered h done)) (cut-lines r l ls c p ∙ sym (append-nil (row_lines (cut_row (suc m) r))))
-      ∙ run_row h done (cut_row (suc m) r) [] (drawn-cut h.row_width r m drawn) in
-      rw (within-cut m n r rows le) (held (rowed h done (cut_row (suc m) r)) q (sym s ∙ g))
+      ap (run (bordered h done)) (cut_lines r l ls c p ∙ sym (append-nil (row_lines (cut_row (suc m) r))))
+      ∙ run_row h done (cut_row (suc m) r) [] (drawn_cut h.row_width r m drawn) in
+      rw (within_cut m n r rows le) (held (rowed h done (cut_row (suc m) r)) q (sym s ∙ g))
 
   -- or go on behind its border
   outside : (ms fs : List (List ℕ)) (x : List ℕ) (d : List (List ℕ))
@@ -231,25 +231,25 @@ module _ (h : Top) (r : Row) (rows done : List Row) (n : ℕ) (q : State)
       let b : border w ≡ x = cc in
       let o : run (bordered h (done ++ (r ∷ []))) d ≡ some q =
       sym (run_row h done r (border w ∷ d) drawn
-      ∙ run-one (rowed h done r) (bordered h (done ++ (r ∷ []))) (border w) d (step-border h done r))
+      ∙ run_one (rowed h done r) (bordered h (done ++ (r ∷ []))) (border w) d (step_border h done r))
       ∙ ap (λ (y : List ℕ). run (bordered h done) (row_lines r ++ (y ∷ d))) b ∙ g in
       let t : pairs w rows ++ ([] ∷ fs) ≡ d ++ ms = cc in
       let k : n + length (row_lines r ++ (x ∷ d)) ≡ n + suc (length (row_lines r)) + length d =
       let y = length-append (row_lines r) (x ∷ d) in omega (arith, y) in
-      rw (k, within-next (length d) n r rows)
+      rw (k, within_next (length d) n r rows)
       (sym (append_assoc done (r ∷ [])
       (rows_within (n + suc (length (row_lines r)) + length d) (n + suc (length (row_lines r))) rows)) ∙ f o t)
 
-within-rows : (h : Top) (rows done : List Row) (ls ms fs : List (List ℕ)) (n : ℕ) (q : State) → AreRows h rows
+within_rows : (h : Top) (rows done : List Row) (ls ms fs : List (List ℕ)) (n : ℕ) (q : State) → AreRows h rows
     → pairs h.row_width rows ++ ([] ∷ fs) ≡ ls ++ ms → run (bordered h done) ls ≡ some q
     → done ++ rows_within (n + length ls) n rows ≡ rows_in q
 unfolding joined rows_within all run
-within-rows h [] done ls ms fs n q a e g = append-nil done ∙ within_end h done ls ms fs q e g
-within-rows h (r ∷ rows) done ls ms fs n q a e g =
-    go ls g (cut-lists (row_lines r) (border w ∷ (pairs w rows ++ ([] ∷ fs))) ls ms
+within_rows h [] done ls ms fs n q a e g = append-nil done ∙ within_end h done ls ms fs q e g
+within_rows h (r ∷ rows) done ls ms fs n q a e g =
+    go ls g (cut_lists (row_lines r) (border w ∷ (pairs w rows ++ ([] ∷ fs))) ls ms
     (sym (append_assoc (row_lines r) (border w ∷ []) (pairs w rows ++ ([] ∷ fs)))
     ∙ sym (append_assoc (row_lines r ++ (border w ∷ [])) (pairs w rows) ([] ∷ fs)) ∙ e))
-    (λ d o f. within-rows h rows (done ++ (r ∷ [])) d ms fs (n + suc (length (row_lines r))) q
+    (λ d o f. within_rows h rows (done ++ (r ∷ [])) d ms fs (n + suc (length (row_lines r))) q
     (and_right (is_drawn_row row_lines_most w r) (all (is_drawn_row row_lines_most w) rows) a) f o)
   where
     w : ℕ
@@ -273,7 +273,7 @@ within-rows h (r ∷ rows) done ls ms fs n q a e g =
 
 tall_row : (w : ℕ) (r : Row) → is_drawn_row row_lines_most w r ≡ true → 1 ≤ length (row_lines r)
 unfolding row_lines
-tall_row w (bit_row bits []) h = absurd (not-both false (drawn_tall w bits [] h) refl)
+tall_row w (bit_row bits []) h = absurd (not_both false (drawn_tall w bits [] h) refl)
 tall_row w (bit_row bits (ss ∷ lines)) h = omega arith
 tall_row w (long_row n s) h = omega arith
 
@@ -286,25 +286,25 @@ few_pairs w (r ∷ rows) m le =
     let c = length-append (row_lines r) (border w ∷ []) in
     absurd (omega (arith, le, a, b, c))
 
-few-rows : (q : State) → Sane q → length (state_lines q) ≤ 5 → rows_in q ≡ []
-few-rows begun s le = refl
-few-rows (named an n) s le = refl
-few-rows (spaced an n) s le = refl
-few-rows (ruled h) s le = refl
-few-rows (counted h) s le = refl
-few-rows (bordered h rows) s le = few_pairs h.row_width rows [] (omega (arith, le))
-few-rows (rowed h rows r) s le =
+few_rows : (q : State) → Sane q → length (state_lines q) ≤ 5 → rows_in q ≡ []
+few_rows begun s le = refl
+few_rows (named an n) s le = refl
+few_rows (spaced an n) s le = refl
+few_rows (ruled h) s le = refl
+few_rows (counted h) s le = refl
+few_rows (bordered h rows) s le = few_pairs h.row_width rows [] (omega (arith, le))
+few_rows (rowed h rows r) s le =
     let a = length-append (pairs h.row_width rows) (row_lines r) in
     let b = tall_row h.row_width r s.2 in
     absurd (omega (arith, le, a, b))
-few-rows (closed h rows) s le = few_pairs h.row_width rows ([] ∷ []) (omega (arith, le))
-few-rows (headed h rows) s le = few_pairs h.row_width rows ([] ∷ bytes "where:" ∷ []) (omega (arith, le))
-few-rows (filled h rows ls) s le = few_pairs h.row_width rows ([] ∷ bytes "where:" ∷ [] ∷ ls) (omega (arith, le))
+few_rows (closed h rows) s le = few_pairs h.row_width rows ([] ∷ []) (omega (arith, le))
+few_rows (headed h rows) s le = few_pairs h.row_width rows ([] ∷ bytes "where:" ∷ []) (omega (arith, le))
+few_rows (filled h rows ls) s le = few_pairs h.row_width rows ([] ∷ bytes "where:" ∷ [] ∷ ls) (omega (arith, le))
 
-pub within-lines : (f : Frame) → Kept f → (ls ms : List (List ℕ)) (q : State) → frame_lines f ≡ ls ++ ms
+pub within_lines : (f : Frame) → Kept f → (ls ms : List (List ℕ)) (q : State) → frame_lines f ≡ ls ++ ms
     → run begun ls ≡ some q → rows_within (length ls) 5 f.rows ≡ rows_in q
 unfolding joined
-within-lines f k ls ms q e g = go (cut-lists top (pairs w f.rows ++ ([] ∷ fs)) ls ms (sym (frame_lines_are f) ∙ e))
+within_lines f k ls ms q e g = go (cut_lists top (pairs w f.rows ++ ([] ∷ fs)) ls ms (sym (frame_lines_are f) ∙ e))
   where
     h : Top
     h = top_of f
@@ -327,7 +327,7 @@ within-lines f k ls ms q e g = go (cut-lists top (pairs w f.rows ++ ([] ∷ fs))
         let le : length ls ≤ 5 =
         let x = ap length p.1 in let y = length-append ls p.0 in omega (arith, x, y) in
         within_none (length ls) 5 f.rows le
-        ∙ sym (few-rows q r.0 (let y = ap length r.1 in omega (arith, y, le)))
+        ∙ sym (few_rows q r.0 (let y = ap length r.1 in omega (arith, y, le)))
     go (inr p) =
         let x : List ℕ = p.0 in
         let d : List (List ℕ) = p.1 in
@@ -335,14 +335,14 @@ within-lines f k ls ms q e g = go (cut-lists top (pairs w f.rows ++ ([] ∷ fs))
         sym (run_top h (x ∷ d) k.top) ∙ ap (run begun) (sym p.2) ∙ g in
         let n : length ls ≡ 5 + length (x ∷ d) =
         let a = ap length p.2 in let b = length-append top (x ∷ d) in omega (arith, a, b) in
-        rw n (within-rows h f.rows [] (x ∷ d) ms fs 5 q k.rows p.3 o)
+        rw n (within_rows h f.rows [] (x ∷ d) ms fs 5 q k.rows p.3 o)
 
 -- ── the place ──
 
-right-reach : (ls : List (List ℕ)) (s : State) → run s (take (right_from s ls) ls) ≡ some (reach s ls)
+right_reach : (ls : List (List ℕ)) (s : State) → run s (take (right_from s ls) ls) ≡ some (reach s ls)
 unfolding right_from run reach
-right-reach [] s = refl
-right-reach (l ∷ ls) s = go (step s l) refl (right-reach ls)
+right_reach [] s = refl
+right_reach (l ∷ ls) s = go (step s l) refl (right_reach ls)
   where
     go : (o : Option State) → step s l ≡ o → ((q : State) → run q (take (right_from q ls) ls) ≡ some (reach q ls))
         → run s (take (on_state 0 (λ q. suc (right_from q ls)) o) (l ∷ ls)) ≡ some (on_state s (λ q. reach q ls) o)
@@ -350,43 +350,43 @@ right-reach (l ∷ ls) s = go (step s l) refl (right-reach ls)
     go (some q) e f = rw e (f q)
 
 -- the rows within the first k lines are those that the reader holds behind them
-pub begins-rows : (t : List ℕ) (k : ℕ) (b : Begins t k) → k ≤ line_count t → (q : State)
+pub begins_rows : (t : List ℕ) (k : ℕ) (b : Begins t k) → k ≤ line_count t → (q : State)
     → run begun (take k (lines_of t)) ≡ some q → rows_within k 5 b.frame.rows ≡ rows_in q
 unfolding frame_text
-begins-rows t k b there q ran =
+begins_rows t k b there q ran =
     ap (λ (n : ℕ). rows_within n 5 b.frame.rows) (sym (length-take-le k (lines_of t) le))
-    ∙ within-lines b.frame kept ls (lines_of b.behind) q split ran
+    ∙ within_lines b.frame kept ls (lines_of b.behind) q split ran
   where
     kept : Kept b.frame
-    kept = frame-kept b.frame b.drawn
+    kept = frame_kept b.frame b.drawn
 
     le : k ≤ length (lines_of t)
-    le = rw (line_count-lines t) at there
+    le = rw (line_count_lines t) at there
 
     ls : List (List ℕ)
     ls = take k (lines_of t)
 
     split : frame_lines b.frame ≡ ls ++ lines_of b.behind
     split =
-        sym (lines-joined (frame_lines b.frame) (lines_are_lines b.frame kept))
-        ∙ ap lines_of (b.is_text ∙ ap (λ (m : List ℕ). m ++ b.behind) (first_lines-lines k t le))
-        ∙ pieces-joined line_feed ls b.behind (take-lines k t)
+        sym (lines_joined (frame_lines b.frame) (lines_are_lines b.frame kept))
+        ∙ ap lines_of (b.is_text ∙ ap (λ (m : List ℕ). m ++ b.behind) (first_lines_lines k t le))
+        ∙ pieces_joined line_feed ls b.behind (take_lines k t)
 
 -- the place of 3 is the one that the reader finds
-pub place-right : (t : List ℕ) (k : ℕ) (r : RightLines t k) → wrong_line k r.begins.frame ≡ place_of t
+pub place_right : (t : List ℕ) (k : ℕ) (r : RightLines t k) → wrong_line k r.begins.frame ≡ place_of t
 unfolding place_of
-place-right t k r =
+place_right t k r =
     ap (λ (rows : List Row). or_behind k (unlabelled_line 5 rows)) rows
     ∙ ap (λ (n : ℕ). or_behind n (unlabelled_line 5 (rows_in (reach begun (lines_of t))))) e
   where
     e : k ≡ right_lines t
-    e = right-exact t k r
+    e = right_exact t k r
 
     rows : rows_within k 5 r.begins.frame.rows ≡ rows_in (reach begun (lines_of t))
-    rows = begins-rows t k r.begins r.there (reach begun (lines_of t))
-        (rw e (unfold right_lines in right-reach (lines_of t) begun))
+    rows = begins_rows t k r.begins r.there (reach begun (lines_of t))
+        (rw e (unfold right_lines in right_reach (lines_of t) begun))
 
 -- so it is one
 pub place_unique : (t : List ℕ) (j k : ℕ) (x : RightLines t j) (y : RightLines t k)
     → wrong_line j x.begins.frame ≡ wrong_line k y.begins.frame
-place_unique t j k x y = place-right t j x ∙ sym (place-right t k y)
+place_unique t j k x y = place_right t j x ∙ sym (place_right t k y)

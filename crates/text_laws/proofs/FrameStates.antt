@@ -8,7 +8,7 @@ use lib.Dec.{eqb}
 use borrow.Author.Tests.{eqb-true}
 use Rattle.base.specs.Bytes.{bytes}
 use Rattle.base.specs.Lists.{all, is_empty, joined}
-use Rattle.base.proofs.Lists.{not-both}
+use Rattle.base.proofs.Lists.{not_both}
 use Rattle.rules.specs.Limits.{row_lines_most}
 use Rattle.rules.specs.Names.{is_label}
 use Rattle.rules.specs.Within.{is_row_width}
@@ -74,4 +74,4 @@ width_cases P a b c w h = go (eqb w 8) refl (eqb w 16) refl (eqb w 32) refl h
     go true p y q z r h = rw (eqb-true w 8 p) a
     go false p true q z r h = rw (eqb-true w 16 q) b
     go false p false q true r h = rw (eqb-true w 32 r) c
-    go false p false q false r h = absurd (not-both (is_row_width w) h (rw (p, q, r)))
+    go false p false q false r h = absurd (not_both (is_row_width w) h (rw (p, q, r)))

@@ -8,14 +8,14 @@ use native.Mathlib.Omega.{arith}
 use lib.Dec.{ltb, leb}
 use lib.ListN.{length, length-append}
 use borrow.Author.Tests.{lt-ltb, ltb-true, ltb-false, le-leb}
-use Rattle.base.proofs.Lists.{not-both, or_left, or_right, or_cases}
+use Rattle.base.proofs.Lists.{not_both, or_left, or_right, or_cases}
 use mathlib.Core.Logic.{◌⊎◌, inl, inr}
 use Rattle.rules.specs.Answers.{refused}
 use Rattle.rules.specs.Limits.{fields_most}
 use Rattle.rules.specs.Frames.{Slot}
 use Rattle.text_laws.specs.Judging.{Judged, is_many, is_full, many, judge}
 use Rattle.text_laws.specs.Fold.{Found, with_cells}
-use Rattle.text_laws.proofs.Judges.{Judges, judges_none, none_judges, judges_more, judge-count}
+use Rattle.text_laws.proofs.Judges.{Judges, judges_none, none_judges, judges_more, judge_count}
 
 -- ── cells and field lines; p is the number of the first field line ──
 
@@ -29,16 +29,16 @@ pub data Fills (cs : List Slot) (p : ℕ) (ls : List (List ℕ)) (cells : List S
   spills : is_over cs ls ≡ true → j.lowest ≡ some (refused 4 0) → Fills cs p ls cells j
 
 -- before the first field line its number does not matter
-pub fills-moved : (cs : List Slot) (p q : ℕ) (cells : List Slot) (j : Judged) → Fills cs p [] cells j
+pub fills_moved : (cs : List Slot) (p q : ℕ) (cells : List Slot) (j : Judged) → Fills cs p [] cells j
     → Fills cs q [] cells j
-fills-moved cs p q cells j (fits a b e c h) =
+fills_moved cs p q cells j (fits a b e c h) =
     let n = none_judges cs p j h in
     fits a b e c (judges_none cs q j n.0 n.1)
-fills-moved cs p q cells j (spills o e) = spills o e
+fills_moved cs p q cells j (spills o e) = spills o e
 
-pub fills-row : (cs : List Slot) (p : ℕ) (f : Found) (more : List Slot) → Fills cs p [] f.cells f.judged
+pub fills_row : (cs : List Slot) (p : ℕ) (f : Found) (more : List Slot) → Fills cs p [] f.cells f.judged
     → Fills (cs ++ more) p [] (with_cells f (f.cells ++ more)).cells (with_cells f (f.cells ++ more)).judged
-fills-row cs p f more (fits a b e c h) = go (ltb fields_most (length (f.cells ++ more))) refl
+fills_row cs p f more (fits a b e c h) = go (ltb fields_most (length (f.cells ++ more))) refl
   where
     go : (x : Bool) → ltb fields_most (length (f.cells ++ more)) ≡ x
         → Fills (cs ++ more) p [] (cond x f.cells (f.cells ++ more)) (cond x (many f.judged) f.judged)
@@ -47,14 +47,14 @@ fills-row cs p f more (fits a b e c h) = go (ltb fields_most (length (f.cells ++
         let n = none_judges cs p f.judged h in
         fits (ltb-false fields_most (length (cs ++ more)) (rw e at k)) b (ap (λ (l : List Slot). l ++ more) e) c
         (judges_none (cs ++ more) p f.judged n.0 n.1)
-fills-row cs p f more (spills o e) = go (ltb fields_most (length (f.cells ++ more)))
+fills_row cs p f more (spills o e) = go (ltb fields_most (length (f.cells ++ more)))
   where
     long : fields_most < length cs
     long = last (or_cases (ltb fields_most (length cs)) (ltb fields_most 0) o)
       where
         last : (ltb fields_most (length cs) ≡ true) ⊎ (ltb fields_most 0 ≡ true) → fields_most < length cs
         last (inl k) = ltb-true fields_most (length cs) k
-        last (inr k) = absurd (not-both false k refl)
+        last (inr k) = absurd (not_both false k refl)
 
     longer : is_over (cs ++ more) [] ≡ true
     longer =
@@ -84,7 +84,7 @@ fills_field cs p ls cells j l (fits a b e c h) = go (ltb (length ls) fields_most
     go true k =
         let lt = ltb-true (length ls) fields_most k in
         fits a (rw longer (let z : suc (length ls) ≤ fields_most = omega (arith, lt) in z)) e
-        (rw (e, longer) (judge-count cs p ls j l lt c h))
+        (rw (e, longer) (judge_count cs p ls j l lt c h))
         (rw e (judges_more cs p ls j l lt c h))
     go false k =
         let le = ltb-false (length ls) fields_most k in

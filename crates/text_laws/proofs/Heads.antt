@@ -9,7 +9,7 @@ use lib.Dec.{leb}
 use lib.ListN.{length, length-append, take, drop}
 use Rattle.base.specs.Bytes.{bytes}
 use Rattle.base.specs.Lists.{is_empty, same, joined}
-use Rattle.base.proofs.Joined.{joined-append, joined-one}
+use Rattle.base.proofs.Joined.{joined_append, joined_one}
 use Rattle.rules.specs.Answers.{refused}
 use Rattle.rules.specs.Limits.{line_most}
 use Rattle.rules.specs.Rows.{Row, is_labelled}
@@ -25,7 +25,7 @@ use Rattle.text_laws.specs.Fold.{onward, blamed, wrong, with_line, on_more, with
 use Rattle.text_laws.specs.Fold.{with_name, with_width, with_cells, with_row, brief_field, with_field, lined_at}
 use Rattle.text_laws.specs.Fold.{lined}
 use Rattle.text_laws.proofs.Judges.{judges_none}
-use Rattle.text_laws.proofs.HeadFills.{Fills, fits, fills-moved, fills-row, fills_field}
+use Rattle.text_laws.proofs.HeadFills.{Fills, fits, fills_moved, fills_row, fills_field}
 
 -- ── what is kept of a state ──
 
@@ -104,9 +104,9 @@ pub record Stands (n : ℕ) (s : State) (f : Found) : Type 0 where
   pub counts : n ≡ from + length (lines_in s)
   pub fills : Fills (cells_in s) (suc from) (lines_in s) f.cells f.judged
 
-pub start-stands : Stands 0 begun start
+pub start_stands : Stands 0 begun start
 unfolding joined
-start-stands = record {
+start_stands = record {
   lines = refl;
   stage = refl;
   name = refl;
@@ -125,10 +125,10 @@ Follows n f none g = g ≡ wrong f
 Follows n f (some q) g = Stands (suc n) q g
 
 -- a state without field lines
-head-stands : (n p : ℕ) (q : State) (g : Found) → lines_in q ≡ [] → g.lines ≡ n → g.stage ≡ stage_of q
+head_stands : (n p : ℕ) (q : State) (g : Found) → lines_in q ≡ [] → g.lines ≡ n → g.stage ≡ stage_of q
     → g.name ≡ name_in q → g.width ≡ width_in q → g.row ≡ row_in q
     → Fills (cells_in q) p [] g.cells g.judged → Stands n q g
-head-stands n p q g e lines stage name width row h = record {
+head_stands n p q g e lines stage name width row h = record {
   lines = lines;
   stage = stage;
   name = name;
@@ -136,7 +136,7 @@ head-stands n p q g e lines stage name width row h = record {
   row = row;
   from = n;
   counts = rw e (let z : n ≡ n + 0 = omega arith in z);
-  fills = rw e (fills-moved (cells_in q) p (suc n) g.cells g.judged h);
+  fills = rw e (fills_moved (cells_in q) p (suc n) g.cells g.judged h);
 }
 
 on_same_lem : (n : ℕ) (f : Found) (w : List ℕ) (q : State) (s : Stage) (l : List ℕ) → Stands (suc n) q (onward s f)
@@ -152,7 +152,7 @@ on_name_lem : (n : ℕ) (f : Found) (an : Bool) → Stands n begun f → (o : Op
     → Follows n f (on_name an o) (with_name f o)
 unfolding on_name
 on_name_lem n f an h none = refl
-on_name_lem n f an h (some m) = head-stands (suc n) (suc h.from) (named an m) (with_name f (some m)) refl
+on_name_lem n f an h (some m) = head_stands (suc n) (suc h.from) (named an m) (with_name f (some m)) refl
     (ap suc h.lines) refl refl h.width h.row h.fills
 
 on_opening : (n : ℕ) (f : Found) (l : List ℕ) → Stands n begun f → Follows n f (opened l) (with_name f (opening_name l))
@@ -171,7 +171,7 @@ on_tens : (n : ℕ) (f : Found) (an : Bool) (m : List ℕ) → Stands n (spaced 
 unfolding on_width
 on_tens n f an m h none = refl
 on_tens n f an m h (some w) =
-    head-stands (suc n) (suc h.from) (ruled (record { an = an; name = m; row_width = w })) (with_width f (some w)) refl
+    head_stands (suc n) (suc h.from) (ruled (record { an = an; name = m; row_width = w })) (with_width f (some w)) refl
     (ap suc h.lines) refl h.name refl refl h.fills
 
 on_row_lem : (n : ℕ) (f : Found) (h : Top) (rows : List Row) → Stands n (bordered h rows) f → (o : Option Row)
@@ -179,37 +179,37 @@ on_row_lem : (n : ℕ) (f : Found) (h : Top) (rows : List Row) → Stands n (bor
 unfolding on_row
 on_row_lem n f h rows s none = refl
 on_row_lem n f h rows s (some r) =
-    head-stands (suc n) (suc s.from) (rowed h rows r) (with_row f (some r)) refl (ap suc s.lines) refl
+    head_stands (suc n) (suc s.from) (rowed h rows r) (with_row f (some r)) refl (ap suc s.lines) refl
     s.name s.width refl s.fills
 
-row-empty : (w : ℕ) → read_row w [] ≡ none
+row_empty : (w : ℕ) → read_row w [] ≡ none
 unfolding read_row row_of strips_of read_long
-row-empty w = refl
+row_empty w = refl
 
 -- behind a border
 on_border : (n : ℕ) (f : Found) (h : Top) (rows : List Row) (l : List ℕ) → Stands n (bordered h rows) f
     → Follows n f (row_or_end h rows l) (lined_at (cond (is_empty rows) first_row row_or_blank) f l)
 unfolding row_or_end lined_at
-on_border n f h [] [] s = rw (row-empty f.width) refl
+on_border n f h [] [] s = rw (row_empty f.width) refl
 on_border n f h [] (b ∷ l) s =
     subst (λ (w : ℕ). Follows n f (on_row h [] (read_row h.row_width (b ∷ l))) (with_row f (read_row w (b ∷ l))))
     (sym s.width) (on_row_lem n f h [] s (read_row h.row_width (b ∷ l)))
 on_border n f h (r ∷ rows) [] s =
-    head-stands (suc n) (suc s.from) (closed h (r ∷ rows)) (onward where_line f) refl (ap suc s.lines) refl
+    head_stands (suc n) (suc s.from) (closed h (r ∷ rows)) (onward where_line f) refl (ap suc s.lines) refl
     s.name s.width s.row s.fills
 on_border n f h (r ∷ rows) (b ∷ l) s =
     subst (λ (w : ℕ). Follows n f (on_row h (r ∷ rows) (read_row h.row_width (b ∷ l))) (with_row f (read_row w (b ∷ l))))
     (sym s.width) (on_row_lem n f h (r ∷ rows) s (read_row h.row_width (b ∷ l)))
 
-more-lines : (ls : List (List ℕ)) (l : List ℕ) → is_empty (ls ++ (l ∷ [])) ≡ false
-more-lines [] l = refl
-more-lines (m ∷ ls) l = refl
+more_lines : (ls : List (List ℕ)) (l : List ℕ) → is_empty (ls ++ (l ∷ [])) ≡ false
+more_lines [] l = refl
+more_lines (m ∷ ls) l = refl
 
 on_field : (n : ℕ) (f : Found) (h : Top) (rows : List Row) (ls : List (List ℕ)) (l : List ℕ)
     → Stands n (filled h rows ls) f → Stands (suc n) (filled h rows (ls ++ (l ∷ []))) (brief_field f l)
 on_field n f h rows ls l s = record {
   lines = ap suc s.lines;
-  stage = rw (more-lines ls l) refl;
+  stage = rw (more_lines ls l) refl;
   name = s.name;
   width = s.width;
   row = s.row;
@@ -228,11 +228,11 @@ unfolding on_brief
 on_length n f h rows ls l s true = on_field n f h rows ls l s
 on_length n f h rows ls l s false = refl
 
-field-stage : (ls : List (List ℕ)) (f : Found) (l : List ℕ)
+field_stage : (ls : List (List ℕ)) (f : Found) (l : List ℕ)
     → lined_at (cond (is_empty ls) first_field field_line) f l ≡ with_field f l
 unfolding lined_at
-field-stage [] f l = refl
-field-stage (m ∷ ls) f l = refl
+field_stage [] f l = refl
+field_stage (m ∷ ls) f l = refl
 
 -- by the stage that the state has
 at_stage : (n : ℕ) (f : Found) (o : Option State) (l : List ℕ) (s : Stage) → f.stage ≡ s
@@ -250,11 +250,11 @@ more_rows [] r = refl
 more_rows (x ∷ rows) r = refl
 
 -- the same name, width, cells and fields, one line on
-next-stands : (n : ℕ) (s q : State) (x : Stage) (f : Found) → Stands n s f → lines_in s ≡ [] → lines_in q ≡ []
+next_stands : (n : ℕ) (s q : State) (x : Stage) (f : Found) → Stands n s f → lines_in s ≡ [] → lines_in q ≡ []
     → x ≡ stage_of q → name_in s ≡ name_in q → width_in s ≡ width_in q → row_in s ≡ row_in q
     → ended_rows s ≡ ended_rows q → Stands (suc n) q (onward x f)
-next-stands n s q x f h a b e name width row rows =
-    head-stands (suc n) (suc h.from) q (onward x f) b (ap suc h.lines) e (h.name ∙ name) (h.width ∙ width)
+next_stands n s q x f h a b e name width row rows =
+    head_stands (suc n) (suc h.from) q (onward x f) b (ap suc h.lines) e (h.name ∙ name) (h.width ∙ width)
     (h.row ∙ row)
     (rw (a, rows) at h.fills)
 
@@ -263,7 +263,7 @@ on_more_lem : (n : ℕ) (f : Found) (t : Top) (rows : List Row) (r : Row) (l : L
     → (o : Option Row) → Follows n f (leave t rows r l o) (on_more f t.row_width r l o)
 unfolding leave on_same
 on_more_lem n f t rows r l s (some x) =
-    head-stands (suc n) (suc s.from) (rowed t rows x) (with_line f x) refl (ap suc s.lines) refl s.name
+    head_stands (suc n) (suc s.from) (rowed t rows x) (with_line f x) refl (ap suc s.lines) refl s.name
     s.width refl s.fills
 on_more_lem n f t rows r l s none = go (is_labelled r) (same l (border t.row_width))
   where
@@ -275,50 +275,50 @@ on_more_lem n f t rows r l s none = go (is_labelled r) (same l (border t.row_wid
 
     go : (a b : Bool) → Follows n f (cond a (cond b (some q) none) none) (cond a (cond b g (wrong f)) (wrong f))
     go true true =
-        head-stands (suc n) (suc s.from) q g refl (ap suc s.lines) (more_rows rows r) s.name s.width refl
-        (rw (joined-append slots_in rows (r ∷ []), joined-one slots_in r)
-        (fills-row (joined slots_in rows) (suc s.from) f (slots_in r) s.fills))
+        head_stands (suc n) (suc s.from) q g refl (ap suc s.lines) (more_rows rows r) s.name s.width refl
+        (rw (joined_append slots_in rows (r ∷ []), joined_one slots_in r)
+        (fills_row (joined slots_in rows) (suc s.from) f (slots_in r) s.fills))
     go true false = refl
     go false b = refl
 
-pub line-stands : (n : ℕ) (s : State) (f : Found) (l : List ℕ) → Stands n s f → Follows n f (strict s l) (lined f l)
+pub line_stands : (n : ℕ) (s : State) (f : Found) (l : List ℕ) → Stands n s f → Follows n f (strict s l) (lined f l)
 unfolding strict step lined_at
-line-stands n begun f l h = at_stage n f (opened l) l opening h.stage (on_opening n f l h)
-line-stands n (named an m) f l h =
+line_stands n begun f l h = at_stage n f (opened l) l opening h.stage (on_opening n f l h)
+line_stands n (named an m) f l h =
     at_stage n f (on_same [] (spaced an m) l) l blank h.stage
     (on_same_lem n f [] (spaced an m) tens_ruler l
-    (next-stands n (named an m) (spaced an m) tens_ruler f h refl refl refl refl refl refl refl))
-line-stands n (spaced an m) f l h =
+    (next_stands n (named an m) (spaced an m) tens_ruler f h refl refl refl refl refl refl refl))
+line_stands n (spaced an m) f l h =
     at_stage n f (on_width an m (read_tens l)) l tens_ruler h.stage (on_tens n f an m h (read_tens l))
-line-stands n (ruled t) f l h =
+line_stands n (ruled t) f l h =
     at_stage n f (on_same (units t.row_width) (counted t) l) l units_ruler h.stage
     (on_ruler n f units t.row_width (counted t) top_border l h.width
-    (next-stands n (ruled t) (counted t) top_border f h refl refl refl refl refl refl refl))
-line-stands n (counted t) f l h =
+    (next_stands n (ruled t) (counted t) top_border f h refl refl refl refl refl refl refl))
+line_stands n (counted t) f l h =
     at_stage n f (on_same (border t.row_width) (bordered t []) l) l top_border h.stage
     (on_ruler n f border t.row_width (bordered t []) first_row l h.width
-    (next-stands n (counted t) (bordered t []) first_row f h refl refl refl refl refl refl refl))
-line-stands n (bordered t rows) f l h =
+    (next_stands n (counted t) (bordered t []) first_row f h refl refl refl refl refl refl refl))
+line_stands n (bordered t rows) f l h =
     at_stage n f (row_or_end t rows l) l (cond (is_empty rows) first_row row_or_blank) h.stage (on_border n f t rows l h)
-line-stands n (rowed t rows r) f l h =
+line_stands n (rowed t rows r) f l h =
     let o : Option State = leave t rows r l (more_row t.row_width r l) in
     at_stage n f o l in_row h.stage
     (subst (λ (x : Option Row). Follows n f o (with_more f l x)) (sym h.row)
     (subst (λ (w : ℕ). Follows n f o (on_more f w r l (more_row w r l))) (sym h.width)
     (on_more_lem n f t rows r l h (more_row t.row_width r l))))
-line-stands n (closed t rows) f l h =
+line_stands n (closed t rows) f l h =
     at_stage n f (on_same (bytes "where:") (headed t rows) l) l where_line h.stage
     (on_same_lem n f (bytes "where:") (headed t rows) last_blank l
-    (next-stands n (closed t rows) (headed t rows) last_blank f h refl refl refl refl refl refl refl))
-line-stands n (headed t rows) f l h =
+    (next_stands n (closed t rows) (headed t rows) last_blank f h refl refl refl refl refl refl refl))
+line_stands n (headed t rows) f l h =
     at_stage n f (on_same [] (filled t rows []) l) l last_blank h.stage
     (on_same_lem n f [] (filled t rows []) first_field l
-    (next-stands n (headed t rows) (filled t rows []) first_field f h refl refl refl refl refl refl refl))
-line-stands n (filled t rows ls) f l h =
+    (next_stands n (headed t rows) (filled t rows []) first_field f h refl refl refl refl refl refl refl))
+line_stands n (filled t rows ls) f l h =
     let b : Bool = leb (length l) line_most in
     let o : Option State = on_brief t rows ls l b in
     at_stage n f o l (cond (is_empty ls) first_field field_line) h.stage
-    (subst (λ (g : Found). Follows n f o g) (sym (field-stage ls f l)) (on_length n f t rows ls l h b))
+    (subst (λ (g : Found). Follows n f o g) (sym (field_stage ls f l)) (on_length n f t rows ls l h b))
 
 -- ── all lines ──
 
@@ -339,26 +339,26 @@ ran_moved m n p e none g h = h
 ran_moved m n p e (some q) g h = subst (λ (z : ℕ). Stands z q g) e h
 
 -- the place is the one where the strict reader stops
-stop-blamed : (n : ℕ) (s : State) → blamed (row_in s) n ≡ stop_at n s
-stop-blamed n begun = refl
-stop-blamed n (named an m) = refl
-stop-blamed n (spaced an m) = refl
-stop-blamed n (ruled h) = refl
-stop-blamed n (counted h) = refl
-stop-blamed n (bordered h rows) = refl
-stop-blamed n (rowed h rows r) = refl
-stop-blamed n (closed h rows) = refl
-stop-blamed n (headed h rows) = refl
-stop-blamed n (filled h rows ls) = refl
+stop_blamed : (n : ℕ) (s : State) → blamed (row_in s) n ≡ stop_at n s
+stop_blamed n begun = refl
+stop_blamed n (named an m) = refl
+stop_blamed n (spaced an m) = refl
+stop_blamed n (ruled h) = refl
+stop_blamed n (counted h) = refl
+stop_blamed n (bordered h rows) = refl
+stop_blamed n (rowed h rows r) = refl
+stop_blamed n (closed h rows) = refl
+stop_blamed n (headed h rows) = refl
+stop_blamed n (filled h rows ls) = refl
 
-pub stands-blamed : (n : ℕ) (s : State) (f : Found) → Stands n s f → blamed f.row f.lines ≡ stop_at n s
-stands-blamed n s f h = ap₂ {C = ℕ} blamed h.row h.lines ∙ stop-blamed n s
+pub stands_blamed : (n : ℕ) (s : State) (f : Found) → Stands n s f → blamed f.row f.lines ≡ stop_at n s
+stands_blamed n s f h = ap₂ {C = ℕ} blamed h.row h.lines ∙ stop_blamed n s
 
-pub run-stands : (ls : List (List ℕ)) (n : ℕ) (s : State) (f : Found) → Stands n s f
+pub run_stands : (ls : List (List ℕ)) (n : ℕ) (s : State) (f : Found) → Stands n s f
     → Ran (n + length ls) (strict_place n s ls) (strict_run s ls) (foldl lined f ls)
 unfolding strict_run strict_place
-run-stands [] n s f h = let z : n + 0 ≡ n = omega arith in rw z h
-run-stands (l ∷ ls) n s f h = go (strict s l) (line-stands n s f l h) (run-stands ls)
+run_stands [] n s f h = let z : n + 0 ≡ n = omega arith in rw z h
+run_stands (l ∷ ls) n s f h = go (strict s l) (line_stands n s f l h) (run_stands ls)
   where
     go : (o : Option State) → Follows n f o (lined f l)
         → ((m : ℕ) (q : State) (g : Found) → Stands m q g
@@ -369,7 +369,7 @@ run-stands (l ∷ ls) n s f h = go (strict s l) (line-stands n s f l h) (run-sta
         let g : foldl lined (lined f l) ls ≡ wrong f =
         ap (λ (k : Found). foldl lined k ls) e ∙ lost_stays ls (wrong f) refl in
         subst (λ (k : Found). Ran (n + suc (length ls)) (stop_at n s) none k) (sym g)
-        (refl, ap (λ (k : ℕ). some (refused 3 k)) (stands-blamed n s f h))
+        (refl, ap (λ (k : ℕ). some (refused 3 k)) (stands_blamed n s f h))
     go (some q) e r =
         ran_moved (suc n + length ls) (n + suc (length ls)) (strict_place (suc n) q ls) (omega arith) (strict_run q ls)
         (foldl lined (lined f l) ls) (r (suc n) q (lined f l) e)

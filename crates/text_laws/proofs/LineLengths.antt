@@ -9,36 +9,36 @@ use lib.ListN.{length, length-append}
 use borrow.Author.Tests.{le-leb, leb-true, eqb-true, eq-eqb}
 use Rattle.base.specs.Bytes.{bytes}
 use Rattle.base.specs.Lists.{all, joined, sum, tabulate}
-use Rattle.base.proofs.Lists.{and_left, and_right, and_both, all_append, all_weaken, not-both}
-use Rattle.base.proofs.Joined.{all-joined}
+use Rattle.base.proofs.Lists.{and_left, and_right, and_both, all_append, all_weaken, not_both}
+use Rattle.base.proofs.Joined.{all_joined}
 use Rattle.rules.specs.Limits.{line_most, label_most, row_lines_most}
 use Rattle.rules.specs.Names.{is_label}
 use Rattle.rules.specs.Within.{is_row_width}
 use Rattle.rules.specs.Rows.{Row, bit_row, long_row, bar_line, row_lines, is_fitted, are_fitted, is_drawn_row}
 use Rattle.rules.specs.Frames.{tens, units, border, article, Frame, is_brief}
 use Rattle.text_laws.specs.FrameReader.{closing}
-use Rattle.text_laws.proofs.RowReader.{drawn-sum, drawn_fitted}
+use Rattle.text_laws.proofs.RowReader.{drawn_sum, drawn_fitted}
 use Rattle.text_laws.proofs.FrameStates.{opening_line, pairs, width_cases}
 use Rattle.text_laws.proofs.FrameRun.{Kept, frame_lines, frame_lines_are}
 
 -- ── rulers and borders ──
 
-length-tabulate : (g : ℕ → ℕ) (i n : ℕ) → length (tabulate g i n) ≡ n
+length_tabulate : (g : ℕ → ℕ) (i n : ℕ) → length (tabulate g i n) ≡ n
 unfolding tabulate
-length-tabulate g i zero = refl
-length-tabulate g i (suc n) = ap suc (length-tabulate g (suc i) n)
+length_tabulate g i zero = refl
+length_tabulate g i (suc n) = ap suc (length_tabulate g (suc i) n)
 
-pub tens-lengths : (length (tens 8) ≡ 2) × (length (tens 16) ≡ 22) × (length (tens 32) ≡ 62)
+pub tens_lengths : (length (tens 8) ≡ 2) × (length (tens 16) ≡ 22) × (length (tens 32) ≡ 62)
 unfolding tens tabulate
-tens-lengths = (refl, refl, refl)
+tens_lengths = (refl, refl, refl)
 
-pub units-length : (w : ℕ) → length (units w) ≡ 2 * w
+pub units_length : (w : ℕ) → length (units w) ≡ 2 * w
 unfolding units
-units-length w = length-tabulate _ 0 (2 * w)
+units_length w = length_tabulate _ 0 (2 * w)
 
-pub border-length : (w : ℕ) → length (border w) ≡ 2 * w + 1
+pub border_length : (w : ℕ) → length (border w) ≡ 2 * w + 1
 unfolding border
-border-length w = length-tabulate _ 0 (2 * w + 1)
+border_length w = length_tabulate _ 0 (2 * w + 1)
 
 -- ── rows ──
 
@@ -46,8 +46,8 @@ strips_length : (bits : List ℕ) (ss : List (List ℕ)) → are_fitted bits ss 
     → length (joined (λ s. s ++ bytes "|") ss) ≡ 2 * sum (λ n. n) bits
 unfolding are_fitted joined sum
 strips_length [] [] h = refl
-strips_length [] (s ∷ ss) h = absurd (not-both false h refl)
-strips_length (n ∷ bits) [] h = absurd (not-both false h refl)
+strips_length [] (s ∷ ss) h = absurd (not_both false h refl)
+strips_length (n ∷ bits) [] h = absurd (not_both false h refl)
 strips_length (n ∷ bits) (s ∷ ss) h =
     let f = and_left (is_fitted 124 n s) (are_fitted bits ss) h in
     let e = eqb-true (length s + 1) (2 * n) (and_left (eqb (length s + 1) (2 * n)) _ f) in
@@ -60,19 +60,19 @@ strips_length (n ∷ bits) (s ∷ ss) h =
 abbrev pub is_wide : ℕ → List ℕ → Bool
 is_wide w l = eqb (length l) (2 * w + 1)
 
-pub row-wide : (w : ℕ) (r : Row) → is_drawn_row row_lines_most w r ≡ true → all (is_wide w) (row_lines r) ≡ true
+pub row_wide : (w : ℕ) (r : Row) → is_drawn_row row_lines_most w r ≡ true → all (is_wide w) (row_lines r) ≡ true
 unfolding row_lines all
-row-wide w (bit_row bits lines₀) h = go lines₀ (drawn_fitted w bits lines₀ h)
+row_wide w (bit_row bits lines₀) h = go lines₀ (drawn_fitted w bits lines₀ h)
   where
     go : (lines : List (List (List ℕ))) → all (are_fitted bits) lines ≡ true → all (is_wide w) (map bar_line lines) ≡ true
     go [] k = refl
     go (ss ∷ lines) k =
         let n = strips_length bits ss (and_left (are_fitted bits ss) (all (are_fitted bits) lines) k) in
-        let e = eqb-true (sum (λ n. n) bits) w (drawn-sum w bits lines₀ h) in
+        let e = eqb-true (sum (λ n. n) bits) w (drawn_sum w bits lines₀ h) in
         and_both (is_wide w (bar_line ss)) (all (is_wide w) (map bar_line lines))
         (eq-eqb (length (bar_line ss)) (2 * w + 1) (omega (arith, n, e)))
         (go lines (and_right (are_fitted bits ss) (all (are_fitted bits) lines) k))
-row-wide w (long_row n s) h =
+row_wide w (long_row n s) h =
     let e = eqb-true n w (and_left (eqb n w) (is_fitted 58 n s) h) in
     let f = and_right (eqb n w) (is_fitted 58 n s) h in
     let g = eqb-true (length s + 1) (2 * n) (and_left (eqb (length s + 1) (2 * n)) _ f) in
@@ -82,21 +82,21 @@ row-wide w (long_row n s) h =
 
 -- ── all lines of a frame ──
 
-width-most : (w : ℕ) → is_row_width w ≡ true → w ≤ 32
-width-most w h = width_cases (λ v. v ≤ 32) (omega arith) (omega arith) (omega arith) w h
+width_most : (w : ℕ) → is_row_width w ≡ true → w ≤ 32
+width_most w h = width_cases (λ v. v ≤ 32) (omega arith) (omega arith) (omega arith) w h
 
 brief : (l : List ℕ) → length l ≤ line_most → is_brief l ≡ true
 brief l le = le-leb (length l) line_most le
 
-tens-brief : (w : ℕ) → is_row_width w ≡ true → is_brief (tens w) ≡ true
-tens-brief w h =
-    let n = tens-lengths in
+tens_brief : (w : ℕ) → is_row_width w ≡ true → is_brief (tens w) ≡ true
+tens_brief w h =
+    let n = tens_lengths in
     width_cases (λ v. is_brief (tens v) ≡ true) (brief (tens 8) (omega (arith, n.0)))
     (brief (tens 16) (omega (arith, n.1))) (brief (tens 32) (omega (arith, n.2))) w h
 
-opening-brief : (an : Bool) (n : List ℕ) → is_label n ≡ true → is_brief (opening_line an n) ≡ true
+opening_brief : (an : Bool) (n : List ℕ) → is_label n ≡ true → is_brief (opening_line an n) ≡ true
 unfolding is_label closing
-opening-brief an n h =
+opening_brief an n h =
     let short = leb-true (length n) label_most (and_left (leb (length n) label_most) _ h) in
     let a = length-append (article an) (n ++ closing) in
     let b = length-append n closing in
@@ -107,29 +107,29 @@ opening-brief an n h =
     first true = omega arith
     first false = omega arith
 
-pair-brief : (w : ℕ) → w ≤ 32 → (r : Row) → is_drawn_row row_lines_most w r ≡ true
+pair_brief : (w : ℕ) → w ≤ 32 → (r : Row) → is_drawn_row row_lines_most w r ≡ true
     → all is_brief (row_lines r ++ (border w ∷ [])) ≡ true
 unfolding all
-pair-brief w le r h =
+pair_brief w le r h =
     all_append is_brief (row_lines r) (border w ∷ [])
     (all_weaken (is_wide w) is_brief
-    (λ l e. brief l (let n = eqb-true (length l) (2 * w + 1) e in omega (arith, n, le))) (row_lines r) (row-wide w r h))
-    (rw (brief (border w) (let n = border-length w in omega (arith, n, le))) refl)
+    (λ l e. brief l (let n = eqb-true (length l) (2 * w + 1) e in omega (arith, n, le))) (row_lines r) (row_wide w r h))
+    (rw (brief (border w) (let n = border_length w in omega (arith, n, le))) refl)
 
 -- of a drawn frame all are short enough, those that are not asked too
 pub lines_are_brief : (f : Frame) → Kept f → all is_brief (frame_lines f) ≡ true
 unfolding all
 lines_are_brief f k =
     let w = f.row_width in
-    let le = width-most w k.top.1 in
+    let le = width_most w k.top.1 in
     let last : List (List ℕ) = [] ∷ bytes "where:" ∷ [] ∷ f.lines in
     let p : all is_brief (pairs w f.rows) ≡ true
-    = all-joined (λ q. row_lines q ++ (border w ∷ [])) (is_drawn_row row_lines_most w) is_brief (pair-brief w le)
+    = all_joined (λ q. row_lines q ++ (border w ∷ [])) (is_drawn_row row_lines_most w) is_brief (pair_brief w le)
     f.rows k.rows in
     let q : all is_brief (pairs w f.rows ++ last) ≡ true = all_append is_brief (pairs w f.rows) last p k.brief in
     rw (frame_lines_are f) (rw (
-      opening-brief f.an f.name k.top.0,
-      tens-brief w k.top.1,
-      brief (units w) (let n = units-length w in omega (arith, n, le)),
-      brief (border w) (let n = border-length w in omega (arith, n, le)),
+      opening_brief f.an f.name k.top.0,
+      tens_brief w k.top.1,
+      brief (units w) (let n = units_length w in omega (arith, n, le)),
+      brief (border w) (let n = border_length w in omega (arith, n, le)),
     ) q)

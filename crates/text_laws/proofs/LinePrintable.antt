@@ -18,11 +18,11 @@ use Rattle.rules.specs.Trees.{Tree, is_in_range}
 use Rattle.rules.specs.Fields.{Width, fixed, measured, rest, Field, Form, trees}
 use Rattle.rules.specs.Within.{is_width}
 use Rattle.rules.specs.Expressions.{gap, SpellsAt, number, field, two_sided, negated, parentheses}
-use Rattle.rules.specs.Lines.{UnitWord, bit_word, bits-word, byte_word, bytes_word, short_text, Remark, Measure}
+use Rattle.rules.specs.Lines.{UnitWord, bit_word, bits_word, byte_word, bytes_word, short_text, Remark, Measure}
 use Rattle.rules.specs.Lines.{SpellsWidth, SpellsMaybe, SpellsField, Unresolved}
 use Rattle.text_laws.proofs.OperatorTable.{each}
-use Rattle.text_laws.proofs.ReaderWords.{number-bytes, short-bytes}
-use Rattle.text_laws.proofs.LineNames.{label-bytes}
+use Rattle.text_laws.proofs.ReaderWords.{number_bytes_lem, short_bytes}
+use Rattle.text_laws.proofs.LineNames.{label_bytes_lem}
 
 -- ── bytes ──
 
@@ -42,9 +42,9 @@ word_byte c h = go (or_cases (between 65 c 90 || between 97 c 122) (between 48 c
     go (inl e) = letter (or_cases (between 65 c 90) (between 97 c 122) e)
     go (inr e) = within 48 57 c (omega arith) (omega arith) e
 
-label-byte : (c : ℕ) → is_label_byte c ≡ true → is_printable c ≡ true
+label_byte : (c : ℕ) → is_label_byte c ≡ true → is_printable c ≡ true
 unfolding is_label_byte is_space is_printable
-label-byte c h = go (or_cases (is_word_byte c) (eqb c 32 || eqb c 45) h)
+label_byte c h = go (or_cases (is_word_byte c) (eqb c 32 || eqb c 45) h)
   where
     other : (eqb c 32 ≡ true) ⊎ (eqb c 45 ≡ true) → is_printable c ≡ true
     other (inl e) = rw (eqb-true c 32 e) refl
@@ -59,7 +59,7 @@ pub word_printable : (w : List ℕ) → all is_word_byte w ≡ true → all is_p
 word_printable w h = all_weaken is_word_byte is_printable word_byte w h
 
 pub label_printable : (w : List ℕ) → is_label w ≡ true → all is_printable w ≡ true
-label_printable w h = all_weaken is_label_byte is_printable label-byte w (label-bytes w h)
+label_printable w h = all_weaken is_label_byte is_printable label_byte w (label_bytes_lem w h)
 
 pub symbol_printable : (o : Op) → all is_printable (symbol o) ≡ true
 unfolding all operators operator is_printable
@@ -80,12 +80,12 @@ short_printable : (o : Option (List ℕ)) → if_any is_short o ≡ true → all
 unfolding all is_printable
 short_printable none h = refl
 short_printable (some w) h =
-    joined (bytes " (") (w ++ bytes ")") refl (joined w (bytes ")") (word_printable w (short-bytes w h)) refl)
+    joined (bytes " (") (w ++ bytes ")") refl (joined w (bytes ")") (word_printable w (short_bytes w h)) refl)
 
 unit_printable : {u : ℕ} {w : List ℕ} → UnitWord u w → all is_printable w ≡ true
 unfolding all is_printable
 unit_printable bit_word = refl
-unit_printable bits-word = refl
+unit_printable bits_word = refl
 unit_printable byte_word = refl
 unit_printable bytes_word = refl
 
@@ -100,7 +100,7 @@ module _ {N : Type 0} (Names : N → List ℕ → Type 0)
   where
     pub tree_printable : {k b : ℕ} {t : Tree N} {s : List ℕ} → SpellsAt Names k b t s → all is_printable s ≡ true
     unfolding all is_printable
-    tree_printable (number {n = n} {s = s} le e) = rw e (word_printable (decimal n) (number-bytes n le))
+    tree_printable (number {n = n} {s = s} le e) = rw e (word_printable (decimal n) (number_bytes_lem n le))
     tree_printable (field {a = a} {s = s} h) = word_printable s (named a s h)
     tree_printable (two_sided {o = o} {s = s} {u = u} g h l p q) =
         joined s (gap g ++ (symbol o ++ (gap h ++ u))) (tree_printable p)
@@ -153,8 +153,8 @@ module _ {N : Type 0} (Names : N → List ℕ → Type 0)
         (joined (bytes ".") p.line.remark refl (remark_printable p.line.remark p.line.is_remark))))))))
 
 -- a name that is not yet resolved is made of letters and digits
-pub written-bytes : (w s : List ℕ) → Unresolved w s → all is_word_byte s ≡ true
-written-bytes w s h = rw h.0 at (short-bytes w h.1)
+pub written_bytes : (w s : List ℕ) → Unresolved w s → all is_word_byte s ≡ true
+written_bytes w s h = rw h.0 at (short_bytes w h.1)
 
 pub form_printable : (l : List ℕ) (x : Form) → SpellsField Unresolved x l → all is_printable l ≡ true
-form_printable l x p = line_printable Unresolved written-bytes x l p
+form_printable l x p = line_printable Unresolved written_bytes x l p

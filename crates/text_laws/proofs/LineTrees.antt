@@ -16,7 +16,7 @@ use Rattle.rules.specs.Expressions.{SpellsTree}
 use Rattle.rules.specs.Lines.{Unresolved}
 use Rattle.text_laws.specs.Reader.{word, is_numeral, is_number_word, Out, fail, got, and_then, leaf, atom, expr}
 use Rattle.text_laws.proofs.ReaderComplete.{Stop}
-use Rattle.text_laws.proofs.ReaderUnique.{found-is}
+use Rattle.text_laws.proofs.ReaderUnique.{found_is}
 use Rattle.text_laws.proofs.ReaderSound.{Good, sound}
 use Rattle.text_laws.specs.LineReader.{miss, hit, begins, of_out, read_tree}
 use Rattle.text_laws.proofs.Combine.{Holds}
@@ -38,7 +38,7 @@ tree_sound s = go (expr (suc (length s)) 0 open_most s) (sound (suc (length s)) 
 
 pub tree_finds : (t : Tree (List ℕ)) (u r : List ℕ) → SpellsTree Unresolved t u → Stop 0 r → read_tree (u ++ r) ≡ hit t r
 unfolding read_tree
-tree_finds t u r x st = rw (found-is r x st (suc (length (u ++ r))) (omega arith))
+tree_finds t u r x st = rw (found_is r x st (suc (length (u ++ r))) (omega arith))
 
 -- ── what begins no expression ──
 

@@ -22,28 +22,28 @@ use Rattle.text_laws.specs.Fold.{onward, wrong, expect, opening_name, with_name,
 use Rattle.text_laws.specs.Fold.{lined_at, lined, is_lost, cut}
 use Rattle.text_laws.specs.Steady.{Small}
 use Rattle.text_laws.proofs.RowReader.{Reads, row_sound, more_sound}
-use Rattle.text_laws.proofs.LineLengths.{tens-lengths, units-length, border-length, is_wide, row-wide}
-use Rattle.text_laws.proofs.Bounds.{label-short}
+use Rattle.text_laws.proofs.LineLengths.{tens_lengths, units_length, border_length, is_wide, row_wide}
+use Rattle.text_laws.proofs.Bounds.{label_short}
 
 -- ── lines of another length ──
 
 not_same : (l w : List ℕ) → length w < length l → same l w ≡ false
 not_same l w lt = fails (same l w) (λ e. let q : length l ≡ length w = ap length (same_true l w e) in omega arith)
 
-expect-long : (w : List ℕ) (s : Stage) (f : Found) (l : List ℕ) → length w < length l → expect w s f l ≡ wrong f
-expect-long w s f l lt = ap (λ (b : Bool). cond b (onward s f) (wrong f)) (not_same l w lt)
+expect_long : (w : List ℕ) (s : Stage) (f : Found) (l : List ℕ) → length w < length l → expect w s f l ≡ wrong f
+expect_long w s f l lt = ap (λ (b : Bool). cond b (onward s f) (wrong f)) (not_same l w lt)
 
 -- ── the opening line ──
 
-name-long : (s : List ℕ) → 100 < length s → read_name s ≡ none
+name_long : (s : List ℕ) → 100 < length s → read_name s ≡ none
 unfolding read_name
-name-long s lt = go (length s - length closing) refl
+name_long s lt = go (length s - length closing) refl
   where
     go : (n : ℕ) → length s - length closing ≡ n
         → cond (same (drop n s) closing && is_label (take n s)) (some (take n s)) none ≡ none
     go n e = ap (λ (b : Bool). cond b (some (take n s)) none) (fails (same (drop n s) closing && is_label (take n s))
         (λ h.
-        let short = label-short (take n s) (and_right (same (drop n s) closing) (is_label (take n s)) h) in
+        let short = label_short (take n s) (and_right (same (drop n s) closing) (is_label (take n s)) h) in
         let q : length (drop n s) ≡ length closing =
         ap length (same_true (drop n s) closing (and_left (same (drop n s) closing) (is_label (take n s)) h)) in
         let z : length (take n s) + length (drop n s) ≡ length s =
@@ -51,19 +51,19 @@ name-long s lt = go (length s - length closing) refl
         let c : length closing ≡ 25 = unfold closing in refl in
         omega (arith, short, q, z, c, lt)))
 
-opening-long : (l : List ℕ) → line_most < length l → opening_name l ≡ none
+opening_long : (l : List ℕ) → line_most < length l → opening_name l ≡ none
 unfolding opening_name
-opening-long l lt = go (same (take 3 l) (bytes "An ")) (same (take 2 l) (bytes "A "))
+opening_long l lt = go (same (take 3 l) (bytes "An ")) (same (take 2 l) (bytes "A "))
   where
     go : (a b : Bool) → cond a (read_name (drop 3 l)) (cond b (read_name (drop 2 l)) none) ≡ none
-    go true b = name-long (drop 3 l) (let n = length-drop 3 l in omega (arith, n, lt))
-    go false true = name-long (drop 2 l) (let n = length-drop 2 l in omega (arith, n, lt))
+    go true b = name_long (drop 3 l) (let n = length-drop 3 l in omega (arith, n, lt))
+    go false true = name_long (drop 2 l) (let n = length-drop 2 l in omega (arith, n, lt))
     go false false = refl
 
-tens-long : (l : List ℕ) → line_most < length l → read_tens l ≡ none
+tens_long : (l : List ℕ) → line_most < length l → read_tens l ≡ none
 unfolding read_tens
-tens-long l lt =
-    let n = tens-lengths in
+tens_long l lt =
+    let n = tens_lengths in
     rw (
       not_same l (tens 8) (omega (arith, n.0, lt)),
       not_same l (tens 16) (omega (arith, n.1, lt)),
@@ -78,21 +78,21 @@ no_row : (w : ℕ) (ls : List (List ℕ)) (l : List ℕ) → 2 * w + 1 < length 
     → Reads w (ls ++ (l ∷ [])) o → o ≡ none
 no_row w ls l lt none h = refl
 no_row w ls l lt (some r) h =
-    let k : all (is_wide w) (ls ++ (l ∷ [])) ≡ true = rw h.1 at (row-wide w r h.0) in
+    let k : all (is_wide w) (ls ++ (l ∷ [])) ≡ true = rw h.1 at (row_wide w r h.0) in
     let e = eqb-true (length l) (2 * w + 1) (all_cons (is_wide w) l [] (all_back (is_wide w) ls (l ∷ []) k)).0 in
     absurd (omega (arith, e, lt))
 
-row-long : (w : ℕ) (l : List ℕ) → 2 * w + 1 < length l → read_row w l ≡ none
-row-long w l lt = no_row w [] l lt (read_row w l) (row_sound w l)
+row_long : (w : ℕ) (l : List ℕ) → 2 * w + 1 < length l → read_row w l ≡ none
+row_long w l lt = no_row w [] l lt (read_row w l) (row_sound w l)
 
-more-long : (w : ℕ) (r : Row) (l : List ℕ) → 2 * w + 1 < length l → more_row w r l ≡ none
-more-long w r l lt = no_row w (row_lines r) l lt (more_row w r l) (more_sound w r l)
+more_long : (w : ℕ) (r : Row) (l : List ℕ) → 2 * w + 1 < length l → more_row w r l ≡ none
+more_long w r l lt = no_row w (row_lines r) l lt (more_row w r l) (more_sound w r l)
 
-long-more : (f : Found) (l : List ℕ) (o : Option Row) → 2 * f.width + 1 < length l → with_more f l o ≡ wrong f
-long-more f l none lt = refl
-long-more f l (some r) lt =
-    let n = border-length f.width in
-    rw (more-long f.width r l lt, not_same l (border f.width) (omega (arith, n, lt))) (go (is_labelled r))
+long_more : (f : Found) (l : List ℕ) (o : Option Row) → 2 * f.width + 1 < length l → with_more f l o ≡ wrong f
+long_more f l none lt = refl
+long_more f l (some r) lt =
+    let n = border_length f.width in
+    rw (more_long f.width r l lt, not_same l (border f.width) (omega (arith, n, lt))) (go (is_labelled r))
   where
     go : (b : Bool) → cond b (wrong f) (wrong f) ≡ wrong f
     go true = refl
@@ -100,30 +100,30 @@ long-more f l (some r) lt =
 
 -- ── every stage ──
 
-long-at : (s : Stage) (f : Found) (l : List ℕ) → Small f → line_most < length l
+long_at : (s : Stage) (f : Found) (l : List ℕ) → Small f → line_most < length l
     → lined_at s f l ≡ cond (is_lost s) f (wrong f)
 unfolding lined_at
-long-at opening f l h lt = ap (with_name f) (opening-long l lt)
-long-at blank f l h lt = expect-long [] tens_ruler f l (omega arith)
-long-at tens_ruler f l h lt = ap (with_width f) (tens-long l lt)
-long-at units_ruler f l h lt =
-    expect-long (units f.width) top_border f l
-    (let n = units-length f.width in let w = h.width in omega (arith, n, w, lt))
-long-at top_border f l h lt =
-    expect-long (border f.width) first_row f l
-    (let n = border-length f.width in let w = h.width in omega (arith, n, w, lt))
-long-at first_row f l h lt =
-    ap (with_row f) (row-long f.width l (let w = h.width in omega (arith, w, lt)))
-long-at in_row f l h lt = long-more f l f.row (let w = h.width in omega (arith, w, lt))
-long-at row_or_blank f [] h lt = absurd (omega arith)
-long-at row_or_blank f (b ∷ l) h lt =
-    ap (with_row f) (row-long f.width (b ∷ l) (let w = h.width in omega (arith, w, lt)))
-long-at where_line f l h lt = expect-long (bytes "where:") last_blank f l (omega arith)
-long-at last_blank f l h lt = expect-long [] first_field f l (omega arith)
-long-at first_field f l h lt = rw (lt-leb (length l) line_most lt) refl
-long-at field_line f l h lt = rw (lt-leb (length l) line_most lt) refl
-long-at lost f l h lt = refl
+long_at opening f l h lt = ap (with_name f) (opening_long l lt)
+long_at blank f l h lt = expect_long [] tens_ruler f l (omega arith)
+long_at tens_ruler f l h lt = ap (with_width f) (tens_long l lt)
+long_at units_ruler f l h lt =
+    expect_long (units f.width) top_border f l
+    (let n = units_length f.width in let w = h.width in omega (arith, n, w, lt))
+long_at top_border f l h lt =
+    expect_long (border f.width) first_row f l
+    (let n = border_length f.width in let w = h.width in omega (arith, n, w, lt))
+long_at first_row f l h lt =
+    ap (with_row f) (row_long f.width l (let w = h.width in omega (arith, w, lt)))
+long_at in_row f l h lt = long_more f l f.row (let w = h.width in omega (arith, w, lt))
+long_at row_or_blank f [] h lt = absurd (omega arith)
+long_at row_or_blank f (b ∷ l) h lt =
+    ap (with_row f) (row_long f.width (b ∷ l) (let w = h.width in omega (arith, w, lt)))
+long_at where_line f l h lt = expect_long (bytes "where:") last_blank f l (omega arith)
+long_at last_blank f l h lt = expect_long [] first_field f l (omega arith)
+long_at first_field f l h lt = rw (lt-leb (length l) line_most lt) refl
+long_at field_line f l h lt = rw (lt-leb (length l) line_most lt) refl
+long_at lost f l h lt = refl
 
 -- a whole line that is too long is judged as one that was cut
-pub long-line : (f : Found) (l : List ℕ) → Small f → line_most < length l → lined f l ≡ cut f
-long-line f l h lt = long-at f.stage f l h lt
+pub long_line : (f : Found) (l : List ℕ) → Small f → line_most < length l → lined f l ≡ cut f
+long_line f l h lt = long_at f.stage f l h lt

@@ -54,35 +54,35 @@ kept_with k fs = record { size = k.size; line = k.line; found = found_with k.fou
 abbrev Goes : Judged → Judged → Type 0
 Goes q r = (gs : List (Field ℕ)) × StandIn q gs × (r ≡ other_fields q gs)
 
-pub faces-append : (l : List (Field ℕ)) (x : Field ℕ) → faces (l ++ (x ∷ [])) ≡ faces l ++ (face x ∷ [])
-faces-append [] x = refl
-faces-append (y ∷ l) x = ap (λ (m : List Form). face y ∷ m) (faces-append l x)
+pub faces_append : (l : List (Field ℕ)) (x : Field ℕ) → faces (l ++ (x ∷ [])) ≡ faces l ++ (face x ∷ [])
+faces_append [] x = refl
+faces_append (y ∷ l) x = ap (λ (m : List Form). face y ∷ m) (faces_append l x)
 
 -- nothing is lower than nothing
-pub lower-left : (a b : Option Answer) → lower a b ≡ none → a ≡ none
-lower-left none b e = refl
-lower-left (some a) none e = e
-lower-left (some a) (some b) e = go (ltb b.number a.number) e
+pub lower_left : (a b : Option Answer) → lower a b ≡ none → a ≡ none
+lower_left none b e = refl
+lower_left (some a) none e = e
+lower_left (some a) (some b) e = go (ltb b.number a.number) e
   where
     go : (t : Bool) → cond t (some b) (some a) ≡ none → some a ≡ none
     go true e = absurd (none-ne-some b (sym e))
     go false e = e
 
-goes-form : (cells : List Slot) (p : ℕ) (j : Judged) (fs : List (Field ℕ)) (o : Option Form) → StandIn j fs
+goes_form : (cells : List Slot) (p : ℕ) (j : Judged) (fs : List (Field ℕ)) (o : Option Form) → StandIn j fs
     → Goes (with_form cells p j o) (with_form cells p (other_fields j fs) o)
 unfolding with_form
-goes-form cells p j fs none h =
-    (fs, record { seen = h.seen; exact = λ e. h.exact (lower-left j.lowest (some (refused 5 p)) e) }, refl)
-goes-form cells p j fs (some x) h =
+goes_form cells p j fs none h =
+    (fs, record { seen = h.seen; exact = λ e. h.exact (lower_left j.lowest (some (refused 5 p)) e) }, refl)
+goes_form cells p j fs (some x) h =
     let b : broken 6 p (rules cells) (faces fs) x ≡ broken 6 p (rules cells) (faces j.fields) x =
     ap (λ (l : List Form). broken 6 p (rules cells) l x) h.seen in
     let o : lower j.lowest (broken 6 p (rules cells) (faces fs) x) ≡ here =
     ap (λ (a : Option Answer). lower j.lowest a) b in (
       grown here fs x,
       record {
-        seen = seen-grown (is_open here);
+        seen = seen_grown (is_open here);
         exact = λ e. ap (λ (l : List (Field ℕ)). grown here l x)
-            (h.exact (lower-left j.lowest (broken 6 p (rules cells) (faces j.fields) x) e));
+            (h.exact (lower_left j.lowest (broken 6 p (rules cells) (faces j.fields) x) e));
       },
       ap (λ (a : Option Answer). with_rules (other_fields j fs) x a) o,
     )
@@ -90,27 +90,27 @@ goes-form cells p j fs (some x) h =
     here : Option Answer
     here = lower j.lowest (broken 6 p (rules cells) (faces j.fields) x)
 
-    seen-grown : (t : Bool)
+    seen_grown : (t : Bool)
         → faces (cond t (fs ++ (resolved_in fs x ∷ [])) fs)
         ≡ faces (cond t (j.fields ++ (resolved_in j.fields x ∷ [])) j.fields)
-    seen-grown true =
-        faces-append fs (resolved_in fs x)
+    seen_grown true =
+        faces_append fs (resolved_in fs x)
         ∙ ap₂ {C = List Form} (λ (l : List Form) (y : Form). l ++ (y ∷ [])) h.seen
         (renamed_face (index_of (faces fs ++ (x ∷ []))) x ∙ sym (renamed_face (index_of (faces j.fields ++
         (x ∷ []))) x))
-        ∙ sym (faces-append j.fields (resolved_in j.fields x))
-    seen-grown false = h.seen
+        ∙ sym (faces_append j.fields (resolved_in j.fields x))
+    seen_grown false = h.seen
 
-goes-judge : (cells : List Slot) (p : ℕ) (j : Judged) (fs : List (Field ℕ)) (l : List ℕ) → StandIn j fs
+goes_judge : (cells : List Slot) (p : ℕ) (j : Judged) (fs : List (Field ℕ)) (l : List ℕ) → StandIn j fs
     → Goes (judge cells p j l) (judge cells p (other_fields j fs) l)
 unfolding judge
-goes-judge cells p j fs l h = go (is_full j)
+goes_judge cells p j fs l h = go (is_full j)
   where
     go : (t : Bool)
         → Goes (cond t (many j) (with_form cells p j (read_form l)))
         (cond t (many (other_fields j fs)) (with_form cells p (other_fields j fs) (read_form l)))
     go true = (fs, record { seen = h.seen; exact = λ e. absurd (none-ne-some (refused 4 0) (sym e)) }, refl)
-    go false = goes-form cells p j fs (read_form l) h
+    go false = goes_form cells p j fs (read_form l) h
 
 -- ── a line ──
 
@@ -181,7 +181,7 @@ module _ (f : Found) (fs : List (Field ℕ)) (h : StandIn f.judged fs) where
 
   moves_brief : (l : List ℕ) → Moves (brief_field f l) (brief_field (found_with f fs) l)
   moves_brief l =
-      let g = goes-judge f.cells (suc f.lines) f.judged fs l h in (
+      let g = goes_judge f.cells (suc f.lines) f.judged fs l h in (
         g.0,
         g.1,
         ap (λ (j : Judged). record {
@@ -290,22 +290,22 @@ lowest_with field_line l f fs h =
 lowest_with lost l f fs h = refl
 
 -- where nothing was refused at the end, nothing was before
-pub lowest-clear : (s : Stage) (l : List ℕ) (f : Found) → lowest_at s l f ≡ none → f.judged.lowest ≡ none
+pub lowest_clear : (s : Stage) (l : List ℕ) (f : Found) → lowest_at s l f ≡ none → f.judged.lowest ≡ none
 unfolding lowest_at
-lowest-clear opening l f e = absurd (none-ne-some (refused 3 (blamed f.row f.lines)) (sym e))
-lowest-clear blank l f e = absurd (none-ne-some (refused 3 (blamed f.row f.lines)) (sym e))
-lowest-clear tens_ruler l f e = absurd (none-ne-some (refused 3 (blamed f.row f.lines)) (sym e))
-lowest-clear units_ruler l f e = absurd (none-ne-some (refused 3 (blamed f.row f.lines)) (sym e))
-lowest-clear top_border l f e = absurd (none-ne-some (refused 3 (blamed f.row f.lines)) (sym e))
-lowest-clear first_row l f e = absurd (none-ne-some (refused 3 (blamed f.row f.lines)) (sym e))
-lowest-clear in_row l f e = absurd (none-ne-some (refused 3 (blamed f.row f.lines)) (sym e))
-lowest-clear row_or_blank l f e = absurd (none-ne-some (refused 3 (blamed f.row f.lines)) (sym e))
-lowest-clear where_line l f e = absurd (none-ne-some (refused 3 (blamed f.row f.lines)) (sym e))
-lowest-clear last_blank l f e = absurd (none-ne-some (refused 3 (blamed f.row f.lines)) (sym e))
-lowest-clear first_field l f e = absurd (none-ne-some (refused 3 (blamed f.row f.lines)) (sym e))
-lowest-clear field_line [] f e = lower-left f.judged.lowest (uncelled f) e
-lowest-clear field_line (b ∷ l) f e = absurd (none-ne-some (refused 3 (blamed f.row f.lines)) (sym e))
-lowest-clear lost l f e = e
+lowest_clear opening l f e = absurd (none-ne-some (refused 3 (blamed f.row f.lines)) (sym e))
+lowest_clear blank l f e = absurd (none-ne-some (refused 3 (blamed f.row f.lines)) (sym e))
+lowest_clear tens_ruler l f e = absurd (none-ne-some (refused 3 (blamed f.row f.lines)) (sym e))
+lowest_clear units_ruler l f e = absurd (none-ne-some (refused 3 (blamed f.row f.lines)) (sym e))
+lowest_clear top_border l f e = absurd (none-ne-some (refused 3 (blamed f.row f.lines)) (sym e))
+lowest_clear first_row l f e = absurd (none-ne-some (refused 3 (blamed f.row f.lines)) (sym e))
+lowest_clear in_row l f e = absurd (none-ne-some (refused 3 (blamed f.row f.lines)) (sym e))
+lowest_clear row_or_blank l f e = absurd (none-ne-some (refused 3 (blamed f.row f.lines)) (sym e))
+lowest_clear where_line l f e = absurd (none-ne-some (refused 3 (blamed f.row f.lines)) (sym e))
+lowest_clear last_blank l f e = absurd (none-ne-some (refused 3 (blamed f.row f.lines)) (sym e))
+lowest_clear first_field l f e = absurd (none-ne-some (refused 3 (blamed f.row f.lines)) (sym e))
+lowest_clear field_line [] f e = lower_left f.judged.lowest (uncelled f) e
+lowest_clear field_line (b ∷ l) f e = absurd (none-ne-some (refused 3 (blamed f.row f.lines)) (sym e))
+lowest_clear lost l f e = e
 
 pub finish_with : (k : Kept) (fs : List (Field ℕ)) (out : List ℕ) → StandIn k.found.judged fs
     → finish (kept_with k fs) out ≡ finish k out
@@ -317,5 +317,5 @@ finish_with k fs out h =
     go : (o : Option Answer) → lowest_of k ≡ o → outcome (found_with k.found fs) out o ≡ outcome k.found out o
     go (some a) e = refl
     go none e =
-        let c = h.exact (lowest-clear k.found.stage k.line k.found e) in
+        let c = h.exact (lowest_clear k.found.stage k.line k.found e) in
         ap (λ (l : List (Field ℕ)). outcome (found_with k.found l) out none) c

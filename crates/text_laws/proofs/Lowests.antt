@@ -29,13 +29,13 @@ lower_stays n a none h le = refl
 lower_stays n a (some b) h le = rw (le-ltb b.number a.number (omega arith)) refl
 
 -- a lower number is taken
-pub lower-takes : (n : ℕ) (a : Answer) (o : Option Answer) → Above n o → a.number < n → lower o (some a) ≡ some a
-lower-takes n a none h lt = refl
-lower-takes n a (some b) h lt = rw (lt-ltb a.number b.number (omega arith)) refl
+pub lower_takes : (n : ℕ) (a : Answer) (o : Option Answer) → Above n o → a.number < n → lower o (some a) ≡ some a
+lower_takes n a none h lt = refl
+lower_takes n a (some b) h lt = rw (lt-ltb a.number b.number (omega arith)) refl
 
-pub lower-none : (o : Option Answer) → lower o none ≡ o
-lower-none none = refl
-lower-none (some a) = refl
+pub lower_none : (o : Option Answer) → lower o none ≡ o
+lower_none none = refl
+lower_none (some a) = refl
 
 pub above_lower : (n : ℕ) (a b : Option Answer) → Above n a → Above n b → Above n (lower a b)
 above_lower n none b h k = k
@@ -101,12 +101,12 @@ module _ {A : Type 0} where
       go none h = above_less n (suc n) (omega arith) (staged (suc n) p rs l) h
       go (some i) h = omega arith
 
-  pub staged-more : (n p : ℕ) (rs : List (List A → A → Bool)) (l : List A) (x : A)
+  pub staged_more : (n p : ℕ) (rs : List (List A → A → Bool)) (l : List A) (x : A)
       → staged n p rs (l ++ (x ∷ [])) ≡ lower (staged n p rs l) (broken n (p + length l) rs l x)
   unfolding staged broken
-  staged-more n p [] l x = refl
-  staged-more n p (r ∷ rs) l x =
-      rw (break_more r l x) (go (r l x) (first_break r [] l) (staged-more (suc n) p rs l x))
+  staged_more n p [] l x = refl
+  staged_more n p (r ∷ rs) l x =
+      rw (break_more r l x) (go (r l x) (first_break r [] l) (staged_more (suc n) p rs l x))
     where
       place : ℕ → Answer
       place i = refused n (p + i)
@@ -123,16 +123,16 @@ module _ {A : Type 0} where
       go true none e = e
       go true (some i) e =
           sym (lower_stays (suc n) (place i) new (broken_above (suc n) (p + length l) rs l x) (omega arith))
-      go false none e = sym (lower-takes (suc n) (place (length l)) old (staged_above (suc n) p rs l) (omega arith))
+      go false none e = sym (lower_takes (suc n) (place (length l)) old (staged_above (suc n) p rs l) (omega arith))
       go false (some i) e = sym (lower_stays n (place i) (some (place (length l))) (omega arith) (omega arith))
 
   -- by what the first rule says
-  pub staged-none : (n p : ℕ) (r : List A → A → Bool) (rs : List (List A → A → Bool)) (l : List A)
+  pub staged_none : (n p : ℕ) (r : List A → A → Bool) (rs : List (List A → A → Bool)) (l : List A)
       → first_break r [] l ≡ none → staged n p (r ∷ rs) l ≡ staged (suc n) p rs l
   unfolding staged
-  staged-none n p r rs l e = rw e refl
+  staged_none n p r rs l e = rw e refl
 
-  pub staged-some : (n p : ℕ) (r : List A → A → Bool) (rs : List (List A → A → Bool)) (l : List A) (i : ℕ)
+  pub staged_some : (n p : ℕ) (r : List A → A → Bool) (rs : List (List A → A → Bool)) (l : List A) (i : ℕ)
       → first_break r [] l ≡ some i → staged n p (r ∷ rs) l ≡ some (refused n (p + i))
   unfolding staged
-  staged-some n p r rs l i e = rw e refl
+  staged_some n p r rs l i e = rw e refl

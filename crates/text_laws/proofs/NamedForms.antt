@@ -8,7 +8,7 @@ use lib.ListN.{length}
 use borrow.Author.Tests.{le-ltb}
 use Rattle.base.specs.Lists.{any, same, Each, first_break}
 use Rattle.base.proofs.Lists.{between_true}
-use Rattle.base.proofs.Lookups.{each-length, each_left}
+use Rattle.base.proofs.Lookups.{each_length, each_left}
 use Rattle.rules.specs.Limits.{fields_most}
 use Rattle.rules.specs.Names.{is_short}
 use Rattle.rules.specs.Fields.{Field, Form, Description, read_names}
@@ -18,17 +18,17 @@ use Rattle.rules.specs.Frames.{Frame, cells, is_overfull}
 use Rattle.rules.specs.Spelling.{Spells, NameOf, shows}
 use Rattle.rules.specs.Refusals.{rule_broken}
 use Rattle.laws.proofs.NameLaws.{NameIn, name_unique_in}
-use Rattle.text_laws.proofs.NamedFields.{NamedField, spelled-field, unique_fields}
+use Rattle.text_laws.proofs.NamedFields.{NamedField, spelled_field, unique_fields}
 use Rattle.text_laws.proofs.NamedRules.{
-  name-short,
-  same-sizes,
+  name_short,
+  same_sizes,
   same_unique,
-  same-rests,
-  same-mismatch,
-  each-mismatch,
+  same_rests,
+  same_mismatch,
+  each_mismatch,
 }
-use Rattle.text_laws.proofs.NamedTypes.{Kept, kept-rules, same-types}
-use Rattle.text_laws.proofs.FormedLines.{formed-lines}
+use Rattle.text_laws.proofs.NamedTypes.{Kept, kept_rules, same_types}
+use Rattle.text_laws.proofs.FormedLines.{formed_lines}
 
 -- ── forms there are ──
 
@@ -39,32 +39,32 @@ forms_for R short [] [] h = ([], tt, tt)
 forms_for R short [] (l ∷ lines) h = absurd h
 forms_for R short (x ∷ fields) [] h = absurd h
 forms_for R short (x ∷ fields) (l ∷ lines) h =
-    let p = spelled-field short x l h.0 in
+    let p = spelled_field short x l h.0 in
     let q = forms_for R short fields lines h.1 in
     (p.0 ∷ q.0, (p.1, q.1), (p.2, q.2))
 
 -- ── they keep the rules ──
 
-pub named-kept : (f : Frame) (d : Description) → Within d → Each (λ c x. shows c x ≡ true) (cells f) d.fields
+pub named_kept : (f : Frame) (d : Description) → Within d → Each (λ c x. shows c x ≡ true) (cells f) d.fields
     → (forms : List Form) → Each (NamedField (NameOf d.fields)) d.fields forms → Kept f forms
-named-kept f d w shown forms h =
+named_kept f d w shown forms h =
     let R = NameOf d.fields in
     record {
-      size = sym (same-sizes R d.fields forms h) ∙ w.size;
-      shown = sym (same-mismatch R 0 (cells f) d.fields forms h) ∙ each-mismatch 0 (cells f) d.fields shown;
+      size = sym (same_sizes R d.fields forms h) ∙ w.size;
+      shown = sym (same_mismatch R 0 (cells f) d.fields forms h) ∙ each_mismatch 0 (cells f) d.fields shown;
       names = sym (same_unique R d.fields forms h) ∙ w.names;
-      types = sym (same-types d.fields forms w.names h) ∙ w.types;
-      rests = sym (same-rests R d.fields forms h) ∙ w.rests;
+      types = sym (same_types d.fields forms w.names h) ∙ w.types;
+      rests = sym (same_rests R d.fields forms h) ∙ w.rests;
     }
 
 few : (f : Frame) → length (cells f) ≤ fields_most → length f.lines ≤ fields_most → is_overfull f ≡ false
 few f p q = rw (le-ltb fields_most (length (cells f)) p, le-ltb fields_most (length f.lines) q)
 
-spelled-few : (text : List ℕ) (d : Description) (s : Spells text d) → is_overfull s.frame ≡ false
-spelled-few text d s =
+spelled_few : (text : List ℕ) (d : Description) (s : Spells text d) → is_overfull s.frame ≡ false
+spelled_few text d s =
     let n = between_true 1 (length d.fields) fields_most s.within.count in
-    let p = each-length (λ c x. shows c x ≡ true) (cells s.frame) d.fields s.shown in
-    let q = each-length (SpellsLine (NameOf d.fields)) d.fields s.frame.lines s.lines in
+    let p = each_length (λ c x. shows c x ≡ true) (cells s.frame) d.fields s.shown in
+    let q = each_length (SpellsLine (NameOf d.fields)) d.fields s.frame.lines s.lines in
     few s.frame (rw p n.1) (rw (← q) n.1)
 
 -- what a text that spells a description has
@@ -75,22 +75,22 @@ pub record FormsOf (d : Description) (f : Frame) : Type 0 where
   pub kept : rule_broken f forms ≡ none
   pub is_few : is_overfull f ≡ false
 
-pub forms-named : (text : List ℕ) (d : Description) (s : Spells text d) → FormsOf d s.frame
-forms-named text d s =
-    let p = forms_for (NameOf d.fields) (name-short d.fields s.within.form) d.fields s.frame.lines
-    (formed-lines (NameOf d.fields) [] d.fields s.frame.lines s.within.form s.lines) in
+pub forms_named : (text : List ℕ) (d : Description) (s : Spells text d) → FormsOf d s.frame
+forms_named text d s =
+    let p = forms_for (NameOf d.fields) (name_short d.fields s.within.form) d.fields s.frame.lines
+    (formed_lines (NameOf d.fields) [] d.fields s.frame.lines s.within.form s.lines) in
     record {
       forms = p.0;
       named = p.1;
       spelled = p.2;
-      kept = kept-rules s.frame p.0 (named-kept s.frame d s.within s.shown p.0 p.1);
-      is_few = spelled-few text d s;
+      kept = kept_rules s.frame p.0 (named_kept s.frame d s.within s.shown p.0 p.1);
+      is_few = spelled_few text d s;
     }
 
 pub forms_of_lem : (text : List ℕ) (d : Description) (s : Spells text d)
     → (forms : List Form) × Each (SpellsField Unresolved) forms s.frame.lines × (rule_broken s.frame forms ≡ none)
     × (is_overfull s.frame ≡ false)
-forms_of_lem text d s = let p = forms-named text d s in (p.forms, p.spelled, p.kept, p.is_few)
+forms_of_lem text d s = let p = forms_named text d s in (p.forms, p.spelled, p.kept, p.is_few)
 
 -- ── they settle the fields ──
 

@@ -2,25 +2,25 @@
 use mathlib.Core.Path.{◌≡◌, refl, ap, sym}
 use mathlib.Core.Bool.{Bool, true, false, cond, not}
 use mathlib.Core.List.{List, [], ◌∷◌}
-use mathlib.Core.Option.{Option, none, some, none-ne-some}
+use mathlib.Core.Option.{none, some, none-ne-some}
 use Prim.Native.Nat.{ℕ, suc}
 use Rattle.base.specs.Lists.{Each, first_break}
-use Rattle.base.proofs.Lookups.{each-any, each-breaks, kept_at, element_parts}
+use Rattle.base.proofs.Lookups.{each_any, each_breaks, kept_at, element_parts}
 use Rattle.rules.specs.Names.{is_short}
 use Rattle.rules.specs.Fields.{Field, Form, is_rest}
 use Rattle.rules.specs.Editions.{Edition}
 use Rattle.rules.specs.Within.{keeps_form, keeps_operators_in, keeps_size, clash, keeps_names, keeps_rest}
-use Rattle.laws.proofs.ReadsFields.{formed-names}
+use Rattle.laws.proofs.ReadsFields.{formed_names}
 use Rattle.laws.proofs.NameLaws.{NameIn, read_short}
 use Rattle.rules.specs.Frames.{Slot}
 use Rattle.rules.specs.Spelling.{shows, mismatch}
 use Rattle.text_laws.proofs.NamedFields.{
   NamedField,
-  same-operators,
-  same-small,
-  same-shows,
-  same-fixed-width,
-  same-rest-width,
+  same_operators,
+  same_small,
+  same_shows,
+  same_fixed_width,
+  same_rest_width,
   same_none,
 }
 
@@ -28,12 +28,12 @@ use Rattle.text_laws.proofs.NamedFields.{
 
 module _ {N : Type 0} (fields : List (Field N)) where
   -- a name by which a field may be read has the form of a short name
-  pub name-short : first_break keeps_form [] fields ≡ none → (i : ℕ) (w : List ℕ) → NameIn fields i w → is_short w ≡ true
-  name-short h i w p =
+  pub name_short : first_break keeps_form [] fields ≡ none → (i : ℕ) (w : List ℕ) → NameIn fields i w → is_short w ≡ true
+  name_short h i w p =
       let x = p.0 in
       let s = element_parts fields i x p.1 in
       let k : keeps_form s.0 x ≡ true = kept_at keeps_form s.0 x s.1 (rw s.2 at h) in
-      read_short x w (formed-names x k).1 p.2
+      read_short x w (formed_names x k).1 p.2
 
 -- ── the rules ──
 
@@ -41,51 +41,51 @@ module _ (R : ℕ → List ℕ → Type 0) where
   pub same_known : (e : Edition) (fields : List (Field ℕ)) (forms : List Form) → Each (NamedField R) fields forms
       → first_break (keeps_operators_in e) [] fields ≡ first_break (keeps_operators_in e) [] forms
   same_known e fields forms h =
-      each-breaks (NamedField R) (keeps_operators_in e) (keeps_operators_in e) [] [] fields forms tt h
-      (λ b x a g y c u v p n. same-operators e x y n)
+      each_breaks (NamedField R) (keeps_operators_in e) (keeps_operators_in e) [] [] fields forms tt h
+      (λ b x a g y c u v p n. same_operators e x y n)
 
-  pub same-sizes : (fields : List (Field ℕ)) (forms : List Form) → Each (NamedField R) fields forms
+  pub same_sizes : (fields : List (Field ℕ)) (forms : List Form) → Each (NamedField R) fields forms
       → first_break keeps_size [] fields ≡ first_break keeps_size [] forms
-  same-sizes fields forms h = each-breaks (NamedField R) keeps_size keeps_size [] [] fields forms tt h
-      (λ b x a e y c u v p n. same-small x y n)
+  same_sizes fields forms h = each_breaks (NamedField R) keeps_size keeps_size [] [] fields forms tt h
+      (λ b x a e y c u v p n. same_small x y n)
 
   pub same_unique : (fields : List (Field ℕ)) (forms : List Form) → Each (NamedField R) fields forms
       → first_break keeps_names [] fields ≡ first_break keeps_names [] forms
-  same_unique fields forms h = each-breaks (NamedField R) keeps_names keeps_names [] [] fields forms tt h
-      (λ b x a e y c u v p n. ap not (each-any (NamedField R) (clash x) (clash y)
+  same_unique fields forms h = each_breaks (NamedField R) keeps_names keeps_names [] [] fields forms tt h
+      (λ b x a e y c u v p n. ap not (each_any (NamedField R) (clash x) (clash y)
       (λ f g m. rw (n.label, n.short, m.label, m.short)) b e p))
 
-  pub same-rests : (fields : List (Field ℕ)) (forms : List Form) → Each (NamedField R) fields forms
+  pub same_rests : (fields : List (Field ℕ)) (forms : List Form) → Each (NamedField R) fields forms
       → first_break keeps_rest [] fields ≡ first_break keeps_rest [] forms
-  same-rests fields forms h = each-breaks (NamedField R) keeps_rest keeps_rest [] [] fields forms tt h
+  same_rests fields forms h = each_breaks (NamedField R) keeps_rest keeps_rest [] [] fields forms tt h
       (λ b x a e y c u v p n. rw (
-        each-any (NamedField R) is_rest is_rest (λ f g m. same-rest-width m.width) b e p,
-        same-fixed-width n.width,
+        each_any (NamedField R) is_rest is_rest (λ f g m. same_rest_width m.width) b e p,
+        same_fixed_width n.width,
         same_none n.condition,
       ))
 
-  pub same-mismatch : (i : ℕ) (cs : List Slot) (fields : List (Field ℕ)) (forms : List Form)
+  pub same_mismatch : (i : ℕ) (cs : List Slot) (fields : List (Field ℕ)) (forms : List Form)
       → Each (NamedField R) fields forms → mismatch i cs fields ≡ mismatch i cs forms
   unfolding mismatch
-  same-mismatch i [] [] [] h = refl
-  same-mismatch i [] [] (y ∷ forms) h = absurd h
-  same-mismatch i [] (x ∷ fields) [] h = absurd h
-  same-mismatch i [] (x ∷ fields) (y ∷ forms) h = refl
-  same-mismatch i (c ∷ cs) [] [] h = refl
-  same-mismatch i (c ∷ cs) [] (y ∷ forms) h = absurd h
-  same-mismatch i (c ∷ cs) (x ∷ fields) [] h = absurd h
-  same-mismatch i (c ∷ cs) (x ∷ fields) (y ∷ forms) h =
-      rw (same-shows c x y h.0, same-mismatch (suc i) cs fields forms h.1)
+  same_mismatch i [] [] [] h = refl
+  same_mismatch i [] [] (y ∷ forms) h = absurd h
+  same_mismatch i [] (x ∷ fields) [] h = absurd h
+  same_mismatch i [] (x ∷ fields) (y ∷ forms) h = refl
+  same_mismatch i (c ∷ cs) [] [] h = refl
+  same_mismatch i (c ∷ cs) [] (y ∷ forms) h = absurd h
+  same_mismatch i (c ∷ cs) (x ∷ fields) [] h = absurd h
+  same_mismatch i (c ∷ cs) (x ∷ fields) (y ∷ forms) h =
+      rw (same_shows c x y h.0, same_mismatch (suc i) cs fields forms h.1)
 
 -- cells and fields that agree everywhere
 module _ {N : Type 0} where
-  pub mismatch-each : (i : ℕ) (cs : List Slot) (fs : List (Field N)) → mismatch i cs fs ≡ none
+  pub mismatch_each : (i : ℕ) (cs : List Slot) (fs : List (Field N)) → mismatch i cs fs ≡ none
       → Each (λ c f. shows c f ≡ true) cs fs
   unfolding mismatch
-  mismatch-each i [] [] h = tt
-  mismatch-each i [] (f ∷ fs) h = absurd (none-ne-some i (sym h))
-  mismatch-each i (c ∷ cs) [] h = absurd (none-ne-some i (sym h))
-  mismatch-each i (c ∷ cs) (f ∷ fs) h = go (shows c f) refl h (mismatch-each (suc i) cs fs)
+  mismatch_each i [] [] h = tt
+  mismatch_each i [] (f ∷ fs) h = absurd (none-ne-some i (sym h))
+  mismatch_each i (c ∷ cs) [] h = absurd (none-ne-some i (sym h))
+  mismatch_each i (c ∷ cs) (f ∷ fs) h = go (shows c f) refl h (mismatch_each (suc i) cs fs)
     where
       go : (b : Bool) → shows c f ≡ b → cond b (mismatch (suc i) cs fs) (some i) ≡ none
           → (mismatch (suc i) cs fs ≡ none → Each (λ c f. shows c f ≡ true) cs fs)
@@ -93,10 +93,10 @@ module _ {N : Type 0} where
       go true e k f' = (e, f' k)
       go false e k f' = absurd (none-ne-some i (sym k))
 
-  pub each-mismatch : (i : ℕ) (cs : List Slot) (fs : List (Field N)) → Each (λ c f. shows c f ≡ true) cs fs
+  pub each_mismatch : (i : ℕ) (cs : List Slot) (fs : List (Field N)) → Each (λ c f. shows c f ≡ true) cs fs
       → mismatch i cs fs ≡ none
   unfolding mismatch
-  each-mismatch i [] [] h = refl
-  each-mismatch i [] (f ∷ fs) h = absurd h
-  each-mismatch i (c ∷ cs) [] h = absurd h
-  each-mismatch i (c ∷ cs) (f ∷ fs) h = rw h.0 (each-mismatch (suc i) cs fs h.1)
+  each_mismatch i [] [] h = refl
+  each_mismatch i [] (f ∷ fs) h = absurd h
+  each_mismatch i (c ∷ cs) [] h = absurd h
+  each_mismatch i (c ∷ cs) (f ∷ fs) h = rw h.0 (each_mismatch (suc i) cs fs h.1)

@@ -6,8 +6,8 @@ use mathlib.Core.Option.{Option, none, some, map, map-eq-none_iff, none-ne-some,
 use Prim.Native.Nat.{ℕ, suc}
 use lib.ListN.{get_elem?}
 use Rattle.base.specs.Lists.{any, same, Each, first_break, is_empty, or_else}
-use Rattle.base.proofs.Lists.{and_left, and_right, and_both, not-both}
-use Rattle.base.proofs.Lookups.{each-any, each-breaks, each-joined, test_eq, element_front, element_any}
+use Rattle.base.proofs.Lists.{and_left, and_right, and_both, not_both}
+use Rattle.base.proofs.Lookups.{each_any, each_breaks, each_joined, test_eq, element_front, element_any}
 use Rattle.rules.specs.declared.ValueType.{ValueType}
 use Rattle.rules.specs.Trees.{has_type}
 use Rattle.rules.specs.Fields.{Field, Form, is_fixed, read_names}
@@ -26,14 +26,14 @@ use Rattle.rules.specs.Spelling.{mismatch, NameOf}
 use Rattle.rules.specs.Refusals.{rule_broken}
 use Rattle.text_laws.specs.Resolving.{first_index}
 use Rattle.text_laws.proofs.Named.{named_type}
-use Rattle.text_laws.proofs.NamedFields.{NamedField, same-fixed-width, same_if_any, same_type-width}
+use Rattle.text_laws.proofs.NamedFields.{NamedField, same_fixed_width, same_if_any, same_type_width}
 use Rattle.laws.proofs.NameLaws.{name_unique_in}
 
 -- the first element that passes a test
 pub any_element : {A : Type 0} (p : A → Bool) (l : List A) → any p l ≡ true
     → (x : A) × (get_elem? l (first_index p l) ≡ some x) × (p x ≡ true)
 unfolding any first_index
-any_element p [] h = absurd (not-both false h refl)
+any_element p [] h = absurd (not_both false h refl)
 any_element {A} p (y ∷ l) h = go (p y) refl h (any_element p l)
   where
     go : (b : Bool) → p y ≡ b → b || any p l ≡ true
@@ -48,10 +48,10 @@ any_element {A} p (y ∷ l) h = go (p y) refl h (any_element p l)
 abbrev read_by : {N : Type 0} → List ℕ → Field N → Bool
 read_by w f = is_fixed f && any (same w) (read_names f)
 
-some-name : (w : List ℕ) (o : List (List ℕ)) → any (same w) o ≡ true → not (is_empty o) ≡ true
+some_name : (w : List ℕ) (o : List (List ℕ)) → any (same w) o ≡ true → not (is_empty o) ≡ true
 unfolding any
-some-name w [] h = absurd (not-both false h refl)
-some-name w (x ∷ l) h = refl
+some_name w [] h = absurd (not_both false h refl)
+some_name w (x ∷ l) h = refl
 
 -- among the first fields: by index, and by a name of that index
 module _ (before after : List (Field ℕ)) (kept : first_break keeps_names [] (before ++ after) ≡ none) where
@@ -60,7 +60,7 @@ module _ (before after : List (Field ℕ)) (kept : first_break keeps_names [] (b
   index_read i w n = test_eq (index_readable before i) (any (read_by w) before) (to (get_elem? before i) refl) from
     where
       to : (o : Option (Field ℕ)) → get_elem? before i ≡ o → is_readable o ≡ true → any (read_by w) before ≡ true
-      to none e h = absurd (not-both false h refl)
+      to none e h = absurd (not_both false h refl)
       to (some g) e h =
           let g_is : g ≡ n.0 =
           some-injective g n.0 (sym (element_front before after i g e) ∙ n.1) in
@@ -79,22 +79,22 @@ module _ (before after : List (Field ℕ)) (kept : first_break keeps_names [] (b
           name_unique_in (before ++ after) kept j i w (g, element_front before after j g p.1, named) n in
           let e : get_elem? before i ≡ some g = rw is at p.1 in
           rw e (and_both (is_fixed g) (not (is_empty (read_names g)))
-          (and_left (is_fixed g) (any (same w) (read_names g)) p.2) (some-name w (read_names g) named))
+          (and_left (is_fixed g) (any (same w) (read_names g)) p.2) (some_name w (read_names g) named))
 
   pub same_readable : (R : ℕ → List ℕ → Type 0) (earlier : List Form) → Each (NamedField R) before earlier
       → (i : ℕ) (w : List ℕ) → NameOf (before ++ after) i w → index_readable before i ≡ name_readable earlier w
   same_readable R earlier h i w n =
       index_read i w n
-      ∙ each-any (NamedField R) (read_by w) (read_by w) (λ f g m. rw (same-fixed-width m.width, m.label, m.short))
+      ∙ each_any (NamedField R) (read_by w) (read_by w) (λ f g m. rw (same_fixed_width m.width, m.label, m.short))
       before earlier h
 
 -- ── the types ──
 
-pub same-types : (fields : List (Field ℕ)) (forms : List Form) → first_break keeps_names [] fields ≡ none
+pub same_types : (fields : List (Field ℕ)) (forms : List Form) → first_break keeps_names [] fields ≡ none
     → Each (NamedField (NameOf fields)) fields forms
     → first_break (keeps_types index_readable) [] fields ≡ first_break (keeps_types name_readable) [] forms
-same-types fields forms kept h =
-    each-breaks (NamedField R) (keeps_types index_readable) (keeps_types name_readable) [] [] fields forms tt h one
+same_types fields forms kept h =
+    each_breaks (NamedField R) (keeps_types index_readable) (keeps_types name_readable) [] [] fields forms tt h one
   where
     R : ℕ → List ℕ → Type 0
     R = NameOf fields
@@ -110,9 +110,9 @@ same-types fields forms kept h =
         let f = may b (x ∷ a) e u p in
         let own : (i : ℕ) (w : List ℕ) → R i w → index_readable (b ++ (x ∷ [])) i ≡ name_readable (e ++ (y ∷ [])) w =
         may (b ++ (x ∷ [])) a (e ++ (y ∷ [])) (u ∙ sym (append_assoc b (x ∷ []) a))
-        (each-joined (NamedField R) b e p (x ∷ []) (y ∷ []) (n, tt)) in
+        (each_joined (NamedField R) b e p (x ∷ []) (y ∷ []) (n, tt)) in
         rw (
-          same_type-width (index_readable b) (name_readable e) f n.width,
+          same_type_width (index_readable b) (name_readable e) f n.width,
           same_if_any (has_type (index_readable (b ++ (x ∷ []))) ValueType.YesNo)
               (has_type (name_readable (e ++ (y ∷ []))) ValueType.YesNo)
               (λ t u. named_type (index_readable (b ++ (x ∷ []))) (name_readable (e ++ (y ∷ []))) own ValueType.YesNo)
@@ -131,21 +131,21 @@ pub record Kept (f : Frame) (forms : List Form) : Type 0 where
   pub types : first_break (keeps_types name_readable) [] forms ≡ none
   pub rests : first_break keeps_rest [] forms ≡ none
 
-or-none : {A : Type 0} (a b : Option A) → or_else a b ≡ none → (a ≡ none) × (b ≡ none)
-or-none none b h = (refl, h)
-or-none (some a) b h = absurd (none-ne-some a (sym h))
+or_none : {A : Type 0} (a b : Option A) → or_else a b ≡ none → (a ≡ none) × (b ≡ none)
+or_none none b h = (refl, h)
+or_none (some a) b h = absurd (none-ne-some a (sym h))
 
-pub kept-rules : (f : Frame) (forms : List Form) → Kept f forms → rule_broken f forms ≡ none
+pub kept_rules : (f : Frame) (forms : List Form) → Kept f forms → rule_broken f forms ≡ none
 unfolding rule_broken
-kept-rules f forms k = rw (k.size, k.shown, k.names, k.types, k.rests)
+kept_rules f forms k = rw (k.size, k.shown, k.names, k.types, k.rests)
 
-pub rules-kept : (f : Frame) (forms : List Form) → rule_broken f forms ≡ none → Kept f forms
+pub rules_kept : (f : Frame) (forms : List Form) → rule_broken f forms ≡ none → Kept f forms
 unfolding rule_broken
-rules-kept f forms h =
-    let a = or-none (at 6 (first_break keeps_size [] forms)) _ h in
-    let b = or-none (at 7 (mismatch 0 (cells f) forms)) _ a.1 in
-    let c = or-none (at 8 (first_break keeps_names [] forms)) _ b.1 in
-    let d = or-none (at 9 (first_break (keeps_types name_readable) [] forms)) _ c.1 in
+rules_kept f forms h =
+    let a = or_none (at 6 (first_break keeps_size [] forms)) _ h in
+    let b = or_none (at 7 (mismatch 0 (cells f) forms)) _ a.1 in
+    let c = or_none (at 8 (first_break keeps_names [] forms)) _ b.1 in
+    let d = or_none (at 9 (first_break (keeps_types name_readable) [] forms)) _ c.1 in
     record {
       size = out 6 (first_break keeps_size [] forms) a.0;
       shown = out 7 (mismatch 0 (cells f) forms) b.0;

@@ -8,15 +8,15 @@ use native.Mathlib.Omega.{arith}
 use lib.ListN.{length, length-append, take}
 use borrow.Author.Tests.{eqb-true}
 use Rattle.base.specs.Lists.{all}
-use Rattle.base.proofs.Lists.{all_back, not-both}
+use Rattle.base.proofs.Lists.{all_back, not_both}
 use Rattle.base.proofs.Breaks.{all_cons}
 use Rattle.rules.specs.Rows.{Row, row_lines, is_labelled}
 use Rattle.text_laws.specs.FrameReader.{Top, State, begun, named, spaced, ruled, counted, bordered, rowed}
 use Rattle.text_laws.specs.FrameReader.{closed, headed, filled, step, run, on_state, rows_in, strict, leave}
 use Rattle.text_laws.specs.FrameReader.{strict_run, stop_at, strict_place, more_row}
-use Rattle.text_laws.proofs.FrameStrict.{Labelled, more-labelled, strict-labelled, strict-some}
+use Rattle.text_laws.proofs.FrameStrict.{Labelled, more_labelled, strict_labelled, strict_some}
 use Rattle.text_laws.proofs.FramePlace.{OnState}
-use Rattle.text_laws.proofs.FrameRun.{run-one, step-more}
+use Rattle.text_laws.proofs.FrameRun.{run_one, step_more}
 use Rattle.text_laws.proofs.RowReader.{Reads, more_sound}
 use Rattle.text_laws.proofs.RowEditions.{is_one_line}
 
@@ -35,30 +35,30 @@ stop_fine n (closed h rows) a = refl
 stop_fine n (headed h rows) a = refl
 stop_fine n (filled h rows ls) a = refl
 
-stop-least : (n : ℕ) (s : State) → n ≤ stop_at n s
-stop-least n begun = omega arith
-stop-least n (named an m) = omega arith
-stop-least n (spaced an m) = omega arith
-stop-least n (ruled h) = omega arith
-stop-least n (counted h) = omega arith
-stop-least n (bordered h rows) = omega arith
-stop-least n (rowed h rows r) = go (is_labelled r)
+stop_least : (n : ℕ) (s : State) → n ≤ stop_at n s
+stop_least n begun = omega arith
+stop_least n (named an m) = omega arith
+stop_least n (spaced an m) = omega arith
+stop_least n (ruled h) = omega arith
+stop_least n (counted h) = omega arith
+stop_least n (bordered h rows) = omega arith
+stop_least n (rowed h rows r) = go (is_labelled r)
   where
     go : (b : Bool) → n ≤ cond b (suc n) n
     go true = omega arith
     go false = omega arith
-stop-least n (closed h rows) = omega arith
-stop-least n (headed h rows) = omega arith
-stop-least n (filled h rows ls) = omega arith
+stop_least n (closed h rows) = omega arith
+stop_least n (headed h rows) = omega arith
+stop_least n (filled h rows ls) = omega arith
 
-place-least : (ls : List (List ℕ)) (n : ℕ) (s : State) → n ≤ strict_place n s ls
+place_least : (ls : List (List ℕ)) (n : ℕ) (s : State) → n ≤ strict_place n s ls
 unfolding strict_place
-place-least [] n s = stop-least n s
-place-least (l ∷ ls) n s = go (strict s l) (place-least ls)
+place_least [] n s = stop_least n s
+place_least (l ∷ ls) n s = go (strict s l) (place_least ls)
   where
     go : (o : Option State) → ((m : ℕ) (q : State) → m ≤ strict_place m q ls)
         → n ≤ on_state (stop_at n s) (λ q. strict_place (suc n) q ls) o
-    go none f = stop-least n s
+    go none f = stop_least n s
     go (some q) f = let h = f (suc n) q in omega (arith, h)
 
 -- behind lines that it reads, where no row is bad
@@ -75,7 +75,7 @@ place_bound [] (l ∷ b) n s q e f = go (strict s l)
 
     go : (o : Option State) → suc (n + 0) ≤ on_state (stop_at n s) (λ q. strict_place (suc n) q b) o
     go none = omega (arith, h)
-    go (some x) = let k = place-least b (suc n) x in omega (arith, k)
+    go (some x) = let k = place_least b (suc n) x in omega (arith, k)
 place_bound (l ∷ a) b n s q e f = go (strict s l) e (place_bound a b)
   where
     go : (o : Option State) → on_state none (λ x. strict_run x a) o ≡ some q
@@ -89,21 +89,21 @@ place_bound (l ∷ a) b n s q e f = go (strict s l) e (place_bound a b)
 
 bad_state : (s : State) → Labelled s → all is_labelled (rows_in s) ≡ false
     → (h : Top) × (rows : List Row) × (r : Row) × (s ≡ rowed h rows r) × (is_labelled r ≡ false)
-bad_state begun a b = absurd (not-both (all is_labelled []) a b)
-bad_state (named an n) a b = absurd (not-both (all is_labelled []) a b)
-bad_state (spaced an n) a b = absurd (not-both (all is_labelled []) a b)
-bad_state (ruled h) a b = absurd (not-both (all is_labelled []) a b)
-bad_state (counted h) a b = absurd (not-both (all is_labelled []) a b)
-bad_state (bordered h rows) a b = absurd (not-both (all is_labelled rows) a b)
+bad_state begun a b = absurd (not_both (all is_labelled []) a b)
+bad_state (named an n) a b = absurd (not_both (all is_labelled []) a b)
+bad_state (spaced an n) a b = absurd (not_both (all is_labelled []) a b)
+bad_state (ruled h) a b = absurd (not_both (all is_labelled []) a b)
+bad_state (counted h) a b = absurd (not_both (all is_labelled []) a b)
+bad_state (bordered h rows) a b = absurd (not_both (all is_labelled rows) a b)
 bad_state (rowed h rows r) a b = go (is_labelled r) refl
   where
     go : (c : Bool) → is_labelled r ≡ c
         → (h' : Top) × (rows' : List Row) × (r' : Row) × (rowed h rows r ≡ rowed h' rows' r') × (is_labelled r' ≡ false)
-    go true e = absurd (not-both (all is_labelled (rows ++ (r ∷ []))) (more-labelled rows r a e) b)
+    go true e = absurd (not_both (all is_labelled (rows ++ (r ∷ []))) (more_labelled rows r a e) b)
     go false e = (h, rows, r, refl, e)
-bad_state (closed h rows) a b = absurd (not-both (all is_labelled rows) a b)
-bad_state (headed h rows) a b = absurd (not-both (all is_labelled rows) a b)
-bad_state (filled h rows ls) a b = absurd (not-both (all is_labelled rows) a b)
+bad_state (closed h rows) a b = absurd (not_both (all is_labelled rows) a b)
+bad_state (headed h rows) a b = absurd (not_both (all is_labelled rows) a b)
+bad_state (filled h rows ls) a b = absurd (not_both (all is_labelled rows) a b)
 
 -- a bad row of one line
 bad_place : (n : ℕ) (h : Top) (rows : List Row) (r : Row) (ls : List (List ℕ)) → is_labelled r ≡ false
@@ -144,7 +144,7 @@ last_one rows r a = (all_cons is_one_line r [] (all_back is_one_line rows (r ∷
 module _ (l : List ℕ) (ls : List (List ℕ)) (n : ℕ) (s : State) (f : all is_labelled (rows_in s) ≡ true)
     (one : AllOne s (l ∷ ls)) where
   next_one : (q : State) → step s l ≡ some q → AllOne q ls
-  next_one q e m x le g = one (suc m) x (omega (arith, le)) (run-one s q l (take m ls) e ∙ g)
+  next_one q e m x le g = one (suc m) x (omega (arith, le)) (run_one s q l (take m ls) e ∙ g)
 
   stops_here : on_state (stop_at n s) (λ q. strict_place (suc n) q ls) (strict s l) ≡ suc n → Stops n s (l ∷ ls)
   unfolding strict_place run
@@ -166,7 +166,7 @@ module _ (l : List ℕ) (ls : List (List ℕ)) (n : ℕ) (s : State) (f : all is
     place =
         (let z : suc (suc n + w.count) ≡ suc (n + suc w.count) = omega arith in
         ap (on_state (stop_at n s) (λ q. strict_place (suc n) q ls)) e ∙ w.place ∙ z);
-    ran = run-one s q l (take w.count ls) (strict-some s q l e) ∙ w.ran;
+    ran = run_one s q l (take w.count ls) (strict_some s q l e) ∙ w.ran;
     fine = w.fine;
   }
 
@@ -175,7 +175,7 @@ module _ (l : List ℕ) (ls : List (List ℕ)) (n : ℕ) (s : State) (f : all is
       → is_labelled r ≡ false → Stops n s (l ∷ ls)
   unfolding run
   stops_in_row q e h rows r k bad =
-      let t : step s l ≡ some (rowed h rows r) = strict-some s q l e ∙ ap (λ (x : State). some x) k in
+      let t : step s l ≡ some (rowed h rows r) = strict_some s q l e ∙ ap (λ (x : State). some x) k in
       let p : strict_place (suc n) (rowed h rows r) ls ≡ suc n =
       bad_place (suc n) h rows r ls bad
       (last_one rows r (next_one (rowed h rows r) t 0 (rowed h rows r) (omega arith) refl))
@@ -183,7 +183,7 @@ module _ (l : List ℕ) (ls : List (List ℕ)) (n : ℕ) (s : State) (f : all is
       last_one rows x (next_one (rowed h rows r) t 1 (rowed h rows x)
       (let z = ap length u in omega (arith, z))
       (ap (λ (y : List (List ℕ)). run (rowed h rows r) (take 1 y)) u
-      ∙ run-one (rowed h rows r) (rowed h rows x) m [] (step-more h rows r x m g)))) in
+      ∙ run_one (rowed h rows r) (rowed h rows x) m [] (step_more h rows r x m g)))) in
       stops_here (ap (on_state (stop_at n s) (λ q. strict_place (suc n) q ls)) (e ∙ ap (λ (x : State). some x) k) ∙ p)
 
 pub stops : (ls : List (List ℕ)) (n : ℕ) (s : State) → Labelled s → all is_labelled (rows_in s) ≡ true → AllOne s ls
@@ -197,7 +197,7 @@ stops [] n s a f one = record {
   ran = refl;
   fine = f;
 }
-stops (l ∷ ls) n s a f one = go (strict s l) refl (strict-labelled s l a) (stops ls)
+stops (l ∷ ls) n s a f one = go (strict s l) refl (strict_labelled s l a) (stops ls)
   where
     go : (o : Option State) → strict s l ≡ o → OnState Labelled o
         → ((m : ℕ) (q : State) → Labelled q → all is_labelled (rows_in q) ≡ true → AllOne q ls → Stops m q ls)
@@ -208,7 +208,7 @@ stops (l ∷ ls) n s a f one = go (strict s l) refl (strict-labelled s l a) (sto
       where
         on : (c : Bool) → all is_labelled (rows_in q) ≡ c → Stops n s (l ∷ ls)
         on true k =
-            stops_later l ls n s f one q e (r (suc n) q b k (next_one l ls n s f one q (strict-some s q l e)))
+            stops_later l ls n s f one q e (r (suc n) q b k (next_one l ls n s f one q (strict_some s q l e)))
         on false k =
             let w = bad_state q b k in
             stops_in_row l ls n s f one q e w.0 w.1 w.2 w.3 w.4

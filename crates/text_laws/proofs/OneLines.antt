@@ -10,7 +10,7 @@ use lib.ListN.{length, replicate, take, drop, take-append-drop}
 use lib.Seq.{length-take-le, take_all}
 use borrow.Author.Tests.{eqb-true, ltb-true, ltb-false}
 use Rattle.base.specs.Lists.{all, only, joined, last_is}
-use Rattle.base.proofs.Lists.{and_left, and_right, and_both, all-front, all_weaken}
+use Rattle.base.proofs.Lists.{and_left, and_right, and_both, all_front, all_weaken}
 use Rattle.base.proofs.Breaks.{all_cons}
 use Rattle.rules.specs.Names.{is_label, is_label_byte, is_word_byte, is_letter, is_digit, is_space, no_two_spaces}
 use Rattle.rules.specs.Within.{is_row_width}
@@ -23,23 +23,23 @@ use Rattle.rules.specs.Answers.{refused}
 use Rattle.rules.specs.Results.{OneLined, OneLineStays, OneLineAnswersStay, OneLineCell, BeginsLabelled, OneLinePlace}
 use Rattle.laws.proofs.OperatorLaws.{Widens}
 use Rattle.text_laws.specs.FrameReader.{lines_of, State, begun, filled, run, rows_in, strict_place, ended_rows}
-use Rattle.text_laws.proofs.RowCells.{lead, left_split, right-some, left_pad, right_pad, right_last}
-use Rattle.text_laws.proofs.RowCells.{label-head, label_last}
-use Rattle.text_laws.proofs.CellTexts.{cell_text-one}
+use Rattle.text_laws.proofs.RowCells.{lead, left_split, right_some, left_pad, right_pad, right_last}
+use Rattle.text_laws.proofs.RowCells.{label_head, label_last}
+use Rattle.text_laws.proofs.CellTexts.{cell_text_one}
 use Rattle.text_laws.proofs.FrameStates.{state_lines, Reached, width_cases}
 use Rattle.text_laws.proofs.FrameAhead.{plain_row, Ahead, ahead_with}
-use Rattle.text_laws.proofs.FramePlace.{cut-whole, begins-rows, place-right, place_unique}
-use Rattle.text_laws.proofs.FrameRight.{take-lines, ahead-text, run-begins, begins-run}
-use Rattle.text_laws.proofs.SplitLaws.{lines-joined, line_count-lines}
+use Rattle.text_laws.proofs.FramePlace.{cut_whole, begins_rows, place_right, place_unique}
+use Rattle.text_laws.proofs.FrameRight.{take_lines, ahead_text, run_begins, begins_run}
+use Rattle.text_laws.proofs.SplitLaws.{lines_joined, line_count_lines}
 use Rattle.text_laws.proofs.FrameSound.{run_sound}
-use Rattle.text_laws.proofs.FrameStrict.{rows_in_lem, Labelled, run-strict}
+use Rattle.text_laws.proofs.FrameStrict.{rows_in_lem, Labelled, run_strict}
 use Rattle.text_laws.proofs.StrictTexts.{strict_place_lem}
-use Rattle.text_laws.proofs.FrameRun.{Kept, top_of, frame-kept, kept_frame, frame_lines, frame_lines_are}
-use Rattle.text_laws.proofs.FrameRun.{lines_are_lines, run-filled}
-use Rattle.text_laws.proofs.FrameExact.{frame-drawn}
-use Rattle.text_laws.proofs.RowEditions.{is_one_line, drawn-one, one-drawn, Draws, frame_of_more, begins-more}
+use Rattle.text_laws.proofs.FrameRun.{Kept, top_of, frame_kept, kept_frame, frame_lines, frame_lines_are}
+use Rattle.text_laws.proofs.FrameRun.{lines_are_lines, run_filled}
+use Rattle.text_laws.proofs.FrameExact.{frame_drawn}
+use Rattle.text_laws.proofs.RowEditions.{is_one_line, drawn_one, one_drawn, Draws, frame_of_more, begins_more}
 use Rattle.text_laws.proofs.OneLineStops.{Stops, AllOne, stops, place_bound}
-use Rattle.text_laws.proofs.EarlierTexts.{formless_like, text-more}
+use Rattle.text_laws.proofs.EarlierTexts.{formless_like, text_more}
 
 -- what is drawn with rows of one line is drawn
 drawn_now : Draws one_line current
@@ -47,20 +47,20 @@ drawn_now = record { rows = omega arith; lines = omega arith }
 
 -- ── a cell ──
 
-pub one-line-cell : OneLineCell
-one-line-cell n s label e h = (
+pub one_line_cell : OneLineCell
+one_line_cell n s label e h = (
   λ t.
-      let w = right-some (left_trim s) in (
+      let w = right_some (left_trim s) in (
         lead s,
         w.0,
         sym (left_split s)
             ∙ ap (λ (u : List ℕ). replicate (lead s) 32 ++ u)
-            (sym w.1 ∙ ap (λ (u : List ℕ). u ++ replicate w.0 32) (sym (cell_text-one n s e) ∙ t)),
+            (sym w.1 ∙ ap (λ (u : List ℕ). u ++ replicate w.0 32) (sym (cell_text_one n s e) ∙ t)),
       ),
   λ i j t.
-      cell_text-one n s e
+      cell_text_one n s e
       ∙ ap (λ (u : List ℕ). right_trim (left_trim u)) t
-      ∙ ap right_trim (left_pad i label (replicate j 32) (label-head label h))
+      ∙ ap right_trim (left_pad i label (replicate j 32) (label_head label h))
       ∙ right_pad label j
       ∙ right_last label (label_last label h),
 )
@@ -87,7 +87,7 @@ within_both p k n (r ∷ rows) a b =
     go true e h =
         let lt = ltb-true n k e in
         let one = eqb-true (length (row_lines r)) 1 y.0 in
-        and_both (p (cut_row (k - n) r)) _ (ap p (cut-whole r (k - n) (omega (arith, lt, one))) ∙ x.0) h
+        and_both (p (cut_row (k - n) r)) _ (ap p (cut_whole r (k - n) (omega (arith, lt, one))) ∙ x.0) h
 
 -- a label in a row of one line
 abbrev is_fine : Row → Bool
@@ -110,7 +110,7 @@ both_fine (r ∷ rows) a b =
 -- the lines of a state whose rows are fine begin a frame with labels, whose rows have one line
 fine_begins : (t : List ℕ) (k : ℕ) (q : State) → k ≤ line_count t → run begun (take k (lines_of t)) ≡ some q
     → all is_fine (rows_in q) ≡ true → BeginsLabelled t k
-fine_begins t k q le e f = begin (ahead_with is_fine plain_fine q r.0 (rw r.1 (take-lines k t)) f)
+fine_begins t k q le e f = begin (ahead_with is_fine plain_fine q r.0 (rw r.1 (take_lines k t)) f)
   where
     r : Reached (take k (lines_of t)) (some q)
     r = rw e at (run_sound (take k (lines_of t)) begun [] tt refl)
@@ -122,11 +122,11 @@ fine_begins t k q le e f = begin (ahead_with is_fine plain_fine q r.0 (rw r.1 (t
     begin a = (
       record {
         frame = a.frame;
-        drawn = drawn-one a.frame
+        drawn = drawn_one a.frame
             (all_weaken is_fine is_one_line (λ r e. and_right (is_labelled r) (is_one_line r) e) a.frame.rows a.rows)
             (kept_frame a.frame a.kept);
         behind = joined ended a.behind;
-        is_text = ahead-text is_fine t k q le r.1 a;
+        is_text = ahead_text is_fine t k q le r.1 a;
       },
       labelled a.frame.rows a.rows,
     )
@@ -140,16 +140,16 @@ begins_fine t k le b = go (run begun (take k (lines_of t))) refl
     f = b.0.frame
 
     drawn : Begins t k
-    drawn = begins-more one_line current drawn_now t k b.0
+    drawn = begins_more one_line current drawn_now t k b.0
 
     go : (o : Option State) → run begun (take k (lines_of t)) ≡ o
         → (q : State) × (run begun (take k (lines_of t)) ≡ some q) × (all is_labelled (rows_in q) ≡ true)
-    go none e = absurd (begins-run t k le drawn e)
+    go none e = absurd (begins_run t k le drawn e)
     go (some q) e = (
       q,
       e,
-      subst (λ (rows : List Row). all is_labelled rows ≡ true) (begins-rows t k drawn le q e)
-          (within_both is_labelled k 5 f.rows b.1 (one-drawn f b.0.drawn)),
+      subst (λ (rows : List Row). all is_labelled rows ≡ true) (begins_rows t k drawn le q e)
+          (within_both is_labelled k 5 f.rows b.1 (one_drawn f b.0.drawn)),
     )
 
 -- ── the place of 3 ──
@@ -157,16 +157,16 @@ begins_fine t k le b = go (run begun (take k (lines_of t))) refl
 -- all rows on the way have one line
 all_one : (t : List ℕ) → OneLined t → AllOne begun (lines_of t)
 all_one t one m q le e =
-    let there : m ≤ line_count t = rw (line_count-lines t) le in
-    let b = one m there (run-begins t m q there e) in
-    let row = one-drawn b.frame b.drawn in
+    let there : m ≤ line_count t = rw (line_count_lines t) le in
+    let b = one m there (run_begins t m q there e) in
+    let row = one_drawn b.frame b.drawn in
     subst (λ (rows : List Row). all is_one_line rows ≡ true)
-    (begins-rows t m (begins-more one_line current drawn_now t m b) there q e)
+    (begins_rows t m (begins_more one_line current drawn_now t m b) there q e)
     (within_both is_one_line m 5 b.frame.rows row row)
 
-pub one-line-place : OneLinePlace
+pub one_line_place : OneLinePlace
 unfolding all
-one-line-place t one k le b most-there j r = place-right t j r ∙ strict_place_lem t ∙ w.place ∙ ap suc same_count
+one_line_place t one k le b most_there j r = place_right t j r ∙ strict_place_lem t ∙ w.place ∙ ap suc same_count
   where
     w : Stops 0 begun (lines_of t)
     w = stops (lines_of t) 0 begun refl refl (all_one t one)
@@ -176,19 +176,19 @@ one-line-place t one k le b most-there j r = place-right t j r ∙ strict_place_
         let x = begins_fine t k le b in
         let y = rows_in_lem x.0 in
         let labelled : Labelled x.0 =
-        all-front is_labelled (ended_rows x.0) y.0
+        all_front is_labelled (ended_rows x.0) y.0
         (subst (λ (rows : List Row). all is_labelled rows ≡ true) y.1 x.2) in
         let z = place_bound (take k (lines_of t)) (drop k (lines_of t)) 0 begun x.0
-        (run-strict (take k (lines_of t)) begun x.0 x.1 labelled) x.2 in
+        (run_strict (take k (lines_of t)) begun x.0 x.1 labelled) x.2 in
         let u = ap (strict_place 0 begun) (take-append-drop k (lines_of t)) ∙ w.place in
-        let v = length-take-le k (lines_of t) (rw (line_count-lines t) at le) in
+        let v = length-take-le k (lines_of t) (rw (line_count_lines t) at le) in
         omega (arith, z, u, v)
 
     least : (c : Bool) → ltb k w.count ≡ c → w.count ≤ k
     least false e = ltb-false k w.count e
     least true e =
-        let in_text : w.count ≤ line_count t = rw (line_count-lines t) w.there in
-        absurd (most-there w.count (ltb-true k w.count e) in_text
+        let in_text : w.count ≤ line_count t = rw (line_count_lines t) w.there in
+        absurd (most_there w.count (ltb-true k w.count e) in_text
         (fine_begins t w.count w.state in_text w.ran
         (both_fine (rows_in w.state) w.fine (all_one t one w.count w.state w.there w.ran))))
 
@@ -197,12 +197,12 @@ one-line-place t one k le b most-there j r = place-right t j r ∙ strict_place_
 
 -- ── the frame ──
 
-frame-one : (t : List ℕ) → OneLined t → (f : Frame) → FrameOf t f → all is_one_line f.rows ≡ true
+frame_one : (t : List ℕ) → OneLined t → (f : Frame) → FrameOf t f → all is_one_line f.rows ≡ true
 unfolding frame_text
-frame-one t one f h = all_one t one k q (omega arith) ran
+frame_one t one f h = all_one t one k q (omega arith) ran
   where
     kept : Kept f
-    kept = frame-kept f (frame-drawn t f h).drawn
+    kept = frame_kept f (frame_drawn t f h).drawn
 
     k : ℕ
     k = length (lines_of t)
@@ -214,18 +214,18 @@ frame-one t one f h = all_one t one k q (omega arith) ran
     lines =
         take_all k (lines_of t) (omega arith)
         ∙ ap lines_of (sym h.is_text)
-        ∙ lines-joined (frame_lines f) (lines_are_lines f kept)
+        ∙ lines_joined (frame_lines f) (lines_are_lines f kept)
 
     ran : run begun (take k (lines_of t)) ≡ some q
     ran =
         ap (run begun) (lines ∙ frame_lines_are f)
-        ∙ run-filled (top_of f) f.rows f.lines kept.top kept.rows kept.some-row kept.brief
+        ∙ run_filled (top_of f) f.rows f.lines kept.top kept.rows kept.some_row kept.brief
 
 -- the frame of such a text is one where rows have no more lines
-frame-old : (t : List ℕ) → OneLined t → (f : Frame) → FrameOf t f → FrameOfIn one_line t f
-frame-old t one f h = record {
+frame_old : (t : List ℕ) → OneLined t → (f : Frame) → FrameOf t f → FrameOfIn one_line t f
+frame_old t one f h = record {
   is_framed = and_both (is_drawn_in one_line f) (all is_labelled f.rows)
-      (drawn-one f (frame-one t one f h) (frame-drawn t f h).drawn)
+      (drawn_one f (frame_one t one f h) (frame_drawn t f h).drawn)
       (and_right (is_drawn f) (all is_labelled f.rows) h.is_framed);
   is_text = h.is_text;
 }
@@ -238,22 +238,22 @@ forth = record { fields = omega arith; packet = omega arith; knows = λ o h. h; 
 back : Widens current one_line
 back = record { fields = omega arith; packet = omega arith; knows = λ o h. h; means = λ o h x y. refl }
 
-pub one-line-answers_stay : OneLineAnswersStay
-one-line-answers_stay text out o p ne =
-    text-more one_line current forth text (frame_of_more one_line current drawn_now text)
+pub one_line_answers_stay : OneLineAnswersStay
+one_line_answers_stay text out o p ne =
+    text_more one_line current forth text (frame_of_more one_line current drawn_now text)
     (record { kind = refl; keeps = refl }) out o p (λ k e. absurd (ne e)) (λ f e h. h)
     (λ lines i e q. formless_like current one_line (λ o h. h) (λ o h. h) lines i q)
 
-pub one-line_stays : OneLineStays
-one-line_stays text one out o = (
-  λ p. text-more one_line current forth text (frame_of_more one_line current drawn_now text)
+pub one_line_stays : OneLineStays
+one_line_stays text one out o = (
+  λ p. text_more one_line current forth text (frame_of_more one_line current drawn_now text)
       (record { kind = refl; keeps = refl }) out o p
-      (λ k e plain q r. line plain (λ f h. q f (frame-old text one f h)) (record {
+      (λ k e plain q r. line plain (λ f h. q f (frame_old text one f h)) (record {
         there = r.there;
-        begins = begins-more one_line current drawn_now text k r.begins;
+        begins = begins_more one_line current drawn_now text k r.begins;
         most = λ j lt le b. r.most j lt le (one j le b);
       })) (λ f e h. h) (λ lines i e q. formless_like current one_line (λ o h. h) (λ o h. h) lines i q),
-  λ p. text-more current one_line back text (frame-old text one) (record { kind = refl; keeps = refl }) out o p
+  λ p. text_more current one_line back text (frame_old text one) (record { kind = refl; keeps = refl }) out o p
       (λ k e plain q r. old k plain q r) (λ f e h. h)
       (λ lines i e q. formless_like one_line current (λ o h. h) (λ o h. h) lines i q),
 )
@@ -265,11 +265,11 @@ one-line_stays text one out o = (
         let s : RightLinesIn one_line text k = record {
           there = r.there;
           begins = b;
-          most = λ j lt le c. r.most j lt le (begins-more one_line current drawn_now text j c);
+          most = λ j lt le c. r.most j lt le (begins_more one_line current drawn_now text j c);
         } in
         let t : RightLines text k = record {
           there = r.there;
-          begins = begins-more one_line current drawn_now text k b;
+          begins = begins_more one_line current drawn_now text k b;
           most = r.most;
         } in
         subst (λ (n : ℕ). RefusesIn one_line text (refused 3 n)) (place_unique text k k t r)

@@ -11,9 +11,9 @@ use lib.Dec.{ltb}
 use lib.ListN.{length, get_elem?}
 use borrow.Author.Tests.{ltb-false}
 use Rattle.base.specs.Lists.{all, any, same, is_empty, Each, first_break, if_any}
-use Rattle.base.proofs.Lists.{and_left, and_right, not-both, or_false_right, true_between}
-use Rattle.base.proofs.Breaks.{and_true, first_break-cons}
-use Rattle.base.proofs.Lookups.{none-breaks, each_left, each-length, element_front, element_any, element_map}
+use Rattle.base.proofs.Lists.{and_left, and_right, not_both, or_false_right, true_between}
+use Rattle.base.proofs.Breaks.{and_true, first_break_cons}
+use Rattle.base.proofs.Lookups.{none_breaks, each_left, each_length, element_front, element_any, element_map}
 use Rattle.rules.specs.declared.ValueType.{ValueType}
 use Rattle.rules.specs.Limits.{fields_most}
 use Rattle.rules.specs.Names.{is_label}
@@ -39,17 +39,17 @@ use Rattle.text_laws.specs.Resolving.{
 use Rattle.text_laws.proofs.Named.{renamed}
 use Rattle.text_laws.proofs.NamedFields.{
   NamedWidth,
-  named-fixed,
-  named-measured,
-  named-rest,
+  named_fixed,
+  named_measured,
+  named_rest,
   NamedMaybe,
   named_none,
   named_some,
   NamedField,
-  named-field-spelled,
+  named_field_spelled,
 }
-use Rattle.text_laws.proofs.NamedRules.{same-sizes, same_unique, same-rests, same-mismatch, mismatch-each}
-use Rattle.text_laws.proofs.NamedTypes.{any_element, Kept, rules-kept, same-types}
+use Rattle.text_laws.proofs.NamedRules.{same_sizes, same_unique, same_rests, same_mismatch, mismatch_each}
+use Rattle.text_laws.proofs.NamedTypes.{any_element, Kept, rules_kept, same_types}
 use Rattle.text_laws.proofs.ResolveRows.{rows_fit_lem}
 use Rattle.text_laws.proofs.FormedLines.{bare_lines}
 
@@ -58,9 +58,9 @@ use Rattle.text_laws.proofs.FormedLines.{bare_lines}
 module _ {N : Type 0} {R : N → List ℕ → Type 0} (g : List ℕ → N) (say : List ℕ → Bool)
     (f : (w : List ℕ) → say w ≡ true → R (g w) w) where
   renamed_width : (v : Width (List ℕ)) → width_has_type say v ≡ true → NamedWidth R (rename_width g v) v
-  renamed_width (fixed n) h = named-fixed
-  renamed_width (measured u t) h = named-measured (renamed g say f ValueType.Number t h)
-  renamed_width rest h = named-rest
+  renamed_width (fixed n) h = named_fixed
+  renamed_width (measured u t) h = named_measured (renamed g say f ValueType.Number t h)
+  renamed_width rest h = named_rest
 
   renamed_maybe : (o : Option (Tree (List ℕ))) → if_any (has_type say ValueType.YesNo) o ≡ true
       → NamedMaybe R (Option.map (rename_tree g) o) o
@@ -68,10 +68,10 @@ module _ {N : Type 0} {R : N → List ℕ → Type 0} (g : List ℕ → N) (say 
   renamed_maybe (some t) h = named_some (renamed g say f ValueType.YesNo t h)
 
 -- a name that may be read is one of the field of its index
-name-found : (forms part after : List Form) → forms ≡ part ++ after → (w : List ℕ) → name_readable part w ≡ true
+name_found : (forms part after : List Form) → forms ≡ part ++ after → (w : List ℕ) → name_readable part w ≡ true
     → NameOf (resolve forms) (index_of forms w) w
 unfolding resolve
-name-found forms part after e w h =
+name_found forms part after e w h =
     let p = any_element (λ (x : Form). is_fixed x && any (same w) (read_names x)) part h in
     let i = first_index (λ (x : Form). is_fixed x && any (same w) (read_names x)) part in
     let there : get_elem? forms i ≡ some p.0 = rw e (element_front part after i p.0 p.1) in
@@ -89,14 +89,14 @@ module _ (forms : List Form) where
       → Each (NamedField (NameOf (resolve forms))) (map (rename_field (index_of forms)) l) l
   resolved_rest before [] e h = tt
   resolved_rest before (x ∷ l) e h =
-      let k = first_break-cons (keeps_types name_readable) before x l h in
+      let k = first_break_cons (keeps_types name_readable) before x l h in
       let wide = width_has_type (name_readable before) x.width in
       let own = if_any (has_type (name_readable (before ++ (x ∷ []))) ValueType.YesNo) x.constraint in
       let when = if_any (has_type (name_readable before) ValueType.YesNo) x.condition in
       let both : own && when ≡ true = and_right wide (own && when) k.0 in
       let e' : forms ≡ (before ++ (x ∷ [])) ++ l = e ∙ sym (append_assoc before (x ∷ []) l) in
-      let earlier = name-found forms before (x ∷ l) e in
-      let here = name-found forms (before ++ (x ∷ [])) l e' in (
+      let earlier = name_found forms before (x ∷ l) e in
+      let here = name_found forms (before ++ (x ∷ [])) l e' in (
         record {
           label = refl;
           short = refl;
@@ -117,21 +117,21 @@ module _ (forms : List Form) where
 
 -- ── the description ──
 
-each-spelled : (R : ℕ → List ℕ → Type 0) (fields : List (Field ℕ)) (forms : List Form) (lines : List (List ℕ))
+each_spelled : (R : ℕ → List ℕ → Type 0) (fields : List (Field ℕ)) (forms : List Form) (lines : List (List ℕ))
     → Each (NamedField R) fields forms → Each (SpellsField Unresolved) forms lines → Each (SpellsField R) fields lines
-each-spelled R [] [] [] n h = tt
-each-spelled R [] [] (l ∷ lines) n h = absurd h
-each-spelled R [] (y ∷ forms) [] n h = absurd n
-each-spelled R [] (y ∷ forms) (l ∷ lines) n h = absurd n
-each-spelled R (x ∷ fields) [] [] n h = absurd n
-each-spelled R (x ∷ fields) [] (l ∷ lines) n h = absurd n
-each-spelled R (x ∷ fields) (y ∷ forms) [] n h = absurd h
-each-spelled R (x ∷ fields) (y ∷ forms) (l ∷ lines) n h =
-    (named-field-spelled x y l n.0 h.0, each-spelled R fields forms lines n.1 h.1)
+each_spelled R [] [] [] n h = tt
+each_spelled R [] [] (l ∷ lines) n h = absurd h
+each_spelled R [] (y ∷ forms) [] n h = absurd n
+each_spelled R [] (y ∷ forms) (l ∷ lines) n h = absurd n
+each_spelled R (x ∷ fields) [] [] n h = absurd n
+each_spelled R (x ∷ fields) [] (l ∷ lines) n h = absurd n
+each_spelled R (x ∷ fields) (y ∷ forms) [] n h = absurd h
+each_spelled R (x ∷ fields) (y ∷ forms) (l ∷ lines) n h =
+    (named_field_spelled x y l n.0 h.0, each_spelled R fields forms lines n.1 h.1)
 
-some-lines : (l : List (List ℕ)) → not (is_empty l) ≡ true → 1 ≤ length l
-some-lines [] h = absurd (not-both false h refl)
-some-lines (x ∷ l) h = omega arith
+some_lines : (l : List (List ℕ)) → not (is_empty l) ≡ true → 1 ≤ length l
+some_lines [] h = absurd (not_both false h refl)
+some_lines (x ∷ l) h = omega arith
 
 parts : (a b c d e g : Bool) → (a && (b && (c && (d && (e && g))))) ≡ true
     → (a ≡ true) × (b ≡ true) × (d ≡ true) × (e ≡ true)
@@ -142,13 +142,13 @@ parts a b c d e g h =
     (p.0, q.0, r.0, and_left e g r.1)
 
 -- what a frame keeps
-pub frame-parts : (e : Edition) (text : List ℕ) (f : Frame) → FrameOfIn e text f
+pub frame_parts : (e : Edition) (text : List ℕ) (f : Frame) → FrameOfIn e text f
     → (is_label f.name ≡ true)
     × (is_row_width f.row_width ≡ true)
     × (all (is_drawn_row e.row_lines f.row_width) f.rows ≡ true)
     × (not (is_empty f.lines) ≡ true)
 unfolding is_drawn_in
-frame-parts e text f h = parts (is_label f.name) (is_row_width f.row_width) (not (is_empty f.rows))
+frame_parts e text f h = parts (is_label f.name) (is_row_width f.row_width) (not (is_empty f.rows))
     (all (is_drawn_row e.row_lines f.row_width) f.rows) (not (is_empty f.lines))
     (all is_line f.lines && all (is_brief_in e) f.lines)
     (and_left (is_drawn_in e f) (all is_labelled f.rows) h.is_framed)
@@ -159,11 +159,11 @@ module _ (text : List ℕ) (f : Frame) (forms : List Form) (frame : FrameOf text
   named = resolved_named forms kept.types
 
   shown : Each (λ c x. shows c x ≡ true) (cells f) (resolve forms)
-  shown = mismatch-each 0 (cells f) (resolve forms)
-      (same-mismatch (NameOf (resolve forms)) 0 (cells f) (resolve forms) forms named ∙ kept.shown)
+  shown = mismatch_each 0 (cells f) (resolve forms)
+      (same_mismatch (NameOf (resolve forms)) 0 (cells f) (resolve forms) forms named ∙ kept.shown)
 
   lines : Each (SpellsField (NameOf (resolve forms))) (resolve forms) f.lines
-  lines = each-spelled (NameOf (resolve forms)) (resolve forms) forms f.lines named spelled
+  lines = each_spelled (NameOf (resolve forms)) (resolve forms) forms f.lines named spelled
 
   unique : first_break keeps_names [] (resolve forms) ≡ none
   unique = same_unique (NameOf (resolve forms)) (resolve forms) forms named ∙ kept.names
@@ -172,22 +172,22 @@ module _ (text : List ℕ) (f : Frame) (forms : List Form) (frame : FrameOf text
   unfolding cells
   within =
       let R = NameOf (resolve forms) in
-      let framed = frame-parts current text f frame in
-      let n = each-length (SpellsField R) (resolve forms) f.lines lines in
+      let framed = frame_parts current text f frame in
+      let n = each_length (SpellsField R) (resolve forms) f.lines lines in
       let most : length f.lines ≤ fields_most =
       ltb-false fields_most (length f.lines)
       (or_false_right (ltb fields_most (length (cells f))) (ltb fields_most (length f.lines)) few) in
       record {
         name = framed.0;
         row = framed.1;
-        count = rw n (true_between 1 (length f.lines) fields_most (some-lines f.lines framed.3) most);
-        form = none-breaks keeps_form [] (resolve forms)
+        count = rw n (true_between 1 (length f.lines) fields_most (some_lines f.lines framed.3) most);
+        form = none_breaks keeps_form [] (resolve forms)
             (λ b i x e. (each_left (SpellsField R) (resolve forms) f.lines lines i x e).2.formed);
         operators = keeps_known [] (resolve forms);
-        size = same-sizes R (resolve forms) forms named ∙ kept.size;
+        size = same_sizes R (resolve forms) forms named ∙ kept.size;
         names = unique;
-        types = same-types (resolve forms) forms unique named ∙ kept.types;
-        rests = same-rests R (resolve forms) forms named ∙ kept.rests;
+        types = same_types (resolve forms) forms unique named ∙ kept.types;
+        rests = same_rests R (resolve forms) forms named ∙ kept.rests;
         rows = rows_fit_lem f.row_width f.rows framed.2 0 (resolve forms) (zero-mod f.row_width) shown;
       }
 
@@ -205,4 +205,4 @@ module _ (text : List ℕ) (f : Frame) (forms : List Form) (frame : FrameOf text
 pub resolved_spells : (text : List ℕ) (f : Frame) (forms : List Form) → FrameOf text f → is_overfull f ≡ false
     → Each (SpellsField Unresolved) forms f.lines → rule_broken f forms ≡ none → Spells text (described f forms)
 resolved_spells text f forms frame few spelled kept =
-    resolved_kept text f forms frame few spelled (rules-kept f forms kept)
+    resolved_kept text f forms frame few spelled (rules_kept f forms kept)

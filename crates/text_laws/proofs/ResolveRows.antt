@@ -8,7 +8,7 @@ use native.Mathlib.Nat.{mod-add-mod, mod-eq_of_lt, mod_self, zero-mod}
 use lib.Dec.{leb, eqb}
 use borrow.Author.Tests.{eqb-true, eq-eqb, le-leb, ltb-true}
 use Rattle.base.specs.Lists.{all, any, same, joined, sum, Each}
-use Rattle.base.proofs.Lists.{and_right, and_both, not-both}
+use Rattle.base.proofs.Lists.{and_right, and_both, not_both}
 use Rattle.base.proofs.Breaks.{all_cons}
 use Rattle.rules.specs.Limits.{row_lines_most}
 use Rattle.rules.specs.Fields.{Width, fixed, measured, rest, Field, field_names}
@@ -16,8 +16,8 @@ use Rattle.rules.specs.Within.{rows_fit, widths}
 use Rattle.rules.specs.Rows.{Cell, cell_text, Row, bit_row, long_row, are_fitted, is_drawn_row, columns}
 use Rattle.rules.specs.Frames.{Slot, slots_in}
 use Rattle.rules.specs.Spelling.{is_place_for, shows}
-use Rattle.text_laws.proofs.CellTexts.{has_bits, columns-sum, columns-bits}
-use Rattle.text_laws.proofs.RowReader.{drawn-sum, drawn_tall, drawn_fitted}
+use Rattle.text_laws.proofs.CellTexts.{has_bits, columns_sum, columns_bits}
+use Rattle.text_laws.proofs.RowReader.{drawn_sum, drawn_tall, drawn_fitted}
 
 abbrev bit_cell : Cell → Slot
 bit_cell c = record { long = false; bits = c.bits; text = cell_text c }
@@ -33,13 +33,13 @@ unfolding rows_fit
 fit_bits w place c (fixed n) l h le k =
     let e : c.bits ≡ n = eqb-true c.bits n h in
     and_both (leb (place % w + n) w) (rows_fit w (place + n) l) (le-leb (place % w + n) w (rw e at le)) (rw e at k)
-fit_bits w place c (measured u t) l h le k = absurd (not-both false h refl)
-fit_bits w place c rest l h le k = absurd (not-both false h refl)
+fit_bits w place c (measured u t) l h le k = absurd (not_both false h refl)
+fit_bits w place c rest l h le k = absurd (not_both false h refl)
 
 fit_long : (w place : ℕ) (c : Cell) (v : Width ℕ) (l : List (Width ℕ)) → is_place_for (long_cell c) v ≡ true
     → place % w ≡ 0 → rows_fit w place l ≡ true → rows_fit w place (v ∷ l) ≡ true
 unfolding rows_fit
-fit_long w place c (fixed n) l h e k = absurd (not-both false h refl)
+fit_long w place c (fixed n) l h e k = absurd (not_both false h refl)
 fit_long w place c (measured u t) l h e k =
     and_both (eqb (place % w) 0) (rows_fit w place l) (eq-eqb (place % w) 0 e) k
 fit_long w place c rest l h e k =
@@ -80,14 +80,14 @@ rows_fit_lem w [] h place [] e s = eq-eqb (place % w) 0 e
 rows_fit_lem w [] h place (x ∷ fields) e s = absurd s
 rows_fit_lem w (bit_row bits [] ∷ rows) h place fields e s =
     let k = all_cons (is_drawn_row row_lines_most w) (bit_row bits []) rows h in
-    absurd (not-both false (drawn_tall w bits [] k.0) refl)
+    absurd (not_both false (drawn_tall w bits [] k.0) refl)
 rows_fit_lem w (bit_row bits (ss ∷ lines) ∷ rows) h place fields e s =
     let k = all_cons (is_drawn_row row_lines_most w) (bit_row bits (ss ∷ lines)) rows h in
     let total : sum (λ c. c.bits) (columns bits (ss ∷ lines)) ≡ w =
-    columns-sum bits (ss ∷ lines) ∙ eqb-true (sum (λ n. n) bits) w (drawn-sum w bits (ss ∷ lines) k.0) in
+    columns_sum bits (ss ∷ lines) ∙ eqb-true (sum (λ n. n) bits) w (drawn_sum w bits (ss ∷ lines) k.0) in
     let f = all_cons (are_fitted bits) ss lines (drawn_fitted w bits (ss ∷ lines) k.0) in
     fit_row w (joined slots_in rows) (rows_fit_lem w rows k.1) (columns bits (ss ∷ lines)) 0 place fields
-    (columns-bits bits ss (ss ∷ lines) f.0) (omega (arith, total)) (e ∙ sym (zero-mod w)) s
+    (columns_bits bits ss (ss ∷ lines) f.0) (omega (arith, total)) (e ∙ sym (zero-mod w)) s
 rows_fit_lem w (long_row n l ∷ rows) h place [] e s = absurd s
 rows_fit_lem w (long_row n l ∷ rows) h place (x ∷ fields) e s =
     let c : Cell = record { bits = n; lines = l ∷ [] } in

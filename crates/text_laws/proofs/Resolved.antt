@@ -6,8 +6,8 @@ use mathlib.Core.Option
 use mathlib.Core.Option.{Option, none, some}
 use Prim.Native.Nat.{ℕ, suc}
 use Rattle.base.specs.Lists.{any, same, if_any, first_break}
-use Rattle.base.proofs.Lists.{and_left, and_right, not-both, or_left, or_right}
-use Rattle.base.proofs.Breaks.{first_break-cons}
+use Rattle.base.proofs.Lists.{and_left, and_right, not_both, or_left, or_right}
+use Rattle.base.proofs.Breaks.{first_break_cons}
 use Rattle.rules.specs.declared.ValueType.{ValueType}
 use Rattle.rules.specs.declared.ValueType.TheVariants.{Number, YesNo}
 use Rattle.rules.specs.Operators.{takes, gives}
@@ -53,34 +53,34 @@ folded_more forms x fields e =
 -- ── trees whose names are renamed alike ──
 
 module _ {N : Type 0} (may : List ℕ → Bool) (f g : List ℕ → N) (h : (w : List ℕ) → may w ≡ true → f w ≡ g w) where
-  same-tree : (k : ValueType) (t : Tree (List ℕ)) → has_type may k t ≡ true → rename_tree f t ≡ rename_tree g t
+  same_tree_lem : (k : ValueType) (t : Tree (List ℕ)) → has_type may k t ≡ true → rename_tree f t ≡ rename_tree g t
   unfolding rename_tree has_type
-  same-tree k (num n) q = refl
-  same-tree k (read w) q = ap {B = Tree N} read (h w (and_right (same_type k Number) (may w) q))
-  same-tree k (two o x y) q =
+  same_tree_lem k (num n) q = refl
+  same_tree_lem k (read w) q = ap {B = Tree N} read (h w (and_right (same_type k Number) (may w) q))
+  same_tree_lem k (two o x y) q =
       let both = and_right (same_type k (gives o)) (has_type may (takes o) x && has_type may (takes o) y) q in
       ap₂ {C = Tree N} (two o)
-      (same-tree (takes o) x (and_left (has_type may (takes o) x) (has_type may (takes o) y) both))
-      (same-tree (takes o) y (and_right (has_type may (takes o) x) (has_type may (takes o) y) both))
-  same-tree k (negation x) q =
-      ap {B = Tree N} negation (same-tree YesNo x (and_right (same_type k YesNo) (has_type may YesNo x) q))
+      (same_tree_lem (takes o) x (and_left (has_type may (takes o) x) (has_type may (takes o) y) both))
+      (same_tree_lem (takes o) y (and_right (has_type may (takes o) x) (has_type may (takes o) y) both))
+  same_tree_lem k (negation x) q =
+      ap {B = Tree N} negation (same_tree_lem YesNo x (and_right (same_type k YesNo) (has_type may YesNo x) q))
 
   pub same_width : (v : Width (List ℕ)) → width_has_type may v ≡ true → rename_width f v ≡ rename_width g v
   same_width (fixed n) q = refl
-  same_width (measured u t) q = ap {B = Width N} (measured u) (same-tree Number t q)
+  same_width (measured u t) q = ap {B = Width N} (measured u) (same_tree_lem Number t q)
   same_width rest q = refl
 
   pub same_maybe : (o : Option (Tree (List ℕ))) → if_any (has_type may YesNo) o ≡ true
       → Option.map (rename_tree f) o ≡ Option.map (rename_tree g) o
   same_maybe none q = refl
-  same_maybe (some t) q = ap {B = Option (Tree N)} some (same-tree YesNo t q)
+  same_maybe (some t) q = ap {B = Option (Tree N)} some (same_tree_lem YesNo t q)
 
 -- ── the index among the first lines, and among all ──
 
-front-index : {A : Type 0} (p : A → Bool) (l m : List A) → any p l ≡ true → first_index p (l ++ m) ≡ first_index p l
+front_index : {A : Type 0} (p : A → Bool) (l m : List A) → any p l ≡ true → first_index p (l ++ m) ≡ first_index p l
 unfolding any first_index
-front-index p [] m h = absurd (not-both false h refl)
-front-index p (x ∷ l) m h = go (p x) h (front-index p l m)
+front_index p [] m h = absurd (not_both false h refl)
+front_index p (x ∷ l) m h = go (p x) h (front_index p l m)
   where
     go : (b : Bool) → b || any p l ≡ true → (any p l ≡ true → first_index p (l ++ m) ≡ first_index p l)
         → cond b 0 (suc (first_index p (l ++ m))) ≡ cond b 0 (suc (first_index p l))
@@ -90,7 +90,7 @@ front-index p (x ∷ l) m h = go (p x) h (front-index p l m)
 any_weaker : {A : Type 0} (p q : A → Bool) → ((x : A) → p x ≡ true → q x ≡ true) → (l m : List A)
     → any p l ≡ true → any q (l ++ m) ≡ true
 unfolding any
-any_weaker p q f [] m h = absurd (not-both false h refl)
+any_weaker p q f [] m h = absurd (not_both false h refl)
 any_weaker p q f (x ∷ l) m h = go (p x) refl h (any_weaker p q f l m)
   where
     go : (b : Bool) → p x ≡ b → b || any p l ≡ true → (any p l ≡ true → any q (l ++ m) ≡ true)
@@ -99,9 +99,9 @@ any_weaker p q f (x ∷ l) m h = go (p x) refl h (any_weaker p q f l m)
     go false e k r = or_right (q x) (any q (l ++ m)) (r k)
 
 -- a name that may be read is found among the first lines
-named-index : (l m : List Form) (w : List ℕ) → any (λ (x : Form). any (same w) (read_names x)) l ≡ true
+named_index : (l m : List Form) (w : List ℕ) → any (λ (x : Form). any (same w) (read_names x)) l ≡ true
     → index_of l w ≡ index_of (l ++ m) w
-named-index l m w h = sym (front-index (λ x. any (same w) (read_names x)) l m h)
+named_index l m w h = sym (front_index (λ x. any (same w) (read_names x)) l m h)
 
 module _ (forms : List Form) where
   folded_rest : (before l : List Form) → forms ≡ before ++ l → first_break (keeps_types name_readable) before l ≡ none
@@ -109,9 +109,9 @@ module _ (forms : List Form) where
   unfolding folded
   folded_rest before [] e h = refl
   folded_rest before (x ∷ l) e h =
-      let k = first_break-cons (keeps_types name_readable) before x l h in
-      let own-front : List Form = before ++ (x ∷ []) in
-      let e' : forms ≡ own-front ++ l = e ∙ sym (append_assoc before (x ∷ []) l) in
+      let k = first_break_cons (keeps_types name_readable) before x l h in
+      let own_front : List Form = before ++ (x ∷ []) in
+      let e' : forms ≡ own_front ++ l = e ∙ sym (append_assoc before (x ∷ []) l) in
       let wide = width_has_type (name_readable before) x.width in
       let own = if_any (has_type (name_readable (before ++ (x ∷ []))) YesNo) x.constraint in
       let when = if_any (has_type (name_readable before) YesNo) x.condition in
@@ -119,28 +119,28 @@ module _ (forms : List Form) where
       let readable : (y : Form) (w : List ℕ) → (is_fixed y && any (same w) (read_names y)) ≡ true
       → any (same w) (read_names y) ≡ true =
       λ y w. and_right (is_fixed y) (any (same w) (read_names y)) in
-      let found : (w : List ℕ) → any (λ (y : Form). any (same w) (read_names y)) own-front ≡ true
-      → index_of own-front w ≡ index_of forms w =
-      λ w q. named-index own-front l w q ∙ ap (λ (m : List Form). index_of m w) (sym e') in
-      let earlier : (w : List ℕ) → name_readable before w ≡ true → index_of own-front w ≡ index_of forms w =
+      let found : (w : List ℕ) → any (λ (y : Form). any (same w) (read_names y)) own_front ≡ true
+      → index_of own_front w ≡ index_of forms w =
+      λ w q. named_index own_front l w q ∙ ap (λ (m : List Form). index_of m w) (sym e') in
+      let earlier : (w : List ℕ) → name_readable before w ≡ true → index_of own_front w ≡ index_of forms w =
       λ w q. found w (any_weaker (λ y. is_fixed y && any (same w) (read_names y)) (λ y. any (same w) (read_names y))
       (λ y. readable y w) before (x ∷ []) q) in
-      let here : (w : List ℕ) → name_readable own-front w ≡ true → index_of own-front w ≡ index_of forms w =
-      λ w q. found w (rw (append-nil own-front) at
+      let here : (w : List ℕ) → name_readable own_front w ≡ true → index_of own_front w ≡ index_of forms w =
+      λ w q. found w (rw (append-nil own_front) at
       (any_weaker (λ y. is_fixed y && any (same w) (read_names y)) (λ y. any (same w) (read_names y))
-      (λ y. readable y w) own-front [] q)) in
+      (λ y. readable y w) own_front [] q)) in
       ap₂ {C = List (Field ℕ)} ◌∷◌
       (λ i. record {
         label = x.label;
         short = x.short;
-        width = same_width (name_readable before) (index_of own-front) (index_of forms) earlier x.width
+        width = same_width (name_readable before) (index_of own_front) (index_of forms) earlier x.width
             (and_left wide (own && when) k.0) i;
-        constraint = same_maybe (name_readable own-front) (index_of own-front) (index_of forms) here x.constraint
+        constraint = same_maybe (name_readable own_front) (index_of own_front) (index_of forms) here x.constraint
             (and_left own when both) i;
-        condition = same_maybe (name_readable before) (index_of own-front) (index_of forms) earlier x.condition
+        condition = same_maybe (name_readable before) (index_of own_front) (index_of forms) earlier x.condition
             (and_right own when both) i;
       })
-      (folded_rest own-front l e' k.1)
+      (folded_rest own_front l e' k.1)
 
 -- where no line breaks 9
 pub folded_all : (forms : List Form) → first_break (keeps_types name_readable) [] forms ≡ none

@@ -9,7 +9,7 @@ use lib.Dec.{leb, eqb}
 use lib.ListN.{length, length-map}
 use borrow.Author.Tests.{leb-true, le-leb, eqb-true, eq-eqb}
 use Rattle.base.specs.Lists.{all, is_empty, between, sum}
-use Rattle.base.proofs.Lists.{and_left, and_right, and_both, all_weaken, not-both}
+use Rattle.base.proofs.Lists.{and_left, and_right, and_both, all_weaken, not_both}
 use Rattle.base.proofs.Breaks.{all_cons}
 use Rattle.rules.specs.Names.{is_label}
 use Rattle.rules.specs.Within.{is_row_width}
@@ -54,10 +54,10 @@ row_one m w (bit_row bits lines) h e =
     (and_right (between 1 (length lines) m) c (and_right a (between 1 (length lines) m && c) h)))
 
 -- and it has one there
-pub one-row : (w : ℕ) (r : Row) → is_drawn_row 1 w r ≡ true → is_one_line r ≡ true
+pub one_row : (w : ℕ) (r : Row) → is_drawn_row 1 w r ≡ true → is_one_line r ≡ true
 unfolding row_lines
-one-row w (long_row bits s) h = refl
-one-row w (bit_row bits lines) h =
+one_row w (long_row bits s) h = refl
+one_row w (bit_row bits lines) h =
     let a = eqb (sum (λ n. n) bits) w in
     let c = all (are_fitted bits) lines in
     let y = and_left (between 1 (length lines) 1) c (and_right a (between 1 (length lines) 1 && c) h) in
@@ -70,10 +70,10 @@ one-row w (bit_row bits lines) h =
 fourth_more : (a b c x y d : Bool) → (x ≡ true → y ≡ true) → (a && (b && (c && (x && d)))) ≡ true
     → (a && (b && (c && (y && d)))) ≡ true
 fourth_more true true true true y d f h = rw (f refl) h
-fourth_more true true true false y d f h = absurd (not-both false h refl)
-fourth_more true true false x y d f h = absurd (not-both false h refl)
-fourth_more true false c x y d f h = absurd (not-both false h refl)
-fourth_more false b c x y d f h = absurd (not-both false h refl)
+fourth_more true true true false y d f h = absurd (not_both false h refl)
+fourth_more true true false x y d f h = absurd (not_both false h refl)
+fourth_more true false c x y d f h = absurd (not_both false h refl)
+fourth_more false b c x y d f h = absurd (not_both false h refl)
 
 -- a frame whose rows have one line is drawn where rows have no more
 all_one : (m w : ℕ) (rows : List Row) → all is_one_line rows ≡ true → all (is_drawn_row m w) rows ≡ true
@@ -86,9 +86,9 @@ all_one m w (r ∷ rows) a h =
     and_both (is_drawn_row 1 w r) (all (is_drawn_row 1 w) rows) (row_one m w r y.0 x.0)
     (all_one m w rows x.1 y.1)
 
-pub drawn-one : (f : Frame) → all is_one_line f.rows ≡ true → is_drawn f ≡ true → is_drawn_in one_line f ≡ true
+pub drawn_one : (f : Frame) → all is_one_line f.rows ≡ true → is_drawn f ≡ true → is_drawn_in one_line f ≡ true
 unfolding is_drawn_in
-drawn-one f a h =
+drawn_one f a h =
     fourth_more (is_label f.name) (is_row_width f.row_width) (not (is_empty f.rows))
     (all (is_drawn_row row_lines_most f.row_width) f.rows) (all (is_drawn_row 1 f.row_width) f.rows)
     (not (is_empty f.lines) && (all is_line f.lines && all is_brief f.lines))
@@ -99,10 +99,10 @@ fourth_of : (a b c x d : Bool) → (a && (b && (c && (x && d)))) ≡ true → x 
 fourth_of a b c x d h =
     and_left x d (and_right c (x && d) (and_right b (c && (x && d)) (and_right a (b && (c && (x && d))) h)))
 
-pub one-drawn : (f : Frame) → is_drawn_in one_line f ≡ true → all is_one_line f.rows ≡ true
+pub one_drawn : (f : Frame) → is_drawn_in one_line f ≡ true → all is_one_line f.rows ≡ true
 unfolding is_drawn_in
-one-drawn f h =
-    all_weaken (is_drawn_row 1 f.row_width) is_one_line (one-row f.row_width) f.rows
+one_drawn f h =
+    all_weaken (is_drawn_row 1 f.row_width) is_one_line (one_row f.row_width) f.rows
     (fourth_of (is_label f.name) (is_row_width f.row_width) (not (is_empty f.rows))
     (all (is_drawn_row 1 f.row_width) f.rows)
     (not (is_empty f.lines) && (all is_line f.lines && all is_brief f.lines)) h)
@@ -133,9 +133,9 @@ lines_more a b le ls h =
     weaker l e = le-leb (length l) b.line_bytes (let n = leb-true (length l) a.line_bytes e in omega (arith, n, le))
 
 module _ (a b : Edition) (more : Draws a b) where
-  pub drawn-more : (f : Frame) → is_drawn_in a f ≡ true → is_drawn_in b f ≡ true
+  pub drawn_more : (f : Frame) → is_drawn_in a f ≡ true → is_drawn_in b f ≡ true
   unfolding is_drawn_in
-  drawn-more f h =
+  drawn_more f h =
       let w = f.row_width in
       let n = is_label f.name in
       let c = not (is_empty f.rows) in
@@ -151,16 +151,16 @@ module _ (a b : Edition) (more : Draws a b) where
   pub frame_of_more : (text : List ℕ) (f : Frame) → FrameOfIn a text f → FrameOfIn b text f
   frame_of_more text f h = record {
     is_framed = and_both (is_drawn_in b f) (all is_labelled f.rows)
-        (drawn-more f (and_left (is_drawn_in a f) (all is_labelled f.rows) h.is_framed))
+        (drawn_more f (and_left (is_drawn_in a f) (all is_labelled f.rows) h.is_framed))
         (and_right (is_drawn_in a f) (all is_labelled f.rows) h.is_framed);
     is_text = h.is_text;
   }
 
   -- of the same frame
-  abbrev pub begins-more : (text : List ℕ) (k : ℕ) → BeginsIn a text k → BeginsIn b text k
-  begins-more text k h = record {
+  abbrev pub begins_more : (text : List ℕ) (k : ℕ) → BeginsIn a text k → BeginsIn b text k
+  begins_more text k h = record {
     frame = h.frame;
-    drawn = drawn-more h.frame h.drawn;
+    drawn = drawn_more h.frame h.drawn;
     behind = h.behind;
     is_text = h.is_text;
   }
@@ -172,6 +172,6 @@ pub lines_like : (a b : Edition) → Draws a b → Draws b a → (text : List �
 lines_like a b forth back text k p q r =
     line p (λ f h. q f (frame_of_more b a back text f h)) (record {
       there = r.there;
-      begins = begins-more a b forth text k r.begins;
-      most = λ j lt le h. r.most j lt le (begins-more b a back text j h);
+      begins = begins_more a b forth text k r.begins;
+      most = λ j lt le h. r.most j lt le (begins_more b a back text j h);
     })

@@ -10,13 +10,13 @@ use lib.Dec.{leb, eqb}
 use lib.ListN.{length, length-append}
 use borrow.Author.Tests.{eqb-true, le-leb, leb-true}
 use Rattle.base.specs.Lists.{all, is_empty, between, joined, sum, tabulate}
-use Rattle.base.proofs.Lists.{and_left, and_right, and_both, all_append, all-front, all_back}
+use Rattle.base.proofs.Lists.{and_left, and_right, and_both, all_append, all_front, all_back}
 use Rattle.rules.specs.Limits.{row_lines_most}
 use Rattle.rules.specs.Rows.{Row, bit_row, long_row, bar_line, row_lines, is_fitted, are_fitted, is_drawn_row}
 use Rattle.rules.specs.Frames.{border, is_line}
 use Rattle.text_laws.specs.FrameReader.{pieces, rest, bits_of, keep_row, strips_of, long_of, read_long, row_of}
 use Rattle.text_laws.specs.FrameReader.{read_row, with_strips, more_row}
-use Rattle.text_laws.proofs.SplitLaws.{is_free, ended_by, pieces-joined, rest-joined, pieces-cons, rest-cons}
+use Rattle.text_laws.proofs.SplitLaws.{is_free, ended_by, pieces_joined, rest_joined, pieces_cons, rest_cons}
 use Rattle.text_laws.proofs.SplitLaws.{split_joined}
 
 -- ── what is read is a row of the lines ──
@@ -34,9 +34,9 @@ kept w ls r e = go (is_drawn_row row_lines_most w r) refl
     go true d = (d, e)
     go false d = tt
 
-empty-is : {A : Type 0} (l : List A) → is_empty l ≡ true → l ≡ []
-empty-is [] h = refl
-empty-is (x ∷ l) h = cc
+empty_is : {A : Type 0} (l : List A) → is_empty l ≡ true → l ≡ []
+empty_is [] h = refl
+empty_is (x ∷ l) h = cc
 
 -- the line with these strips
 abbrev Strips : List ℕ → Option (List (List ℕ)) → Type 0
@@ -53,18 +53,18 @@ strips_sound (b ∷ l) = go (eqb b 124) refl (is_empty (rest 124 l)) refl
     go true e true f =
         let j : joined (ended_by 124) (pieces 124 l) ≡ l =
         sym (append-nil (joined (ended_by 124) (pieces 124 l)))
-        ∙ ap (λ (m : List ℕ). joined (ended_by 124) (pieces 124 l) ++ m) (sym (empty-is (rest 124 l) f))
+        ∙ ap (λ (m : List ℕ). joined (ended_by 124) (pieces 124 l) ++ m) (sym (empty_is (rest 124 l) f))
         ∙ split_joined 124 l in
         let q : b ≡ 124 = eqb-true b 124 e in
         rw q (ap (λ (m : List ℕ). 124 ∷ m) j)
     go true e false f = tt
     go false e y f = tt
 
-long-read : (w : ℕ) (l r : List ℕ) (ps : List (List ℕ)) → joined (ended_by 58) ps ++ r ≡ l
+long_read : (w : ℕ) (l r : List ℕ) (ps : List (List ℕ)) → joined (ended_by 58) ps ++ r ≡ l
     → Reads w ((58 ∷ l) ∷ []) (long_of w r ps)
 unfolding long_of joined row_lines
-long-read w l r [] h = tt
-long-read w l r (p ∷ []) h = go (is_empty r) refl
+long_read w l r [] h = tt
+long_read w l r (p ∷ []) h = go (is_empty r) refl
   where
     go : (x : Bool) → is_empty r ≡ x → Reads w ((58 ∷ l) ∷ []) (cond x (keep_row w (long_row (bits_of p) p)) none)
     go false e = tt
@@ -72,9 +72,9 @@ long-read w l r (p ∷ []) h = go (is_empty r) refl
         (ap {B = List (List ℕ)} (λ m. (58 ∷ m) ∷ [])
         (sym (append-nil (p ++ (58 ∷ [])))
         ∙ sym (append-nil ((p ++ (58 ∷ [])) ++ []))
-        ∙ ap (λ (m : List ℕ). ((p ++ (58 ∷ [])) ++ []) ++ m) (sym (empty-is r e))
+        ∙ ap (λ (m : List ℕ). ((p ++ (58 ∷ [])) ++ []) ++ m) (sym (empty_is r e))
         ∙ h))
-long-read w l r (p ∷ q ∷ ps) h = tt
+long_read w l r (p ∷ q ∷ ps) h = tt
 
 long_sound : (w : ℕ) (l : List ℕ) → Reads w (l ∷ []) (read_long w l)
 unfolding read_long
@@ -82,7 +82,7 @@ long_sound w [] = tt
 long_sound w (b ∷ l) = go (eqb b 58) refl
   where
     go : (x : Bool) → eqb b 58 ≡ x → Reads w ((b ∷ l) ∷ []) (cond x (long_of w (rest 58 l) (pieces 58 l)) none)
-    go true e = rw (eqb-true b 58 e) (long-read w l (rest 58 l) (pieces 58 l) (split_joined 58 l))
+    go true e = rw (eqb-true b 58 e) (long_read w l (rest 58 l) (pieces 58 l) (split_joined 58 l))
     go false e = tt
 
 -- a first line
@@ -148,19 +148,19 @@ pub strips_complete : (ss : List (List ℕ)) → all (is_free 124) ss ≡ true �
 unfolding strips_of pieces rest
 strips_complete ss h =
     let p : pieces 124 (joined (ended_by 124) ss) ≡ ss =
-    ap (pieces 124) (sym (append-nil (joined (ended_by 124) ss))) ∙ pieces-joined 124 ss [] h ∙ append-nil ss in
+    ap (pieces 124) (sym (append-nil (joined (ended_by 124) ss))) ∙ pieces_joined 124 ss [] h ∙ append-nil ss in
     let q : rest 124 (joined (ended_by 124) ss) ≡ [] =
-    ap (rest 124) (sym (append-nil (joined (ended_by 124) ss))) ∙ rest-joined 124 ss [] h in
+    ap (rest 124) (sym (append-nil (joined (ended_by 124) ss))) ∙ rest_joined 124 ss [] h in
     rw (p, q) refl
 
 -- what a drawn bit row keeps
 abbrev pub is_tall : List (List (List ℕ)) → Bool
 is_tall lines = between 1 (length lines) row_lines_most
 
-pub drawn-sum : (w : ℕ) (bits : List ℕ) (lines : List (List (List ℕ))) → is_drawn_row row_lines_most w (bit_row bits
+pub drawn_sum : (w : ℕ) (bits : List ℕ) (lines : List (List (List ℕ))) → is_drawn_row row_lines_most w (bit_row bits
     lines) ≡ true
     → eqb (sum (λ n. n) bits) w ≡ true
-drawn-sum w bits lines h = and_left (eqb (sum (λ n. n) bits) w) (is_tall lines && all (are_fitted bits) lines) h
+drawn_sum w bits lines h = and_left (eqb (sum (λ n. n) bits) w) (is_tall lines && all (are_fitted bits) lines) h
 
 pub drawn_tall : (w : ℕ) (bits : List ℕ) (lines : List (List (List ℕ))) → is_drawn_row row_lines_most w (bit_row bits
     lines) ≡ true
@@ -175,20 +175,20 @@ drawn_fitted w bits lines h = and_right (is_tall lines) (all (are_fitted bits) l
     (and_right (eqb (sum (λ n. n) bits) w) (is_tall lines && all (are_fitted bits) lines) h)
 
 -- the first lines of a drawn row are one
-pub drawn-front : (w : ℕ) (bits : List ℕ) (l : List (List ℕ)) (front more : List (List (List ℕ)))
+pub drawn_front : (w : ℕ) (bits : List ℕ) (l : List (List ℕ)) (front more : List (List (List ℕ)))
     → is_drawn_row row_lines_most w (bit_row bits (l ∷ (front ++ more))) ≡ true → is_drawn_row row_lines_most w (bit_row bits
     (l ∷ front)) ≡ true
-drawn-front w bits l front more h =
+drawn_front w bits l front more h =
     let n = length-append front more in
     let t = leb-true (suc (length (front ++ more))) row_lines_most
     (and_right (leb 1 (suc (length (front ++ more)))) _ (drawn_tall w bits (l ∷ (front ++ more)) h)) in
     and_both (eqb (sum (λ n. n) bits) w) (is_tall (l ∷ front) && all (are_fitted bits) (l ∷ front))
-    (drawn-sum w bits (l ∷ (front ++ more)) h)
+    (drawn_sum w bits (l ∷ (front ++ more)) h)
     (and_both (is_tall (l ∷ front)) (all (are_fitted bits) (l ∷ front))
     (and_both (leb 1 (suc (length front))) (leb (suc (length front)) row_lines_most)
     (le-leb 1 (suc (length front)) (omega arith))
     (le-leb (suc (length front)) row_lines_most (omega (arith, n, t))))
-    (all-front (are_fitted bits) (l ∷ front) more (drawn_fitted w bits (l ∷ (front ++ more)) h)))
+    (all_front (are_fitted bits) (l ∷ front) more (drawn_fitted w bits (l ∷ (front ++ more)) h)))
 
 pub row_first : (w : ℕ) (bits : List ℕ) (ss : List (List ℕ)) → is_drawn_row row_lines_most w (bit_row bits (ss ∷ [])) ≡ true
     → read_row w (bar_line ss) ≡ some (bit_row bits (ss ∷ []))
@@ -197,14 +197,14 @@ row_first w bits ss h =
     let f : are_fitted bits ss ≡ true = and_left (are_fitted bits ss) true (drawn_fitted w bits (ss ∷ []) h) in
     rw (strips_complete ss (strips_free bits ss f), strips_bits bits ss f, h) refl
 
-pub row-long : (w n : ℕ) (s : List ℕ) → is_drawn_row row_lines_most w (long_row n s) ≡ true
+pub row_long : (w n : ℕ) (s : List ℕ) → is_drawn_row row_lines_most w (long_row n s) ≡ true
     → read_row w (58 ∷ (s ++ (58 ∷ []))) ≡ some (long_row n s)
 unfolding read_row row_of keep_row read_long long_of strips_of pieces rest
-row-long w n s h =
+row_long w n s h =
     let f : is_fitted 58 n s ≡ true = and_right (eqb n w) (is_fitted 58 n s) h in
     let g = fitted_free 58 n s f in
-    let p : pieces 58 (s ++ (58 ∷ [])) ≡ s ∷ [] = pieces-cons 58 s [] g in
-    let q : rest 58 (s ++ (58 ∷ [])) ≡ [] = rest-cons 58 s [] g in
+    let p : pieces 58 (s ++ (58 ∷ [])) ≡ s ∷ [] = pieces_cons 58 s [] g in
+    let q : rest 58 (s ++ (58 ∷ [])) ≡ [] = rest_cons 58 s [] g in
     rw (p, q, fitted_bits 58 n s f, h) refl
 
 pub row_more : (w : ℕ) (bits : List ℕ) (lines : List (List (List ℕ))) (ss : List (List ℕ))
@@ -217,9 +217,9 @@ row_more w bits lines ss h =
     rw (strips_complete ss (strips_free bits ss f), h) refl
 
 -- a border is no line of a row
-pub border-ends : (w v : ℕ) (r : Row) → more_row w r (border v) ≡ none
+pub border_ends : (w v : ℕ) (r : Row) → more_row w r (border v) ≡ none
 unfolding more_row with_strips border tabulate strips_of
-border-ends w v r = rw (add-one (2 * v)) refl
+border_ends w v r = rw (add-one (2 * v)) refl
 
 -- ── a row's lines are lines ──
 
@@ -234,9 +234,9 @@ strips_line (n ∷ bits) (s ∷ ss) h =
     (fitted_line 124 n s (and_left (is_fitted 124 n s) (are_fitted bits ss) h)) refl)
     (strips_line bits ss (and_right (is_fitted 124 n s) (are_fitted bits ss) h))
 
-pub row-lines : (w : ℕ) (r : Row) → is_drawn_row row_lines_most w r ≡ true → all is_line (row_lines r) ≡ true
+pub row_lines_lem : (w : ℕ) (r : Row) → is_drawn_row row_lines_most w r ≡ true → all is_line (row_lines r) ≡ true
 unfolding all row_lines
-row-lines w (bit_row bits lines) h = go lines (drawn_fitted w bits lines h)
+row_lines_lem w (bit_row bits lines) h = go lines (drawn_fitted w bits lines h)
   where
     go : (lines : List (List (List ℕ))) → all (are_fitted bits) lines ≡ true → all is_line (map bar_line lines) ≡ true
     go [] h = refl
@@ -244,7 +244,7 @@ row-lines w (bit_row bits lines) h = go lines (drawn_fitted w bits lines h)
         and_both (is_line (bar_line ss)) (all is_line (map bar_line lines))
         (strips_line bits ss (and_left (are_fitted bits ss) (all (are_fitted bits) lines) h))
         (go lines (and_right (are_fitted bits ss) (all (are_fitted bits) lines) h))
-row-lines w (long_row n s) h =
+row_lines_lem w (long_row n s) h =
     and_both (is_line (58 ∷ (s ++ (58 ∷ [])))) true
     (all_append (λ b. not (eqb b 10)) s (58 ∷ [])
     (fitted_line 58 n s (and_right (eqb n w) (is_fitted 58 n s) h)) refl) refl

@@ -134,7 +134,7 @@ use Rattle.text_laws.specs.WrongPieces.{PieceClaim, ends, ClaimedOf, PiecesFalse
 use Rattle.rules.specs.PieceResults.{joined_text}
 use Rattle.text_laws.proofs.TextResults.{text_unique}
 use Rattle.text_laws.proofs.PieceLaws.{pieces_answered}
-use Rattle.text_laws.proofs.TextSeen.{forms_of, seen, outcome_of, outcome-is}
+use Rattle.text_laws.proofs.TextSeen.{forms_of, seen, outcome_of, outcome_is}
 
 -- ── another outcome than the one there is ──
 
@@ -148,7 +148,7 @@ is_other (reads text out r after) =
     not (same (numbers (leaves (of_text r) after)) (numbers (outcome_of (seen text) out)))
 
 ruled_out : (c : Claim) → is_other c ≡ true → Claimed c → ⊥
-ruled_out (reads text out r after) h p = other (outcome-is text out) h p
+ruled_out (reads text out r after) h p = other (outcome_is text out) h p
 
 -- ── what computes ──
 
@@ -187,7 +187,7 @@ computed = record { spelled = refl; barred = refl; others = refl; joint = refl }
 
 -- the outcomes of two texts
 known : (text out : List ℕ) (s : Answer ⊎ Description) → seen text ≡ s → ReadsText text out (outcome_of s out)
-known text out s e = subst (λ (r : Answer ⊎ Description). ReadsText text out (outcome_of r out)) e (outcome-is text out)
+known text out s e = subst (λ (r : Answer ⊎ Description). ReadsText text out (outcome_of r out)) e (outcome_is text out)
 
 pub tag_known : {out : List ℕ} → ReadsText tag_text out (delivered (stored tag) out)
 tag_known {out} = known tag_text out (inr tag) computed.spelled
@@ -196,8 +196,8 @@ pub barred_known : {out : List ℕ} → ReadsText (tag_lines 1 ++ (0x7F ∷ []))
 barred_known {out} = known barred_text out (inl (refused 2 0)) computed.barred
 
 -- each wrong program's answer is ruled out
-pub texts-ruled_out : AllFalse every_text
-texts-ruled_out =
+pub texts_ruled_out : AllFalse every_text
+texts_ruled_out =
     every_passes is_other ruled_out
     every_text
     computed.others
@@ -218,5 +218,5 @@ module _ (Of : List ℕ → List ℕ → Type 0) (fresh : List ℕ) where
     every_piece l (and_right (is_other (as_text c)) (all is_other (map as_text l)) h),
   )
 
-pub pieces-ruled_out : PiecesFalse wrong_pieces
-pieces-ruled_out Of fresh = every_piece Of fresh wrong_pieces computed.joint
+pub pieces_ruled_out : PiecesFalse wrong_pieces
+pieces_ruled_out Of fresh = every_piece Of fresh wrong_pieces computed.joint

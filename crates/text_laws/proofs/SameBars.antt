@@ -8,7 +8,7 @@ use lib.Dec.{eqb}
 use lib.ListN.{length}
 use borrow.Author.Tests.{eqb-true, eq-eqb}
 use Rattle.base.specs.Lists.{all, joined}
-use Rattle.base.proofs.Lists.{and_left, and_right, and_both, all-front, all_back, not-both}
+use Rattle.base.proofs.Lists.{and_left, and_right, and_both, all_front, all_back, not_both}
 use Rattle.rules.specs.Rows.{bar_line, is_fitted, are_fitted}
 use Rattle.rules.specs.Frames.{is_line}
 use Rattle.text_laws.specs.Bars.{alike, same_bars}
@@ -26,7 +26,7 @@ record Cut (n : ℕ) (rest l : List ℕ) : Type 0 where
 
 bars_cut : (s rest l : List ℕ) → is_free 124 s ≡ true → same_bars (s ++ (124 ∷ rest)) l ≡ true → Cut (length s) rest l
 unfolding same_bars all
-bars_cut [] rest [] f h = absurd (not-both false h refl)
+bars_cut [] rest [] f h = absurd (not_both false h refl)
 bars_cut [] rest (b ∷ l) f h = go (eqb b 124) refl h
   where
     go : (x : Bool) → eqb b 124 ≡ x → (alike true x && same_bars rest l) ≡ true → Cut 0 rest (b ∷ l)
@@ -38,15 +38,15 @@ bars_cut [] rest (b ∷ l) f h = go (eqb b 124) refl h
       free = refl;
       bars = k;
     }
-    go false e k = absurd (not-both false k refl)
-bars_cut (a ∷ s) rest [] f h = absurd (not-both false h refl)
+    go false e k = absurd (not_both false k refl)
+bars_cut (a ∷ s) rest [] f h = absurd (not_both false h refl)
 bars_cut (a ∷ s) rest (b ∷ l) f h =
     go (eqb b 124) refl (subst (λ (x : Bool). (alike x (eqb b 124) && same_bars (s ++ (124 ∷ rest)) l) ≡ true)
     (other 124 a s f) h) (bars_cut s rest l (others 124 a s f))
   where
     go : (x : Bool) → eqb b 124 ≡ x → (alike false x && same_bars (s ++ (124 ∷ rest)) l) ≡ true
         → (same_bars (s ++ (124 ∷ rest)) l ≡ true → Cut (length s) rest l) → Cut (suc (length s)) rest (b ∷ l)
-    go true e k r = absurd (not-both false k refl)
+    go true e k r = absurd (not_both false k refl)
     go false e k r =
         let w = r k in
         record {
@@ -66,9 +66,9 @@ strips_fit : (bits : List ℕ) (ss : List (List ℕ)) (l : List ℕ) → are_fit
     → (ts : List (List ℕ)) × (l ≡ joined (ended_by 124) ts) × (are_fitted bits ts ≡ true)
 unfolding are_fitted joined
 strips_fit [] [] [] f h k = ([], refl, refl)
-strips_fit [] [] (b ∷ l) f h k = absurd (unfold same_bars in not-both false k refl)
-strips_fit [] (s ∷ ss) l f h k = absurd (not-both false f refl)
-strips_fit (n ∷ bits) [] l f h k = absurd (not-both false f refl)
+strips_fit [] [] (b ∷ l) f h k = absurd (unfold same_bars in not_both false k refl)
+strips_fit [] (s ∷ ss) l f h k = absurd (not_both false f refl)
+strips_fit (n ∷ bits) [] l f h k = absurd (not_both false f refl)
 strips_fit (n ∷ bits) (s ∷ ss) l f h k =
     let fs = and_left (is_fitted 124 n s) (are_fitted bits ss) f in
     let size = eqb-true (length s + 1) (2 * n) (and_left (eqb (length s + 1) (2 * n)) _ fs) in
@@ -80,7 +80,7 @@ strips_fit (n ∷ bits) (s ∷ ss) l f h k =
     and_both (eqb (length w.front + 1) (2 * n)) _
     (eq-eqb (length w.front + 1) (2 * n) (let z = w.size in omega (arith, z, size)))
     (and_both (is_free 124 w.front) (is_free 10 w.front) w.free
-    (all-front (λ b. not (eqb b 10)) w.front (124 ∷ w.back) line)) in
+    (all_front (λ b. not (eqb b 10)) w.front (124 ∷ w.back) line)) in
     let r = strips_fit bits ss w.back (and_right (is_fitted 124 n s) (are_fitted bits ss) f)
     (others 10 124 w.back (all_back (λ b. not (eqb b 10)) w.front (124 ∷ w.back) line)) w.bars in (
       w.front ∷ r.0,
@@ -122,10 +122,10 @@ strips_bars : (bits : List ℕ) (ss ts : List (List ℕ)) → are_fitted bits ss
     → same_bars (joined (ended_by 124) ss) (joined (ended_by 124) ts) ≡ true
 unfolding are_fitted joined
 strips_bars [] [] [] f g = unfold same_bars in refl
-strips_bars [] (s ∷ ss) ts f g = absurd (not-both false f refl)
-strips_bars [] [] (t ∷ ts) f g = absurd (not-both false g refl)
-strips_bars (n ∷ bits) [] ts f g = absurd (not-both false f refl)
-strips_bars (n ∷ bits) (s ∷ ss) [] f g = absurd (not-both false g refl)
+strips_bars [] (s ∷ ss) ts f g = absurd (not_both false f refl)
+strips_bars [] [] (t ∷ ts) f g = absurd (not_both false g refl)
+strips_bars (n ∷ bits) [] ts f g = absurd (not_both false f refl)
+strips_bars (n ∷ bits) (s ∷ ss) [] f g = absurd (not_both false g refl)
 strips_bars (n ∷ bits) (s ∷ ss) (t ∷ ts) f g =
     let a = and_left (is_fitted 124 n s) (are_fitted bits ss) f in
     let b = and_left (is_fitted 124 n t) (are_fitted bits ts) g in

@@ -9,7 +9,7 @@ use lib.Dec.{leb, ltb}
 use lib.ListN.{length}
 use Rattle.base.specs.Bytes.{bytes}
 use Rattle.base.specs.Lists.{all, same, is_empty, is_none, first_break}
-use Rattle.base.proofs.Lists.{not-both}
+use Rattle.base.proofs.Lists.{not_both}
 use Rattle.rules.specs.Answers.{Answer, refused}
 use Rattle.rules.specs.Limits.{line_most, fields_most}
 use Rattle.rules.specs.Fields.{Form}
@@ -28,19 +28,19 @@ use Rattle.text_laws.specs.Fold.{onward, losing, blamed, wrong, expect, opening_
 use Rattle.text_laws.specs.Fold.{with_row, with_cells, on_more, with_more, brief_field, with_field, lined_at, lined}
 use Rattle.text_laws.specs.Fold.{is_lost, cut}
 use Rattle.text_laws.specs.Steady.{Clear, is_head, row_goes, Steady}
-use Rattle.text_laws.proofs.Bounds.{small-losing, small_line, small-start}
+use Rattle.text_laws.proofs.Bounds.{small_losing, small_line, small_start}
 use Rattle.text_laws.proofs.Faces.{renamed_face}
-use Rattle.text_laws.proofs.Loose.{lower-left, faces-append}
+use Rattle.text_laws.proofs.Loose.{lower_left, faces_append}
 use Rattle.text_laws.proofs.Lowests.{break_more}
 
 -- ── where nothing was refused, no name is repeated ──
 
 -- a line that breaks no rule keeps 8 and 9
-pub rules-clear : (cells : List Slot) (p : ℕ) (before : List Form) (x : Form)
+pub rules_clear : (cells : List Slot) (p : ℕ) (before : List Form) (x : Form)
     → broken 6 p (rules cells) before x ≡ none
     → (keeps_names before x ≡ true) × (keeps_types name_readable before x ≡ true)
 unfolding broken
-rules-clear cells p before x h =
+rules_clear cells p before x h =
     go (keeps_size before x) (shows_cell cells before x) (keeps_names before x) refl
     (keeps_types name_readable before x) refl
     (keeps_rest before x) h
@@ -55,23 +55,23 @@ rules-clear cells p before x h =
     go true false c q d r e k = absurd (none-ne-some (refused 7 p) (sym k))
     go false b c q d r e k = absurd (none-ne-some (refused 6 p) (sym k))
 
-pub lower-right : (a b : Option Answer) → lower a b ≡ none → b ≡ none
-lower-right none b e = e
-lower-right (some a) b e = absurd (none-ne-some a (sym (lower-left (some a) b e)))
+pub lower_right : (a b : Option Answer) → lower a b ≡ none → b ≡ none
+lower_right none b e = e
+lower_right (some a) b e = absurd (none-ne-some a (sym (lower_left (some a) b e)))
 
 -- one more name that repeats none
 pub unique_more : (before : List Form) (x : Form) → first_break keeps_names [] before ≡ none → keeps_names before x ≡ true
     → first_break keeps_names [] (before ++ (x ∷ [])) ≡ none
 unique_more before x h k = rw (break_more keeps_names before x, h, k) refl
 
-clear-form : (cells : List Slot) (p : ℕ) (j : Judged) (o : Option Form) → Clear j → Clear (with_form cells p j o)
+clear_form : (cells : List Slot) (p : ℕ) (j : Judged) (o : Option Form) → Clear j → Clear (with_form cells p j o)
 unfolding with_form
-clear-form cells p j none h = λ e. h (lower-left j.lowest (some (refused 5 p)) e)
-clear-form cells p j (some x) h = λ e.
+clear_form cells p j none h = λ e. h (lower_left j.lowest (some (refused 5 p)) e)
+clear_form cells p j (some x) h = λ e.
     let b = broken 6 p (rules cells) (faces j.fields) x in
-    let k = rules-clear cells p (faces j.fields) x (lower-right j.lowest b e) in
-    let u = unique_more (faces j.fields) x (h (lower-left j.lowest b e)) k.0 in
-    rw e (ap (first_break keeps_names []) (faces-append j.fields (resolved_in j.fields x)
+    let k = rules_clear cells p (faces j.fields) x (lower_right j.lowest b e) in
+    let u = unique_more (faces j.fields) x (h (lower_left j.lowest b e)) k.0 in
+    rw e (ap (first_break keeps_names []) (faces_append j.fields (resolved_in j.fields x)
     ∙ ap (λ (y : Form). faces j.fields ++ (y ∷ [])) (renamed_face (index_of (faces j.fields ++ (x ∷ []))) x))
     ∙ face_unique (faces j.fields) x u)
   where
@@ -79,13 +79,13 @@ clear-form cells p j (some x) h = λ e.
         → first_break keeps_names [] (before ++ (face y ∷ [])) ≡ none
     face_unique before y u = break_more keeps_names before (face y) ∙ sym (break_more keeps_names before y) ∙ u
 
-clear-judge : (cells : List Slot) (p : ℕ) (j : Judged) (l : List ℕ) → Clear j → Clear (judge cells p j l)
+clear_judge : (cells : List Slot) (p : ℕ) (j : Judged) (l : List ℕ) → Clear j → Clear (judge cells p j l)
 unfolding judge
-clear-judge cells p j l h = go (is_full j)
+clear_judge cells p j l h = go (is_full j)
   where
     go : (b : Bool) → Clear (cond b (many j) (with_form cells p j (read_form l)))
     go true = λ e. absurd (none-ne-some (refused 4 0) (sym e))
-    go false = clear-form cells p j (read_form l) h
+    go false = clear_form cells p j (read_form l) h
 
 -- ── a line ──
 
@@ -95,7 +95,7 @@ Stays f = Clear f.judged × (is_head f.stage ≡ true → f.judged.fields ≡ []
 
 module _ (f : Found) (clear : Clear f.judged) where
   stays_losing : (a : Answer) → Stays (losing a f)
-  stays_losing a = (λ e. absurd (none-ne-some a (sym e)), λ e. absurd (not-both false e refl))
+  stays_losing a = (λ e. absurd (none-ne-some a (sym e)), λ e. absurd (not_both false e refl))
 
   stays_wrong : Stays (wrong f)
   stays_wrong = stays_losing (refused 3 (blamed f.row f.lines))
@@ -154,8 +154,8 @@ module _ (f : Found) (clear : Clear f.judged) where
     where
       go : (b : Bool) → Stays (cond b (brief_field f l) (wrong f))
       go true = (
-        clear-judge f.cells (suc f.lines) f.judged l clear,
-        λ e. absurd (not-both false e refl),
+        clear_judge f.cells (suc f.lines) f.judged l clear,
+        λ e. absurd (not_both false e refl),
       )
       go false = stays_wrong
 
@@ -182,9 +182,9 @@ abbrev Goes : Found → Type 0
 Goes f = row_goes f.stage f.row ≡ true
 
 module _ (f : Found) where
-  goes-row : (o : Option Row) → Goes (with_row f o)
-  goes-row none = refl
-  goes-row (some r) = refl
+  goes_row : (o : Option Row) → Goes (with_row f o)
+  goes_row none = refl
+  goes_row (some r) = refl
 
   goes_on : (w : ℕ) (r : Row) (l : List ℕ) (o : Option Row) → Goes (on_more f w r l o)
   goes_on w r l (some x) = refl
@@ -195,84 +195,84 @@ module _ (f : Found) where
       go true false = refl
       go false b = refl
 
-  goes-more : (l : List ℕ) (o : Option Row) → Goes (with_more f l o)
-  goes-more l none = refl
-  goes-more l (some r) = goes_on f.width r l (more_row f.width r l)
+  goes_more : (l : List ℕ) (o : Option Row) → Goes (with_more f l o)
+  goes_more l none = refl
+  goes_more l (some r) = goes_on f.width r l (more_row f.width r l)
 
   module _ (no_row : is_none f.row ≡ true) where
-    goes-expect : (w : List ℕ) (s : Stage) (l : List ℕ) → row_goes s f.row ≡ is_none f.row → Goes (expect w s f l)
-    goes-expect w s l e = go (same l w)
+    goes_expect : (w : List ℕ) (s : Stage) (l : List ℕ) → row_goes s f.row ≡ is_none f.row → Goes (expect w s f l)
+    goes_expect w s l e = go (same l w)
       where
         go : (b : Bool) → Goes (cond b (onward s f) (wrong f))
         go true = e ∙ no_row
         go false = refl
 
-    goes-name : (o : Option (List ℕ)) → Goes (with_name f o)
-    goes-name none = refl
-    goes-name (some n) = no_row
+    goes_name : (o : Option (List ℕ)) → Goes (with_name f o)
+    goes_name none = refl
+    goes_name (some n) = no_row
 
-    goes-width : (o : Option ℕ) → Goes (with_width f o)
-    goes-width none = refl
-    goes-width (some w) = refl
+    goes_width : (o : Option ℕ) → Goes (with_width f o)
+    goes_width none = refl
+    goes_width (some w) = refl
 
     goes_blank : (l : List ℕ) → Goes (cond (is_empty l) (onward where_line f) (with_row f (read_row f.width l)))
     goes_blank l = go (is_empty l)
       where
         go : (b : Bool) → Goes (cond b (onward where_line f) (with_row f (read_row f.width l)))
         go true = no_row
-        go false = goes-row (read_row f.width l)
+        go false = goes_row (read_row f.width l)
 
-    goes-field : (l : List ℕ) → Goes (with_field f l)
-    goes-field l = go (leb (length l) line_most)
+    goes_field : (l : List ℕ) → Goes (with_field f l)
+    goes_field l = go (leb (length l) line_most)
       where
         go : (b : Bool) → Goes (cond b (brief_field f l) (wrong f))
         go true = no_row
         go false = refl
 
-goes-line : (s : Stage) (f : Found) (l : List ℕ) → row_goes s f.row ≡ true → Goes f → Goes (lined_at s f l)
+goes_line : (s : Stage) (f : Found) (l : List ℕ) → row_goes s f.row ≡ true → Goes f → Goes (lined_at s f l)
 unfolding lined_at
-goes-line opening f l h k = goes-name f h (opening_name l)
-goes-line blank f l h k = goes-expect f h [] tens_ruler l refl
-goes-line tens_ruler f l h k = goes-width f h (read_tens l)
-goes-line units_ruler f l h k = goes-expect f h (units f.width) top_border l refl
-goes-line top_border f l h k = goes-expect f h (border f.width) first_row l refl
-goes-line first_row f l h k = goes-row f (read_row f.width l)
-goes-line in_row f l h k = goes-more f l f.row
-goes-line row_or_blank f l h k = goes_blank f h l
-goes-line where_line f l h k = goes-expect f h (bytes "where:") last_blank l refl
-goes-line last_blank f l h k = goes-expect f h [] first_field l refl
-goes-line first_field f l h k = goes-field f h l
-goes-line field_line f l h k = goes-field f h l
-goes-line lost f l h k = k
+goes_line opening f l h k = goes_name f h (opening_name l)
+goes_line blank f l h k = goes_expect f h [] tens_ruler l refl
+goes_line tens_ruler f l h k = goes_width f h (read_tens l)
+goes_line units_ruler f l h k = goes_expect f h (units f.width) top_border l refl
+goes_line top_border f l h k = goes_expect f h (border f.width) first_row l refl
+goes_line first_row f l h k = goes_row f (read_row f.width l)
+goes_line in_row f l h k = goes_more f l f.row
+goes_line row_or_blank f l h k = goes_blank f h l
+goes_line where_line f l h k = goes_expect f h (bytes "where:") last_blank l refl
+goes_line last_blank f l h k = goes_expect f h [] first_field l refl
+goes_line first_field f l h k = goes_field f h l
+goes_line field_line f l h k = goes_field f h l
+goes_line lost f l h k = k
 
-pub steady-line : (f : Found) (l : List ℕ) → Steady f → Steady (lined f l)
-steady-line f l h =
+pub steady_line : (f : Found) (l : List ℕ) → Steady f → Steady (lined f l)
+steady_line f l h =
     let s = stays_line f.stage f l h.clear h.head h.head in
     record {
       small = small_line f.stage f l h.small;
       clear = s.0;
       head = s.1;
-      row = goes-line f.stage f l h.row h.row;
+      row = goes_line f.stage f l h.row h.row;
     }
 
 -- a refusal by 1, 2 or 3
-pub steady-losing : (a : Answer) (f : Found) → Steady f → Steady (losing a f)
-steady-losing a f h =
+pub steady_losing : (a : Answer) (f : Found) → Steady f → Steady (losing a f)
+steady_losing a f h =
     let s = stays_losing f h.clear a in
-    record { small = small-losing a f h.small; clear = s.0; head = s.1; row = refl }
+    record { small = small_losing a f h.small; clear = s.0; head = s.1; row = refl }
 
 -- a line that is cut
-pub steady-cut : (f : Found) → Steady f → Steady (cut f)
-steady-cut f h = go (is_lost f.stage)
+pub steady_cut : (f : Found) → Steady f → Steady (cut f)
+steady_cut f h = go (is_lost f.stage)
   where
     go : (b : Bool) → Steady (cond b f (wrong f))
     go true = h
-    go false = steady-losing (refused 3 (blamed f.row f.lines)) f h
+    go false = steady_losing (refused 3 (blamed f.row f.lines)) f h
 
-pub steady-start : Steady start
+pub steady_start : Steady start
 unfolding all first_break
-steady-start = record {
-  small = small-start;
+steady_start = record {
+  small = small_start;
   clear = λ e. refl;
   head = λ e. refl;
   row = refl;
@@ -282,16 +282,16 @@ steady-start = record {
 
 pub none_is : (o : Option Row) → is_none o ≡ true → o ≡ none
 none_is none k = refl
-none_is (some r) k = absurd (not-both false k refl)
+none_is (some r) k = absurd (not_both false k refl)
 
 pub no_row : {f : Found} (s : Stage) → Steady f → f.stage ≡ s → ((o : Option Row) → row_goes s o ≡ is_none o)
     → f.row ≡ none
 no_row {f} s h e g =
     none_is f.row (sym (g f.row) ∙ subst (λ (z : Stage). row_goes z f.row ≡ true) e h.row)
 
-pub some-row : {f : Found} → Steady f → f.stage ≡ in_row → (r : Row) × (f.row ≡ some r)
-some-row {f} h e = some_is f.row (subst (λ (z : Stage). row_goes z f.row ≡ true) e h.row)
+pub some_row : {f : Found} → Steady f → f.stage ≡ in_row → (r : Row) × (f.row ≡ some r)
+some_row {f} h e = some_is f.row (subst (λ (z : Stage). row_goes z f.row ≡ true) e h.row)
   where
     some_is : (o : Option Row) → not (is_none o) ≡ true → (r : Row) × (o ≡ some r)
-    some_is none k = absurd (not-both false k refl)
+    some_is none k = absurd (not_both false k refl)
     some_is (some r) k = (r, refl)

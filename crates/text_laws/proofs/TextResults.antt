@@ -11,14 +11,14 @@ use Rattle.text_laws.proofs.FormExact.{form_unique}
 use Rattle.text_laws.proofs.FrameExact.{frame_unique}
 use Rattle.text_laws.proofs.FramePlace.{place_unique}
 use Rattle.text_laws.proofs.Answered as Answered
-use Rattle.text_laws.proofs.TextSeen.{seen, outcome_of, outcome-is}
+use Rattle.text_laws.proofs.TextSeen.{seen, outcome_of, outcome_is}
 use Rattle.rules.specs.Answers.{of_text}
 
 pub spelling_unique : SpellingUnique
 spelling_unique = Answered.spelling_unique frame_unique form_unique place_unique
 
-pub text-total : TextTotal
-text-total text out = (outcome_of (seen text) out, outcome-is text out)
+pub text_total : TextTotal
+text_total text out = (outcome_of (seen text) out, outcome_is text out)
 
 pub text_unique : TextUnique
 text_unique = Answered.text_unique frame_unique form_unique place_unique

@@ -25,10 +25,10 @@ use Rattle.rules.specs.Promises.{Outcome, leaves, delivered, ReadsText, spelled,
 use Rattle.text_laws.specs.LineReader.{read_form}
 use Rattle.text_laws.specs.FrameReader.{right_lines, read_frame, place_of}
 use Rattle.text_laws.specs.Resolving.{described}
-use Rattle.text_laws.proofs.FormExact.{form_sound, form-complete}
-use Rattle.text_laws.proofs.FrameExact.{frame_sound, frame-none}
-use Rattle.text_laws.proofs.FrameRight.{right-lines}
-use Rattle.text_laws.proofs.FramePlace.{place-right}
+use Rattle.text_laws.proofs.FormExact.{form_sound, form_complete}
+use Rattle.text_laws.proofs.FrameExact.{frame_sound, frame_none}
+use Rattle.text_laws.proofs.FrameRight.{right_lines_lem}
+use Rattle.text_laws.proofs.FramePlace.{place_right}
 use Rattle.text_laws.proofs.Resolve.{resolved_spells}
 
 -- ── the forms of lines ──
@@ -64,7 +64,7 @@ one_more e l ls (some x) (inl i) h p = record {
 one_more e l ls (some x) (inr xs) h p = (h, p)
 
 pub line_read : (l : List ℕ) (o : Option Form) → read_form l ≡ o → LineIn current l o
-line_read l none e = λ x p. none-ne-some x (sym e ∙ form-complete l x p)
+line_read l none e = λ x p. none-ne-some x (sym e ∙ form_complete l x p)
 line_read l (some x) e = form_sound l x e
 
 formed : (ls : List (List ℕ)) → FormedIn current ls (forms_of ls)
@@ -107,39 +107,39 @@ abbrev pub Seen : List ℕ → Answer ⊎ Description → Type 0
 Seen text (inl a) = Refuses text a
 Seen text (inr d) = (length text ≤ text_most) × Spells text d
 
-rules-seen : (text : List ℕ) (f : Frame) (forms : List Form) → Framed text f
+rules_seen : (text : List ℕ) (f : Frame) (forms : List Form) → Framed text f
     → Each (SpellsField Unresolved) forms f.lines → (o : Option Answer) → rule_broken f forms ≡ o
     → Seen text (by_rules f forms o)
-rules-seen text f forms p h (some a) e = rule forms p h e
-rules-seen text f forms p h none e =
+rules_seen text f forms p h (some a) e = rule forms p h e
+rules_seen text f forms p h none e =
     (p.plain.size, resolved_spells text f forms p.is_frame_of p.few h e)
 
-forms-seen : (text : List ℕ) (f : Frame) → Framed text f → (r : ℕ ⊎ List Form) → FormedIn current f.lines r
+forms_seen : (text : List ℕ) (f : Frame) → Framed text f → (r : ℕ ⊎ List Form) → FormedIn current f.lines r
     → Seen text (by_forms f r)
-forms-seen text f p (inl i) h = form p h
-forms-seen text f p (inr forms) h = rules-seen text f forms p h (rule_broken f forms) refl
+forms_seen text f p (inl i) h = form p h
+forms_seen text f p (inr forms) h = rules_seen text f forms p h (rule_broken f forms) refl
 
-count-seen : (text : List ℕ) (f : Frame) → Plain text → FrameOf text f → (b : Bool) → is_overfull f ≡ b
+count_seen : (text : List ℕ) (f : Frame) → Plain text → FrameOf text f → (b : Bool) → is_overfull f ≡ b
     → Seen text (by_count f b)
-count-seen text f p h true e = many p h e
-count-seen text f p h false e =
-    forms-seen text f (record { plain = p; is_frame_of = h; few = e }) (forms_of f.lines) (formed f.lines)
+count_seen text f p h true e = many p h e
+count_seen text f p h false e =
+    forms_seen text f (record { plain = p; is_frame_of = h; few = e }) (forms_of f.lines) (formed f.lines)
 
-frame-seen : (text : List ℕ) → Plain text → (o : Option Frame) → read_frame text ≡ o → Seen text (by_frame text o)
-frame-seen text p none e =
-    let r = right-lines text in
-    subst (λ (n : ℕ). Refuses text (refused 3 n)) (place-right text (right_lines text) r)
-    (line p (frame-none text e) r)
-frame-seen text p (some f) e = count-seen text f p (frame_sound text f e) (is_overfull f) refl
+frame_seen : (text : List ℕ) → Plain text → (o : Option Frame) → read_frame text ≡ o → Seen text (by_frame text o)
+frame_seen text p none e =
+    let r = right_lines_lem text in
+    subst (λ (n : ℕ). Refuses text (refused 3 n)) (place_right text (right_lines text) r)
+    (line p (frame_none text e) r)
+frame_seen text p (some f) e = count_seen text f p (frame_sound text f e) (is_overfull f) refl
 
-bytes-seen : (text : List ℕ) → length text ≤ text_most → (b : Bool) → all is_allowed text ≡ b
+bytes_seen : (text : List ℕ) → length text ≤ text_most → (b : Bool) → all is_allowed text ≡ b
     → Seen text (by_bytes text b)
-bytes-seen text le true e = frame-seen text (record { size = le; bytes = e }) (read_frame text) refl
-bytes-seen text le false e = byte le e
+bytes_seen text le true e = frame_seen text (record { size = le; bytes = e }) (read_frame text) refl
+bytes_seen text le false e = byte le e
 
 length_seen : (text : List ℕ) (b : Bool) → ltb text_most (length text) ≡ b → Seen text (by_length text b)
 length_seen text true e = long (ltb-true text_most (length text) e)
-length_seen text false e = bytes-seen text (ltb-false text_most (length text) e) (all is_allowed text) refl
+length_seen text false e = bytes_seen text (ltb-false text_most (length text) e) (all is_allowed text) refl
 
 pub is_seen : (text : List ℕ) → Seen text (seen text)
 unfolding seen
@@ -151,9 +151,9 @@ abbrev pub outcome_of : Answer ⊎ Description → List ℕ → Outcome
 outcome_of (inl a) out = leaves a out
 outcome_of (inr d) out = delivered (stored d) out
 
-outcome-seen : (text out : List ℕ) (s : Answer ⊎ Description) → Seen text s → ReadsText text out (outcome_of s out)
-outcome-seen text out (inl a) p = refuses p
-outcome-seen text out (inr d) p = spelled p.0 p.1
+outcome_seen : (text out : List ℕ) (s : Answer ⊎ Description) → Seen text s → ReadsText text out (outcome_of s out)
+outcome_seen text out (inl a) p = refuses p
+outcome_seen text out (inr d) p = spelled p.0 p.1
 
-pub outcome-is : (text out : List ℕ) → ReadsText text out (outcome_of (seen text) out)
-outcome-is text out = outcome-seen text out (seen text) (is_seen text)
+pub outcome_is : (text out : List ℕ) → ReadsText text out (outcome_of (seen text) out)
+outcome_is text out = outcome_seen text out (seen text) (is_seen text)

@@ -23,10 +23,10 @@ cut_low n (bit_row bits lines) lt =
     (omega (arith, a, c), omega (arith, a, b, c))
 cut_low n (long_row bits s) lt = (omega (arith, lt), omega arith)
 
-rows-low : (k n m : ℕ) (rows : List Row) → m ≤ n → or_behind k (unlabelled_line m (rows_within k n rows)) ≤ suc k
+rows_low : (k n m : ℕ) (rows : List Row) → m ≤ n → or_behind k (unlabelled_line m (rows_within k n rows)) ≤ suc k
 unfolding rows_within unlabelled_line
-rows-low k n m [] le = omega arith
-rows-low k n m (r ∷ rows) le = go (ltb n k) refl (λ i. rows-low k (n + suc (length (row_lines r))) i rows)
+rows_low k n m [] le = omega arith
+rows_low k n m (r ∷ rows) le = go (ltb n k) refl (λ i. rows_low k (n + suc (length (row_lines r))) i rows)
   where
     row : Row
     row = cut_row (k - n) r
@@ -48,5 +48,5 @@ rows-low k n m (r ∷ rows) le = go (ltb n k) refl (λ i. rows-low k (n + suc (l
         on true = f (m + suc (length (row_lines row))) (omega (arith, le, low.1))
         on false = let lt = ltb-true n k e in omega (arith, le, lt, low.0)
 
-pub wrong-low : (k : ℕ) (f : Frame) → wrong_line k f ≤ suc k
-wrong-low k f = rows-low k 5 5 f.rows (omega arith)
+pub wrong_low : (k : ℕ) (f : Frame) → wrong_line k f ≤ suc k
+wrong_low k f = rows_low k 5 5 f.rows (omega arith)

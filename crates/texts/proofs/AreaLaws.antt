@@ -22,7 +22,7 @@ use Rattle.texts.specs.HeldAreas.{
 use Rattle.texts.specs.HeldAreas.{label_bytes, table_bytes}
 use Rattle.texts.specs.States.{area, Holds, HoldsIn}
 use Rattle.texts.specs.declared.states.Reading.{Reading}
-use Rattle.texts.proofs.NameAreas.{entries-length}
+use Rattle.texts.proofs.NameAreas.{entries_length}
 
 -- ── a part of a list ──
 
@@ -80,74 +80,74 @@ areas_after a b c n l = record {
   table_is = b.table_is;
 }
 
-area-long : (held : List ℕ) (a n : ℕ) → a + n ≤ length held → length (take n (drop a held)) ≡ n
-area-long held a n le = length-take-le n (drop a held) (let m = length-drop a held in omega (arith, m))
+area_long : (held : List ℕ) (a n : ℕ) → a + n ≤ length held → length (take n (drop a held)) ≡ n
+area_long held a n le = length-take-le n (drop a held) (let m = length-drop a held in omega (arith, m))
 
-pub held-there : (held before : List ℕ) → length held ≡ length before → held_room ≤ length before
+pub held_there : (held before : List ℕ) → length held ≡ length before → held_room ≤ length before
     → held_room ≤ length held
-held-there held before e room = omega (arith, e, room)
+held_there held before e room = omega (arith, e, room)
 
 module _ (held : List ℕ) (room : held_room ≤ length held) where
-  pub cells-long : length (cell_bytes held) ≡ slots_most
-  cells-long = area-long held 0 slots_most (omega arith)
+  pub cells_long : length (cell_bytes held) ≡ slots_most
+  cells_long = area_long held 0 slots_most (omega arith)
 
-  pub names-long : length (name_bytes held) ≡ names_room
-  names-long = area-long held names_at names_room (omega arith)
+  pub names_long : length (name_bytes held) ≡ names_room
+  names_long = area_long held names_at names_room (omega arith)
 
-  pub labels-long : length (label_bytes held) ≡ labels_room
-  labels-long = area-long held labels_at labels_room (omega arith)
+  pub labels_long : length (label_bytes held) ≡ labels_room
+  labels_long = area_long held labels_at labels_room (omega arith)
 
-  pub table-long : length (table_bytes held) ≡ length held - table_at
-  table-long = length-drop table_at held
+  pub table_long : length (table_bytes held) ≡ length held - table_at
+  table_long = length-drop table_at held
 
   -- the table, lent as a part
   pub table_part : take (length held - table_at) (drop table_at held) ≡ table_bytes held
-  table_part = take_all (length held - table_at) (drop table_at held) (let n = table-long in omega (arith, n))
+  table_part = take_all (length held - table_at) (drop table_at held) (let n = table_long in omega (arith, n))
 
-  pub table-room : records_most ≤ length (table_bytes held)
-  table-room = let n = table-long in omega (arith, n)
+  pub table_room : records_most ≤ length (table_bytes held)
+  table_room = let n = table_long in omega (arith, n)
 
 module _ (held part : List ℕ) (room : held_room ≤ length held) where
-  pub cells-back : length part ≡ slots_most → length (put_mid 0 slots_most held part) ≡ length held
-  cells-back long = same_len_mid 0 slots_most held part (long ∙ sym (cells-long held room))
+  pub cells_back : length part ≡ slots_most → length (put_mid 0 slots_most held part) ≡ length held
+  cells_back long = same_len_mid 0 slots_most held part (long ∙ sym (cells_long held room))
 
-  pub names-back : length part ≡ names_room → length (put_mid names_at names_room held part) ≡ length held
-  names-back long = same_len_mid names_at names_room held part (long ∙ sym (names-long held room))
+  pub names_back : length part ≡ names_room → length (put_mid names_at names_room held part) ≡ length held
+  names_back long = same_len_mid names_at names_room held part (long ∙ sym (names_long held room))
 
-  pub labels-back : length part ≡ labels_room → length (put_mid labels_at labels_room held part) ≡ length held
-  labels-back long = same_len_mid labels_at labels_room held part (long ∙ sym (labels-long held room))
+  pub labels_back : length part ≡ labels_room → length (put_mid labels_at labels_room held part) ≡ length held
+  labels_back long = same_len_mid labels_at labels_room held part (long ∙ sym (labels_long held room))
 
-  pub cells-put : length part ≡ slots_most
+  pub cells_put : length part ≡ slots_most
       → AreasAre (put_mid 0 slots_most held part) part (name_bytes held) (label_bytes held) (table_bytes held)
-  cells-put long = record {
+  cells_put long = record {
     cells_are = mid_here 0 slots_most held part (omega arith) long;
     names_are = ap (take names_room) (mid_behind 0 slots_most held part (omega arith) long 0);
     labels_are = ap (take labels_room) (mid_behind 0 slots_most held part (omega arith) long names_room);
     table_is = mid_behind 0 slots_most held part (omega arith) long (names_room + labels_room);
   }
 
-  pub names-put : length part ≡ names_room
+  pub names_put : length part ≡ names_room
       → AreasAre (put_mid names_at names_room held part) (cell_bytes held) part (label_bytes held) (table_bytes held)
-  names-put long = record {
+  names_put long = record {
     cells_are = mid_before names_at names_room held part (omega arith) 0 slots_most (omega arith);
     names_are = mid_here names_at names_room held part (omega arith) long;
     labels_are = ap (take labels_room) (mid_behind names_at names_room held part (omega arith) long 0);
     table_is = mid_behind names_at names_room held part (omega arith) long labels_room;
   }
 
-  pub labels-put : length part ≡ labels_room
+  pub labels_put : length part ≡ labels_room
       → AreasAre (put_mid labels_at labels_room held part) (cell_bytes held) (name_bytes held) part (table_bytes held)
-  labels-put long = record {
+  labels_put long = record {
     cells_are = mid_before labels_at labels_room held part (omega arith) 0 slots_most (omega arith);
     names_are = mid_before labels_at labels_room held part (omega arith) names_at names_room (omega arith);
     labels_are = mid_here labels_at labels_room held part (omega arith) long;
     table_is = mid_behind labels_at labels_room held part (omega arith) long 0;
   }
 
-  pub table-put : length part ≡ length held - table_at
+  pub table_put : length part ≡ length held - table_at
       → AreasAre (put_mid table_at (length held - table_at) held part) (cell_bytes held) (name_bytes held) (label_bytes held)
       part
-  table-put long = record {
+  table_put long = record {
     cells_are = mid_before table_at (length held - table_at) held part (omega arith) 0 slots_most (omega arith);
     names_are = mid_before table_at (length held - table_at) held part (omega arith) names_at names_room (omega arith);
     labels_are = mid_before table_at (length held - table_at) held part (omega arith) labels_at labels_room (omega arith);
@@ -170,14 +170,14 @@ part_holds f r held counts room h =
 
 -- ── room ──
 
-pub names-room : (held : List ℕ) → held_room ≤ length held
+pub names_room_lem : (held : List ℕ) → held_room ≤ length held
     → (fields_most ≤ length (labels_in (label_bytes held))) × NamesRoom fields_most (names_in (name_bytes held))
-names-room held room = (
-  omega (arith, entries-length label_most fields_most (label_bytes held)),
+names_room_lem held room = (
+  omega (arith, entries_length label_most fields_most (label_bytes held)),
   (
-    omega (arith, entries-length short_most fields_most (drop 1024 (name_bytes held))),
-    omega (arith, entries-length short_most fields_most (drop 2048 (name_bytes held))),
+    omega (arith, entries_length short_most fields_most (drop 1024 (name_bytes held))),
+    omega (arith, entries_length short_most fields_most (drop 2048 (name_bytes held))),
     (let n = length-drop 3072 (name_bytes held) in
-        let m = names-long held room in omega (arith, n, m)),
+        let m = names_long held room in omega (arith, n, m)),
   ),
 )

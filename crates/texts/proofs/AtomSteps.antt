@@ -48,9 +48,9 @@ module _ (s : List ℕ) (at b : ℕ) (neg : Bool) where
 -- ── an atom ──
 
 module _ (s : List ℕ) (at b : ℕ) where
-  pub atom-end : at ≡ length s → SameAtom s at b start.Nothing
+  pub atom_end : at ≡ length s → SameAtom s at b start.Nothing
   unfolding SameAtom atom
-  atom-end e p = rw (e, drop-length) refl
+  atom_end e p = rw (e, drop-length) refl
 
   module _ (hi : at < length s) where
     first : drop at s ≡ get_or s at 0 ∷ drop (suc at) s
@@ -66,9 +66,9 @@ module _ (s : List ℕ) (at b : ℕ) where
     paren e p =
         let q : drop at s ≡ 40 ∷ drop (suc at) s = first ∙ ap (λ (x : ℕ). x ∷ drop (suc at) s) e in rw q refl
 
-    pub atom-word : (get_or s at 0 ≡ 33 → ⊥) → (get_or s at 0 ≡ 40 → ⊥) → SameAtom s at b start.Word
+    pub atom_word : (get_or s at 0 ≡ 33 → ⊥) → (get_or s at 0 ≡ 40 → ⊥) → SameAtom s at b start.Word
     unfolding SameAtom atom
-    atom-word n33 n40 p = rw (first, ne_eqb (get_or s at 0) 33 n33, ne_eqb (get_or s at 0) 40 n40, atom) refl
+    atom_word n33 n40 p = rw (first, ne_eqb (get_or s at 0) 33 n33, ne_eqb (get_or s at 0) 40 n40, atom) refl
 
     pub atom_bang : get_or s at 0 ≡ 33 → (r : Atom) → SameOpen s (at + 1) b true r → SameAtom s at b r
     unfolding SameOpen SameAtom
@@ -89,10 +89,10 @@ pub told_none : (s : List ℕ) (at b : ℕ) (r : Atom) → r ≡ start.Nothing �
 unfolding SameAtom
 told_none s at b r e w = rw e at w
 
-pub told-word : (s : List ℕ) (at b : ℕ) (r : Atom) → r ≡ start.Word → SameAtom s at b r
+pub told_word : (s : List ℕ) (at b : ℕ) (r : Atom) → r ≡ start.Word → SameAtom s at b r
     → (p : ℕ → List ℕ → Out) → atom p b (drop at s) ≡ leaf (word (drop at s)) (behind (drop at s))
 unfolding SameAtom
-told-word s at b r e w = rw e at w
+told_word s at b r e w = rw e at w
 
 pub told_in : (s : List ℕ) (at b : ℕ) (r : Atom) (from : ℕ) (m : Bool) → r ≡ start.In from m → SameAtom s at b r
     → (at < from) × (from ≤ length s) × (0 < b)

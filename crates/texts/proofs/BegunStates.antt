@@ -22,16 +22,16 @@ use Rattle.texts.specs.RowPlaces.{row_room}
 use Rattle.texts.specs.PieceStates.{fresh_state, line_bytes, Clean, Left, KeptIn}
 use Rattle.texts.specs.PieceStates.{row_bytes, count_bytes, held_bytes}
 use Rattle.texts.specs.declared.states.Reading.{Reading}
-use Rattle.texts.proofs.CountBytes.{twos-zeros}
-use Rattle.texts.proofs.FillLaws.{filled-changed, filled_part, around_front}
+use Rattle.texts.proofs.CountBytes.{twos_zeros}
+use Rattle.texts.proofs.FillLaws.{filled_changed, filled_part, around_front}
 use Rattle.texts.proofs.KeptStates.{kept_in}
-use Rattle.texts.proofs.LeftStates.{left-front}
-use Rattle.texts.proofs.LineCounts.{numbers-none}
-use Rattle.texts.proofs.LineWalk.{room-begun, kept-begun}
-use Rattle.texts.proofs.StateBytes.{reading-take}
-use Rattle.texts.proofs.StateChanges.{Changed, changed_wider, changed_then, part_long, lent-changed}
-use Rattle.texts.proofs.StateChanges.{two-word, two-before, reading-before, part_before, row_before}
-use Rattle.texts.proofs.StateChanges.{counts-before}
+use Rattle.texts.proofs.LeftStates.{left_front}
+use Rattle.texts.proofs.LineCounts.{numbers_none}
+use Rattle.texts.proofs.LineWalk.{room_begun, kept_begun}
+use Rattle.texts.proofs.StateBytes.{reading_take}
+use Rattle.texts.proofs.StateChanges.{Changed, changed_wider, changed_then, part_long, lent_changed}
+use Rattle.texts.proofs.StateChanges.{two_word, two_before, reading_before, part_before, row_before}
+use Rattle.texts.proofs.StateChanges.{counts_before}
 
 -- zeros are the numbers of a reading before the first line
 zero_reading : reading_in (replicate 24 0) ≡ begun_with
@@ -40,7 +40,7 @@ zero_reading = refl
 
 zero_two : (s : List ℕ) (i : ℕ) → take 2 (drop i s) ≡ replicate 2 0 → two_at s i ≡ 0
 unfolding le2
-zero_two s i e = two-word s i 0 (omega arith) e
+zero_two s i e = two_word s i 0 (omega arith) e
 
 -- zeros, and names put back into them
 module _ (s z names : List ℕ) (room : state_room ≤ length s) (zeros : z ≡ filled 0 state_room 0 s)
@@ -50,16 +50,16 @@ module _ (s z names : List ℕ) (room : state_room ≤ length s) (zeros : z ≡ 
 
   start_first : Changed 0 state_room s z
   start_first = subst (λ (l : List ℕ). Changed 0 state_room s l) (sym zeros)
-      (filled-changed 0 state_room 0 s (omega arith) room)
+      (filled_changed 0 state_room 0 s (omega arith) room)
 
-  room-names : held_at + names_at + names_room ≤ length z
-  room-names = let n = start_first.long in omega (arith, n, room)
+  room_names : held_at + names_at + names_room ≤ length z
+  room_names = let n = start_first.long in omega (arith, n, room)
 
-  names-long : length names ≡ names_room
-  names-long =
+  names_long : length names ≡ names_room
+  names_long =
       let part = take names_room (drop (held_at + names_at) z) in
-      let n = part_long (held_at + names_at) names_room z room-names in
-      ap length starts ∙ (filled-changed 0 buckets no_start part (omega arith) (omega (arith, n))).long ∙ n
+      let n = part_long (held_at + names_at) names_room z room_names in
+      ap length starts ∙ (filled_changed 0 buckets no_start part (omega arith) (omega (arith, n))).long ∙ n
 
   started : List ℕ
   started = put_mid (held_at + names_at) names_room z names
@@ -68,64 +68,64 @@ module _ (s z names : List ℕ) (room : state_room ≤ length s) (zeros : z ≡ 
   unfolding started
   start_last =
       changed_wider (held_at + names_at) state_room (omega arith) (omega arith)
-      (lent-changed (held_at + names_at) names_room z names room-names names-long)
+      (lent_changed (held_at + names_at) names_room z names room_names names_long)
 
-  start-all : Changed 0 state_room s started
-  start-all = changed_then start_first (changed_wider 0 state_room (omega arith) (omega arith) start_last)
+  start_all : Changed 0 state_room s started
+  start_all = changed_then start_first (changed_wider 0 state_room (omega arith) (omega arith) start_last)
 
-  start-reading : reading_in started ≡ begun_with
-  start-reading =
-      reading-before start_last (omega arith) ∙ reading-take z (replicate 24 0) (zero_part 0 24 (omega arith))
+  start_reading : reading_in started ≡ begun_with
+  start_reading =
+      reading_before start_last (omega arith) ∙ reading_take z (replicate 24 0) (zero_part 0 24 (omega arith))
       ∙ zero_reading
 
-  start-two : (i : ℕ) → i + 2 ≤ 4 → two_at started i ≡ 0
-  start-two i h = two-before start_last i (omega arith) ∙ zero_two z i (zero_part i 2 (omega arith))
+  start_two : (i : ℕ) → i + 2 ≤ 4 → two_at started i ≡ 0
+  start_two i h = two_before start_last i (omega arith) ∙ zero_two z i (zero_part i 2 (omega arith))
 
-  start-twos : twos_in fields_most (count_bytes started) ≡ replicate fields_most 0
-  start-twos =
-      ap (twos_in fields_most) (counts-before start_last (omega arith) ∙ zero_part counts_at (2 * fields_most)
+  start_twos : twos_in fields_most (count_bytes started) ≡ replicate fields_most 0
+  start_twos =
+      ap (twos_in fields_most) (counts_before start_last (omega arith) ∙ zero_part counts_at (2 * fields_most)
       (omega arith))
-      ∙ twos-zeros fields_most
+      ∙ twos_zeros fields_most
 
-  start-kept : KeptIn fold.start started
-  start-kept =
-      let long = start-all.long in
+  start_kept : KeptIn fold.start started
+  start_kept =
+      let long = start_all.long in
       let n = part_long held_at held_room started (omega (arith, long, room)) in
-      kept_in (sym start-reading) refl refl (sym start-twos)
-      (kept-begun (held_bytes started) (row_bytes started) (replicate fields_most 0) (omega (arith, n))
-      (numbers-none fields_most (omega arith)))
+      kept_in (sym start_reading) refl refl (sym start_twos)
+      (kept_begun (held_bytes started) (row_bytes started) (replicate fields_most 0) (omega (arith, n))
+      (numbers_none fields_most (omega arith)))
 
-  start-clean : Clean started
+  start_clean : Clean started
   unfolding zeros
-  start-clean = record {
-    line = ap (λ (n : ℕ). drop n (line_bytes started)) (start-two used_at (omega arith))
+  start_clean = record {
+    line = ap (λ (n : ℕ). drop n (line_bytes started)) (start_two used_at (omega arith))
         ∙ part_before start_last line_at line_most (omega arith) ∙ zero_part line_at line_most (omega arith)
-        ∙ ap (λ (n : ℕ). replicate (line_most - n) 0) (sym (start-two used_at (omega arith)));
-    rows = ap (λ (r : Reading). drop (65 * r.row) (row_bytes started)) start-reading
+        ∙ ap (λ (n : ℕ). replicate (line_most - n) 0) (sym (start_two used_at (omega arith)));
+    rows = ap (λ (r : Reading). drop (65 * r.row) (row_bytes started)) start_reading
         ∙ row_before start_last (omega arith) ∙ zero_part row_at row_room (omega arith)
-        ∙ ap (λ (r : Reading). replicate (row_room - 65 * r.row) 0) (sym start-reading);
+        ∙ ap (λ (r : Reading). replicate (row_room - 65 * r.row) 0) (sym start_reading);
   }
 
   start_left : Left [] started
   unfolding fold.kept all
   start_left = record {
-    room = (let long = start-all.long in omega (arith, long, room));
-    size = λ h. start-two 0 (omega arith);
+    room = (let long = start_all.long in omega (arith, long, room));
+    size = λ h. start_two 0 (omega arith);
     holds = λ h. record {
-      fits = subst (λ (x : Reading). Fits 0 x) (sym start-reading) (room-begun, omega arith);
-      used = (let z = start-two used_at (omega arith) in omega (arith, z));
+      fits = subst (λ (x : Reading). Fits 0 x) (sym start_reading) (room_begun, omega arith);
+      used = (let z = start_two used_at (omega arith) in omega (arith, z));
       free = refl;
       short = omega arith;
-      kept = start-kept;
-      line = λ e. ap (λ (n : ℕ). take n (drop line_at started)) (start-two used_at (omega arith));
-      clean = start-clean;
+      kept = start_kept;
+      line = λ e. ap (λ (n : ℕ). take n (drop line_at started)) (start_two used_at (omega arith));
+      clean = start_clean;
     };
     over = λ h. absurd (omega arith);
   }
 
-  start-fresh : take state_room started ≡ fresh_state
+  start_fresh : take state_room started ≡ fresh_state
   unfolding started fresh_state
-  start-fresh =
+  start_fresh =
       ap (λ (l : List ℕ). take state_room (put_mid (held_at + names_at) names_room z l)) starts
       ∙ ap (λ (l : List ℕ). take state_room (put_mid (held_at + names_at) names_room l
       (filled 0 buckets no_start (take names_room (drop (held_at + names_at) l))))) zeros
@@ -136,13 +136,13 @@ module _ (s z names : List ℕ) (room : state_room ≤ length s) (zeros : z ≡ 
   unfolding started
   start_states = (
     record {
-      long = start-all.long;
-      beyond = start-all.back;
+      long = start_all.long;
+      beyond = start_all.back;
       short = λ h. absurd (omega (arith, h, room));
     },
     λ h. (
-      start-fresh,
-      subst (λ (l : List ℕ). Left [] l) start-fresh
-          (left-front started (let n = start-all.long in omega (arith, n, room)) start_left),
+      start_fresh,
+      subst (λ (l : List ℕ). Left [] l) start_fresh
+          (left_front started (let n = start_all.long in omega (arith, n, room)) start_left),
     ),
   )

@@ -10,21 +10,21 @@ use lib.ListN.{length, take, drop, length-append, length-take}
 use lib.Seq.{length-take-le}
 use borrow.Author.Tests.{eqb-true, eq-eqb, ne_eqb}
 use Rattle.base.specs.Lists.{all, only, is_empty, joined}
-use Rattle.base.proofs.Joined.{joined-append, joined-one}
+use Rattle.base.proofs.Joined.{joined_append, joined_one}
 use Rattle.writing.specs.Writes.{Writes}
 use Rattle.writing.specs.Puts.{placed, put}
-use Rattle.writing.proofs.Writing.{writes-none, writes_join}
-use Rattle.writing.proofs.PutLaws.{put-writes}
+use Rattle.writing.proofs.Writing.{writes_none, writes_join}
+use Rattle.writing.proofs.PutLaws.{put_writes}
 use Rattle.rules.specs.Names.{is_space}
 use Rattle.rules.specs.Rows.{left_trim, keep_end, right_trim, trimmed, by_spaces, cell_text}
-use Rattle.text_laws.proofs.RowCells.{left_split, right-some}
+use Rattle.text_laws.proofs.RowCells.{left_split, right_some}
 use Rattle.texts.specs.RowPlaces.{strips_at, added_line, cell_at}
 use Rattle.texts.proofs.FrameLeaves.{take_rest}
 
-only-append : {A : Type 0} (p : A → Bool) (l m : List A) → only p (l ++ m) ≡ only p l ++ only p m
+only_append : {A : Type 0} (p : A → Bool) (l m : List A) → only p (l ++ m) ≡ only p l ++ only p m
 unfolding only
-only-append p [] m = refl
-only-append {A} p (x ∷ l) m = go (p x) (only-append p l m)
+only_append p [] m = refl
+only_append {A} p (x ∷ l) m = go (p x) (only_append p l m)
   where
     go : (b : Bool) → only p (l ++ m) ≡ only p l ++ only p m
         → cond b (x ∷ only p (l ++ m)) (only p (l ++ m)) ≡ cond b (x ∷ only p l) (only p l) ++ only p m
@@ -34,15 +34,15 @@ only-append {A} p (x ∷ l) m = go (p x) (only-append p l m)
 -- ── of one bit ──
 
 -- of two bytes each is at an end
-only-short : (s : List ℕ) → length s ≤ 2 → only (λ b. not (is_space b)) s ≡ trimmed s
+only_short : (s : List ℕ) → length s ≤ 2 → only (λ b. not (is_space b)) s ≡ trimmed s
 unfolding only left_trim right_trim keep_end
-only-short [] h = refl
-only-short (b ∷ []) h = go (is_space b) refl
+only_short [] h = refl
+only_short (b ∷ []) h = go (is_space b) refl
   where
     go : (x : Bool) → is_space b ≡ x → cond (not x) (b ∷ []) [] ≡ right_trim (cond x [] (b ∷ []))
     go true e = refl
     go false e = rw e refl
-only-short (b ∷ c ∷ []) h = go (is_space b) refl (is_space c) refl
+only_short (b ∷ c ∷ []) h = go (is_space b) refl (is_space c) refl
   where
     go : (x : Bool) → is_space b ≡ x → (y : Bool) → is_space c ≡ y
         → cond (not x) (b ∷ cond (not y) (c ∷ []) []) (cond (not y) (c ∷ []) [])
@@ -51,7 +51,7 @@ only-short (b ∷ c ∷ []) h = go (is_space b) refl (is_space c) refl
     go true e false f = rw f refl
     go false e true f = rw (f, e) refl
     go false e false f = rw f refl
-only-short (b ∷ c ∷ d ∷ s) h = absurd (omega arith)
+only_short (b ∷ c ∷ d ∷ s) h = absurd (omega arith)
 
 bare_line : (s : List ℕ) → added_line true s ≡ trimmed s
 bare_line s = go (trimmed s)
@@ -65,11 +65,11 @@ bare_line s = go (trimmed s)
 abbrev some : List ℕ → Bool
 some l = not (is_empty l)
 
-all-only : (ls : List (List ℕ)) → all some (only some ls) ≡ true
+all_only : (ls : List (List ℕ)) → all some (only some ls) ≡ true
 unfolding all only
-all-only [] = refl
-all-only ([] ∷ ls) = all-only ls
-all-only ((b ∷ l) ∷ ls) = all-only ls
+all_only [] = refl
+all_only ([] ∷ ls) = all_only ls
+all_only ((b ∷ l) ∷ ls) = all_only ls
 
 spaces_more : (k : List ℕ) (ks : List (List ℕ)) (t : List ℕ)
     → by_spaces ((k ∷ ks) ++ (t ∷ [])) ≡ by_spaces (k ∷ ks) ++ (32 ∷ t)
@@ -92,19 +92,19 @@ lines_more : (ls : List (List ℕ)) (t : List ℕ)
     ++ cond (is_empty t) [] (cond (is_empty (by_spaces (only some ls))) t (32 ∷ t))
 unfolding only
 lines_more ls [] =
-    ap by_spaces (only-append some ls ([] ∷ []) ∙ append-nil (only some ls))
+    ap by_spaces (only_append some ls ([] ∷ []) ∙ append-nil (only some ls))
     ∙ sym (append-nil (by_spaces (only some ls)))
 lines_more ls (b ∷ t) =
-    ap by_spaces (only-append some ls ((b ∷ t) ∷ [])) ∙ spaces_added (only some ls) (b ∷ t) (all-only ls)
+    ap by_spaces (only_append some ls ((b ∷ t) ∷ [])) ∙ spaces_added (only some ls) (b ∷ t) (all_only ls)
 
 -- ── one more line ──
 
-text-more : (n : ℕ) (ls : List (List ℕ)) (s : List ℕ) → (n ≡ 1 → length s ≤ 2)
+text_more : (n : ℕ) (ls : List (List ℕ)) (s : List ℕ) → (n ≡ 1 → length s ≤ 2)
     → cell_text (record { bits = n; lines = ls ++ (s ∷ []) })
     ≡ cell_text (record { bits = n; lines = ls })
     ++ added_line (eqb n 1 || is_empty (cell_text (record { bits = n; lines = ls }))) s
 unfolding cell_text
-text-more n ls s h = go (eqb n 1) refl
+text_more n ls s h = go (eqb n 1) refl
   where
     down : List (List ℕ) → List ℕ
     down m = only (λ b. not (is_space b)) (joined (λ l. l) m)
@@ -116,10 +116,10 @@ text-more n ls s h = go (eqb n 1) refl
         → cond x (down (ls ++ (s ∷ []))) (along (ls ++ (s ∷ [])))
         ≡ cond x (down ls) (along ls) ++ added_line (x || is_empty (cond x (down ls) (along ls))) s
     go true e =
-        ap (only (λ b. not (is_space b))) (joined-append (λ l. l) ls (s ∷ [])
-        ∙ ap (λ (l : List ℕ). joined (λ l. l) ls ++ l) (joined-one (λ l. l) s))
-        ∙ only-append (λ b. not (is_space b)) (joined (λ l. l) ls) s
-        ∙ ap (λ (l : List ℕ). down ls ++ l) (only-short s (h (eqb-true n 1 e)) ∙ sym (bare_line s))
+        ap (only (λ b. not (is_space b))) (joined_append (λ l. l) ls (s ∷ [])
+        ∙ ap (λ (l : List ℕ). joined (λ l. l) ls ++ l) (joined_one (λ l. l) s))
+        ∙ only_append (λ b. not (is_space b)) (joined (λ l. l) ls) s
+        ∙ ap (λ (l : List ℕ). down ls ++ l) (only_short s (h (eqb-true n 1 e)) ∙ sym (bare_line s))
     go false e =
         ap (λ (m : List (List ℕ)). by_spaces (only some m)) (map-append trimmed ls (s ∷ []))
         ∙ lines_more (map trimmed ls) (trimmed s)
@@ -131,33 +131,33 @@ module _ (row : List ℕ) (a size : ℕ) where
   abbrev text_at : ℕ → List ℕ
   text_at n = cell_text (cell_at row n a size)
 
-  cell-none : text_at 0 ≡ []
+  cell_none : text_at 0 ≡ []
   unfolding cell_text strips_at only joined by_spaces
-  cell-none = go (eqb ((size + 1) / 2) 1)
+  cell_none = go (eqb ((size + 1) / 2) 1)
     where
       go : (x : Bool) → ◌≡◌ {A = List ℕ} (cond x [] []) []
       go true = refl
       go false = refl
 
-  cell-more : (n : ℕ) → text_at (suc n)
+  cell_more : (n : ℕ) → text_at (suc n)
       ≡ text_at n ++ added_line (eqb ((size + 1) / 2) 1 || is_empty (text_at n)) (take size (drop (65 * n + a) row))
   unfolding strips_at
-  cell-more n = text-more ((size + 1) / 2) (strips_at row a size n) (take size (drop (65 * n + a) row))
+  cell_more n = text_more ((size + 1) / 2) (strips_at row a size n) (take size (drop (65 * n + a) row))
       (λ e. omega (arith, e, short size (drop (65 * n + a) row)))
 
 -- ── how long it is ──
 
-trimmed-length : (s : List ℕ) → length (trimmed s) ≤ length s
-trimmed-length s =
-    let w = right-some (left_trim s) in
+trimmed_length : (s : List ℕ) → length (trimmed s) ≤ length s
+trimmed_length s =
+    let w = right_some (left_trim s) in
     omega (
       arith,
       simp length-append at (ap length w.1),
       simp length-append at (ap length (left_split s)),
     )
 
-added-length : (bare : Bool) (s : List ℕ) → length (added_line bare s) ≤ suc (length s)
-added-length bare s = go (trimmed s) bare (trimmed-length s)
+added_length : (bare : Bool) (s : List ℕ) → length (added_line bare s) ≤ suc (length s)
+added_length bare s = go (trimmed s) bare (trimmed_length s)
   where
     go : (t : List ℕ) (b : Bool) → length t ≤ length s
         → length (cond (is_empty t) [] (cond b t (32 ∷ t))) ≤ suc (length s)
@@ -176,36 +176,36 @@ module _ (row : List ℕ) (a size : ℕ) where
       let b : Bool = eqb ((size + 1) / 2) 1 || is_empty t in
       omega (
         arith,
-        ap length (cell-more row a size n),
+        ap length (cell_more row a size n),
         length-append t (added_line b s),
-        added-length b s,
+        added_length b s,
         short size (drop (65 * n + a) row),
       )
 
-  length-one : length_at 1 ≤ size
-  length-one =
+  length_one : length_at 1 ≤ size
+  length_one =
       let s : List ℕ = take size (drop (65 * 0 + a) row) in
-      let e : length_at 1 ≡ length (trimmed s) = ap length (cell-more row a size 0) ∙ go (eqb ((size + 1) / 2) 1) in
-      omega (arith, e, trimmed-length s, short size (drop (65 * 0 + a) row))
+      let e : length_at 1 ≡ length (trimmed s) = ap length (cell_more row a size 0) ∙ go (eqb ((size + 1) / 2) 1) in
+      omega (arith, e, trimmed_length s, short size (drop (65 * 0 + a) row))
     where
       go : (x : Bool)
           → length (cell_text (cell_at row 0 a size)
           ++ added_line (x || is_empty (cell_text (cell_at row 0 a size))) (take size (drop (65 * 0 + a) row)))
           ≡ length (trimmed (take size (drop (65 * 0 + a) row)))
-      go true = rw (cell-none row a size) (ap length (bare_line (take size (drop (65 * 0 + a) row))))
-      go false = rw (cell-none row a size) (ap length (bare_line (take size (drop (65 * 0 + a) row))))
+      go true = rw (cell_none row a size) (ap length (bare_line (take size (drop (65 * 0 + a) row))))
+      go false = rw (cell_none row a size) (ap length (bare_line (take size (drop (65 * 0 + a) row))))
 
   -- before a fourth line, and of four
   length_three : (n : ℕ) → n < 4 → length_at n ≤ 3 * size + 2
-  length_three zero lt = omega (arith, ap length (cell-none row a size))
-  length_three (suc zero) lt = omega (arith, length-one)
-  length_three (suc (suc zero)) lt = omega (arith, length-one, length_more 1)
-  length_three (suc (suc (suc zero))) lt = omega (arith, length-one, length_more 1, length_more 2)
+  length_three zero lt = omega (arith, ap length (cell_none row a size))
+  length_three (suc zero) lt = omega (arith, length_one)
+  length_three (suc (suc zero)) lt = omega (arith, length_one, length_more 1)
+  length_three (suc (suc (suc zero))) lt = omega (arith, length_one, length_more 1, length_more 2)
   length_three (suc (suc (suc (suc n)))) lt = absurd (omega arith)
 
-  pub length-four : (n : ℕ) → n ≤ 4 → length_at n ≤ 4 * size + 3
-  length-four zero le = omega (arith, ap length (cell-none row a size))
-  length-four (suc n) le = omega (arith, length_three n (omega arith), length_more n)
+  pub length_four : (n : ℕ) → n ≤ 4 → length_at n ≤ 4 * size + 3
+  length_four zero le = omega (arith, ap length (cell_none row a size))
+  length_four (suc n) le = omega (arith, length_three n (omega arith), length_more n)
 
 -- ── a line that is put, from the first byte that is no blank ──
 
@@ -214,29 +214,29 @@ module _ (chars : List ℕ) (from len : ℕ) (l : drop from chars ≡ left_trim 
     (t : take len (take (length chars - from) (drop from chars)) ≡ right_trim (take (length chars - from) (drop from
     chars)))
   where
-    text-is : take (from + len - from) (drop from chars) ≡ trimmed chars
-    text-is =
+    text_is : take (from + len - from) (drop from chars) ≡ trimmed chars
+    text_is =
         let e : from + len - from ≡ len = omega arith in
         let w : take (length chars - from) (drop from chars) ≡ drop from chars = take_rest from chars in
         ap (λ (n : ℕ). take n (drop from chars)) e ∙ ap (take len) (sym w) ∙ t ∙ ap right_trim (w ∙ l)
 
-    text-length : length (trimmed chars) ≡ len
-    text-length =
+    text_length : length (trimmed chars) ≡ len
+    text_length =
         let w : take (length chars - from) (drop from chars) ≡ drop from chars = take_rest from chars in
         ap length (sym (t ∙ ap right_trim (w ∙ l)))
         ∙ length-take-le len (take (length chars - from) (drop from chars)) h
 
     pub added_none : (bare : Bool) (before : List ℕ) (at : ℕ) → len ≡ 0
         → Writes before at (added_line bare chars) before at
-    added_none bare before at e = go (trimmed chars) (text-length ∙ e)
+    added_none bare before at e = go (trimmed chars) (text_length ∙ e)
       where
         go : (s : List ℕ) → length s ≡ 0
             → Writes before at (cond (is_empty s) [] (cond bare s (32 ∷ s))) before at
-        go [] q = writes-none before at
+        go [] q = writes_none before at
         go (b ∷ s) q = absurd (omega (arith, q))
 
-    line-some : (bare : Bool) → (len ≡ 0 → ⊥) → cond bare (trimmed chars) (32 ∷ trimmed chars) ≡ added_line bare chars
-    line-some bare n = go (trimmed chars) text-length
+    line_some : (bare : Bool) → (len ≡ 0 → ⊥) → cond bare (trimmed chars) (32 ∷ trimmed chars) ≡ added_line bare chars
+    line_some bare n = go (trimmed chars) text_length
       where
         go : (s : List ℕ) → length s ≡ len → cond bare s (32 ∷ s) ≡ cond (is_empty s) [] (cond bare s (32 ∷ s))
         go [] q = absurd (n (sym q))
@@ -248,19 +248,19 @@ module _ (chars : List ℕ) (from len : ℕ) (l : drop from chars ≡ left_trim 
             → placed end after ≡ put before at (take (from + len - from) (drop from chars))
             → Writes before at (added_line bare chars) after end
         added_bare {bare} b p =
-            let q : placed end after ≡ put before at (trimmed chars) = rw text-is at p in
-            rw (b, ← line-some true n) (put-writes {w = trimmed chars} (omega (arith, trimmed-length chars, room)) q)
+            let q : placed end after ≡ put before at (trimmed chars) = rw text_is at p in
+            rw (b, ← line_some true n) (put_writes {w = trimmed chars} (omega (arith, trimmed_length chars, room)) q)
 
-        pub added-behind : {bare : Bool} {mid : List ℕ} {next : ℕ} → bare ≡ false
+        pub added_behind : {bare : Bool} {mid : List ℕ} {next : ℕ} → bare ≡ false
             → placed next mid ≡ put before at (32 ∷ [])
             → placed end after ≡ put mid next (take (from + len - from) (drop from chars))
             → Writes before at (added_line bare chars) after end
-        added-behind {bare} {mid} {next} b p q =
-            let front : Writes before at (32 ∷ []) mid next = put-writes {w = 32 ∷ []} (omega arith) p in
-            let v : placed end after ≡ put mid next (trimmed chars) = rw text-is at q in
+        added_behind {bare} {mid} {next} b p q =
+            let front : Writes before at (32 ∷ []) mid next = put_writes {w = 32 ∷ []} (omega arith) p in
+            let v : placed end after ≡ put mid next (trimmed chars) = rw text_is at q in
             let back : Writes mid next (trimmed chars) after end =
-            put-writes {w = trimmed chars} (omega (arith, front.end, front.kept, trimmed-length chars, room)) v in
-            rw (b, ← line-some false n) (writes_join front back)
+            put_writes {w = trimmed chars} (omega (arith, front.end, front.kept, trimmed_length chars, room)) v in
+            rw (b, ← line_some false n) (writes_join front back)
 
 -- ── a text that is put, line by line ──
 
@@ -275,16 +275,16 @@ bare_along {down} {bare} at {end} t e d b = rw d (b ∙ go t e)
     go [] e = eq-eqb end at (omega arith)
     go (c ∷ t) e = ne_eqb end at (λ q. absurd (omega arith))
 
-pub text-start : (row : List ℕ) (a b : ℕ) (before : List ℕ) (at : ℕ)
+pub text_start : (row : List ℕ) (a b : ℕ) (before : List ℕ) (at : ℕ)
     → Writes before at (cell_text (cell_at row 0 a (b - a))) before at
-text-start row a b before at = rw (cell-none row a (b - a)) (writes-none before at)
+text_start row a b before at = rw (cell_none row a (b - a)) (writes_none before at)
 
 module _ (row : List ℕ) (j a b : ℕ) {before cells : List ℕ} {at end : ℕ}
     (w : Writes before at (cell_text (cell_at row j a (b - a))) cells end)
   where
-    pub line-room : j < 4 → a ≤ b → b ≤ 65 → 260 ≤ length row → at + 4 * (1 + (b - a)) ≤ length before
+    pub line_room : j < 4 → a ≤ b → b ≤ 65 → 260 ≤ length row → at + 4 * (1 + (b - a)) ≤ length before
         → end + (1 + length (take (65 * j + b - (65 * j + a)) (drop (65 * j + a) row))) ≤ length cells
-    line-room lt le le' fits room = omega (
+    line_room lt le le' fits room = omega (
       arith,
       w.end,
       w.kept,
@@ -292,10 +292,10 @@ module _ (row : List ℕ) (j a b : ℕ) {before cells : List ℕ} {at end : ℕ}
       length-take (65 * j + b - (65 * j + a)) (drop (65 * j + a) row),
     )
 
-    pub text-next : {bare : Bool} {after : List ℕ} {next : ℕ}
+    pub text_next : {bare : Bool} {after : List ℕ} {next : ℕ}
         → bare ≡ (eqb ((b - a + 1) / 2) 1 || is_empty (cell_text (cell_at row j a (b - a))))
         → Writes cells end (added_line bare (take (65 * j + b - (65 * j + a)) (drop (65 * j + a) row))) after next
         → Writes before at (cell_text (cell_at row (j + 1) a (b - a))) after next
-    text-next e v =
+    text_next e v =
         let k : 65 * j + b - (65 * j + a) ≡ b - a = omega arith in
-        rw (add-one j, cell-more row a (b - a) j) (writes_join w (rw (k, e) at v))
+        rw (add-one j, cell_more row a (b - a) j) (writes_join w (rw (k, e) at v))

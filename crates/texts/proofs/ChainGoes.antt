@@ -5,7 +5,7 @@ use Prim.Native.Nat.{ℕ, ◌+◌, ◌-◌, ◌≤◌, max}
 use native.Mathlib.Omega.{arith}
 use lib.ListN.{length, take, drop, length-drop}
 use lib.Seq.{take-take, take-add, drop-drop, drop_at, length-take-le}
-use Rattle.rules.specs.Operators.{code, takes, gives}
+use Rattle.rules.specs.Operators.{code, takes}
 use Rattle.rules.specs.Trees.{Tree, two, depth, stored_tree, stored_length}
 use Rattle.texts.specs.HeldNames.{Names}
 use Rattle.texts.specs.StoredTrees.{type_of, look_up, held, StoredIs}
@@ -13,10 +13,10 @@ use Rattle.texts.specs.StoredPlaces.{ExprStored, AtomStored, WithinStored}
 use Rattle.texts.specs.Chains.{tightest_level, Pushes, ChainStored}
 use Rattle.texts.specs.declared.stored_trees.StoredTree.{StoredTree}
 use Rattle.texts.specs.declared.chains.Chain.{Chain}
-use Rattle.texts.proofs.ExprSteps.{two-length}
+use Rattle.texts.proofs.ExprSteps.{two_length}
 use Rattle.texts.proofs.StoredBytes.{Joined}
-use Rattle.texts.proofs.StoredSteps.{got-within}
-use Rattle.texts.proofs.ChainReads.{expr-fails, expr-goes}
+use Rattle.texts.proofs.StoredSteps.{got_within}
+use Rattle.texts.proofs.ChainReads.{expr_fails, expr_goes}
 use Rattle.texts.proofs.ChainSteps.{Within}
 use Rattle.texts.proofs.ChainLaws.{type_some, joined_tree, one_more}
 
@@ -34,10 +34,10 @@ module _ (names : Names) (n : ℕ) (s : List ℕ) (k : ℕ) (c : Chain) (out par
     (y : StoredTree) (bytes : List ℕ) (long : length bytes ≡ length after)
     (front : c.len + (1 + a.len) + y.len ≤ length after
     → take (c.len + (1 + a.len)) bytes ≡ take (c.len + (1 + a.len)) after) where
-  first-bytes : (t : Tree (List ℕ)) → StoredIs names n t (held a part)
+  first_bytes : (t : Tree (List ℕ)) → StoredIs names n t (held a part)
       → c.len + (1 + a.len) + y.len ≤ length after
       → take (1 + a.len) (drop c.len bytes) ≡ code x.op ∷ stored_tree (look_up names n) t
-  first-bytes t v fit =
+  first_bytes t v fit =
       let q = j.back (omega (arith, fit, x.waits.long, j.long)) in
       let z : a.len ≡ stored_length t = v.len in
       let l : length part ≡ length mid - c.len = ap length (sym q) ∙ length-drop c.len mid in
@@ -51,7 +51,7 @@ module _ (names : Names) (n : ℕ) (s : List ℕ) (k : ℕ) (c : Chain) (out par
   unfolding type_of depth stored_tree
   made t u v w' =
       let l : stored_length (two x.op t u) ≡ 1 + (a.len + y.len) =
-      two-length x.op t u a.len y.len (sym v.len) (sym w'.len) in
+      two_length x.op t u a.len y.len (sym v.len) (sym w'.len) in
       let z : y.len ≡ stored_length u = w'.len in
       record {
         len = sym l;
@@ -65,7 +65,7 @@ module _ (names : Names) (n : ℕ) (s : List ℕ) (k : ℕ) (c : Chain) (out par
             rw (
               q,
               take-add (1 + a.len) y.len (drop c.len bytes),
-              first-bytes t v fit,
+              first_bytes t v fit,
               drop-drop (1 + a.len) c.len bytes,
               w'.bytes (omega (arith, fit, el, z, long)),
             ) refl;
@@ -77,7 +77,7 @@ module _ (names : Names) (n : ℕ) (s : List ℕ) (at k b : ℕ) (ge : tightest_
     (some : a.len ≡ 0 → ⊥)
     (after : List ℕ) (d : Chain) (x : Pushes s k c a mid after d) where
   p : Within s c a
-  p = got-within s (c.next + 1) c.next 0 a some w
+  p = got_within s (c.next + 1) c.next 0 a some w
 
   pub chain_goes : ChainStored names n s at k b d after
   chain_goes = subst (λ (e : Chain). ChainStored names n s at k b e after) (sym x.waits.is_pushed) (record {
@@ -88,14 +88,14 @@ module _ (names : Names) (n : ℕ) (s : List ℕ) (at k b : ℕ) (ge : tightest_
     few = omega (arith, C.few);
     some = type_some (takes x.op);
     fails = λ y z e l E.
-        C.fails z z l l (expr-fails names n s k b ge c.next (held a part) A some (omega (arith, p.0)) p.1
+        C.fails z z l l (expr_fails names n s k b ge c.next (held a part) A some (omega (arith, p.0)) p.1
         x.op x.end x.is_taken x.low x.high y E e z l);
     goes = λ y bytes long front some' lo hi E.
         subst (λ (t : StoredTree). ExprStored names n s at k b (held t bytes))
         (sym (one_more c C.some x.op a y x.end))
         (C.goes (joined_tree x.op a y) bytes (long ∙ (x.waits.long ∙ j.long)) (kept y bytes front)
         (λ e. absurd (omega (arith, e))) (omega (arith, lo, p.0, x.low)) hi
-        (expr-goes names n s k b ge c.next (held a part) A some (omega (arith, p.0)) p.1 x.op x.end
+        (expr_goes names n s k b ge c.next (held a part) A some (omega (arith, p.0)) p.1 x.op x.end
         x.is_taken x.low x.high (held y (drop (c.len + (1 + a.len)) bytes)) E some' lo hi
         (held (joined_tree x.op a y) (drop c.len bytes)) refl
         (made names n s k c out part mid j a after d x y bytes long front)));

@@ -1,7 +1,7 @@
 -- Operators that wait for their right operand: the whole with one more is the whole with that operand.
 use mathlib.Core.Path.{◌≡◌, refl, sym}
 use mathlib.Core.Bool.{Bool, true, false, cond, ◌&&◌}
-use Prim.Native.Nat.{ℕ, ◌+◌, ◌-◌, ◌<◌, max}
+use Prim.Native.Nat.{ℕ, ◌+◌, ◌<◌, max}
 use native.Mathlib.Omega.{arith}
 use native.Mathlib.Nat.{zero-add}
 use lib.Dec.{eqb}
@@ -10,7 +10,6 @@ use Rattle.rules.specs.declared.Op.{Op}
 use Rattle.rules.specs.declared.ValueType.{ValueType}
 use Rattle.rules.specs.declared.ValueType.TheVariants.{Number, YesNo}
 use Rattle.rules.specs.Operators.{takes, gives}
-use Rattle.rules.specs.Trees.{depth}
 use Rattle.texts.specs.StoredTrees.{type_code}
 use Rattle.texts.specs.StoredPlaces.{two_type}
 use Rattle.texts.specs.Chains.{no_chain, chain_type, chained, pushed}
@@ -33,9 +32,9 @@ joined_tree o a y = record {
 
 -- ── the whole ──
 
-pub none-waits : (at : ℕ) (y : StoredTree) → chained (no_chain at) y ≡ y
+pub none_waits : (at : ℕ) (y : StoredTree) → chained (no_chain at) y ≡ y
 unfolding chain_type
-none-waits at y = let d : max 0 (0 + y.depth) ≡ y.depth = omega arith in rw (d, zero-add y.len)
+none_waits at y = let d : max 0 (0 + y.depth) ≡ y.depth = omega arith in rw (d, zero-add y.len)
 
 type_waits : (c : Chain) → 0 < c.want → (o : Op) (a y : ℕ)
     → cond (eqb y (type_code (takes o))) (cond (eqb a (type_code (takes o))) (chain_type c (type_code (gives o))) 0) 0

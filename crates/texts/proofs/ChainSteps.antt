@@ -11,8 +11,7 @@ use lib.Seq.{take_all}
 use borrow.Rule.Slice.PartMut.{put_mid}
 use Rattle.rules.specs.declared.Op.{Op}
 use Rattle.rules.specs.Operators.{code, atom_level}
-use Rattle.rules.specs.Trees.{depth}
-use Rattle.text_laws.specs.Reader.{found, operator_at, expr}
+use Rattle.text_laws.specs.Reader.{operator_at, expr}
 use Rattle.texts.specs.HeldNames.{Names}
 use Rattle.texts.specs.ExprPlaces.{taken_in, SameTaken, WithinTaken}
 use Rattle.texts.specs.StoredTrees.{TreeBytes, held}
@@ -33,12 +32,12 @@ use Rattle.texts.specs.declared.chains.Chain.{Chain}
 use Rattle.texts.specs.declared.chains.Link.{Link}
 use Rattle.texts.specs.declared.signs.Taken.{Taken}
 use Rattle.texts.specs.declared.signs.Taken.TheVariants as taken
-use Rattle.texts.proofs.TakenSteps.{is-missing, is_found}
+use Rattle.texts.proofs.TakenSteps.{is_missing_lem, is_found}
 use Rattle.texts.proofs.StoredBytes.{Joined, joined_part}
-use Rattle.texts.proofs.StoredSteps.{up-within, here_within, got-within, stored-fail, same_none}
-use Rattle.texts.proofs.StoredExprs.{expr-fail, expr_go}
-use Rattle.texts.proofs.ChainReads.{expr-bytes, expr-ends}
-use Rattle.texts.proofs.ChainLaws.{none-waits}
+use Rattle.texts.proofs.StoredSteps.{up_within, here_within, got_within, stored_fail, same_none}
+use Rattle.texts.proofs.StoredExprs.{expr_fail, expr_go}
+use Rattle.texts.proofs.ChainReads.{expr_bytes, expr_ends}
+use Rattle.texts.proofs.ChainLaws.{none_waits}
 
 -- ── the code of one operator more ──
 
@@ -58,9 +57,9 @@ module _ (g : Taken) (c : Chain) (a : StoredTree) (before : List ℕ) (o : Op) (
       take_all (length before - from) (drop from before) (omega (arith, length-drop from before))
       ∙ ap (λ (m : ℕ). drop m before) e
 
-  code-first : c.len + (1 + a.len) ≤ length before
+  code_first : c.len + (1 + a.len) ≤ length before
       → take (1 + a.len) right ≡ code o ∷ take a.len (drop c.len before)
-  code-first h =
+  code_first h =
       let e = part (omega (arith, h)) in
       let lt : a.len < length (take (length before - from) (drop from before)) =
       rw e (omega (arith, h, length-drop c.len before)) in
@@ -83,7 +82,7 @@ module _ (g : Taken) (c : Chain) (a : StoredTree) (before : List ℕ) (o : Op) (
             is_pushed = w;
             long = j.long;
             front = j.front;
-            back = λ h. rw (j.back (omega (arith, h))) (code-first h);
+            back = λ h. rw (j.back (omega (arith, h))) (code_first h);
           };
         };
       }
@@ -110,7 +109,7 @@ module _ (names : Names) (n : ℕ) (s : List ℕ) (at k b : ℕ) (ge : tightest_
   closed e =
       let q = made.ends e in
       record {
-        is_taken = is-missing s (taken_in k atom_level (operator_at (drop a.next s))) g q.0 taken_by;
+        is_taken = is_missing_lem s (taken_in k atom_level (operator_at (drop a.next s))) g q.0 taken_by;
         is_whole = q.1;
         kept = q.2;
       }
@@ -137,11 +136,11 @@ module _ (names : Names) (n : ℕ) (s : List ℕ) (at k b : ℕ) (ge : tightest_
   }
 
 -- the whole expression at a looser level
-pub rest-ends : (names : Names) (n : ℕ) (s : List ℕ) (at k b : ℕ) → k < tightest_level → (c : Chain) (a : StoredTree)
+pub rest_ends : (names : Names) (n : ℕ) (s : List ℕ) (at k b : ℕ) → k < tightest_level → (c : Chain) (a : StoredTree)
     (before after : List ℕ) (t : StoredTree) (r : Link) → (r.on ≡ false) × (r.tree ≡ t)
     → WithinStored s at at a.len t → MoreStored names n s at k atom_level b (held a before) (held t after)
     → RestMade names n s at k b c a before after r
-rest-ends names n s at k b lt c a before after t r e w m = record {
+rest_ends names n s at k b lt c a before after t r e w m = record {
   ends = λ _ _. (rw e.1 w, rw e.1 m);
   closes = λ _ le. absurd (omega (arith, lt, le));
   pushes = λ o. absurd (false≢true (sym e.0 ∙ o));
@@ -159,16 +158,16 @@ chain_none names n s at k b out hi = record {
   few = omega arith;
   some = omega arith;
   fails = λ y z e l E f lt.
-      rw (stored-fail names n s (expr f k b (drop at s)) y e (E f lt)) (same_none names n s z l);
+      rw (stored_fail names n s (expr f k b (drop at s)) y e (E f lt)) (same_none names n s z l);
   goes = λ y bytes long front some lo hi E.
-      subst (λ (t : StoredTree). ExprStored names n s at k b (held t bytes)) (sym (none-waits at y)) E;
+      subst (λ (t : StoredTree). ExprStored names n s at k b (held t bytes)) (sym (none_waits at y)) E;
 }
 
 -- where no operand comes
 pub chain_fails : (names : Names) (n : ℕ) (s : List ℕ) (at k b : ℕ) (c : Chain) (out : List ℕ)
     → ChainStored names n s at k b c out → (a z : TreeBytes) → AtomStored names n s c.next b a
     → a.len ≡ 0 → z.len ≡ 0 → ExprStored names n s at k b z
-chain_fails names n s at k b c out C a z A e l = C.fails a z e l (expr-fail names n s c.next k b a A e)
+chain_fails names n s at k b c out C a z A e l = C.fails a z e l (expr_fail names n s c.next k b a A e)
 
 -- where an operand of a chain stands
 abbrev pub Within : List ℕ → Chain → StoredTree → Type 0
@@ -180,7 +179,7 @@ module _ (names : Names) (n : ℕ) (s : List ℕ) (at k b : ℕ) (c : Chain) (ou
     (A : AtomStored names n s c.next b (held a part)) (w : WithinStored s (c.next + 1) c.next 0 a)
     (some : a.len ≡ 0 → ⊥) where
   p : Within s c a
-  p = got-within s (c.next + 1) c.next 0 a some w
+  p = got_within s (c.next + 1) c.next 0 a some w
 
   back : a.len ≤ length (drop c.len mid) → drop c.len mid ≡ part
   back h = j.back (omega (arith, h, some, length-drop c.len mid, j.long))
@@ -188,9 +187,9 @@ module _ (names : Names) (n : ℕ) (s : List ℕ) (at k b : ℕ) (c : Chain) (ou
   pub chain_ends : (t : StoredTree) (after : List ℕ) → Closes s k c a mid after t
       → WithinStored s (at + 1) at 0 t × ExprStored names n s at k b (held t after)
   chain_ends t after x =
-      let E = expr-ends names n s k b c.next (held a part) A some (omega (arith, p.0)) p.1 x.is_taken in
+      let E = expr_ends names n s k b c.next (held a part) A some (omega (arith, p.0)) p.1 x.is_taken in
       let F = C.goes a mid j.long (λ h. j.front (omega (arith, h))) some (omega (arith, p.0)) p.1
-      (expr-bytes names n s c.next k b a part (drop c.len mid) some back E) in (
+      (expr_bytes names n s c.next k b a part (drop c.len mid) some back E) in (
         rw x.is_whole (here_within s (at + 1) at 0 (chained c a) (omega (arith, C.low, p.0)) p.1
             (omega (arith, C.grown, p.2)) (deep_le C.flat (omega (arith, C.few, p.3)))),
         rw (x.is_whole, x.kept) F,
@@ -219,15 +218,15 @@ module _ (names : Names) (n : ℕ) (s : List ℕ) (at k b : ℕ) (c : Chain) (ou
       let start : AtomStored names n s at b (held a mid) =
       subst (λ (x : ℕ). AtomStored names n s x b (held a mid)) cn
       (subst (λ (l : List ℕ). AtomStored names n s c.next b (held a l)) (sym (rw cl at whole)) A) in
-      let p = got-within s (c.next + 1) c.next 0 a some w in
+      let p = got_within s (c.next + 1) c.next 0 a some w in
       let q = R.ends e lt in (
-        up-within s a.next a.next a.len (at + 1) at 0 r.tree (omega (arith, p.0, cn))
+        up_within s a.next a.next a.len (at + 1) at 0 r.tree (omega (arith, p.0, cn))
             (omega (arith, p.2, cn)) q.0,
         expr_go names n s at k b (held a mid) start some (omega (arith, p.0, cn)) p.1 (held r.tree after) q.1,
       )
 
-  pub rest-whole : Whole
-  rest-whole = go (ltb k tightest_level) refl
+  pub rest_whole : Whole
+  rest_whole = go (ltb k tightest_level) refl
     where
       go : (x : Bool) → ltb k tightest_level ≡ x → Whole
       go true t = loose (ltb-true k tightest_level t)

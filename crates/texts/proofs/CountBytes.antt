@@ -10,68 +10,68 @@ use lib.Seq.{get_or-set_same, get_or-set_other}
 use Rattle.rules.specs.Limits.{fields_most}
 use Rattle.laws.specs.Places.{two_at}
 use Rattle.texts.specs.StateNumbers.{twos_in}
-use Rattle.texts.proofs.NameAreas.{drop-take}
+use Rattle.texts.proofs.NameAreas.{drop_take}
 
-two-drop : (k : ℕ) (b : List ℕ) (i : ℕ) → two_at (drop k b) i ≡ two_at b (k + i)
+two_drop : (k : ℕ) (b : List ℕ) (i : ℕ) → two_at (drop k b) i ≡ two_at b (k + i)
 unfolding two_at
-two-drop k b i =
+two_drop k b i =
     let e : k + (i + 1) ≡ k + i + 1 = omega arith in rw (get_or-drop k b i 0, get_or-drop k b (i + 1) 0, e) refl
 
-two-take : (n : ℕ) (b : List ℕ) (i : ℕ) → i + 1 < n → two_at (take n b) i ≡ two_at b i
+two_take : (n : ℕ) (b : List ℕ) (i : ℕ) → i + 1 < n → two_at (take n b) i ≡ two_at b i
 unfolding two_at
-two-take n b i h = rw (get_or-take n b i 0 (omega arith), get_or-take n b (i + 1) 0 h) refl
+two_take n b i h = rw (get_or-take n b i 0 (omega arith), get_or-take n b (i + 1) 0 h) refl
 
-pub twos-length : (n : ℕ) (b : List ℕ) → length (twos_in n b) ≡ n
+pub twos_length : (n : ℕ) (b : List ℕ) → length (twos_in n b) ≡ n
 unfolding twos_in
-twos-length zero b = refl
-twos-length (suc n) b = ap suc (twos-length n (drop 2 b))
+twos_length zero b = refl
+twos_length (suc n) b = ap suc (twos_length n (drop 2 b))
 
-pub twos-take : (n : ℕ) (b : List ℕ) → twos_in n (take (2 * n) b) ≡ twos_in n b
+pub twos_take : (n : ℕ) (b : List ℕ) → twos_in n (take (2 * n) b) ≡ twos_in n b
 unfolding twos_in
-twos-take zero b = refl
-twos-take (suc n) b =
+twos_take zero b = refl
+twos_take (suc n) b =
     let e : 2 * suc n ≡ 2 + 2 * n = omega arith in
-    let first : two_at (take (2 + 2 * n) b) 0 ≡ two_at b 0 = two-take (2 + 2 * n) b 0 (omega arith) in
+    let first : two_at (take (2 + 2 * n) b) 0 ≡ two_at b 0 = two_take (2 + 2 * n) b 0 (omega arith) in
     let rest : twos_in n (drop 2 (take (2 + 2 * n) b)) ≡ twos_in n (drop 2 b) =
-    ap (λ (t : List ℕ). twos_in n t) (drop-take 2 (2 * n) b) ∙ twos-take n (drop 2 b) in
+    ap (λ (t : List ℕ). twos_in n t) (drop_take 2 (2 * n) b) ∙ twos_take n (drop 2 b) in
     ap (λ (m : ℕ). twos_in (suc n) (take m b)) e ∙ rw (first, rest) refl
 
 -- n numbers depend on the first 2 * n bytes
-pub twos-front : (n : ℕ) (a b : List ℕ) → take (2 * n) a ≡ take (2 * n) b → twos_in n a ≡ twos_in n b
-twos-front n a b e = sym (twos-take n a) ∙ ap (λ (t : List ℕ). twos_in n t) e ∙ twos-take n b
+pub twos_front : (n : ℕ) (a b : List ℕ) → take (2 * n) a ≡ take (2 * n) b → twos_in n a ≡ twos_in n b
+twos_front n a b e = sym (twos_take n a) ∙ ap (λ (t : List ℕ). twos_in n t) e ∙ twos_take n b
 
-pub twos-at : (n : ℕ) (b : List ℕ) (i : ℕ) → i < n → get_or (twos_in n b) i 0 ≡ two_at b (2 * i)
+pub twos_at : (n : ℕ) (b : List ℕ) (i : ℕ) → i < n → get_or (twos_in n b) i 0 ≡ two_at b (2 * i)
 unfolding twos_in
-twos-at zero b i h = absurd (omega arith)
-twos-at (suc n) b zero h = refl
-twos-at (suc n) b (suc i) h =
+twos_at zero b i h = absurd (omega arith)
+twos_at (suc n) b zero h = refl
+twos_at (suc n) b (suc i) h =
     let e : 2 * suc i ≡ 2 + 2 * i = omega arith in
-    rw e (twos-at n (drop 2 b) i (omega arith) ∙ two-drop 2 b (2 * i))
+    rw e (twos_at n (drop 2 b) i (omega arith) ∙ two_drop 2 b (2 * i))
 
-twos-snoc : (n : ℕ) (b : List ℕ) → twos_in (suc n) b ≡ twos_in n b ++ (two_at b (2 * n) ∷ [])
+twos_snoc : (n : ℕ) (b : List ℕ) → twos_in (suc n) b ≡ twos_in n b ++ (two_at b (2 * n) ∷ [])
 unfolding twos_in
-twos-snoc zero b = refl
-twos-snoc (suc n) b =
+twos_snoc zero b = refl
+twos_snoc (suc n) b =
     let e : 2 * suc n ≡ 2 + 2 * n = omega arith in
-    let rest = twos-snoc n (drop 2 b) in
+    let rest = twos_snoc n (drop 2 b) in
     ap (λ (t : List ℕ). two_at b 0 ∷ t)
     (rest
     ∙ ap (λ (m : ℕ). twos_in n (drop 2 b) ++ (m ∷ []))
-    (two-drop 2 b (2 * n) ∙ ap (λ (m : ℕ). two_at b m) (sym e)))
+    (two_drop 2 b (2 * n) ∙ ap (λ (m : ℕ). two_at b m) (sym e)))
 
-pub twos-more : (n : ℕ) (b : List ℕ) → twos_in (n + 1) b ≡ twos_in n b ++ (two_at b (2 * n) ∷ [])
-twos-more n b = ap (λ (m : ℕ). twos_in m b) (add-one n) ∙ twos-snoc n b
+pub twos_more : (n : ℕ) (b : List ℕ) → twos_in (n + 1) b ≡ twos_in n b ++ (two_at b (2 * n) ∷ [])
+twos_more n b = ap (λ (m : ℕ). twos_in m b) (add-one n) ∙ twos_snoc n b
 
-pub twos-none : (s counts : List ℕ) → take 0 counts ≡ twos_in 0 s
+pub twos_none : (s counts : List ℕ) → take 0 counts ≡ twos_in 0 s
 unfolding twos_in
-twos-none s counts = refl
+twos_none s counts = refl
 
 -- one more number is loaded
 pub twos_loaded : (s counts : List ℕ) (i v : ℕ) → i < length counts → v ≡ two_at s (2 * i)
     → take i counts ≡ twos_in i s → take (i + 1) (set counts i v) ≡ twos_in (i + 1) s
 twos_loaded s counts i v h e so_far =
     ap (λ (m : ℕ). take m (set counts i v)) (add-one i) ∙ take-suc-set counts i v h
-    ∙ ap (λ (t : List ℕ). t ++ (v ∷ [])) so_far ∙ ap (λ (m : ℕ). twos_in i s ++ (m ∷ [])) e ∙ sym (twos-more i s)
+    ∙ ap (λ (t : List ℕ). t ++ (v ∷ [])) so_far ∙ ap (λ (m : ℕ). twos_in i s ++ (m ∷ [])) e ∙ sym (twos_more i s)
 
 pub all_loaded : (s counts : List ℕ) (i : ℕ) → i ≡ fields_most → length counts ≡ fields_most
     → take i counts ≡ twos_in i s → counts ≡ twos_in fields_most s
@@ -108,20 +108,20 @@ module _ (s counts : List ℕ) (i n : ℕ) (room : 2 * i + 1 < length s) where
       let front : take (2 * i) wrote ≡ take (2 * i) s =
       take-set-le (2 * i) (set s (2 * i) (n % 256)) (2 * i + 1) (n / 256) (omega arith)
       ∙ take-set-le (2 * i) s (2 * i) (n % 256) (omega arith) in
-      twos-more i wrote ∙ ap (λ (t : List ℕ). t ++ (two_at wrote (2 * i) ∷ [])) (twos-front i wrote s front ∙ so_far)
+      twos_more i wrote ∙ ap (λ (t : List ℕ). t ++ (two_at wrote (2 * i) ∷ [])) (twos_front i wrote s front ∙ so_far)
       ∙ ap (λ (m : ℕ). take i counts ++ (m ∷ [])) (two_wrote h ∙ e)
       ∙ sym (take-suc counts i 0 less) ∙ ap (λ (m : ℕ). take m counts) (sym (add-one i))
 
-  pub twos-beyond : (k : ℕ) → 2 * i + 1 < k
+  pub twos_beyond : (k : ℕ) → 2 * i + 1 < k
       → drop k (set (set s (2 * i) (n % 256)) (2 * i + 1) (n / 256)) ≡ drop k s
-  twos-beyond k h =
+  twos_beyond k h =
       drop-set-lt k (set s (2 * i) (n % 256)) (2 * i + 1) (n / 256) h
       ∙ drop-set-lt k s (2 * i) (n % 256) (omega arith)
 
 -- where no field is read
-pub twos-zeros : (n : ℕ) → twos_in n (replicate (2 * n) 0) ≡ replicate n 0
+pub twos_zeros : (n : ℕ) → twos_in n (replicate (2 * n) 0) ≡ replicate n 0
 unfolding twos_in two_at
-twos-zeros zero = refl
-twos-zeros (suc n) =
+twos_zeros zero = refl
+twos_zeros (suc n) =
     let e : 2 * suc n ≡ suc (suc (2 * n)) = omega arith in
-    ap (λ (m : ℕ). twos_in (suc n) (replicate m 0)) e ∙ ap (λ (t : List ℕ). 0 ∷ t) (twos-zeros n)
+    ap (λ (m : ℕ). twos_in (suc n) (replicate m 0)) e ∙ ap (λ (t : List ℕ). 0 ∷ t) (twos_zeros n)

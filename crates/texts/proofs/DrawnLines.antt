@@ -9,7 +9,7 @@ use lib.Dec.{ltb, eqb}
 use lib.ListN.{length, get_or, length-append, length-map}
 use borrow.Author.Tests.{ltb-true, lt-ltb, eqb-true, eq-eqb}
 use Rattle.base.specs.Lists.{all, joined, sum}
-use Rattle.base.proofs.Lists.{and_left, and_right, and_both, not-both, between_true, true_between}
+use Rattle.base.proofs.Lists.{and_left, and_right, and_both, not_both, between_true, true_between}
 use Rattle.base.proofs.Lists.{all_append, all_back}
 use Rattle.base.proofs.Lookups.{test_eq}
 use Rattle.rules.specs.Limits.{row_lines_most}
@@ -18,7 +18,7 @@ use Rattle.rules.specs.Frames.{is_line}
 use Rattle.text_laws.specs.Bars.{same_bars}
 use Rattle.text_laws.specs.FrameReader.{keep_row, strips_of, read_row, with_strips, more_row}
 use Rattle.text_laws.proofs.RowReader.{Reads, row_sound, more_sound, row_more}
-use Rattle.text_laws.proofs.RowReader.{is_tall, drawn-sum, drawn_tall, drawn_fitted}
+use Rattle.text_laws.proofs.RowReader.{is_tall, drawn_sum, drawn_tall, drawn_fitted}
 use Rattle.text_laws.proofs.SameBars.{bars_fit, fit_bars}
 use Rattle.text_laws.proofs.SplitLaws.{ended_by}
 use Rattle.bars.specs.Goes.{goes_on}
@@ -30,8 +30,8 @@ strips_size : (bits : List ℕ) (ss : List (List ℕ)) → are_fitted bits ss �
     → length (joined (ended_by 124) ss) ≡ 2 * sum (λ n. n) bits
 unfolding are_fitted joined sum
 strips_size [] [] h = refl
-strips_size [] (s ∷ ss) h = absurd (not-both false h refl)
-strips_size (n ∷ bits) [] h = absurd (not-both false h refl)
+strips_size [] (s ∷ ss) h = absurd (not_both false h refl)
+strips_size (n ∷ bits) [] h = absurd (not_both false h refl)
 strips_size (n ∷ bits) (s ∷ ss) h =
     let p = eqb-true (length s + 1) (2 * n)
     (and_left (eqb (length s + 1) (2 * n)) _ (and_left (is_fitted 124 n s) (are_fitted bits ss) h)) in
@@ -39,49 +39,49 @@ strips_size (n ∷ bits) (s ∷ ss) h =
     omega (arith, p, q, length-append (s ++ (124 ∷ [])) (joined (ended_by 124) ss), length-append s (124 ∷ []))
 
 -- each line has two columns for each bit, and one more
-pub drawn-size : (w : ℕ) (x : Row) → is_drawn_row row_lines_most w x ≡ true
+pub drawn_size : (w : ℕ) (x : Row) → is_drawn_row row_lines_most w x ≡ true
     → all (λ l. eqb (length l) (2 * w + 1)) (row_lines x) ≡ true
 unfolding row_lines all
-drawn-size w (bit_row bits lines) h = go lines (drawn_fitted w bits lines h)
+drawn_size w (bit_row bits lines) h = go lines (drawn_fitted w bits lines h)
   where
     go : (more : List (List (List ℕ))) → all (are_fitted bits) more ≡ true
         → all (λ l. eqb (length l) (2 * w + 1)) (map bar_line more) ≡ true
     go [] f = refl
     go (ss ∷ more) f =
         let p = strips_size bits ss (and_left (are_fitted bits ss) (all (are_fitted bits) more) f) in
-        let q = eqb-true (sum (λ n. n) bits) w (drawn-sum w bits lines h) in
+        let q = eqb-true (sum (λ n. n) bits) w (drawn_sum w bits lines h) in
         and_both (eqb (length (bar_line ss)) (2 * w + 1)) _
         (eq-eqb (length (bar_line ss)) (2 * w + 1) (omega (arith, p, q)))
         (go more (and_right (are_fitted bits ss) (all (are_fitted bits) more) f))
-drawn-size w (long_row n s) h =
+drawn_size w (long_row n s) h =
     let p = eqb-true n w (and_left (eqb n w) (is_fitted 58 n s) h) in
     let q = eqb-true (length s + 1) (2 * n)
     (and_left (eqb (length s + 1) (2 * n)) _ (and_right (eqb n w) (is_fitted 58 n s) h)) in
     and_both (eqb (suc (length (s ++ (58 ∷ [])))) (2 * w + 1)) true
     (eq-eqb (suc (length (s ++ (58 ∷ [])))) (2 * w + 1) (omega (arith, p, q, length-append s (58 ∷ [])))) refl
 
-pub drawn-count : (w : ℕ) (x : Row) → is_drawn_row row_lines_most w x ≡ true
+pub drawn_count : (w : ℕ) (x : Row) → is_drawn_row row_lines_most w x ≡ true
     → (1 ≤ length (row_lines x)) × (length (row_lines x) ≤ row_lines_most)
 unfolding row_lines
-drawn-count w (bit_row bits lines) h =
+drawn_count w (bit_row bits lines) h =
     rw (length-map lines bar_line) (between_true 1 (length lines) row_lines_most (drawn_tall w bits lines h))
-drawn-count w (long_row n s) h = (omega arith, omega arith)
+drawn_count w (long_row n s) h = (omega arith, omega arith)
 
 -- the row of a first line has that line
-pub row-lines-one : (w : ℕ) (l : List ℕ) (x : Row) → read_row w l ≡ some x
+pub row_lines_one : (w : ℕ) (l : List ℕ) (x : Row) → read_row w l ≡ some x
     → (row_lines x ≡ l ∷ []) × (is_drawn_row row_lines_most w x ≡ true) × (length l ≡ 2 * w + 1)
 unfolding all
-row-lines-one w l x e =
+row_lines_one w l x e =
     let r : Reads w (l ∷ []) (some x) = rw e at (row_sound w l) in
-    let s : all (λ l. eqb (length l) (2 * w + 1)) (l ∷ []) ≡ true = rw r.1 at (drawn-size w x r.0) in
+    let s : all (λ l. eqb (length l) (2 * w + 1)) (l ∷ []) ≡ true = rw r.1 at (drawn_size w x r.0) in
     (r.1, r.0, eqb-true (length l) (2 * w + 1) (and_left (eqb (length l) (2 * w + 1)) true s))
 
 -- ── one more line of a drawn row ──
 
 -- the row with one more line has that behind its lines
-pub more-lines : (w : ℕ) (x y : Row) (l : List ℕ) → more_row w x l ≡ some y
+pub more_lines : (w : ℕ) (x y : Row) (l : List ℕ) → more_row w x l ≡ some y
     → (row_lines y ≡ row_lines x ++ (l ∷ [])) × (is_drawn_row row_lines_most w y ≡ true)
-more-lines w x y l e =
+more_lines w x y l e =
     let r : Reads w (row_lines x ++ (l ∷ [])) (some y) = rw e at (more_sound w x l) in (r.1, r.0)
 
 last_eq : (ls : List (List ℕ)) (a b : List ℕ) → ls ++ (a ∷ []) ≡ ls ++ (b ∷ []) → a ≡ b
@@ -100,10 +100,10 @@ module _ (w : ℕ) (bits : List ℕ) (ss : List (List ℕ)) (more : List (List (
   first_fitted = and_left (are_fitted bits ss) (all (are_fitted bits) more) (drawn_fitted w bits (ss ∷ more) d)
 
   -- a line that goes on is read
-  goes-read : is_line l ≡ true → (ltb (suc (length more)) row_lines_most && same_bars (bar_line ss) l) ≡ true
+  goes_read : is_line l ≡ true → (ltb (suc (length more)) row_lines_most && same_bars (bar_line ss) l) ≡ true
       → is_some (more_row w (bit_row bits (ss ∷ more)) l) ≡ true
   unfolding all
-  goes-read i h =
+  goes_read i h =
       let n = ltb-true (suc (length more)) row_lines_most
       (and_left (ltb (suc (length more)) row_lines_most) (same_bars (bar_line ss) l) h) in
       let t = bars_fit bits ss l first_fitted i
@@ -111,7 +111,7 @@ module _ (w : ℕ) (bits : List ℕ) (ss : List (List ℕ)) (more : List (List (
       let lines : List (List (List ℕ)) = (ss ∷ more) ++ (t.0 ∷ []) in
       let k : length lines ≡ suc (length more) + 1 = length-append (ss ∷ more) (t.0 ∷ []) in
       let e : is_drawn_row row_lines_most w (bit_row bits lines) ≡ true =
-      and_both (eqb (sum (λ n. n) bits) w) _ (drawn-sum w bits (ss ∷ more) d)
+      and_both (eqb (sum (λ n. n) bits) w) _ (drawn_sum w bits (ss ∷ more) d)
       (and_both (is_tall lines) (all (are_fitted bits) lines)
       (true_between 1 (length lines) row_lines_most (omega (arith, k)) (omega (arith, k, n)))
       (all_append (are_fitted bits) (ss ∷ more) (t.0 ∷ []) (drawn_fitted w bits (ss ∷ more) d)
@@ -131,7 +131,7 @@ module _ (w : ℕ) (bits : List ℕ) (ss : List (List ℕ)) (more : List (List (
           → Reads w (map bar_line (ss ∷ more) ++ (l ∷ []))
           (cond x (some (bit_row bits (ss ∷ (more ++ (ts ∷ []))))) none)
           → (ltb (suc (length more)) row_lines_most && same_bars (bar_line ss) l) ≡ true
-      kept ts false e h r = absurd (not-both false h refl)
+      kept ts false e h r = absurd (not_both false h refl)
       kept ts true e h r =
           let lines : List (List (List ℕ)) = ss ∷ (more ++ (ts ∷ [])) in
           let k : length lines ≡ suc (length more) + 1 = length-append (ss ∷ more) (ts ∷ []) in
@@ -147,20 +147,20 @@ module _ (w : ℕ) (bits : List ℕ) (ss : List (List ℕ)) (more : List (List (
       go : (o : Option (List (List ℕ))) → is_some (with_strips w (bit_row bits (ss ∷ more)) o) ≡ true
           → Reads w (map bar_line (ss ∷ more) ++ (l ∷ [])) (with_strips w (bit_row bits (ss ∷ more)) o)
           → (ltb (suc (length more)) row_lines_most && same_bars (bar_line ss) l) ≡ true
-      go none h r = absurd (not-both false h refl)
+      go none h r = absurd (not_both false h refl)
       go (some ts) h r = kept ts (is_drawn_row row_lines_most w (bit_row bits (ss ∷ (more ++ (ts ∷ []))))) refl h r
 
 -- a line is one more of a drawn row exactly if it goes on behind the row's lines
-pub more-goes : (w : ℕ) (x : Row) (l : List ℕ) → is_drawn_row row_lines_most w x ≡ true → is_line l ≡ true
+pub more_goes : (w : ℕ) (x : Row) (l : List ℕ) → is_drawn_row row_lines_most w x ≡ true → is_line l ≡ true
     → is_some (more_row w x l) ≡ goes_on (length (row_lines x)) (get_or (row_lines x) 0 []) l
 unfolding row_lines more_row with_strips
-more-goes w (bit_row bits []) l d i = absurd (not-both false (drawn_tall w bits [] d) refl)
-more-goes w (bit_row bits (ss ∷ more)) l d i =
+more_goes w (bit_row bits []) l d i = absurd (not_both false (drawn_tall w bits [] d) refl)
+more_goes w (bit_row bits (ss ∷ more)) l d i =
     rw (length-map more bar_line)
     (test_eq (is_some (more_row w (bit_row bits (ss ∷ more)) l))
     (ltb (suc (length more)) row_lines_most && same_bars (bar_line ss) l)
-    (read_goes w bits ss more l d) (goes-read w bits ss more l d i))
-more-goes w (long_row n s) l d i = go (strips_of l)
+    (read_goes w bits ss more l d) (goes_read w bits ss more l d i))
+more_goes w (long_row n s) l d i = go (strips_of l)
   where
     go : (o : Option (List (List ℕ))) → is_some (with_strips w (long_row n s) o) ≡ false
     go none = refl

@@ -9,7 +9,7 @@ use lib.Dec.{eqb}
 use lib.ListN.{length, take, drop, length-drop}
 use lib.Seq.{length-take-le, drop-drop}
 use borrow.Author.Tests.{eq-eqb, eqb-true}
-use Rattle.base.proofs.Lists.{not-both}
+use Rattle.base.proofs.Lists.{not_both}
 use Rattle.base.specs.Lists.{is_empty}
 use Rattle.rules.specs.Answers.{accepted, refused, of_text}
 use Rattle.rules.specs.Limits.{text_most, line_most, fields_most}
@@ -18,18 +18,18 @@ use Rattle.rules.specs.Promises.{ReadsText, leaves}
 use Rattle.rules.specs.declared.TextAnswer.{TextAnswer}
 use Rattle.laws.specs.Places.{two_at}
 use Rattle.text_laws.specs.Fold as fold
-use Rattle.text_laws.proofs.Answering.{kept-answers}
-use Rattle.text_laws.proofs.FedAlike.{finish-alike}
-use Rattle.text_laws.proofs.FedRuns.{kept-size}
+use Rattle.text_laws.proofs.Answering.{kept_answers}
+use Rattle.text_laws.proofs.FedAlike.{finish_alike}
+use Rattle.text_laws.proofs.FedRuns.{kept_size}
 use Rattle.texts.specs.HeldAreas.{table_at, cell_bytes, name_bytes, label_bytes, table_bytes}
 use Rattle.texts.specs.HeldNames.{labels_in, names_in}
 use Rattle.texts.specs.States.{area, EndStep}
 use Rattle.texts.specs.StateNumbers.{used_at, line_at, held_at, state_room, reading_in, Loaded, twos_in}
 use Rattle.texts.specs.PieceStates.{held_line, row_bytes, count_bytes, held_bytes, StateHolds, Left}
 use Rattle.texts.specs.declared.states.Reading.{Reading}
-use Rattle.texts.proofs.LeftStates.{left-room, left-whole}
-use Rattle.texts.proofs.LineWalk.{reads-long}
-use Rattle.texts.proofs.NameAreas.{drop-take}
+use Rattle.texts.proofs.LeftStates.{left_room, left_whole}
+use Rattle.texts.proofs.LineWalk.{reads_long}
+use Rattle.texts.proofs.NameAreas.{drop_take}
 use Rattle.texts.proofs.StateSteps.{empty_nil, filled_nil}
 
 -- where the table is lent from
@@ -40,16 +40,16 @@ abbrev table_lent : List ℕ → List ℕ
 table_lent s = take (state_room - table_from) (drop table_from s)
 
 module _ (s : List ℕ) (room : state_room ≤ length s) where
-  table-lent : table_lent s ≡ table_bytes (held_bytes s)
-  table-lent =
+  table_lent_lem : table_lent s ≡ table_bytes (held_bytes s)
+  table_lent_lem =
       sym (
-      drop-take table_at (state_room - table_from) (drop held_at s)
+      drop_take table_at (state_room - table_from) (drop held_at s)
       ∙ ap (take (state_room - table_from)) (drop-drop table_at held_at s)
       )
 
   -- the line is empty exactly where none of its bytes is used
-  line-empty : two_at s used_at ≤ line_most → is_empty (held_line s) ≡ eqb (two_at s used_at) 0
-  line-empty le = go (eqb (two_at s used_at) 0) refl
+  line_empty : two_at s used_at ≤ line_most → is_empty (held_line s) ≡ eqb (two_at s used_at) 0
+  line_empty le = go (eqb (two_at s used_at) 0) refl
     where
       long : length (held_line s) ≡ two_at s used_at
       long =
@@ -60,24 +60,24 @@ module _ (s : List ℕ) (room : state_room ≤ length s) where
       go true e = empty_nil (held_line s) (long ∙ eqb-true (two_at s used_at) 0 e)
       go false e =
           filled_nil (held_line s)
-          (λ z. not-both (eqb (two_at s used_at) 0) (eq-eqb (two_at s used_at) 0 (sym long ∙ z)) e)
+          (λ z. not_both (eqb (two_at s used_at) 0) (eq-eqb (two_at s used_at) 0 (sym long ∙ z)) e)
 
   -- what is kept at the end, by a state that holds it
   module _ (r : Reading) (out after : List ℕ) (a : TextAnswer)
       (step : EndStep r (eqb (two_at s used_at) 0) (row_bytes s)
       (area (table_lent s) (twos_in fields_most (count_bytes s))) out after a) where
-    holds-finish : (k : fold.Kept) → StateHolds k s → r ≡ reading_in s → leaves (of_text a) after ≡ fold.finish k out
-    holds-finish k h e =
+    holds_finish : (k : fold.Kept) → StateHolds k s → r ≡ reading_in s → leaves (of_text a) after ≡ fold.finish k out
+    holds_finish k h e =
         let q : fold.Kept = record { size = k.size; line = held_line s; found = k.found } in
-        let at-end : EndStep (reading_in s) (eqb (two_at s used_at) 0) (row_bytes s)
+        let at_end : EndStep (reading_in s) (eqb (two_at s used_at) 0) (row_bytes s)
         (area (table_bytes (held_bytes s)) (twos_in fields_most (count_bytes s))) out after a =
         subst (λ (t : List ℕ). EndStep (reading_in s) (eqb (two_at s used_at) 0) (row_bytes s)
-        (area t (twos_in fields_most (count_bytes s))) out after a) table-lent
+        (area t (twos_in fields_most (count_bytes s))) out after a) table_lent_lem
         (subst (λ (x : Reading). EndStep x (eqb (two_at s used_at) 0) (row_bytes s)
         (area (table_lent s) (twos_in fields_most (count_bytes s))) out after a) e step) in
-        at-end q (cell_bytes (held_bytes s)) (labels_in (label_bytes (held_bytes s))) (names_in (name_bytes (held_bytes s)))
-        (line-empty h.used) h.kept.steady h.kept.rows h.kept.holds
-        ∙ sym (finish-alike k q out (record { found = refl; line = λ z. sym (h.line z) }))
+        at_end q (cell_bytes (held_bytes s)) (labels_in (label_bytes (held_bytes s))) (names_in (name_bytes (held_bytes s)))
+        (line_empty h.used) h.kept.steady h.kept.rows h.kept.holds
+        ∙ sym (finish_alike k q out (record { found = refl; line = λ z. sym (h.line z) }))
 
     pub state_reads : (size : ℕ) → size ≤ text_most → size ≡ two_at s 0 → Loaded size s r → (text : List ℕ)
         → Left text s → ReadsText text out (leaves (of_text a) after)
@@ -89,42 +89,42 @@ module _ (s : List ℕ) (room : state_room ≤ length s) where
             let short : length text ≤ text_most = omega (arith, few) in
             let h = left.holds short in
             let n = left.size short in
-            let m = kept-size text short in
+            let m = kept_size text short in
             let lines = h.fits.1 in
             let same = loaded.same (h.fits.0, omega (arith, e, n, m, lines)) in
-            subst (ReadsText text out) (sym (holds-finish (fold.kept text) h same)) (kept-answers text out)
+            subst (ReadsText text out) (sym (holds_finish (fold.kept text) h same)) (kept_answers text out)
 
 -- each answer is of document 01's form
-refused-leaves : (a : TextAnswer) (after out : List ℕ) → ((of_text a).number ≡ 0 → ⊥) → after ≡ out
+refused_leaves : (a : TextAnswer) (after out : List ℕ) → ((of_text a).number ≡ 0 → ⊥) → after ≡ out
     → leaves (of_text a) after ≡ leaves (refused (of_text a).number (of_text a).place) out
 unfolding of_text
-refused-leaves (TextAnswer.Accepted n) after out told e = absurd (told refl)
-refused-leaves TextAnswer.TooLong after out told e = ap (leaves (refused 1 0)) e
-refused-leaves TextAnswer.BadByte after out told e = ap (leaves (refused 2 0)) e
-refused-leaves (TextAnswer.BadLine p) after out told e = ap (leaves (refused 3 p)) e
-refused-leaves TextAnswer.TooMany after out told e = ap (leaves (refused 4 0)) e
-refused-leaves (TextAnswer.BadForm p) after out told e = ap (leaves (refused 5 p)) e
-refused-leaves (TextAnswer.OverLimit p) after out told e = ap (leaves (refused 6 p)) e
-refused-leaves (TextAnswer.Mismatch p) after out told e = ap (leaves (refused 7 p)) e
-refused-leaves (TextAnswer.Repeated p) after out told e = ap (leaves (refused 8 p)) e
-refused-leaves (TextAnswer.BadName p) after out told e = ap (leaves (refused 9 p)) e
-refused-leaves (TextAnswer.BadRest p) after out told e = ap (leaves (refused 10 p)) e
-refused-leaves TextAnswer.NoRoom after out told e = ap (leaves (refused 11 0)) e
+refused_leaves (TextAnswer.Accepted n) after out told e = absurd (told refl)
+refused_leaves TextAnswer.TooLong after out told e = ap (leaves (refused 1 0)) e
+refused_leaves TextAnswer.BadByte after out told e = ap (leaves (refused 2 0)) e
+refused_leaves (TextAnswer.BadLine p) after out told e = ap (leaves (refused 3 p)) e
+refused_leaves TextAnswer.TooMany after out told e = ap (leaves (refused 4 0)) e
+refused_leaves (TextAnswer.BadForm p) after out told e = ap (leaves (refused 5 p)) e
+refused_leaves (TextAnswer.OverLimit p) after out told e = ap (leaves (refused 6 p)) e
+refused_leaves (TextAnswer.Mismatch p) after out told e = ap (leaves (refused 7 p)) e
+refused_leaves (TextAnswer.Repeated p) after out told e = ap (leaves (refused 8 p)) e
+refused_leaves (TextAnswer.BadName p) after out told e = ap (leaves (refused 9 p)) e
+refused_leaves (TextAnswer.BadRest p) after out told e = ap (leaves (refused 10 p)) e
+refused_leaves TextAnswer.NoRoom after out told e = ap (leaves (refused 11 0)) e
 
-accepted-is : (a : TextAnswer) → (of_text a).number ≡ 0 → of_text a ≡ accepted (of_text a).amount
+accepted_is : (a : TextAnswer) → (of_text a).number ≡ 0 → of_text a ≡ accepted (of_text a).amount
 unfolding of_text
-accepted-is (TextAnswer.Accepted n) e = refl
-accepted-is TextAnswer.TooLong e = absurd (omega (arith, e))
-accepted-is TextAnswer.BadByte e = absurd (omega (arith, e))
-accepted-is (TextAnswer.BadLine p) e = absurd (omega (arith, e))
-accepted-is TextAnswer.TooMany e = absurd (omega (arith, e))
-accepted-is (TextAnswer.BadForm p) e = absurd (omega (arith, e))
-accepted-is (TextAnswer.OverLimit p) e = absurd (omega (arith, e))
-accepted-is (TextAnswer.Mismatch p) e = absurd (omega (arith, e))
-accepted-is (TextAnswer.Repeated p) e = absurd (omega (arith, e))
-accepted-is (TextAnswer.BadName p) e = absurd (omega (arith, e))
-accepted-is (TextAnswer.BadRest p) e = absurd (omega (arith, e))
-accepted-is TextAnswer.NoRoom e = absurd (omega (arith, e))
+accepted_is (TextAnswer.Accepted n) e = refl
+accepted_is TextAnswer.TooLong e = absurd (omega (arith, e))
+accepted_is TextAnswer.BadByte e = absurd (omega (arith, e))
+accepted_is (TextAnswer.BadLine p) e = absurd (omega (arith, e))
+accepted_is TextAnswer.TooMany e = absurd (omega (arith, e))
+accepted_is (TextAnswer.BadForm p) e = absurd (omega (arith, e))
+accepted_is (TextAnswer.OverLimit p) e = absurd (omega (arith, e))
+accepted_is (TextAnswer.Mismatch p) e = absurd (omega (arith, e))
+accepted_is (TextAnswer.Repeated p) e = absurd (omega (arith, e))
+accepted_is (TextAnswer.BadName p) e = absurd (omega (arith, e))
+accepted_is (TextAnswer.BadRest p) e = absurd (omega (arith, e))
+accepted_is TextAnswer.NoRoom e = absurd (omega (arith, e))
 
 -- the end of a state that is long enough, of a text that is not too long; how many bytes of the line are used, and the
 -- counts, as the code reads them
@@ -141,19 +141,19 @@ state_ends s a {used} {size} {counts} {out} {after} {r} room le e loaded u c ste
     after a) u
     (subst (λ (l : List ℕ). EndStep r (eqb used 0) (row_bytes s) (area (table_lent s) l) out after a) c step) in
     record {
-      reads = λ text left. state_reads s room r out after a at size le e loaded text (left-whole s left);
-      refusal = λ told. refused-leaves a after out told (kept told);
-      written = λ none. record { answer = accepted-is a none; within = within; long = long; beyond = beyond };
+      reads = λ text left. state_reads s room r out after a at size le e loaded text (left_whole s left);
+      refusal = λ told. refused_leaves a after out told (kept told);
+      written = λ none. record { answer = accepted_is a none; within = within; long = long; beyond = beyond };
       short = λ lt. absurd (omega (arith, lt, room));
     }
 
 -- a state that is too short
-pub short-ends : (s out : List ℕ) → length s < state_room
+pub short_ends : (s out : List ℕ) → length s < state_room
     → EndsText Left s out (leaves (of_text TextAnswer.NoRoom) out) × ((of_text TextAnswer.NoRoom).place ≤ text_most + 1)
 unfolding of_text
-short-ends s out lt = (
+short_ends s out lt = (
   record {
-    reads = λ text left. absurd (let n = left-room s left in omega (arith, n, lt));
+    reads = λ text left. absurd (let n = left_room s left in omega (arith, n, lt));
     refusal = λ told. refl;
     written = λ none. absurd (omega (arith, none));
     short = λ less. refl;
@@ -162,12 +162,12 @@ short-ends s out lt = (
 )
 
 -- the state of a text that is too long
-pub long-ends : (s out : List ℕ) → state_room ≤ length s → text_most < two_at s 0
+pub long_ends : (s out : List ℕ) → state_room ≤ length s → text_most < two_at s 0
     → EndsText Left s out (leaves (of_text TextAnswer.TooLong) out) × ((of_text TextAnswer.TooLong).place ≤ text_most + 1)
 unfolding of_text
-long-ends s out room over = (
+long_ends s out room over = (
   record {
-    reads = λ text left. go text (left-whole s left) (dec_lt text_most (length text));
+    reads = λ text left. go text (left_whole s left) (dec_lt text_most (length text));
     refusal = λ told. refl;
     written = λ none. absurd (omega (arith, none));
     short = λ less. absurd (omega (arith, less, room));
@@ -177,5 +177,5 @@ long-ends s out room over = (
   where
     go : (text : List ℕ) → Left text s → Dec (text_most < length text)
         → ReadsText text out (leaves (of_text TextAnswer.TooLong) out)
-    go text left (yes h) = reads-long text out h
+    go text left (yes h) = reads_long text out h
     go text left (no h) = absurd (let n = left.size (omega (arith, h)) in omega (arith, n, over, h))

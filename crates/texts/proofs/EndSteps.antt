@@ -11,7 +11,7 @@ use lib.Seq.{take-append_seam, drop-append_seam, length-take-le}
 use native.Mathlib.Nat.{sub-zero}
 use borrow.Author.Tests.{lt-ltb, le-ltb, eq-eqb, ne_eqb, eqb-true}
 use Rattle.base.specs.Lists.{is_empty, joined, between, if_any, is_none}
-use Rattle.base.proofs.Lists.{and_left, and_right, between_true, not-both}
+use Rattle.base.proofs.Lists.{and_left, and_right, between_true, not_both}
 use Rattle.writing.specs.Writes.{Writes}
 use Rattle.writing.proofs.Writing.{writes_join}
 use Rattle.rules.specs.Answers.{Answer, accepted, refused}
@@ -26,7 +26,7 @@ use Rattle.references.specs.Numbers.{numbered}
 use Rattle.text_laws.specs.Lowest.{lower}
 use Rattle.text_laws.specs.Fold as fold
 use Rattle.text_laws.specs.Steady.{row_goes, Steady}
-use Rattle.text_laws.proofs.Loose.{lowest-clear}
+use Rattle.text_laws.proofs.Loose.{lowest_clear}
 use Rattle.text_laws.proofs.Steadiness.{none_is}
 use Rattle.texts.specs.HeldNames.{Names}
 use Rattle.texts.specs.Noted.{note_of}
@@ -40,46 +40,46 @@ use Rattle.texts.specs.declared.states.Stage.{Stage}
 use Rattle.texts.specs.declared.states.Stage.TheVariants as at
 use Rattle.texts.specs.declared.states.Reading.{Reading}
 use Rattle.writing.specs.Puts.{placed, put}
-use Rattle.texts.proofs.LineForms.{told-lower}
-use Rattle.texts.proofs.RowShown.{row-labels_like}
+use Rattle.texts.proofs.LineForms.{told_lower}
+use Rattle.texts.proofs.RowShown.{row_labels_like}
 use Rattle.texts.proofs.StateSteps.{blamed_outside}
-use Rattle.texts.proofs.RecordLaws.{two-writes, two-end}
-use Rattle.texts.proofs.RecordNumbers.{records-length, numbered-all}
-use Rattle.texts.proofs.TableLaws.{head-end}
-use Rattle.texts.proofs.RecordSizes.{two-length, counted-length}
+use Rattle.texts.proofs.RecordLaws.{two_writes, two_end}
+use Rattle.texts.proofs.RecordNumbers.{records_length, numbered_all}
+use Rattle.texts.proofs.TableLaws.{head_end}
+use Rattle.texts.proofs.RecordSizes.{two_length, counted_length}
 
 -- ── the lowest refusal ──
 
 module _ (f : fold.Found) (r : Reading) (c : Counts f r) where
-  next-line : r.lines + 1 ≡ suc f.lines
-  next-line = let q = c.lines in omega (arith, q)
+  next_line : r.lines + 1 ≡ suc f.lines
+  next_line = let q = c.lines in omega (arith, q)
 
-  early-is : f.row ≡ none → note_of (early_note r) ≡ fold.early f
+  early_is : f.row ≡ none → note_of (early_note r) ≡ fold.early f
   unfolding note_of
-  early-is e = ap (λ (p : ℕ). some (refused 3 p)) (next-line ∙ sym (blamed_outside f.row f.lines e))
+  early_is e = ap (λ (p : ℕ). some (refused 3 p)) (next_line ∙ sym (blamed_outside f.row f.lines e))
 
   -- in a row
   row_is : (row : List ℕ) (o : Option Row) → not (is_none o) ≡ true
       → if_any (is_drawn_row row_lines_most f.width) o ≡ true → RowKept o r.width r.row row
       → note_of (row_note r row) ≡ some (refused 3 (fold.blamed o f.lines))
   unfolding note_of
-  row_is row none g d k = absurd (not-both false g refl)
+  row_is row none g d k = absurd (not_both false g refl)
   row_is row (some x) g d k =
       ap (λ (b : Bool). note_of (cond b (early_note r) (note 3 r.lines)))
-      (row-labels_like row r.row r.width x
+      (row_labels_like row r.row r.width x
       (subst (λ (w : ℕ). is_drawn_row row_lines_most w x ≡ true) (sym c.width) d) k.lines)
       ∙ go (is_labelled x)
     where
       go : (b : Bool) → note_of (cond b (early_note r) (note 3 r.lines))
           ≡ some (refused 3 (cond b (suc f.lines) f.lines))
-      go true = ap (λ (p : ℕ). some (refused 3 p)) next-line
+      go true = ap (λ (p : ℕ). some (refused 3 p)) next_line
       go false = ap (λ (p : ℕ). some (refused 3 p)) c.lines
 
   remain_is : note_of (remain_note r) ≡ fold.uncelled f
   unfolding note_of
   remain_is =
       go (ltb r.fields r.cells)
-      ∙ ap (λ (p : ℕ). cond (ltb r.fields r.cells) (some (refused 7 p)) none) next-line
+      ∙ ap (λ (p : ℕ). cond (ltb r.fields r.cells) (some (refused 7 p)) none) next_line
       ∙ ap₂ {C = Option Answer} (λ (a b : ℕ). cond (ltb a b) (some (refused 7 (suc f.lines))) none) c.fields
       c.cells
     where
@@ -88,27 +88,27 @@ module _ (f : fold.Found) (r : Reading) (c : Counts f r) where
       go true = refl
       go false = refl
 
-  fields-is : f.row ≡ none → (l : List ℕ) (whole : Bool) → is_empty l ≡ whole
+  fields_is : f.row ≡ none → (l : List ℕ) (whole : Bool) → is_empty l ≡ whole
       → cond whole (lower (note_of r.note) (note_of (remain_note r))) (note_of (early_note r))
       ≡ cond (is_empty l) (lower f.judged.lowest (fold.uncelled f)) (fold.early f)
-  fields-is o l whole e = rw (e, c.lowest, remain_is, early-is o) refl
+  fields_is o l whole e = rw (e, c.lowest, remain_is, early_is o) refl
 
   module _ (k : Steady f) (row : List ℕ) (kept : RowKept f.row r.width r.row row) where
     last_at : (s : Stage) (l : List ℕ) (whole : Bool) → is_empty l ≡ whole → row_goes (stage_of s) f.row ≡ true
         → last_note s r whole row ≡ fold.lowest_at (stage_of s) l f
     unfolding last_note fold.lowest_at
-    last_at at.Opening l w e g = early-is (none_is f.row g)
-    last_at at.Blank l w e g = early-is (none_is f.row g)
-    last_at at.TensRuler l w e g = early-is (none_is f.row g)
-    last_at at.UnitsRuler l w e g = early-is (none_is f.row g)
-    last_at at.TopBorder l w e g = early-is (none_is f.row g)
-    last_at at.FirstRow l w e g = early-is (none_is f.row g)
+    last_at at.Opening l w e g = early_is (none_is f.row g)
+    last_at at.Blank l w e g = early_is (none_is f.row g)
+    last_at at.TensRuler l w e g = early_is (none_is f.row g)
+    last_at at.UnitsRuler l w e g = early_is (none_is f.row g)
+    last_at at.TopBorder l w e g = early_is (none_is f.row g)
+    last_at at.FirstRow l w e g = early_is (none_is f.row g)
     last_at at.InRow l w e g = row_is row f.row g k.small.row kept
-    last_at at.RowOrBlank l w e g = early-is (none_is f.row g)
-    last_at at.WhereLine l w e g = early-is (none_is f.row g)
-    last_at at.LastBlank l w e g = early-is (none_is f.row g)
-    last_at at.FirstField l w e g = early-is (none_is f.row g)
-    last_at at.FieldLine l w e g = fields-is (none_is f.row g) l w e
+    last_at at.RowOrBlank l w e g = early_is (none_is f.row g)
+    last_at at.WhereLine l w e g = early_is (none_is f.row g)
+    last_at at.LastBlank l w e g = early_is (none_is f.row g)
+    last_at at.FirstField l w e g = early_is (none_is f.row g)
+    last_at at.FieldLine l w e g = fields_is (none_is f.row g) l w e
     last_at at.Lost l w e g = c.lowest
 
     pub last_is_lem : (l : List ℕ) (whole : Bool) → is_empty l ≡ whole
@@ -125,9 +125,9 @@ remain_placed r = go (ltb r.fields r.cells)
     go true = omega arith
     go false = omega arith
 
-pub row-placed : (r : Reading) (b : Bool) → (cond b (early_note r) (note 3 r.lines)).place ≤ r.lines + 1
-row-placed r true = omega arith
-row-placed r false = omega arith
+pub row_placed : (r : Reading) (b : Bool) → (cond b (early_note r) (note 3 r.lines)).place ≤ r.lines + 1
+row_placed r true = omega arith
+row_placed r false = omega arith
 
 -- it can be told
 pub last_told : (s : Stage) (r : Reading) (whole : Bool) (row : List ℕ) → Room r
@@ -156,17 +156,17 @@ last_told at.FieldLine r w row h = go w
 
     go : (b : Bool)
         → is_told (cond b (lower (note_of r.note) (note_of (remain_note r))) (note_of (early_note r))) ≡ true
-    go true = told-lower (note_of r.note) (note_of (remain_note r)) h.told (left (ltb r.fields r.cells))
+    go true = told_lower (note_of r.note) (note_of (remain_note r)) h.told (left (ltb r.fields r.cells))
     go false = refl
 last_told at.Lost r w row h = h.told
 
-pub note-refused : (a : Note) → (a.number ≡ 0 → ⊥) → note_of a ≡ some (refused a.number a.place)
+pub note_refused : (a : Note) → (a.number ≡ 0 → ⊥) → note_of a ≡ some (refused a.number a.place)
 unfolding note_of
-note-refused a e = rw (ne_eqb a.number 0 e) refl
+note_refused a e = rw (ne_eqb a.number 0 e) refl
 
-pub note-none : (a : Note) → a.number ≡ 0 → note_of a ≡ none
+pub note_none : (a : Note) → a.number ≡ 0 → note_of a ≡ none
 unfolding note_of
-note-none a e = rw (eq-eqb a.number 0 e) refl
+note_none a e = rw (eq-eqb a.number 0 e) refl
 
 -- ── a refusal ──
 
@@ -179,15 +179,15 @@ told_is a t e = rw e at t
 placeless : (m p : ℕ) → (eqb m 2 || eqb m 4) ≡ true → (not (eqb m 2 || eqb m 4) || eqb p 0) ≡ true → p ≡ 0
 placeless m p e k = eqb-true p 0 (rw e at k)
 
-told-place : (a : Note) → is_told (note_of a) ≡ true → eqb a.number 0 ≡ false
+told_place : (a : Note) → is_told (note_of a) ≡ true → eqb a.number 0 ≡ false
     → (not (eqb a.number 2 || eqb a.number 4) || eqb a.place 0) ≡ true
-told-place a t e = and_right (between 2 a.number 10) _ (told_is a t e)
+told_place a t e = and_right (between 2 a.number 10) _ (told_is a t e)
 
-pub told-two : (a : Note) → is_told (note_of a) ≡ true → eqb a.number 0 ≡ false → a.number ≡ 2 → a.place ≡ 0
-told-two a t e n = placeless a.number a.place (rw n refl) (told-place a t e)
+pub told_two : (a : Note) → is_told (note_of a) ≡ true → eqb a.number 0 ≡ false → a.number ≡ 2 → a.place ≡ 0
+told_two a t e n = placeless a.number a.place (rw n refl) (told_place a t e)
 
-pub told-four : (a : Note) → is_told (note_of a) ≡ true → eqb a.number 0 ≡ false → a.number ≡ 4 → a.place ≡ 0
-told-four a t e n = placeless a.number a.place (rw n refl) (told-place a t e)
+pub told_four : (a : Note) → is_told (note_of a) ≡ true → eqb a.number 0 ≡ false → a.number ≡ 4 → a.place ≡ 0
+told_four a t e n = placeless a.number a.place (rw n refl) (told_place a t e)
 
 -- and the number is one of 2 to 10
 low_half : (n : ℕ) → 2 ≤ n → (n ≡ 2 → ⊥) → (n ≡ 3 → ⊥) → (n ≡ 4 → ⊥) → (n ≡ 5 → ⊥) → (n ≡ 6 → ⊥) → 7 ≤ n
@@ -200,8 +200,8 @@ none_other n h z a b c d e f g i = high n (low_half n h.0 z a b c d) h.1 e f g i
     high : (m : ℕ) → 7 ≤ m → m ≤ 10 → (m ≡ 7 → ⊥) → (m ≡ 8 → ⊥) → (m ≡ 9 → ⊥) → (m ≡ 10 → ⊥) → ⊥
     high m lo hi e f g i = omega arith
 
-pub told-one : (a : Note) → is_told (note_of a) ≡ true → eqb a.number 0 ≡ false → (2 ≤ a.number) × (a.number ≤ 10)
-told-one a t e = between_true 2 a.number 10 (and_left (between 2 a.number 10) _ (told_is a t e))
+pub told_one : (a : Note) → is_told (note_of a) ≡ true → eqb a.number 0 ≡ false → (2 ≤ a.number) × (a.number ≤ 10)
+told_one a t e = between_true 2 a.number 10 (and_left (between 2 a.number 10) _ (told_is a t e))
 
 pub end_refused : (k : fold.Kept) (out : List ℕ) (a : Answer) → fold.lowest_of k ≡ some a
     → leaves a out ≡ fold.finish k out
@@ -223,10 +223,10 @@ cut t a b e p n =
           ∙ ap (take (length b)) (drop-append_seam a (b ++ drop e t)) ∙ take-append_seam b (drop e t),
     )
 
-size-all : (w n : ℕ) (name body : List ℕ)
+size_all : (w n : ℕ) (name body : List ℕ)
     → length (record_of 1 (le2 w ++ (le2 n ++ counted name)) ++ (body ++ record_of 5 []))
     ≡ 14 + (length name + length body)
-size-all w n name body =
+size_all w n name body =
     let a = le2 w ++ (le2 n ++ counted name) in
     omega (
       arith,
@@ -235,22 +235,22 @@ size-all w n name body =
       length-append (le2 1) a,
       length-append (le2 w) (le2 n ++ counted name),
       length-append (le2 n) (counted name),
-      counted-length name,
+      counted_length name,
       length-append body (record_of 5 []),
       length-append (le2 4) (le2 5 ++ []),
       length-append (le2 5) [],
-      two-length (4 + length a),
-      two-length 1,
-      two-length w,
-      two-length n,
-      two-length 4,
-      two-length 5,
+      two_length (4 + length a),
+      two_length 1,
+      two_length w,
+      two_length n,
+      two_length 4,
+      two_length 5,
     )
 
 module _ (k : fold.Kept) (r : Reading) {cells : List ℕ} {table : Area} {labels : List (List ℕ)} {names : Names}
     (h : Holds k.found r cells table labels names) (clear : fold.lowest_of k ≡ none) (room : Room r) where
-  same-fields : h.records.fields ≡ k.found.judged.fields
-  same-fields = h.records.stands.exact (lowest-clear k.found.stage k.line k.found clear)
+  same_fields : h.records.fields ≡ k.found.judged.fields
+  same_fields = h.records.stands.exact (lowest_clear k.found.stage k.line k.found clear)
 
   parts : (take r.name table.bytes ≡ k.found.name)
       × (take (r.end - r.name) (drop r.name table.bytes) ≡ joined plain_field k.found.judged.fields)
@@ -259,7 +259,7 @@ module _ (k : fold.Kept) (r : Reading) {cells : List ℕ} {table : Area} {labels
       h.records.stored h.records.end in
       let n = h.counts.name in (
         ap (λ (i : ℕ). take i table.bytes) n ∙ c.0,
-        ap (λ (i : ℕ). take (r.end - i) (drop i table.bytes)) n ∙ c.1 ∙ ap (joined plain_field) same-fields,
+        ap (λ (i : ℕ). take (r.end - i) (drop i table.bytes)) n ∙ c.1 ∙ ap (joined plain_field) same_fields,
       )
 
   -- each record with its number
@@ -269,8 +269,8 @@ module _ (k : fold.Kept) (r : Reading) {cells : List ℕ} {table : Area} {labels
       let fs = k.found.judged.fields in
       let n = h.counts.fields in
       ap₂ (λ (i : ℕ) (l : List ℕ). numbered i table.counts l) n parts.1
-      ∙ numbered-all fs table.counts
-      (subst (λ (l : List (Field ℕ)). Numbers l table.counts) same-fields h.records.numbers)
+      ∙ numbered_all fs table.counts
+      (subst (λ (l : List (Field ℕ)). Numbers l table.counts) same_fields h.records.numbers)
       (omega (arith, n, room.fields, room.count))
 
   table_is : record_of 1 (le2 r.width ++ (le2 r.fields ++ counted (take r.name table.bytes)))
@@ -279,32 +279,32 @@ module _ (k : fold.Kept) (r : Reading) {cells : List ℕ} {table : Area} {labels
   unfolding stored_in stored_with head_body
   table_is = rw (body_is, h.counts.width, h.counts.fields, parts.0) refl
 
-  pub table-size : length (stored (fold.found_description k.found)) ≡ 14 + r.end
-  table-size =
+  pub table_size : length (stored (fold.found_description k.found)) ≡ 14 + r.end
+  table_size =
       let f = k.found in
       let fs = f.judged.fields in
       let body = numbered r.fields table.counts (take (r.end - r.name) (drop r.name table.bytes)) in
       let e = ap length (sym table_is) in
-      let s = size-all r.width r.fields (take r.name table.bytes) body in
+      let s = size_all r.width r.fields (take r.name table.bytes) body in
       let a = ap length parts.0 in
-      let b = ap length body_is ∙ records-length (readers fs) 0 fs in
+      let b = ap length body_is ∙ records_length (readers fs) 0 fs in
       let c = h.records.end in
       let d = length-append f.name (joined plain_field h.records.fields) in
-      let g = ap (λ (l : List (Field ℕ)). length (joined plain_field l)) same-fields in
+      let g = ap (λ (l : List (Field ℕ)). length (joined plain_field l)) same_fields in
       omega (arith, e, s, a, b, c, d, g)
 
   pub end_short : (out : List ℕ) → length out < 14 + r.end → leaves (refused 11 0) out ≡ fold.finish k out
   unfolding fold.finish delivered
   end_short out lt =
-      let n = table-size in
+      let n = table_size in
       rw (clear, lt-ltb (length out) (length (stored (fold.found_description k.found))) (omega (arith, n, lt))) refl
 
-  pub end-table : (out after : List ℕ) (n : ℕ) → 14 + r.end ≤ length out → TableStep r table out after n
+  pub end_table : (out after : List ℕ) (n : ℕ) → 14 + r.end ≤ length out → TableStep r table out after n
       → leaves (accepted (14 + r.end)) after ≡ fold.finish k out
   unfolding fold.finish delivered
-  end-table out after n le w =
+  end_table out after n le w =
       let d = fold.found_description k.found in
-      let z = table-size in
+      let z = table_size in
       let t : take n after ≡ stored d = w.text ∙ table_is in
       let m : n ≡ length (stored d) = (let q = ap length table_is in omega (arith, w.end, q)) in
       let e : after ≡ overlaid (stored d) out =
@@ -327,7 +327,7 @@ record_room r table {out} {a} {head} k big room w =
       length-take-le r.name table (omega (arith, big, k.front)),
       length-take-le (r.end - r.name) (drop r.name table)
           (omega (arith, big, k.front, length-drop r.name table)),
-      head-end r.width r.fields (take r.name table) v,
+      head_end r.width r.fields (take r.name table) v,
       v.kept,
       room,
       k.front,
@@ -347,11 +347,11 @@ put_all r table counts {out} {a} {b} {c} {d} {head} {body} {size} {n} k big room
     let l₁ = length-take-le r.name table (omega (arith, big, k.front)) in
     let l₂ = length-take-le (r.end - r.name) (drop r.name table)
     (omega (arith, big, k.front, length-drop r.name table)) in
-    let h₁ = head-end r.width r.fields name v₁ in
-    let w₃ = two-writes 4 (omega (arith, l₁, l₂, h₁, v₁.kept, e₂, w₂.kept, room, k.front)) e₃ in
-    let z = two-end 4 w₃ in
-    let w₄ = two-writes 5 (omega (arith, l₁, l₂, h₁, v₁.kept, e₂, w₂.kept, w₃.kept, z, room, k.front)) e₄ in
-    let y = two-end 5 w₄ in (
+    let h₁ = head_end r.width r.fields name v₁ in
+    let w₃ = two_writes 4 (omega (arith, l₁, l₂, h₁, v₁.kept, e₂, w₂.kept, room, k.front)) e₃ in
+    let z = two_end 4 w₃ in
+    let w₄ = two_writes 5 (omega (arith, l₁, l₂, h₁, v₁.kept, e₂, w₂.kept, w₃.kept, z, room, k.front)) e₄ in
+    let y = two_end 5 w₄ in (
       rw (append-nil (le2 5)) (writes_join v₁ (writes_join w₂ (writes_join w₃ w₄))),
       omega (arith, l₁, l₂, h₁, e₂, z, y, k.front),
     )

@@ -14,8 +14,8 @@ use Rattle.base.specs.Lists.{all, is_empty}
 use Rattle.base.proofs.Lists.{and_left, and_right, between_true}
 use Rattle.rules.specs.Limits.{number_most}
 use Rattle.rules.specs.Names.{is_digit, is_word_byte}
-use Rattle.text_laws.specs.Reader.{word, behind, scan, word_value, is_numeral, is_number_word, leaf}
-use Rattle.text_laws.proofs.ReaderWords.{word-behind}
+use Rattle.text_laws.specs.Reader.{word, behind, scan, word_value, is_numeral, is_number_word}
+use Rattle.text_laws.proofs.ReaderWords.{word_behind}
 
 pub digit_range : (c : ℕ) → is_digit c ≡ true → (48 ≤ c) × (c ≤ 57)
 unfolding is_digit
@@ -24,17 +24,17 @@ digit_range c t = between_true 48 c 57 t
 -- ── a word ──
 
 module _ (s : List ℕ) (at : ℕ) where
-  pub behind-end : length s ≤ at → at ≤ length s → drop at s ≡ behind (drop at s)
+  pub behind_end : length s ≤ at → at ≤ length s → drop at s ≡ behind (drop at s)
   unfolding behind
-  behind-end le le' = let e : at ≡ length s = omega arith in rw (e, drop-length) refl
+  behind_end le le' = let e : at ≡ length s = omega arith in rw (e, drop-length) refl
 
-  pub behind-stop : at < length s → is_word_byte (get_or s at 0) ≡ false → drop at s ≡ behind (drop at s)
+  pub behind_stop : at < length s → is_word_byte (get_or s at 0) ≡ false → drop at s ≡ behind (drop at s)
   unfolding behind
-  behind-stop lt e = rw (drop-cons s at 0 lt, e, behind) refl
+  behind_stop lt e = rw (drop-cons s at 0 lt, e, behind) refl
 
-  pub behind-step : at < length s → is_word_byte (get_or s at 0) ≡ true → behind (drop at s) ≡ behind (drop (at + 1) s)
+  pub behind_step : at < length s → is_word_byte (get_or s at 0) ≡ true → behind (drop at s) ≡ behind (drop (at + 1) s)
   unfolding behind
-  behind-step lt e = rw (drop-cons s at 0 lt, e, behind, add-one at) refl
+  behind_step lt e = rw (drop-cons s at 0 lt, e, behind, add-one at) refl
 
 -- the word is what stands between the two places
 pub word_part : (s : List ℕ) (at end : ℕ) → at ≤ end → end ≤ length s → drop end s ≡ behind (drop at s)
@@ -42,21 +42,21 @@ pub word_part : (s : List ℕ) (at end : ℕ) → at ≤ end → end ≤ length 
 word_part s at end le le' e =
     let z : List ℕ = drop at s in
     let n : length (word z) + length (behind z) ≡ length s - at =
-    sym (length-append (word z) (behind z)) ∙ ap length (sym (word-behind z)) ∙ length-drop at s in
+    sym (length-append (word z) (behind z)) ∙ ap length (sym (word_behind z)) ∙ length-drop at s in
     let m : length (behind z) ≡ length s - end = ap length (sym e) ∙ length-drop end s in
     let k : length (word z) ≡ end - at = omega arith in
-    ap (λ (l : List ℕ). take (end - at) l) (word-behind z) ∙ take_at (word z) (behind z) (end - at) k
+    ap (λ (l : List ℕ). take (end - at) l) (word_behind z) ∙ take_at (word z) (behind z) (end - at) k
 
 -- ── a number ──
 
 module _ (p : ℕ → Bool) (s : List ℕ) (at : ℕ) where
-  pub all-step : at < length s → p (get_or s at 0) ≡ true → all p (drop at s) ≡ all p (drop (at + 1) s)
+  pub all_step : at < length s → p (get_or s at 0) ≡ true → all p (drop at s) ≡ all p (drop (at + 1) s)
   unfolding all
-  all-step lt e = rw (drop-cons s at 0 lt, e, add-one at) refl
+  all_step lt e = rw (drop-cons s at 0 lt, e, add-one at) refl
 
-  pub all-stop : at < length s → p (get_or s at 0) ≡ false → all p (drop at s) ≡ false
+  pub all_stop : at < length s → p (get_or s at 0) ≡ false → all p (drop at s) ≡ false
   unfolding all
-  all-stop lt e = rw (drop-cons s at 0 lt, e) refl
+  all_stop lt e = rw (drop-cons s at 0 lt, e) refl
 
   pub all_end : length s ≤ at → at ≤ length s → all p (drop at s) ≡ true
   unfolding all
@@ -67,19 +67,19 @@ pub scan_step : (s : List ℕ) (at v : ℕ) → at < length s
 unfolding scan
 scan_step s at v lt = let e : v * 10 ≡ 10 * v = omega arith in rw (drop-cons s at 0 lt, add-one at, e) refl
 
-pub scan-end : (s : List ℕ) (at v : ℕ) → length s ≤ at → at ≤ length s → scan v (drop at s) ≡ v
+pub scan_end : (s : List ℕ) (at v : ℕ) → length s ≤ at → at ≤ length s → scan v (drop at s) ≡ v
 unfolding scan
-scan-end s at v le le' = let e : at ≡ length s = omega arith in rw (e, drop-length) refl
+scan_end s at v le le' = let e : at ≡ length s = omega arith in rw (e, drop-length) refl
 
 pub scan_ge : (s : List ℕ) (v : ℕ) → v ≤ scan v s
 unfolding scan
 scan_ge [] v = omega arith
 scan_ge (c ∷ s) v = let h = scan_ge s (10 * v + (c - 48)) in omega arith
 
-pub number-empty : (w : List ℕ) → length w ≡ 0 → is_number_word w ≡ false
+pub number_empty : (w : List ℕ) → length w ≡ 0 → is_number_word w ≡ false
 unfolding is_number_word is_numeral
-number-empty [] e = refl
-number-empty (c ∷ w) e = absurd (omega arith)
+number_empty [] e = refl
+number_empty (c ∷ w) e = absurd (omega arith)
 
 pub number_zero : (w : List ℕ) → 0 < length w → get_or w 0 0 ≡ 48 → eqb (length w) 1 ≡ is_number_word w
 unfolding is_number_word is_numeral is_digit all word_value scan
@@ -100,9 +100,9 @@ number_other (c ∷ w) e = go (is_digit c) (all is_digit w) e
     go true false q = refl
     go false y q = refl
 
-pub number-large : (w : List ℕ) → number_most < word_value w → is_number_word w ≡ false
+pub number_large : (w : List ℕ) → number_most < word_value w → is_number_word w ≡ false
 unfolding is_number_word
-number-large w lt = rw (lt-leb (word_value w) number_most lt) (and-false (is_numeral w))
+number_large w lt = rw (lt-leb (word_value w) number_most lt) (and-false (is_numeral w))
 
 pub number_yes : (w : List ℕ) → 0 < length w → (get_or w 0 0 ≡ 48 → ⊥) → all is_digit w ≡ true → word_value w ≤ number_most
     → is_number_word w ≡ true

@@ -13,26 +13,26 @@ use Rattle.rules.specs.Names.{is_space, is_operator}
 use Rattle.text_laws.specs.Reader.{Found, missing, found, first_of, order, skip}
 use Rattle.operators.specs.declared.symbols.Symbol.{Symbol}
 use Rattle.operators.specs.Symbols.{symbol_of}
-use Rattle.texts.proofs.FirstSymbol.{found_by, first-symbol, first-none, Sized, symbol-sized}
+use Rattle.texts.proofs.FirstSymbol.{found_by, first_symbol, first_none, Sized, symbol_sized}
 use Rattle.texts.specs.ExprPlaces.{SameSign, WithinSign}
 use Rattle.texts.specs.declared.signs.Sign.{Sign}
 use Rattle.texts.specs.declared.signs.Sign.TheVariants as sign
-use Rattle.texts.proofs.OperatorRows.{no-operator}
+use Rattle.texts.proofs.OperatorRows.{no_operator}
 
 -- ── a space ──
 
-pub skip-end : (s : List ℕ) (at : ℕ) → at ≡ length s → drop at s ≡ skip (drop at s)
+pub skip_end : (s : List ℕ) (at : ℕ) → at ≡ length s → drop at s ≡ skip (drop at s)
 unfolding skip
-skip-end s at e = rw (e, drop-length) refl
+skip_end s at e = rw (e, drop-length) refl
 
 pub skip_yes : (s : List ℕ) (at : ℕ) → at < length s → is_space (get_or s at 0) ≡ true
     → drop (at + 1) s ≡ skip (drop at s)
 unfolding skip
 skip_yes s at lt e = rw (drop-cons s at 0 lt, e, add-one at) refl
 
-pub skip-no : (s : List ℕ) (at : ℕ) → at < length s → is_space (get_or s at 0) ≡ false → drop at s ≡ skip (drop at s)
+pub skip_no : (s : List ℕ) (at : ℕ) → at < length s → is_space (get_or s at 0) ≡ false → drop at s ≡ skip (drop at s)
 unfolding skip
-skip-no s at lt e = rw (drop-cons s at 0 lt, e, skip) refl
+skip_no s at lt e = rw (drop-cons s at 0 lt, e, skip) refl
 
 -- ── an operator ──
 
@@ -43,7 +43,7 @@ module _ (s : List ℕ) (at : ℕ) where
 
   pub sign_end : at ≡ length s → Signed (first_of order (drop at s)) sign.Nothing
   unfolding WithinSign SameSign
-  sign_end e = (tt, rw (e, drop-length, first-none) refl)
+  sign_end e = (tt, rw (e, drop-length, first_none) refl)
 
   module _ (lt : at < length s) where
     here : drop at s ≡ get_or s at 0 ∷ drop (suc at) s
@@ -51,32 +51,32 @@ module _ (s : List ℕ) (at : ℕ) where
 
     pub sign_other : is_operator (get_or s at 0) ≡ false → Signed (first_of order (drop at s)) sign.Nothing
     unfolding WithinSign SameSign
-    sign_other n = (tt, rw (here, no-operator (get_or s at 0) (drop (suc at) s) n) refl)
+    sign_other n = (tt, rw (here, no_operator (get_or s at 0) (drop (suc at) s) n) refl)
 
-    module _ (next : ℕ) (m : Symbol) (is : next ≡ get_or s (at + 1) 0) (found-is : m ≡ symbol_of (get_or s at 0) next) where
+    module _ (next : ℕ) (m : Symbol) (is : next ≡ get_or s (at + 1) 0) (found_is : m ≡ symbol_of (get_or s at 0) next) where
       second : get_or (drop (suc at) s) 0 0 ≡ next
       second = get_or-drop (suc at) s 0 0 ∙ rw is (rw (add-one at, add-zero (suc at)) refl)
 
-      first-is : first_of order (drop at s) ≡ found_by m (drop at s)
-      first-is = rw (here, found-is, ← second) (first-symbol (get_or s at 0) (drop (suc at) s))
+      first_is : first_of order (drop at s) ≡ found_by m (drop at s)
+      first_is = rw (here, found_is, ← second) (first_symbol (get_or s at 0) (drop (suc at) s))
 
-      sized-is : Sized (length (drop at s)) m
-      sized-is = rw (here, found-is, ← second) (symbol-sized (get_or s at 0) (drop (suc at) s))
+      sized_is : Sized (length (drop at s)) m
+      sized_is = rw (here, found_is, ← second) (symbol_sized (get_or s at 0) (drop (suc at) s))
 
-      pub sign_none-at : m ≡ Symbol.Nothing → Signed (first_of order (drop at s)) sign.Nothing
+      pub sign_none_at : m ≡ Symbol.Nothing → Signed (first_of order (drop at s)) sign.Nothing
       unfolding WithinSign SameSign
-      sign_none-at e = (tt, rw (first-is, e) refl)
+      sign_none_at e = (tt, rw (first_is, e) refl)
 
       pub sign_length : (o : Op) (n : ℕ) → m ≡ Symbol.Is o n → (1 ≤ n) × (at + n ≤ length s)
       sign_length o n e =
-          let k : (1 ≤ n) × (n ≤ length (drop at s)) = rw e at sized-is in
+          let k : (1 ≤ n) × (n ≤ length (drop at s)) = rw e at sized_is in
           (k.0, omega (arith, k.1, length-drop at s))
 
-      pub sign_at-place : (o : Op) (n : ℕ) → m ≡ Symbol.Is o n → Signed (first_of order (drop at s)) (sign.At o (at + n))
+      pub sign_at_place : (o : Op) (n : ℕ) → m ≡ Symbol.Is o n → Signed (first_of order (drop at s)) (sign.At o (at + n))
       unfolding WithinSign SameSign
-      sign_at-place o n e =
+      sign_at_place o n e =
           let k = sign_length o n e in
-          ((omega (arith, k.0), k.1), rw (first-is, e) (at + n, refl, sym (drop-drop n at s)))
+          ((omega (arith, k.0), k.1), rw (first_is, e) (at + n, refl, sym (drop-drop n at s)))
 
 -- ── the code's answer tells the reader's ──
 

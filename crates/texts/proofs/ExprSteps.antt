@@ -13,14 +13,14 @@ use Rattle.rules.specs.Operators.{level, left_level}
 use Rattle.rules.specs.Trees.{Tree, two, stored_tree, stored_length}
 use Rattle.operators.specs.declared.rows.Row.{Row}
 use Rattle.operators.specs.Rows.{row_of}
-use Rattle.texts.proofs.OperatorRows.{row-level, row-left}
+use Rattle.texts.proofs.OperatorRows.{row_level, row_left}
 
 -- ── what a tree is made of ──
 
-pub two-length : (o : Op) (x y : Tree (List ℕ)) (z v : ℕ) → stored_length x ≡ z → stored_length y ≡ v
+pub two_length : (o : Op) (x y : Tree (List ℕ)) (z v : ℕ) → stored_length x ≡ z → stored_length y ≡ v
     → stored_length (two o x y) ≡ 1 + (z + v)
 unfolding stored_tree
-two-length o x y z v p q =
+two_length o x y z v p q =
     let h = length-append (stored_tree (λ a. 0) x) (stored_tree (λ a. 0) y) in omega (arith, h, p, q)
 
 -- ── where an operator may stand ──
@@ -34,11 +34,11 @@ stops k l e h (inr lt) = rw (lt-leb e h lt) (go (leb k l))
     go true = refl
     go false = refl
 
-pub row-stops : (k h : ℕ) (o : Op) (row : Row) → row ≡ row_of o → (row.level < k) ⊎ (h < row.left)
+pub row_stops : (k h : ℕ) (o : Op) (row : Row) → row ≡ row_of o → (row.level < k) ⊎ (h < row.left)
     → (leb k (level o) && leb (left_level o) h) ≡ false
-row-stops k h o row is (inl lt) =
-    let lv = row-level row o is in
+row_stops k h o row is (inl lt) =
+    let lv = row_level row o is in
     stops k (level o) (left_level o) h (inl (omega (arith, lv)))
-row-stops k h o row is (inr lt) =
-    let lv = row-left row o is in
+row_stops k h o row is (inr lt) =
+    let lv = row_left row o is in
     stops k (level o) (left_level o) h (inr (omega (arith, lv)))

@@ -12,14 +12,14 @@ use Rattle.texts.specs.PartPlaces.{Ending, read_ends}
 
 -- ── behind the width ──
 
-pub ends-first : (form : Ending) (z : List ℕ) → read_constraint z ≡ miss → form_of (read_ends form z) ≡ none
+pub ends_first : (form : Ending) (z : List ℕ) → read_constraint z ≡ miss → form_of (read_ends form z) ≡ none
 unfolding read_ends
-ends-first form z e = rw e refl
+ends_first form z e = rw e refl
 
-pub ends-second : (form : Ending) (z z₁ : List ℕ) (c : Option (Tree (List ℕ))) → read_constraint z ≡ hit c z₁
+pub ends_second : (form : Ending) (z z₁ : List ℕ) (c : Option (Tree (List ℕ))) → read_constraint z ≡ hit c z₁
     → read_condition z₁ ≡ miss → form_of (read_ends form z) ≡ none
 unfolding read_ends
-ends-second form z z₁ c e f = rw (e, f) refl
+ends_second form z z₁ c e f = rw (e, f) refl
 
 pub ends_open : (form : Ending) (z z₁ z₂ : List ℕ) (c d : Option (Tree (List ℕ))) → read_constraint z ≡ hit c z₁
     → read_condition z₁ ≡ hit d z₂ → literal (bytes ".") z₂ ≡ miss → form_of (read_ends form z) ≡ none
@@ -32,8 +32,8 @@ pub ends_bad : (form : Ending) (z z₁ z₂ z₃ : List ℕ) (c d : Option (Tree
 unfolding read_ends
 ends_bad form z z₁ z₂ z₃ c d e f g h = rw (e, f, g, h) refl
 
-pub ends-good : (form : Ending) (z z₁ z₂ z₃ : List ℕ) (c d : Option (Tree (List ℕ))) → read_constraint z ≡ hit c z₁
+pub ends_good : (form : Ending) (z z₁ z₂ z₃ : List ℕ) (c d : Option (Tree (List ℕ))) → read_constraint z ≡ hit c z₁
     → read_condition z₁ ≡ hit d z₂ → literal (bytes ".") z₂ ≡ hit tt z₃ → is_remark z₃ ≡ true
     → form_of (read_ends form z) ≡ some (form c d)
 unfolding read_ends
-ends-good form z z₁ z₂ z₃ c d e f g h = rw (e, f, g, h) refl
+ends_good form z z₁ z₂ z₃ c d e f g h = rw (e, f, g, h) refl

@@ -19,16 +19,16 @@ use Rattle.texts.specs.FieldPlaces.{SameLabel, WithinLabel, NameIs, SameShort, W
 use Rattle.texts.specs.declared.labels.Label.TheVariants as label
 use Rattle.texts.specs.declared.labels.Short.{Short}
 use Rattle.texts.specs.declared.labels.Short.TheVariants as short
-use Rattle.text_laws.proofs.Combine.{begins_split, literal-finds}
+use Rattle.text_laws.proofs.Combine.{begins_split, literal_finds}
 use Rattle.text_laws.proofs.LineNames.{label_split}
 use Rattle.texts.proofs.ExprLeaves.{word_part, longer}
 
 -- ── phrases ──
 
 -- a phrase that stands at a place ends within the text, and is read
-pub literal-at : (w s : List ℕ) (at : ℕ) → at ≤ length s → begins w (drop at s) ≡ true
+pub literal_at : (w s : List ℕ) (at : ℕ) → at ≤ length s → begins w (drop at s) ≡ true
     → (at + length w ≤ length s) × (literal w (drop at s) ≡ hit tt (drop (at + length w) s))
-literal-at w s at le y = go (begins_split w (drop at s) y)
+literal_at w s at le y = go (begins_split w (drop at s) y)
   where
     go : (z : List ℕ) × (drop at s ≡ w ++ z)
         → (at + length w ≤ length s) × (literal w (drop at s) ≡ hit tt (drop (at + length w) s))
@@ -36,11 +36,11 @@ literal-at w s at le y = go (begins_split w (drop at s) y)
         let n : length w + length z ≡ length s - at =
         sym (length-append w z) ∙ ap length (sym e) ∙ length-drop at s in
         let d : drop (at + length w) s ≡ z = drop_more s at w z e in
-        (omega arith, ap (literal w) e ∙ literal-finds w z ∙ ap (λ (l : List ℕ). hit tt l) (sym d))
+        (omega arith, ap (literal w) e ∙ literal_finds w z ∙ ap (λ (l : List ℕ). hit tt l) (sym d))
 
-pub literal-none : (w s : List ℕ) → begins w s ≡ false → literal w s ≡ miss
+pub literal_none : (w s : List ℕ) → begins w s ≡ false → literal w s ≡ miss
 unfolding begins literal
-literal-none w s = go (after w s)
+literal_none w s = go (after w s)
   where
     go : (a : Option (List ℕ)) → not (is_none a) ≡ false → passed a ≡ miss
     go none e = refl
@@ -65,18 +65,18 @@ unfolding label_behind
 goes c s e = rw (e, label_behind) refl
 
 module _ (s : List ℕ) (at : ℕ) where
-  pub label-end : length s ≤ at → at ≤ length s → drop at s ≡ label_behind (drop at s)
+  pub label_end : length s ≤ at → at ≤ length s → drop at s ≡ label_behind (drop at s)
   unfolding label_behind
-  label-end le le' = let e : at ≡ length s = omega arith in rw (e, drop-length) refl
+  label_end le le' = let e : at ≡ length s = omega arith in rw (e, drop-length) refl
 
-  pub label-stop : at < length s → label_ends (drop at s) ≡ true → drop at s ≡ label_behind (drop at s)
-  label-stop lt e =
+  pub label_stop : at < length s → label_ends (drop at s) ≡ true → drop at s ≡ label_behind (drop at s)
+  label_stop lt e =
       let d : drop at s ≡ get_or s at 0 ∷ drop (suc at) s = drop-cons s at 0 lt in
       d ∙ stops (get_or s at 0) (drop (suc at) s) (ap label_ends (sym d) ∙ e) ∙ ap label_behind (sym d)
 
-  pub label-step : at < length s → label_ends (drop at s) ≡ false
+  pub label_step : at < length s → label_ends (drop at s) ≡ false
       → label_behind (drop at s) ≡ label_behind (drop (at + 1) s)
-  label-step lt e =
+  label_step lt e =
       let d : drop at s ≡ get_or s at 0 ∷ drop (suc at) s = drop-cons s at 0 lt in
       let g = goes (get_or s at 0) (drop (suc at) s) (ap label_ends (sym d) ∙ e) in
       ap label_behind d ∙ g ∙ ap (λ (n : ℕ). label_behind (drop n s)) (sym (add-one at))
@@ -99,19 +99,19 @@ module _ (s : List ℕ) (at end : ℕ) (lo : at ≤ end) (hi : end ≤ length s)
       let q : is_label (label_text (drop at s)) ≡ true = ap is_label (sym label_part) ∙ y in
       ((lo, hi), rw q (end, refl, label_part, e))
 
-  pub label-no : is_label (take (end - at) (drop at s)) ≡ false
+  pub label_no : is_label (take (end - at) (drop at s)) ≡ false
       → WithinLabel s at label.Nothing × SameLabel s at (read_label (drop at s)) label.Nothing
   unfolding read_label SameLabel WithinLabel
-  label-no y =
+  label_no y =
       let q : is_label (label_text (drop at s)) ≡ false = ap is_label (sym label_part) ∙ y in
       (tt, rw q refl)
 
 -- ── short names ──
 
-name-is : (z q : List ℕ) → is_short (word z) ≡ true → literal (bytes ")") (behind z) ≡ hit tt q
+name_is : (z q : List ℕ) → is_short (word z) ≡ true → literal (bytes ")") (behind z) ≡ hit tt q
     → read_closed_name z ≡ hit (some (word z)) q
 unfolding read_closed_name
-name-is z q y l = rw (y, l) refl
+name_is z q y l = rw (y, l) refl
 
 name_open : (z : List ℕ) → is_short (word z) ≡ true → literal (bytes ")") (behind z) ≡ miss → read_closed_name z ≡ miss
 unfolding read_closed_name
@@ -122,8 +122,8 @@ unfolding read_closed_name
 name_other z n = rw n refl
 
 module _ (s : List ℕ) (at end : ℕ) (lo : at ≤ end) (hi : end ≤ length s) (e : drop end s ≡ behind (drop at s)) where
-  short-word : (b : Bool) → is_short (take (end - at) (drop at s)) ≡ b → is_short (word (drop at s)) ≡ b
-  short-word b y = ap is_short (sym (word_part s at end lo hi e)) ∙ y
+  short_word : (b : Bool) → is_short (take (end - at) (drop at s)) ≡ b → is_short (word (drop at s)) ≡ b
+  short_word b y = ap is_short (sym (word_part s at end lo hi e)) ∙ y
 
   abbrev pub NameAt : Short → Type 0
   NameAt r = WithinShort s at r × SameShort s (read_closed_name (drop at s)) r
@@ -133,10 +133,10 @@ module _ (s : List ℕ) (at end : ℕ) (lo : at ≤ end) (hi : end ≤ length s)
   unfolding SameShort WithinShort NameIs is_short
   name_yes y b =
       let u : at + 1 ≤ end = longer s at end lo hi e is_short refl y in
-      let l = literal-at (bytes ")") s end hi b in
+      let l = literal_at (bytes ")") s end hi b in
       let h : end + 1 ≤ length s = l.0 in
       let r : read_closed_name (drop at s) ≡ hit (some (word (drop at s))) (drop (end + 1) s) =
-      name-is (drop at s) (drop (end + 1) s) (short-word true y) (ap (literal (bytes ")")) (sym e) ∙ l.1) in (
+      name_is (drop at s) (drop (end + 1) s) (short_word true y) (ap (literal (bytes ")")) (sym e) ∙ l.1) in (
         (omega arith, lo, omega arith, h),
         rw r (at, end, end + 1, refl, (omega arith, word_part s at end lo hi e), refl),
       )
@@ -145,17 +145,17 @@ module _ (s : List ℕ) (at end : ℕ) (lo : at ≤ end) (hi : end ≤ length s)
       → NameAt short.Nothing
   unfolding SameShort WithinShort
   name_unclosed y b =
-      let l = ap (literal (bytes ")")) (sym e) ∙ literal-none (bytes ")") (drop end s) b in
-      (tt, rw (name_open (drop at s) (short-word true y) l) refl)
+      let l = ap (literal (bytes ")")) (sym e) ∙ literal_none (bytes ")") (drop end s) b in
+      (tt, rw (name_open (drop at s) (short_word true y) l) refl)
 
-  pub name-no : is_short (take (end - at) (drop at s)) ≡ false → NameAt short.Nothing
+  pub name_no : is_short (take (end - at) (drop at s)) ≡ false → NameAt short.Nothing
   unfolding SameShort WithinShort
-  name-no y = (tt, rw (name_other (drop at s) (short-word false y)) refl)
+  name_no y = (tt, rw (name_other (drop at s) (short_word false y)) refl)
 
-short-there : (z q : List ℕ) → begins (bytes " (") z ≡ true → literal (bytes " (") z ≡ hit tt q
+short_there : (z q : List ℕ) → begins (bytes " (") z ≡ true → literal (bytes " (") z ≡ hit tt q
     → read_short z ≡ read_closed_name q
 unfolding read_short
-short-there z q y l = rw (y, l) refl
+short_there z q y l = rw (y, l) refl
 
 short_none : (z : List ℕ) → begins (bytes " (") z ≡ false → read_short z ≡ hit none z
 unfolding read_short
@@ -170,13 +170,13 @@ module _ (s : List ℕ) (at : ℕ) (le : at ≤ length s) where
   abbrev pub ShortAt : Short → Type 0
   ShortAt r = WithinShort s at r × SameShort s (read_short (drop at s)) r
 
-  pub short-room : begins (bytes " (") (drop at s) ≡ true → at + 2 ≤ length s
-  short-room y = (literal-at (bytes " (") s at le y).0
+  pub short_room : begins (bytes " (") (drop at s) ≡ true → at + 2 ≤ length s
+  short_room y = (literal_at (bytes " (") s at le y).0
 
-  pub short-named : (r : Short) → begins (bytes " (") (drop at s) ≡ true → WithinShort s (at + 2) r
+  pub short_named : (r : Short) → begins (bytes " (") (drop at s) ≡ true → WithinShort s (at + 2) r
       → SameShort s (read_closed_name (drop (at + 2) s)) r → ShortAt r
-  short-named r y w h =
-      let e = short-there (drop at s) (drop (at + 2) s) y (literal-at (bytes " (") s at le y).1 in
+  short_named r y w h =
+      let e = short_there (drop at s) (drop (at + 2) s) y (literal_at (bytes " (") s at le y).1 in
       (within_less s at r w, rw e h)
 
   pub short_bare : begins (bytes " (") (drop at s) ≡ false → ShortAt (short.At at at at)

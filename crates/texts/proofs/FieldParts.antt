@@ -3,7 +3,7 @@ use mathlib.Core.Path.{◌≡◌, refl}
 use mathlib.Core.Bool.{Bool, true, false, ◌&&◌}
 use mathlib.Core.List.{List, [], ◌∷◌, ◌++◌}
 use mathlib.Core.Option.{Option, none, some}
-use Prim.Native.Nat.{ℕ, ◌+◌, ◌-◌, ◌≤◌}
+use Prim.Native.Nat.{ℕ, ◌-◌, ◌≤◌}
 use native.Mathlib.Omega.{arith}
 use native.Mathlib.Nat.{sub-zero}
 use lib.ListN.{length, take, drop}
@@ -33,38 +33,38 @@ all_join p (x ∷ s) t = rw (all_join p s t) (go (p x))
 
 -- ── behind the names ──
 
-pub behind-miss : (w : List ℕ) (h : Option (List ℕ)) (z : List ℕ) → read_width z ≡ miss → form_of (read_behind w h z) ≡
+pub behind_miss : (w : List ℕ) (h : Option (List ℕ)) (z : List ℕ) → read_width z ≡ miss → form_of (read_behind w h z) ≡
     none
 unfolding read_behind
-behind-miss w h z e = rw e refl
+behind_miss w h z e = rw e refl
 
 abbrev pub ending : List ℕ → Option (List ℕ) → Width (List ℕ) → Ending
 ending w h v = λ c d. record { label = w; short = h; width = v; constraint = c; condition = d }
 
-pub behind-is : (w : List ℕ) (h : Option (List ℕ)) (z z₁ : List ℕ) (v : Width (List ℕ)) → read_width z ≡ hit v z₁
+pub behind_is : (w : List ℕ) (h : Option (List ℕ)) (z z₁ : List ℕ) (v : Width (List ℕ)) → read_width z ≡ hit v z₁
     → form_of (read_behind w h z) ≡ form_of (read_ends (ending w h v) z₁)
 unfolding read_behind
-behind-is w h z z₁ v e = rw e refl
+behind_is w h z z₁ v e = rw e refl
 
 -- ── the line ──
 
-pub line-no-label : (s : List ℕ) → read_label s ≡ miss → read_form s ≡ none
+pub line_no_label : (s : List ℕ) → read_label s ≡ miss → read_form s ≡ none
 unfolding read_form read_field
-line-no-label s e = rw e refl
+line_no_label s e = rw e refl
 
-pub line-no-short : (s z : List ℕ) (w : List ℕ) → read_label s ≡ hit w z → read_short z ≡ miss → read_form s ≡ none
+pub line_no_short : (s z : List ℕ) (w : List ℕ) → read_label s ≡ hit w z → read_short z ≡ miss → read_form s ≡ none
 unfolding read_form read_field
-line-no-short s z w e f = rw (e, f) refl
+line_no_short s z w e f = rw (e, f) refl
 
-pub line-no_colon : (s z z₁ w : List ℕ) (h : Option (List ℕ)) → read_label s ≡ hit w z → read_short z ≡ hit h z₁
+pub line_no_colon : (s z z₁ w : List ℕ) (h : Option (List ℕ)) → read_label s ≡ hit w z → read_short z ≡ hit h z₁
     → literal (bytes ": ") z₁ ≡ miss → read_form s ≡ none
 unfolding read_form read_field
-line-no_colon s z z₁ w h e f g = rw (e, f, g) refl
+line_no_colon s z z₁ w h e f g = rw (e, f, g) refl
 
-pub line-behind : (s z z₁ z₂ w : List ℕ) (h : Option (List ℕ)) → read_label s ≡ hit w z → read_short z ≡ hit h z₁
+pub line_behind : (s z z₁ z₂ w : List ℕ) (h : Option (List ℕ)) → read_label s ≡ hit w z → read_short z ≡ hit h z₁
     → literal (bytes ": ") z₁ ≡ hit tt z₂ → read_form s ≡ form_of (read_behind w h z₂)
 unfolding read_form read_field read_behind read_ends
-line-behind s z z₁ z₂ w h e f g = rw (e, f, g) refl
+line_behind s z z₁ z₂ w h e f g = rw (e, f, g) refl
 
 -- the label that the code found
 pub record LabelAs (s : List ℕ) (n : ℕ) : Type 0 where
@@ -72,25 +72,25 @@ pub record LabelAs (s : List ℕ) (n : ℕ) : Type 0 where
   pub is_read : read_label s ≡ hit text (drop n s)
   pub is_text : take n s ≡ text
 
-pub label-miss : (s : List ℕ) (r : Label) (g : Got (List ℕ)) → SameLabel s 0 g r → r ≡ label.Nothing → g ≡ miss
+pub label_miss : (s : List ℕ) (r : Label) (g : Got (List ℕ)) → SameLabel s 0 g r → r ≡ label.Nothing → g ≡ miss
 unfolding SameLabel
-label-miss s r miss h e = refl
-label-miss s r (hit w q) h e = let e' = h.1 in cc
+label_miss s r miss h e = refl
+label_miss s r (hit w q) h e = let e' = h.1 in cc
 
-label-hit : (s : List ℕ) (r : Label) (g : Got (List ℕ)) (n : ℕ) → SameLabel s 0 g r → r ≡ label.At n
+label_hit : (s : List ℕ) (r : Label) (g : Got (List ℕ)) (n : ℕ) → SameLabel s 0 g r → r ≡ label.At n
     → (w : List ℕ) × (g ≡ hit w (drop n s)) × (take n s ≡ w)
 unfolding SameLabel
-label-hit s r miss n h e = let y : ◌≡◌ {A = ℕ} 0 1 = cc in absurd (omega arith)
-label-hit s r (hit w q) n h e =
+label_hit s r miss n h e = let y : ◌≡◌ {A = ℕ} 0 1 = cc in absurd (omega arith)
+label_hit s r (hit w q) n h e =
     let e' = h.1 in
     let p : h.0 ≡ n = cc in
     let f = h.3 in
     (w, cc, rw (p, sub-zero n) at h.2)
 
-pub label-within : (s : List ℕ) (at : ℕ) {r : Label} {n : ℕ} → r ≡ label.At n → WithinLabel s at r
+pub label_within : (s : List ℕ) (at : ℕ) {r : Label} {n : ℕ} → r ≡ label.At n → WithinLabel s at r
     → (at ≤ n) × (n ≤ length s)
 unfolding WithinLabel
-label-within s at e w = rw e at w
+label_within s at e w = rw e at w
 
 -- the short name that the code found
 pub record ShortAs (s : List ℕ) (at a b n : ℕ) : Type 0 where
@@ -98,39 +98,39 @@ pub record ShortAs (s : List ℕ) (at a b n : ℕ) : Type 0 where
   pub is_read : read_short (drop at s) ≡ hit text (drop n s)
   pub is_text : ShortIs s text (span_of a (b - a))
 
-name-short : (s : List ℕ) (a b : ℕ) (h : Option (List ℕ)) → NameIs s a b h → ShortIs s h (span_of a (b - a))
+name_short : (s : List ℕ) (a b : ℕ) (h : Option (List ℕ)) → NameIs s a b h → ShortIs s h (span_of a (b - a))
 unfolding NameIs
-name-short s a b none e = omega arith
-name-short s a b (some w) e = e.1
+name_short s a b none e = omega arith
+name_short s a b (some w) e = e.1
 
-pub short-miss : (s : List ℕ) (r : Short) (g : Got (Option (List ℕ))) → SameShort s g r → r ≡ short.Nothing → g ≡ miss
+pub short_miss : (s : List ℕ) (r : Short) (g : Got (Option (List ℕ))) → SameShort s g r → r ≡ short.Nothing → g ≡ miss
 unfolding SameShort
-short-miss s r miss h e = refl
-short-miss s r (hit w q) h e = let e' = h.3 in cc
+short_miss s r miss h e = refl
+short_miss s r (hit w q) h e = let e' = h.3 in cc
 
-short-hit : (s : List ℕ) (r : Short) (g : Got (Option (List ℕ))) (a b n : ℕ) → SameShort s g r → r ≡ short.At a b n
+short_hit : (s : List ℕ) (r : Short) (g : Got (Option (List ℕ))) (a b n : ℕ) → SameShort s g r → r ≡ short.At a b n
     → (w : Option (List ℕ)) × (g ≡ hit w (drop n s)) × NameIs s a b w
 unfolding SameShort
-short-hit s r miss a b n h e = let y : ◌≡◌ {A = ℕ} 0 1 = cc in absurd (omega arith)
-short-hit s r (hit w q) a b n h e =
+short_hit s r miss a b n h e = let y : ◌≡◌ {A = ℕ} 0 1 = cc in absurd (omega arith)
+short_hit s r (hit w q) a b n h e =
     let e' = h.3 in
     let p : h.0 ≡ a = cc in
     let o : h.1 ≡ b = cc in
     let f = h.5 in
     (w, cc, rw (p, o) at h.4)
 
-pub short-within : (s : List ℕ) (at : ℕ) {r : Short} {a b n : ℕ} → r ≡ short.At a b n → WithinShort s at r
+pub short_within : (s : List ℕ) (at : ℕ) {r : Short} {a b n : ℕ} → r ≡ short.At a b n → WithinShort s at r
     → (at ≤ a) × (a ≤ b) × (b ≤ n) × (n ≤ length s)
 unfolding WithinShort
-short-within s at e w = rw e at w
+short_within s at e w = rw e at w
 
 module _ (s : List ℕ) where
   pub label_as : {r : Label} {n : ℕ} → SameLabel s 0 (read_label s) r → r ≡ label.At n → LabelAs s n
   label_as h e =
-      let x = label-hit s _ (read_label s) _ h e in record { text = x.0; is_read = x.1; is_text = x.2 }
+      let x = label_hit s _ (read_label s) _ h e in record { text = x.0; is_read = x.1; is_text = x.2 }
 
   pub short_as : (at : ℕ) {r : Short} {a b n : ℕ} → SameShort s (read_short (drop at s)) r → r ≡ short.At a b n
       → ShortAs s at a b n
   short_as at h e =
-      let x = short-hit s _ (read_short (drop at s)) _ _ _ h e in
-      record { text = x.0; is_read = x.1; is_text = name-short s _ _ x.0 x.2 }
+      let x = short_hit s _ (read_short (drop at s)) _ _ _ h e in
+      record { text = x.0; is_read = x.1; is_text = name_short s _ _ x.0 x.2 }

@@ -10,7 +10,7 @@ use borrow.Author.Tests.{eqb-true}
 use lib.ListN.{length, take, length-append, length-map, get_elem?}
 use Rattle.base.specs.Lists.{any, joined, if_any}
 use Rattle.writing.specs.Writes.{Writes}
-use Rattle.base.proofs.Joined.{joined-append, joined-one}
+use Rattle.base.proofs.Joined.{joined_append, joined_one}
 use Rattle.rules.specs.Limits.{fields_most}
 use Rattle.rules.specs.Answers.{Answer, refused}
 use Rattle.rules.specs.Names.{is_short}
@@ -22,7 +22,7 @@ use Rattle.text_laws.specs.Judging.{with_form, judge}
 use Rattle.text_laws.specs.Fold as fold
 use Rattle.text_laws.specs.Steady.{StandIn, Steady}
 use Rattle.text_laws.specs.Resolving.{index_of}
-use Rattle.text_laws.proofs.Loose.{faces-append, lower-left}
+use Rattle.text_laws.proofs.Loose.{faces_append, lower_left}
 use Rattle.text_laws.proofs.Faces.{renamed_face}
 use Rattle.texts.specs.HeldNames.{Names}
 use Rattle.texts.specs.Noted.{note_of}
@@ -35,18 +35,18 @@ use Rattle.texts.specs.States.{Area, plain_field, is_short_record, Counts, Named
 use Rattle.texts.specs.declared.notes.Note.{Note}
 use Rattle.texts.specs.declared.states.Stage.TheVariants as at
 use Rattle.texts.specs.declared.states.Reading.{Reading}
-use Rattle.texts.proofs.StateSteps.{records-kept, next-line}
-use Rattle.texts.proofs.HeldArrays.{named-front, named-face}
+use Rattle.texts.proofs.StateSteps.{records_kept, next_line}
+use Rattle.texts.proofs.HeldArrays.{named_front, named_face}
 use Rattle.texts.proofs.Holding.{writes}
-use Rattle.texts.proofs.LineForms.{named-kept}
+use Rattle.texts.proofs.LineForms.{named_kept}
 use Rattle.texts.proofs.LineTypes.{ShortNames}
 use Rattle.texts.proofs.LineCounts.{field_tallied, numbers_more}
 
 -- ── full ──
 
-pub note-many : (a : Note) → eqb a.number 4 ≡ is_many (note_of a)
+pub note_many : (a : Note) → eqb a.number 4 ≡ is_many (note_of a)
 unfolding note_of
-note-many a = go (eqb a.number 0) refl
+note_many a = go (eqb a.number 0) refl
   where
     go : (b : Bool) → eqb a.number 0 ≡ b
         → eqb a.number 4 ≡ is_many (cond b none (some (refused a.number a.place)))
@@ -63,7 +63,7 @@ note_open a = go (eqb a.number 0)
 
 pub full_same : (f : fold.Found) (r : Reading) → Counts f r → is_full_as r ≡ is_full f.judged
 full_same f r h =
-    ap₂ ◌||◌ (note-many r.note ∙ ap is_many h.lowest) (ap (leb fields_most) h.count)
+    ap₂ ◌||◌ (note_many r.note ∙ ap is_many h.lowest) (ap (leb fields_most) h.count)
 
 -- ── no field is kept ──
 
@@ -80,13 +80,13 @@ field_found f j = record {
 
 module _ (f : fold.Found) (r : Reading) {cells : List ℕ} {table : Area} {labels : List (List ℕ)} {names : Names}
     (h : Holds f r cells table labels names) where
-  holds-judged : (j : Judged) (n : ℕ) (a : Note) → n ≡ j.count → j.fields ≡ f.judged.fields
+  holds_judged : (j : Judged) (n : ℕ) (a : Note) → n ≡ j.count → j.fields ≡ f.judged.fields
       → (j.lowest ≡ none → f.judged.lowest ≡ none) → note_of a ≡ j.lowest
       → Holds (field_found f j) (changed (with_line r r.cell n r.fields r.end r.rested) (r.lines + 1)
       at.FieldLine a) cells table labels names
-  holds-judged j n a c e low k = record {
+  holds_judged j n a c e low k = record {
     counts = record {
-      lines = next-line f r h;
+      lines = next_line f r h;
       stage = refl;
       width = h.counts.width;
       name = h.counts.name;
@@ -103,7 +103,7 @@ module _ (f : fold.Found) (r : Reading) {cells : List ℕ} {table : Area} {label
       next = h.slots.next
           ∙ ap (λ (l : List (Field ℕ)). length (joined stored_slot (take (length l) f.cells))) (sym e);
     };
-    records = records-kept h.records (record {
+    records = records_kept h.records (record {
       seen = h.records.stands.seen ∙ ap faces (sym e);
       exact = λ z. h.records.stands.exact (low z) ∙ sym e;
     }) refl refl;
@@ -115,37 +115,37 @@ module _ (f : fold.Found) (r : Reading) {cells : List ℕ} {table : Area} {label
       → Holds (fold.brief_field f l) (changed r (r.lines + 1) at.FieldLine (note 4 0)) cells table labels names
   unfolding judge note_of
   holds_full l e =
-      rw e (holds-judged (many f.judged) r.count (note 4 0) h.counts.count refl
+      rw e (holds_judged (many f.judged) r.count (note 4 0) h.counts.count refl
       (λ z. absurd (none-ne-some (refused 4 0) (sym z))) refl)
 
   one_more : r.count + 1 ≡ suc f.judged.count
   one_more = let e = h.counts.count in omega (arith, e)
 
   -- 5
-  pub holds-formless : (l : List ℕ) (a : Note) → is_full f.judged ≡ false → read_form l ≡ none
+  pub holds_formless : (l : List ℕ) (a : Note) → is_full f.judged ≡ false → read_form l ≡ none
       → note_of a ≡ lower (note_of r.note) (some (refused 5 (r.lines + 1)))
       → Holds (fold.brief_field f l) (line_refused r a) cells table labels names
   unfolding judge with_form
-  holds-formless l a e o k =
-      rw (e, o) (holds-judged (with_form f.cells (suc f.lines) f.judged none) (r.count + 1) a one_more refl
-      (λ z. lower-left f.judged.lowest (some (refused 5 (suc f.lines))) z)
+  holds_formless l a e o k =
+      rw (e, o) (holds_judged (with_form f.cells (suc f.lines) f.judged none) (r.count + 1) a one_more refl
+      (λ z. lower_left f.judged.lowest (some (refused 5 (suc f.lines))) z)
       (k ∙ ap₂ {C = Option Answer} (λ (b : Option Answer) (p : ℕ). lower b (some (refused 5 p))) h.counts.lowest
-      (next-line f r h)))
+      (next_line f r h)))
 
   abbrev note_of_form : Form → Option Answer
   note_of_form x =
       lower f.judged.lowest (broken 6 (suc f.lines) (rules f.cells) (faces f.judged.fields) x)
 
   -- 6, and what is closed behind an earlier refusal
-  pub holds-closed : (l : List ℕ) (x : Form) (a : Note) → is_full f.judged ≡ false → read_form l ≡ some x
+  pub holds_closed : (l : List ℕ) (x : Form) (a : Note) → is_full f.judged ≡ false → read_form l ≡ some x
       → note_of a ≡ note_of_form x → is_open (note_of a) ≡ false
       → Holds (fold.brief_field f l) (line_refused r a) cells table labels names
   unfolding judge with_form
-  holds-closed l x a e o k shut =
+  holds_closed l x a e o k shut =
       let c : is_open (note_of_form x) ≡ false = rw (← k) shut in
-      rw (e, o) (holds-judged (with_form f.cells (suc f.lines) f.judged (some x)) (r.count + 1) a one_more
+      rw (e, o) (holds_judged (with_form f.cells (suc f.lines) f.judged (some x)) (r.count + 1) a one_more
       (rw c refl)
-      (λ z. lower-left f.judged.lowest (broken 6 (suc f.lines) (rules f.cells) (faces
+      (λ z. lower_left f.judged.lowest (broken 6 (suc f.lines) (rules f.cells) (faces
       f.judged.fields) x) z)
       k)
 
@@ -157,7 +157,7 @@ holds_named f r x h n = record {
   counts = h.counts;
   slots = h.slots;
   records = h.records;
-  named = named-front (faces f.judged.fields) x n;
+  named = named_front (faces f.judged.fields) x n;
 }
 
 -- and behind those of the fields other names may stand
@@ -168,27 +168,27 @@ holds_kept f r h k = record {
   counts = h.counts;
   slots = h.slots;
   records = h.records;
-  named = named-kept (faces f.judged.fields) r.fields
+  named = named_kept (faces f.judged.fields) r.fields
       (length-map f.judged.fields face ∙ sym h.counts.fields) k h.named;
 }
 
 -- ── a field is kept ──
 
-any-more : (l : List Form) (x : Form) → any is_rest (l ++ (x ∷ [])) ≡ any is_rest l || is_rest x
+any_more : (l : List Form) (x : Form) → any is_rest (l ++ (x ∷ [])) ≡ any is_rest l || is_rest x
 unfolding any
-any-more [] x = or_false (is_rest x)
+any_more [] x = or_false (is_rest x)
   where
     or_false : (b : Bool) → b || false ≡ b
     or_false true = refl
     or_false false = refl
-any-more (y ∷ l) x = ap (λ (b : Bool). is_rest y || b) (any-more l x) ∙ or_assoc (is_rest y) (any is_rest l) (is_rest x)
+any_more (y ∷ l) x = ap (λ (b : Bool). is_rest y || b) (any_more l x) ∙ or_assoc (is_rest y) (any is_rest l) (is_rest x)
   where
     or_assoc : (a b c : Bool) → a || (b || c) ≡ (a || b) || c
     or_assoc true b c = refl
     or_assoc false b c = refl
 
-rest-face : (x : Form) → is_rest (face x) ≡ is_rest x
-rest-face x = go x.width
+rest_face : (x : Form) → is_rest (face x) ≡ is_rest x
+rest_face x = go x.width
   where
     go : (v : Width (List ℕ)) → is_rest_width (face_width v) ≡ is_rest_width v
     go (fixed n) = refl
@@ -202,15 +202,15 @@ same_count j fs h = sym (length-map fs face) ∙ ap length h.seen ∙ length-map
 stored_more : (name : List ℕ) (fs : List (Field ℕ)) (next : Field ℕ)
     → name ++ joined plain_field (fs ++ (next ∷ [])) ≡ (name ++ joined plain_field fs) ++ plain_field next
 stored_more name fs next =
-    ap (λ (z : List ℕ). name ++ z) (joined-append plain_field fs (next ∷ [])
-    ∙ ap (λ (z : List ℕ). joined plain_field fs ++ z) (joined-one plain_field next))
+    ap (λ (z : List ℕ). name ++ z) (joined_append plain_field fs (next ∷ [])
+    ∙ ap (λ (z : List ℕ). joined plain_field fs ++ z) (joined_one plain_field next))
     ∙ sym (append_assoc name (joined plain_field fs) (plain_field next))
 
 -- and one field more, as later lines see it
 seen_more : (j : Judged) (before : List (Field ℕ)) (y : Field ℕ) (x : Form) → j.fields ≡ before ++ (y ∷ [])
     → face y ≡ face x → faces j.fields ≡ faces before ++ (face x ∷ [])
 seen_more j before y x e same =
-    ap faces e ∙ faces-append before y ∙ ap (λ (z : Form). faces before ++ (z ∷ [])) same
+    ap faces e ∙ faces_append before y ∙ ap (λ (z : Form). faces before ++ (z ∷ [])) same
 
 -- what a kept field adds: its cell is passed, its record is written, its names are held
 pub record Kept (f : fold.Found) (r : Reading) (x : Form) (to end : ℕ) (is_rested : Bool) (table after : Area)
@@ -225,15 +225,15 @@ pub record Kept (f : fold.Found) (r : Reading) (x : Form) (to end : ℕ) (is_res
 module _ (f : fold.Found) (r : Reading) {cells : List ℕ} {table after : Area} {labels labels' : List (List ℕ)}
     {names names' : Names} (h : Holds f r cells table labels names) (x : Form) {end cell : ℕ} {rested : Bool}
     (k : Kept f r x cell end rested table after labels' names') where
-  counts-grown : (j : Judged) (y : Field ℕ) (a : Note) → j.count ≡ suc f.judged.count
+  counts_grown : (j : Judged) (y : Field ℕ) (a : Note) → j.count ≡ suc f.judged.count
       → j.fields ≡ f.judged.fields ++ (y ∷ []) → face y ≡ face x → note_of a ≡ j.lowest
       → Counts (field_found f j) (line_kept r cell end rested a)
-  counts-grown j y a c e same low =
+  counts_grown j y a c e same low =
       let before = f.judged.fields in
       let n : length (before ++ (y ∷ [])) ≡ length before + 1 = length-append before (y ∷ []) in
       let seen = seen_more j before y x e same in
       record {
-        lines = next-line f r h;
+        lines = next_line f r h;
         stage = refl;
         width = h.counts.width;
         name = h.counts.name;
@@ -241,16 +241,16 @@ module _ (f : fold.Found) (r : Reading) {cells : List ℕ} {table after : Area} 
         cells = h.counts.cells;
         count = (let q = h.counts.count in omega (arith, q, c));
         fields = (let q = h.counts.fields in let z = ap length e in omega (arith, q, n, z));
-        rested = k.rested ∙ sym (ap (any is_rest) seen ∙ any-more (faces before) (face x)
-            ∙ ap (λ (b : Bool). any is_rest (faces before) || b) (rest-face x));
+        rested = k.rested ∙ sym (ap (any is_rest) seen ∙ any_more (faces before) (face x)
+            ∙ ap (λ (b : Bool). any is_rest (faces before) || b) (rest_face x));
         lowest = low;
       }
 
-  holds-grown : (j : Judged) (y : Field ℕ) (a : Note) → j.count ≡ suc f.judged.count
+  holds_grown : (j : Judged) (y : Field ℕ) (a : Note) → j.count ≡ suc f.judged.count
       → j.fields ≡ f.judged.fields ++ (y ∷ []) → face y ≡ face x
       → StandIn j (h.records.fields ++ (indexed names' (length h.records.fields) x ∷ [])) → note_of a ≡ j.lowest
       → Holds (field_found f j) (line_kept r cell end rested a) cells after labels' names'
-  holds-grown j y a c e same stands low =
+  holds_grown j y a c e same stands low =
       let before = f.judged.fields in
       let fs = h.records.fields in
       let n : length (before ++ (y ∷ [])) ≡ length before + 1 = length-append before (y ∷ []) in
@@ -261,9 +261,9 @@ module _ (f : fold.Found) (r : Reading) {cells : List ℕ} {table after : Area} 
       let w : take end after.bytes ≡ take r.end table.bytes ++ plain_field next =
       k.writes.text ∙ ap (λ (i : ℕ). take r.end table.bytes ++ plain_field (indexed names' i x))
       (sym m) in
-      let all-stored = stored_more f.name fs next in
+      let all_stored = stored_more f.name fs next in
       record {
-        counts = counts-grown j y a c e same low;
+        counts = counts_grown j y a c e same low;
         slots = record {
           stored = h.slots.stored;
           end = h.slots.end;
@@ -273,8 +273,8 @@ module _ (f : fold.Found) (r : Reading) {cells : List ℕ} {table after : Area} 
         records = record {
           fields = fs ++ (next ∷ []);
           stands = stands;
-          stored = w ∙ ap (λ (z : List ℕ). z ++ plain_field next) h.records.stored ∙ sym all-stored;
-          end = (let q = ap length all-stored in
+          stored = w ∙ ap (λ (z : List ℕ). z ++ plain_field next) h.records.stored ∙ sym all_stored;
+          end = (let q = ap length all_stored in
               let p = length-append (f.name ++ joined plain_field fs) (plain_field next) in
               let z = ap (λ (i : ℕ). length (plain_field (indexed names' i x))) m in
               omega (arith, k.writes.end, h.records.end, q, p, z));
@@ -283,7 +283,7 @@ module _ (f : fold.Found) (r : Reading) {cells : List ℕ} {table after : Area} 
               (k.tallies ∙ ap (λ (i : ℕ). field_tallied i (indexed names' i x) table.counts) (sym m));
         };
         named = subst (λ (z : List Form). Named z labels' names') (sym seen)
-            (named-face (faces before) x k.named);
+            (named_face (faces before) x k.named);
       }
 
 -- the code's field stands in for the fold's
@@ -309,6 +309,6 @@ module _ (f : fold.Found) (r : Reading) {cells : List ℕ} {table after : Area} 
       steady.clear x names' short
       (λ i y z. formed i y (subst (λ (b : List Form). get_elem? (b ++ (x ∷ [])) i ≡ some y) seen z))
       (λ i y z. k.named.name i y (subst (λ (b : List Form). get_elem? (b ++ (x ∷ [])) i ≡ some y) seen z)) q in
-      rw (e, o) (holds-grown f r h x k (with_form f.cells (suc f.lines) f.judged (some x)) (resolved_in before
+      rw (e, o) (holds_grown f r h x k (with_form f.cells (suc f.lines) f.judged (some x)) (resolved_in before
       x) a refl
       (rw q refl) (renamed_face (index_of (faces before ++ (x ∷ []))) x) stands low)

@@ -22,26 +22,26 @@ use Rattle.texts.specs.FieldPlaces.{SameBits, WithinBits}
 use Rattle.texts.specs.PartPlaces.{spaced_unit, is_unit}
 use Rattle.texts.specs.declared.units.Bits.{Bits}
 use Rattle.texts.specs.declared.units.Bits.TheVariants as bits
-use Rattle.text_laws.proofs.Combine.{Holds, holds-given, holds-bind}
-use Rattle.texts.proofs.FieldNames.{literal-at, literal-none}
+use Rattle.text_laws.proofs.Combine.{Holds, holds_given, holds_bind}
+use Rattle.texts.proofs.FieldNames.{literal_at, literal_none}
 
 -- ── units ──
 
-unit-bits : (w : List ℕ) (u : ℕ) → unit_of w ≡ some u → is_unit u ≡ true
+unit_bits : (w : List ℕ) (u : ℕ) → unit_of w ≡ some u → is_unit u ≡ true
 unfolding unit_of
-unit-bits w u = go (same w (bytes "bit") || same w (bytes "bits")) (same w (bytes "byte") || same w (bytes "bytes"))
+unit_bits w u = go (same w (bytes "bit") || same w (bytes "bits")) (same w (bytes "byte") || same w (bytes "bytes"))
   where
     go : (a b : Bool) → cond a (some 1) (cond b (some 8) none) ≡ some u → is_unit u ≡ true
     go true b e = let q : 1 ≡ u = cc in rw (← q) refl
     go false true e = let q : 8 ≡ u = cc in rw (← q) refl
     go false false e = let z : ◌≡◌ {A = ℕ} 0 1 = cc in absurd (omega arith)
 
-holds-units : (z : List ℕ) → Holds (λ u q. is_unit u ≡ true) (spaced_unit z)
+holds_units : (z : List ℕ) → Holds (λ u q. is_unit u ≡ true) (spaced_unit z)
 unfolding spaced_unit read_unit
-holds-units z =
-    holds-bind (λ _ q. Unit {0}) (λ u q. is_unit u ≡ true) (literal (bytes " ") z) (λ _ p. read_unit p)
+holds_units z =
+    holds_bind (λ _ q. Unit {0}) (λ u q. is_unit u ≡ true) (literal (bytes " ") z) (λ _ p. read_unit p)
     (always (literal (bytes " ") z))
-    (λ _ p x. holds-given (λ u q. is_unit u ≡ true) (unit_of (word p)) (behind p) (λ u e. unit-bits (word p) u e))
+    (λ _ p x. holds_given (λ u q. is_unit u ≡ true) (unit_of (word p)) (behind p) (λ u e. unit_bits (word p) u e))
   where
     always : (g : Got (Unit {0})) → Holds (λ _ q. Unit {0}) g
     always miss = tt
@@ -56,59 +56,59 @@ module _ (s : List ℕ) (at : ℕ) (r : Bits) (h : SameBits s (spaced_unit (drop
       go miss h e = refl
       go (hit u q) h e = let e' = h.1 in cc
 
-  pub bits-some : {u n : ℕ} → r ≡ bits.At u n → spaced_unit (drop at s) ≡ hit u (drop n s)
+  pub bits_some : {u n : ℕ} → r ≡ bits.At u n → spaced_unit (drop at s) ≡ hit u (drop n s)
   unfolding SameBits
-  bits-some {u} {n} = go u n (spaced_unit (drop at s)) h
+  bits_some {u} {n} = go u n (spaced_unit (drop at s)) h
     where
       go : (u n : ℕ) (g : Got ℕ) → SameBits s g r → r ≡ bits.At u n → g ≡ hit u (drop n s)
       go u n miss h e = let z : ◌≡◌ {A = ℕ} 0 1 = cc in absurd (omega arith)
       go u n (hit v q) h e = let e' = h.1 in let f = h.2 in cc
 
-  pub bits-unit : {u n : ℕ} → r ≡ bits.At u n → is_unit u ≡ true
-  bits-unit e = go _ _ (spaced_unit (drop at s)) (holds-units (drop at s)) (bits-some e)
+  pub bits_unit : {u n : ℕ} → r ≡ bits.At u n → is_unit u ≡ true
+  bits_unit e = go _ _ (spaced_unit (drop at s)) (holds_units (drop at s)) (bits_some e)
     where
       go : (u : ℕ) (q : List ℕ) (g : Got ℕ) → Holds (λ u q. is_unit u ≡ true) g → g ≡ hit u q → is_unit u ≡ true
       go u q miss h e = let z : ◌≡◌ {A = ℕ} 0 1 = cc in absurd (omega arith)
       go u q (hit v p) h e = let k : v ≡ u = cc in rw (← k) h
 
-pub bits-within : (s : List ℕ) (at : ℕ) {r : Bits} {u n : ℕ} → r ≡ bits.At u n → WithinBits s at r
+pub bits_within : (s : List ℕ) (at : ℕ) {r : Bits} {u n : ℕ} → r ≡ bits.At u n → WithinBits s at r
     → (at ≤ n) × (n ≤ length s)
 unfolding WithinBits
-bits-within s at e w = rw e at w
+bits_within s at e w = rw e at w
 
 bits_up : (s : List ℕ) (at : ℕ) (r : Bits) → WithinBits s (at + 1) r → WithinBits s at r
 unfolding WithinBits
 bits_up s at bits.Nothing w = tt
 bits_up s at (bits.At u n) w = (omega arith, w.1)
 
-spaced-there : (z q : List ℕ) → literal (bytes " ") z ≡ hit tt q → spaced_unit z ≡ read_unit q
+spaced_there : (z q : List ℕ) → literal (bytes " ") z ≡ hit tt q → spaced_unit z ≡ read_unit q
 unfolding spaced_unit
-spaced-there z q l = rw l refl
+spaced_there z q l = rw l refl
 
-spaced-none : (z : List ℕ) → literal (bytes " ") z ≡ miss → spaced_unit z ≡ miss
+spaced_none : (z : List ℕ) → literal (bytes " ") z ≡ miss → spaced_unit z ≡ miss
 unfolding spaced_unit
-spaced-none z l = rw l refl
+spaced_none z l = rw l refl
 
 module _ (s : List ℕ) (at : ℕ) (le : at ≤ length s) where
-  pub spaced-room : begins (bytes " ") (drop at s) ≡ true → at + 1 ≤ length s
-  spaced-room y = (literal-at (bytes " ") s at le y).0
+  pub spaced_room : begins (bytes " ") (drop at s) ≡ true → at + 1 ≤ length s
+  spaced_room y = (literal_at (bytes " ") s at le y).0
 
   pub spaced_yes : (r : Bits) → begins (bytes " ") (drop at s) ≡ true → WithinBits s (at + 1) r
       → SameBits s (read_unit (drop (at + 1) s)) r → WithinBits s at r × SameBits s (spaced_unit (drop at s)) r
   spaced_yes r y w h =
-      let l = (literal-at (bytes " ") s at le y).1 in
-      (bits_up s at r w, rw (spaced-there (drop at s) (drop (at + 1) s) l) h)
+      let l = (literal_at (bytes " ") s at le y).1 in
+      (bits_up s at r w, rw (spaced_there (drop at s) (drop (at + 1) s) l) h)
 
-  pub spaced-no : begins (bytes " ") (drop at s) ≡ false
+  pub spaced_no : begins (bytes " ") (drop at s) ≡ false
       → WithinBits s at bits.Nothing × SameBits s (spaced_unit (drop at s)) bits.Nothing
   unfolding WithinBits SameBits
-  spaced-no n = (tt, rw (spaced-none (drop at s) (literal-none (bytes " ") (drop at s) n)) refl)
+  spaced_no n = (tt, rw (spaced_none (drop at s) (literal_none (bytes " ") (drop at s) n)) refl)
 
 pub times_eight : (u m : ℕ) → u ≡ 8 → 8 * m ≡ u * m
 times_eight u m e = rw e refl
 
-pub times-one : (u m : ℕ) → is_unit u ≡ true → (u ≡ 8 → ⊥) → m ≡ u * m
-times-one u m y n = go (or_cases (eqb u 1) (eqb u 8) y)
+pub times_one : (u m : ℕ) → is_unit u ≡ true → (u ≡ 8 → ⊥) → m ≡ u * m
+times_one u m y n = go (or_cases (eqb u 1) (eqb u 8) y)
   where
     go : (eqb u 1 ≡ true) ⊎ (eqb u 8 ≡ true) → m ≡ u * m
     go (inl h) = let e : u ≡ 1 = eqb-true u 1 h in rw e (omega arith)
@@ -116,12 +116,12 @@ times-one u m y n = go (or_cases (eqb u 1) (eqb u 8) y)
 
 -- ── single numbers ──
 
-depth-some : (t : Tree (List ℕ)) → 1 ≤ depth t
+depth_some : (t : Tree (List ℕ)) → 1 ≤ depth t
 unfolding depth
-depth-some (num n) = omega arith
-depth-some (read a) = omega arith
-depth-some (two o a b) = omega arith
-depth-some (negation a) = omega arith
+depth_some (num n) = omega arith
+depth_some (read a) = omega arith
+depth_some (two o a b) = omega arith
+depth_some (negation a) = omega arith
 
 pub record Single (t : Tree (List ℕ)) : Type 0 where
   pub value : ℕ
@@ -132,8 +132,8 @@ unfolding depth stored_tree
 single (num n) p q = record { value = n; is_num = refl }
 single (read a) p q = absurd (omega arith)
 single (two o a b) p q =
-    let h = depth-some a in let m : max (depth a) (depth b) ≡ 0 = omega arith in absurd (omega arith)
-single (negation a) p q = let h = depth-some a in absurd (omega arith)
+    let h = depth_some a in let m : max (depth a) (depth b) ≡ 0 = omega arith in absurd (omega arith)
+single (negation a) p q = let h = depth_some a in absurd (omega arith)
 
 pub one_single : (m d z : ℕ) → depth {N = List ℕ} (num m) ≡ d → stored_length {N = List ℕ} (num m) ≡ z
     → (eqb d 1 && eqb z 5) ≡ true

@@ -24,26 +24,26 @@ use Rattle.texts.proofs.ExprLeaves.{word_part}
 
 -- one byte of a phrase
 module _ (w s : List ℕ) (i j : ℕ) (lw : i < length w) (ls : j < length s) where
-  pub begins-step : get_or w i 0 ≡ get_or s j 0 → begins (drop i w) (drop j s) ≡ begins (drop (i + 1) w) (drop (j + 1) s)
+  pub begins_step : get_or w i 0 ≡ get_or s j 0 → begins (drop i w) (drop j s) ≡ begins (drop (i + 1) w) (drop (j + 1) s)
   unfolding begins after
-  begins-step e =
+  begins_step e =
       rw (add-one i, add-one j, drop-cons w i 0 lw, drop-cons s j 0 ls, eq-eqb (get_or w i 0) (get_or s j 0) e) refl
 
-  pub begins-stop : (get_or w i 0 ≡ get_or s j 0 → ⊥) → begins (drop i w) (drop j s) ≡ false
+  pub begins_stop : (get_or w i 0 ≡ get_or s j 0 → ⊥) → begins (drop i w) (drop j s) ≡ false
   unfolding begins after
-  begins-stop e = rw (drop-cons w i 0 lw, drop-cons s j 0 ls, ne_eqb (get_or w i 0) (get_or s j 0) e) refl
+  begins_stop e = rw (drop-cons w i 0 lw, drop-cons s j 0 ls, ne_eqb (get_or w i 0) (get_or s j 0) e) refl
 
 -- a phrase of no bytes
-pub begins-end : (w s : List ℕ) (i : ℕ) → length w ≤ i → i ≤ length w → begins (drop i w) s ≡ true
+pub begins_end : (w s : List ℕ) (i : ℕ) → length w ≤ i → i ≤ length w → begins (drop i w) s ≡ true
 unfolding begins after
-begins-end w s i le le' = let e : i ≡ length w = omega arith in rw (e, drop-length) refl
+begins_end w s i le le' = let e : i ≡ length w = omega arith in rw (e, drop-length) refl
 
 -- a phrase that is longer than what is left
-pub begins-long : (w s : List ℕ) → length s < length w → begins w s ≡ false
+pub begins_long : (w s : List ℕ) → length s < length w → begins w s ≡ false
 unfolding begins after
-begins-long [] s lt = absurd (omega arith)
-begins-long (c ∷ w) [] lt = refl
-begins-long (c ∷ w) (d ∷ s) lt = go (eqb c d) (begins-long w s (le_of_suc-le-suc lt))
+begins_long [] s lt = absurd (omega arith)
+begins_long (c ∷ w) [] lt = refl
+begins_long (c ∷ w) (d ∷ s) lt = go (eqb c d) (begins_long w s (le_of_suc-le-suc lt))
   where
     go : (b : Bool) → not (is_none (after w s)) ≡ false → not (is_none (cond b (after w s) none)) ≡ false
     go true e = e
@@ -52,9 +52,9 @@ begins-long (c ∷ w) (d ∷ s) lt = go (eqb c d) (begins-long w s (le_of_suc-le
 -- ── remarks ──
 
 module _ (s : List ℕ) (at : ℕ) where
-  pub remark-empty : at ≡ length s → is_remark (drop at s) ≡ true
+  pub remark_empty : at ≡ length s → is_remark (drop at s) ≡ true
   unfolding is_remark
-  remark-empty e = rw (e, drop-length) refl
+  remark_empty e = rw (e, drop-length) refl
 
   pub remark_other : at < length s → (get_or s at 0 ≡ 32 → ⊥) → is_remark (drop at s) ≡ false
   unfolding is_remark
@@ -81,17 +81,17 @@ unfolding unit_of
 unit_case w a b c d p q r t = rw (p, q, r, t) refl
 
 module _ (s : List ℕ) (at end : ℕ) (lo : at ≤ end) (hi : end ≤ length s) (e : drop end s ≡ behind (drop at s)) where
-  pub unit-none : (u : ℕ) → unit_of (take (end - at) (drop at s)) ≡ unless0 u → u ≡ 0
+  pub unit_none : (u : ℕ) → unit_of (take (end - at) (drop at s)) ≡ unless0 u → u ≡ 0
       → WithinBits s at bits.Nothing × SameBits s (read_unit (drop at s)) bits.Nothing
   unfolding read_unit SameBits WithinBits unless0
-  unit-none u o z =
+  unit_none u o z =
       let q : unit_of (word (drop at s)) ≡ none = ap unit_of (sym (word_part s at end lo hi e)) ∙ o ∙ rw z refl in
       (tt, rw q refl)
 
-  pub unit-some : (u : ℕ) → unit_of (take (end - at) (drop at s)) ≡ unless0 u → (u ≡ 0 → ⊥)
+  pub unit_some : (u : ℕ) → unit_of (take (end - at) (drop at s)) ≡ unless0 u → (u ≡ 0 → ⊥)
       → WithinBits s at (bits.At u end) × SameBits s (read_unit (drop at s)) (bits.At u end)
   unfolding read_unit SameBits WithinBits unless0
-  unit-some u o z =
+  unit_some u o z =
       let q : unit_of (word (drop at s)) ≡ some u =
       ap unit_of (sym (word_part s at end lo hi e)) ∙ o ∙ rw (ne_eqb u 0 z) refl in
       ((lo, hi), rw q (end, refl, e))

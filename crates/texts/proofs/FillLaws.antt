@@ -1,5 +1,5 @@
 -- Bytes set to one value.
-use mathlib.Core.Path.{◌≡◌, refl, ap, ap₂, sym, ◌∙◌}
+use mathlib.Core.Path.{◌≡◌, ap, ap₂, sym, ◌∙◌}
 use mathlib.Core.List.{List, [], ◌∷◌, ◌++◌, append_assoc, append-nil}
 use Prim.Native.Nat.{ℕ, ◌+◌, ◌-◌, ◌≤◌, ◌<◌}
 use native.Mathlib.Numerals.{add-one}
@@ -24,38 +24,38 @@ filled_more s before from i b le h so_far =
     ∙ ap (λ (t : List ℕ). take from before ++ t) (replicate-append-replicate (i - from) 1 b)
     ∙ ap (λ (m : ℕ). take from before ++ replicate m b) n
 
-pub beyond-more : (s before : List ℕ) (i b : ℕ) → drop i s ≡ drop i before
+pub beyond_more : (s before : List ℕ) (i b : ℕ) → drop i s ≡ drop i before
     → drop (i + 1) (set s i b) ≡ drop (i + 1) before
-beyond-more s before i b e = drop-set-lt (i + 1) s i b (omega arith) ∙ back_less s before i (i + 1) e (omega arith)
+beyond_more s before i b e = drop-set-lt (i + 1) s i b (omega arith) ∙ back_less s before i (i + 1) e (omega arith)
 
 pub filled_none : (s : List ℕ) (from b : ℕ) → take from s ≡ take from s ++ replicate (from - from) b
 filled_none s from b =
     let n : from - from ≡ 0 = omega arith in
     sym (append-nil (take from s)) ∙ ap (λ (m : ℕ). take from s ++ replicate m b) (sym n)
 
-pub filled-all : (s before : List ℕ) (from i to b : ℕ) → i ≡ to
+pub filled_all : (s before : List ℕ) (from i to b : ℕ) → i ≡ to
     → take i s ≡ take from before ++ replicate (i - from) b → drop i s ≡ drop i before → s ≡ filled from to b before
 unfolding filled
-filled-all s before from i to b e front back =
+filled_all s before from i to b e front back =
     sym (take-append-drop i s) ∙ ap₂ {C = List ℕ} (λ (x y : List ℕ). x ++ y) front back
     ∙ append_assoc (take from before) (replicate (i - from) b) (drop i before)
     ∙ ap (λ (m : ℕ). take from before ++ (replicate (m - from) b ++ drop m before)) e
 
 -- what stays, and what is set
 module _ (from to b : ℕ) (s : List ℕ) (le : from ≤ to) (room : to ≤ length s) where
-  filled-from : drop from (filled from to b s) ≡ replicate (to - from) b ++ drop to s
+  filled_from : drop from (filled from to b s) ≡ replicate (to - from) b ++ drop to s
   unfolding filled
-  filled-from =
+  filled_from =
       drop_at (take from s) (replicate (to - from) b ++ drop to s) from (length-take-le from s (omega arith))
 
-  pub filled-there : take (to - from) (drop from (filled from to b s)) ≡ replicate (to - from) b
-  filled-there =
-      ap (take (to - from)) filled-from
+  pub filled_there : take (to - from) (drop from (filled from to b s)) ≡ replicate (to - from) b
+  filled_there =
+      ap (take (to - from)) filled_from
       ∙ take_at (replicate (to - from) b) (drop to s) (to - from) (length-replicate (to - from) b)
 
-  pub filled-changed : Changed from to s (filled from to b s)
+  pub filled_changed : Changed from to s (filled from to b s)
   unfolding filled
-  filled-changed =
+  filled_changed =
       let x = length-append (take from s) (replicate (to - from) b ++ drop to s) in
       let y = length-append (replicate (to - from) b) (drop to s) in
       let z = length-replicate (to - from) b in
@@ -66,14 +66,14 @@ module _ (from to b : ℕ) (s : List ℕ) (le : from ≤ to) (room : to ≤ leng
         long = omega (arith, x, y, z, v, w);
         front = take_at (take from s) (replicate (to - from) b ++ drop to s) from v;
         back = ap (λ (m : ℕ). drop m (filled from to b s)) (sym back)
-            ∙ sym (drop-drop (to - from) from (filled from to b s)) ∙ ap (drop (to - from)) filled-from
+            ∙ sym (drop-drop (to - from) from (filled from to b s)) ∙ ap (drop (to - from)) filled_from
             ∙ drop_at (replicate (to - from) b) (drop to s) (to - from) z;
       }
 
 -- from the start
-filled-start : (n b : ℕ) (s : List ℕ) → filled 0 n b s ≡ replicate n b ++ drop n s
+filled_start : (n b : ℕ) (s : List ℕ) → filled 0 n b s ≡ replicate n b ++ drop n s
 unfolding filled
-filled-start n b s = ap (λ (m : ℕ). replicate m b ++ drop n s) (sub-zero n)
+filled_start n b s = ap (λ (m : ℕ). replicate m b ++ drop n s) (sub-zero n)
 
 split : (n m b : ℕ) (d : List ℕ) → replicate (n + m) b ++ d ≡ replicate n b ++ (replicate m b ++ d)
 split n m b d =
@@ -86,16 +86,16 @@ filled_part n b s x m le =
     let e : n ≡ x + (m + (n - (x + m))) = omega arith in
     let k = n - (x + m) in
     let d = drop n s in
-    ap (λ (l : List ℕ). take m (drop x l)) (filled-start n b s)
+    ap (λ (l : List ℕ). take m (drop x l)) (filled_start n b s)
     ∙ ap (λ (i : ℕ). take m (drop x (replicate i b ++ d))) e
     ∙ ap (λ (l : List ℕ). take m (drop x l)) (split x (m + k) b d)
     ∙ ap (take m) (drop_at (replicate x b) (replicate (m + k) b ++ d) x (length-replicate x b) ∙ split m k b d)
     ∙ take_at (replicate m b) (replicate k b ++ d) m (length-replicate m b)
 
 -- zeros behind some of them
-pub zeros-behind : (k n : ℕ) → k ≤ n → drop k (zeros n) ≡ zeros (n - k)
+pub zeros_behind : (k n : ℕ) → k ≤ n → drop k (zeros n) ≡ zeros (n - k)
 unfolding zeros
-zeros-behind k n le =
+zeros_behind k n le =
     let e : n ≡ k + (n - k) = omega arith in
     ap (λ (m : ℕ). drop k (replicate m 0)) e
     ∙ ap (drop k) (sym (replicate-append-replicate k (n - k) 0))
@@ -112,30 +112,30 @@ module _ (before n more behind b : ℕ) (s : List ℕ) where
   abbrev nulls : ℕ → List ℕ
   nulls k = replicate k 0
 
-  zeros-all : filled 0 whole 0 s ≡ nulls before ++ (nulls n ++ (nulls more ++ (nulls behind ++ rest)))
-  zeros-all =
-      filled-start whole 0 s ∙ split before (n + (more + behind)) 0 rest
+  zeros_all : filled 0 whole 0 s ≡ nulls before ++ (nulls n ++ (nulls more ++ (nulls behind ++ rest)))
+  zeros_all =
+      filled_start whole 0 s ∙ split before (n + (more + behind)) 0 rest
       ∙ ap (λ (l : List ℕ). nulls before ++ l)
       (split n (more + behind) 0 rest ∙ ap (λ (l : List ℕ). nulls n ++ l) (split more behind 0 rest))
 
-  zeros-from : drop before (filled 0 whole 0 s) ≡ (nulls n ++ nulls more) ++ (nulls behind ++ rest)
-  zeros-from =
-      ap (drop before) zeros-all
+  zeros_from : drop before (filled 0 whole 0 s) ≡ (nulls n ++ nulls more) ++ (nulls behind ++ rest)
+  zeros_from =
+      ap (drop before) zeros_all
       ∙ drop_at (nulls before) (nulls n ++ (nulls more ++ (nulls behind ++ rest))) before (length-replicate before 0)
       ∙ sym (append_assoc (nulls n) (nulls more) (nulls behind ++ rest))
 
-  zeros-long : length (nulls n ++ nulls more) ≡ n + more
-  zeros-long =
+  zeros_long : length (nulls n ++ nulls more) ≡ n + more
+  zeros_long =
       length-append (nulls n) (nulls more)
       ∙ ap₂ {C = ℕ} (λ (x y : ℕ). x + y) (length-replicate n 0) (length-replicate more 0)
 
   part_is : take (n + more) (drop before (filled 0 whole 0 s)) ≡ nulls n ++ nulls more
   part_is =
-      ap (take (n + more)) zeros-from ∙ take_at (nulls n ++ nulls more) (nulls behind ++ rest) (n + more) zeros-long
+      ap (take (n + more)) zeros_from ∙ take_at (nulls n ++ nulls more) (nulls behind ++ rest) (n + more) zeros_long
 
   names_are : filled 0 n b (take (n + more) (drop before (filled 0 whole 0 s))) ≡ replicate n b ++ nulls more
   names_are =
-      filled-start n b (take (n + more) (drop before (filled 0 whole 0 s)))
+      filled_start n b (take (n + more) (drop before (filled 0 whole 0 s)))
       ∙ ap (λ (l : List ℕ). replicate n b ++ drop n l) part_is
       ∙ ap (λ (l : List ℕ). replicate n b ++ l) (drop_at (nulls n) (nulls more) n (length-replicate n 0))
 
@@ -146,11 +146,11 @@ module _ (before n more behind b : ℕ) (s : List ℕ) where
   unfolding zeros_around
   around_all =
       let front : take before (filled 0 whole 0 s) ≡ nulls before =
-      ap (take before) zeros-all
+      ap (take before) zeros_all
       ∙ take_at (nulls before) (nulls n ++ (nulls more ++ (nulls behind ++ rest))) before (length-replicate before 0) in
       let back : drop (n + more) (drop before (filled 0 whole 0 s)) ≡ nulls behind ++ rest =
-      ap (drop (n + more)) zeros-from
-      ∙ drop_at (nulls n ++ nulls more) (nulls behind ++ rest) (n + more) zeros-long in
+      ap (drop (n + more)) zeros_from
+      ∙ drop_at (nulls n ++ nulls more) (nulls behind ++ rest) (n + more) zeros_long in
       let joint : nulls more ++ (nulls behind ++ rest) ≡ nulls (more + behind) ++ rest =
       sym (split more behind 0 rest) in
       ap₂ {C = List ℕ} (λ (x y : List ℕ). x ++ y) front

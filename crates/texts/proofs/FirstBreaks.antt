@@ -12,14 +12,14 @@ use Rattle.base.specs.Lists.{any}
 use Rattle.names.specs.Repeats.{first_from}
 
 module _ {A : Type 0} (p : A → Bool) (b : ℕ → Bool) where
-  any-from : (m : ℕ) (l : List A) (k : ℕ) → k ≤ length l
+  any_from : (m : ℕ) (l : List A) (k : ℕ) → k ≤ length l
       → ((i : ℕ) (x : A) → i < k → get_elem? l i ≡ some x → b (m + i) ≡ p x)
       → ltb (first_from b m k) (m + k) ≡ any p (take k l)
   unfolding first_from any
-  any-from m l zero le h = le-ltb m (m + 0) (omega arith)
-  any-from m [] (suc k) le h = absurd (omega arith)
-  any-from m (x ∷ l) (suc k) le h =
-      go (p x) refl (any-from (suc m) l k (omega arith) (λ i y lt g. shift i y (h (suc i) y (omega arith) g)))
+  any_from m l zero le h = le-ltb m (m + 0) (omega arith)
+  any_from m [] (suc k) le h = absurd (omega arith)
+  any_from m (x ∷ l) (suc k) le h =
+      go (p x) refl (any_from (suc m) l k (omega arith) (λ i y lt g. shift i y (h (suc i) y (omega arith) g)))
     where
       shift : (i : ℕ) (y : A) → b (m + suc i) ≡ p y → b (suc m + i) ≡ p y
       shift i y z = let q : m + suc i ≡ suc m + i = omega arith in rw q at z
@@ -36,7 +36,7 @@ module _ {A : Type 0} (p : A → Bool) (b : ℕ → Bool) where
       → ((i : ℕ) (x : A) → i < k → get_elem? l i ≡ some x → b i ≡ p x) → ltb (first_from b 0 k) k ≡ any p (take k l)
   any_search l k le h =
       let z : 0 + k ≡ k = omega arith in
-      rw z at (any-from 0 l k le (λ i x lt e. let q : 0 + i ≡ i = omega arith in rw q (h i x lt e)))
+      rw z at (any_from 0 l k le (λ i x lt e. let q : 0 + i ≡ i = omega arith in rw q (h i x lt e)))
 
 -- ── what a search passed ──
 

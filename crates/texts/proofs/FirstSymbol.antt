@@ -9,13 +9,13 @@ use lib.Dec.{eqb}
 use lib.ListN.{length, take, drop, get_or}
 use borrow.Author.Tests.{eqb-true, eq-eqb}
 use Rattle.base.specs.Lists.{all, same}
-use Rattle.base.proofs.Lists.{and_left, and_right, same_true, fails, not-both}
+use Rattle.base.proofs.Lists.{and_left, and_right, same_true, fails, not_both}
 use Rattle.rules.specs.declared.Op.{Op}
 use Rattle.rules.specs.Operators.{operator, operators, symbol}
 use Rattle.text_laws.specs.Reader.{Found, missing, found, found_or, after, first_of, insert, longest_first, order}
 use Rattle.operators.specs.declared.symbols.Symbol.{Symbol}
 use Rattle.operators.specs.Symbols.{symbol_in, symbol_of}
-use Rattle.operators.proofs.SymbolLaws.{of_length, symbol_of-length}
+use Rattle.operators.proofs.SymbolLaws.{of_length, symbol_of_length}
 
 -- the operator, and the text behind its symbol
 abbrev pub found_by : Symbol → List ℕ → Found
@@ -29,7 +29,7 @@ eqb_sym c d = go (eqb c d) refl
   where
     go : (b : Bool) → eqb c d ≡ b → b ≡ eqb d c
     go true e = sym (eq-eqb d c (sym (eqb-true c d e)))
-    go false e = sym (fails (eqb d c) (λ t. not-both (eqb c d) (eq-eqb c d (sym (eqb-true d c t))) e))
+    go false e = sym (fails (eqb d c) (λ t. not_both (eqb c d) (eq-eqb c d (sym (eqb-true d c t))) e))
 
 -- a text begins with a word where its first bytes are the word
 after_same : (v s : List ℕ) → after v s ≡ cond (same (take (length v) s) v) (some (drop (length v) s)) none
@@ -48,15 +48,15 @@ after_same (c ∷ v) (d ∷ s) = rw (eqb_sym c d) (go (eqb d c) (after_same v s)
 abbrev AreOf : ℕ → List Op → Bool
 AreOf n os = all (λ o. eqb (length (symbol o)) n) os
 
-first_of-length : (os rest : List Op) (n : ℕ) (s : List ℕ) (m : Symbol) → AreOf n os ≡ true
+first_of_length : (os rest : List Op) (n : ℕ) (s : List ℕ) (m : Symbol) → AreOf n os ≡ true
     → length (take n s) ≡ n → first_of rest s ≡ found_by m s → first_of (os ++ rest) s ≡ found_by (symbol_in os (take n s)
     m) s
 unfolding all first_of symbol_in
-first_of-length [] rest n s m a l e = e
-first_of-length (o ∷ os) rest n s m a l e =
+first_of_length [] rest n s m a l e = e
+first_of_length (o ∷ os) rest n s m a l e =
     let k : length (symbol o) ≡ n =
     eqb-true (length (symbol o)) n (and_left (eqb (length (symbol o)) n) (AreOf n os) a) in
-    let ih = first_of-length os rest n s m (and_right (eqb (length (symbol o)) n) (AreOf n os) a) l e in
+    let ih = first_of_length os rest n s m (and_right (eqb (length (symbol o)) n) (AreOf n os) a) l e in
     rw (after_same (symbol o) s, k, l, ih) (go (same (take n s) (symbol o)))
   where
     go : (b : Bool)
@@ -94,14 +94,14 @@ longs_two : AreOf 2 longs ≡ true
 unfolding all of_length operators operator
 longs_two = refl
 
-shorts-one : AreOf 1 shorts ≡ true
+shorts_one : AreOf 1 shorts ≡ true
 unfolding all of_length operators operator
-shorts-one = refl
+shorts_one = refl
 
 by_length : (a b : ℕ) → symbol_of a b ≡ symbol_in longs (a ∷ b ∷ []) (symbol_in shorts (a ∷ []) Symbol.Nothing)
 unfolding symbol_of
 by_length a b =
-    rw (symbol_of-length operators (a ∷ b ∷ []), symbol_of-length operators (a ∷ []))
+    rw (symbol_of_length operators (a ∷ b ∷ []), symbol_of_length operators (a ∷ []))
 
 and_none : (b : Bool) → (b && false) ≡ false
 and_none true = refl
@@ -115,21 +115,21 @@ zero_behind a m = simp and_none
 first_short : (c : ℕ) (s : List ℕ)
     → first_of (shorts ++ []) (c ∷ s) ≡ found_by (symbol_in shorts (c ∷ []) Symbol.Nothing) (c ∷ s)
 unfolding first_of
-first_short c s = first_of-length shorts [] 1 (c ∷ s) Symbol.Nothing shorts-one refl refl
+first_short c s = first_of_length shorts [] 1 (c ∷ s) Symbol.Nothing shorts_one refl refl
 
 -- the operator in front of a text
-pub first-symbol : (c : ℕ) (s : List ℕ) → first_of order (c ∷ s) ≡ found_by (symbol_of c (get_or s 0 0)) (c ∷ s)
-first-symbol c [] =
+pub first_symbol : (c : ℕ) (s : List ℕ) → first_of order (c ∷ s) ≡ found_by (symbol_of c (get_or s 0 0)) (c ∷ s)
+first_symbol c [] =
     rw (in_order, first_shorter longs (shorts ++ []) 2 (c ∷ []) longs_two (omega arith), by_length, zero_behind)
     (first_short c [])
-first-symbol c (d ∷ s) =
+first_symbol c (d ∷ s) =
     rw (in_order, by_length)
-    (first_of-length longs (shorts ++ []) 2 (c ∷ d ∷ s) (symbol_in shorts (c ∷ []) Symbol.Nothing) longs_two refl
+    (first_of_length longs (shorts ++ []) 2 (c ∷ d ∷ s) (symbol_in shorts (c ∷ []) Symbol.Nothing) longs_two refl
     (first_short c (d ∷ s)))
 
-pub first-none : first_of order [] ≡ missing
+pub first_none : first_of order [] ≡ missing
 unfolding first_of order longest_first insert operators operator after
-first-none = refl
+first_none = refl
 
 -- ── how long a symbol is ──
 
@@ -148,17 +148,17 @@ sized_in (o ∷ os) w m n p q = go (same w (symbol o)) (sized_in os w m n p q)
     go true ih = p
     go false ih = ih
 
-short-sized : (c n : ℕ) → 1 ≤ n → Sized n (symbol_in shorts (c ∷ []) Symbol.Nothing)
-short-sized c n le = sized_in shorts (c ∷ []) Symbol.Nothing n (omega arith, le) tt
+short_sized : (c n : ℕ) → 1 ≤ n → Sized n (symbol_in shorts (c ∷ []) Symbol.Nothing)
+short_sized c n le = sized_in shorts (c ∷ []) Symbol.Nothing n (omega arith, le) tt
 
 -- a symbol in front of a text lies in it
-pub symbol-sized : (c : ℕ) (s : List ℕ) → Sized (length (c ∷ s)) (symbol_of c (get_or s 0 0))
-symbol-sized c [] = rw (by_length, zero_behind) (short-sized c 1 (omega arith))
-symbol-sized c (d ∷ s) =
+pub symbol_sized : (c : ℕ) (s : List ℕ) → Sized (length (c ∷ s)) (symbol_of c (get_or s 0 0))
+symbol_sized c [] = rw (by_length, zero_behind) (short_sized c 1 (omega arith))
+symbol_sized c (d ∷ s) =
     rw by_length
     (sized_in longs (c ∷ d ∷ []) (symbol_in shorts (c ∷ []) Symbol.Nothing) (length (c ∷ d ∷ s)) (
       omega arith,
       omega
           arith,
     )
-    (short-sized c (length (c ∷ d ∷ s)) (omega arith)))
+    (short_sized c (length (c ∷ d ∷ s)) (omega arith)))

@@ -8,8 +8,8 @@ use borrow.Rule.Slice.PartMut.{put_mid, same_len_mid}
 use Rattle.writing.specs.Writes.{Writes}
 use Rattle.texts.specs.HeldNames.{labels_room, LabelPut}
 use Rattle.texts.specs.HeldAreas.{labels_at, table_at, held_room, cell_bytes, name_bytes, label_bytes, table_bytes}
-use Rattle.texts.proofs.AreaLaws.{AreasAre, areas_after, labels-long, labels-back, labels-put, table-put}
-use Rattle.texts.proofs.AreaLaws.{table_part, table-long}
+use Rattle.texts.proofs.AreaLaws.{AreasAre, areas_after, labels_long, labels_back, labels_put, table_put}
+use Rattle.texts.proofs.AreaLaws.{table_part, table_long}
 
 module _ (held : List ℕ) (room : held_room ≤ length held) {n : ℕ} {label part : List ℕ}
     (put : LabelPut (label_bytes held) n label part) where
@@ -18,19 +18,19 @@ module _ (held : List ℕ) (room : held_room ≤ length held) {n : ℕ} {label p
   labelled = put_mid labels_at labels_room held part
 
   long : length part ≡ labels_room
-  long = put.long ∙ labels-long held room
+  long = put.long ∙ labels_long held room
 
-  pub label-back : length labelled ≡ length held
-  label-back = labels-back held part room long
+  pub label_back : length labelled ≡ length held
+  label_back = labels_back held part room long
 
-  pub label-room : held_room ≤ length labelled
-  label-room = let n = label-back in omega (arith, n, room)
+  pub label_room : held_room ≤ length labelled
+  label_room = let n = label_back in omega (arith, n, room)
 
   pub label_areas : AreasAre labelled (cell_bytes held) (name_bytes held) part (table_bytes held)
-  label_areas = labels-put held part room long
+  label_areas = labels_put held part room long
 
-  pub label-table : take (length labelled - table_at) (drop table_at labelled) ≡ table_bytes held
-  label-table = table_part labelled label-room ∙ label_areas.table_is
+  pub label_table : take (length labelled - table_at) (drop table_at labelled) ≡ table_bytes held
+  label_table = table_part labelled label_room ∙ label_areas.table_is
 
   module _ {at next : ℕ} {w table : List ℕ}
       (writes : Writes (take (length labelled - table_at) (drop table_at labelled)) at w table next) where
@@ -39,7 +39,7 @@ module _ (held : List ℕ) (room : held_room ≤ length held) {n : ℕ} {label p
     recorded = put_mid table_at (length labelled - table_at) labelled table
 
     pub record_back : length recorded ≡ length held
-    record_back = same_len_mid table_at (length labelled - table_at) labelled table writes.kept ∙ label-back
+    record_back = same_len_mid table_at (length labelled - table_at) labelled table writes.kept ∙ label_back
 
     pub record_room : held_room ≤ length recorded
     record_room = let n = record_back in omega (arith, n, room)
@@ -47,12 +47,12 @@ module _ (held : List ℕ) (room : held_room ≤ length held) {n : ℕ} {label p
     table_same : length table ≡ length labelled - table_at
     table_same =
         let e : length (take (length labelled - table_at) (drop table_at labelled)) ≡ length labelled - table_at =
-        subst (λ (l : List ℕ). length l ≡ length labelled - table_at) (sym (table_part labelled label-room))
-        (table-long labelled label-room) in
+        subst (λ (l : List ℕ). length l ≡ length labelled - table_at) (sym (table_part labelled label_room))
+        (table_long labelled label_room) in
         writes.kept ∙ e
 
     pub record_areas : AreasAre recorded (cell_bytes held) (name_bytes held) part table
-    record_areas = areas_after label_areas (table-put labelled table label-room table_same) refl refl refl
+    record_areas = areas_after label_areas (table_put labelled table label_room table_same) refl refl refl
 
     pub record_writes : Writes (table_bytes held) at w table next
-    record_writes = subst (λ (l : List ℕ). Writes l at w table next) label-table writes
+    record_writes = subst (λ (l : List ℕ). Writes l at w table next) label_table writes

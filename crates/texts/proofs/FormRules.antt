@@ -27,70 +27,70 @@ use Rattle.texts.specs.Resolved.{types_kept}
 use Rattle.texts.specs.States.{later_note, NamedWith, Counts}
 use Rattle.texts.specs.declared.line_parts.Parts.{Parts}
 use Rattle.texts.specs.declared.states.Reading.{Reading}
-use Rattle.texts.proofs.HeldArrays.{snoc-each, element_last, named-front}
-use Rattle.laws.proofs.ReadsFields.{formed-names}
-use Rattle.texts.proofs.HeldClashes.{NamesFormed, clash-any}
+use Rattle.texts.proofs.HeldArrays.{snoc_each, element_last, named_front}
+use Rattle.laws.proofs.ReadsFields.{formed_names}
+use Rattle.texts.proofs.HeldClashes.{NamesFormed, clash_any}
 use Rattle.texts.proofs.HeldNames.{types_here}
-use Rattle.texts.proofs.LineRules.{fixed-kind, none-length}
-use Rattle.texts.proofs.LineTypes.{ShortNames, spelled-short}
+use Rattle.texts.proofs.LineRules.{fixed_kind_lem, none_length}
+use Rattle.texts.proofs.LineTypes.{ShortNames, spelled_short}
 
 -- ── names that have their form ──
 
-kept-formed : (l : List (Field ℕ)) → all is_kept l ≡ true → (i : ℕ) (y : Form) → get_elem? (faces l) i ≡ some y
+kept_formed : (l : List (Field ℕ)) → all is_kept l ≡ true → (i : ℕ) (y : Form) → get_elem? (faces l) i ≡ some y
     → NamesFormed y
 unfolding all
-kept-formed [] h i y e = absurd (let z : ◌≡◌ {A = ℕ} 0 1 = cc in omega arith)
-kept-formed (x ∷ l) h zero y e =
+kept_formed [] h i y e = absurd (let z : ◌≡◌ {A = ℕ} 0 1 = cc in omega arith)
+kept_formed (x ∷ l) h zero y e =
     subst NamesFormed (some-injective (face x) y e)
-    (formed-names x (and_left (is_formed x) _ (and_left (is_kept x) (all is_kept l) h)))
-kept-formed (x ∷ l) h (suc i) y e = kept-formed l (and_right (is_kept x) (all is_kept l) h) i y e
+    (formed_names x (and_left (is_formed x) _ (and_left (is_kept x) (all is_kept l) h)))
+kept_formed (x ∷ l) h (suc i) y e = kept_formed l (and_right (is_kept x) (all is_kept l) h) i y e
 
 module _ (f : fold.Found) (steady : Steady f) (line : List ℕ) (x : Form) (is_form : read_form line ≡ some x) where
-  pub fields-formed : (i : ℕ) (y : Form) → get_elem? (faces f.judged.fields) i ≡ some y → NamesFormed y
-  fields-formed = kept-formed f.judged.fields steady.small.judged.formed
+  pub fields_formed : (i : ℕ) (y : Form) → get_elem? (faces f.judged.fields) i ≡ some y → NamesFormed y
+  fields_formed = kept_formed f.judged.fields steady.small.judged.formed
 
-  pub form-formed : NamesFormed x
-  form-formed = formed-names x (form_sound line x is_form).formed
+  pub form_formed : NamesFormed x
+  form_formed = formed_names x (form_sound line x is_form).formed
 
-  pub all-formed : (i : ℕ) (y : Form) → get_elem? (faces f.judged.fields ++ (x ∷ [])) i ≡ some y
+  pub all_formed : (i : ℕ) (y : Form) → get_elem? (faces f.judged.fields ++ (x ∷ [])) i ≡ some y
       → if_any is_short y.short ≡ true
-  all-formed i y e =
-      (snoc-each (λ j z. NamesFormed z) (faces f.judged.fields) x fields-formed form-formed i y e).1
+  all_formed i y e =
+      (snoc_each (λ j z. NamesFormed z) (faces f.judged.fields) x fields_formed form_formed i y e).1
 
-  pub form-short : ShortNames x
-  form-short = spelled-short x line (form_sound line x is_form)
+  pub form_short : ShortNames x
+  form_short = spelled_short x line (form_sound line x is_form)
 
   module _ (r : Reading) (counts : Counts f r) {labels : List (List ℕ)} {names : Names}
       (named : NamedWith f x labels names) where
     abbrev pub before : List Form
     before = faces f.judged.fields
 
-    count-is : length before ≡ r.fields
-    count-is = length-map f.judged.fields face ∙ sym counts.fields
+    count_is : length before ≡ r.fields
+    count_is = length-map f.judged.fields face ∙ sym counts.fields
 
     -- 8
     pub names_here : any_clash labels names.shorts names.words r.fields ≡ any (clash x) before
     names_here =
-        let front = named-front before x named in
+        let front = named_front before x named in
         let e : get_elem? (before ++ (x ∷ [])) (length before) ≡ some x = element_last before x in
-        subst (λ (n : ℕ). any_clash labels names.shorts names.words n ≡ any (clash x) before) count-is
-        (clash-any before x labels names form-formed (named.label (length before) x e, named.name (length before) x e)
-        fields-formed (λ i y z. (front.label i y z, front.name i y z)))
+        subst (λ (n : ℕ). any_clash labels names.shorts names.words n ≡ any (clash x) before) count_is
+        (clash_any before x labels names form_formed (named.label (length before) x e, named.name (length before) x e)
+        fields_formed (λ i y z. (front.label i y z, front.name i y z)))
 
     -- 9
     pub types_are : types_kept names r.fields x ≡ keeps_types name_readable before x
     types_are =
-        subst (λ (n : ℕ). types_kept names n x ≡ keeps_types name_readable before x) count-is
-        (types_here before x names all-formed named.name form-short)
+        subst (λ (n : ℕ). types_kept names n x ≡ keeps_types name_readable before x) count_is
+        (types_here before x names all_formed named.name form_short)
 
   -- 10
-  pub rest-is : (names : Names) (n : ℕ) (v : LineBytes) (p : Parts) → PartsHeld names n line x v p
+  pub rest_is : (names : Names) (n : ℕ) (v : LineBytes) (p : Parts) → PartsHeld names n line x v p
       → (any is_rest (faces f.judged.fields) && not (eqb p.kind 12 && eqb p.condition.len 0))
       ≡ not (keeps_rest (faces f.judged.fields) x)
-  rest-is names n v p is =
+  rest_is names n v p is =
       rw (
-        fixed-kind names n x.width p.kind p.bits (held p.width v.width) is.width,
-        none-length names n x.condition (held p.condition v.condition) is.condition,
+        fixed_kind_lem names n x.width p.kind p.bits (held p.width v.width) is.width,
+        none_length names n x.condition (held p.condition v.condition) is.condition,
       )
       (go (any is_rest (faces f.judged.fields)) (is_fixed x && is_none x.condition))
     where

@@ -21,24 +21,24 @@ use Rattle.texts.specs.FramePlaces.{up_to, width_or, is_some}
 -- ── the first byte e ──
 
 module _ (e : ℕ) (s : List ℕ) (at : ℕ) where
-  pub up_to-end : length s ≤ at → at ≤ length s → up_to e (drop at s) ≡ 0
+  pub up_to_end : length s ≤ at → at ≤ length s → up_to e (drop at s) ≡ 0
   unfolding up_to
-  up_to-end le le' = let q : at ≡ length s = omega arith in rw (q, drop-length) refl
+  up_to_end le le' = let q : at ≡ length s = omega arith in rw (q, drop-length) refl
 
-  pub up_to-stop : at < length s → get_or s at 0 ≡ e → up_to e (drop at s) ≡ 0
+  pub up_to_stop : at < length s → get_or s at 0 ≡ e → up_to e (drop at s) ≡ 0
   unfolding up_to
-  up_to-stop lt q = rw (drop-cons s at 0 lt, eq-eqb (get_or s at 0) e q) refl
+  up_to_stop lt q = rw (drop-cons s at 0 lt, eq-eqb (get_or s at 0) e q) refl
 
-  pub up_to-step : at < length s → (get_or s at 0 ≡ e → ⊥) → up_to e (drop at s) ≡ suc (up_to e (drop (at + 1) s))
+  pub up_to_step : at < length s → (get_or s at 0 ≡ e → ⊥) → up_to e (drop at s) ≡ suc (up_to e (drop (at + 1) s))
   unfolding up_to
-  up_to-step lt n = rw (drop-cons s at 0 lt, ne_eqb (get_or s at 0) e n, add-one at) refl
+  up_to_step lt n = rw (drop-cons s at 0 lt, ne_eqb (get_or s at 0) e n, add-one at) refl
 
 -- the text up to the first e is the first piece
-pub pieces-first : (e : ℕ) (s : List ℕ) → up_to e s < length s
+pub pieces_first : (e : ℕ) (s : List ℕ) → up_to e s < length s
     → pieces e s ≡ take (up_to e s) s ∷ pieces e (drop (suc (up_to e s)) s)
 unfolding pieces on_first up_to
-pieces-first e [] lt = absurd (omega arith)
-pieces-first e (b ∷ s) lt = go (eqb b e) (pieces-first e s) lt
+pieces_first e [] lt = absurd (omega arith)
+pieces_first e (b ∷ s) lt = go (eqb b e) (pieces_first e s) lt
   where
     go : (x : Bool)
         → (up_to e s < length s → pieces e s ≡ take (up_to e s) s ∷ pieces e (drop (suc (up_to e s)) s))
@@ -64,23 +64,23 @@ pieces_none e (b ∷ s) q = go (eqb b e) (pieces_none e s) q
 
 -- ── rulers ──
 
-length-tabulate : (f : ℕ → ℕ) (i n : ℕ) → length (tabulate f i n) ≡ n
+length_tabulate : (f : ℕ → ℕ) (i n : ℕ) → length (tabulate f i n) ≡ n
 unfolding tabulate
-length-tabulate f i zero = refl
-length-tabulate f i (suc n) = ap suc (length-tabulate f (suc i) n)
+length_tabulate f i zero = refl
+length_tabulate f i (suc n) = ap suc (length_tabulate f (suc i) n)
 
 module _ (f : ℕ → ℕ) (l : List ℕ) (n : ℕ) where
   pub ruler_length : (length l ≡ n → ⊥) → same l (tabulate f 0 n) ≡ false
-  ruler_length ne = same_length l (tabulate f 0 n) (λ e. ne (e ∙ length-tabulate f 0 n))
+  ruler_length ne = same_length l (tabulate f 0 n) (λ e. ne (e ∙ length_tabulate f 0 n))
 
   pub ruler_end : (i : ℕ) → length l ≡ n → length l ≤ i → i ≤ length l
       → same (drop i l) (drop i (tabulate f 0 n)) ≡ true
-  ruler_end i e le le' = same_end l (tabulate f 0 n) i (omega arith) (omega (arith, length-tabulate f 0 n))
+  ruler_end i e le le' = same_end l (tabulate f 0 n) i (omega arith) (omega (arith, length_tabulate f 0 n))
 
   ruler_step : (i : ℕ) → length l ≡ n → i < length l → same (drop i l) (drop i (tabulate f 0 n))
       ≡ (eqb (get_or l i 0) (f i) && same (drop (i + 1) l) (drop (i + 1) (tabulate f 0 n)))
   ruler_step i e lt =
-      same_step l (tabulate f 0 n) i lt (omega (arith, length-tabulate f 0 n))
+      same_step l (tabulate f 0 n) i lt (omega (arith, length_tabulate f 0 n))
       ∙ rw (get_d_tabulate f n i (omega arith)) refl
 
   pub ruler_stop : (i r : ℕ) → length l ≡ n → i < length l → r ≡ f i → (get_or l i 0 ≡ r → ⊥)
@@ -118,30 +118,30 @@ module _ (l : List ℕ) where
 
 -- ── the opening line ──
 
-some-cond : {A : Type 0} (x : Bool) (a : A) → x ≡ is_some (cond x (some a) none)
-some-cond true a = refl
-some-cond false a = refl
+some_cond : {A : Type 0} (x : Bool) (a : A) → x ≡ is_some (cond x (some a) none)
+some_cond true a = refl
+some_cond false a = refl
 
 module _ (s : List ℕ) where
-  pub name-short : length s < 25 → false ≡ is_some (read_name s)
+  pub name_short : length s < 25 → false ≡ is_some (read_name s)
   unfolding read_name closing
-  name-short lt =
+  name_short lt =
       let n : ℕ = length s - length closing in
       let q : same (drop n s) closing ≡ false =
       same_length (drop n s) closing (λ e. absurd (omega (arith, e, length-drop n s))) in
       rw q refl
 
-  pub name-long : (x : Bool) → 25 ≤ length s
+  pub name_long : (x : Bool) → 25 ≤ length s
       → x ≡ same (take (length s - (length s - 25)) (drop (length s - 25) s)) closing
       → (x && is_label (take (length s - 25) s)) ≡ is_some (read_name s)
   unfolding read_name closing
-  name-long x le e =
+  name_long x le e =
       let n : ℕ = length s - 25 in
       let k : length s - n ≡ length (drop n s) = sym (length-drop n s) in
       let t : take (length s - n) (drop n s) ≡ drop n s = take_all (length s - n) (drop n s) (omega arith) in
       let q : same (drop (length s - length closing) s) closing ≡ x =
       ap (λ (m : List ℕ). same m closing) (sym t) ∙ sym e in
-      rw q (some-cond (x && is_label (take n s)) (take n s))
+      rw q (some_cond (x && is_label (take n s)) (take n s))
 
 pub take_rest : (n : ℕ) (l : List ℕ) → take (length l - n) (drop n l) ≡ drop n l
 take_rest n l = take_all (length l - n) (drop n l) (omega (arith, length-drop n l))

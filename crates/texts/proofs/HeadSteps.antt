@@ -12,7 +12,7 @@ use borrow.Author.Tests.{leb-true, ltb-true, ltb-false, ne_eqb}
 use Rattle.base.specs.Bytes.{bytes}
 use Rattle.base.specs.Lists.{same, joined}
 use Rattle.writing.specs.Writes.{Writes}
-use Rattle.base.proofs.Lists.{and_left, and_right, not-both}
+use Rattle.base.proofs.Lists.{and_left, and_right, not_both}
 use Rattle.base.proofs.Scans.{same_length}
 use Rattle.rules.specs.Limits.{fields_most, label_most}
 use Rattle.rules.specs.Names.{is_label}
@@ -32,42 +32,42 @@ use Rattle.texts.specs.States.{Room, Area, area, Numbers, Holds}
 use Rattle.texts.specs.declared.states.Stage.TheVariants as at
 use Rattle.texts.specs.declared.states.Reading.{Reading}
 use Rattle.writing.specs.Puts.{placed, put}
-use Rattle.writing.proofs.PutLaws.{put-writes}
-use Rattle.texts.proofs.FrameLeaves.{name-short, take_rest}
-use Rattle.texts.proofs.StateSteps.{records-kept, next-line}
+use Rattle.writing.proofs.PutLaws.{put_writes}
+use Rattle.texts.proofs.FrameLeaves.{name_short, take_rest}
+use Rattle.texts.proofs.StateSteps.{records_kept, next_line}
 
 -- ── the opening line ──
 
 none_of : {A : Type 0} (o : Option A) → false ≡ is_some o → o ≡ none
 none_of none e = refl
-none_of (some a) e = absurd (not-both true refl (sym e))
+none_of (some a) e = absurd (not_both true refl (sym e))
 
 module _ (l : List ℕ) where
-  pub opening-short : length l < 3 → fold.opening_name l ≡ name_behind l 0
+  pub opening_short : length l < 3 → fold.opening_name l ≡ name_behind l 0
   unfolding fold.opening_name name_behind
-  opening-short lt =
+  opening_short lt =
       let t : take 3 l ≡ l = take_all 3 l (omega arith) in
       let q : same (take 3 l) (bytes "An ") ≡ false =
       rw t (same_length l (bytes "An ") (λ e. absurd (omega (arith, e)))) in
       rw q (go (same (take 2 l) (bytes "A ")))
     where
       go : (y : Bool) → cond y (read_name (drop 2 l)) none ≡ none
-      go true = none_of (read_name (drop 2 l)) (name-short (drop 2 l) (omega (arith, lt, length-drop 2 l)))
+      go true = none_of (read_name (drop 2 l)) (name_short (drop 2 l) (omega (arith, lt, length-drop 2 l)))
       go false = refl
 
-  pub opening-an : same (take 3 l) (bytes "An ") ≡ true → fold.opening_name l ≡ name_behind l 3
+  pub opening_an : same (take 3 l) (bytes "An ") ≡ true → fold.opening_name l ≡ name_behind l 3
   unfolding fold.opening_name name_behind
-  opening-an h = rw h refl
+  opening_an h = rw h refl
 
   pub opening_a : same (take 3 l) (bytes "An ") ≡ false → same (take 2 l) (bytes "A ") ≡ true
       → fold.opening_name l ≡ name_behind l 2
   unfolding fold.opening_name name_behind
   opening_a h k = rw (h, k) refl
 
-  pub opening-none : same (take 3 l) (bytes "An ") ≡ false → same (take 2 l) (bytes "A ") ≡ false
+  pub opening_none : same (take 3 l) (bytes "An ") ≡ false → same (take 2 l) (bytes "A ") ≡ false
       → fold.opening_name l ≡ name_behind l 0
   unfolding fold.opening_name name_behind
-  opening-none h k = rw (h, k) refl
+  opening_none h k = rw (h, k) refl
 
 -- the NAME that was read
 pub record NameOf (s : List ℕ) : Type 0 where
@@ -90,56 +90,56 @@ name_of s h = go (ltb (length s) 25) refl
       short = leb-true (length (take n s)) label_most (and_left (leb (length (take n s)) label_most) _
           (and_right (same (drop n s) (bytes " is formatted as follows:")) (is_label (take n s)) e));
     }
-    found le false e k = absurd (not-both false k refl)
+    found le false e k = absurd (not_both false k refl)
 
     go : (b : Bool) → ltb (length s) 25 ≡ b → NameOf s
-    go true e = absurd (not-both (is_some (read_name s)) h (sym (name-short s (ltb-true (length s) 25 e))))
+    go true e = absurd (not_both (is_some (read_name s)) h (sym (name_short s (ltb-true (length s) 25 e))))
     go false e =
         found (ltb-false (length s) 25 e) (same (drop n s) (bytes " is formatted as follows:") && is_label (take n s))
         refl h
 
-pub behind-none : (l : List ℕ) (a : ℕ) → a ≡ 0 → name_behind l a ≡ none
+pub behind_none : (l : List ℕ) (a : ℕ) → a ≡ 0 → name_behind l a ≡ none
 unfolding name_behind
-behind-none l a e = rw e refl
+behind_none l a e = rw e refl
 
-pub behind-read : (l : List ℕ) (a : ℕ) → (a ≡ 0 → ⊥) → name_behind l a ≡ read_name (drop a l)
+pub behind_read : (l : List ℕ) (a : ℕ) → (a ≡ 0 → ⊥) → name_behind l a ≡ read_name (drop a l)
 unfolding name_behind
-behind-read l a e = rw (ne_eqb a 0 e) refl
+behind_read l a e = rw (ne_eqb a 0 e) refl
 
-pub named-line : (l : List ℕ) (a : ℕ) → is_some (read_name (take (length l - a) (drop a l))) ≡ true → NameOf (drop a l)
-named-line l a e = name_of (drop a l) (rw (take_rest a l) at e)
+pub named_line : (l : List ℕ) (a : ℕ) → is_some (read_name (take (length l - a) (drop a l))) ≡ true → NameOf (drop a l)
+named_line l a e = name_of (drop a l) (rw (take_rest a l) at e)
 
-pub unnamed-line : (l : List ℕ) (a : ℕ) → is_some (read_name (take (length l - a) (drop a l))) ≡ false
+pub unnamed_line : (l : List ℕ) (a : ℕ) → is_some (read_name (take (length l - a) (drop a l))) ≡ false
     → read_name (drop a l) ≡ none
-unnamed-line l a e = none_of (read_name (drop a l)) (sym (rw (take_rest a l) at e))
+unnamed_line l a e = none_of (read_name (drop a l)) (sym (rw (take_rest a l) at e))
 
 module _ (l : List ℕ) (a : ℕ) (le : a ≤ length l) (n : NameOf (drop a l)) where
-  pub name-fits : a + 25 ≤ length l
-  name-fits = let e = length-drop a l in omega (arith, e, n.long, le)
+  pub name_fits : a + 25 ≤ length l
+  name_fits = let e = length-drop a l in omega (arith, e, n.long, le)
 
-  same-cut : length l - 25 - a ≡ length (drop a l) - 25
-  same-cut = let e = length-drop a l in omega (arith, e, name-fits)
+  same_cut : length l - 25 - a ≡ length (drop a l) - 25
+  same_cut = let e = length-drop a l in omega (arith, e, name_fits)
 
-  pub name-put : {before after : List ℕ} {next : ℕ} → label_most ≤ length before
+  pub name_put : {before after : List ℕ} {next : ℕ} → label_most ≤ length before
       → placed next after ≡ put before 0 (take (length l - 25 - a) (drop a l))
       → Writes before 0 (take (length (drop a l) - 25) (drop a l)) after next
-  name-put room e = put-writes (omega (arith, n.short, room)) (rw same-cut at e)
+  name_put room e = put_writes (omega (arith, n.short, room)) (rw same_cut at e)
 
 -- where no field was kept, none stands in
-none-stands : (j : Judged) (fs : List (Field ℕ)) → StandIn j fs → j.fields ≡ [] → fs ≡ []
-none-stands j [] h e = refl
-none-stands j (y ∷ fs) h e = absurd (let n = ap length (h.seen ∙ ap faces e) in omega (arith, n))
+none_stands : (j : Judged) (fs : List (Field ℕ)) → StandIn j fs → j.fields ≡ [] → fs ≡ []
+none_stands j [] h e = refl
+none_stands j (y ∷ fs) h e = absurd (let n = ap length (h.seen ∙ ap faces e) in omega (arith, n))
 
 module _ (f : fold.Found) (r : Reading) {cells : List ℕ} {table : Area} {labels : List (List ℕ)} {names : Names}
     (h : Holds f r cells table labels names) where
   -- NAME stands at the start of the table
-  pub holds-name : f.judged.fields ≡ [] → (n : List ℕ) (k : ℕ) {after : List ℕ} → Writes table.bytes 0 n after k
+  pub holds_name : f.judged.fields ≡ [] → (n : List ℕ) (k : ℕ) {after : List ℕ} → Writes table.bytes 0 n after k
       → Holds (fold.with_name f (some n)) (changed (with_head r r.width k k r.cells r.slots) (r.lines + 1)
       at.Blank r.note) cells (area after table.counts) labels names
   unfolding joined
-  holds-name none_yet n k w = record {
+  holds_name none_yet n k w = record {
     counts = record {
-      lines = next-line f r h;
+      lines = next_line f r h;
       stage = refl;
       width = h.counts.width;
       name = omega (arith, w.end);
@@ -157,18 +157,18 @@ module _ (f : fold.Found) (r : Reading) {cells : List ℕ} {table : Area} {label
       stored = (let t : take k _ ≡ n = w.text in t ∙ sym (append-nil n));
       end = (let e : k ≡ length n = omega (arith, w.end) in e ∙ ap length (sym (append-nil n)));
       numbers = subst (λ (l : List (Field ℕ)). Numbers l table.counts)
-          (none-stands f.judged h.records.fields h.records.stands none_yet) h.records.numbers;
+          (none_stands f.judged h.records.fields h.records.stands none_yet) h.records.numbers;
     };
     named = h.named;
   }
 
   -- W
-  pub holds-width : f.row ≡ none → (w : ℕ)
+  pub holds_width : f.row ≡ none → (w : ℕ)
       → Holds (fold.with_width f (some w)) (changed (with_head r w r.name r.end r.cells r.slots)
       (r.lines + 1) at.UnitsRuler r.note) cells table labels names
-  holds-width outside w = record {
+  holds_width outside w = record {
     counts = record {
-      lines = next-line f r h;
+      lines = next_line f r h;
       stage = refl;
       width = refl;
       name = h.counts.name;
@@ -180,7 +180,7 @@ module _ (f : fold.Found) (r : Reading) {cells : List ℕ} {table : Area} {label
       lowest = h.counts.lowest;
     };
     slots = record { stored = h.slots.stored; end = h.slots.end; next = h.slots.next };
-    records = records-kept h.records h.records.stands refl refl;
+    records = records_kept h.records h.records.stands refl refl;
     named = h.named;
   }
 
@@ -189,9 +189,9 @@ abbrev by_tens : Bool → Bool → Bool → Option ℕ
 by_tens a b c = cond a (some 8) (cond b (some 16) (cond c (some 32) none))
 
 -- 0 stands for none
-pub tens-none : (l : List ℕ) → width_or (read_tens l) ≡ 0 → read_tens l ≡ none
+pub tens_none : (l : List ℕ) → width_or (read_tens l) ≡ 0 → read_tens l ≡ none
 unfolding read_tens
-tens-none l = go (same l (tens 8)) (same l (tens 16)) (same l (tens 32))
+tens_none l = go (same l (tens 8)) (same l (tens 16)) (same l (tens 32))
   where
     go : (a b c : Bool) → width_or (by_tens a b c) ≡ 0 → by_tens a b c ≡ none
     go true b c e = absurd (omega (arith, e))
@@ -199,10 +199,10 @@ tens-none l = go (same l (tens 8)) (same l (tens 16)) (same l (tens 32))
     go false false true e = absurd (omega (arith, e))
     go false false false e = refl
 
-pub tens-some : (l : List ℕ) → (width_or (read_tens l) ≡ 0 → ⊥)
+pub tens_some : (l : List ℕ) → (width_or (read_tens l) ≡ 0 → ⊥)
     → (read_tens l ≡ some (width_or (read_tens l))) × (width_or (read_tens l) ≤ 32)
 unfolding read_tens
-tens-some l = go (same l (tens 8)) (same l (tens 16)) (same l (tens 32))
+tens_some l = go (same l (tens 8)) (same l (tens 16)) (same l (tens 32))
   where
     go : (a b c : Bool) → (width_or (by_tens a b c) ≡ 0 → ⊥)
         → (by_tens a b c ≡ some (width_or (by_tens a b c))) × (width_or (by_tens a b c) ≤ 32)
@@ -213,9 +213,9 @@ tens-some l = go (same l (tens 8)) (same l (tens 16)) (same l (tens 32))
 
 -- ── safe ──
 
-pub room-width : (r : Reading) (w : ℕ) → Room r → w ≤ 32
+pub room_width : (r : Reading) (w : ℕ) → Room r → w ≤ 32
     → Room (changed (with_head r w r.name r.end r.cells r.slots) (r.lines + 1) at.UnitsRuler r.note)
-room-width r w h le = record {
+room_width r w h le = record {
   width = le;
   name = h.name;
   row = h.row;
@@ -230,9 +230,9 @@ room-width r w h le = record {
   placed = (let q = h.placed in omega (arith, q));
 }
 
-pub room-name : (r : Reading) (k : ℕ) → Room r → k ≤ label_most
+pub room_name : (r : Reading) (k : ℕ) → Room r → k ≤ label_most
     → Room (changed (with_head r r.width k k r.cells r.slots) (r.lines + 1) at.Blank r.note)
-room-name r k h le = record {
+room_name r k h le = record {
   width = h.width;
   name = le;
   row = h.row;

@@ -18,13 +18,13 @@ use Rattle.texts.proofs.LineRules.{element_in}
 
 module _ {A : Type 0} where
   -- each element of a list, and one more
-  pub snoc-each : (Q : ℕ → A → Type 0) (l : List A) (a : A) → ((i : ℕ) (y : A) → get_elem? l i ≡ some y → Q i y)
+  pub snoc_each : (Q : ℕ → A → Type 0) (l : List A) (a : A) → ((i : ℕ) (y : A) → get_elem? l i ≡ some y → Q i y)
       → Q (length l) a → (i : ℕ) (y : A) → get_elem? (l ++ (a ∷ [])) i ≡ some y → Q i y
-  snoc-each Q [] a h q zero y e = subst (Q 0) (some-injective a y e) q
-  snoc-each Q [] a h q (suc i) y e = absurd (let z : ◌≡◌ {A = ℕ} 0 1 = cc in omega arith)
-  snoc-each Q (x ∷ l) a h q zero y e = h 0 y e
-  snoc-each Q (x ∷ l) a h q (suc i) y e =
-      snoc-each (λ j b. Q (suc j) b) l a (λ j b k. h (suc j) b k) q i y e
+  snoc_each Q [] a h q zero y e = subst (Q 0) (some-injective a y e) q
+  snoc_each Q [] a h q (suc i) y e = absurd (let z : ◌≡◌ {A = ℕ} 0 1 = cc in omega arith)
+  snoc_each Q (x ∷ l) a h q zero y e = h 0 y e
+  snoc_each Q (x ∷ l) a h q (suc i) y e =
+      snoc_each (λ j b. Q (suc j) b) l a (λ j b k. h (suc j) b k) q i y e
 
   pub element_last : (l : List A) (a : A) → get_elem? (l ++ (a ∷ [])) (length l) ≡ some a
   element_last [] a = refl
@@ -36,13 +36,13 @@ module _ (l : List Form) (x : Form) (g : Form → List ℕ) (held : List (List �
   pub held_more : (v : List ℕ) → v ≡ g x → (i : ℕ) (y : Form) → get_elem? (l ++ (x ∷ [])) i ≡ some y
       → get_or (set held (length l) v) i [] ≡ g y
   held_more v e =
-      snoc-each (λ i y. get_or (set held (length l) v) i [] ≡ g y) l x
+      snoc_each (λ i y. get_or (set held (length l) v) i [] ≡ g y) l x
       (λ i y k. let lt = element_in l i y k in
       get_or-set_other held (length l) i v [] (λ z. absurd (omega (arith, lt, z))) ∙ h i y k)
       (get_or-set_same held (length l) v [] room ∙ e)
 
-face-held : (names : Names) (i : ℕ) (x : Form) → HeldAs names i x → HeldAs names i (face x)
-face-held names i x h = record {
+face_held : (names : Names) (i : ℕ) (x : Form) → HeldAs names i x → HeldAs names i (face x)
+face_held names i x h = record {
   short = h.short;
   word = h.word;
   mark = h.mark ∙ go x.width;
@@ -57,19 +57,19 @@ face-held names i x h = record {
 module _ (l : List Form) (x : Form) {labels : List (List ℕ)} {names : Names}
     (h : Named (l ++ (x ∷ [])) labels names) where
   -- without the last
-  pub named-front : Named l labels names
-  named-front = record {
+  pub named_front : Named l labels names
+  named_front = record {
     label = λ i y e. h.label i y (element_front l (x ∷ []) i y e);
     name = λ i y e. h.name i y (element_front l (x ∷ []) i y e);
     room = h.room;
   }
 
   -- the last by what later lines see of it
-  pub named-face : Named (l ++ (face x ∷ [])) labels names
-  named-face = record {
-    label = snoc-each (λ i y. get_or labels i [] ≡ pad_to label_most y.label) l (face x) named-front.label
+  pub named_face : Named (l ++ (face x ∷ [])) labels names
+  named_face = record {
+    label = snoc_each (λ i y. get_or labels i [] ≡ pad_to label_most y.label) l (face x) named_front.label
         (h.label (length l) x (element_last l x));
-    name = snoc-each (λ i y. HeldAs names i y) l (face x) named-front.name
-        (face-held names (length l) x (h.name (length l) x (element_last l x)));
+    name = snoc_each (λ i y. HeldAs names i y) l (face x) named_front.name
+        (face_held names (length l) x (h.name (length l) x (element_last l x)));
     room = h.room;
   }

@@ -16,7 +16,7 @@ use Rattle.rules.specs.Fields.{Form}
 use Rattle.rules.specs.Within.{clash}
 use Rattle.names.specs.Repeats.{first_from, pad_to, names_meet}
 use Rattle.names.proofs.PadLaws.{label_same}
-use Rattle.names.proofs.ClashLaws.{clash-held}
+use Rattle.names.proofs.ClashLaws.{clash_held_lem}
 use Rattle.texts.specs.HeldNames.{Names, HeldAs, clash_held, any_clash}
 use Rattle.texts.proofs.FirstBreaks.{any_search}
 use Rattle.texts.proofs.LineSearches.{search_found, search_next, search_none}
@@ -29,9 +29,9 @@ module _ (labels shorts words : List (List ℕ)) (n i : ℕ) where
   Left = (i ≤ n)
       × (first_from (clash_held labels shorts words n) 0 n ≡ first_from (clash_held labels shorts words n) i (n - i))
 
-  pub clash-none : n ≤ i → Left → false ≡ any_clash labels shorts words n
+  pub clash_none : n ≤ i → Left → false ≡ any_clash labels shorts words n
   unfolding any_clash
-  clash-none le so =
+  clash_none le so =
       let e = search_none (clash_held labels shorts words n) n i le so.0 so.1 in
       sym (le-ltb (first_from (clash_held labels shorts words n) 0 n) n (omega (arith, e)))
 
@@ -51,12 +51,12 @@ module _ (labels shorts words : List (List ℕ)) (n i : ℕ) where
   unfolding clash_held
   meet_here h y k = rw (h, k) refl
 
-pub clash-start : (labels shorts words : List (List ℕ)) (n : ℕ) → Left labels shorts words n 0
-clash-start labels shorts words n = (omega arith, rw sub-zero)
+pub clash_start : (labels shorts words : List (List ℕ)) (n : ℕ) → Left labels shorts words n 0
+clash_start labels shorts words n = (omega arith, rw sub-zero)
 
-pub clash-next : (labels shorts words : List (List ℕ)) (n i : ℕ) → i < n → Left labels shorts words n i
+pub clash_next : (labels shorts words : List (List ℕ)) (n i : ℕ) → i < n → Left labels shorts words n i
     → clash_held labels shorts words n i ≡ false → Left labels shorts words n (i + 1)
-clash-next labels shorts words n i lt so h =
+clash_next labels shorts words n i lt so h =
     (omega arith, search_next (clash_held labels shorts words n) n i lt so.1 h)
 
 -- ── the fields whose names are held ──
@@ -69,12 +69,12 @@ NamesFormed x = (is_label x.label ≡ true) × (if_any is_short x.short ≡ true
 abbrev pub WholeHeld : List (List ℕ) → Names → ℕ → Form → Type 0
 WholeHeld labels names i x = (get_or labels i [] ≡ pad_to label_most x.label) × HeldAs names i x
 
-pub clash-any : (fs : List Form) (x : Form) (labels : List (List ℕ)) (names : Names) → NamesFormed x
+pub clash_any : (fs : List Form) (x : Form) (labels : List (List ℕ)) (names : Names) → NamesFormed x
     → WholeHeld labels names (length fs) x → ((i : ℕ) (y : Form) → get_elem? fs i ≡ some y → NamesFormed y)
     → ((i : ℕ) (y : Form) → get_elem? fs i ≡ some y → WholeHeld labels names i y)
     → any_clash labels names.shorts names.words (length fs) ≡ any (clash x) fs
 unfolding any_clash clash_held
-clash-any fs x labels names formed own each held =
+clash_any fs x labels names formed own each held =
     any_search (clash x) (clash_held labels names.shorts names.words (length fs)) fs (length fs) (omega arith) one
     ∙ ap (any (clash x)) (take-length fs)
   where
@@ -91,4 +91,4 @@ clash-any fs x labels names formed own each held =
           h.1.word,
           label_same x.label y.label formed.0 (each i y e).0,
         )
-        (sym (clash-held x y formed.1 (each i y e).1))
+        (sym (clash_held_lem x y formed.1 (each i y e).1))

@@ -22,7 +22,7 @@ use Rattle.rules.specs.Stored.{stored_name}
 use Rattle.rules.specs.Within.{keeps_names, keeps_types, width_has_type, name_readable}
 use Rattle.laws.proofs.NameLaws.{name_unique_in}
 use Rattle.names.specs.Repeats.{first_from, pad_to, same_name, held_word}
-use Rattle.names.proofs.PadLaws.{held_same, none-second}
+use Rattle.names.proofs.PadLaws.{held_same, none_second}
 use Rattle.texts.specs.Resolved.{types_kept}
 use Rattle.texts.specs.StoredTrees.{reads_as, is_held, look_up, may_read}
 use Rattle.texts.specs.HeldNames.{Names, HeldAs}
@@ -55,27 +55,27 @@ read_held x w p q = go (is_short l) refl x.short p
         → (same_name (pad_to short_most w) (pad_to short_most (stored_name o))
         || same_name (pad_to short_most w) (pad_to short_most (cond b l [])))
         ≡ any (same w) (list_of o ++ cond b (l ∷ []) [])
-    go true e none p = rw (none-second w q, held_same w l q e) (or_false (same w l))
+    go true e none p = rw (none_second w q, held_same w l q e) (or_false (same w l))
     go true e (some v) p =
         rw (held_same w v q p, held_same w l q e) (ap (λ (a : Bool). same w v || a) (or_false (same w l)))
-    go false e none p = rw (none-second w q) refl
-    go false e (some v) p = rw (held_same w v q p, none-second w q) refl
+    go false e none p = rw (none_second w q) refl
+    go false e (some v) p = rw (held_same w v q p, none_second w q) refl
 
-mark-is : (b : Bool) → eqb (cond b 1 0) 1 ≡ b
-mark-is true = refl
-mark-is false = refl
+mark_is : (b : Bool) → eqb (cond b 1 0) 1 ≡ b
+mark_is true = refl
+mark_is false = refl
 
 -- those of the fields before, and of the line's own form x
 module _ (before : List Form) (x : Form) (names : Names)
     (formed : (i : ℕ) (y : Form) → get_elem? (before ++ (x ∷ [])) i ≡ some y → if_any is_short y.short ≡ true)
     (held : (i : ℕ) (y : Form) → get_elem? (before ++ (x ∷ [])) i ≡ some y → HeldAs names i y)
     (short : ShortNames x) where
-  held-fixed : (i : ℕ) (y : Form) (w : List ℕ) → get_elem? (before ++ (x ∷ [])) i ≡ some y → is_short w ≡ true
+  held_fixed : (i : ℕ) (y : Form) (w : List ℕ) → get_elem? (before ++ (x ∷ [])) i ≡ some y → is_short w ≡ true
       → is_held names w i ≡ (is_fixed y && any (same w) (read_names y))
   unfolding reads_as
-  held-fixed i y w e q =
+  held_fixed i y w e q =
       let h = held i y e in
-      rw (h.mark, h.short, h.word, mark-is (is_fixed y), read_held y w (formed i y e) q) refl
+      rw (h.mark, h.short, h.word, mark_is (is_fixed y), read_held y w (formed i y e) q) refl
 
   look_first : (k : ℕ) (w : List ℕ) → k ≤ length (before ++ (x ∷ []))
       → look_up names k w ≡ first_from (is_held names w) 0 k
@@ -89,7 +89,7 @@ module _ (before : List Form) (x : Form) (names : Names)
   may_read_lem k w le q =
       ap (λ (n : ℕ). ltb n k) (look_first k w le)
       ∙ any_search (λ (y : Form). is_fixed y && any (same w) (read_names y)) (is_held names w) (before ++ (x ∷ [])) k le
-      (λ i y lt e. held-fixed i y w e q)
+      (λ i y lt e. held_fixed i y w e q)
 
   longer : length (before ++ (x ∷ [])) ≡ suc (length before)
   longer = let n = length-append before (x ∷ []) in omega (arith, n)
@@ -151,7 +151,7 @@ module _ (before : List Form) (x : Form) (names : Names)
       ∙ and_right (is_short w) (may_read names k w) both) in
       let hit : is_held names w j ≡ true = search_hit (is_held names w) 0 k (omega arith) in
       let y = element_at (before ++ (x ∷ [])) j (omega arith) in
-      let is = sym (held-fixed before x names formed held short j y.0 w y.1 q) ∙ hit in
+      let is = sym (held_fixed before x names formed held short j y.0 w y.1 q) ∙ hit in
       let named : any (same w) (read_names y.0) ≡ true =
       and_right (is_fixed y.0) (any (same w) (read_names y.0)) is in
       let found =
@@ -161,9 +161,9 @@ module _ (before : List Form) (x : Form) (names : Names)
       (z.0, z.1, z.2)
 
   -- a tree of names that have the form of short names reads only such ones
-  both-width : (may : List ℕ → Bool) (v : Width (List ℕ)) → all (all_names is_short) (width_trees v) ≡ true
+  both_width : (may : List ℕ → Bool) (v : Width (List ℕ)) → all (all_names is_short) (width_trees v) ≡ true
       → width_has_type may v ≡ true → width_has_type (λ w. is_short w && may w) v ≡ true
-  both-width may v e h = sym (width_type before x names formed held short may (λ w. is_short w && may w) (λ w q. rw q
+  both_width may v e h = sym (width_type before x names formed held short may (λ w. is_short w && may w) (λ w q. rw q
       refl) v e) ∙ h
 
   both_maybe : (may : List ℕ → Bool) (o : Option (Tree (List ℕ))) → if_any (all_names is_short) o ≡ true
@@ -186,7 +186,7 @@ module _ (before : List Form) (x : Form) (names : Names)
           longer
               before x names formed held short,
         )))
-            x.width (both-width (may_read names n) x.width short.width (and_left wide (own && when) k)),
+            x.width (both_width (may_read names n) x.width short.width (and_left wide (own && when) k)),
         same_maybe (λ w. is_short w && may_read names (n + 1) w) (look_up names (n + 1)) g
             (index_same (n + 1) (omega (arith, longer before x names formed held short))) x.constraint
             (both_maybe (may_read names (n + 1)) x.constraint short.constraint (and_left own when both)),

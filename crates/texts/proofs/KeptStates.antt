@@ -11,7 +11,7 @@ use lib.Seq.{length-take-le, take_all, drop-append-le, drop-drop}
 use borrow.Author.Tests.{lt-ltb, le-ltb}
 use borrow.Rule.Slice.PartMut.{put_mid}
 use Rattle.base.specs.Lists.{all}
-use Rattle.base.proofs.Lists.{not-both}
+use Rattle.base.proofs.Lists.{not_both}
 use Rattle.rules.specs.Limits.{text_most, line_most, fields_most}
 use Rattle.rules.specs.Names.{is_printable}
 use Rattle.rules.specs.Frames.{is_line}
@@ -19,11 +19,11 @@ use Rattle.rules.specs.Trees.{le2}
 use Rattle.laws.specs.Places.{two_at}
 use Rattle.writing.specs.Writes.{Writes}
 use Rattle.writing.specs.Puts.{placed, put}
-use Rattle.writing.proofs.PutLaws.{put-writes}
+use Rattle.writing.proofs.PutLaws.{put_writes}
 use Rattle.text_laws.specs.Fold as fold
-use Rattle.text_laws.proofs.Fed.{cut-lost, lost-stage}
-use Rattle.text_laws.proofs.FedRuns.{fed-run, fed-free}
-use Rattle.text_laws.proofs.Steadiness.{steady-cut}
+use Rattle.text_laws.proofs.Fed.{cut_lost, lost_stage}
+use Rattle.text_laws.proofs.FedRuns.{fed_run, fed_free}
+use Rattle.text_laws.proofs.Steadiness.{steady_cut}
 use Rattle.texts.specs.RowPlaces.{row_room}
 use Rattle.texts.specs.States.{Taken, CutStep}
 use Rattle.texts.specs.StateNumbers.{used_at, line_at, row_at, counts_at, held_at, state_room, reading_in, Fits, Loaded}
@@ -33,13 +33,13 @@ use Rattle.texts.specs.PieceStates.{StateHolds, Clean, Cleared, SameAround, CutS
 use Rattle.texts.specs.PieceStates.{held_line, line_bytes, row_bytes, count_bytes, held_bytes}
 use Rattle.texts.specs.declared.states.Reading.{Reading}
 use Rattle.texts.specs.Fills.{zeros}
-use Rattle.texts.proofs.ClearedStates.{row-front, cleared_changed}
-use Rattle.texts.proofs.FillLaws.{zeros-behind}
-use Rattle.texts.proofs.NameAreas.{written-word, drop-take}
-use Rattle.texts.proofs.StateChanges.{Changed, changed_wider, changed_then, writes-changed, two-changed}
-use Rattle.texts.proofs.StateChanges.{two-put, saved_changed, part_long, lent_is, lent-changed, rest-behind}
-use Rattle.texts.proofs.StateChanges.{reading-before, reading-behind, row-behind, row_before}
-use Rattle.texts.proofs.StateChanges.{counts_behind, held-behind, same_around}
+use Rattle.texts.proofs.ClearedStates.{row_front, cleared_changed}
+use Rattle.texts.proofs.FillLaws.{zeros_behind}
+use Rattle.texts.proofs.NameAreas.{written_word, drop_take}
+use Rattle.texts.proofs.StateChanges.{Changed, changed_wider, changed_then, writes_changed, two_changed}
+use Rattle.texts.proofs.StateChanges.{two_put, saved_changed, part_long, lent_is, lent_changed, rest_behind}
+use Rattle.texts.proofs.StateChanges.{reading_before, reading_behind, row_behind, row_before}
+use Rattle.texts.proofs.StateChanges.{counts_behind, held_behind, same_around}
 
 -- what is kept, in bytes that are the same
 pub kept_in : {f : fold.Found} {r q : Reading} {h i row line c d : List ℕ} → r ≡ q → h ≡ i → row ≡ line → c ≡ d
@@ -54,15 +54,15 @@ kept_in {f} {r} {q} {h} {i} {row} {line} {c} {d} er eh ew ec k =
 
 module _ {size : ℕ} {s t u : List ℕ} {r q : Reading} (room : state_room ≤ length s) (most : size ≤ text_most)
     (load : Loaded size s r) (save : Saved s q t) (clear : Cleared q.row t u) where
-  cut-first : Changed 4 24 s t
-  cut-first = saved_changed save
+  cut_first : Changed 4 24 s t
+  cut_first = saved_changed save
 
-  cut-both : Changed 2 counts_at s u
-  cut-both =
-      changed_then (changed_wider 2 counts_at (omega arith) (omega arith) cut-first) (cleared_changed clear)
+  cut_both : Changed 2 counts_at s u
+  cut_both =
+      changed_then (changed_wider 2 counts_at (omega arith) (omega arith) cut_first) (cleared_changed clear)
 
   pub cut_around : SameAround s u
-  cut_around = same_around cut-both (omega arith) (omega arith)
+  cut_around = same_around cut_both (omega arith) (omega arith)
 
   pub cut_states : Taken r q → CutStep r q (row_bytes s) → q.lines ≡ r.lines → CutState size s u
   cut_states taken step lines =
@@ -81,12 +81,12 @@ module _ {size : ℕ} {s t u : List ℕ} {r q : Reading} (room : state_room ≤ 
           let k : KeptAs f r (held_bytes s) (row_bytes s) (twos_in fields_most (count_bytes s)) =
           kept_in (sym same) refl refl refl kept in
           let w = step f (held_bytes s) (twos_in fields_most (count_bytes s)) k.steady k.rows k.holds in
-          let front = clear.rows ∙ ap (take (65 * q.row)) (row-behind cut-first (omega arith)) in
-          kept_in (sym is) (sym (held-behind cut-both (omega arith))) refl
-          (ap (twos_in fields_most) (sym (counts_behind cut-both (omega arith))))
+          let front = clear.rows ∙ ap (take (65 * q.row)) (row_behind cut_first (omega arith)) in
+          kept_in (sym is) (sym (held_behind cut_both (omega arith))) refl
+          (ap (twos_in fields_most) (sym (counts_behind cut_both (omega arith))))
           (record {
-            steady = steady-cut f k.steady;
-            rows = row-front (row_bytes s) (row_bytes u) taken.0.width front w.1;
+            steady = steady_cut f k.steady;
+            rows = row_front (row_bytes s) (row_bytes u) taken.0.width front w.1;
             holds = w.0;
           })
 
@@ -96,95 +96,95 @@ module _ (s t u part row counts : List ℕ) {next : ℕ} {v : List ℕ} {r : Rea
     (long : length row ≡ row_room) (save : Saved s r t) (rows : placed next u ≡ put t row_at row)
     (same : length part ≡ length (count_bytes u))
     (clear : Cleared r.row (put_mid counts_at (2 * fields_most) u part) v) where
-  stored-first : Changed 4 24 s t
-  stored-first = saved_changed save
+  stored_first : Changed 4 24 s t
+  stored_first = saved_changed save
 
   row_written : Writes t row_at row u next
-  row_written = put-writes (let n = stored-first.long in omega (arith, n, room, long)) rows
+  row_written = put_writes (let n = stored_first.long in omega (arith, n, room, long)) rows
 
-  stored-second : Changed row_at counts_at t u
-  stored-second =
-      let n = stored-first.long in
+  stored_second : Changed row_at counts_at t u
+  stored_second =
+      let n = stored_first.long in
       let end = row_written.end in
       changed_wider row_at counts_at (omega arith) (omega (arith, long, end))
-      (writes-changed (omega (arith, n, room)) row_written)
+      (writes_changed (omega (arith, n, room)) row_written)
 
-  row-there : row_bytes u ≡ row
-  row-there =
-      let n = stored-first.long in
-      ap (λ (m : ℕ). take m (drop row_at u)) (sym long) ∙ written-word row_written (omega (arith, n, room))
+  row_there : row_bytes u ≡ row
+  row_there =
+      let n = stored_first.long in
+      ap (λ (m : ℕ). take m (drop row_at u)) (sym long) ∙ written_word row_written (omega (arith, n, room))
 
-  room-counts : counts_at + 2 * fields_most ≤ length u
-  room-counts = let n = stored-first.long in let m = stored-second.long in omega (arith, n, m, room)
+  room_counts : counts_at + 2 * fields_most ≤ length u
+  room_counts = let n = stored_first.long in let m = stored_second.long in omega (arith, n, m, room)
 
   whole : length part ≡ 2 * fields_most
-  whole = same ∙ part_long counts_at (2 * fields_most) u room-counts
+  whole = same ∙ part_long counts_at (2 * fields_most) u room_counts
 
   stored_third : Changed counts_at held_at u (put_mid counts_at (2 * fields_most) u part)
-  stored_third = lent-changed counts_at (2 * fields_most) u part room-counts whole
+  stored_third = lent_changed counts_at (2 * fields_most) u part room_counts whole
 
   stored_last : Changed 2 counts_at (put_mid counts_at (2 * fields_most) u part) v
   stored_last = cleared_changed clear
 
-  stored-all : Changed 2 held_at s v
-  stored-all =
-      changed_then (changed_wider 2 held_at (omega arith) (omega arith) stored-first)
-      (changed_then (changed_wider 2 held_at (omega arith) (omega arith) stored-second)
+  stored_all : Changed 2 held_at s v
+  stored_all =
+      changed_then (changed_wider 2 held_at (omega arith) (omega arith) stored_first)
+      (changed_then (changed_wider 2 held_at (omega arith) (omega arith) stored_second)
       (changed_then (changed_wider 2 held_at (omega arith) (omega arith) stored_third)
       (changed_wider 2 held_at (omega arith) (omega arith) stored_last)))
 
-  stored-reading : Fits text_most r → reading_in v ≡ r
-  stored-reading f =
-      clear.reading ∙ reading-before stored_third (omega arith) ∙ reading-before stored-second (omega arith)
+  stored_reading : Fits text_most r → reading_in v ≡ r
+  stored_reading f =
+      clear.reading ∙ reading_before stored_third (omega arith) ∙ reading_before stored_second (omega arith)
       ∙ save.numbers f
 
   pub stored_states : twos_in fields_most part ≡ take fields_most counts
       → SameAround s v × StoredState s r row counts v
   stored_states twos = (
-    same_around stored-all (omega arith) (omega arith),
+    same_around stored_all (omega arith) (omega arith),
     record {
-      reading = stored-reading;
+      reading = stored_reading;
       used = clear.used;
-      rows = clear.rows ∙ ap (take (65 * r.row)) (row_before stored_third (omega arith) ∙ row-there);
-      clean = λ f. clear.clean (ap (λ (x : Reading). x.row) (stored-reading f));
+      rows = clear.rows ∙ ap (take (65 * r.row)) (row_before stored_third (omega arith) ∙ row_there);
+      clean = λ f. clear.clean (ap (λ (x : Reading). x.row) (stored_reading f));
       twos = ap (twos_in fields_most) (counts_behind stored_last (omega arith)
-          ∙ lent_is counts_at (2 * fields_most) u part room-counts whole) ∙ twos;
-      held = held-behind stored-all (omega arith);
+          ∙ lent_is counts_at (2 * fields_most) u part room_counts whole) ∙ twos;
+      held = held_behind stored_all (omega arith);
     },
   )
 
 -- ── a part more ──
 
 -- an unfinished line that is known, with a part behind it
-cut-unended : (f : fold.Found) (l : List ℕ) → (fold.is_lost f.stage ≡ false → line_most < length l)
+cut_unended : (f : fold.Found) (l : List ℕ) → (fold.is_lost f.stage ≡ false → line_most < length l)
     → fold.unended f l ≡ fold.cut f
 unfolding fold.unended
-cut-unended f l long = go (fold.is_lost f.stage) refl
+cut_unended f l long = go (fold.is_lost f.stage) refl
   where
     either : (b : Bool) → fold.cut f ≡ f → cond b (fold.cut f) f ≡ fold.cut f
     either true e = refl
     either false e = sym e
 
     go : (b : Bool) → fold.is_lost f.stage ≡ b → cond (ltb line_most (length l)) (fold.cut f) f ≡ fold.cut f
-    go true e = either (ltb line_most (length l)) (cut-lost f (lost-stage f.stage e))
+    go true e = either (ltb line_most (length l)) (cut_lost f (lost_stage f.stage e))
     go false e = rw (lt-ltb line_most (length l) (long e)) refl
 
-same-unended : (f : fold.Found) (l : List ℕ) → (fold.is_lost f.stage ≡ false → length l ≤ line_most)
+same_unended : (f : fold.Found) (l : List ℕ) → (fold.is_lost f.stage ≡ false → length l ≤ line_most)
     → fold.unended f l ≡ f
 unfolding fold.unended
-same-unended f l short = go (fold.is_lost f.stage) refl
+same_unended f l short = go (fold.is_lost f.stage) refl
   where
     either : (b : Bool) → fold.cut f ≡ f → cond b (fold.cut f) f ≡ f
     either true e = e
     either false e = refl
 
     go : (b : Bool) → fold.is_lost f.stage ≡ b → cond (ltb line_most (length l)) (fold.cut f) f ≡ f
-    go true e = either (ltb line_most (length l)) (cut-lost f (lost-stage f.stage e))
+    go true e = either (ltb line_most (length l)) (cut_lost f (lost_stage f.stage e))
     go false e = rw (le-ltb line_most (length l) (short e)) refl
 
 -- behind a cut no line matters, and there are as many lines
-cut-is : (f : fold.Found) → (fold.is_lost (fold.cut f).stage ≡ true) × ((fold.cut f).lines ≡ f.lines)
-cut-is f = go (fold.is_lost f.stage) refl
+cut_is : (f : fold.Found) → (fold.is_lost (fold.cut f).stage ≡ true) × ((fold.cut f).lines ≡ f.lines)
+cut_is f = go (fold.is_lost f.stage) refl
   where
     go : (b : Bool) → fold.is_lost f.stage ≡ b
         → (fold.is_lost (cond b f (fold.wrong f)).stage ≡ true) × ((cond b f (fold.wrong f)).lines ≡ f.lines)
@@ -192,16 +192,16 @@ cut-is f = go (fold.is_lost f.stage) refl
     go false e = (refl, refl)
 
 -- how long the held line is
-held-long : (s : List ℕ) → state_room ≤ length s → two_at s used_at ≤ line_most → length (held_line s) ≡ two_at s used_at
-held-long s room less =
+held_long : (s : List ℕ) → state_room ≤ length s → two_at s used_at ≤ line_most → length (held_line s) ≡ two_at s used_at
+held_long s room less =
     length-take-le (two_at s used_at) (drop line_at s) (let n = length-drop line_at s in omega (arith, n))
 
 -- the line of what is held, with its length
-line-long : (k : fold.Kept) (s part : List ℕ) → state_room ≤ length s → StateHolds k s
+line_long : (k : fold.Kept) (s part : List ℕ) → state_room ≤ length s → StateHolds k s
     → fold.is_lost k.found.stage ≡ false → length (k.line ++ part) ≡ two_at s used_at + length part
-line-long k s part room h e =
+line_long k s part room h e =
     let n : length k.line ≡ two_at s used_at =
-    ap (λ (l : List ℕ). length l) (sym (h.line e)) ∙ held-long s room h.used in
+    ap (λ (l : List ℕ). length l) (sym (h.line e)) ∙ held_long s room h.used in
     length-append k.line part ∙ ap (λ (m : ℕ). m + length part) n
 
 -- it is known by its parts what is held behind a part
@@ -213,8 +213,8 @@ part_holds : (k : fold.Kept) (part t : List ℕ) → k.size + length part ≤ te
     → held_line t ≡ take line_most (k.line ++ part)) → Clean t
     → StateHolds (foldl fold.fed k part) t
 part_holds k part t le plain free short fits used kept line clean =
-    let free' = fed-free part k free in
-    subst (λ (q : fold.Kept). is_line q.line ≡ true → StateHolds q t) (sym (fed-run part k plain le short))
+    let free' = fed_free part k free in
+    subst (λ (q : fold.Kept). is_line q.line ≡ true → StateHolds q t) (sym (fed_run part k plain le short))
     (λ f. record {
       fits = fits;
       used = used;
@@ -227,9 +227,9 @@ part_holds k part t le plain free short fits used kept line clean =
     }) free'
 
 -- the length as the code reads it
-pub least-used : (s : List ℕ) {n used : ℕ} → n ≡ two_at s used_at → (n ≤ line_most → used ≡ n)
+pub least_used : (s : List ℕ) {n used : ℕ} → n ≡ two_at s used_at → (n ≤ line_most → used ≡ n)
     → two_at s used_at ≤ line_most → used ≡ two_at s used_at
-least-used s e is le = is (omega (arith, e, le)) ∙ e
+least_used s e is le = is (omega (arith, e, le)) ∙ e
 
 -- too long
 pub part_cut : (size used : ℕ) (s part t : List ℕ) → state_room ≤ length s → size ≤ text_most
@@ -241,18 +241,18 @@ part_cut size used s part t room most plain is over c k le h =
     let f = k.found in
     let l = k.line ++ part in
     let same : fold.unended f l ≡ fold.cut f =
-    cut-unended f l (λ e. let m = line-long k s part room h e in omega (arith, n, m, over)) in
+    cut_unended f l (λ e. let m = line_long k s part room h e in omega (arith, n, m, over)) in
     let kept : KeptIn (fold.cut f) t = c.step f (h.fits.0, (let m = h.fits.1 in omega (arith, m, le))) h.kept in
     let lines : (reading_in t).lines ≤ k.size = (
     let a = kept.holds.counts.lines in
     let b = h.kept.holds.counts.lines in
-    let d = (cut-is f).1 in
+    let d = (cut_is f).1 in
     let m = h.fits.1 in omega (arith, a, b, d, m)
     ) in
     part_holds k part t (omega (arith, le, most)) plain h.free h.short
     (c.fits.0, omega (arith, lines)) (let z = c.used in omega (arith, z))
     (subst (λ (x : fold.Found). KeptIn x t) (sym same) kept)
-    (λ e. absurd (not-both (fold.is_lost (fold.cut f).stage) (cut-is f).0
+    (λ e. absurd (not_both (fold.is_lost (fold.cut f).stage) (cut_is f).0
     (subst (λ (x : fold.Found). fold.is_lost x.stage ≡ false) same e))) c.clean
 
 -- short enough
@@ -260,18 +260,18 @@ module _ (used : ℕ) (s part t : List ℕ) {next end : ℕ} {u : List ℕ} (roo
     (fit : used + length part ≤ line_most) (add : placed next t ≡ put s (line_at + used) part)
     (two : placed end u ≡ put t used_at (le2 (used + length part))) where
   part_written : Writes s (line_at + used) part t next
-  part_written = put-writes (omega arith) add
+  part_written = put_writes (omega arith) add
 
   part_first : Changed line_at row_at s t
   part_first =
       let end = part_written.end in
-      changed_wider line_at row_at (omega arith) (omega (arith, end)) (writes-changed (omega arith) part_written)
+      changed_wider line_at row_at (omega arith) (omega (arith, end)) (writes_changed (omega arith) part_written)
 
   part_room : used_at + 2 ≤ length t
   part_room = let n = part_first.long in omega (arith, n, room)
 
   part_second : Changed 2 4 t u
-  part_second = two-changed t used_at (used + length part) part_room two
+  part_second = two_changed t used_at (used + length part) part_room two
 
   part_both : Changed 2 row_at s u
   part_both =
@@ -282,21 +282,21 @@ module _ (used : ℕ) (s part t : List ℕ) {next end : ℕ} {u : List ℕ} (roo
   part_around = same_around part_both (omega arith) (omega arith)
 
   part_used : two_at u used_at ≡ used + length part
-  part_used = two-put t used_at (used + length part) part_room two (omega arith)
+  part_used = two_put t used_at (used + length part) part_room two (omega arith)
 
   part_reading : reading_in u ≡ reading_in s
-  part_reading = reading-behind part_second (omega arith) ∙ reading-before part_first (omega arith)
+  part_reading = reading_behind part_second (omega arith) ∙ reading_before part_first (omega arith)
 
   part_line : held_line u ≡ take used (drop line_at s) ++ part
   part_line =
       let n : length (take (line_at + used) s) ≡ line_at + used = length-take-le (line_at + used) s (omega arith) in
       let e : next ≡ line_at + (used + length part) = (let m = part_written.end in omega (arith, m)) in
       ap (λ (m : ℕ). take m (drop line_at u)) part_used
-      ∙ ap (take (used + length part)) (rest-behind part_second line_at (omega arith))
-      ∙ sym (drop-take line_at (used + length part) t)
+      ∙ ap (take (used + length part)) (rest_behind part_second line_at (omega arith))
+      ∙ sym (drop_take line_at (used + length part) t)
       ∙ ap (drop line_at) (ap (λ (m : ℕ). take m t) (sym e) ∙ part_written.text)
       ∙ drop-append-le line_at (take (line_at + used) s) part (omega (arith, n))
-      ∙ ap (λ (l : List ℕ). l ++ part) (drop-take line_at used s)
+      ∙ ap (λ (l : List ℕ). l ++ part) (drop_take line_at used s)
 
   -- behind it nothing stands, as before
   behind_part : drop (used + length part) (line_bytes u) ≡ drop (used + length part) (line_bytes s)
@@ -305,10 +305,10 @@ module _ (used : ℕ) (s part t : List ℕ) {next end : ℕ} {u : List ℕ} (roo
       let whole : line_most ≡ k + (line_most - k) = omega arith in
       let end : line_at + k ≡ next = (let m = part_written.end in omega (arith, m)) in
       let cut : (l : List ℕ) → drop k (line_bytes l) ≡ take (line_most - k) (drop (line_at + k) l) =
-      λ l. ap (λ (m : ℕ). drop k (take m (drop line_at l))) whole ∙ drop-take k (line_most - k) (drop line_at l)
+      λ l. ap (λ (m : ℕ). drop k (take m (drop line_at l))) whole ∙ drop_take k (line_most - k) (drop line_at l)
       ∙ ap (take (line_most - k)) (drop-drop k line_at l) in
       cut u
-      ∙ ap (take (line_most - k)) (rest-behind part_second (line_at + k) (omega arith)
+      ∙ ap (take (line_most - k)) (rest_behind part_second (line_at + k) (omega arith)
       ∙ subst (λ (m : ℕ). drop m t ≡ drop m s) (sym end) part_written.beyond)
       ∙ sym (cut s)
 
@@ -318,10 +318,10 @@ module _ (used : ℕ) (s part t : List ℕ) {next end : ℕ} {u : List ℕ} (roo
         ∙ sym (drop-drop (length part) used (line_bytes s))
         ∙ ap (drop (length part)) (ap (λ (m : ℕ). drop m (line_bytes s)) n ∙ c.line
         ∙ ap (λ (m : ℕ). zeros (line_most - m)) (sym n))
-        ∙ zeros-behind (length part) (line_most - used) (omega arith)
+        ∙ zeros_behind (length part) (line_most - used) (omega arith)
         ∙ ap zeros (omega (arith, part_used));
     rows = ap (λ (x : Reading). drop (65 * x.row) (row_bytes u)) part_reading
-        ∙ ap (drop (65 * (reading_in s).row)) (row-behind part_both (omega arith)) ∙ c.rows
+        ∙ ap (drop (65 * (reading_in s).row)) (row_behind part_both (omega arith)) ∙ c.rows
         ∙ ap (λ (x : Reading). zeros (row_room - 65 * x.row)) (sym part_reading);
   }
 
@@ -333,10 +333,10 @@ module _ (used : ℕ) (s part t : List ℕ) {next end : ℕ} {u : List ℕ} (roo
       let f = k.found in
       let l = k.line ++ part in
       let same : fold.unended f l ≡ f =
-      same-unended f l (λ e. let m = line-long k s part room h e in omega (arith, n, m, fit)) in
+      same_unended f l (λ e. let m = line_long k s part room h e in omega (arith, n, m, fit)) in
       let kept : KeptIn f u =
-      kept_in (sym part_reading) (sym (held-behind part_both (omega arith)))
-      (sym (row-behind part_both (omega arith)))
+      kept_in (sym part_reading) (sym (held_behind part_both (omega arith)))
+      (sym (row_behind part_both (omega arith)))
       (ap (twos_in fields_most) (sym (counts_behind part_both (omega arith)))) h.kept in
       let fits : Fits (k.size + length part) (reading_in u) =
       subst (λ (x : Reading). Fits (k.size + length part) x) (sym part_reading)
@@ -349,6 +349,6 @@ module _ (used : ℕ) (s part t : List ℕ) {next end : ℕ} {u : List ℕ} (roo
       line : used ≡ two_at s used_at → fold.is_lost k.found.stage ≡ false
           → held_line u ≡ take line_most (k.line ++ part)
       line n e =
-          let m = line-long k s part room h e in
+          let m = line_long k s part room h e in
           part_line ∙ ap (λ (i : ℕ). take i (drop line_at s) ++ part) n ∙ ap (λ (l : List ℕ). l ++ part) (h.line e)
           ∙ sym (take_all line_most (k.line ++ part) (omega (arith, n, m, fit)))

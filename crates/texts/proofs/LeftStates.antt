@@ -17,7 +17,7 @@ use Rattle.texts.specs.PieceStates.{StateHolds, Left, line_bytes, row_bytes, cou
 use Rattle.texts.specs.declared.states.Reading.{Reading}
 use Rattle.texts.proofs.KeptStates.{kept_in}
 use Rattle.texts.proofs.NameAreas.{front_less, front_part}
-use Rattle.texts.proofs.StateBytes.{reading-take}
+use Rattle.texts.proofs.StateBytes.{reading_take}
 
 -- the same numbers and parts hold the same
 pub holds_same : (s t : List ℕ) {k : fold.Kept} → reading_in t ≡ reading_in s → two_at t used_at ≡ two_at s used_at
@@ -40,23 +40,23 @@ holds_same s t {k} reading used line row counts held h = record {
 }
 
 module _ (s t : List ℕ) (e : take state_room t ≡ take state_room s) where
-  two-moved : (i : ℕ) → i + 2 ≤ 4 → two_at t i ≡ two_at s i
+  two_moved : (i : ℕ) → i + 2 ≤ 4 → two_at t i ≡ two_at s i
   unfolding two_at
-  two-moved i h = rw (byte i (omega arith), byte (i + 1) (omega arith)) refl
+  two_moved i h = rw (byte i (omega arith), byte (i + 1) (omega arith)) refl
     where
       byte : (j : ℕ) → j < 4 → get_or t j 0 ≡ get_or s j 0
       byte j lt =
           sym (get_or-take 4 t j 0 lt) ∙ ap (λ (l : List ℕ). get_or l j 0) (front_less t s state_room 4 e (omega arith))
           ∙ get_or-take 4 s j 0 lt
 
-  left-moved : {text : List ℕ} → state_room ≤ length t → Left text s → Left text t
-  left-moved room l =
-      let size = two-moved 0 (omega arith) in
+  left_moved : {text : List ℕ} → state_room ≤ length t → Left text s → Left text t
+  left_moved room l =
+      let size = two_moved 0 (omega arith) in
       record {
         room = room;
         size = λ le. size ∙ l.size le;
-        holds = λ le. holds_same s t (reading-take t s (front_less t s state_room 24 e (omega arith)))
-            (two-moved used_at (omega arith)) (front_part t s state_room line_at line_most e (omega arith))
+        holds = λ le. holds_same s t (reading_take t s (front_less t s state_room 24 e (omega arith)))
+            (two_moved used_at (omega arith)) (front_part t s state_room line_at line_most e (omega arith))
             (front_part t s state_room row_at row_room e (omega arith))
             (front_part t s state_room counts_at (2 * fields_most) e (omega arith))
             (front_part t s state_room held_at held_room e (omega arith)) (l.holds le);
@@ -64,24 +64,24 @@ module _ (s t : List ℕ) (e : take state_room t ≡ take state_room s) where
       }
 
 -- the first bytes alone, and with what lies beyond them
-pub left-front : (s : List ℕ) {text : List ℕ} → state_room ≤ length s → Left text s → Left text (take state_room s)
-left-front s room l =
+pub left_front : (s : List ℕ) {text : List ℕ} → state_room ≤ length s → Left text s → Left text (take state_room s)
+left_front s room l =
     let n = length-take-le state_room s room in
-    left-moved s (take state_room s) (take-take state_room state_room s (omega arith)) (omega (arith, n)) l
+    left_moved s (take state_room s) (take-take state_room state_room s (omega arith)) (omega (arith, n)) l
 
-pub left-room : (s : List ℕ) {text : List ℕ} → Left text (take state_room s) → state_room ≤ length s
-left-room s l =
+pub left_room : (s : List ℕ) {text : List ℕ} → Left text (take state_room s) → state_room ≤ length s
+left_room s l =
     let n = l.room in
     let m = length-take state_room s in
     let k = min-le_right state_room (length s) in omega (arith, n, m, k)
 
-pub left-whole : (s : List ℕ) {text : List ℕ} → Left text (take state_room s) → Left text s
-left-whole s l =
-    left-moved (take state_room s) s (sym (take-take state_room state_room s (omega arith))) (left-room s l) l
+pub left_whole : (s : List ℕ) {text : List ℕ} → Left text (take state_room s) → Left text s
+left_whole s l =
+    left_moved (take state_room s) s (sym (take-take state_room state_room s (omega arith))) (left_room s l) l
 
 -- it depends on what is kept of the text, and on its length
-pub left-kept : (s t u : List ℕ) → fold.kept t ≡ fold.kept u → length t ≡ length u → Left t s → Left u s
-left-kept s t u same long l = record {
+pub left_kept : (s t u : List ℕ) → fold.kept t ≡ fold.kept u → length t ≡ length u → Left t s → Left u s
+left_kept s t u same long l = record {
   room = l.room;
   size = λ le. l.size (omega (arith, long, le)) ∙ long;
   holds = λ le. subst (λ (k : fold.Kept). StateHolds k s) same (l.holds (omega (arith, long, le)));

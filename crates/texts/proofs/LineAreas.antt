@@ -12,10 +12,10 @@ use Rattle.texts.specs.HeldAreas.{table_bytes}
 use Rattle.texts.specs.States.{area, HoldsIn, HeadStep, RowStep, LineStep}
 use Rattle.texts.specs.declared.states.Reading.{Reading}
 use Rattle.texts.specs.declared.states.Stage.TheVariants as at
-use Rattle.texts.proofs.AreaLaws.{AreasAre, areas_hold, cells-long, cells-back, cells-put, names-long}
-use Rattle.texts.proofs.AreaLaws.{names-back, names-put, table_part, table-long, table-put}
+use Rattle.texts.proofs.AreaLaws.{AreasAre, areas_hold, cells_long, cells_back, cells_put, names_long}
+use Rattle.texts.proofs.AreaLaws.{names_back, names_put, table_part, table_long, table_put}
 use Rattle.texts.proofs.FieldSteps.{holds_kept}
-use Rattle.texts.proofs.StateSteps.{head-stage, more-stage, name-row}
+use Rattle.texts.proofs.StateSteps.{head_stage, more_stage, name_row}
 
 -- ── names ──
 
@@ -26,20 +26,20 @@ module _ (held : List ℕ) (room : held_room ≤ length held) {n : ℕ} {part : 
   named = put_mid names_at names_room held part
 
   long : length part ≡ names_room
-  long = same ∙ names-long held room
+  long = same ∙ names_long held room
 
   pub named_back : length named ≡ length held
-  named_back = names-back held part room long
+  named_back = names_back held part room long
 
-  pub named-room : held_room ≤ length named
-  named-room = let n = named_back in omega (arith, n, room)
+  pub named_room : held_room ≤ length named
+  named_room = let n = named_back in omega (arith, n, room)
 
   pub named_areas : AreasAre named (cell_bytes held) part (label_bytes held) (table_bytes held)
-  named_areas = names-put held part room long
+  named_areas = names_put held part room long
 
-  pub named-holds : (f : fold.Found) (r : Reading) (counts : List ℕ) → n ≡ r.fields → HoldsIn f r held counts
+  pub named_holds : (f : fold.Found) (r : Reading) (counts : List ℕ) → n ≡ r.fields → HoldsIn f r held counts
       → HoldsIn f r named counts
-  named-holds f r counts e h =
+  named_holds f r counts e h =
       areas_hold f r counts named_areas
       (holds_kept f r h (subst (λ (m : ℕ). Kept (names_in (name_bytes held)) m (names_in part)) e kept))
 
@@ -47,13 +47,13 @@ module _ (held : List ℕ) (room : held_room ≤ length held) {n : ℕ} {part : 
 
 module _ (held l : List ℕ) (r q : Reading) (room : held_room ≤ length held) where
   -- NAME is put at the table's start
-  pub opening-step : {table row counts : List ℕ} → r.stage ≡ at.Opening
+  pub opening_step : {table row counts : List ℕ} → r.stage ≡ at.Opening
       → length table ≡ length (take (length held - table_at) (drop table_at held))
       → ((cells counts : List ℕ) → HeadStep (λ f. fold.with_name f (fold.opening_name l)) r q cells cells
       (area (take (length held - table_at) (drop table_at held)) counts) (area table counts))
       → LineStep l r q held (put_mid table_at (length held - table_at) held table) row row counts counts
   unfolding fold.lined_at
-  opening-step {table} {row} {counts} told same step = (
+  opening_step {table} {row} {counts} told same step = (
     same_len_mid table_at (length held - table_at) held table same,
     refl,
     λ f k g h.
@@ -62,26 +62,26 @@ module _ (held l : List ℕ) (r q : Reading) (room : held_room ≤ length held) 
         (area (table_bytes held) counts) (area table counts) =
         subst (λ (z : List ℕ). HeadStep (λ f. fold.with_name f (fold.opening_name l)) r q (cell_bytes held)
         (cell_bytes held) (area z counts) (area table counts)) part (step (cell_bytes held) counts) in
-        let w = head-stage r l at.Opening told (λ o. refl) refl head
-        (λ f o. name-row f (fold.opening_name l) ∙ o) f k g h in
-        (areas_hold (fold.lined f l) q counts (table-put held table room (same ∙ part_long)) w.0, w.1),
+        let w = head_stage r l at.Opening told (λ o. refl) refl head
+        (λ f o. name_row f (fold.opening_name l) ∙ o) f k g h in
+        (areas_hold (fold.lined f l) q counts (table_put held table room (same ∙ part_long)) w.0, w.1),
   )
     where
       part_long : length (take (length held - table_at) (drop table_at held)) ≡ length held - table_at
       part_long = subst (λ (z : List ℕ). length z ≡ length held - table_at) (sym (table_part held room))
-          (table-long held room)
+          (table_long held room)
 
   -- cells are put behind those that are there
-  pub more-step : {cells row row' counts : List ℕ} → r.stage ≡ at.InRow → length cells ≡ length (cell_bytes held)
+  pub more_step : {cells row row' counts : List ℕ} → r.stage ≡ at.InRow → length cells ≡ length (cell_bytes held)
       → length row' ≡ length row → RowStep l r q (cell_bytes held) cells row row'
       → LineStep l r q held (put_mid 0 slots_most held cells) row row' counts counts
-  more-step {cells} {row} {row'} {counts} told same rows step = (
-    cells-back held cells room long,
+  more_step {cells} {row} {row'} {counts} told same rows step = (
+    cells_back held cells room long,
     rows,
     λ f k g h.
-        let w = more-stage r l at.InRow told refl step f k g h in
-        (areas_hold (fold.lined f l) q counts (cells-put held cells room long) w.0, w.1),
+        let w = more_stage r l at.InRow told refl step f k g h in
+        (areas_hold (fold.lined f l) q counts (cells_put held cells room long) w.0, w.1),
   )
     where
       long : length cells ≡ slots_most
-      long = same ∙ cells-long held room
+      long = same ∙ cells_long held room

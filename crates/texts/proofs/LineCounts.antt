@@ -8,7 +8,7 @@ use native.Mathlib.Omega.{arith}
 use lib.ListN.{length, take, replicate, length-replicate}
 use Rattle.base.specs.Lists.{all, joined, list_of}
 use Rattle.base.proofs.Lists.{and_both, all_append}
-use Rattle.base.proofs.Joined.{joined-one}
+use Rattle.base.proofs.Joined.{joined_one}
 use Rattle.rules.specs.Limits.{fields_most}
 use Rattle.rules.specs.Trees.{Tree}
 use Rattle.rules.specs.Fields.{Width, fixed, measured, rest, Field, Form, width_trees}
@@ -16,9 +16,9 @@ use Rattle.rules.specs.References.{tree_reads}
 use Rattle.references.specs.Scans.{codes_from, references}
 use Rattle.references.specs.Tallies.{tallied}
 use Rattle.references.specs.Counted.{Counted}
-use Rattle.references.proofs.ScanLaws.{references-stored}
-use Rattle.references.proofs.TallyLaws.{tallied-length}
-use Rattle.references.proofs.Counted.{counted_none, counted-more}
+use Rattle.references.proofs.ScanLaws.{references_stored}
+use Rattle.references.proofs.TallyLaws.{tallied_length}
+use Rattle.references.proofs.Counted.{counted_none, counted_more}
 use Rattle.text_laws.specs.Resolving.{rename_tree, rename_width}
 use Rattle.texts.specs.HeldNames.{Names}
 use Rattle.texts.specs.Resolved.{indexed}
@@ -38,26 +38,26 @@ none_read = refl
 nothing_read : (t : TreeBytes) → t.len ≡ 0 → references (take t.len t.bytes) ≡ []
 nothing_read t e = rw e none_read
 
-tree-read : (names : Names) (n : ℕ) (v : Tree (List ℕ)) (t : TreeBytes) → StoredIs names n v t
+tree_read : (names : Names) (n : ℕ) (v : Tree (List ℕ)) (t : TreeBytes) → StoredIs names n v t
     → t.len ≤ length t.bytes
     → references (take t.len t.bytes) ≡ joined tree_reads (rename_tree (look_up names n) v ∷ [])
-tree-read names n v t h le =
-    ap references (held_bytes names n v t h le) ∙ references-stored (rename_tree (look_up names n) v)
-    ∙ sym (joined-one tree_reads (rename_tree (look_up names n) v))
+tree_read names n v t h le =
+    ap references (held_bytes names n v t h le) ∙ references_stored (rename_tree (look_up names n) v)
+    ∙ sym (joined_one tree_reads (rename_tree (look_up names n) v))
 
 maybe_read : (names : Names) (n : ℕ) (o : Option (Tree (List ℕ))) (t : TreeBytes) → MaybeHeld names n o t
     → t.len ≤ length t.bytes
     → references (take t.len t.bytes) ≡ joined tree_reads (list_of (map (rename_tree (look_up names n)) o))
 unfolding joined
 maybe_read names n none t h le = nothing_read t h
-maybe_read names n (some v) t h le = tree-read names n v t h le
+maybe_read names n (some v) t h le = tree_read names n v t h le
 
 width_read : (names : Names) (n : ℕ) (v : Width (List ℕ)) (kind bits : ℕ) (t : TreeBytes)
     → WidthHeld names n v kind bits t → t.len ≤ length t.bytes
     → references (take t.len t.bytes) ≡ joined tree_reads (width_trees (rename_width (look_up names n) v))
 unfolding joined
 width_read names n (fixed m) kind bits t h le = nothing_read t h.2
-width_read names n (measured u v) kind bits t h le = tree-read names n v t h.2 le
+width_read names n (measured u v) kind bits t h le = tree_read names n v t h.2 le
 width_read names n rest kind bits t h le = nothing_read t h.2
 
 -- ── what is counted ──
@@ -68,10 +68,10 @@ field_tallied own f counts =
     tallied own (tallied own (tallied own counts (joined tree_reads (width_trees f.width)))
     (joined tree_reads (list_of f.constraint))) (joined tree_reads (list_of f.condition))
 
-pub line-tallied : (names : Names) (n : ℕ) (line : List ℕ) (x : Form) (v : LineBytes) (p : Parts)
+pub line_tallied_lem : (names : Names) (n : ℕ) (line : List ℕ) (x : Form) (v : LineBytes) (p : Parts)
     → PartsHeld names n line x v p → Writable (length line) p → BytesRoom v → (counts : List ℕ)
     → line_tallied n v p counts ≡ field_tallied n (indexed names n x) counts
-line-tallied names n line x v p h w room counts =
+line_tallied_lem names n line x v p h w room counts =
     rw (
       width_read names n x.width p.kind p.bits (held p.width v.width) h.width
           (omega (arith, w.width, room.width)),
@@ -82,17 +82,17 @@ line-tallied names n line x v p h w room counts =
     )
     refl
 
-tallied-long : (own : ℕ) (f : Field ℕ) (counts : List ℕ) → length (field_tallied own f counts) ≡ length counts
-tallied-long own f counts =
+tallied_long : (own : ℕ) (f : Field ℕ) (counts : List ℕ) → length (field_tallied own f counts) ≡ length counts
+tallied_long own f counts =
     let w = joined tree_reads (width_trees f.width) in
     let c = joined tree_reads (list_of f.constraint) in
     let k = joined tree_reads (list_of f.condition) in
-    tallied-length own (tallied own (tallied own counts w) c) k ∙ tallied-length own (tallied own counts w) c
-    ∙ tallied-length own counts w
+    tallied_length own (tallied own (tallied own counts w) c) k ∙ tallied_length own (tallied own counts w) c
+    ∙ tallied_length own counts w
 
-pub numbers-none : (n : ℕ) → fields_most ≤ n → Numbers [] (replicate n 0)
+pub numbers_none : (n : ℕ) → fields_most ≤ n → Numbers [] (replicate n 0)
 unfolding all
-numbers-none n le = record {
+numbers_none n le = record {
   short = refl;
   counted = counted_none n;
   room = (let m = length-replicate {A = ℕ} n 0 in omega (arith, m, le));
@@ -104,6 +104,6 @@ pub numbers_more : (fs : List (Field ℕ)) (f : Field ℕ) {counts after : List 
 unfolding all
 numbers_more fs f {counts} {after} h short e = record {
   short = all_append is_short_record fs (f ∷ []) h.short (and_both (is_short_record f) true short refl);
-  counted = subst (λ (l : List ℕ). Counted (fs ++ (f ∷ [])) l) (sym e) (counted-more fs f counts h.counted);
-  room = (let n = ap length e in let m = tallied-long (length fs) f counts in omega (arith, n, m, h.room));
+  counted = subst (λ (l : List ℕ). Counted (fs ++ (f ∷ [])) l) (sym e) (counted_more fs f counts h.counted);
+  room = (let n = ap length e in let m = tallied_long (length fs) f counts in omega (arith, n, m, h.room));
 }

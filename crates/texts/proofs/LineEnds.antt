@@ -15,8 +15,8 @@ use Rattle.rules.specs.Names.{is_printable, is_allowed, line_feed}
 use Rattle.rules.specs.Frames.{is_line}
 use Rattle.texts.specs.FramePlaces.{up_to}
 use Rattle.texts.specs.LineEnds.{printable_length}
-use Rattle.texts.proofs.ExprLeaves.{all-step, all-stop, all_end}
-use Rattle.texts.proofs.FrameLeaves.{up_to-end, up_to-stop}
+use Rattle.texts.proofs.ExprLeaves.{all_step, all_stop, all_end}
+use Rattle.texts.proofs.FrameLeaves.{up_to_end, up_to_stop}
 
 -- ── bytes ──
 
@@ -115,14 +115,14 @@ module _ (s : List ℕ) (at i : ℕ) (first : i ≡ at + printable_length (drop 
   allowed_end le le' = part_allowed ∙ all_end is_allowed s i le le'
 
   pub feed_end : length s ≤ i → i ≤ length s → i ≡ at + up_to line_feed (drop at s)
-  feed_end le le' = omega (arith, part_feed, up_to-end line_feed s i le le')
+  feed_end le le' = omega (arith, part_feed, up_to_end line_feed s i le le')
 
   -- at a line feed, what is behind it decides
   pub allowed_feed : i < length s → get_or s i 0 ≡ line_feed → all is_allowed (drop at s) ≡ all is_allowed (drop (i + 1) s)
-  allowed_feed lt e = part_allowed ∙ all-step is_allowed s i lt (feed_allowed (get_or s i 0) e)
+  allowed_feed lt e = part_allowed ∙ all_step is_allowed s i lt (feed_allowed (get_or s i 0) e)
 
   pub feed_here : i < length s → get_or s i 0 ≡ line_feed → i ≡ at + up_to line_feed (drop at s)
-  feed_here lt e = omega (arith, part_feed, up_to-stop line_feed s i lt e)
+  feed_here lt e = omega (arith, part_feed, up_to_stop line_feed s i lt e)
 
   -- another byte is bad
   pub allowed_other : i < length s → (get_or s i 0 ≡ line_feed → ⊥) → all is_allowed (drop at s) ≡ false
@@ -131,24 +131,24 @@ module _ (s : List ℕ) (at i : ℕ) (first : i ≡ at + printable_length (drop 
       let q : is_printable (get_or s i 0) ≡ false =
       ap (λ (n : ℕ). is_printable (get_or s n 0)) first
       ∙ ap is_printable (sym (get_or-drop at s (printable_length (drop at s)) 0)) ∙ p in
-      part_allowed ∙ all-stop is_allowed s i lt (bad_byte (get_or s i 0) q n)
+      part_allowed ∙ all_stop is_allowed s i lt (bad_byte (get_or s i 0) q n)
 
 -- ── a line ──
 
-pub front-plain : (s : List ℕ) → all is_printable (take (printable_length s) s) ≡ true
+pub front_plain : (s : List ℕ) → all is_printable (take (printable_length s) s) ≡ true
 unfolding printable_length all
-front-plain [] = refl
-front-plain (b ∷ s) = go (is_printable b) refl (front-plain s)
+front_plain [] = refl
+front_plain (b ∷ s) = go (is_printable b) refl (front_plain s)
   where
     go : (x : Bool) → is_printable b ≡ x → all is_printable (take (printable_length s) s) ≡ true
         → all is_printable (take (cond x (suc (printable_length s)) 0) (b ∷ s)) ≡ true
     go true e h = rw e h
     go false e h = refl
 
-front-line : (s : List ℕ) → is_line (take (printable_length s) s) ≡ true
+front_line : (s : List ℕ) → is_line (take (printable_length s) s) ≡ true
 unfolding printable_length all
-front-line [] = refl
-front-line (b ∷ s) = go (is_printable b) refl (front-line s)
+front_line [] = refl
+front_line (b ∷ s) = go (is_printable b) refl (front_line s)
   where
     go : (x : Bool) → is_printable b ≡ x → is_line (take (printable_length s) s) ≡ true
         → is_line (take (cond x (suc (printable_length s)) 0) (b ∷ s)) ≡ true
@@ -159,4 +159,4 @@ pub printable_line : (s : List ℕ) (at i : ℕ) → i ≡ at + printable_length
     → is_line (take (i - at) (drop at s)) ≡ true
 printable_line s at i e =
     let n : i - at ≡ printable_length (drop at s) = omega (arith, e) in
-    ap (λ (m : ℕ). is_line (take m (drop at s))) n ∙ front-line (drop at s)
+    ap (λ (m : ℕ). is_line (take m (drop at s))) n ∙ front_line (drop at s)

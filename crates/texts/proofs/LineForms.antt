@@ -36,43 +36,43 @@ use Rattle.texts.specs.declared.notes.Note.{Note}
 use Rattle.texts.specs.StoredTrees.{TreeBytes, held}
 use Rattle.texts.specs.declared.line_parts.Parts.{Parts}
 use Rattle.texts.specs.declared.states.Reading.{Reading}
-use Rattle.laws.proofs.ReadsFields.{formed-names}
+use Rattle.laws.proofs.ReadsFields.{formed_names}
 use Rattle.texts.proofs.HeldClashes.{NamesFormed}
-use Rattle.texts.proofs.HeldArrays.{snoc-each, held_more}
-use Rattle.texts.proofs.LineRules.{rest-kind, element_in}
+use Rattle.texts.proofs.HeldArrays.{snoc_each, held_more}
+use Rattle.texts.proofs.LineRules.{rest_kind_lem, element_in}
 use Rattle.texts.proofs.PartRules.{sizes_are}
-use Rattle.texts.proofs.PartBytes.{size-sum, width_bound, short-length}
-use Rattle.texts.proofs.RowSteps.{label-most}
+use Rattle.texts.proofs.PartBytes.{size_sum, width_bound, short_length}
+use Rattle.texts.proofs.RowSteps.{label_most_lem}
 
 -- ── the form of a line, by its parts ──
 
 module _ (names : Names) (n : ℕ) (s : List ℕ) where
-  kind-some : (v : Width (List ℕ)) (k b : ℕ) (t : TreeBytes) → WidthHeld names n v k b t → k ≡ 0 → ⊥
-  kind-some (fixed m) k b t h e = absurd (omega (arith, h.0, e))
-  kind-some (measured u v) k b t h e = absurd (omega (arith, h.0, e))
-  kind-some rest k b t h e = absurd (omega (arith, h.0, e))
+  kind_some : (v : Width (List ℕ)) (k b : ℕ) (t : TreeBytes) → WidthHeld names n v k b t → k ≡ 0 → ⊥
+  kind_some (fixed m) k b t h e = absurd (omega (arith, h.0, e))
+  kind_some (measured u v) k b t h e = absurd (omega (arith, h.0, e))
+  kind_some rest k b t h e = absurd (omega (arith, h.0, e))
 
-  pub form-none : (o : Option Form) (v : LineBytes) (p : Parts) → PartsFor names n s o v p → p.kind ≡ 0 → o ≡ none
-  form-none none v p h e = refl
-  form-none (some x) v p h e =
-      absurd (kind-some x.width p.kind p.bits (held p.width v.width) h.width e)
+  pub form_none : (o : Option Form) (v : LineBytes) (p : Parts) → PartsFor names n s o v p → p.kind ≡ 0 → o ≡ none
+  form_none none v p h e = refl
+  form_none (some x) v p h e =
+      absurd (kind_some x.width p.kind p.bits (held p.width v.width) h.width e)
 
-  pub form-some : (o : Option Form) (v : LineBytes) (p : Parts) → PartsFor names n s o v p → (p.kind ≡ 0 → ⊥)
+  pub form_some : (o : Option Form) (v : LineBytes) (p : Parts) → PartsFor names n s o v p → (p.kind ≡ 0 → ⊥)
       → (x : Form) × (o ≡ some x) × PartsHeld names n s x v p
-  form-some none v p h e = absurd (e h)
-  form-some (some x) v p h e = (x, refl, h)
+  form_some none v p h e = absurd (e h)
+  form_some (some x) v p h e = (x, refl, h)
 
 -- ── its record ──
 
-short-most : (o : Option (List ℕ)) → if_any is_short o ≡ true → length (stored_name o) ≤ short_most
+short_most_lem : (o : Option (List ℕ)) → if_any is_short o ≡ true → length (stored_name o) ≤ short_most
 unfolding is_short
-short-most none h = omega arith
-short-most (some w) h =
+short_most_lem none h = omega arith
+short_most_lem (some w) h =
     leb-true (length w) short_most
     (and_left (leb (length w) short_most) _ (and_right (all is_word_byte w) _ (and_right (head_is is_letter w) _ h)))
 
-small-most : (d z : ℕ) → is_small_as d z ≡ true → z ≤ stored_most
-small-most d z h = go (eqb z 0) refl h
+small_most : (d z : ℕ) → is_small_as d z ≡ true → z ≤ stored_most
+small_most d z h = go (eqb z 0) refl h
   where
     go : (b : Bool) → eqb z 0 ≡ b → (b || (leb d depth_most && leb z stored_most)) ≡ true → z ≤ stored_most
     go true e h = let q = eqb-true z 0 e in omega (arith, q)
@@ -80,42 +80,42 @@ small-most d z h = go (eqb z 0) refl h
 
 module _ (names : Names) (n : ℕ) (s : List ℕ) (x : Form) (v : LineBytes) (p : Parts)
     (is : PartsHeld names n s x v p) (small : all is_small (trees x) ≡ true) where
-  trees-small : (is_small_as p.width.depth p.width.len && (is_small_as p.constraint.depth p.constraint.len
+  trees_small : (is_small_as p.width.depth p.width.len && (is_small_as p.constraint.depth p.constraint.len
       && is_small_as p.condition.depth p.condition.len)) ≡ true
-  trees-small = sizes_are p _ refl names n s x v is ∙ small
+  trees_small = sizes_are p _ refl names n s x v is ∙ small
 
   pub parts_writable : Writable (length s) p
   parts_writable =
       let a = is_small_as p.width.depth p.width.len in
       let b = is_small_as p.constraint.depth p.constraint.len in
       let c = is_small_as p.condition.depth p.condition.len in
-      let bc = and_right a (b && c) trees-small in
+      let bc = and_right a (b && c) trees_small in
       record {
         label = is.label_fits;
         short = is.short_fits;
-        width = small-most p.width.depth p.width.len (and_left a (b && c) trees-small);
-        constraint = small-most p.constraint.depth p.constraint.len (and_left b c bc);
-        condition = small-most p.condition.depth p.condition.len (and_right b c bc);
+        width = small_most p.width.depth p.width.len (and_left a (b && c) trees_small);
+        constraint = small_most p.constraint.depth p.constraint.len (and_left b c bc);
+        condition = small_most p.condition.depth p.condition.len (and_right b c bc);
       }
 
-  pub field-most : NamesFormed x → field_size p ≤ record_most
-  field-most formed =
+  pub field_most : NamesFormed x → field_size p ≤ record_most
+  field_most formed =
       let w = parts_writable in
       omega (
         arith,
-        size-sum p,
+        size_sum p,
         width_bound p w.width,
         w.constraint,
         w.condition,
         length-take-le p.label s is.label_fits,
         ap length is.label,
-        held-short-length,
-        label-most x.label formed.0,
-        short-most x.short formed.1,
+        held_short_length,
+        label_most_lem x.label formed.0,
+        short_most_lem x.short formed.1,
       )
     where
-      held-short-length : length (stored_name x.short) ≡ p.short.len
-      held-short-length = short-length names n s x v p is is.short_fits
+      held_short_length : length (stored_name x.short) ≡ p.short.len
+      held_short_length = short_length names n s x v p is is.short_fits
 
 -- ── its names ──
 
@@ -138,14 +138,14 @@ module _ (s : List ℕ) (x : Form) (p : Parts) {names : Names} {n : ℕ} {v : Li
       record {
         label = rw (a ∙ ap (λ (k : ℕ). set labels k v) m) (held_more before x (λ y. pad_to label_most y.label) labels
             (omega (arith, m, lt, h.room.0)) h.label v (ap (pad_to label_most) is.label));
-        name = snoc-each (λ i y. HeldAs names i y) before x h.name
+        name = snoc_each (λ i y. HeldAs names i y) before x h.name
             (subst (λ (k : ℕ). HeldAs names k x) (at ∙ m) own);
         room = ((let z = ap length a in omega (arith, z, l, h.room.0)), room);
       }
 
-started-kept : {names names' : Names} {n : ℕ} → Kept names n names' → (i : ℕ) → i < n → Started names i
+started_kept : {names names' : Names} {n : ℕ} → Kept names n names' → (i : ℕ) → i < n → Started names i
     → Started names' i
-started-kept {names} {names'} k i lt h = (
+started_kept {names} {names'} k i lt h = (
   λ some.
       let v = get_or names.shorts i [] in
       let p = h.0 (subst (λ (u : List ℕ). get_or u 0 0 ≡ 0 → ⊥) (k.shorts i lt) some) in
@@ -159,9 +159,9 @@ started-kept {names} {names'} k i lt h = (
 )
 
 -- the names of a line that is not kept leave those of the fields as they were
-pub named-kept : (l : List Form) (n : ℕ) {labels : List (List ℕ)} {names names' : Names} → length l ≡ n
+pub named_kept : (l : List Form) (n : ℕ) {labels : List (List ℕ)} {names names' : Names} → length l ≡ n
     → Kept names n names' → Named l labels names → Named l labels names'
-named-kept l n e k h = record {
+named_kept l n e k h = record {
   label = h.label;
   name = λ i y z.
       let lt : i < n = (let q = element_in l i y z in omega (arith, q, e)) in
@@ -170,7 +170,7 @@ named-kept l n e k h = record {
         short = k.shorts i lt ∙ g.short;
         word = k.words i lt ∙ g.word;
         mark = k.marks i lt ∙ g.mark;
-        starts = started-kept k i lt g.starts;
+        starts = started_kept k i lt g.starts;
       };
   room = (h.room.0, k.room fields_most h.room.1);
 }
@@ -190,16 +190,16 @@ module _ (f : fold.Found) (x : Form) where
 
 module _ (f : fold.Found) (r : Reading) (x : Form) (c : Counts f r) where
   -- the refusal of a line that keeps 6
-  pub form-note : all is_small (trees x) ≡ true → {o : Option Answer} → o ≡ later_note f x
+  pub form_note : all is_small (trees x) ≡ true → {o : Option Answer} → o ≡ later_note f x
       → lower (note_of r.note) o
       ≡ lower f.judged.lowest (broken 6 (suc f.lines) (rules f.cells) (faces f.judged.fields) x)
-  form-note small e = rw (c.lowest, e, six_kept f x small) refl
+  form_note small e = rw (c.lowest, e, six_kept f x small) refl
 
   -- and of one that does not
-  pub large-note : all is_small (trees x) ≡ false
+  pub large_note : all is_small (trees x) ≡ false
       → lower (note_of r.note) (some (refused 6 (r.lines + 1)))
       ≡ lower f.judged.lowest (broken 6 (suc f.lines) (rules f.cells) (faces f.judged.fields) x)
-  large-note large =
+  large_note large =
       let n : r.lines + 1 ≡ suc f.lines = (let q = c.lines in omega (arith, q)) in
       rw (c.lowest, n, six_broken f x large) refl
 
@@ -208,10 +208,10 @@ module _ (f : fold.Found) (r : Reading) (x : Form) (c : Counts f r) where
       → PartsHeld names n s x v p
       → (r.rested || eqb p.kind 14) ≡ (any is_rest (faces f.judged.fields) || is_rest x)
   rests_here {names} {n} {s} {v} p is =
-      rw (c.rested, rest-kind names n x.width p.kind p.bits (held p.width v.width) is.width) refl
+      rw (c.rested, rest_kind_lem names n x.width p.kind p.bits (held p.width v.width) is.width) refl
 
-pub line-formed : (l : List ℕ) (x : Form) → read_form l ≡ some x → NamesFormed x
-line-formed l x e = formed-names x (form_sound l x e).formed
+pub line_formed : (l : List ℕ) (x : Form) → read_form l ≡ some x → NamesFormed x
+line_formed l x e = formed_names x (form_sound l x e).formed
 
 -- behind it nothing is kept
 pub shut_six : (a : Option Answer) (p : ℕ) → is_open (lower a (some (refused 6 p))) ≡ false
@@ -224,25 +224,25 @@ shut_six (some a) p = go (ltb 6 a.number) refl
 
 -- ── refusals ──
 
-pub note-some : (n p : ℕ) → (n ≡ 0 → ⊥) → note_of (note n p) ≡ some (refused n p)
+pub note_some : (n p : ℕ) → (n ≡ 0 → ⊥) → note_of (note n p) ≡ some (refused n p)
 unfolding note_of
-note-some n p e = rw (ne_eqb n 0 e) refl
+note_some n p e = rw (ne_eqb n 0 e) refl
 
-pub told-lower : (a b : Option Answer) → is_told a ≡ true → is_told b ≡ true → is_told (lower a b) ≡ true
-told-lower none b p q = q
-told-lower (some a) none p q = p
-told-lower (some a) (some b) p q = go (ltb b.number a.number)
+pub told_lower : (a b : Option Answer) → is_told a ≡ true → is_told b ≡ true → is_told (lower a b) ≡ true
+told_lower none b p q = q
+told_lower (some a) none p q = p
+told_lower (some a) (some b) p q = go (ltb b.number a.number)
   where
     go : (t : Bool) → is_told (cond t (some b) (some a)) ≡ true
     go true = q
     go false = p
 
-pub told-after : (a b : Option Answer) (n : Note) → note_of n ≡ lower a b → is_told a ≡ true → is_told b ≡ true
+pub told_after : (a b : Option Answer) (n : Note) → note_of n ≡ lower a b → is_told a ≡ true → is_told b ≡ true
     → is_told (note_of n) ≡ true
-told-after a b n e p q = ap is_told e ∙ told-lower a b p q
+told_after a b n e p q = ap is_told e ∙ told_lower a b p q
 
-pub told-some : (n p : ℕ) → 5 ≤ n → n ≤ 10 → is_told (some (refused n p)) ≡ true
-told-some n p lo hi =
+pub told_some : (n p : ℕ) → 5 ≤ n → n ≤ 10 → is_told (some (refused n p)) ≡ true
+told_some n p lo hi =
     rw (
       true_between 2 n 10 (omega arith) hi,
       ne_eqb n 2 (λ e. absurd (omega (arith, lo, e))),
@@ -255,9 +255,9 @@ told-some n p lo hi =
 pub full_room : (r : Reading) → is_full_as r ≡ false → r.count < fields_most
 full_room r e = leb-false fields_most r.count (or_false_right (eqb r.note.number 4) (leb fields_most r.count) e)
 
-pub room-refused : (r : Reading) (a : Note) → Room r → r.count < fields_most → is_told (note_of a) ≡ true
+pub room_refused : (r : Reading) (a : Note) → Room r → r.count < fields_most → is_told (note_of a) ≡ true
     → a.place ≤ r.lines + 1 → Room (line_refused r a)
-room-refused r a h lt t p = record {
+room_refused r a h lt t p = record {
   width = h.width;
   name = h.name;
   row = h.row;
@@ -272,10 +272,10 @@ room-refused r a h lt t p = record {
   placed = omega (arith, p);
 }
 
-pub room-kept : (r : Reading) (cell end : ℕ) (rested : Bool) (a : Note) → Room r → r.count < fields_most
+pub room_kept : (r : Reading) (cell end : ℕ) (rested : Bool) (a : Note) → Room r → r.count < fields_most
     → cell ≤ r.slots → r.end ≤ end → end ≤ r.end + record_most → is_told (note_of a) ≡ true
     → a.place ≤ r.lines + 1 → Room (line_kept r cell end rested a)
-room-kept r cell end rested a h lt le up most t p = record {
+room_kept r cell end rested a h lt le up most t p = record {
   width = h.width;
   name = h.name;
   row = h.row;

@@ -13,25 +13,25 @@ use Rattle.rules.specs.Fields.{Width, fixed, measured, rest, is_fixed_width, is_
 use Rattle.texts.specs.HeldNames.{Names}
 use Rattle.texts.specs.HeldParts.{MaybeHeld, WidthHeld}
 use Rattle.texts.specs.StoredTrees.{TreeBytes}
-use Rattle.texts.proofs.StoredSteps.{some-length}
+use Rattle.texts.proofs.StoredSteps.{some_length}
 
 -- ── kinds and conditions, as the code holds them ──
 
 module _ (names : Names) (n : ℕ) where
-  pub fixed-kind : (v : Width (List ℕ)) (k b : ℕ) (t : TreeBytes) → WidthHeld names n v k b t
+  pub fixed_kind_lem : (v : Width (List ℕ)) (k b : ℕ) (t : TreeBytes) → WidthHeld names n v k b t
       → eqb k 12 ≡ is_fixed_width v
-  fixed-kind (fixed m) k b t h = rw h.0 refl
-  fixed-kind (measured u v) k b t h = rw h.0 refl
-  fixed-kind rest k b t h = rw h.0 refl
+  fixed_kind_lem (fixed m) k b t h = rw h.0 refl
+  fixed_kind_lem (measured u v) k b t h = rw h.0 refl
+  fixed_kind_lem rest k b t h = rw h.0 refl
 
-  pub rest-kind : (v : Width (List ℕ)) (k b : ℕ) (t : TreeBytes) → WidthHeld names n v k b t → eqb k 14 ≡ is_rest_width v
-  rest-kind (fixed m) k b t h = rw h.0 refl
-  rest-kind (measured u v) k b t h = rw h.0 refl
-  rest-kind rest k b t h = rw h.0 refl
+  pub rest_kind_lem : (v : Width (List ℕ)) (k b : ℕ) (t : TreeBytes) → WidthHeld names n v k b t → eqb k 14 ≡ is_rest_width v
+  rest_kind_lem (fixed m) k b t h = rw h.0 refl
+  rest_kind_lem (measured u v) k b t h = rw h.0 refl
+  rest_kind_lem rest k b t h = rw h.0 refl
 
-  pub none-length : (o : Option (Tree (List ℕ))) (t : TreeBytes) → MaybeHeld names n o t → eqb t.len 0 ≡ is_none o
-  none-length none t h = eq-eqb t.len 0 h
-  none-length (some v) t h = ne_eqb t.len 0 (λ e. absurd (omega (arith, e, h.len, some-length v)))
+  pub none_length : (o : Option (Tree (List ℕ))) (t : TreeBytes) → MaybeHeld names n o t → eqb t.len 0 ≡ is_none o
+  none_length none t h = eq-eqb t.len 0 h
+  none_length (some v) t h = ne_eqb t.len 0 (λ e. absurd (omega (arith, e, h.len, some_length v)))
 
 pub element_at : {A : Type 0} (l : List A) (i : ℕ) → i < length l → (x : A) × (get_elem? l i ≡ some x)
 element_at [] i lt = absurd (omega arith)

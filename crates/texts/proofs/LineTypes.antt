@@ -1,6 +1,6 @@
 -- The types that the code tests are those that rule 9 asks of the forms; and the index that it finds for a name.
 use mathlib.Core.Path.{◌≡◌, refl}
-use mathlib.Core.Bool.{Bool, true, ◌&&◌, not}
+use mathlib.Core.Bool.{Bool, true, ◌&&◌}
 use mathlib.Core.List.{List}
 use mathlib.Core.Option.{Option, none, some}
 use Prim.Native.Nat.{ℕ}
@@ -39,25 +39,25 @@ type_same p f g h k (two o x y) e =
 type_same p f g h k (negation x) e = rw (type_same p f g h YesNo x e) refl
 
 -- those of a line that is not yet resolved have the form of short names
-tree-short : {k b : ℕ} {t : Tree (List ℕ)} {s : List ℕ} → SpellsAt Unresolved k b t s → all_names is_short t ≡ true
+tree_short : {k b : ℕ} {t : Tree (List ℕ)} {s : List ℕ} → SpellsAt Unresolved k b t s → all_names is_short t ≡ true
 unfolding all_names
-tree-short (number le e) = refl
-tree-short (field h) = h.1
-tree-short (two_sided g h le p q) = and_both _ _ (tree-short p) (tree-short q)
-tree-short (negated p) = tree-short p
-tree-short (parentheses p) = tree-short p
+tree_short (number le e) = refl
+tree_short (field h) = h.1
+tree_short (two_sided g h le p q) = and_both _ _ (tree_short p) (tree_short q)
+tree_short (negated p) = tree_short p
+tree_short (parentheses p) = tree_short p
 
-width-short : (v : Width (List ℕ)) (s : List ℕ) → SpellsWidth Unresolved v s
+width_short : (v : Width (List ℕ)) (s : List ℕ) → SpellsWidth Unresolved v s
     → all (all_names is_short) (width_trees v) ≡ true
 unfolding all
-width-short (fixed n) s h = refl
-width-short (measured u t) s h = and_both (all_names is_short t) true (tree-short h.spelled) refl
-width-short rest s h = refl
+width_short (fixed n) s h = refl
+width_short (measured u t) s h = and_both (all_names is_short t) true (tree_short h.spelled) refl
+width_short rest s h = refl
 
 maybe_short : (phrase : List ℕ) (o : Option (Tree (List ℕ))) (s : List ℕ) → SpellsMaybe Unresolved phrase o s
     → if_any (all_names is_short) o ≡ true
 maybe_short phrase none s h = refl
-maybe_short phrase (some t) s h = tree-short h.2
+maybe_short phrase (some t) s h = tree_short h.2
 
 -- ── a line ──
 
@@ -66,9 +66,9 @@ pub record ShortNames (x : Form) : Type 0 where
   pub constraint : if_any (all_names is_short) x.constraint ≡ true
   pub condition : if_any (all_names is_short) x.condition ≡ true
 
-pub spelled-short : (x : Form) (l : List ℕ) → SpellsField Unresolved x l → ShortNames x
-spelled-short x l h = record {
-  width = width-short x.width h.line.width h.line.is_width;
+pub spelled_short : (x : Form) (l : List ℕ) → SpellsField Unresolved x l → ShortNames x
+spelled_short x l h = record {
+  width = width_short x.width h.line.width h.line.is_width;
   constraint = maybe_short (bytes "; ") x.constraint h.line.constraint h.line.is_constraint;
   condition = maybe_short (bytes "; present only when ") x.condition h.line.condition h.line.is_condition;
 }

@@ -1,45 +1,43 @@
 -- The lines of a text, one by one: what is left decides.
 use mathlib.Core.Path.{◌≡◌, refl, ap, sym, ◌∙◌, subst}
 use mathlib.Core.Bool.{Bool, true, false, cond}
-use mathlib.Core.List.{List, [], ◌∷◌, ◌++◌, append-nil, foldl, foldl-append}
+use mathlib.Core.List.{List, [], ◌∷◌, ◌++◌, foldl, foldl-append}
 use Prim.Native.Nat.{ℕ, suc, ◌+◌, ◌-◌, ◌≤◌, ◌<◌}
 use native.Mathlib.Omega.{arith}
 use lib.Dec.{ltb, eqb}
 use lib.ListN.{length, take, drop, get_or, length-drop, take-append-drop}
 use lib.Seq.{length-take-le, take_all, drop-cons, drop-drop, get_or-drop}
 use borrow.Author.Tests.{eq-eqb, eqb-true}
-use Rattle.base.proofs.Lists.{not-both}
+use Rattle.base.proofs.Lists.{not_both}
 use Rattle.base.specs.Lists.{all, is_empty, joined, any}
-use Rattle.rules.specs.Names.{line_feed, is_allowed, is_printable}
+use Rattle.rules.specs.Names.{line_feed, is_printable}
 use Rattle.rules.specs.Limits.{text_most, line_most}
 use Rattle.rules.specs.declared.TextAnswer.{TextAnswer}
 use Rattle.rules.specs.Answers.{of_text, refused}
 use Rattle.rules.specs.Refusals.{long}
 use Rattle.rules.specs.Promises.{Outcome, ReadsText, refuses, leaves}
 use Rattle.text_laws.specs.Fold as fold
-use Rattle.text_laws.specs.Steady.{Steady}
-use Rattle.text_laws.proofs.Answering.{kept-answers, ended_same}
-use Rattle.text_laws.proofs.FedRuns.{fed-run, fed-line, fed_bad}
-use Rattle.text_laws.proofs.FedAlike.{alike_refl, alike_trans, alike-lost, finish-alike}
-use Rattle.text_laws.proofs.Steadiness.{steady-start, steady-line, steady-losing}
+use Rattle.text_laws.proofs.Answering.{kept_answers, ended_same}
+use Rattle.text_laws.proofs.FedRuns.{fed_run, fed_line, fed_bad}
+use Rattle.text_laws.proofs.FedAlike.{alike_refl, alike_trans, alike_lost, finish_alike}
+use Rattle.text_laws.proofs.Steadiness.{steady_start, steady_line, steady_losing}
 use Rattle.texts.specs.LineEnds.{printable_length}
 use Rattle.texts.specs.Noted.{note_of}
-use Rattle.texts.specs.RowPlaces.{RowKept}
 use Rattle.texts.specs.Changes.{begun_with, changed, note}
 use Rattle.texts.specs.HeldAreas.{held_room}
-use Rattle.texts.specs.States.{Room, NoneCounted, HoldsIn, LineStep}
+use Rattle.texts.specs.States.{Room, NoneCounted, LineStep}
 use Rattle.texts.specs.WalkSteps.{KeptAs, LinesLeft, Walking, WalkedTo}
 use Rattle.texts.specs.declared.states.Stage.TheVariants as stages
 use Rattle.texts.specs.declared.states.Reading.{Reading}
 use Rattle.texts.specs.declared.walks.Walked.{Walked}
-use Rattle.texts.proofs.AreaLaws.{names-room}
-use Rattle.texts.proofs.CutLines.{holds-lost}
-use Rattle.texts.proofs.LineEnds.{front-plain, first_other, bad_byte}
-use Rattle.texts.proofs.StateSteps.{room-changed, empty_nil, filled_nil, kept_outside, kept_same}
+use Rattle.texts.proofs.AreaLaws.{names_room_lem}
+use Rattle.texts.proofs.CutLines.{holds_lost}
+use Rattle.texts.proofs.LineEnds.{front_plain, first_other, bad_byte}
+use Rattle.texts.proofs.StateSteps.{room_changed, empty_nil, filled_nil, kept_outside, kept_same}
 
-pub room-begun : Room begun_with
+pub room_begun : Room begun_with
 unfolding note_of
-room-begun = record {
+room_begun = record {
   width = omega arith;
   name = omega arith;
   row = omega arith;
@@ -62,11 +60,11 @@ drop_all [] = refl
 drop_all (x ∷ l) = drop_all l
 
 -- before the first line
-pub kept-begun : (held row counts : List ℕ) → held_room ≤ length held → NoneCounted counts
+pub kept_begun : (held row counts : List ℕ) → held_room ≤ length held → NoneCounted counts
     → KeptAs fold.start begun_with held row counts
 unfolding joined any note_of
-kept-begun held row counts room none_yet = record {
-  steady = steady-start;
+kept_begun held row counts room none_yet = record {
+  steady = steady_start;
   rows = kept_outside refl refl;
   holds = record {
     counts = record {
@@ -92,7 +90,7 @@ kept-begun held row counts room none_yet = record {
     named = record {
       label = λ i y e. absurd (let z : ◌≡◌ {A = ℕ} 0 1 = cc in omega arith);
       name = λ i y e. absurd (let z : ◌≡◌ {A = ℕ} 0 1 = cc in omega arith);
-      room = names-room held room;
+      room = names_room_lem held room;
     };
   };
 }
@@ -114,8 +112,8 @@ module _ (t : List ℕ) (at i : ℕ) (first : i ≡ at + printable_length (drop 
   run_length : i - at ≡ printable_length (drop at t)
   run_length = omega (arith, first)
 
-  pub run-plain : all is_printable (take (i - at) (drop at t)) ≡ true
-  run-plain = ap (λ (n : ℕ). all is_printable (take n (drop at t))) run_length ∙ front-plain (drop at t)
+  pub run_plain : all is_printable (take (i - at) (drop at t)) ≡ true
+  run_plain = ap (λ (n : ℕ). all is_printable (take n (drop at t))) run_length ∙ front_plain (drop at t)
 
   run_split : drop at t ≡ take (i - at) (drop at t) ++ drop i t
   run_split =
@@ -127,11 +125,11 @@ module _ (t : List ℕ) (at i : ℕ) (first : i ≡ at + printable_length (drop 
   pub rest_plain : length t ≤ i → all is_printable (drop at t) ≡ true
   rest_plain ge =
       subst (λ (z : List ℕ). all is_printable z ≡ true)
-      (take_all (i - at) (drop at t) (let n = length-drop at t in omega (arith, n, ge))) run-plain
+      (take_all (i - at) (drop at t) (let n = length-drop at t in omega (arith, n, ge))) run_plain
 
   module _ (lt : i < length t) where
-    pub run-next : drop at t ≡ take (i - at) (drop at t) ++ (get_or t i 0 ∷ drop (suc i) t)
-    run-next = run_split ∙ ap (λ (z : List ℕ). take (i - at) (drop at t) ++ z) (drop-cons t i 0 lt)
+    pub run_next : drop at t ≡ take (i - at) (drop at t) ++ (get_or t i 0 ∷ drop (suc i) t)
+    run_next = run_split ∙ ap (λ (z : List ℕ). take (i - at) (drop at t) ++ z) (drop-cons t i 0 lt)
 
     pub run_long : length (take (i - at) (drop at t)) ≡ i - at
     run_long = length-take-le (i - at) (drop at t) (let n = length-drop at t in omega (arith, n, lt, first))
@@ -151,11 +149,11 @@ module _ (k : fold.Kept) (t : List ℕ) (from at i : ℕ) (r : Reading) {held ro
     abbrev line : List ℕ
     line = take (i - at) (drop at t)
 
-    behind-size : length (drop (suc i) t) ≡ length t - suc i
-    behind-size = length-drop (suc i) t
+    behind_size : length (drop (suc i) t) ≡ length t - suc i
+    behind_size = length-drop (suc i) t
 
-    abbrev behind-line : fold.Kept
-    behind-line = record {
+    abbrev behind_line : fold.Kept
+    behind_line = record {
       size = w.kept.size + suc (length line);
       line = [];
       found = fold.lined w.kept.found line;
@@ -164,39 +162,39 @@ module _ (k : fold.Kept) (t : List ℕ) (from at i : ℕ) (r : Reading) {held ro
     short : length w.kept.line ≤ line_most
     short = let n = ap length w.begun in omega (arith, n)
 
-    next-fed : get_or t i 0 ≡ line_feed
-        → foldl fold.fed w.kept (drop at t) ≡ foldl fold.fed behind-line (drop (suc i) t)
-    next-fed feed =
+    next_fed : get_or t i 0 ≡ line_feed
+        → foldl fold.fed w.kept (drop at t) ≡ foldl fold.fed behind_line (drop (suc i) t)
+    next_fed feed =
         let n = run_long t at i first lt in
         let le = w.size in
-        ap (foldl fold.fed w.kept) (run-next t at i first lt
+        ap (foldl fold.fed w.kept) (run_next t at i first lt
         ∙ ap (λ (b : ℕ). line ++ (b ∷ drop (suc i) t)) feed)
-        ∙ fed-line line (drop (suc i) t) w.kept (run-plain t at i first)
-        (let m = behind-size in omega (arith, n, m, le, lt, first)) short w.is.steady.small
+        ∙ fed_line line (drop (suc i) t) w.kept (run_plain t at i first)
+        (let m = behind_size in omega (arith, n, m, le, lt, first)) short w.is.steady.small
         ∙ ap (λ (l : List ℕ). foldl fold.fed (record {
           size = w.kept.size + suc (length line);
           line = [];
           found = fold.lined w.kept.found (l ++ line);
         }) (drop (suc i) t)) w.begun
 
-    pub walking-next : get_or t i 0 ≡ line_feed → (q : Reading) {held' row' counts' : List ℕ}
+    pub walking_next : get_or t i 0 ≡ line_feed → (q : Reading) {held' row' counts' : List ℕ}
         → LineStep line r q held held' row row' counts counts' → Walking k t from (i + 1) q held' row' counts'
-    walking-next feed q step =
+    walking_next feed q step =
         let h = step.2 w.kept.found w.is.steady w.is.rows w.is.holds in
         let n = run_long t at i first lt in
         let le = w.size in
         let z : suc i ≡ i + 1 = omega arith in
         record {
-          kept = behind-line;
+          kept = behind_line;
           is = record {
-            steady = steady-line w.kept.found line w.is.steady;
+            steady = steady_line w.kept.found line w.is.steady;
             rows = h.1;
             holds = h.0;
           };
           begun = refl;
           size = omega (arith, n, le, lt, first);
-          alike = alike_trans _ _ _ w.alike (alike_eq _ _ (next-fed feed
-              ∙ ap (λ (m : ℕ). foldl fold.fed behind-line (drop m t)) z));
+          alike = alike_trans _ _ _ w.alike (alike_eq _ _ (next_fed feed
+              ∙ ap (λ (m : ℕ). foldl fold.fed behind_line (drop m t)) z));
         }
 
     abbrev bad_kept : fold.Kept
@@ -207,10 +205,10 @@ module _ (k : fold.Kept) (t : List ℕ) (from at i : ℕ) (r : Reading) {held ro
     }
 
     -- 2 is the same behind a line that was cut
-    losing-same : (l : List ℕ) → fold.losing (refused 2 0) (fold.unended w.kept.found l)
+    losing_same : (l : List ℕ) → fold.losing (refused 2 0) (fold.unended w.kept.found l)
         ≡ fold.losing (refused 2 0) w.kept.found
     unfolding fold.unended
-    losing-same l = go (ltb line_most (length l)) (fold.is_lost w.kept.found.stage)
+    losing_same l = go (ltb line_most (length l)) (fold.is_lost w.kept.found.stage)
       where
         go : (x y : Bool)
             → fold.losing (refused 2 0) (cond x (cond y w.kept.found (fold.wrong w.kept.found))
@@ -224,27 +222,27 @@ module _ (k : fold.Kept) (t : List ℕ) (from at i : ℕ) (r : Reading) {held ro
     bad_found other =
         let b = get_or t i 0 in
         let n = run_long t at i first lt in
-        let m = behind-size in
+        let m = behind_size in
         let le = w.size in
-        let run = fed-run line w.kept (run-plain t at i first) (omega (arith, n, le, lt, first)) short in
-        ap (λ (z : List ℕ). (foldl fold.fed w.kept z).found) (run-next t at i first lt)
+        let run = fed_run line w.kept (run_plain t at i first) (omega (arith, n, le, lt, first)) short in
+        ap (λ (z : List ℕ). (foldl fold.fed w.kept z).found) (run_next t at i first lt)
         ∙ ap (λ (q : fold.Kept). q.found) (foldl-append fold.fed w.kept line (b ∷ drop (suc i) t))
         ∙ ap (λ (q : fold.Kept). (foldl fold.fed q (b ∷ drop (suc i) t)).found) run
         ∙ fed_bad b (drop (suc i) t) _ (bad_byte b (stops t at i first lt) other)
         (omega (arith, n, m, le, lt, first))
-        ∙ losing-same (w.kept.line ++ line)
+        ∙ losing_same (w.kept.line ++ line)
 
     pub walking_bad : (get_or t i 0 ≡ line_feed → ⊥)
         → Walking k t from (length t) (changed r r.lines stages.Lost (note 2 0)) held row counts
     unfolding note_of
     walking_bad other =
-        let x = holds-lost w.kept.found r w.is.holds (refused 2 0) (note 2 0) refl in
+        let x = holds_lost w.kept.found r w.is.holds (refused 2 0) (note 2 0) refl in
         let le = w.size in
         let none : drop (length t) t ≡ [] = drop_all t in
         record {
           kept = bad_kept;
           is = record {
-            steady = steady-losing (refused 2 0) w.kept.found w.is.steady;
+            steady = steady_losing (refused 2 0) w.kept.found w.is.steady;
             rows = kept_same w.is.holds.counts x.counts refl refl w.is.rows;
             holds = x;
           };
@@ -252,7 +250,7 @@ module _ (k : fold.Kept) (t : List ℕ) (from at i : ℕ) (r : Reading) {held ro
           size = (let z : length t - length t ≡ 0 = omega arith in omega (arith, le, z));
           alike = alike_trans _ _ _ w.alike (subst (λ (l : List ℕ). fold.Alike (foldl fold.fed w.kept (drop at t))
               (foldl fold.fed bad_kept l)) (sym none)
-              (alike-lost _ bad_kept (bad_found other) (ap (λ (f : fold.Found). f.stage) (bad_found other))));
+              (alike_lost _ bad_kept (bad_found other) (ap (λ (f : fold.Found). f.stage) (bad_found other))));
         }
 
     pub bad_to : (get_or t i 0 ≡ line_feed → ⊥)
@@ -268,7 +266,7 @@ pub bad_left : (n : ℕ) (first : Reading) (m : ℕ) (r : Reading) → LinesLeft
     → LinesLeft n first 0 (changed r r.lines stages.Lost (note 2 0))
 unfolding note_of
 bad_left n first m r h = (
-  room-changed r r.lines stages.Lost (note 2 0) refl (omega arith) h.0,
+  room_changed r r.lines stages.Lost (note 2 0) refl (omega arith) h.0,
   (let k = h.1 in omega (arith, k)),
 )
 
@@ -286,8 +284,8 @@ module _ (t : List ℕ) (w : Walked) {held row counts : List ℕ} (h : WalkedTo 
       let n = length-drop w.at t in
       let le = h.walking.size in
       let short = ap length h.walking.begun in
-      let run = fed-run u g h.plain (omega (arith, n, le)) (omega (arith, short)) in
-      finish-alike _ _ out h.walking.alike
+      let run = fed_run u g h.plain (omega (arith, n, le)) (omega (arith, short)) in
+      finish_alike _ _ out h.walking.alike
       ∙ ap (λ (q : fold.Kept). fold.finish q out) run
       ∙ ap (λ (l : List ℕ). fold.finish (record {
         size = g.size + length u;
@@ -303,10 +301,10 @@ module _ (t : List ℕ) (w : Walked) {held row counts : List ℕ} (h : WalkedTo 
       ended_is = unfold fold.finish in refl
 
   pub walked_reads : (out : List ℕ) (o : Outcome) → o ≡ fold.finish ending out → ReadsText t out o
-  walked_reads out o e = subst (ReadsText t out) (walked_finish out ∙ sym e) (kept-answers t out)
+  walked_reads out o e = subst (ReadsText t out) (walked_finish out ∙ sym e) (kept_answers t out)
 
-pub empty-end : (t : List ℕ) (at : ℕ) → at ≤ length t → is_empty (drop at t) ≡ eqb at (length t)
-empty-end t at le = go (eqb at (length t)) refl
+pub empty_end : (t : List ℕ) (at : ℕ) → at ≤ length t → is_empty (drop at t) ≡ eqb at (length t)
+empty_end t at le = go (eqb at (length t)) refl
   where
     go : (b : Bool) → eqb at (length t) ≡ b → is_empty (drop at t) ≡ b
     go true e =
@@ -314,8 +312,8 @@ empty-end t at le = go (eqb at (length t)) refl
         empty_nil (drop at t) (let n = length-drop at t in omega (arith, n, q))
     go false e =
         filled_nil (drop at t) (λ z. let n = length-drop at t in
-        not-both (eqb at (length t)) (eq-eqb at (length t) (omega (arith, n, z, le))) e)
+        not_both (eqb at (length t)) (eq-eqb at (length t) (omega (arith, n, z, le))) e)
 
-pub reads-long : (t out : List ℕ) → text_most < length t → ReadsText t out (leaves (of_text TextAnswer.TooLong) out)
+pub reads_long : (t out : List ℕ) → text_most < length t → ReadsText t out (leaves (of_text TextAnswer.TooLong) out)
 unfolding of_text
-reads-long t out h = refuses (long h)
+reads_long t out h = refuses (long h)

@@ -8,11 +8,11 @@ use Rattle.names.specs.Repeats.{first_from, pad_to}
 use Rattle.texts.specs.HeldNames.{Names, Started}
 use Rattle.texts.specs.NameStarts.{start_in}
 use Rattle.texts.specs.StoredTrees.{is_held, look_up}
-use Rattle.texts.proofs.StartLaws.{most-least, look_from_zero, before-unread}
+use Rattle.texts.proofs.StartLaws.{most_least, look_from_zero, before_unread}
 
 pub look_zero : (names : Names) (k : ℕ) (w : List ℕ) → ((i : ℕ) → i < k → Started names i)
     → look_up names k w ≡ first_from (is_held names w) 0 k
 look_zero names k w all =
     let v = pad_to short_most w in
-    let m = (most-least k (start_in names.starts v)).1 in
-    look_from_zero names k w (λ i few lt. before-unread names v i (all i few) (omega (arith, m, lt)))
+    let m = (most_least k (start_in names.starts v)).1 in
+    look_from_zero names k w (λ i few lt. before_unread names v i (all i few) (omega (arith, m, lt)))

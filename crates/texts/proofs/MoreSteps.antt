@@ -26,20 +26,20 @@ use Rattle.texts.specs.States.{Room, Area}
 use Rattle.texts.specs.States.{Holds}
 use Rattle.texts.specs.declared.states.Stage.TheVariants as at
 use Rattle.texts.specs.declared.states.Reading.{Reading}
-use Rattle.texts.proofs.RowShown.{row-shown, row-labels_like}
-use Rattle.texts.proofs.SlotRows.{writes-keep}
-use Rattle.texts.proofs.RowSteps.{holds-front, holds-line, holds-few, holds-over}
-use Rattle.texts.proofs.RowLines.{some_is, none_else, goes-more, more-kept, more-count}
-use Rattle.texts.proofs.StateSteps.{holds-wrong, holds-wrong-row, kept_outside}
+use Rattle.texts.proofs.RowShown.{row_shown, row_labels_like}
+use Rattle.texts.proofs.SlotRows.{writes_keep}
+use Rattle.texts.proofs.RowSteps.{holds_front, holds_line, holds_few, holds_over}
+use Rattle.texts.proofs.RowLines.{some_is, none_else, goes_more, more_kept, more_count}
+use Rattle.texts.proofs.StateSteps.{holds_wrong, holds_wrong_row, kept_outside}
 
 -- behind the border no line of a row is kept
-cond-row : (c : Bool) (a b : Reading) → a.row ≡ 0 → b.row ≡ 0 → (cond c a b).row ≡ 0
-cond-row true a b e g = e
-cond-row false a b e g = g
+cond_row : (c : Bool) (a b : Reading) → a.row ≡ 0 → b.row ≡ 0 → (cond c a b).row ≡ 0
+cond_row true a b e g = e
+cond_row false a b e g = g
 
 none_kept : (r : Reading) (next n : ℕ) (row : List ℕ)
     → RowKept none (row_ended r next n).width (row_ended r next n).row row
-none_kept r next n row = kept_outside refl (cond-row (ltb (fields_most - r.cells) n) _ _ refl refl)
+none_kept r next n row = kept_outside refl (cond_row (ltb (fields_most - r.cells) n) _ _ refl refl)
 
 module _ (f : fold.Found) (x : Row) (r : Reading) (l : List ℕ) {cells row : List ℕ} {table : Area}
     {labels : List (List ℕ)} {names : Names} (steady : Steady f) (is : f.row ≡ some x)
@@ -59,19 +59,19 @@ module _ (f : fold.Found) (x : Row) (r : Reading) (l : List ℕ) {cells row : Li
   module _ (line : is_line l ≡ true) where
     -- ── one more line ──
 
-    pub behind-line : goes_on r.row (take (2 * r.width + 1) row) l ≡ true → Room r
+    pub behind_line : goes_on r.row (take (2 * r.width + 1) row) l ≡ true → Room r
         → length l ≡ 2 * r.width + 1 → {after : List ℕ} {next : ℕ} → Writes row (65 * r.row) l after next
         → Behind (changed (with_lines r (r.row + 1)) (r.lines + 1) at.InRow r.note) cells after
-    behind-line goes safe size {after} writes =
-        let y = some_is (more_row r.width x l) (sym (goes-more r.width r.row x row l kept drawn line) ∙ goes) in
+    behind_line goes safe size {after} writes =
+        let y = some_is (more_row r.width x l) (sym (goes_more r.width r.row x row l kept drawn line) ∙ goes) in
         let e : more_row f.width x l ≡ some y.0 =
         subst (λ (w : ℕ). more_row w x l ≡ some y.0) h.counts.width y.1 in
         let few = safe.row in
         subst (λ (o : Option Row). Holds (fold.on_more f f.width x l o)
         (changed (with_lines r (r.row + 1)) (r.lines + 1) at.InRow r.note) cells table labels names
         × RowKept (fold.on_more f f.width x l o).row r.width (r.row + 1) after) (sym e) (
-          holds-line f r h y.0 (r.row + 1) (more-count r.width r.row x row l kept drawn y.0 y.1),
-          more-kept r.width r.row x row l kept drawn safe.width y.0 y.1 size
+          holds_line f r h y.0 (r.row + 1) (more_count r.width r.row x row l kept drawn y.0 y.1),
+          more_kept r.width r.row x row l kept drawn safe.width y.0 y.1 size
               (omega (arith, few, room)) writes,
         )
 
@@ -82,7 +82,7 @@ module _ (f : fold.Found) (x : Row) (r : Reading) (l : List ℕ) {cells row : Li
       no_more =
           subst (λ (w : ℕ). more_row w x l ≡ none) h.counts.width
           (none_else (more_row r.width x l)
-          (sym (goes-more r.width r.row x row l kept drawn line) ∙ stops))
+          (sym (goes_more r.width r.row x row l kept drawn line) ∙ stops))
 
       -- by what the cells are and what the line is
       ends : (a b : Bool) → are_labels row r.row (2 * r.width + 1) ≡ a → same l (border r.width) ≡ b
@@ -90,7 +90,7 @@ module _ (f : fold.Found) (x : Row) (r : Reading) (l : List ℕ) {cells row : Li
           ≡ cond a (cond b (fold.with_cells f (f.cells ++ slots_in x)) (fold.wrong f)) (fold.wrong f)
       ends a b e g =
           let labelled : is_labelled x ≡ a =
-          sym (row-labels_like row r.row r.width x drawn kept.lines) ∙ e in
+          sym (row_labels_like row r.row r.width x drawn kept.lines) ∙ e in
           let edge : same l (border f.width) ≡ b =
           subst (λ (w : ℕ). same l (border w) ≡ b) h.counts.width g in
           rw (no_more, labelled, edge) refl
@@ -98,20 +98,20 @@ module _ (f : fold.Found) (x : Row) (r : Reading) (l : List ℕ) {cells row : Li
       same_row : RowKept f.row r.width r.row row
       same_row = subst (λ (o : Option Row). RowKept o r.width r.row row) (sym is) kept
 
-      blamed-is : (b : Bool) → is_labelled x ≡ b
+      blamed_is : (b : Bool) → is_labelled x ≡ b
           → fold.blamed f.row f.lines ≡ cond b (suc f.lines) f.lines
-      blamed-is b e =
+      blamed_is b e =
           ap (λ (o : Option Row). fold.blamed o f.lines) is
           ∙ ap (λ (c : Bool). cond c (suc f.lines) f.lines) e
 
       pub behind_bad : are_labels row r.row (2 * r.width + 1) ≡ false → {after : List ℕ}
           → take r.slots after ≡ take r.slots cells → Behind (made_wrong_row r) after row
       behind_bad bad {after} front =
-          let labelled = sym (row-labels_like row r.row r.width x drawn kept.lines) ∙ bad in
+          let labelled = sym (row_labels_like row r.row r.width x drawn kept.lines) ∙ bad in
           subst (λ (g : fold.Found). Holds g (made_wrong_row r) after table labels names
           × RowKept g.row r.width r.row row)
           (sym (ends false (same l (border r.width)) bad refl))
-          (holds-wrong-row f r (holds-front f r front h) (blamed-is false labelled), same_row)
+          (holds_wrong_row f r (holds_front f r front h) (blamed_is false labelled), same_row)
 
       module _ (good : are_labels row r.row (2 * r.width + 1) ≡ true) {after : List ℕ} {next : ℕ}
           (writes : Writes cells r.slots (joined stored_slot (slots_at row r.row (2 * r.width + 1) 1)) after next)
@@ -119,23 +119,23 @@ module _ (f : fold.Found) (x : Row) (r : Reading) (l : List ℕ) {cells row : Li
         inside : r.slots ≤ length cells
         inside = let a = safe.slots in let b = safe.cells in omega (arith, a, b, wide)
 
-        pub behind-wrong : same l (border r.width) ≡ false → Behind (made_wrong r) after row
-        behind-wrong other =
-            let labelled = sym (row-labels_like row r.row r.width x drawn kept.lines) ∙ good in
+        pub behind_wrong : same l (border r.width) ≡ false → Behind (made_wrong r) after row
+        behind_wrong other =
+            let labelled = sym (row_labels_like row r.row r.width x drawn kept.lines) ∙ good in
             subst (λ (g : fold.Found). Holds g (made_wrong r) after table labels names
             × RowKept g.row r.width r.row row)
             (sym (ends true false good other))
-            (holds-wrong f r (holds-front f r (writes-keep inside writes) h) (blamed-is true labelled), same_row)
+            (holds_wrong f r (holds_front f r (writes_keep inside writes) h) (blamed_is true labelled), same_row)
 
         shown : slots_at row r.row (2 * r.width + 1) 1 ≡ slots_in x
-        shown = row-shown row r.row r.width x drawn kept.lines
+        shown = row_shown row r.row r.width x drawn kept.lines
 
         put : Writes cells r.slots (joined stored_slot (slots_in x)) after next
         put = subst (λ (cs : List Slot). Writes cells r.slots (joined stored_slot cs) after next) shown writes
 
-        pub behind-border : is_head f.stage ≡ true → same l (border r.width) ≡ true → (n : ℕ)
+        pub behind_border : is_head f.stage ≡ true → same l (border r.width) ≡ true → (n : ℕ)
             → n ≡ length (slots_at row r.row (2 * r.width + 1) 1) → Behind (row_ended r next n) after row
-        behind-border head edge n e =
+        behind_border head edge n e =
             subst (λ (g : fold.Found). Holds g (row_ended r next n) after table labels names
             × RowKept g.row (row_ended r next n).width (row_ended r next n).row row)
             (sym (ends true true good edge))
@@ -149,9 +149,9 @@ module _ (f : fold.Found) (x : Row) (r : Reading) (l : List ℕ) {cells row : Li
             go true k =
                 let over = ltb-true (fields_most - r.cells) n k in
                 let a = h.counts.cells in
-                rw k (holds-over f r h (steady.head head) x put (omega (arith, over, a, count)) inside)
+                rw k (holds_over f r h (steady.head head) x put (omega (arith, over, a, count)) inside)
             go false k =
                 let few = ltb-false (fields_most - r.cells) n k in
                 let a = h.counts.cells in
                 let b = safe.cells in
-                rw k (holds-few f r h (steady.head head) x put n count (omega (arith, few, a, b, count)))
+                rw k (holds_few f r h (steady.head head) x put n count (omega (arith, few, a, b, count)))

@@ -9,13 +9,13 @@ use lib.ListN.{length, take, drop, get_or}
 use lib.Seq.{get_or-take, get_or-drop}
 use borrow.Author.Tests.{eq-eqb, ne_eqb, eqb-false}
 use Rattle.base.specs.Lists.{all, head_is}
-use Rattle.base.proofs.Lists.{fails, not-both}
+use Rattle.base.proofs.Lists.{fails, not_both}
 use Rattle.base.proofs.Breaks.{all_cons}
 use Rattle.rules.specs.Limits.{short_most}
 use Rattle.rules.specs.Names.{is_letter, is_word_byte, is_short}
 use Rattle.names.specs.Repeats.{pad_to, same_name}
 use Rattle.names.proofs.KeyLaws.{same_keys}
-use Rattle.names.proofs.PadLaws.{Held, word_byte, past_end, short-held}
+use Rattle.names.proofs.PadLaws.{Held, word_byte, past_end, short_held}
 use Rattle.texts.specs.HeldNames.{has_length, HeldLength}
 
 -- names of other lengths differ
@@ -23,7 +23,7 @@ pub other_length : (held name : List ℕ) (len : ℕ) → HeldLength held len �
     → same_name held name ≡ false
 other_length held name len h e =
     fails (same_name held name) (λ s.
-    not-both (has_length held len) h.ends (ap (λ (v : List ℕ). has_length v len) (same_keys held name s).1 ∙ e))
+    not_both (has_length held len) h.ends (ap (λ (v : List ℕ). has_length v len) (same_keys held name s).1 ∙ e))
 
 -- ── a name at a place ──
 
@@ -46,10 +46,10 @@ module _ (b : List ℕ) (at len : ℕ) (some : 0 < len) (most : len ≤ short_mo
   unfolding has_length
   length_full h e = rw (ne_eqb _ _ (λ z. h (sym last_byte ∙ z)), eq-eqb _ _ e) refl
 
-  pub length-ends : (get_or b (at + len - 1) 0 ≡ 0 → ⊥) → (len ≡ short_most → ⊥)
+  pub length_ends : (get_or b (at + len - 1) 0 ≡ 0 → ⊥) → (len ≡ short_most → ⊥)
       → eqb (get_or b (at + len) 0) 0 ≡ has_length (take short_most (drop at b)) len
   unfolding has_length
-  length-ends h ne =
+  length_ends h ne =
       rw (ne_eqb _ _ (λ z. h (sym last_byte ∙ z)), ne_eqb _ _ ne, byte_at len (omega (arith, ne))) refl
 
 -- ── padded names ──
@@ -86,19 +86,19 @@ word_at [] i h lt = absurd (omega arith)
 word_at (x ∷ w) zero h lt = word_byte x (all_cons is_word_byte x w h).0
 word_at (x ∷ w) (suc i) h lt = word_at w i (all_cons is_word_byte x w h).1 (omega arith)
 
-not-empty : (w : List ℕ) → head_is is_letter w ≡ true → 0 < length w
-not-empty [] h = absurd (not-both false h refl)
-not-empty (x ∷ w) h = omega arith
+not_empty : (w : List ℕ) → head_is is_letter w ≡ true → 0 < length w
+not_empty [] h = absurd (not_both false h refl)
+not_empty (x ∷ w) h = omega arith
 
-pub held-length : (w : List ℕ) → is_short w ≡ true → HeldLength (pad_to short_most w) (length w)
+pub held_length : (w : List ℕ) → is_short w ≡ true → HeldLength (pad_to short_most w) (length w)
 unfolding has_length
-held-length w h = record { some = some; most = p.0.size; first = first; ends = ends (eqb (length w) short_most) refl }
+held_length w h = record { some = some; most = p.0.size; first = first; ends = ends (eqb (length w) short_most) refl }
   where
     p : Held w × (head_is is_letter w ≡ true)
-    p = short-held w h
+    p = short_held w h
 
     some : 0 < length w
-    some = not-empty w p.1
+    some = not_empty w p.1
 
     -- a byte of the name
     byte : (i : ℕ) → i < length w → get_or (pad_to short_most w) i 0 ≡ 0 → ⊥

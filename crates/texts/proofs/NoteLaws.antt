@@ -7,9 +7,9 @@ use Rattle.texts.specs.Noted.{note_of}
 use Rattle.texts.specs.declared.notes.Note.{Note}
 
 module _ (a b : Note) where
-  pub lower-none : a.number ≡ 0 → note_of b ≡ lower (note_of a) (note_of b)
+  pub lower_none : a.number ≡ 0 → note_of b ≡ lower (note_of a) (note_of b)
   unfolding note_of
-  lower-none e = rw (eq-eqb a.number 0 e) refl
+  lower_none e = rw (eq-eqb a.number 0 e) refl
 
   pub lower_only : (a.number ≡ 0 → ⊥) → b.number ≡ 0 → note_of a ≡ lower (note_of a) (note_of b)
   unfolding note_of
@@ -21,8 +21,8 @@ module _ (a b : Note) where
   lower_less n m lt =
       rw (ne_eqb a.number 0 n, ne_eqb b.number 0 m, lt-ltb b.number a.number lt) refl
 
-  pub lower-first : (a.number ≡ 0 → ⊥) → (b.number ≡ 0 → ⊥) → a.number ≤ b.number
+  pub lower_first : (a.number ≡ 0 → ⊥) → (b.number ≡ 0 → ⊥) → a.number ≤ b.number
       → note_of a ≡ lower (note_of a) (note_of b)
   unfolding note_of
-  lower-first n m le =
+  lower_first n m le =
       rw (ne_eqb a.number 0 n, ne_eqb b.number 0 m, le-ltb b.number a.number le) refl

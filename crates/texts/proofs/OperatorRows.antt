@@ -2,7 +2,7 @@
 use mathlib.Core.Path.{◌≡◌, refl, ap, sym, ◌∙◌}
 use mathlib.Core.Bool.{Bool, true, false, cond, ◌||◌}
 use mathlib.Core.List.{List, [], ◌∷◌}
-use mathlib.Core.Option.{none, some}
+use mathlib.Core.Option.{none}
 use Prim.Native.Nat.{ℕ, ◌<◌}
 use native.Mathlib.Omega.{arith}
 use lib.Dec.{eqb, ltb}
@@ -22,25 +22,25 @@ use Rattle.texts.specs.StoredTrees.{type_code}
 -- ── columns ──
 
 module _ (r : Row) (o : Op) (is : r ≡ row_of o) where
-  pub row-level : level o ≡ r.level
+  pub row_level : level o ≡ r.level
   unfolding row_of
-  row-level = ap (λ (x : Row). x.level) (sym is)
+  row_level = ap (λ (x : Row). x.level) (sym is)
 
-  pub row-left : left_level o ≡ r.left
+  pub row_left : left_level o ≡ r.left
   unfolding row_of
-  row-left = ap (λ (x : Row). x.left) (sym is)
+  row_left = ap (λ (x : Row). x.left) (sym is)
 
-  pub row-right : right_level o ≡ r.right
+  pub row_right : right_level o ≡ r.right
   unfolding row_of
-  row-right = ap (λ (x : Row). x.right) (sym is)
+  row_right = ap (λ (x : Row). x.right) (sym is)
 
-  pub row-code : r.code ≡ code o
+  pub row_code : r.code ≡ code o
   unfolding row_of
-  row-code = ap (λ (x : Row). x.code) is
+  row_code = ap (λ (x : Row). x.code) is
 
-  pub row-takes : type_code r.takes ≡ type_code (takes o)
+  pub row_takes : type_code r.takes ≡ type_code (takes o)
   unfolding row_of
-  row-takes = ap (λ (x : Row). type_code x.takes) is
+  row_takes = ap (λ (x : Row). type_code x.takes) is
 
   pub row_gives : type_code r.gives ≡ type_code (gives o)
   unfolding row_of
@@ -78,27 +78,27 @@ or_swap true false c = refl
 or_swap false true c = refl
 or_swap false false c = refl
 
-any-insert : (p : Op → Bool) (o : Op) (l : List Op) → any p (insert o l) ≡ (p o || any p l)
+any_insert : (p : Op → Bool) (o : Op) (l : List Op) → any p (insert o l) ≡ (p o || any p l)
 unfolding any insert
-any-insert p o [] = refl
-any-insert p o (q ∷ l) = go (ltb (length (symbol o)) (length (symbol q))) (any-insert p o l)
+any_insert p o [] = refl
+any_insert p o (q ∷ l) = go (ltb (length (symbol o)) (length (symbol q))) (any_insert p o l)
   where
     go : (b : Bool) → any p (insert o l) ≡ (p o || any p l)
         → any p (cond b (q ∷ insert o l) (o ∷ q ∷ l)) ≡ (p o || (p q || any p l))
     go true ih = rw ih (or_swap (p q) (p o) (any p l))
     go false ih = refl
 
-any-longest : (p : Op → Bool) (l : List Op) → any p (longest_first l) ≡ any p l
+any_longest : (p : Op → Bool) (l : List Op) → any p (longest_first l) ≡ any p l
 unfolding any longest_first
-any-longest p [] = refl
-any-longest p (o ∷ l) = any-insert p o (longest_first l) ∙ rw (any-longest p l) refl
+any_longest p [] = refl
+any_longest p (o ∷ l) = any_insert p o (longest_first l) ∙ rw (any_longest p l) refl
 
-order-some : are_some order ≡ true
+order_some : are_some order ≡ true
 unfolding all order longest_first insert operators operator
-order-some = refl
+order_some = refl
 
-pub no-operator : (c : ℕ) (s : List ℕ) → is_operator c ≡ false → first_of order (c ∷ s) ≡ missing
+pub no_operator : (c : ℕ) (s : List ℕ) → is_operator c ≡ false → first_of order (c ∷ s) ≡ missing
 unfolding is_operator order
-no-operator c s h =
-    none_first order c s order-some
-    (any-longest (is_in c) operators ∙ or_false_right (eqb c 33) (any (is_in c) operators) h)
+no_operator c s h =
+    none_first order c s order_some
+    (any_longest (is_in c) operators ∙ or_false_right (eqb c 33) (any (is_in c) operators) h)

@@ -11,7 +11,7 @@ use lib.Seq.{length-take-le}
 use lib.Dec.{eqb}
 use borrow.Author.Tests.{ne_eqb, lt-ltb}
 use Rattle.writing.specs.Writes.{Writes}
-use Rattle.writing.proofs.Writing.{writes-none, writes_join}
+use Rattle.writing.proofs.Writing.{writes_none, writes_join}
 use Rattle.rules.specs.Limits.{text_most, stored_most}
 use Rattle.rules.specs.Trees.{Tree, le2, stored_tree}
 use Rattle.rules.specs.Fields.{Width, fixed, measured, rest, Form}
@@ -28,9 +28,9 @@ use Rattle.texts.specs.HeldAreas.{record_most}
 use Rattle.texts.specs.States.{plain_field, is_short_record}
 use Rattle.texts.specs.declared.line_parts.Parts.{Parts}
 use Rattle.texts.proofs.TreeTypes.{part_of, part_span, part_length}
-use Rattle.texts.proofs.PartSteps.{short-text}
-use Rattle.texts.proofs.RecordSizes.{stored_renamed, stored-length, two-length, counted-length}
-use Rattle.texts.proofs.RecordLaws.{two-writes, counted-writes, two-end, counted-end}
+use Rattle.texts.proofs.PartSteps.{short_text_lem}
+use Rattle.texts.proofs.RecordSizes.{stored_renamed, stored_length_lem, two_length, counted_length}
+use Rattle.texts.proofs.RecordLaws.{two_writes, counted_writes, two_end, counted_end}
 
 -- ── the bytes are those of the record ──
 
@@ -46,27 +46,27 @@ maybe_bytes : (names : Names) (n : ℕ) (o : Option (Tree (List ℕ))) (t : Tree
 maybe_bytes names n none t h le = rw h refl
 maybe_bytes names n (some v) t h le = ap counted (held_bytes names n v t h le)
 
-width-bytes : (names : Names) (n : ℕ) (v : Width (List ℕ)) (p : Parts) (b : List ℕ)
+width_bytes_lem : (names : Names) (n : ℕ) (v : Width (List ℕ)) (p : Parts) (b : List ℕ)
     → WidthHeld names n v p.kind p.bits (held p.width b) → p.width.len ≤ length b
     → width_bytes b p ≡ stored_width (rename_width (look_up names n) v)
 unfolding width_bytes
-width-bytes names n (fixed m) p b h le = rw (h.0, h.1) refl
-width-bytes names n (measured u v) p b h le =
+width_bytes_lem names n (fixed m) p b h le = rw (h.0, h.1) refl
+width_bytes_lem names n (measured u v) p b h le =
     rw (h.0, h.1) (ap (λ (l : List ℕ). le2 u ++ counted l) (held_bytes names n v (held p.width b) h.2 le))
-width-bytes names n rest p b h le = rw h.0 refl
+width_bytes_lem names n rest p b h le = rw h.0 refl
 
-width-kind : (names : Names) (n : ℕ) (v : Width (List ℕ)) (kind bits : ℕ) (t : TreeBytes)
+width_kind : (names : Names) (n : ℕ) (v : Width (List ℕ)) (kind bits : ℕ) (t : TreeBytes)
     → WidthHeld names n v kind bits t → kind ≡ kind_number (rename_width (look_up names n) v)
-width-kind names n (fixed m) kind bits t h = h.0
-width-kind names n (measured u v) kind bits t h = h.0
-width-kind names n rest kind bits t h = h.0
+width_kind names n (fixed m) kind bits t h = h.0
+width_kind names n (measured u v) kind bits t h = h.0
+width_kind names n rest kind bits t h = h.0
 
 -- ── what is written, part by part ──
 
-pub size-sum : (p : Parts)
+pub size_sum : (p : Parts)
     → field_size p ≡ 14 + p.label + p.short.len + width_size p + p.constraint.len + p.condition.len
 unfolding field_size
-size-sum p = refl
+size_sum p = refl
 
 pub writable_text : (p : Parts) {m : ℕ} → Writable m p → m ≤ text_most → Writable text_most p
 writable_text p w le = record {
@@ -77,17 +77,17 @@ writable_text p w le = record {
   condition = w.condition;
 }
 
-pub size-fixed : (p : Parts) → p.kind ≡ 12 → width_size p ≡ 2
+pub size_fixed : (p : Parts) → p.kind ≡ 12 → width_size p ≡ 2
 unfolding width_size
-size-fixed p e = rw e refl
+size_fixed p e = rw e refl
 
-pub size-measured : (p : Parts) → p.kind ≡ 13 → width_size p ≡ 4 + p.width.len
+pub size_measured : (p : Parts) → p.kind ≡ 13 → width_size p ≡ 4 + p.width.len
 unfolding width_size
-size-measured p e = rw e refl
+size_measured p e = rw e refl
 
-pub size-rest : (p : Parts) → (p.kind ≡ 12 → ⊥) → (p.kind ≡ 13 → ⊥) → width_size p ≡ 0
+pub size_rest : (p : Parts) → (p.kind ≡ 12 → ⊥) → (p.kind ≡ 13 → ⊥) → width_size p ≡ 0
 unfolding width_size
-size-rest p e f = rw (ne_eqb p.kind 12 e, ne_eqb p.kind 13 f) refl
+size_rest p e f = rw (ne_eqb p.kind 12 e, ne_eqb p.kind 13 f) refl
 
 pub width_bound : (p : Parts) → p.width.len ≤ stored_most → width_size p ≤ 4 + stored_most
 unfolding width_size
@@ -98,109 +98,109 @@ width_bound p le = go (eqb p.kind 12) (eqb p.kind 13)
     go false true = omega (arith, le)
     go false false = omega arith
 
-pub tree-put : (len : ℕ) (b : List ℕ) {before after : List ℕ} {at next : ℕ} → len ≤ length b
+pub tree_put : (len : ℕ) (b : List ℕ) {before after : List ℕ} {at next : ℕ} → len ≤ length b
     → at + (2 + len) ≤ length before → placed next after ≡ put before at (counted (take (len - 0) b))
     → (next ≡ at + (2 + len)) × Writes before at (tree_bytes len b) after next
-tree-put len b {before} {after} {at} {next} le room e =
+tree_put len b {before} {after} {at} {next} le room e =
     let l = length-take-le len b le in
     let q : placed next after ≡ put before at (tree_bytes len b) = rw (sub-zero len) at e in
-    let w = counted-writes (take len b) (omega (arith, l, room)) q in
-    (omega (arith, w.end, counted-length (take len b), l), w)
+    let w = counted_writes (take len b) (omega (arith, l, room)) q in
+    (omega (arith, w.end, counted_length (take len b), l), w)
 
 module _ (p : Parts) (b : List ℕ) where
-  bytes-fixed : p.kind ≡ 12 → le2 p.bits ≡ width_bytes b p
+  bytes_fixed : p.kind ≡ 12 → le2 p.bits ≡ width_bytes b p
   unfolding width_bytes
-  bytes-fixed e = rw e refl
+  bytes_fixed e = rw e refl
 
-  bytes-measured : p.kind ≡ 13 → le2 p.bits ++ tree_bytes p.width.len b ≡ width_bytes b p
+  bytes_measured : p.kind ≡ 13 → le2 p.bits ++ tree_bytes p.width.len b ≡ width_bytes b p
   unfolding width_bytes
-  bytes-measured e = rw e refl
+  bytes_measured e = rw e refl
 
   bytes_rest : (p.kind ≡ 12 → ⊥) → (p.kind ≡ 13 → ⊥) → [] ≡ width_bytes b p
   unfolding width_bytes
   bytes_rest e f = rw (ne_eqb p.kind 12 e, ne_eqb p.kind 13 f) refl
 
 module _ (p : Parts) (b : List ℕ) {before : List ℕ} {at : ℕ} where
-  pub width-fixed : {after : List ℕ} {next : ℕ} → p.kind ≡ 12 → at + width_size p ≤ length before
+  pub width_fixed : {after : List ℕ} {next : ℕ} → p.kind ≡ 12 → at + width_size p ≤ length before
       → placed next after ≡ put before at (le2 p.bits)
       → (next ≡ at + width_size p) × Writes before at (width_bytes b p) after next
-  width-fixed k room e =
-      let w = two-writes p.bits (omega (arith, size-fixed p k, room)) e in
-      (omega (arith, size-fixed p k, two-end p.bits w), rw (← bytes-fixed p b k) w)
+  width_fixed k room e =
+      let w = two_writes p.bits (omega (arith, size_fixed p k, room)) e in
+      (omega (arith, size_fixed p k, two_end p.bits w), rw (← bytes_fixed p b k) w)
 
   pub width_two : {mid : List ℕ} {next : ℕ} → p.kind ≡ 13 → at + width_size p ≤ length before
       → placed next mid ≡ put before at (le2 p.bits)
       → Writes before at (le2 p.bits) mid next × (next + (2 + p.width.len) ≤ length mid)
   width_two k room e =
-      let w = two-writes p.bits (omega (arith, size-measured p k, room)) e in
-      (w, omega (arith, size-measured p k, two-end p.bits w, w.kept, room))
+      let w = two_writes p.bits (omega (arith, size_measured p k, room)) e in
+      (w, omega (arith, size_measured p k, two_end p.bits w, w.kept, room))
 
-  pub width-measured : {mid after : List ℕ} {next end : ℕ} → p.kind ≡ 13 → Writes before at (le2 p.bits) mid next
+  pub width_measured : {mid after : List ℕ} {next end : ℕ} → p.kind ≡ 13 → Writes before at (le2 p.bits) mid next
       → end ≡ next + (2 + p.width.len) → Writes mid next (tree_bytes p.width.len b) after end
       → (end ≡ at + width_size p) × Writes before at (width_bytes b p) after end
-  width-measured k w e u =
-      (omega (arith, size-measured p k, two-end p.bits w, e), rw (← bytes-measured p b k) (writes_join w u))
+  width_measured k w e u =
+      (omega (arith, size_measured p k, two_end p.bits w, e), rw (← bytes_measured p b k) (writes_join w u))
 
-  pub width-rest : (p.kind ≡ 12 → ⊥) → (p.kind ≡ 13 → ⊥)
+  pub width_rest : (p.kind ≡ 12 → ⊥) → (p.kind ≡ 13 → ⊥)
       → (at ≡ at + width_size p) × Writes before at (width_bytes b p) before at
-  width-rest e f = (omega (arith, size-rest p e f), rw (← bytes_rest p b e f) (writes-none before at))
+  width_rest e f = (omega (arith, size_rest p e f), rw (← bytes_rest p b e f) (writes_none before at))
 
-pub names-put : (line : List ℕ) (p : Parts) {before mid after : List ℕ} {at next end : ℕ}
+pub names_put : (line : List ℕ) (p : Parts) {before mid after : List ℕ} {at next end : ℕ}
     → Writable (length line) p → at + (4 + p.label + p.short.len) ≤ length before
     → placed next mid ≡ put before at (counted (take (p.label - 0) line))
     → placed end after ≡ put mid next (counted (part_of line p.short))
     → (end ≡ at + (4 + p.label + p.short.len)) × Writes before at (name_bytes line p) after end
-names-put line p {before} {mid} {after} {at} {next} {end} h room e f =
+names_put line p {before} {mid} {after} {at} {next} {end} h room e f =
     let a = length-take-le p.label line h.label in
     let b = part_length line p.short h.short in
     let q : placed next mid ≡ put before at (counted (take p.label line)) = rw (sub-zero p.label) at e in
-    let w = counted-writes (take p.label line) (omega (arith, a, room)) q in
-    let m = counted-end (take p.label line) w in
-    let v = counted-writes (part_of line p.short) (omega (arith, a, b, room, m, w.kept)) f in
-    let k = counted-end (part_of line p.short) v in (
+    let w = counted_writes (take p.label line) (omega (arith, a, room)) q in
+    let m = counted_end (take p.label line) w in
+    let v = counted_writes (part_of line p.short) (omega (arith, a, b, room, m, w.kept)) f in
+    let k = counted_end (part_of line p.short) v in (
       omega (arith, m, k, a, b),
       writes_join w (rw (part_span line p.short) at v),
     )
 
 -- ── the record of the form ──
 
-tree-length : (names : Names) (n : ℕ) (v : Tree (List ℕ)) (t : TreeBytes) → StoredIs names n v t
+tree_length : (names : Names) (n : ℕ) (v : Tree (List ℕ)) (t : TreeBytes) → StoredIs names n v t
     → length (stored_tree (λ i. i) (rename_tree (look_up names n) v)) ≡ t.len
-tree-length names n v t h =
-    ap length (stored_renamed (look_up names n) v) ∙ stored-length (look_up names n) v ∙ sym h.len
+tree_length names n v t h =
+    ap length (stored_renamed (look_up names n) v) ∙ stored_length_lem (look_up names n) v ∙ sym h.len
 
 maybe_length : (names : Names) (n : ℕ) (o : Option (Tree (List ℕ))) (t : TreeBytes) → MaybeHeld names n o t
     → length (counted (stored_maybe (map (rename_tree (look_up names n)) o))) ≡ 2 + t.len
-maybe_length names n none t h = omega (arith, h, counted-length [])
+maybe_length names n none t h = omega (arith, h, counted_length [])
 maybe_length names n (some v) t h =
     omega (
       arith,
-      counted-length (stored_tree (λ i. i) (rename_tree (look_up names n) v)),
-      tree-length names n v t h,
+      counted_length (stored_tree (λ i. i) (rename_tree (look_up names n) v)),
+      tree_length names n v t h,
     )
 
-width-length : (names : Names) (n : ℕ) (v : Width (List ℕ)) (p : Parts) (b : List ℕ)
+width_length : (names : Names) (n : ℕ) (v : Width (List ℕ)) (p : Parts) (b : List ℕ)
     → WidthHeld names n v p.kind p.bits (held p.width b)
     → length (stored_width (rename_width (look_up names n) v)) ≡ width_size p
-width-length names n (fixed m) p b h = two-length m ∙ sym (size-fixed p h.0)
-width-length names n (measured u v) p b h =
+width_length names n (fixed m) p b h = two_length m ∙ sym (size_fixed p h.0)
+width_length names n (measured u v) p b h =
     let t = stored_tree (λ i. i) (rename_tree (look_up names n) v) in
     omega (
       arith,
-      size-measured p h.0,
+      size_measured p h.0,
       length-append (le2 u) (counted t),
-      two-length u,
-      counted-length t,
-      tree-length names n v (held p.width b) h.2,
+      two_length u,
+      counted_length t,
+      tree_length names n v (held p.width b) h.2,
     )
-width-length names n rest p b h =
-    sym (size-rest p (λ e. absurd (omega (arith, e, h.0))) (λ e. absurd (omega (arith, e, h.0))))
+width_length names n rest p b h =
+    sym (size_rest p (λ e. absurd (omega (arith, e, h.0))) (λ e. absurd (omega (arith, e, h.0))))
 
-pub short-length : (names : Names) (n : ℕ) (line : List ℕ) (x : Form) (v : LineBytes) (p : Parts)
+pub short_length : (names : Names) (n : ℕ) (line : List ℕ) (x : Form) (v : LineBytes) (p : Parts)
     → PartsHeld names n line x v p → p.short.at + p.short.len ≤ length line
     → length (stored_name x.short) ≡ p.short.len
-short-length names n line x v p h le =
-    ap length (sym (short-text line x.short p.short h.short) ∙ sym (part_span line p.short))
+short_length names n line x v p h le =
+    ap length (sym (short_text_lem line x.short p.short h.short) ∙ sym (part_span line p.short))
     ∙ part_length line p.short le
 
 module _ (names : Names) (n : ℕ) (line : List ℕ) (x : Form) (v : LineBytes) (p : Parts)
@@ -212,8 +212,8 @@ module _ (names : Names) (n : ℕ) (line : List ℕ) (x : Form) (v : LineBytes) 
   parts_are =
       rw (
         h.label,
-        short-text line x.short p.short h.short,
-        width-bytes names n x.width p v.width h.width (omega (arith, w.width, room.width)),
+        short_text_lem line x.short p.short h.short,
+        width_bytes_lem names n x.width p v.width h.width (omega (arith, w.width, room.width)),
         maybe_bytes names (n + 1) x.constraint (held p.constraint v.constraint) h.constraint
             (omega (arith, w.constraint, room.constraint)),
         maybe_bytes names n x.condition (held p.condition v.condition) h.condition
@@ -239,17 +239,17 @@ module _ (names : Names) (n : ℕ) (line : List ℕ) (x : Form) (v : LineBytes) 
       let d = counted (stored_maybe (indexed names n x).condition) in
       omega (
         arith,
-        size-sum p,
+        size_sum p,
         length-append a (b ++ (u ++ (c ++ d))),
         length-append b (u ++ (c ++ d)),
         length-append u (c ++ d),
         length-append c d,
-        counted-length x.label,
+        counted_length x.label,
         ap length (sym h.label),
         length-take-le p.label line w.label,
-        counted-length (stored_name x.short),
-        short-length names n line x v p h w.short,
-        width-length names n x.width p v.width h.width,
+        counted_length (stored_name x.short),
+        short_length names n line x v p h w.short,
+        width_length names n x.width p v.width h.width,
         maybe_length names (n + 1) x.constraint (held p.constraint v.constraint) h.constraint,
         maybe_length names n x.condition (held p.condition v.condition) h.condition,
       )
@@ -257,10 +257,10 @@ module _ (names : Names) (n : ℕ) (line : List ℕ) (x : Form) (v : LineBytes) 
   pub record_bytes : field_bytes line v p ≡ plain_field (indexed names n x)
   unfolding stored_field_in
   record_bytes =
-      let kind = width-kind names n x.width p.kind p.bits (held p.width v.width) h.width in
+      let kind = width_kind names n x.width p.kind p.bits (held p.width v.width) h.width in
       let body = field_body (indexed names n x) in
       let size : field_size p ≡ 4 + length (le2 0 ++ body) =
-      omega (arith, size_is, length-append (le2 0) body, two-length 0) in
+      omega (arith, size_is, length-append (le2 0) body, two_length 0) in
       ap₂ (λ (m : ℕ) (l : List ℕ). le2 m ++ l) size
       (ap₂ (λ (k : ℕ) (l : List ℕ). le2 k ++ (le2 0 ++ l)) kind body_is)
 

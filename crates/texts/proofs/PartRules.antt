@@ -10,7 +10,7 @@ use borrow.Author.Tests.{eq-eqb, ne_eqb, le-leb, lt-leb}
 use Rattle.base.specs.Lists.{all, if_any, list_of}
 use Rattle.rules.specs.declared.ValueType.TheVariants.{Number, YesNo}
 use Rattle.rules.specs.Limits.{depth_most, stored_most}
-use Rattle.rules.specs.Trees.{Tree, depth, is_small, has_type}
+use Rattle.rules.specs.Trees.{Tree, is_small, has_type}
 use Rattle.rules.specs.Fields.{Width, fixed, measured, rest, trees, width_trees}
 use Rattle.rules.specs.Within.{width_has_type}
 use Rattle.texts.specs.HeldNames.{Names}
@@ -19,20 +19,20 @@ use Rattle.texts.specs.StoredTrees.{may_read, type_code, TreeBytes, held, Stored
 use Rattle.texts.specs.HeldParts.{MaybeHeld, WidthHeld}
 use Rattle.texts.specs.HeldRecords.{is_small_as, is_type_as, TestsForm}
 use Rattle.texts.specs.declared.line_parts.Parts.{Parts}
-use Rattle.texts.proofs.StoredSteps.{some-length}
+use Rattle.texts.proofs.StoredSteps.{some_length}
 use Rattle.texts.proofs.TreeTypes.{type_code_lem}
 use Rattle.texts.proofs.FieldParts.{all_join}
 
 -- ── tests ──
 
-pub small-none : (d z : ℕ) → z ≡ 0 → true ≡ is_small_as d z
-small-none d z e = rw (eq-eqb z 0 e) refl
+pub small_none : (d z : ℕ) → z ≡ 0 → true ≡ is_small_as d z
+small_none d z e = rw (eq-eqb z 0 e) refl
 
-pub small-flat : (d z : ℕ) → (z ≡ 0 → ⊥) → d ≤ depth_most → leb z stored_most ≡ is_small_as d z
-small-flat d z e le = rw (ne_eqb z 0 e, le-leb d depth_most le) refl
+pub small_flat : (d z : ℕ) → (z ≡ 0 → ⊥) → d ≤ depth_most → leb z stored_most ≡ is_small_as d z
+small_flat d z e le = rw (ne_eqb z 0 e, le-leb d depth_most le) refl
 
-pub small-deep : (d z : ℕ) → (z ≡ 0 → ⊥) → depth_most < d → false ≡ is_small_as d z
-small-deep d z e lt = rw (ne_eqb z 0 e, lt-leb d depth_most lt) refl
+pub small_deep : (d z : ℕ) → (z ≡ 0 → ⊥) → depth_most < d → false ≡ is_small_as d z
+small_deep d z e lt = rw (ne_eqb z 0 e, lt-leb d depth_most lt) refl
 
 pub type_none : (z gives wanted : ℕ) → z ≡ 0 → true ≡ is_type_as z gives wanted
 type_none z gives wanted e = rw (eq-eqb z 0 e) refl
@@ -41,14 +41,14 @@ pub type_some : (z gives wanted : ℕ) → (z ≡ 0 → ⊥) → eqb gives wante
 type_some z gives wanted e = rw (ne_eqb z 0 e) refl
 
 -- a tree has some length
-held-some : (names : Names) (n : ℕ) (v : Tree (List ℕ)) (t : TreeBytes) → StoredIs names n v t
+held_some : (names : Names) (n : ℕ) (v : Tree (List ℕ)) (t : TreeBytes) → StoredIs names n v t
     → eqb t.len 0 ≡ false
-held-some names n v t h = ne_eqb t.len 0 (λ e. absurd (omega (arith, e, h.len, some-length v)))
+held_some names n v t h = ne_eqb t.len 0 (λ e. absurd (omega (arith, e, h.len, some_length v)))
 
-tree-small : (names : Names) (n : ℕ) (v : Tree (List ℕ)) (t : TreeBytes) → StoredIs names n v t
+tree_small : (names : Names) (n : ℕ) (v : Tree (List ℕ)) (t : TreeBytes) → StoredIs names n v t
     → all is_small (v ∷ []) ≡ is_small_as t.depth t.len
 unfolding all
-tree-small names n v t h = rw (held-some names n v t h, h.deep, h.len) (go (is_small v))
+tree_small names n v t h = rw (held_some names n v t h, h.deep, h.len) (go (is_small v))
   where
     go : (b : Bool) → (b && true) ≡ b
     go true = refl
@@ -57,15 +57,15 @@ tree-small names n v t h = rw (held-some names n v t h, h.deep, h.len) (go (is_s
 maybe_small : (names : Names) (n : ℕ) (o : Option (Tree (List ℕ))) (t : TreeBytes) → MaybeHeld names n o t
     → all is_small (list_of o) ≡ is_small_as t.depth t.len
 unfolding all
-maybe_small names n none t h = small-none t.depth t.len h
-maybe_small names n (some v) t h = tree-small names n v t h
+maybe_small names n none t h = small_none t.depth t.len h
+maybe_small names n (some v) t h = tree_small names n v t h
 
 width_small : (names : Names) (n : ℕ) (v : Width (List ℕ)) (kind bits : ℕ) (t : TreeBytes)
     → WidthHeld names n v kind bits t → all is_small (width_trees v) ≡ is_small_as t.depth t.len
 unfolding all
-width_small names n (fixed m) kind bits t h = small-none t.depth t.len h.2
-width_small names n (measured u v) kind bits t h = tree-small names n v t h.2
-width_small names n rest kind bits t h = small-none t.depth t.len h.2
+width_small names n (fixed m) kind bits t h = small_none t.depth t.len h.2
+width_small names n (measured u v) kind bits t h = tree_small names n v t h.2
+width_small names n rest kind bits t h = small_none t.depth t.len h.2
 
 pub sizes_are : (p : Parts) (r : Bool)
     → r ≡ (is_small_as p.width.depth p.width.len
@@ -82,14 +82,14 @@ maybe_type : (names : Names) (n : ℕ) (o : Option (Tree (List ℕ))) (t : TreeB
     → if_any (has_type (may_read names n) YesNo) o ≡ is_type_as t.len t.gives 2
 unfolding type_code
 maybe_type names n none t h = type_none t.len t.gives 2 h
-maybe_type names n (some v) t h = rw (held-some names n v t h, h.gives) (type_code_lem (may_read names n) YesNo v)
+maybe_type names n (some v) t h = rw (held_some names n v t h, h.gives) (type_code_lem (may_read names n) YesNo v)
 
 width_type : (names : Names) (n : ℕ) (v : Width (List ℕ)) (kind bits : ℕ) (t : TreeBytes)
     → WidthHeld names n v kind bits t → width_has_type (may_read names n) v ≡ is_type_as t.len t.gives 1
 unfolding type_code
 width_type names n (fixed m) kind bits t h = type_none t.len t.gives 1 h.2
 width_type names n (measured u v) kind bits t h =
-    rw (held-some names n v t h.2, h.2.gives) (type_code_lem (may_read names n) Number v)
+    rw (held_some names n v t h.2, h.2.gives) (type_code_lem (may_read names n) Number v)
 width_type names n rest kind bits t h = type_none t.len t.gives 1 h.2
 
 pub types_are : (p : Parts) (r : Bool)
@@ -103,11 +103,11 @@ types_are p r e names n s x b h =
     (maybe_type names n x.condition (held p.condition b.condition) h.condition)))
 
 -- three tests, one behind the other
-first-fails : (x y z : Bool) → x ≡ false → false ≡ (x && (y && z))
-first-fails x y z e = rw e refl
+first_fails : (x y z : Bool) → x ≡ false → false ≡ (x && (y && z))
+first_fails x y z e = rw e refl
 
-second-fails : (x y z : Bool) → x ≡ true → y ≡ false → false ≡ (x && (y && z))
-second-fails x y z e f = rw (e, f) refl
+second_fails : (x y z : Bool) → x ≡ true → y ≡ false → false ≡ (x && (y && z))
+second_fails x y z e f = rw (e, f) refl
 
 last_decides : (x y z r : Bool) → x ≡ true → y ≡ true → r ≡ z → r ≡ (x && (y && z))
 last_decides x y z r e f h = h ∙ rw (e, f) refl
@@ -122,11 +122,11 @@ module _ (p : Parts) where
   abbrev small₃ : Bool
   small₃ = is_small_as p.condition.depth p.condition.len
 
-  pub sizes-first : small₁ ≡ false → TestsForm p (λ names n x. all is_small (trees x)) false
-  sizes-first e = sizes_are p false (first-fails small₁ small₂ small₃ e)
+  pub sizes_first : small₁ ≡ false → TestsForm p (λ names n x. all is_small (trees x)) false
+  sizes_first e = sizes_are p false (first_fails small₁ small₂ small₃ e)
 
-  pub sizes-second : small₁ ≡ true → small₂ ≡ false → TestsForm p (λ names n x. all is_small (trees x)) false
-  sizes-second e f = sizes_are p false (second-fails small₁ small₂ small₃ e f)
+  pub sizes_second : small₁ ≡ true → small₂ ≡ false → TestsForm p (λ names n x. all is_small (trees x)) false
+  sizes_second e f = sizes_are p false (second_fails small₁ small₂ small₃ e f)
 
   pub sizes_last : (r : Bool) → small₁ ≡ true → small₂ ≡ true → r ≡ small₃
       → TestsForm p (λ names n x. all is_small (trees x)) r
@@ -141,11 +141,11 @@ module _ (p : Parts) where
   abbrev type₃ : Bool
   type₃ = is_type_as p.condition.len p.condition.gives 2
 
-  pub types-first : type₁ ≡ false → TestsForm p types_kept false
-  types-first e = types_are p false (first-fails type₁ type₂ type₃ e)
+  pub types_first : type₁ ≡ false → TestsForm p types_kept false
+  types_first e = types_are p false (first_fails type₁ type₂ type₃ e)
 
-  pub types-second : type₁ ≡ true → type₂ ≡ false → TestsForm p types_kept false
-  types-second e f = types_are p false (second-fails type₁ type₂ type₃ e f)
+  pub types_second : type₁ ≡ true → type₂ ≡ false → TestsForm p types_kept false
+  types_second e f = types_are p false (second_fails type₁ type₂ type₃ e f)
 
   pub types_last : (r : Bool) → type₁ ≡ true → type₂ ≡ true → r ≡ type₃ → TestsForm p types_kept r
   types_last r e f h = types_are p r (last_decides type₁ type₂ type₃ r e f h)

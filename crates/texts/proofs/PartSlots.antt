@@ -20,26 +20,26 @@ use Rattle.texts.specs.HeldParts.{WidthHeld, LineBytes, PartsHeld}
 use Rattle.texts.specs.HeldRecords.{is_named_by, is_placed_by, PartShows}
 use Rattle.texts.specs.StoredTrees.{TreeBytes, held}
 use Rattle.texts.specs.declared.line_parts.Parts.{Parts}
-use Rattle.texts.proofs.CellNames.{part, short-is}
+use Rattle.texts.proofs.CellNames.{part, short_is}
 use Rattle.texts.proofs.SlotLaws.{slot_length, slot_long, slot_bits, slot_text}
 
 module _ (name s : List ℕ) (p : Parts) where
-  pub name-label : same name (take (p.label - 0) s) ≡ true → true ≡ is_named_by name s p
-  name-label h = rw (ap (λ (n : ℕ). same name (take n s)) (sym (sub-zero p.label)) ∙ h) refl
+  pub name_label : same name (take (p.label - 0) s) ≡ true → true ≡ is_named_by name s p
+  name_label h = rw (ap (λ (n : ℕ). same name (take n s)) (sym (sub-zero p.label)) ∙ h) refl
 
-  pub name-short : (r : Bool) → same name (take (p.label - 0) s) ≡ false
+  pub name_short : (r : Bool) → same name (take (p.label - 0) s) ≡ false
       → r ≡ same name (take (p.short.at + p.short.len - p.short.at) (drop p.short.at s))
       → r ≡ is_named_by name s p
-  name-short r h e =
+  name_short r h e =
       e ∙ ap (same name) (part p.short.at p.short.len s)
       ∙ sym (rw (ap (λ (n : ℕ). same name (take n s)) (sym (sub-zero p.label)) ∙ h) refl)
 
 module _ (long : Bool) (bits : ℕ) (p : Parts) where
-  pub place-long : (p.kind ≡ 12 → ⊥) → long ≡ is_placed_by long bits p
-  place-long n = rw (ne_eqb p.kind 12 n) refl
+  pub place_long : (p.kind ≡ 12 → ⊥) → long ≡ is_placed_by long bits p
+  place_long n = rw (ne_eqb p.kind 12 n) refl
 
-  pub place-fixed : p.kind ≡ 12 → (not long && eqb bits p.bits) ≡ is_placed_by long bits p
-  place-fixed e = rw (eq-eqb p.kind 12 e) refl
+  pub place_fixed : p.kind ≡ 12 → (not long && eqb bits p.bits) ≡ is_placed_by long bits p
+  place_fixed e = rw (eq-eqb p.kind 12 e) refl
 
 width_is : (names : Names) (n : ℕ) (c : Slot) (v : Width (List ℕ)) (kind b : ℕ) (t : TreeBytes)
     → WidthHeld names n v kind b t
@@ -54,25 +54,25 @@ module _ (cells line : List ℕ) (at end : ℕ) (p : Parts)
     abbrev pub named : Bool
     named = is_named_by (take (end - (at + 3)) (drop (at + 3) cells)) line p
 
-    same-named : (c : Slot) (behind : List ℕ) (names : Names) (n : ℕ) (x : Form) (v : LineBytes)
+    same_named : (c : Slot) (behind : List ℕ) (names : Names) (n : ℕ) (x : Form) (v : LineBytes)
         → drop at cells ≡ stored_slot c ++ behind → is_label c.text ≡ true → PartsHeld names n line x v p
         → named ≡ any (same c.text) (field_names x)
-    same-named c behind names n x v e h o =
+    same_named c behind names n x v e h o =
         let m : end - (at + 3) ≡ length c.text = omega (arith, ends c behind e, slot_length c) in
         ap (λ (k : ℕ). is_named_by (take k (drop (at + 3) cells)) line p) m
         ∙ ap (λ (w : List ℕ). is_named_by w line p) (slot_text cells at c behind e)
         ∙ ap (λ (l : List ℕ). same c.text l || same c.text (span_in line p.short)) o.label
-        ∙ short-is c.text line x.label p.short h x.short o.short
+        ∙ short_is c.text line x.label p.short h x.short o.short
 
     pub part_not : (y : Bool) → y ≡ named → y ≡ false → PartShows cells at line p false
     part_not y e z c behind names n x v d h o =
-        let q : any (same c.text) (field_names x) ≡ false = sym (same-named c behind names n x v d h o) ∙ sym e ∙ z in
+        let q : any (same c.text) (field_names x) ≡ false = sym (same_named c behind names n x v d h o) ∙ sym e ∙ z in
         ap (λ (b : Bool). b && is_place_for c x.width) (sym q)
 
     pub part_yes : (y r : Bool) → y ≡ named → y ≡ true
         → r ≡ is_placed_by (eqb (get_or cells at 0) 1) (get_or cells (at + 1) 0) p → PartShows cells at line p r
     part_yes y r e z f c behind names n x v d h o =
-        let q : any (same c.text) (field_names x) ≡ true = sym (same-named c behind names n x v d h o) ∙ sym e ∙ z in
+        let q : any (same c.text) (field_names x) ≡ true = sym (same_named c behind names n x v d h o) ∙ sym e ∙ z in
         f
         ∙ ap (λ (b : Bool). is_placed_by b (get_or cells (at + 1) 0) p) (slot_long cells at c behind d)
         ∙ ap (λ (k : ℕ). is_placed_by c.long k p) (slot_bits cells at c behind d)

@@ -23,7 +23,7 @@ use Rattle.texts.specs.PartPlaces.{read_behind}
 use Rattle.texts.specs.HeldParts.{whole_parts, WidthHeld, MeasureAs, MeasureFor, EndsFor, LineBytes, PartsFor}
 use Rattle.texts.specs.HeldParts.{BehindFor}
 use Rattle.texts.specs.NameStarts.{start_in}
-use Rattle.texts.proofs.StartLaws.{most-least}
+use Rattle.texts.proofs.StartLaws.{most_least}
 use Rattle.texts.specs.StoredTrees.{reads_as, is_held, look_up, type_of, TreeBytes, held, StoredIs}
 use Rattle.writing.specs.declared.spans.Span.{Span}
 use Rattle.texts.specs.declared.clause_trees.Ends.{Ends}
@@ -33,27 +33,27 @@ use Rattle.texts.specs.declared.labels.Label.{Label}
 use Rattle.texts.specs.declared.labels.Label.TheVariants as label
 use Rattle.texts.specs.declared.labels.Short.{Short}
 use Rattle.texts.specs.declared.labels.Short.TheVariants as short
-use Rattle.texts.proofs.LineRules.{fixed-kind}
-use Rattle.texts.proofs.FieldNames.{literal-at, literal-none}
+use Rattle.texts.proofs.LineRules.{fixed_kind_lem}
+use Rattle.texts.proofs.FieldNames.{literal_at, literal_none}
 use Rattle.texts.proofs.FieldParts.{
-  behind-miss,
+  behind_miss,
   ending,
-  behind-is,
-  line-no-label,
-  line-no-short,
-  line-no_colon,
-  line-behind,
-  label-miss,
-  short-miss,
+  behind_is,
+  line_no_label,
+  line_no_short,
+  line_no_colon,
+  line_behind,
+  label_miss,
+  short_miss,
   LabelAs,
   ShortAs,
 }
 
 -- ── its own names ──
 
-pub short-text : (s : List ℕ) (o : Option (List ℕ)) (p : Span) → ShortIs s o p → span_in s p ≡ stored_name o
-short-text s none p h = rw h refl
-short-text s (some w) p h = h
+pub short_text_lem : (s : List ℕ) (o : Option (List ℕ)) (p : Span) → ShortIs s o p → span_in s p ≡ stored_name o
+short_text_lem s none p h = rw h refl
+short_text_lem s (some w) p h = h
 
 -- those that are put at the index n
 module _ (a : Names) (n : ℕ) (s : List ℕ) (label : ℕ) (name : Span) (kind : ℕ) (b : Names)
@@ -66,8 +66,8 @@ module _ (a : Names) (n : ℕ) (s : List ℕ) (label : ℕ) (name : Span) (kind 
     ap length put.marks ∙ length-set a.marks n _,
   )
 
-  pub own-kept : Kept a n b
-  own-kept = record {
+  pub own_kept : Kept a n b
+  own_kept = record {
     room = λ m h. (omega (arith, long.0, h.0), omega (arith, long.1, h.1), omega (arith, long.2, h.2));
     shorts = λ i lt. ap (λ (l : List (List ℕ)). get_or l i []) put.shorts
         ∙ get_or-set_other a.shorts n i _ [] (λ z. absurd (omega arith));
@@ -83,7 +83,7 @@ module _ (a : Names) (n : ℕ) (s : List ℕ) (label : ℕ) (name : Span) (kind 
   own_held x h p q e = record {
     short = ap (λ (l : List (List ℕ)). get_or l n []) put.shorts
         ∙ get_or-set_same a.shorts n _ [] (omega (arith, long.0, h.0))
-        ∙ ap (pad_to short_most) (short-text s x.short name q);
+        ∙ ap (pad_to short_most) (short_text_lem s x.short name q);
     word = ap (λ (l : List (List ℕ)). get_or l n []) put.words
         ∙ get_or-set_same a.words n _ [] (omega (arith, long.1, h.1)) ∙ ap held_word p;
     mark = ap (λ (l : List ℕ). get_or l n 0) put.marks
@@ -93,8 +93,8 @@ module _ (a : Names) (n : ℕ) (s : List ℕ) (label : ℕ) (name : Span) (kind 
 
 -- ── names that are held alike ──
 
-pub kept-all : (names : Names) (n : ℕ) → Kept names n names
-kept-all names n = record {
+pub kept_all : (names : Names) (n : ℕ) → Kept names n names
+kept_all names n = record {
   room = λ m h. h;
   shorts = λ i lt. refl;
   words = λ i lt. refl;
@@ -111,7 +111,7 @@ module _ (a b : Names) (n : ℕ) (kept : Kept a n b) where
   unfolding look_up
   look_same w =
       let e = (kept.starts (pad_to short_most w)).1 in
-      let le = (most-least n (start_in a.starts (pad_to short_most w))).0 in
+      let le = (most_least n (start_in a.starts (pad_to short_most w))).0 in
       rw e (search_same (is_held a w) (is_held b w) _ _ (λ k p q. reads_same w k (omega (arith, le, q))))
 
   look_is : look_up a n ≡ look_up b n
@@ -125,11 +125,11 @@ module _ (a b : Names) (n : ℕ) (kept : Kept a n b) where
     bytes = λ le. h.bytes le ∙ ap (λ (f : List ℕ → ℕ). stored_tree f v) look_is;
   }
 
-  width-moved : (v : Width (List ℕ)) (kind bits : ℕ) (t : TreeBytes) → WidthHeld a n v kind bits t
+  width_moved : (v : Width (List ℕ)) (kind bits : ℕ) (t : TreeBytes) → WidthHeld a n v kind bits t
       → WidthHeld b n v kind bits t
-  width-moved (fixed m) kind bits t h = h
-  width-moved (measured u v) kind bits t h = (h.0, h.1, stored_moved v t h.2)
-  width-moved rest kind bits t h = h
+  width_moved (fixed m) kind bits t h = h
+  width_moved (measured u v) kind bits t h = (h.0, h.1, stored_moved v t h.2)
+  width_moved rest kind bits t h = h
 
 -- ── behind the names ──
 
@@ -141,37 +141,37 @@ module _ (names : Names) (n : ℕ) (s : List ℕ) (label : ℕ) (name : Span) (a
     unfolding BehindFor
     refused r e k = λ w h i j. rw (k w h) e
 
-    pub behind-none : (r : Parts) (a : Names) (m : Measure) → r.kind ≡ 0
+    pub behind_none : (r : Parts) (a : Names) (m : Measure) → r.kind ≡ 0
         → MeasureFor a n s (read_width (drop at s)) b.width m → m.kind ≡ 0 → BehindFor names n s label name at b r
-    behind-none r a m e x k = refused r e (λ w h. behind-miss w h (drop at s) (x.wrong k))
+    behind_none r a m e x k = refused r e (λ w h. behind_miss w h (drop at s) (x.wrong k))
 
     module _ (a : Names) (m : Measure) (x : MeasureAs a n s (read_width (drop at s)) b.width m) (e : Ends)
         (y : EndsFor names n s m.next b.constraint b.condition e) where
-      pub behind-width : (r : Parts) → r.kind ≡ 0 → e.right ≡ false → BehindFor names n s label name at b r
-      behind-width r z k =
-          refused r z (λ w h. behind-is w h (drop at s) (drop m.next s) x.width x.is_read
+      pub behind_width : (r : Parts) → r.kind ≡ 0 → e.right ≡ false → BehindFor names n s label name at b r
+      behind_width r z k =
+          refused r z (λ w h. behind_is w h (drop at s) (drop m.next s) x.width x.is_read
           ∙ y.wrong k (ending w h x.width))
 
-      pub behind-whole : e.right ≡ true → label ≤ length s → name.at + name.len ≤ length s
+      pub behind_whole : e.right ≡ true → label ≤ length s → name.at + name.len ≤ length s
           → OwnPut a n s label name m.kind names → BehindFor names n s label name at b (whole_parts label name m e)
       unfolding BehindFor
-      behind-whole k i j put = λ w h p q.
+      behind_whole k i j put = λ w h p q.
           let z = y.there k in
-          let kept = own-kept a n s label name m.kind names put in
+          let kept = own_kept a n s label name m.kind names put in
           let f : form_of (read_behind w h (drop at s))
           ≡ some (ending w h x.width z.constraint z.condition) =
-          behind-is w h (drop at s) (drop m.next s) x.width x.is_read ∙ z.is_read (ending w h x.width) in
+          behind_is w h (drop at s) (drop m.next s) x.width x.is_read ∙ z.is_read (ending w h x.width) in
           rw f (record {
             label_fits = i;
             short_fits = j;
             label = p;
             short = q;
-            width = width-moved a names n kept x.width m.kind m.bits (held m.tree b.width) x.stored;
+            width = width_moved a names n kept x.width m.kind m.bits (held m.tree b.width) x.stored;
             constraint = z.first;
             condition = z.second;
             own = λ room. own_held a n s label name m.kind names put
                 (ending w h x.width z.constraint z.condition) room p q
-                (fixed-kind a n x.width m.kind m.bits (held m.tree b.width) x.stored);
+                (fixed_kind_lem a n x.width m.kind m.bits (held m.tree b.width) x.stored);
           })
 
 -- ── the line ──
@@ -180,27 +180,27 @@ module _ (names : Names) (n : ℕ) (s : List ℕ) (v : LineBytes) where
   formless : (r : Parts) → r.kind ≡ 0 → read_form s ≡ none → PartsFor names n s (read_form s) v r
   formless r e k = rw k e
 
-  pub parts-no-label : (r : Parts) {l : Label} → r.kind ≡ 0 → SameLabel s 0 (read_label s) l → l ≡ label.Nothing
+  pub parts_no_label : (r : Parts) {l : Label} → r.kind ≡ 0 → SameLabel s 0 (read_label s) l → l ≡ label.Nothing
       → PartsFor names n s (read_form s) v r
-  parts-no-label r e h o = formless r e (line-no-label s (label-miss s _ (read_label s) h o))
+  parts_no_label r e h o = formless r e (line_no_label s (label_miss s _ (read_label s) h o))
 
   module _ {k : ℕ} (x : LabelAs s k) where
-    pub parts-no-short : (r : Parts) {l : Short} → r.kind ≡ 0 → SameShort s (read_short (drop k s)) l
+    pub parts_no_short : (r : Parts) {l : Short} → r.kind ≡ 0 → SameShort s (read_short (drop k s)) l
         → l ≡ short.Nothing → PartsFor names n s (read_form s) v r
-    parts-no-short r e h o =
-        formless r e (line-no-short s (drop k s) x.text x.is_read (short-miss s _ (read_short (drop k s)) h o))
+    parts_no_short r e h o =
+        formless r e (line_no_short s (drop k s) x.text x.is_read (short_miss s _ (read_short (drop k s)) h o))
 
     module _ {a b m : ℕ} (y : ShortAs s k a b m) (le : m ≤ length s) where
-      pub parts-no_colon : (r : Parts) → r.kind ≡ 0 → begins (bytes ": ") (drop m s) ≡ false
+      pub parts_no_colon : (r : Parts) → r.kind ≡ 0 → begins (bytes ": ") (drop m s) ≡ false
           → PartsFor names n s (read_form s) v r
-      parts-no_colon r e o =
-          formless r e (line-no_colon s (drop k s) (drop m s) x.text y.text x.is_read y.is_read
-          (literal-none (bytes ": ") (drop m s) o))
+      parts_no_colon r e o =
+          formless r e (line_no_colon s (drop k s) (drop m s) x.text y.text x.is_read y.is_read
+          (literal_none (bytes ": ") (drop m s) o))
 
-      pub parts-behind : (r : Parts) → begins (bytes ": ") (drop m s) ≡ true
+      pub parts_behind : (r : Parts) → begins (bytes ": ") (drop m s) ≡ true
           → BehindFor names n s k (span_of a (b - a)) (m + 2) v r → PartsFor names n s (read_form s) v r
       unfolding BehindFor
-      parts-behind r o h =
-          rw (line-behind s (drop k s) (drop m s) (drop (m + 2) s) x.text y.text x.is_read y.is_read
-          (literal-at (bytes ": ") s m le o).1)
+      parts_behind r o h =
+          rw (line_behind s (drop k s) (drop m s) (drop (m + 2) s) x.text y.text x.is_read y.is_read
+          (literal_at (bytes ": ") s m le o).1)
           (h x.text y.text x.is_text y.is_text)

@@ -10,14 +10,14 @@ use Rattle.rules.specs.Limits.{text_most, line_most}
 use Rattle.rules.specs.Frames.{is_line}
 use Rattle.rules.specs.Names.{is_printable}
 use Rattle.text_laws.specs.Fold as fold
-use Rattle.text_laws.proofs.FedRuns.{fed-run}
+use Rattle.text_laws.proofs.FedRuns.{fed_run}
 use Rattle.texts.specs.StateNumbers.{state_room}
 use Rattle.texts.specs.PieceStates.{StateHolds, KeptIn, SameAround}
 
 -- what holds k holds all that is alike
-pub holds-alike : (a b : fold.Kept) (s : List ℕ) → fold.Alike a b → a.size ≡ b.size → is_line a.line ≡ true
+pub holds_alike : (a b : fold.Kept) (s : List ℕ) → fold.Alike a b → a.size ≡ b.size → is_line a.line ≡ true
     → length a.line ≤ line_most → StateHolds b s → StateHolds a s
-holds-alike a b s same size free short h = record {
+holds_alike a b s same size free short h = record {
   fits = (h.fits.0, (let n = h.fits.1 in omega (arith, n, size)));
   used = h.used;
   free = free;
@@ -29,13 +29,13 @@ holds-alike a b s same size free short h = record {
 }
 
 -- bytes that end no line make alike of what is alike, however many came before
-pub run-alike : (a b : fold.Kept) (p : List ℕ) → all is_printable p ≡ true → a.size + length p ≤ text_most
+pub run_alike : (a b : fold.Kept) (p : List ℕ) → all is_printable p ≡ true → a.size + length p ≤ text_most
     → b.size + length p ≤ text_most → length b.line ≤ line_most → a.line ≡ b.line → a.found ≡ b.found
     → fold.Alike (foldl fold.fed a p) (foldl fold.fed b p)
-run-alike a b p plain m n short l f =
+run_alike a b p plain m n short l f =
     let long = ap length l in
-    let x = fed-run p a plain m (omega (arith, short, long)) in
-    let y = fed-run p b plain n short in
+    let x = fed_run p a plain m (omega (arith, short, long)) in
+    let y = fed_run p b plain n short in
     record {
       found = ap (λ (k : fold.Kept). k.found) x
           ∙ ap₂ {C = fold.Found} (λ (g : fold.Found) (u : List ℕ). fold.unended g (u ++ p)) f l

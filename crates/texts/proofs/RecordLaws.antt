@@ -6,24 +6,24 @@ use native.Mathlib.Omega.{arith}
 use lib.ListN.{length}
 use Rattle.writing.specs.Writes.{Writes}
 use Rattle.writing.specs.Puts.{placed, put}
-use Rattle.writing.proofs.PutLaws.{put-writes}
+use Rattle.writing.proofs.PutLaws.{put_writes}
 use Rattle.rules.specs.Trees.{le2}
 use Rattle.rules.specs.Stored.{counted}
-use Rattle.texts.proofs.RecordSizes.{two-length, counted-length}
+use Rattle.texts.proofs.RecordSizes.{two_length, counted_length}
 
 -- ── two bytes, and counted ones ──
 
 module _ {a b : List ℕ} {at next : ℕ} where
   -- what was put where there is room
-  pub two-writes : (n : ℕ) → at + 2 ≤ length a → placed next b ≡ put a at (le2 n) → Writes a at (le2 n) b next
-  two-writes n h e = put-writes (omega (arith, two-length n)) e
+  pub two_writes : (n : ℕ) → at + 2 ≤ length a → placed next b ≡ put a at (le2 n) → Writes a at (le2 n) b next
+  two_writes n h e = put_writes (omega (arith, two_length n)) e
 
-  pub counted-writes : (s : List ℕ) → at + (2 + length s) ≤ length a → placed next b ≡ put a at (counted s)
+  pub counted_writes : (s : List ℕ) → at + (2 + length s) ≤ length a → placed next b ≡ put a at (counted s)
       → Writes a at (counted s) b next
-  counted-writes s h e = put-writes (omega (arith, counted-length s)) e
+  counted_writes s h e = put_writes (omega (arith, counted_length s)) e
 
-  pub two-end : (n : ℕ) → Writes a at (le2 n) b next → next ≡ at + 2
-  two-end n w = omega (arith, w.end, two-length n)
+  pub two_end : (n : ℕ) → Writes a at (le2 n) b next → next ≡ at + 2
+  two_end n w = omega (arith, w.end, two_length n)
 
-  pub counted-end : (s : List ℕ) → Writes a at (counted s) b next → next ≡ at + (2 + length s)
-  counted-end s w = omega (arith, w.end, counted-length s)
+  pub counted_end : (s : List ℕ) → Writes a at (counted s) b next → next ≡ at + (2 + length s)
+  counted_end s w = omega (arith, w.end, counted_length s)

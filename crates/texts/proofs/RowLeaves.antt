@@ -10,7 +10,7 @@ use lib.ListN.{length, take, drop, length-drop, drop_of_length-le, take-append-d
 use lib.Seq.{length-take-le}
 use borrow.Author.Tests.{eqb-true, eqb-false, eq-eqb}
 use Rattle.base.specs.Lists.{all, is_empty, joined}
-use Rattle.base.proofs.Lists.{and_left, and_right, and_both, all-front, all_back}
+use Rattle.base.proofs.Lists.{and_left, and_right, and_both, all_front, all_back}
 use Rattle.base.proofs.Lookups.{test_eq}
 use Rattle.rules.specs.Limits.{row_lines_most}
 use Rattle.rules.specs.Rows.{Row, long_row, is_fitted, is_drawn_row}
@@ -18,14 +18,14 @@ use Rattle.rules.specs.Frames.{is_line}
 use Rattle.text_laws.specs.FrameReader.{on_first, pieces, rest, bits_of, keep_row, long_of}
 use Rattle.text_laws.proofs.SplitLaws.{is_free, ended_by, split_joined, pieces_are_free}
 use Rattle.texts.specs.FramePlaces.{up_to, is_some}
-use Rattle.texts.proofs.FrameLeaves.{pieces-first, pieces_none}
+use Rattle.texts.proofs.FrameLeaves.{pieces_first, pieces_none}
 
 -- ── a part of a line ──
 
-pub rest-first : (e : ℕ) (s : List ℕ) → up_to e s < length s → rest e s ≡ rest e (drop (suc (up_to e s)) s)
+pub rest_first : (e : ℕ) (s : List ℕ) → up_to e s < length s → rest e s ≡ rest e (drop (suc (up_to e s)) s)
 unfolding pieces rest on_first up_to
-rest-first e [] lt = absurd (omega arith)
-rest-first e (b ∷ s) lt = go (eqb b e) (rest-first e s) (pieces-first e s) lt
+rest_first e [] lt = absurd (omega arith)
+rest_first e (b ∷ s) lt = go (eqb b e) (rest_first e s) (pieces_first e s) lt
   where
     go : (x : Bool)
         → (up_to e s < length s → rest e s ≡ rest e (drop (suc (up_to e s)) s))
@@ -39,7 +39,7 @@ rest-first e (b ∷ s) lt = go (eqb b e) (rest-first e s) (pieces-first e s) lt
 -- a part of a line is a line
 pub line_part : (l : List ℕ) (a n : ℕ) → is_line l ≡ true → is_line (take n (drop a l)) ≡ true
 line_part l a n h =
-    all-front (λ b. not (eqb b 10)) (take n (drop a l)) (drop n (drop a l))
+    all_front (λ b. not (eqb b 10)) (take n (drop a l)) (drop n (drop a l))
     (rw (take-append-drop n (drop a l))
     (all_back (λ b. not (eqb b 10)) (take a l) (drop a l) (rw (take-append-drop a l) h)))
 
@@ -84,21 +84,21 @@ long_other w l le n = go (eqb (up_to 58 l) (length l)) refl
     go false e =
         let lt : up_to 58 l < length l = omega (arith, le, eqb-false (up_to 58 l) (length l) e) in
         let t : List ℕ = drop (suc (up_to 58 l)) l in
-        rw (pieces-first 58 l lt, rest-first 58 l lt)
+        rw (pieces_first 58 l lt, rest_first 58 l lt)
         (behind t (take (up_to 58 l) l) (pieces 58 t) refl (omega (arith, lt, n, length-drop (suc (up_to 58 l)) l)))
 
 -- the colon is the last byte: the length decides
-long-one : (w : ℕ) (l : List ℕ) → is_line l ≡ true → length l - up_to 58 l ≡ 1 → eqb (length l) (2 * w) ≡ is_long w l
+long_one_lem : (w : ℕ) (l : List ℕ) → is_line l ≡ true → length l - up_to 58 l ≡ 1 → eqb (length l) (2 * w) ≡ is_long w l
 unfolding long_of pieces rest all
-long-one w l i e =
+long_one_lem w l i e =
     let lt : up_to 58 l < length l = omega arith in
     let p : List ℕ = take (up_to 58 l) l in
     let n : length p ≡ up_to 58 l = length-take-le (up_to 58 l) l (omega arith) in
     let t : drop (suc (up_to 58 l)) l ≡ [] = drop_of_length-le l {i = suc (up_to 58 l)} (omega arith) in
     let f : is_free 58 p ≡ true =
     and_left (is_free 58 p) _
-    (subst (λ (ps : List (List ℕ)). all (is_free 58) ps ≡ true) (pieces-first 58 l lt) (pieces_are_free 58 l)) in
-    rw (pieces-first 58 l lt, rest-first 58 l lt, t)
+    (subst (λ (ps : List (List ℕ)). all (is_free 58) ps ≡ true) (pieces_first 58 l lt) (pieces_are_free 58 l)) in
+    rw (pieces_first 58 l lt, rest_first 58 l lt, t)
     (fits p (omega (arith, n, e))
     ∙ sym (ap (λ (x : Bool). eqb (bits_of p) w && x)
     (fitted_by_length 58 (bits_of p) p f (line_part l 0 (up_to 58 l) i)))
@@ -118,8 +118,8 @@ long-one w l i e =
         eq-eqb (length l) (2 * w) (omega (arith, k, m, n)))
 
 module _ (w : ℕ) (l : List ℕ) (e : ℕ) (h : e ≡ 0 + up_to 58 l) where
-  pub long-end : e ≤ length l → (length l - e ≡ 1 → ⊥) → false ≡ is_long w l
-  long-end le ne = long_other w l (omega (arith, le, h)) (λ k. ne (omega (arith, k, h)))
+  pub long_end : e ≤ length l → (length l - e ≡ 1 → ⊥) → false ≡ is_long w l
+  long_end le ne = long_other w l (omega (arith, le, h)) (λ k. ne (omega (arith, k, h)))
 
-  pub long-size : is_line l ≡ true → length l - e ≡ 1 → eqb (length l) (2 * w) ≡ is_long w l
-  long-size i d = long-one w l i (omega (arith, d, h))
+  pub long_size : is_line l ≡ true → length l - e ≡ 1 → eqb (length l) (2 * w) ≡ is_long w l
+  long_size i d = long_one_lem w l i (omega (arith, d, h))

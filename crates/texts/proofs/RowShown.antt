@@ -16,8 +16,8 @@ use Rattle.rules.specs.Rows.{Cell, cell_text, Row, bit_row, long_row, bar_line, 
 use Rattle.rules.specs.Rows.{first, others, columns, row_cells, is_labelled, is_long}
 use Rattle.rules.specs.Frames.{Slot, slots_in}
 use Rattle.text_laws.specs.FrameReader.{pieces, rest}
-use Rattle.text_laws.proofs.SplitLaws.{ended_by, pieces-joined, rest-joined, pieces-cons, rest-cons}
-use Rattle.text_laws.proofs.RowReader.{fitted_free, fitted_bits, strips_free, drawn-sum, drawn_tall, drawn_fitted}
+use Rattle.text_laws.proofs.SplitLaws.{ended_by, pieces_joined, rest_joined, pieces_cons, rest_cons}
+use Rattle.text_laws.proofs.RowReader.{fitted_free, fitted_bits, strips_free, drawn_sum, drawn_tall, drawn_fitted}
 use Rattle.texts.specs.RowPlaces.{strips_at, slots_from, slots_at}
 use Rattle.texts.specs.Slots.{are_labels}
 
@@ -76,11 +76,11 @@ strips_first row size (suc n) =
     let s : List ℕ = take size (drop (65 * suc n + 0) row) in
     (w.0 ++ (s ∷ []), ap (λ (m : List (List ℕ)). m ++ (s ∷ [])) w.1)
 
-head-line : (row : List ℕ) (size n : ℕ) (l : List ℕ) (ls : List (List ℕ)) → strips_at row 0 size n ≡ l ∷ ls
+head_line : (row : List ℕ) (size n : ℕ) (l : List ℕ) (ls : List (List ℕ)) → strips_at row 0 size n ≡ l ∷ ls
     → take size row ≡ l
-head-line row size zero l ls e =
+head_line row size zero l ls e =
     absurd (omega (arith, ap length e, strips_length row 0 size 0))
-head-line row size (suc n) l ls e = ap first (sym (strips_first row size n).1 ∙ e)
+head_line row size (suc n) l ls e = ap first (sym (strips_first row size n).1 ∙ e)
 
 bar_of : (row : List ℕ) (w b : ℕ) (l : List ℕ) → take (2 * w + 1) row ≡ b ∷ l → get_or row 0 0 ≡ b
 bar_of row w b l e =
@@ -125,15 +125,15 @@ module _ (row : List ℕ) (n most : ℕ) where
   strips_behind a size le =
       strips_part row a size most n le ∙ sym (map-map (take size) (drop a) (strips_at row 0 most n))
 
-  bits-from : (bits : List ℕ) (a : ℕ) (l : List (List ℕ)) (ls : List (List (List ℕ)))
+  bits_from : (bits : List ℕ) (a : ℕ) (l : List (List ℕ)) (ls : List (List (List ℕ)))
       → all (are_fitted bits) (l ∷ ls) ≡ true → a + 2 * sum (λ k. k) bits ≤ most
       → behind a ≡ map (joined (ended_by 124)) (l ∷ ls)
       → slots_from false row n a l ≡ map (shown false) (columns bits (l ∷ ls))
   unfolding all are_fitted slots_from columns sum
-  bits-from [] a [] ls f le e = refl
-  bits-from [] a (s ∷ ss) ls f le e = absurd (let y : ◌≡◌ {A = ℕ} 0 1 = cc in omega arith)
-  bits-from (m ∷ bits) a [] ls f le e = absurd (let y : ◌≡◌ {A = ℕ} 0 1 = cc in omega arith)
-  bits-from (m ∷ bits) a (s ∷ ss) ls f le e =
+  bits_from [] a [] ls f le e = refl
+  bits_from [] a (s ∷ ss) ls f le e = absurd (let y : ◌≡◌ {A = ℕ} 0 1 = cc in omega arith)
+  bits_from (m ∷ bits) a [] ls f le e = absurd (let y : ◌≡◌ {A = ℕ} 0 1 = cc in omega arith)
+  bits_from (m ∷ bits) a (s ∷ ss) ls f le e =
       let g = and_left (is_fitted 124 m s) (are_fitted bits ss)
       (and_left (is_fitted 124 m s && are_fitted bits ss) (all (are_fitted (m ∷ bits)) ls) f) in
       let k = fitted_length 124 m s g in
@@ -145,7 +145,7 @@ module _ (row : List ℕ) (n most : ℕ) where
       ∙ dropped (suc (length s)) a (strips_at row 0 most n))
       ∙ ap (map (drop (suc (length s)))) e ∙ r.1 in
       let b : (length s + 1) / 2 ≡ m = fitted_bits 124 m s g in
-      rw (b, here, bits-from bits (a + suc (length s)) ss (map others ls) r.2 (omega (arith, k, le)) there) refl
+      rw (b, here, bits_from bits (a + suc (length s)) ss (map others ls) r.2 (omega (arith, k, le)) there) refl
     where
       dropped : (j a : ℕ) (ls : List (List ℕ)) → map (λ l. drop j (drop a l)) ls ≡ map (drop (a + j)) ls
       dropped j a [] = refl
@@ -166,28 +166,28 @@ by_parts row n w x b l ss e p q s = record {
   is_ended = rw (bar_of row w b l e, e, q) refl;
 }
 
-bits-both : (row : List ℕ) (n w : ℕ) (bits : List ℕ) (lines : List (List (List ℕ)))
+bits_both : (row : List ℕ) (n w : ℕ) (bits : List ℕ) (lines : List (List (List ℕ)))
     → is_drawn_row row_lines_most w (bit_row bits lines) ≡ true
     → strips_at row 0 (2 * w + 1) n ≡ map bar_line lines → Both row n w (bit_row bits lines)
 unfolding all pieces rest
-bits-both row n w bits [] h e =
+bits_both row n w bits [] h e =
     absurd (omega (arith, (between_true 1 0 row_lines_most (drawn_tall w bits [] h)).0))
-bits-both row n w bits (l ∷ ls) h e =
+bits_both row n w bits (l ∷ ls) h e =
     let f = drawn_fitted w bits (l ∷ ls) h in
     let g = strips_free bits l (and_left (are_fitted bits l) (all (are_fitted bits) ls) f) in
     let j : List ℕ = joined (ended_by 124) l in
-    let k = eqb-true (sum (λ n. n) bits) w (drawn-sum w bits (l ∷ ls) h) in
-    let p : pieces 124 j ≡ l = ap (pieces 124) (sym (append-nil j)) ∙ pieces-joined 124 l [] g ∙ append-nil l in
-    let q : rest 124 j ≡ [] = ap (rest 124) (sym (append-nil j)) ∙ rest-joined 124 l [] g in
+    let k = eqb-true (sum (λ n. n) bits) w (drawn_sum w bits (l ∷ ls) h) in
+    let p : pieces 124 j ≡ l = ap (pieces 124) (sym (append-nil j)) ∙ pieces_joined 124 l [] g ∙ append-nil l in
+    let q : rest 124 j ≡ [] = ap (rest 124) (sym (append-nil j)) ∙ rest_joined 124 l [] g in
     by_parts row n w (bit_row bits (l ∷ ls)) 124 j l
-    (head-line row (2 * w + 1) n (bar_line l) (map bar_line ls) e) p q
-    (bits-from row n (2 * w + 1) bits 1 l ls f (omega (arith, k))
+    (head_line row (2 * w + 1) n (bar_line l) (map bar_line ls) e) p q
+    (bits_from row n (2 * w + 1) bits 1 l ls f (omega (arith, k))
     (ap (map (drop 1)) e ∙ map-map (drop 1) bar_line (l ∷ ls)))
 
-long-both : (row : List ℕ) (n w bits : ℕ) (s : List ℕ) → is_drawn_row row_lines_most w (long_row bits s) ≡ true
+long_both : (row : List ℕ) (n w bits : ℕ) (s : List ℕ) → is_drawn_row row_lines_most w (long_row bits s) ≡ true
     → strips_at row 0 (2 * w + 1) n ≡ (58 ∷ (s ++ (58 ∷ []))) ∷ [] → Both row n w (long_row bits s)
 unfolding pieces rest slots_from
-long-both row n w bits s h e =
+long_both row n w bits s h e =
     let f = and_right (eqb bits w) (is_fitted 58 bits s) h in
     let g = fitted_free 58 bits s f in
     let k = eqb-true bits w (and_left (eqb bits w) (is_fitted 58 bits s) h) in
@@ -197,14 +197,14 @@ long-both row n w bits s h e =
     ∙ ap (map (λ l. take (length s) (drop 1 l))) e
     ∙ ap {B = List (List ℕ)} (λ l. l ∷ []) (take_at s (58 ∷ []) (length s) refl) in
     by_parts row n w (long_row bits s) 58 (s ++ (58 ∷ [])) (s ∷ [])
-    (head-line row (2 * w + 1) n (58 ∷ (s ++ (58 ∷ []))) [] e)
-    (pieces-cons 58 s [] g) (rest-cons 58 s [] g) (rw (b, strips) refl)
+    (head_line row (2 * w + 1) n (58 ∷ (s ++ (58 ∷ []))) [] e)
+    (pieces_cons 58 s [] g) (rest_cons 58 s [] g) (rw (b, strips) refl)
 
-row-both : (row : List ℕ) (n w : ℕ) (x : Row) → is_drawn_row row_lines_most w x ≡ true
+row_both : (row : List ℕ) (n w : ℕ) (x : Row) → is_drawn_row row_lines_most w x ≡ true
     → strips_at row 0 (2 * w + 1) n ≡ row_lines x → Both row n w x
 unfolding row_lines
-row-both row n w (bit_row bits lines) h e = bits-both row n w bits lines h e
-row-both row n w (long_row bits s) h e = long-both row n w bits s h e
+row_both row n w (bit_row bits lines) h e = bits_both row n w bits lines h e
+row_both row n w (long_row bits s) h e = long_both row n w bits s h e
 
 all_map : {A B : Type 0} (p : B → Bool) (f : A → B) (l : List A) → all p (map f l) ≡ all (λ x. p (f x)) l
 unfolding all
@@ -215,11 +215,11 @@ module _ (row : List ℕ) (n w : ℕ) (x : Row) (drawn : is_drawn_row row_lines_
     (kept : strips_at row 0 (2 * w + 1) n ≡ row_lines x)
   where
     -- the cells between the bars of the first kept line are those of the row
-    pub row-shown : slots_at row n (2 * w + 1) 1 ≡ slots_in x
-    row-shown = (row-both row n w x drawn kept).cells
+    pub row_shown : slots_at row n (2 * w + 1) 1 ≡ slots_in x
+    row_shown = (row_both row n w x drawn kept).cells
 
     -- and they are labels just if those are
-    pub row-labels_like : are_labels row n (2 * w + 1) ≡ is_labelled x
-    row-labels_like =
-        let b = row-both row n w x drawn kept in
+    pub row_labels_like : are_labels row n (2 * w + 1) ≡ is_labelled x
+    row_labels_like =
+        let b = row_both row n w x drawn kept in
         rw (b.is_ended, b.cells) (all_map (λ c. is_label c.text) (shown (is_long x)) (row_cells x))

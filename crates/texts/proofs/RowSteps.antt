@@ -10,8 +10,8 @@ use lib.ListN.{length, take, drop, get_or, length-append}
 use borrow.Author.Tests.{leb-true, lt-ltb, le-ltb, ltb-false}
 use Rattle.base.specs.Lists.{all, is_empty, joined}
 use Rattle.writing.specs.Writes.{Writes}
-use Rattle.base.proofs.Joined.{joined-append}
-use Rattle.base.proofs.Lists.{and_left, and_right, not-both}
+use Rattle.base.proofs.Joined.{joined_append}
+use Rattle.base.proofs.Lists.{and_left, and_right, not_both}
 use Rattle.rules.specs.Limits.{fields_most, label_most, row_lines_most}
 use Rattle.rules.specs.Answers.{refused}
 use Rattle.rules.specs.Names.{is_label}
@@ -32,15 +32,15 @@ use Rattle.texts.specs.States.{Room, Area, Holds}
 use Rattle.texts.specs.declared.states.Stage.TheVariants as at
 use Rattle.texts.specs.declared.states.Reading.{Reading}
 use Rattle.texts.proofs.SlotLaws.{slot_length}
-use Rattle.texts.proofs.SlotRows.{writes-keep}
+use Rattle.texts.proofs.SlotRows.{writes_keep}
 use Rattle.texts.proofs.HeadSteps.{room_row}
-use Rattle.texts.proofs.StateSteps.{room-changed, records-kept, next-line}
+use Rattle.texts.proofs.StateSteps.{room_changed, records_kept, next_line}
 
 -- ── how long stored cells are ──
 
-pub label-most : (w : List ℕ) → is_label w ≡ true → length w ≤ label_most
+pub label_most_lem : (w : List ℕ) → is_label w ≡ true → length w ≤ label_most
 unfolding is_label
-label-most w h = leb-true (length w) label_most (and_left (leb (length w) label_most) _ h)
+label_most_lem w h = leb-true (length w) label_most (and_left (leb (length w) label_most) _ h)
 
 pub slots_length : (cs : List Slot) → all (λ c. is_label c.text) cs ≡ true
     → length (joined stored_slot cs) ≤ slot_most * length cs
@@ -49,7 +49,7 @@ slots_length [] h = omega arith
 slots_length (c ∷ cs) h =
     let e = length-append (stored_slot c) (joined stored_slot cs) in
     let k = slot_length c in
-    let m = label-most c.text (and_left (is_label c.text) _ h) in
+    let m = label_most_lem c.text (and_left (is_label c.text) _ h) in
     let n = slots_length cs (and_right (is_label c.text) _ h) in
     omega (arith, e, k, m, n)
 
@@ -70,12 +70,12 @@ is_put (rowed.Put next n) = true
 module _ (row : List ℕ) (n size : ℕ) (before after : List ℕ) (at : ℕ) (q : Rowed)
     (h : RowedAs row n size before at after q) where
   -- a cell that is no label
-  pub row-wrong : q ≡ rowed.Wrong → (are_labels row n size ≡ false) × (take at after ≡ take at before)
-  row-wrong e = go (are_labels row n size) refl h
+  pub row_wrong : q ≡ rowed.Wrong → (are_labels row n size ≡ false) × (take at after ≡ take at before)
+  row_wrong e = go (are_labels row n size) refl h
     where
       go : (b : Bool) → are_labels row n size ≡ b → RowedBy b before at (slots_at row n size 1) after q
           → (b ≡ false) × (take at after ≡ take at before)
-      go true k p = absurd (not-both true refl (ap is_put (sym p.answer ∙ e)))
+      go true k p = absurd (not_both true refl (ap is_put (sym p.answer ∙ e)))
       go false k p = (refl, p.1)
 
   pub record RowPut (next count : ℕ) : Type 0 where
@@ -88,7 +88,7 @@ module _ (row : List ℕ) (n size : ℕ) (before after : List ℕ) (at : ℕ) (q
     where
       go : (b : Bool) → are_labels row n size ≡ b → RowedBy b before at (slots_at row n size 1) after q
           → RowPut next count
-      go false k p = absurd (not-both true refl (ap is_put (sym e ∙ p.0)))
+      go false k p = absurd (not_both true refl (ap is_put (sym e ∙ p.0)))
       go true k p =
           let i : p.next ≡ next = ap next_of (sym p.answer ∙ e) in
           record {
@@ -98,17 +98,17 @@ module _ (row : List ℕ) (n size : ℕ) (before after : List ℕ) (at : ℕ) (q
                 p.writes;
           }
 
-pub labels-all : (row : List ℕ) (n size : ℕ) → are_labels row n size ≡ true
+pub labels_all : (row : List ℕ) (n size : ℕ) → are_labels row n size ≡ true
     → all (λ c. is_label c.text) (slots_at row n size 1) ≡ true
-labels-all row n size h = and_right (is_empty (rest (get_or row 0 0) (drop 1 (take size row)))) _ h
+labels_all row n size h = and_right (is_empty (rest (get_or row 0 0) (drop 1 (take size row)))) _ h
 
 -- ── what is held ──
 
 -- nothing that is held stands behind the kept cells
-pub holds-front : (f : fold.Found) (r : Reading) {cells after : List ℕ} {table : Area} {labels : List (List ℕ)}
+pub holds_front : (f : fold.Found) (r : Reading) {cells after : List ℕ} {table : Area} {labels : List (List ℕ)}
     {names : Names} → take r.slots after ≡ take r.slots cells → Holds f r cells table labels names
     → Holds f r after table labels names
-holds-front f r e h = record {
+holds_front f r e h = record {
   counts = h.counts;
   slots = record { stored = e ∙ h.slots.stored; end = h.slots.end; next = h.slots.next };
   records = h.records;
@@ -116,12 +116,12 @@ holds-front f r e h = record {
 }
 
 -- a line of a row that is kept
-pub holds-line : (f : fold.Found) (r : Reading) {cells : List ℕ} {table : Area} {labels : List (List ℕ)}
+pub holds_line : (f : fold.Found) (r : Reading) {cells : List ℕ} {table : Area} {labels : List (List ℕ)}
     {names : Names} → Holds f r cells table labels names → (x : Row) (n : ℕ) → n ≡ length (row_lines x)
     → Holds (fold.with_line f x) (changed (with_lines r n) (r.lines + 1) at.InRow r.note) cells table labels names
-holds-line f r h x n e = record {
+holds_line f r h x n e = record {
   counts = record {
-    lines = next-line f r h;
+    lines = next_line f r h;
     stage = refl;
     width = h.counts.width;
     name = h.counts.name;
@@ -133,7 +133,7 @@ holds-line f r h x n e = record {
     lowest = h.counts.lowest;
   };
   slots = record { stored = h.slots.stored; end = h.slots.end; next = h.slots.next };
-  records = records-kept h.records h.records.stands refl refl;
+  records = records_kept h.records h.records.stands refl refl;
   named = h.named;
 }
 
@@ -148,19 +148,19 @@ module _ (f : fold.Found) (r : Reading) {cells after : List ℕ} {table : Area} 
       ∙ ap (λ (l : List (Field ℕ)). length (joined stored_slot (take (length l) f.cells))) none_yet
       ∙ ap (λ (l : List (Field ℕ)). length (joined stored_slot (take (length l) cs))) (sym none_yet)
 
-  pub holds-few : (count : ℕ) → count ≡ length (slots_in row) → length f.cells + length (slots_in row) ≤ fields_most
+  pub holds_few : (count : ℕ) → count ≡ length (slots_in row) → length f.cells + length (slots_in row) ≤ fields_most
       → Holds (fold.with_cells f (f.cells ++ slots_in row))
       (changed (with_head (with_lines r 0) r.width r.name r.end (r.cells + count) next) (r.lines + 1)
       at.RowOrBlank r.note) after table labels names
-  holds-few count is few =
+  holds_few count is few =
       let n : length (f.cells ++ slots_in row) ≡ length f.cells + length (slots_in row) =
       length-append f.cells (slots_in row) in
       let b : ltb fields_most (length (f.cells ++ slots_in row)) ≡ false =
       le-ltb fields_most (length (f.cells ++ slots_in row)) (omega (arith, n, few)) in
-      let j = joined-append stored_slot f.cells (slots_in row) in
+      let j = joined_append stored_slot f.cells (slots_in row) in
       rw b (record {
         counts = record {
-          lines = next-line f r h;
+          lines = next_line f r h;
           stage = refl;
           width = h.counts.width;
           name = h.counts.name;
@@ -178,23 +178,23 @@ module _ (f : fold.Found) (r : Reading) {cells after : List ℕ} {table : Area} 
               omega (arith, writes.end, e, q, m));
           next = first_cell (f.cells ++ slots_in row);
         };
-        records = records-kept h.records h.records.stands refl refl;
+        records = records_kept h.records h.records.stands refl refl;
         named = h.named;
       })
 
   -- 4
-  pub holds-over : fields_most < length f.cells + length (slots_in row) → r.slots ≤ length cells
+  pub holds_over : fields_most < length f.cells + length (slots_in row) → r.slots ≤ length cells
       → Holds (fold.with_cells f (f.cells ++ slots_in row))
       (changed (with_lines r 0) (r.lines + 1) at.RowOrBlank (note 4 0)) after table labels names
   unfolding note_of
-  holds-over over le =
+  holds_over over le =
       let n : length (f.cells ++ slots_in row) ≡ length f.cells + length (slots_in row) =
       length-append f.cells (slots_in row) in
       let b : ltb fields_most (length (f.cells ++ slots_in row)) ≡ true =
       lt-ltb fields_most (length (f.cells ++ slots_in row)) (omega (arith, n, over)) in
       rw b (record {
         counts = record {
-          lines = next-line f r h;
+          lines = next_line f r h;
           stage = refl;
           width = h.counts.width;
           name = h.counts.name;
@@ -206,11 +206,11 @@ module _ (f : fold.Found) (r : Reading) {cells after : List ℕ} {table : Area} 
           lowest = refl;
         };
         slots = record {
-          stored = writes-keep le writes ∙ h.slots.stored;
+          stored = writes_keep le writes ∙ h.slots.stored;
           end = h.slots.end;
           next = h.slots.next;
         };
-        records = records-kept h.records (record {
+        records = records_kept h.records (record {
           seen = h.records.stands.seen;
           exact = λ e. absurd (none-ne-some (refused 4 0) (sym e));
         }) refl refl;
@@ -220,20 +220,20 @@ module _ (f : fold.Found) (r : Reading) {cells after : List ℕ} {table : Area} 
 -- ── the row's end ──
 
 module _ (r : Reading) (next n : ℕ) where
-  pub ended-over : fields_most - r.cells < n
+  pub ended_over : fields_most - r.cells < n
       → row_ended r next n ≡ changed (with_lines r 0) (r.lines + 1) at.RowOrBlank (note 4 0)
-  ended-over lt = rw (lt-ltb (fields_most - r.cells) n lt) refl
+  ended_over lt = rw (lt-ltb (fields_most - r.cells) n lt) refl
 
-  pub ended-few : n ≤ fields_most - r.cells
+  pub ended_few : n ≤ fields_most - r.cells
       → row_ended r next n
       ≡ changed (with_head (with_lines r 0) r.width r.name r.end (r.cells + n) next) (r.lines + 1)
       at.RowOrBlank r.note
-  ended-few le = rw (le-ltb (fields_most - r.cells) n le) refl
+  ended_few le = rw (le-ltb (fields_most - r.cells) n le) refl
 
 -- ── safe ──
 
-room-lines : (r : Reading) (n : ℕ) → Room r → n ≤ row_lines_most → Room (with_lines r n)
-room-lines r n h le = record {
+room_lines : (r : Reading) (n : ℕ) → Room r → n ≤ row_lines_most → Room (with_lines r n)
+room_lines r n h le = record {
   width = h.width;
   name = h.name;
   row = le;
@@ -248,23 +248,23 @@ room-lines r n h le = record {
   placed = h.placed;
 }
 
-pub room-line : (r : Reading) (n : ℕ) → Room r → n ≤ row_lines_most
+pub room_line : (r : Reading) (n : ℕ) → Room r → n ≤ row_lines_most
     → Room (changed (with_lines r n) (r.lines + 1) at.InRow r.note)
-room-line r n h le =
-    room-changed (with_lines r n) (r.lines + 1) at.InRow r.note h.told (let q = h.placed in omega (arith, q))
-    (room-lines r n h le)
+room_line r n h le =
+    room_changed (with_lines r n) (r.lines + 1) at.InRow r.note h.told (let q = h.placed in omega (arith, q))
+    (room_lines r n h le)
 
 -- behind the border of a row whose cells are kept
-pub room-ended : (r : Reading) (next n : ℕ) (cs : List Slot) {before after : List ℕ} → Room r
+pub room_ended : (r : Reading) (next n : ℕ) (cs : List Slot) {before after : List ℕ} → Room r
     → all (λ c. is_label c.text) cs ≡ true → n ≡ length cs
     → Writes before r.slots (joined stored_slot cs) after next
     → Room (row_ended r next n) × ((row_ended r next n).lines ≤ r.lines + 1)
 unfolding note_of
-room-ended r next n cs h labels count w = go (ltb (fields_most - r.cells) n) refl
+room_ended r next n cs h labels count w = go (ltb (fields_most - r.cells) n) refl
   where
     over : Room (changed (with_lines r 0) (r.lines + 1) at.RowOrBlank (note 4 0))
-    over = room-changed (with_lines r 0) (r.lines + 1) at.RowOrBlank (note 4 0) refl (omega arith)
-        (room-lines r 0 h (omega arith))
+    over = room_changed (with_lines r 0) (r.lines + 1) at.RowOrBlank (note 4 0) refl (omega arith)
+        (room_lines r 0 h (omega arith))
 
     go : (b : Bool) → ltb (fields_most - r.cells) n ≡ b
         → Room (row_ended r next n) × ((row_ended r next n).lines ≤ r.lines + 1)

@@ -29,9 +29,9 @@ bits_in ps = sum (λ n. n) (map bits_of ps)
 unfoldable pub fits : ℕ → ℕ → List ℕ → List (List ℕ) → Bool
 fits w b r ps = is_empty r && (eqb (b + bits_in ps) w && are_fitted (map bits_of ps) ps)
 
-pub fits-start : (w : ℕ) (l : List ℕ) → is_bits w l ≡ fits w 0 (rest 124 l) (pieces 124 l)
+pub fits_start : (w : ℕ) (l : List ℕ) → is_bits w l ≡ fits w 0 (rest 124 l) (pieces 124 l)
 unfolding fits all
-fits-start w l =
+fits_start w l =
     let ps : List (List ℕ) = pieces 124 l in
     let q : 0 + bits_in ps ≡ bits_in ps = omega arith in
     rw (row_kept w (bit_row (map bits_of ps) (ps ∷ [])), q, and-true (are_fitted (map bits_of ps) ps)) refl
@@ -53,10 +53,10 @@ module _ (w : ℕ) (l : List ℕ) (at b : ℕ) where
   abbrev left : Bool
   left = fits w b (rest 124 (drop at l)) (pieces 124 (drop at l))
 
-  pub fits-none : (i : ℕ) → i ≡ at + up_to 124 (drop at l) → at < length l → i ≤ length l → length l ≤ i
+  pub fits_none : (i : ℕ) → i ≡ at + up_to 124 (drop at l) → at < length l → i ≤ length l → length l ≤ i
       → left ≡ false
   unfolding fits
-  fits-none i h lt le ge = rw (piece_none 124 l at i h (omega arith) le ge).1 (go (drop at l) (length-drop at l))
+  fits_none i h lt le ge = rw (piece_none 124 l at i h (omega arith) le ge).1 (go (drop at l) (length-drop at l))
     where
       go : (m : List ℕ) → length m ≡ length l - at
           → (is_empty m && (eqb (b + bits_in (pieces 124 (drop at l))) w
@@ -87,8 +87,8 @@ module _ (w : ℕ) (l : List ℕ) (at b : ℕ) where
         ∙ ap (λ (r : List ℕ). fits w b r (take (i - at) (drop at l) ∷ pieces 124 (drop (i + 1) l)))
         (rest_at 124 l at i h lt)
 
-    pub fits-stop : (i - at) % 2 ≡ 0 → left ≡ false
-    fits-stop e =
+    pub fits_stop : (i - at) % 2 ≡ 0 → left ≡ false
+    fits_stop e =
         cut
         ∙ fits_other w b (rest 124 (drop (i + 1) l)) part (pieces 124 (drop (i + 1) l))
         (part_fitted ∙ ne_eqb (length part + 1) (2 * bits_of part) (λ k. absurd (omega (arith, k, e, part_size))))
@@ -102,9 +102,9 @@ module _ (w : ℕ) (l : List ℕ) (at b : ℕ) where
         ∙ ap (λ (m : ℕ). fits w (b + (m + 1) / 2) (rest 124 (drop (i + 1) l)) (pieces 124 (drop (i + 1) l)))
         part_size
 
-  pub fits-end : length l ≤ at → at ≤ length l → left ≡ eqb b w
+  pub fits_end : length l ≤ at → at ≤ length l → left ≡ eqb b w
   unfolding fits are_fitted sum
-  fits-end le le' =
+  fits_end le le' =
       let p = pieces_end 124 l at le le' in
       let q : b + 0 ≡ b = omega arith in
       rw (p.0, p.1, q) (and-true (eqb b w))
@@ -128,20 +128,20 @@ begins_other : (w b : ℕ) (m : List ℕ) → (b ≡ 124 → ⊥) → (b ≡ 58 
 unfolding read_row strips_of row_of read_long
 begins_other w b m n n' = rw (ne_eqb b 124 n, ne_eqb b 58 n') refl
 
-pub row-empty : (w : ℕ) (l : List ℕ) → length l ≡ 0 → false ≡ is_some (read_row w l)
+pub row_empty : (w : ℕ) (l : List ℕ) → length l ≡ 0 → false ≡ is_some (read_row w l)
 unfolding read_row strips_of row_of read_long
-row-empty w [] e = refl
-row-empty w (b ∷ l) e = absurd (omega arith)
+row_empty w [] e = refl
+row_empty w (b ∷ l) e = absurd (omega arith)
 
 module _ (w : ℕ) (l : List ℕ) (lt : length l ≡ 0 → ⊥) where
   read : is_some (read_row w l) ≡ is_some (read_row w (get_or l 0 0 ∷ drop 1 l))
   read = ap (λ (m : List ℕ). is_some (read_row w m)) (drop-cons l 0 0 (omega (arith, lt)))
 
-  pub row-bits : get_or l 0 0 ≡ 124 → is_bits w (take (length l - 1) (drop 1 l)) ≡ is_some (read_row w l)
-  row-bits e = ap (is_bits w) (take_rest 1 l) ∙ sym (read ∙ begins_bar w (get_or l 0 0) (drop 1 l) e)
+  pub row_bits : get_or l 0 0 ≡ 124 → is_bits w (take (length l - 1) (drop 1 l)) ≡ is_some (read_row w l)
+  row_bits e = ap (is_bits w) (take_rest 1 l) ∙ sym (read ∙ begins_bar w (get_or l 0 0) (drop 1 l) e)
 
-  pub row-long : get_or l 0 0 ≡ 58 → is_long w (take (length l - 1) (drop 1 l)) ≡ is_some (read_row w l)
-  row-long e = ap (is_long w) (take_rest 1 l) ∙ sym (read ∙ begins_colon w (get_or l 0 0) (drop 1 l) e)
+  pub row_long : get_or l 0 0 ≡ 58 → is_long w (take (length l - 1) (drop 1 l)) ≡ is_some (read_row w l)
+  row_long e = ap (is_long w) (take_rest 1 l) ∙ sym (read ∙ begins_colon w (get_or l 0 0) (drop 1 l) e)
 
   pub row_other : (get_or l 0 0 ≡ 124 → ⊥) → (get_or l 0 0 ≡ 58 → ⊥) → false ≡ is_some (read_row w l)
   row_other n n' = sym (read ∙ begins_other w (get_or l 0 0) (drop 1 l) n n')

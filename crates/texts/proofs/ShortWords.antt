@@ -13,12 +13,12 @@ use Rattle.rules.specs.Limits.{short_most}
 use Rattle.rules.specs.Names.{is_letter, is_digit, is_word_byte, is_reserved, is_short}
 use Rattle.text_laws.specs.Reader.{word}
 use Rattle.text_laws.proofs.ReaderWords.{not_short}
-use Rattle.names.proofs.PadLaws.{short-held}
+use Rattle.names.proofs.PadLaws.{short_held}
 
-pub all-word : (s : List ℕ) → all is_word_byte (word s) ≡ true
+pub all_word : (s : List ℕ) → all is_word_byte (word s) ≡ true
 unfolding word all
-all-word [] = refl
-all-word (c ∷ s) = go (is_word_byte c) refl (all-word s)
+all_word [] = refl
+all_word (c ∷ s) = go (is_word_byte c) refl (all_word s)
   where
     go : (b : Bool) → is_word_byte c ≡ b → all is_word_byte (word s) ≡ true
         → all is_word_byte (cond b (c ∷ word s) []) ≡ true
@@ -30,17 +30,17 @@ unfolding is_short
 short_none [] e = refl
 short_none (c ∷ w) e = absurd (omega arith)
 
-pub short-digit : (w : List ℕ) → 0 < length w → is_digit (get_or w 0 0) ≡ true → false ≡ is_short w
-short-digit [] lt e = absurd (omega arith)
-short-digit (c ∷ w) lt e = sym (not_short (c ∷ w) c w refl e)
+pub short_digit : (w : List ℕ) → 0 < length w → is_digit (get_or w 0 0) ≡ true → false ≡ is_short w
+short_digit [] lt e = absurd (omega arith)
+short_digit (c ∷ w) lt e = sym (not_short (c ∷ w) c w refl e)
 
-pub short-long : (w : List ℕ) → short_most < length w → false ≡ is_short w
-short-long w lt = sym (fails (is_short w) (λ h. omega (arith, lt, (short-held w h).0.size)))
+pub short_long : (w : List ℕ) → short_most < length w → false ≡ is_short w
+short_long w lt = sym (fails (is_short w) (λ h. omega (arith, lt, (short_held w h).0.size)))
 
-pub short-word : (w : List ℕ) → 0 < length w → all is_word_byte w ≡ true → is_digit (get_or w 0 0) ≡ false
+pub short_word : (w : List ℕ) → 0 < length w → all is_word_byte w ≡ true → is_digit (get_or w 0 0) ≡ false
     → length w ≤ short_most → not (is_reserved w) ≡ is_short w
 unfolding is_short is_word_byte
-short-word [] lt h d le = absurd (omega arith)
-short-word (c ∷ w) lt h d le =
+short_word [] lt h d le = absurd (omega arith)
+short_word (c ∷ w) lt h d le =
     let letter : is_letter c ≡ true = sym (rw d (or-false (is_letter c))) ∙ (all_cons is_word_byte c w h).0 in
     rw (letter, h, le-leb (length (c ∷ w)) short_most le) refl

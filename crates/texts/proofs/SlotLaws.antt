@@ -11,11 +11,11 @@ use Rattle.writing.specs.Writes.{Writes}
 use Rattle.rules.specs.Frames.{Slot}
 use Rattle.rules.specs.Values.{yes_no}
 use Rattle.writing.specs.Puts.{placed, put}
-use Rattle.writing.proofs.PutLaws.{put-writes}
+use Rattle.writing.proofs.PutLaws.{put_writes}
 use Rattle.rules.specs.Rows.{cell_text}
 use Rattle.texts.specs.RowPlaces.{cell_at, slot_at}
 use Rattle.texts.specs.Slots.{stored_slot}
-use Rattle.texts.proofs.CellSteps.{length-four}
+use Rattle.texts.proofs.CellSteps.{length_four}
 
 -- ── its bytes ──
 
@@ -66,16 +66,16 @@ module _ (cells : List ℕ) (at len : ℕ) (room : at + 3 ≤ length cells) (is 
   end_none lt c behind e =
       absurd (omega (arith, lt, is, slot_size cells at c behind e, slot_fits cells at c behind e (omega arith)))
 
-  pub end-some : (c : Slot) (behind : List ℕ) → drop at cells ≡ stored_slot c ++ behind
+  pub end_some : (c : Slot) (behind : List ℕ) → drop at cells ≡ stored_slot c ++ behind
       → at + 3 + len ≡ at + length (stored_slot c)
-  end-some c behind e = omega (arith, is, slot_size cells at c behind e, slot_length c)
+  end_some c behind e = omega (arith, is, slot_size cells at c behind e, slot_length c)
 
 -- ── a cell that is put: its text first, then what stands in front of it ──
 
 -- a text that is put in front of one that is there
-writes-front : {before mid after : List ℕ} {at end next : ℕ} (w u : List ℕ) → at + length w ≤ length before
+writes_front : {before mid after : List ℕ} {at end next : ℕ} (w u : List ℕ) → at + length w ≤ length before
     → Writes before (at + length w) u mid end → Writes mid at w after next → Writes before at (w ++ u) after end
-writes-front {before} {mid} {after} {at} {end} {next} w u room p q =
+writes_front {before} {mid} {after} {at} {end} {next} w u room p q =
     let k : ℕ = at + length w in
     let n : next ≡ k = q.end in
     let e : end ≡ k + length u = p.end in
@@ -103,9 +103,9 @@ module _ (row : List ℕ) (n a b : ℕ) where
   text = cell_text (cell_at row n a (b - a))
 
   -- the numbers in front fit a byte
-  pub text-byte : {before mid : List ℕ} {at end : ℕ} → n ≤ 4 → 0 < a → a ≤ b → b < 65
+  pub text_byte : {before mid : List ℕ} {at end : ℕ} → n ≤ 4 → 0 < a → a ≤ b → b < 65
       → Writes before at text mid end → end - at < 256
-  text-byte {before} {mid} {at} {end} le lt le' lt' w = omega (arith, w.end, length-four row a (b - a) n le)
+  text_byte {before} {mid} {at} {end} le lt le' lt' w = omega (arith, w.end, length_four row a (b - a) n le)
 
   pub slot_put : (long : Bool) {before mid after : List ℕ} {at end next x : ℕ} → at + 3 ≤ length before
       → Writes before (at + 3) text mid end → x ≡ yes_no long
@@ -116,4 +116,4 @@ module _ (row : List ℕ) (n a b : ℕ) where
       let l : end - (at + 3) ≡ length text = omega (arith, w.end) in
       let head : List ℕ = yes_no long ∷ (b - a + 1) / 2 ∷ length text ∷ [] in
       let q : placed next after ≡ put mid at head = rw (y, l) at p in
-      writes-front head text room w (put-writes {w = head} (omega (arith, w.kept, room)) q)
+      writes_front head text room w (put_writes {w = head} (omega (arith, w.kept, room)) q)

@@ -64,17 +64,17 @@ length_at (d ∷ cs) (suc i) c e =
 module _ (f : fold.Found) (r : Reading) (cells : List ℕ) (counts : Counts f r) (slots : Slots f r cells) where
   -- ── no cell is left ──
 
-  pub none-shown : r.cells ≤ r.fields → (x : Form) → false ≡ shows_cell f.cells (faces f.judged.fields) x
-  none-shown le x =
+  pub none_shown : r.cells ≤ r.fields → (x : Form) → false ≡ shows_cell f.cells (faces f.judged.fields) x
+  none_shown le x =
       let n = length-map f.judged.fields face in
       let a = counts.cells in
       let b = counts.fields in
       let e = element_none f.cells (length (faces f.judged.fields)) (omega (arith, n, a, b, le)) in
       sym (ap (λ (o : Option Slot). shown_by o x) e)
 
-  pub none-next : r.cells ≤ r.fields
+  pub none_next : r.cells ≤ r.fields
       → r.cell ≡ length (joined stored_slot (take (suc (length f.judged.fields)) f.cells))
-  none-next le =
+  none_next le =
       let a = counts.cells in
       let b = counts.fields in
       slots.next ∙ ap (λ (l : List Slot). length (joined stored_slot l))

@@ -9,9 +9,9 @@ use lib.Dec.{eqb}
 use lib.ListN.{length, take, drop, get_or, length-append, length-take, length-drop, drop_of_length-le, take-append-drop}
 use lib.Seq.{get_or-take, drop_at, take-take, take-append-le, length-take-le}
 use Rattle.base.specs.Lists.{all, is_empty, joined}
-use Rattle.base.proofs.Joined.{joined-append, joined-one}
+use Rattle.base.proofs.Joined.{joined_append, joined_one}
 use Rattle.writing.specs.Writes.{Writes}
-use Rattle.writing.proofs.Writing.{writes-none, writes_join, writes-inside}
+use Rattle.writing.proofs.Writing.{writes_none, writes_join, writes_inside}
 use Rattle.rules.specs.Names.{is_label}
 use Rattle.rules.specs.Frames.{Slot}
 use Rattle.names.specs.Classes.{class_table}
@@ -22,24 +22,24 @@ use Rattle.texts.specs.FramePlaces.{up_to}
 use Rattle.texts.specs.RowPlaces.{slot_at, slots_from, slots_at}
 use Rattle.texts.specs.Slots.{stored_slot, RowedBy, are_labels, RowedAs}
 use Rattle.texts.specs.declared.slots.Rowed.TheVariants as rowed
-use Rattle.texts.proofs.CellSteps.{length-four}
+use Rattle.texts.proofs.CellSteps.{length_four}
 use Rattle.texts.proofs.SlotLaws.{slot_length, slot_text}
 use Rattle.texts.proofs.SplitSteps.{piece_at, piece_length, rest_at, piece_none}
 
 -- ── what is written ──
 
 -- what stood before the place stays
-pub writes-keep : {before after : List ℕ} {at next : ℕ} {w : List ℕ} → at ≤ length before
+pub writes_keep : {before after : List ℕ} {at next : ℕ} {w : List ℕ} → at ≤ length before
     → Writes before at w after next → take at after ≡ take at before
-writes-keep {before} {after} {at} {next} {w} le p =
+writes_keep {before} {after} {at} {next} {w} le p =
     let l : length (take at before) ≡ at = length-take-le at before le in
     sym (take-take at next after (omega (arith, p.end))) ∙ ap (take at) p.text
     ∙ take-append-le at (take at before) w (omega (arith, l)) ∙ take-take at at before (omega arith)
 
 -- what is written stands at the place
-pub writes-there : {before after : List ℕ} {at next : ℕ} {w : List ℕ} → at ≤ length before
+pub writes_there : {before after : List ℕ} {at next : ℕ} {w : List ℕ} → at ≤ length before
     → Writes before at w after next → drop at after ≡ w ++ drop next after
-writes-there {before} {after} {at} {next} {w} le p =
+writes_there {before} {after} {at} {next} {w} le p =
     ap (drop at) (sym (take-append-drop next after) ∙ ap (λ (l : List ℕ). l ++ drop next after) p.text
     ∙ append_assoc (take at before) w (drop next after))
     ∙ drop_at (take at before) (w ++ drop next after) at (length-take-le at before le)
@@ -68,13 +68,13 @@ pub record OnePut (row : List ℕ) (n size : ℕ) (cells : List ℕ) (next from 
   pub writes : Writes cells next (stored_slot (slot_at (eqb (get_or row 0 0) 58) row n from (to - from))) after end
 
 -- as the code has it
-pub one-put : (row : List ℕ) (n size from to : ℕ) {cells after : List ℕ} {next end : ℕ} → size ≤ length row
+pub one_put : (row : List ℕ) (n size from to : ℕ) {cells after : List ℕ} {next end : ℕ} → size ≤ length row
     → 0 < size → to ≡ from + up_to (get_or (take (size - 0) row) 0 0) (drop from (take (size - 0) row))
     → to < size → next ≤ length cells
     → Writes cells next (stored_slot (slot_at (eqb (get_or (take (size - 0) row) 0 0) 58) row n from (to - from))) after
     end
     → OnePut row n size cells next from to after end
-one-put row n size from to fits lt e inside room w = record {
+one_put row n size from to fits lt e inside room w = record {
   fits = fits;
   is_end = end_is row size from to lt e;
   inside = inside;
@@ -89,19 +89,19 @@ module _ {row : List ℕ} {n size : ℕ} {cells : List ℕ} {next from to : ℕ}
     put = slot_at (eqb (get_or row 0 0) 58) row n from (to - from)
 
     -- where its text stands
-    pub text-place : (next + 3 ≤ end) × (end ≤ length after)
-    text-place = (
+    pub text_place : (next + 3 ≤ end) × (end ≤ length after)
+    text_place = (
       omega (arith, o.writes.end, slot_length put),
-      omega (arith, writes-inside o.writes o.room, o.writes.kept),
+      omega (arith, writes_inside o.writes o.room, o.writes.kept),
     )
 
     -- and whether that is a label
-    pub label-there : (classes : List ℕ) → classes ≡ class_table
+    pub label_there : (classes : List ℕ) → classes ≡ class_table
         → is_label_in classes (take (end - (next + 3)) (drop (next + 3) after)) ≡ is_label put.text
-    label-there classes known =
+    label_there classes known =
         let k : end - (next + 3) ≡ length put.text = omega (arith, o.writes.end, slot_length put) in
         let t : take (end - (next + 3)) (drop (next + 3) after) ≡ put.text =
-        rw k (slot_text after next put (drop end after) (writes-there o.room o.writes)) in
+        rw k (slot_text after next put (drop end after) (writes_there o.room o.writes)) in
         label_in_lem classes known (take (end - (next + 3)) (drop (next + 3) after)) ∙ ap is_label t
 
 module _ (row : List ℕ) (n size from to : ℕ) (fits : size ≤ length row) where
@@ -114,9 +114,9 @@ module _ (row : List ℕ) (n size from to : ℕ) (fits : size ≤ length row) wh
   abbrev cell : Slot
   cell = slot_at (eqb (get_or row 0 0) 58) row n from (to - from)
 
-  slots-step : IsEnd → to < size → slots_at row n size from ≡ cell ∷ slots_at row n size (to + 1)
+  slots_step : IsEnd → to < size → slots_at row n size from ≡ cell ∷ slots_at row n size (to + 1)
   unfolding slots_from
-  slots-step e lt =
+  slots_step e lt =
       let l : to < length (take size row) = omega (arith, whole) in
       let k = piece_length (get_or row 0 0) (take size row) from to e l in
       let s : from + suc (to - from) ≡ to + 1 = omega (arith, e) in
@@ -128,7 +128,7 @@ module _ (row : List ℕ) (n size from to : ℕ) (fits : size ≤ length row) wh
   unfolding all
   left_step e lt =
       let l : to < length (take size row) = omega (arith, whole) in
-      rw (slots-step e lt, rest_at (get_or row 0 0) (take size row) from to e l) refl
+      rw (slots_step e lt, rest_at (get_or row 0 0) (take size row) from to e l) refl
 
   -- no bar stands behind it
   left_open : IsEnd → from < size → size ≤ to → to ≤ size → left_labels row n size from ≡ false
@@ -162,13 +162,13 @@ pub record Putting (before : List ℕ) (at : ℕ) (row : List ℕ) (n size : ℕ
   pub near : next + 7 * (size - from) ≤ at + 7 * size
   pub few : many ≤ from
 
-pub putting-start : (before row : List ℕ) (at n size : ℕ) → Putting before at row n size before at 1 0
+pub putting_start : (before row : List ℕ) (at n size : ℕ) → Putting before at row n size before at 1 0
 unfolding joined
-putting-start before row at n size = record {
+putting_start before row at n size = record {
   done = [];
   is_all = refl;
   count = refl;
-  writes = writes-none before at;
+  writes = writes_none before at;
   tells = refl;
   near = omega arith;
   few = omega arith;
@@ -181,15 +181,15 @@ module _ {before cells row : List ℕ} {at n size next from many : ℕ}
         → RowedAs row n size before at after rowed.Wrong
     wrong {w} {after} {end} v e =
         subst (λ (b : Bool). RowedBy b before at (slots_at row n size 1) after rowed.Wrong) (sym (p.tells ∙ e))
-        (refl, writes-keep room v, v.kept)
+        (refl, writes_keep room v, v.kept)
 
     pub putting_open : (to : ℕ) → size ≤ length row
         → to ≡ from + up_to (get_or row 0 0) (drop from (take size row)) → from < size → size ≤ to → to ≤ size
         → RowedAs row n size before at cells rowed.Wrong
     putting_open to fits e lt ge le = wrong p.writes (left_open row n size from to fits e lt ge le)
 
-    pub putting-end : size ≤ from → RowedAs row n size before at cells (rowed.Put next many)
-    putting-end le =
+    pub putting_end : size ≤ from → RowedAs row n size before at cells (rowed.Put next many)
+    putting_end le =
         let q = none_left row n size from le in
         let w : slots_at row n size 1 ≡ p.done =
         p.is_all ∙ ap (λ (cs : List Slot). p.done ++ cs) q.0 ∙ append-nil p.done in
@@ -206,22 +206,22 @@ module _ {before cells row : List ℕ} {at n size next from many : ℕ}
 
       more : Writes before at (joined stored_slot (p.done ++ (one ∷ []))) after end
       more =
-          rw (joined-append stored_slot p.done (one ∷ []), joined-one stored_slot one)
+          rw (joined_append stored_slot p.done (one ∷ []), joined_one stored_slot one)
           (writes_join p.writes o.writes)
 
-      pub putting-wrong : is_label one.text ≡ false → RowedAs row n size before at after rowed.Wrong
-      putting-wrong l =
+      pub putting_wrong : is_label one.text ≡ false → RowedAs row n size before at after rowed.Wrong
+      putting_wrong l =
           let b : Bool = is_empty (rest (get_or row 0 0) (drop (to + 1) (take size row))) in
           wrong more (left_step row n size from to o.fits o.is_end o.inside ∙ rw l (and-false b))
 
-      pub putting-next : is_label one.text ≡ true → n ≤ 4
+      pub putting_next : is_label one.text ≡ true → n ≤ 4
           → Putting before at row n size after end (to + 1) (many + 1)
-      putting-next l le =
+      putting_next l le =
           let lt = o.inside in
           let e = o.is_end in
           record {
             done = p.done ++ (one ∷ []);
-            is_all = p.is_all ∙ ap (λ (cs : List Slot). p.done ++ cs) (slots-step row n size from to o.fits e lt)
+            is_all = p.is_all ∙ ap (λ (cs : List Slot). p.done ++ cs) (slots_step row n size from to o.fits e lt)
                 ∙ sym (append_assoc p.done (one ∷ []) (slots_at row n size (to + 1)));
             count = length-append p.done (one ∷ []) ∙ omega (arith, p.count);
             writes = more;
@@ -231,7 +231,7 @@ module _ {before cells row : List ℕ} {at n size next from many : ℕ}
               p.near,
               o.writes.end,
               slot_length one,
-              length-four row from (to - from) n le,
+              length_four row from (to - from) n le,
               e,
               lt,
             );

@@ -7,8 +7,8 @@ use lib.ListN.{length, take, drop, length-drop}
 use lib.Seq.{drop-drop, drop-length, length-take-le}
 use Rattle.text_laws.specs.FrameReader.{pieces, rest}
 use Rattle.texts.specs.FramePlaces.{up_to}
-use Rattle.texts.proofs.FrameLeaves.{pieces-first, pieces_none}
-use Rattle.texts.proofs.RowLeaves.{rest-first}
+use Rattle.texts.proofs.FrameLeaves.{pieces_first, pieces_none}
+use Rattle.texts.proofs.RowLeaves.{rest_first}
 
 module _ (e : ℕ) (s : List ℕ) (at i : ℕ) (h : i ≡ at + up_to e (drop at s)) where
   inside : i < length s → up_to e (drop at s) < length (drop at s)
@@ -16,7 +16,7 @@ module _ (e : ℕ) (s : List ℕ) (at i : ℕ) (h : i ≡ at + up_to e (drop at 
 
   -- the piece that ends at i
   pub piece_at : i < length s → pieces e (drop at s) ≡ take (i - at) (drop at s) ∷ pieces e (drop (i + 1) s)
-  piece_at lt = pieces-first e (drop at s) (inside lt) ∙ go (up_to e (drop at s)) (omega (arith, h)) (omega (arith, h))
+  piece_at lt = pieces_first e (drop at s) (inside lt) ∙ go (up_to e (drop at s)) (omega (arith, h)) (omega (arith, h))
     where
       go : (u : ℕ) → u ≡ i - at → at + suc u ≡ i + 1
           → take u (drop at s) ∷ pieces e (drop (suc u) (drop at s))
@@ -24,7 +24,7 @@ module _ (e : ℕ) (s : List ℕ) (at i : ℕ) (h : i ≡ at + up_to e (drop at 
       go u p q = rw (drop-drop (suc u) at s, q, p) refl
 
   pub rest_at : i < length s → rest e (drop at s) ≡ rest e (drop (i + 1) s)
-  rest_at lt = rest-first e (drop at s) (inside lt) ∙ go (up_to e (drop at s)) (omega (arith, h))
+  rest_at lt = rest_first e (drop at s) (inside lt) ∙ go (up_to e (drop at s)) (omega (arith, h))
     where
       go : (u : ℕ) → at + suc u ≡ i + 1 → rest e (drop (suc u) (drop at s)) ≡ rest e (drop (i + 1) s)
       go u q = rw (drop-drop (suc u) at s, q) refl

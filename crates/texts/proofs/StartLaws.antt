@@ -33,8 +33,8 @@ most_above most n le = go (ltb most n) refl
     go true e = refl
     go false e = omega (arith, ltb-false most n e)
 
-pub most-least : (most n : ℕ) → (at_most most n ≤ most) × (at_most most n ≤ n)
-most-least most n = go (ltb most n) refl
+pub most_least : (most n : ℕ) → (at_most most n ≤ most) × (at_most most n ≤ n)
+most_least most n = go (ltb most n) refl
   where
     go : (b : Bool) → ltb most n ≡ b → (cond b most n ≤ most) × (cond b most n ≤ n)
     go true e = (omega arith, omega (arith, ltb-true most n e))
@@ -56,7 +56,7 @@ pub look_from_zero : (names : Names) (k : ℕ) (w : List ℕ)
     → look_up names k w ≡ first_from (is_held names w) 0 k
 unfolding look_up
 look_from_zero names k w none =
-    let le = (most-least k (start_in names.starts (pad_to short_most w))).0 in
+    let le = (most_least k (start_in names.starts (pad_to short_most w))).0 in
     sym (search_from (is_held names w) k (at_most k (start_in names.starts (pad_to short_most w))) le
     (λ i lt. none i (omega (arith, lt, le)) lt))
 
@@ -66,8 +66,8 @@ module _ (f : ℕ → Bool) (n i : ℕ) where
   abbrev pub Rest : ℕ → Type 0
   Rest r = r ≡ first_from f (at_most n i) (n - at_most n i)
 
-  pub walk-found : (r : ℕ) → i < n → Rest r → f i ≡ true → i ≡ r
-  walk-found r lt so h =
+  pub walk_found : (r : ℕ) → i < n → Rest r → f i ≡ true → i ≡ r
+  walk_found r lt so h =
       let k = most_below n i (omega arith) in
       sym (so ∙ ap (λ (j : ℕ). first_from f j (n - j)) k ∙ search_step f i n lt ∙ simp h)
 
@@ -76,8 +76,8 @@ module _ (f : ℕ → Bool) (n i : ℕ) where
       let k = most_above n i le in
       sym (so ∙ ap (λ (j : ℕ). first_from f j (n - j)) k ∙ search_end f n)
 
-pub walk-next : (f : ℕ → Bool) (n i r : ℕ) → i < n → Rest f n i r → f i ≡ false → Rest f n (i + 1) r
-walk-next f n i r lt so h =
+pub walk_next : (f : ℕ → Bool) (n i r : ℕ) → i < n → Rest f n i r → f i ≡ false → Rest f n (i + 1) r
+walk_next f n i r lt so h =
     let k = most_below n i (omega arith) in
     let m = most_below n (i + 1) (omega arith) in
     let e = so ∙ ap (λ (j : ℕ). first_from f j (n - j)) k ∙ search_step f i n lt in
@@ -85,27 +85,27 @@ walk-next f n i r lt so h =
 
 -- ── a field before a name's start does not bear the name ──
 
-before-start : (starts name v : List ℕ) (i : ℕ) → i < start_in starts name → StartsBy starts v i
+before_start : (starts name v : List ℕ) (i : ℕ) → i < start_in starts name → StartsBy starts v i
     → same_name name v ≡ true → ⊥
-before-start starts name v i lt by h =
+before_start starts name v i lt by h =
     let e = same_keys name v h in
     let p : start_in starts name ≤ i = subst (λ (u : List ℕ). StartsBy starts u i) (sym e.1) by e.0 in
     omega (arith, p)
 
-pub before-unread : (names : Names) (v : List ℕ) (i : ℕ) → Started names i → i < start_in names.starts v
+pub before_unread : (names : Names) (v : List ℕ) (i : ℕ) → Started names i → i < start_in names.starts v
     → reads_as names v i ≡ false
 unfolding reads_as
-before-unread names v i by lt =
+before_unread names v i by lt =
     fails _ (λ h.
     or_true (same_name v (get_or names.shorts i [])) (same_name v (get_or names.words i []))
-    (before-start names.starts v (get_or names.shorts i []) i lt by.0)
-    (before-start names.starts v (get_or names.words i []) i lt by.1)
+    (before_start names.starts v (get_or names.shorts i []) i lt by.0)
+    (before_start names.starts v (get_or names.words i []) i lt by.1)
     (and_right (eqb (get_or names.marks i 0) 1) _ h))
 
 -- ── names put in ──
 
-pub put-none : (starts name : List ℕ) (i : ℕ) → get_or name 0 0 ≡ 0 → StartPut starts name i starts
-put-none starts name i z = record {
+pub put_none : (starts name : List ℕ) (i : ℕ) → get_or name 0 0 ≡ 0 → StartPut starts name i starts
+put_none starts name i z = record {
   long = refl;
   own = λ some. absurd (some z);
   lowered = λ v. (omega arith, refl);
@@ -130,7 +130,7 @@ put_some starts name i r v room is least = record {
     here = get_or-set_same starts r v 0 (omega (arith, is, room))
 
     low : (at_most i (get_or starts r 0) ≤ i) × (at_most i (get_or starts r 0) ≤ get_or starts r 0)
-    low = most-least i (get_or starts r 0)
+    low = most_least i (get_or starts r 0)
 
     lowered : Lowered starts i after
     lowered u = go (eqb (bucket_of u) r) refl

@@ -13,7 +13,7 @@ use Rattle.rules.specs.Values.{yes_no}
 use Rattle.laws.specs.Places.{two_at}
 use Rattle.writing.specs.Writes.{Writes}
 use Rattle.writing.specs.Puts.{placed, put}
-use Rattle.writing.proofs.PutLaws.{put-writes}
+use Rattle.writing.proofs.PutLaws.{put_writes}
 use Rattle.texts.specs.Changes.{note}
 use Rattle.texts.specs.HeldAreas.{slot_most, record_most}
 use Rattle.texts.specs.Noted.{note_of}
@@ -24,48 +24,48 @@ use Rattle.texts.specs.declared.notes.Note.{Note}
 use Rattle.texts.specs.declared.states.Stage.{Stage}
 use Rattle.texts.specs.declared.states.Stage.TheVariants as at
 use Rattle.texts.specs.declared.states.Reading.{Reading}
-use Rattle.texts.proofs.EndSteps.{told-one, told-two, told-four}
+use Rattle.texts.proofs.EndSteps.{told_one, told_two, told_four}
 
 -- ── what a byte or two stand for ──
 
-pub stage-back : (s : Stage) → stage_at (stage_code s) ≡ s
+pub stage_back : (s : Stage) → stage_at (stage_code s) ≡ s
 unfolding stage_at stage_code
-stage-back at.Opening = refl
-stage-back at.Blank = refl
-stage-back at.TensRuler = refl
-stage-back at.UnitsRuler = refl
-stage-back at.TopBorder = refl
-stage-back at.FirstRow = refl
-stage-back at.InRow = refl
-stage-back at.RowOrBlank = refl
-stage-back at.WhereLine = refl
-stage-back at.LastBlank = refl
-stage-back at.FirstField = refl
-stage-back at.FieldLine = refl
-stage-back at.Lost = refl
+stage_back at.Opening = refl
+stage_back at.Blank = refl
+stage_back at.TensRuler = refl
+stage_back at.UnitsRuler = refl
+stage_back at.TopBorder = refl
+stage_back at.FirstRow = refl
+stage_back at.InRow = refl
+stage_back at.RowOrBlank = refl
+stage_back at.WhereLine = refl
+stage_back at.LastBlank = refl
+stage_back at.FirstField = refl
+stage_back at.FieldLine = refl
+stage_back at.Lost = refl
 
-one-back : (n : ℕ) → n < 256 → low n ≡ n
-one-back n h = omega arith
+one_back : (n : ℕ) → n < 256 → low n ≡ n
+one_back n h = omega arith
 
 two_back : (n : ℕ) → n < 65536 → low n + 256 * high n ≡ n
 two_back n h = let q : n / 256 % 256 ≡ n / 256 = omega arith in rw q (omega arith)
 
-rested-back : (b : Bool) → eqb (yes_no b) 1 ≡ b
-rested-back true = refl
-rested-back false = refl
+rested_back : (b : Bool) → eqb (yes_no b) 1 ≡ b
+rested_back true = refl
+rested_back false = refl
 
 -- ── a refusal ──
 
-told-small : (a : Note) → is_told (note_of a) ≡ true → a.number ≤ 10
-told-small a t = go (eqb a.number 0) refl
+told_small : (a : Note) → is_told (note_of a) ≡ true → a.number ≤ 10
+told_small a t = go (eqb a.number 0) refl
   where
     go : (b : Bool) → eqb a.number 0 ≡ b → a.number ≤ 10
     go true e = omega (arith, eqb-true a.number 0 e)
-    go false e = (told-one a t e).1
+    go false e = (told_one a t e).1
 
-told-plain : (n p : ℕ) → (n ≡ 1 → ⊥) → n ≤ 10 → (n ≡ 2 → ⊥) → (n ≡ 4 → ⊥) → is_told (note_of (note n p)) ≡ true
+told_plain : (n p : ℕ) → (n ≡ 1 → ⊥) → n ≤ 10 → (n ≡ 2 → ⊥) → (n ≡ 4 → ⊥) → is_told (note_of (note n p)) ≡ true
 unfolding note_of
-told-plain n p one le two four = go (eqb n 0) refl
+told_plain n p one le two four = go (eqb n 0) refl
   where
     go : (b : Bool) → eqb n 0 ≡ b → is_told (note_of (note n p)) ≡ true
     go true e = rw e refl
@@ -79,19 +79,19 @@ module _ (lines number place : ℕ) where
   none_loaded : (a : Note) → a.number ≡ 0 → a.place ≡ 0
       → (is_told (note_of (note number place)) ≡ true → ⊥) → LoadedNote lines number place a
   unfolding note_of
-  none_loaded a n p not-told = record {
+  none_loaded a n p not_told = record {
     told = rw n refl;
     placed = omega arith;
-    same = λ t h. absurd (not-told t);
+    same = λ t h. absurd (not_told t);
   }
 
   pub one_loaded : (a : Note) → a.number ≡ 0 → a.place ≡ 0 → number ≡ 1 → LoadedNote lines number place a
   one_loaded a n p e =
       let some : eqb number 0 ≡ false = ne_eqb number 0 (λ z. omega arith) in
-      none_loaded a n p (λ t. absurd (omega (arith, told-one (note number place) t some)))
+      none_loaded a n p (λ t. absurd (omega (arith, told_one (note number place) t some)))
 
   pub more_loaded : (a : Note) → a.number ≡ 0 → a.place ≡ 0 → 10 < number → LoadedNote lines number place a
-  more_loaded a n p lt = none_loaded a n p (λ t. absurd (omega (arith, told-small (note number place) t)))
+  more_loaded a n p lt = none_loaded a n p (λ t. absurd (omega (arith, told_small (note number place) t)))
 
   -- and where it is that of a refusal with no place
   bare_loaded : (n : ℕ) → number ≡ n → is_told (note_of (note n 0)) ≡ true
@@ -106,18 +106,18 @@ module _ (lines number place : ℕ) where
   unfolding note_of
   two_loaded e =
       let some : eqb number 0 ≡ false = ne_eqb number 0 (λ z. omega arith) in
-      bare_loaded 2 e refl (λ t. told-two (note number place) t some e)
+      bare_loaded 2 e refl (λ t. told_two (note number place) t some e)
 
   pub four_loaded : number ≡ 4 → LoadedNote lines number place (note 4 0)
   unfolding note_of
   four_loaded e =
       let some : eqb number 0 ≡ false = ne_eqb number 0 (λ z. omega arith) in
-      bare_loaded 4 e refl (λ t. told-four (note number place) t some e)
+      bare_loaded 4 e refl (λ t. told_four (note number place) t some e)
 
   pub other_loaded : (q : ℕ) → (number ≡ 1 → ⊥) → number ≤ 10 → (number ≡ 2 → ⊥) → (number ≡ 4 → ⊥)
       → q ≤ lines + 1 → (place ≤ lines + 1 → q ≡ place) → LoadedNote lines number place (note number q)
   other_loaded q one le two four most same = record {
-    told = told-plain number q one le two four;
+    told = told_plain number q one le two four;
     placed = most;
     same = λ t h. ap (λ (z : ℕ). note number z) (same h);
   }
@@ -125,10 +125,10 @@ module _ (lines number place : ℕ) where
 -- ── a reading in its bytes ──
 
 -- a reading depends on the bytes from the place 4 up to 24
-pub reading-same : (a b : List ℕ) → ((i : ℕ) → i < 20 → get_or a (4 + i) 0 ≡ get_or b (4 + i) 0)
+pub reading_same : (a b : List ℕ) → ((i : ℕ) → i < 20 → get_or a (4 + i) 0 ≡ get_or b (4 + i) 0)
     → reading_in a ≡ reading_in b
 unfolding two_at
-reading-same a b e =
+reading_same a b e =
     rw (
       e 0 (omega arith),
       e 1 (omega arith),
@@ -152,36 +152,36 @@ reading-same a b e =
     )
     refl
 
-pub reading-front : (a b : List ℕ) → drop 4 (take 24 a) ≡ drop 4 (take 24 b) → reading_in a ≡ reading_in b
-reading-front a b e =
-    reading-same a b (λ i h. sym (byte a i h) ∙ ap (λ (t : List ℕ). get_or t i 0) e ∙ byte b i h)
+pub reading_front : (a b : List ℕ) → drop 4 (take 24 a) ≡ drop 4 (take 24 b) → reading_in a ≡ reading_in b
+reading_front a b e =
+    reading_same a b (λ i h. sym (byte a i h) ∙ ap (λ (t : List ℕ). get_or t i 0) e ∙ byte b i h)
   where
     byte : (s : List ℕ) (i : ℕ) → i < 20 → get_or (drop 4 (take 24 s)) i 0 ≡ get_or s (4 + i) 0
     byte s i h = get_or-drop 4 (take 24 s) i 0 ∙ get_or-take 24 s (4 + i) 0 (omega arith)
 
-pub reading-take : (a b : List ℕ) → take 24 a ≡ take 24 b → reading_in a ≡ reading_in b
-reading-take a b e = reading-front a b (ap (λ (t : List ℕ). drop 4 t) e)
+pub reading_take : (a b : List ℕ) → take 24 a ≡ take 24 b → reading_in a ≡ reading_in b
+reading_take a b e = reading_front a b (ap (λ (t : List ℕ). drop 4 t) e)
 
 -- the bytes of a reading behind four bytes
-reading-back : (r : Reading) → Fits text_most r → reading_in (0 ∷ 0 ∷ 0 ∷ 0 ∷ number_bytes r) ≡ r
+reading_back : (r : Reading) → Fits text_most r → reading_in (0 ∷ 0 ∷ 0 ∷ 0 ∷ number_bytes r) ≡ r
 unfolding two_at
-reading-back r f =
+reading_back r f =
     let room : Room r = f.0 in
-    let number : r.note.number ≤ 10 = told-small r.note room.told in
+    let number : r.note.number ≤ 10 = told_small r.note room.told in
     rw (
       two_back r.lines (omega arith),
-      stage-back r.stage,
-      one-back r.width (omega arith),
-      one-back r.name (omega arith),
-      one-back r.row (omega arith),
-      one-back r.cells (omega arith),
+      stage_back r.stage,
+      one_back r.width (omega arith),
+      one_back r.name (omega arith),
+      one_back r.row (omega arith),
+      one_back r.cells (omega arith),
       two_back r.slots (omega arith),
       two_back r.cell (omega arith),
-      one-back r.count (omega arith),
-      one-back r.fields (omega arith),
+      one_back r.count (omega arith),
+      one_back r.fields (omega arith),
       two_back r.end (omega arith),
-      rested-back r.rested,
-      one-back r.note.number (omega arith),
+      rested_back r.rested,
+      one_back r.note.number (omega arith),
       two_back r.note.place (omega arith),
     )
     refl
@@ -198,7 +198,7 @@ numbers_saved {before} {after} {next} r room w =
       front = sym (take-take 4 24 after (omega arith)) ∙ ap (λ (t : List ℕ). take 4 t) text
           ∙ take-append-le 4 (take 4 before) (number_bytes r) (omega arith)
           ∙ take-take 4 4 before (omega arith);
-      numbers = λ f. reading-same after (0 ∷ 0 ∷ 0 ∷ 0 ∷ number_bytes r) (λ i h. byte text four i h) ∙ reading-back r f;
+      numbers = λ f. reading_same after (0 ∷ 0 ∷ 0 ∷ 0 ∷ number_bytes r) (λ i h. byte text four i h) ∙ reading_back r f;
       beyond = rw end at w.beyond;
     }
   where
@@ -215,7 +215,7 @@ pub put_saved : {before after bytes : List ℕ} {next : ℕ} (r : Reading) → l
 put_saved {before} {after} {bytes} {next} r room e p =
     let q : placed next after ≡ put before numbers_at (number_bytes r) =
     p ∙ ap (λ (w : List ℕ). put before numbers_at w) e in
-    numbers_saved r room (put-writes room q)
+    numbers_saved r room (put_writes room q)
 
 -- the numbers in front of those of the reading stay
 pub saved_same : {before after : List ℕ} {r : Reading} → Saved before r after

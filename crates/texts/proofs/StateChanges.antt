@@ -11,13 +11,13 @@ use Rattle.rules.specs.Trees.{le2}
 use Rattle.laws.specs.Places.{two_at}
 use Rattle.writing.specs.Writes.{Writes}
 use Rattle.writing.specs.Puts.{placed, put}
-use Rattle.writing.proofs.PutLaws.{put-writes}
+use Rattle.writing.proofs.PutLaws.{put_writes}
 use Rattle.texts.specs.HeldAreas.{held_room}
 use Rattle.texts.specs.StateNumbers.{used_at, row_at, counts_at, held_at, state_room, reading_in, Saved}
 use Rattle.texts.specs.PieceStates.{SameAround, row_bytes, count_bytes, held_bytes}
 use Rattle.texts.specs.declared.states.Reading.{Reading}
-use Rattle.texts.proofs.NameAreas.{front_less, front_part, back_less, written-front, written-word}
-use Rattle.texts.proofs.StateBytes.{reading-same, reading-take}
+use Rattle.texts.proofs.NameAreas.{front_less, front_part, back_less, written_front, written_word}
+use Rattle.texts.proofs.StateBytes.{reading_same, reading_take}
 
 -- in front of p and from q on they are the same
 pub record Changed (p q : ℕ) (before after : List ℕ) : Type 0 where
@@ -40,19 +40,19 @@ changed_then e f = record { long = f.long ∙ e.long; front = f.front ∙ e.fron
 -- ── what changes them ──
 
 -- a word that is written
-pub writes-changed : {before after w : List ℕ} {at next : ℕ} → at ≤ length before → Writes before at w after next
+pub writes_changed : {before after w : List ℕ} {at next : ℕ} → at ≤ length before → Writes before at w after next
     → Changed at next before after
-writes-changed room p = record { long = p.kept; front = written-front p room; back = p.beyond }
+writes_changed room p = record { long = p.kept; front = written_front p room; back = p.beyond }
 
 -- a number of two bytes
-two-long : (n : ℕ) → length (le2 n) ≡ 2
+two_long : (n : ℕ) → length (le2 n) ≡ 2
 unfolding le2
-two-long n = refl
+two_long n = refl
 
 -- the bytes of a part decide the number in it
-pub two-word : (l : List ℕ) (at n : ℕ) → n < 65536 → take 2 (drop at l) ≡ le2 n → two_at l at ≡ n
+pub two_word : (l : List ℕ) (at n : ℕ) → n < 65536 → take 2 (drop at l) ≡ le2 n → two_at l at ≡ n
 unfolding two_at le2
-two-word l at n h e =
+two_word l at n h e =
     let q : n / 256 % 256 ≡ n / 256 = omega arith in
     let byte : (i : ℕ) → i < 2 → get_or l (at + i) 0 ≡ get_or (n % 256 ∷ n / 256 % 256 ∷ []) i 0 =
     λ i lt. sym (get_or-drop at l i 0) ∙ sym (get_or-take 2 (drop at l) i 0 lt) ∙ ap (λ (t : List ℕ). get_or t i 0) e in
@@ -63,16 +63,16 @@ two-word l at n h e =
 
 module _ (before : List ℕ) {after : List ℕ} {next : ℕ} (at n : ℕ) (room : at + 2 ≤ length before)
     (e : placed next after ≡ put before at (le2 n)) where
-  two-writes : Writes before at (le2 n) after next
-  two-writes = put-writes (let long = two-long n in omega (arith, long)) e
+  two_writes : Writes before at (le2 n) after next
+  two_writes = put_writes (let long = two_long n in omega (arith, long)) e
 
-  pub two-changed : Changed at (at + 2) before after
-  two-changed =
-      let end : next ≡ at + 2 = two-writes.end ∙ ap (λ (m : ℕ). at + m) (two-long n) in
-      rw end at (writes-changed (omega arith) two-writes)
+  pub two_changed : Changed at (at + 2) before after
+  two_changed =
+      let end : next ≡ at + 2 = two_writes.end ∙ ap (λ (m : ℕ). at + m) (two_long n) in
+      rw end at (writes_changed (omega arith) two_writes)
 
-  pub two-put : n < 65536 → two_at after at ≡ n
-  two-put h = two-word after at n h (rw (two-long n) at (written-word two-writes (omega arith)))
+  pub two_put : n < 65536 → two_at after at ≡ n
+  two_put h = two_word after at n h (rw (two_long n) at (written_word two_writes (omega arith)))
 
 -- a reading that is saved
 pub saved_changed : {before after : List ℕ} {r : Reading} → Saved before r after → Changed 4 24 before after
@@ -83,17 +83,17 @@ pub part_long : (a k : ℕ) (s : List ℕ) → a + k ≤ length s → length (ta
 part_long a k s room = length-take-le k (drop a s) (let n = length-drop a s in omega (arith, n))
 
 module _ (a k : ℕ) (s part : List ℕ) (room : a + k ≤ length s) (long : length part ≡ k) where
-  lent-from : drop a (put_mid a k s part) ≡ part ++ drop k (drop a s)
-  lent-from = drop_at (take a s) (part ++ drop k (drop a s)) a (length-take-le a s (omega arith))
+  lent_from : drop a (put_mid a k s part) ≡ part ++ drop k (drop a s)
+  lent_from = drop_at (take a s) (part ++ drop k (drop a s)) a (length-take-le a s (omega arith))
 
   pub lent_is : take k (drop a (put_mid a k s part)) ≡ part
-  lent_is = ap (take k) lent-from ∙ take_at part (drop k (drop a s)) k long
+  lent_is = ap (take k) lent_from ∙ take_at part (drop k (drop a s)) k long
 
-  pub lent-changed : Changed a (a + k) s (put_mid a k s part)
-  lent-changed = record {
+  pub lent_changed : Changed a (a + k) s (put_mid a k s part)
+  lent_changed = record {
     long = same_len_mid a k s part (long ∙ sym (part_long a k s room));
     front = take_put a k s part (omega arith);
-    back = sym (drop-drop k a (put_mid a k s part)) ∙ ap (drop k) lent-from
+    back = sym (drop-drop k a (put_mid a k s part)) ∙ ap (drop k) lent_from
         ∙ drop_at part (drop k (drop a s)) k long ∙ drop-drop k a s;
   }
 
@@ -104,53 +104,53 @@ module _ {p q : ℕ} {a b : List ℕ} (c : Changed p q a b) where
   pub part_before : (x n : ℕ) → x + n ≤ p → take n (drop x b) ≡ take n (drop x a)
   part_before x n le = front_part b a p x n c.front le
 
-  pub rest-behind : (x : ℕ) → q ≤ x → drop x b ≡ drop x a
-  rest-behind x le = back_less b a q x c.back le
+  pub rest_behind : (x : ℕ) → q ≤ x → drop x b ≡ drop x a
+  rest_behind x le = back_less b a q x c.back le
 
-  pub byte-before : (i : ℕ) → i < p → get_or b i 0 ≡ get_or a i 0
-  byte-before i h =
+  pub byte_before : (i : ℕ) → i < p → get_or b i 0 ≡ get_or a i 0
+  byte_before i h =
       sym (get_or-take p b i 0 h) ∙ ap (λ (t : List ℕ). get_or t i 0) c.front ∙ get_or-take p a i 0 h
 
-  pub byte-behind : (i : ℕ) → q ≤ i → get_or b i 0 ≡ get_or a i 0
-  byte-behind i h =
+  pub byte_behind : (i : ℕ) → q ≤ i → get_or b i 0 ≡ get_or a i 0
+  byte_behind i h =
       let e : q + (i - q) ≡ i = omega arith in
       rw e at (sym (get_or-drop q b (i - q) 0) ∙ ap (λ (t : List ℕ). get_or t (i - q) 0) c.back
       ∙ get_or-drop q a (i - q) 0)
 
-  pub two-before : (i : ℕ) → i + 2 ≤ p → two_at b i ≡ two_at a i
+  pub two_before : (i : ℕ) → i + 2 ≤ p → two_at b i ≡ two_at a i
   unfolding two_at
-  two-before i h = rw (byte-before i (omega arith), byte-before (i + 1) (omega arith)) refl
+  two_before i h = rw (byte_before i (omega arith), byte_before (i + 1) (omega arith)) refl
 
-  pub two-behind : (i : ℕ) → q ≤ i → two_at b i ≡ two_at a i
+  pub two_behind : (i : ℕ) → q ≤ i → two_at b i ≡ two_at a i
   unfolding two_at
-  two-behind i h = rw (byte-behind i h, byte-behind (i + 1) (omega arith)) refl
+  two_behind i h = rw (byte_behind i h, byte_behind (i + 1) (omega arith)) refl
 
   -- the numbers of a reading
-  pub reading-before : 24 ≤ p → reading_in b ≡ reading_in a
-  reading-before le = reading-take b a (front_less b a p 24 c.front le)
+  pub reading_before : 24 ≤ p → reading_in b ≡ reading_in a
+  reading_before le = reading_take b a (front_less b a p 24 c.front le)
 
-  pub reading-behind : q ≤ 4 → reading_in b ≡ reading_in a
-  reading-behind le = reading-same b a (λ i h. byte-behind (4 + i) (omega arith))
+  pub reading_behind : q ≤ 4 → reading_in b ≡ reading_in a
+  reading_behind le = reading_same b a (λ i h. byte_behind (4 + i) (omega arith))
 
   -- the parts of a state
-  pub row-behind : q ≤ row_at → row_bytes b ≡ row_bytes a
-  row-behind le = ap (take 260) (rest-behind row_at le)
+  pub row_behind : q ≤ row_at → row_bytes b ≡ row_bytes a
+  row_behind le = ap (take 260) (rest_behind row_at le)
 
   pub row_before : counts_at ≤ p → row_bytes b ≡ row_bytes a
   row_before le = part_before row_at 260 (omega arith)
 
   pub counts_behind : q ≤ counts_at → count_bytes b ≡ count_bytes a
-  counts_behind le = ap (take (2 * fields_most)) (rest-behind counts_at le)
+  counts_behind le = ap (take (2 * fields_most)) (rest_behind counts_at le)
 
-  pub counts-before : held_at ≤ p → count_bytes b ≡ count_bytes a
-  counts-before le = part_before counts_at (2 * fields_most) (omega arith)
+  pub counts_before : held_at ≤ p → count_bytes b ≡ count_bytes a
+  counts_before le = part_before counts_at (2 * fields_most) (omega arith)
 
-  pub held-behind : q ≤ held_at → held_bytes b ≡ held_bytes a
-  held-behind le = ap (take held_room) (rest-behind held_at le)
+  pub held_behind : q ≤ held_at → held_bytes b ≡ held_bytes a
+  held_behind le = ap (take held_room) (rest_behind held_at le)
 
   pub same_around : used_at ≤ p → q ≤ state_room → SameAround a b
   same_around front back = record {
     long = c.long;
     front = front_less b a p used_at c.front front;
-    beyond = rest-behind state_room back;
+    beyond = rest_behind state_room back;
   }

@@ -20,7 +20,7 @@ use Rattle.texts.specs.Changes.{note, changed, made_wrong, made_wrong_row, expec
 use Rattle.texts.specs.States.{is_told, Room, Taken, stage_of}
 use Rattle.texts.specs.States.{Counts, Area, Records, Holds, FieldStep, HeadStep, HeadRow, RowStep, LineStep}
 use Rattle.text_laws.specs.Steady.{StandIn, is_head, row_goes, Steady}
-use Rattle.text_laws.proofs.Steadiness.{no_row, some-row}
+use Rattle.text_laws.proofs.Steadiness.{no_row, some_row}
 use Rattle.texts.specs.declared.notes.Note.{Note}
 use Rattle.texts.specs.declared.states.Stage.{Stage}
 use Rattle.texts.specs.declared.states.Stage.TheVariants as at
@@ -43,9 +43,9 @@ same_nil (x ∷ l) = ne_eqb (length (x ∷ l)) 0 (λ e. absurd (omega (arith, e)
 
 -- ── safe ──
 
-pub room-changed : (r : Reading) (n : ℕ) (s : Stage) (a : Note) → is_told (note_of a) ≡ true → a.place ≤ n + 1
+pub room_changed : (r : Reading) (n : ℕ) (s : Stage) (a : Note) → is_told (note_of a) ≡ true → a.place ≤ n + 1
     → Room r → Room (changed r n s a)
-room-changed r n s a t p h = record {
+room_changed r n s a t p h = record {
   width = h.width;
   name = h.name;
   row = h.row;
@@ -60,28 +60,28 @@ room-changed r n s a t p h = record {
   placed = p;
 }
 
-pub taken-wrong : (r : Reading) → Room r → Taken r (made_wrong r)
+pub taken_wrong : (r : Reading) → Room r → Taken r (made_wrong r)
 unfolding note_of
-taken-wrong r h = (room-changed r r.lines at.Lost (note 3 (r.lines + 1)) refl (omega arith) h, omega arith)
+taken_wrong r h = (room_changed r r.lines at.Lost (note 3 (r.lines + 1)) refl (omega arith) h, omega arith)
 
-pub taken-wrong-row : (r : Reading) → Room r → Taken r (made_wrong_row r)
+pub taken_wrong_row : (r : Reading) → Room r → Taken r (made_wrong_row r)
 unfolding note_of
-taken-wrong-row r h = (room-changed r r.lines at.Lost (note 3 r.lines) refl (omega arith) h, omega arith)
+taken_wrong_row r h = (room_changed r r.lines at.Lost (note 3 r.lines) refl (omega arith) h, omega arith)
 
-pub taken-onward : (r : Reading) (s : Stage) (a : Note) → is_told (note_of a) ≡ true → a.place ≤ r.lines + 1 → Room r
+pub taken_onward : (r : Reading) (s : Stage) (a : Note) → is_told (note_of a) ≡ true → a.place ≤ r.lines + 1 → Room r
     → Taken r (changed r (r.lines + 1) s a)
-taken-onward r s a t p h = (room-changed r (r.lines + 1) s a t (omega (arith, p)) h, omega arith)
+taken_onward r s a t p h = (room_changed r (r.lines + 1) s a t (omega (arith, p)) h, omega arith)
 
-pub taken-expect : (right : Bool) (r : Reading) (s : Stage) → Room r → Taken r (expected right r s)
-taken-expect true r s h = taken-onward r s r.note h.told h.placed h
-taken-expect false r s h = taken-wrong r h
+pub taken_expect : (right : Bool) (r : Reading) (s : Stage) → Room r → Taken r (expected right r s)
+taken_expect true r s h = taken_onward r s r.note h.told h.placed h
+taken_expect false r s h = taken_wrong r h
 
 -- ── what is held ──
 
 -- the records, where no byte of them changed
-pub records-kept : {f g : fold.Found} {r q : Reading} {table : Area} (h : Records f r table)
+pub records_kept : {f g : fold.Found} {r q : Reading} {table : Area} (h : Records f r table)
     → StandIn g.judged h.fields → g.name ≡ f.name → q.end ≡ r.end → Records g q table
-records-kept h stands name end = record {
+records_kept h stands name end = record {
   fields = h.fields;
   stands = stands;
   stored = rw (name, end) h.stored;
@@ -96,15 +96,15 @@ blamed_outside (some x) n e = absurd (none-ne-some x (sym e))
 
 module _ (f : fold.Found) (r : Reading) {cells : List ℕ} {table : Area} {labels : List (List ℕ)} {names : Names}
     (h : Holds f r cells table labels names) where
-  pub next-line : r.lines + 1 ≡ suc f.lines
-  next-line = let e = h.counts.lines in omega (arith, e)
+  pub next_line : r.lines + 1 ≡ suc f.lines
+  next_line = let e = h.counts.lines in omega (arith, e)
 
   -- a right line, with nothing to keep of it
-  pub holds-onward : (s : Stage)
+  pub holds_onward : (s : Stage)
       → Holds (fold.onward (stage_of s) f) (changed r (r.lines + 1) s r.note) cells table labels names
-  holds-onward s = record {
+  holds_onward s = record {
     counts = record {
-      lines = next-line;
+      lines = next_line;
       stage = refl;
       width = h.counts.width;
       name = h.counts.name;
@@ -116,15 +116,15 @@ module _ (f : fold.Found) (r : Reading) {cells : List ℕ} {table : Area} {label
       lowest = h.counts.lowest;
     };
     slots = record { stored = h.slots.stored; end = h.slots.end; next = h.slots.next };
-    records = records-kept h.records h.records.stands refl refl;
+    records = records_kept h.records h.records.stands refl refl;
     named = h.named;
   }
 
   -- a refusal by 3
-  holds-losing : (p k : ℕ) → k ≡ p
+  holds_losing : (p k : ℕ) → k ≡ p
       → Holds (fold.losing (refused 3 p) f) (changed r r.lines at.Lost (note 3 k)) cells table labels names
   unfolding note_of
-  holds-losing p k e = record {
+  holds_losing p k e = record {
     counts = record {
       lines = h.counts.lines;
       stage = refl;
@@ -138,7 +138,7 @@ module _ (f : fold.Found) (r : Reading) {cells : List ℕ} {table : Area} {label
       lowest = ap (λ (n : ℕ). some (refused 3 n)) e;
     };
     slots = record { stored = h.slots.stored; end = h.slots.end; next = h.slots.next };
-    records = records-kept h.records (record {
+    records = records_kept h.records (record {
       seen = h.records.stands.seen;
       exact = λ z. absurd (none-ne-some (refused 3 p) (sym z));
     }) refl refl;
@@ -146,23 +146,23 @@ module _ (f : fold.Found) (r : Reading) {cells : List ℕ} {table : Area} {label
   }
 
   -- 3 at this line, and at the last one
-  pub holds-wrong : fold.blamed f.row f.lines ≡ suc f.lines
+  pub holds_wrong : fold.blamed f.row f.lines ≡ suc f.lines
       → Holds (fold.wrong f) (made_wrong r) cells table labels names
-  holds-wrong b = holds-losing (fold.blamed f.row f.lines) (r.lines + 1) (next-line ∙ sym b)
+  holds_wrong b = holds_losing (fold.blamed f.row f.lines) (r.lines + 1) (next_line ∙ sym b)
 
-  pub holds-wrong-row : fold.blamed f.row f.lines ≡ f.lines
+  pub holds_wrong_row : fold.blamed f.row f.lines ≡ f.lines
       → Holds (fold.wrong f) (made_wrong_row r) cells table labels names
-  holds-wrong-row b = holds-losing (fold.blamed f.row f.lines) r.lines (h.counts.lines ∙ sym b)
+  holds_wrong_row b = holds_losing (fold.blamed f.row f.lines) r.lines (h.counts.lines ∙ sym b)
 
   -- the line that must be this one
-  pub holds-expect : f.row ≡ none → (w l : List ℕ) (s : Stage) (right : Bool) → right ≡ same l w
+  pub holds_expect : f.row ≡ none → (w l : List ℕ) (s : Stage) (right : Bool) → right ≡ same l w
       → Holds (fold.expect w (stage_of s) f l) (expected right r s) cells table labels names
-  holds-expect outside w l s right e = rw (← e) (go right)
+  holds_expect outside w l s right e = rw (← e) (go right)
     where
       go : (b : Bool) → Holds (cond b (fold.onward (stage_of s) f) (fold.wrong f))
           (cond b (changed r (r.lines + 1) s r.note) (made_wrong r)) cells table labels names
-      go true = holds-onward s
-      go false = holds-wrong (blamed_outside f.row f.lines outside)
+      go true = holds_onward s
+      go false = holds_wrong (blamed_outside f.row f.lines outside)
 
 -- ── the lines of a row ──
 
@@ -174,13 +174,13 @@ kept_outside {o} {w} {n} {row} e h =
     record { lines = ap (strips_at row 0 (2 * w + 1)) z ∙ ap lines_in (sym e) }
 
 -- NAME and W begin no row
-pub name-row : (f : fold.Found) (o : Option (List ℕ)) → (fold.with_name f o).row ≡ f.row
-name-row f none = refl
-name-row f (some n) = refl
+pub name_row : (f : fold.Found) (o : Option (List ℕ)) → (fold.with_name f o).row ≡ f.row
+name_row f none = refl
+name_row f (some n) = refl
 
-pub width-row : (f : fold.Found) (o : Option ℕ) → f.row ≡ none → (fold.with_width f o).row ≡ none
-width-row f none e = e
-width-row f (some w) e = refl
+pub width_row_lem : (f : fold.Found) (o : Option ℕ) → f.row ≡ none → (fold.with_width f o).row ≡ none
+width_row_lem f none e = e
+width_row_lem f (some w) e = refl
 
 -- where neither the row nor W changed
 pub kept_same : {f g : fold.Found} {r q : Reading} {row : List ℕ} → Counts f r → Counts g q → g.row ≡ f.row
@@ -211,10 +211,10 @@ module _ (r : Reading) (l : List ℕ) (s : Stage) (told : r.stage ≡ s) where
       × RowKept (fold.lined_at z f l).row q.width q.row row') (sym e) (step f k e g h)
 
   -- a field line
-  pub field-stage : ((f : fold.Found) → fold.lined_at (stage_of s) f l ≡ fold.with_field f l) → {q : Reading}
+  pub field_stage : ((f : fold.Found) → fold.lined_at (stage_of s) f l ≡ fold.with_field f l) → {q : Reading}
       (held held' : List ℕ) {row counts counts' : List ℕ} → length l ≤ line_most
       → FieldStep l r q held held' counts counts' → LineStep l r q held held' row row counts counts'
-  field-stage is held held' brief step = (
+  field_stage is held held' brief step = (
     step.0,
     refl,
     at_stage (λ f k e g h.
@@ -223,15 +223,15 @@ module _ (r : Reading) (l : List ℕ) (s : Stage) (told : r.stage ≡ s) where
   )
 
   -- a line in a row
-  pub more-stage : s ≡ at.InRow → {q : Reading} {cells cells' row row' : List ℕ} {table : Area}
+  pub more_stage : s ≡ at.InRow → {q : Reading} {cells cells' row row' : List ℕ} {table : Area}
       {labels : List (List ℕ)} {names : Names} → RowStep l r q cells cells' row row'
       → (f : fold.Found) → Steady f → RowKept f.row r.width r.row row → Holds f r cells table labels names
       → Holds (fold.lined f l) q cells' table labels names
       × RowKept (fold.lined f l).row q.width q.row row'
   unfolding fold.lined_at
-  more-stage inside {q} {cells} {cells'} {row} {row'} {table} {labels} {names} step f k g h =
+  more_stage inside {q} {cells} {cells'} {row} {row'} {table} {labels} {names} step f k g h =
       let e : f.stage ≡ fold.in_row = sym h.counts.stage ∙ ap stage_of (told ∙ inside) in
-      let x = some-row k e in
+      let x = some_row k e in
       let kept = subst (λ (o : Option Row). RowKept o r.width r.row row) x.1 g in
       let w = step f x.0 table labels names k (ap is_head e) x.1 kept h in
       subst (λ (z : fold.Stage). Holds (fold.lined_at z f l) q cells' table labels names
@@ -241,28 +241,28 @@ module _ (r : Reading) (l : List ℕ) (s : Stage) (told : r.stage ≡ s) where
 
   module _ (outside : (o : Option Row) → row_goes (stage_of s) o ≡ is_none o) where
     -- a line of the head that is none of a row, and behind which there is none
-    pub head-stage : {q : Reading} {cells cells' row : List ℕ} {table table' : Area} {labels : List (List ℕ)}
+    pub head_stage : {q : Reading} {cells cells' row : List ℕ} {table table' : Area} {labels : List (List ℕ)}
         {names : Names} → is_head (stage_of s) ≡ true → HeadStep (λ f. fold.lined_at (stage_of s) f l) r q cells cells'
         table table'
         → ((f : fold.Found) → f.row ≡ none → (fold.lined_at (stage_of s) f l).row ≡ none)
         → (f : fold.Found) → Steady f → RowKept f.row r.width r.row row → Holds f r cells table labels names
         → Holds (fold.lined f l) q cells' table' labels names
         × RowKept (fold.lined f l).row q.width q.row row
-    head-stage {labels = labels} {names = names} head step none-behind =
+    head_stage {labels = labels} {names = names} head step none_behind =
         at_stage (λ f k e g h.
         let o = no_row (stage_of s) k e outside in
         let w = step f labels names k (ap is_head e ∙ head) o h in
-        (w, kept_outside (none-behind f o) w.counts.row))
+        (w, kept_outside (none_behind f o) w.counts.row))
 
     -- or behind which one may be begun
-    pub row-stage : {q : Reading} {cells cells' row row' : List ℕ} {table table' : Area} {labels : List (List ℕ)}
+    pub row_stage : {q : Reading} {cells cells' row row' : List ℕ} {table table' : Area} {labels : List (List ℕ)}
         {names : Names} → is_head (stage_of s) ≡ true
         → HeadStep (λ f. fold.lined_at (stage_of s) f l) r q cells cells' table table'
         → HeadRow (λ f. fold.lined_at (stage_of s) f l) r q row'
         → (f : fold.Found) → Steady f → RowKept f.row r.width r.row row → Holds f r cells table labels names
         → Holds (fold.lined f l) q cells' table' labels names
         × RowKept (fold.lined f l).row q.width q.row row'
-    row-stage {labels = labels} {names = names} head step begun =
+    row_stage {labels = labels} {names = names} head step begun =
         at_stage (λ f k e g h.
         let o = no_row (stage_of s) k e outside in (
           step f labels names k (ap is_head e ∙ head) o h,
@@ -270,25 +270,25 @@ module _ (r : Reading) (l : List ℕ) (s : Stage) (told : r.stage ≡ s) where
         ))
 
     -- a line that must be a certain one, which may go by W
-    pub expect-step : (want : ℕ → List ℕ) (next : Stage) (right : Bool) (held : List ℕ) {row counts : List ℕ}
+    pub expect_step : (want : ℕ → List ℕ) (next : Stage) (right : Bool) (held : List ℕ) {row counts : List ℕ}
         → Room r → right ≡ same l (want r.width)
         → ((f : fold.Found) → fold.lined_at (stage_of s) f l ≡ fold.expect (want f.width) (stage_of next) f l)
         → Taken r (expected right r next) × LineStep l r (expected right r next) held held row row counts counts
-    expect-step want next right held room e is = (
-      taken-expect right r next room,
+    expect_step want next right held room e is = (
+      taken_expect right r next room,
       (
         refl,
         refl,
         at_stage (λ f k t g h.
             let o = no_row (stage_of s) k t outside in
-            let w = holds-expect f r h o (want f.width) l next right
+            let w = holds_expect f r h o (want f.width) l next right
             (e ∙ ap (λ (w : ℕ). same l (want w)) h.counts.width) in
-            rw (is f) (w, kept_outside (expect-row f (want f.width) (stage_of next) ∙ o) w.counts.row)),
+            rw (is f) (w, kept_outside (expect_row f (want f.width) (stage_of next) ∙ o) w.counts.row)),
       ),
     )
       where
-        expect-row : (f : fold.Found) (w : List ℕ) (n : fold.Stage) → (fold.expect w n f l).row ≡ f.row
-        expect-row f w n = go (same l w)
+        expect_row : (f : fold.Found) (w : List ℕ) (n : fold.Stage) → (fold.expect w n f l).row ≡ f.row
+        expect_row f w n = go (same l w)
           where
             go : (b : Bool) → (cond b (fold.onward n f) (fold.wrong f)).row ≡ f.row
             go true = refl

@@ -43,24 +43,24 @@ joined_part x from before right le is k = record {
 }
 
 -- the first bytes were written over, one by one
-pub set-two : (l : List ℕ) (a b : ℕ) → 1 < length l → take 2 (set (set l 0 a) 1 b) ≡ a ∷ b ∷ []
-set-two [] a b lt = absurd (omega arith)
-set-two (x ∷ []) a b lt = absurd (omega arith)
-set-two (x ∷ y ∷ l) a b lt = refl
+pub set_two : (l : List ℕ) (a b : ℕ) → 1 < length l → take 2 (set (set l 0 a) 1 b) ≡ a ∷ b ∷ []
+set_two [] a b lt = absurd (omega arith)
+set_two (x ∷ []) a b lt = absurd (omega arith)
+set_two (x ∷ y ∷ l) a b lt = refl
 
-pub set-five : (l : List ℕ) (a b c d e : ℕ) → 4 < length l
+pub set_five : (l : List ℕ) (a b c d e : ℕ) → 4 < length l
     → take 5 (set (set (set (set (set l 0 a) 1 b) 2 c) 3 d) 4 e) ≡ a ∷ b ∷ c ∷ d ∷ e ∷ []
-set-five [] a b c d e lt = absurd (omega arith)
-set-five (x ∷ []) a b c d e lt = absurd (omega arith)
-set-five (x ∷ y ∷ []) a b c d e lt = absurd (omega arith)
-set-five (x ∷ y ∷ z ∷ []) a b c d e lt = absurd (omega arith)
-set-five (x ∷ y ∷ z ∷ v ∷ []) a b c d e lt = absurd (omega arith)
-set-five (x ∷ y ∷ z ∷ v ∷ w ∷ l) a b c d e lt = refl
+set_five [] a b c d e lt = absurd (omega arith)
+set_five (x ∷ []) a b c d e lt = absurd (omega arith)
+set_five (x ∷ y ∷ []) a b c d e lt = absurd (omega arith)
+set_five (x ∷ y ∷ z ∷ []) a b c d e lt = absurd (omega arith)
+set_five (x ∷ y ∷ z ∷ v ∷ []) a b c d e lt = absurd (omega arith)
+set_five (x ∷ y ∷ z ∷ v ∷ w ∷ l) a b c d e lt = refl
 
 -- ── the type of a whole ──
 
-pub both-same : (a b t g : ℕ) → a ≡ t → b ≡ t → g ≡ cond (eqb a t && eqb b t) g 0
-both-same a b t g p q = rw (eq-eqb a t p, eq-eqb b t q) refl
+pub both_same : (a b t g : ℕ) → a ≡ t → b ≡ t → g ≡ cond (eqb a t && eqb b t) g 0
+both_same a b t g p q = rw (eq-eqb a t p, eq-eqb b t q) refl
 
 pub first_other : (a b t g : ℕ) → (a ≡ t → ⊥) → 0 ≡ cond (eqb a t && eqb b t) g 0
 first_other a b t g p = rw (ne_eqb a t p) refl

@@ -21,18 +21,18 @@ use Rattle.texts.specs.StoredPlaces.{Made, NotMade, TwoMade, WithinStored, LeafS
 use Rattle.texts.specs.ExprPlaces.{wrap_of}
 use Rattle.texts.specs.StoredPlaces.{ClosedStored}
 use Rattle.texts.specs.declared.stored_trees.StoredTree.{StoredTree}
-use Rattle.texts.proofs.ExprSteps.{two-length}
+use Rattle.texts.proofs.ExprSteps.{two_length}
 use Rattle.texts.proofs.ExprLeaves.{word_part, longer}
 use Rattle.texts.proofs.StoredBytes.{Joined}
 
 -- ── a stored expression that holds a tree ──
 
-pub some-length : (t : Tree (List ℕ)) → 0 < stored_length t
+pub some_length : (t : Tree (List ℕ)) → 0 < stored_length t
 unfolding stored_tree
-some-length (num n) = omega arith
-some-length (read w) = omega arith
-some-length (two o a b) = omega arith
-some-length (negation a) = omega arith
+some_length (num n) = omega arith
+some_length (read w) = omega arith
+some_length (two o a b) = omega arith
+some_length (negation a) = omega arith
 
 module _ (names : Names) (n : ℕ) where
   pub is_name : (w : List ℕ) (at : ℕ) (r : TreeBytes)
@@ -47,11 +47,11 @@ module _ (names : Names) (n : ℕ) where
   is_number v at r m =
       record { len = m.len; gives = m.gives; deep = m.deep; bytes = λ h. rw m.len (m.bytes (omega arith)) }
 
-  pub is-not : (p : StoredTree) (before : List ℕ) (at : ℕ) (r : TreeBytes) (t : Tree (List ℕ))
+  pub is_not : (p : StoredTree) (before : List ℕ) (at : ℕ) (r : TreeBytes) (t : Tree (List ℕ))
       → length r.bytes ≡ length before → NotMade p before at r → StoredIs names n t (held p before)
       → StoredIs names n (negation t) r
   unfolding stored_tree type_of depth
-  is-not p before at r t k m x =
+  is_not p before at r t k m x =
       let e : p.len ≡ stored_length t = x.len in
       record {
         len = m.len ∙ rw e (omega arith);
@@ -66,13 +66,13 @@ module _ (names : Names) (n : ℕ) where
   unfolding stored_tree
   two_bytes o t u x y a b p d q = rw (take-add x y a, p, d, q) refl
 
-  pub is-two : (o : Op) (a b : StoredTree) (before right mid : List ℕ) (r : TreeBytes) (t u : Tree (List ℕ))
+  pub is_two : (o : Op) (a b : StoredTree) (before right mid : List ℕ) (r : TreeBytes) (t u : Tree (List ℕ))
       → TwoMade o a b mid r → length r.bytes ≡ length before → StoredIs names n t (held a before)
       → StoredIs names n u (held b right) → Joined a.len before right mid → StoredIs names n (two o t u) r
   unfolding type_of depth
-  is-two o a b before right mid r t u m k x y j =
+  is_two o a b before right mid r t u m k x y j =
       let l : stored_length (two o t u) ≡ 1 + (a.len + b.len) =
-      two-length o t u a.len b.len (sym x.len) (sym y.len) in
+      two_length o t u a.len b.len (sym x.len) (sym y.len) in
       let lx : a.len ≡ stored_length t = x.len in
       let ly : b.len ≡ stored_length u = y.len in
       record {
@@ -88,10 +88,10 @@ module _ (names : Names) (n : ℕ) where
       }
 
   -- the same expression, that ends elsewhere
-  pub is-moved : (p r : StoredTree) (t : Tree (List ℕ)) (before after : List ℕ) → r.gives ≡ p.gives
+  pub is_moved : (p r : StoredTree) (t : Tree (List ℕ)) (before after : List ℕ) → r.gives ≡ p.gives
       → r.depth ≡ p.depth → r.len ≡ p.len → after ≡ before → StoredIs names n t (held p before)
       → StoredIs names n t (held r after)
-  is-moved p r t before after k d l b x = record {
+  is_moved p r t before after k d l b x = record {
     len = l ∙ x.len;
     gives = k ∙ x.gives;
     deep = d ∙ x.deep;
@@ -100,12 +100,12 @@ module _ (names : Names) (n : ℕ) where
 
   -- ── the code's answer tells the reader's ──
 
-  pub stored-fail : (s : List ℕ) (o : Out) (r : TreeBytes) → r.len ≡ 0 → SameStored names n s o r → o ≡ fail
+  pub stored_fail : (s : List ℕ) (o : Out) (r : TreeBytes) → r.len ≡ 0 → SameStored names n s o r → o ≡ fail
   unfolding SameStored
-  stored-fail s fail r e w = refl
-  stored-fail s (got t q) r e w =
+  stored_fail s fail r e w = refl
+  stored_fail s (got t q) r e w =
       let l : r.len ≡ stored_length t = w.0.len in
-      let g = some-length t in
+      let g = some_length t in
       absurd (omega arith)
 
   pub record Held (s : List ℕ) (o : Out) (r : TreeBytes) : Type 0 where
@@ -113,10 +113,10 @@ module _ (names : Names) (n : ℕ) where
     pub is : o ≡ got tree (drop r.next s)
     pub stored : StoredIs names n tree r
 
-  pub stored-got : (s : List ℕ) (o : Out) (r : TreeBytes) → (r.len ≡ 0 → ⊥) → SameStored names n s o r → Held s o r
+  pub stored_got : (s : List ℕ) (o : Out) (r : TreeBytes) → (r.len ≡ 0 → ⊥) → SameStored names n s o r → Held s o r
   unfolding SameStored
-  stored-got s fail r e w = absurd (e w)
-  stored-got s (got t q) r e w = record { tree = t; is = ap (λ (l : List ℕ). got t l) (sym w.1); stored = w.0 }
+  stored_got s fail r e w = absurd (e w)
+  stored_got s (got t q) r e w = record { tree = t; is = ap (λ (l : List ℕ). got t l) (sym w.1); stored = w.0 }
 
   pub same_none : (s : List ℕ) (r : TreeBytes) → r.len ≡ 0 → SameStored names n s fail r
   unfolding SameStored
@@ -143,9 +143,9 @@ pub here_within : (s : List ℕ) (lo at z : ℕ) (r : StoredTree) → lo ≤ r.n
 here_within s lo at z r a b c d = record { low = λ h. a; high = λ h. b; grown = λ h. c; flat = λ h. d }
 
 -- from a later place on
-pub up-within : (s : List ℕ) (lo at z lo' at' z' : ℕ) (r : StoredTree) → lo' ≤ lo → z + 5 * at' ≤ z' + 5 * at
+pub up_within : (s : List ℕ) (lo at z lo' at' z' : ℕ) (r : StoredTree) → lo' ≤ lo → z + 5 * at' ≤ z' + 5 * at
     → WithinStored s lo at z r → WithinStored s lo' at' z' r
-up-within s lo at z lo' at' z' r a b w = record {
+up_within s lo at z lo' at' z' r a b w = record {
   low = λ h. (let p = w.low h in omega arith);
   high = w.high;
   grown = λ h. (let p = w.grown h in omega arith);
@@ -153,9 +153,9 @@ up-within s lo at z lo' at' z' r a b w = record {
 }
 
 -- where there is an expression
-pub got-within : (s : List ℕ) (lo at z : ℕ) (r : StoredTree) → (r.len ≡ 0 → ⊥) → WithinStored s lo at z r
+pub got_within : (s : List ℕ) (lo at z : ℕ) (r : StoredTree) → (r.len ≡ 0 → ⊥) → WithinStored s lo at z r
     → (lo ≤ r.next) × (r.next ≤ length s) × (r.len + 5 * at ≤ z + 5 * r.next) × (r.depth ≤ r.len)
-got-within s lo at z r e w = let h : 0 < r.len = omega (arith, e) in (w.low h, w.high h, w.grown h, w.flat h)
+got_within s lo at z r e w = let h : 0 < r.len = omega (arith, e) in (w.low h, w.high h, w.grown h, w.flat h)
 
 -- ── a leaf ──
 
@@ -167,11 +167,11 @@ module _ (names : Names) (n : ℕ) (s : List ℕ) (at end : ℕ) (lo : at ≤ en
   abbrev pub LeafMade : StoredTree → List ℕ → Type 0
   LeafMade r bytes = WithinStored s (at + 1) at 0 r × LeafStored names n s at (held r bytes)
 
-  pub leaf-name : (i : ℕ) (r : StoredTree) (bytes : List ℕ) → is_short (take (end - at) (drop at s)) ≡ true
+  pub leaf_name : (i : ℕ) (r : StoredTree) (bytes : List ℕ) → is_short (take (end - at) (drop at s)) ≡ true
       → i ≡ look_up names n (take (end - at) (drop at s))
       → Made end (cond (ltb i n) 1 0) 1 2 (field_code ∷ i ∷ []) (held r bytes) → LeafMade r bytes
   unfolding leaf is_short
-  leaf-name i r bytes y q m =
+  leaf_name i r bytes y q m =
       let u : at + 1 ≤ end = longer s at end lo hi e is_short refl y in
       let x : StoredIs names n (read (word (drop at s))) (held r bytes) =
       is_name names n (word (drop at s)) end (held r bytes) (rw part_is at (rw q at m)) in
@@ -182,12 +182,12 @@ module _ (names : Names) (n : ℕ) (s : List ℕ) (at end : ℕ) (lo : at ≤ en
             x d),
       )
 
-  pub leaf-number : (v : ℕ) (r : StoredTree) (bytes : List ℕ) → is_short (take (end - at) (drop at s)) ≡ false
+  pub leaf_number : (v : ℕ) (r : StoredTree) (bytes : List ℕ) → is_short (take (end - at) (drop at s)) ≡ false
       → is_number_word (take (end - at) (drop at s)) ≡ true
       → (is_number_word (take (end - at) (drop at s)) ≡ true → v ≡ word_value (take (end - at) (drop at s)))
       → Made end 1 1 5 (number_code ∷ le4 v) (held r bytes) → LeafMade r bytes
   unfolding leaf is_number_word is_numeral
-  leaf-number v r bytes k y q m =
+  leaf_number v r bytes k y q m =
       let u : at + 1 ≤ end = longer s at end lo hi e is_number_word refl y in
       let x : StoredIs names n (num (word_value (word (drop at s)))) (held r bytes) =
       is_number names n (word_value (word (drop at s))) end (held r bytes)
@@ -199,10 +199,10 @@ module _ (names : Names) (n : ℕ) (s : List ℕ) (at end : ℕ) (lo : at ≤ en
             (same_here names n s (num (word_value (word (drop at s)))) (behind (drop at s)) (held r bytes) x d),
       )
 
-  pub leaf-none : (r : StoredTree) (bytes : List ℕ) → is_short (take (end - at) (drop at s)) ≡ false
+  pub leaf_none : (r : StoredTree) (bytes : List ℕ) → is_short (take (end - at) (drop at s)) ≡ false
       → is_number_word (take (end - at) (drop at s)) ≡ false → r.len ≡ 0 → LeafMade r bytes
   unfolding leaf is_number_word
-  leaf-none r bytes k y z = (
+  leaf_none r bytes k y z = (
     none_within s (at + 1) at 0 r z,
     rw (rw part_is at k, leaf, rw part_is at y) (same_none names n s (held r
         bytes) z),
@@ -215,16 +215,16 @@ module _ (s : List ℕ) (p r : StoredTree) (neg : Bool) (before after : List ℕ
   ClosedMade =
       WithinStored s (p.next + 1) p.next p.len r × ClosedStored s neg (held p before) (held r after)
 
-  pub close-end : p.next ≡ length s → r.len ≡ 0 → ClosedMade
+  pub close_end : p.next ≡ length s → r.len ≡ 0 → ClosedMade
   unfolding close
-  close-end q e = (
+  close_end q e = (
     none_within s (p.next + 1) p.next p.len r e,
     λ names n t x. rw (q, drop-length) (same_none names n s (held r after) e),
   )
 
-  pub close-no : p.next < length s → (get_or s p.next 0 ≡ 41 → ⊥) → r.len ≡ 0 → ClosedMade
+  pub close_no : p.next < length s → (get_or s p.next 0 ≡ 41 → ⊥) → r.len ≡ 0 → ClosedMade
   unfolding close
-  close-no lt q e = (
+  close_no lt q e = (
     none_within s (p.next + 1) p.next p.len r e,
     λ names n t x. rw (drop-cons s p.next 0 lt, ne_eqb (get_or s p.next 0) 41 q, close)
         (same_none names n s (held r after) e),
@@ -239,20 +239,20 @@ module _ (s : List ℕ) (p r : StoredTree) (neg : Bool) (before after : List ℕ
       rw (drop-cons s p.next 0 lt, q)
       (same_here names n s (wrap_of neg t) (drop (suc p.next) s) (held r after) x (rw (e, add-one p.next) refl))
 
-  pub close-not : p.next < length s → get_or s p.next 0 ≡ 41 → neg ≡ true → p.depth ≤ p.len
+  pub close_not : p.next < length s → get_or s p.next 0 ≡ 41 → neg ≡ true → p.depth ≤ p.len
       → length after ≡ length before → NotMade p before (p.next + 1) (held r after) → ClosedMade
-  close-not lt q y d k m = (
+  close_not lt q y d k m = (
     here_within s (p.next + 1) p.next p.len r (rw m.next (omega arith)) (rw m.next (omega arith))
         (rw (m.next, m.len) (omega arith)) (rw (m.deep, m.len) (omega arith)),
     λ names n t x. close_yes names n t lt q m.next
-        (rw y (is-not names n p before (p.next + 1) (held r after) t k m x)),
+        (rw y (is_not names n p before (p.next + 1) (held r after) t k m x)),
   )
 
-  pub close-same : p.next < length s → get_or s p.next 0 ≡ 41 → neg ≡ false → r.next ≡ p.next + 1
+  pub close_same : p.next < length s → get_or s p.next 0 ≡ 41 → neg ≡ false → r.next ≡ p.next + 1
       → r.gives ≡ p.gives → r.depth ≡ p.depth → r.len ≡ p.len → after ≡ before → p.depth ≤ p.len
       → ClosedMade
-  close-same lt q y e k d l b f = (
+  close_same lt q y e k d l b f = (
     here_within s (p.next + 1) p.next p.len r (rw e (omega arith)) (rw e (omega arith))
         (rw (e, l) (omega arith)) (rw (d, l) f),
-    λ names n t x. close_yes names n t lt q e (rw y (is-moved names n p r t before after k d l b x)),
+    λ names n t x. close_yes names n t lt q e (rw y (is_moved names n p r t before after k d l b x)),
   )

@@ -23,9 +23,9 @@ use Rattle.texts.specs.declared.signs.Sign.{Sign}
 use Rattle.texts.specs.declared.signs.Sign.TheVariants as sign
 use Rattle.texts.specs.declared.signs.Taken.{Taken}
 use Rattle.texts.specs.declared.signs.Taken.TheVariants as taken
-use Rattle.texts.proofs.OperatorRows.{row-level, row-left, row-right}
+use Rattle.texts.proofs.OperatorRows.{row_level, row_left, row_right}
 use Rattle.texts.proofs.ExprSigns.{sign_none, sign_some, sign_within}
-use Rattle.texts.proofs.ExprSteps.{row-stops}
+use Rattle.texts.proofs.ExprSteps.{row_stops}
 
 -- ── what the code finds ──
 
@@ -42,37 +42,37 @@ module _ (s : List ℕ) (at from k h : ℕ) (g : Sign) (skips : drop from s ≡ 
       rw skips at (sign_none s (first_of order (drop from s)) g e w) in
       (tt, rw q refl)
 
-  operator-is : (o : Op) (n : ℕ) → g ≡ sign.At o n → operator_at (drop at s) ≡ found o (skip (drop n s))
+  operator_is : (o : Op) (n : ℕ) → g ≡ sign.At o n → operator_at (drop at s) ≡ found o (skip (drop n s))
   unfolding operator_at skip_behind
-  operator-is o n i =
+  operator_is o n i =
       let q : first_of order (skip (drop at s)) ≡ found o (drop n s) =
       rw skips at (sign_some s (first_of order (drop from s)) g o n i w) in
       rw q refl
 
-  pub taken-stop : (o : Op) (n : ℕ) → g ≡ sign.At o n → (row : Row) → row ≡ row_of o
+  pub taken_stop : (o : Op) (n : ℕ) → g ≡ sign.At o n → (row : Row) → row ≡ row_of o
       → (row.level < k) ⊎ (h < row.left) → TakenHere taken.Nothing
   unfolding taken_in SameTaken WithinTaken
-  taken-stop o n i row is out = (tt, rw (operator-is o n i, row-stops k h o row is out) refl)
+  taken_stop o n i row is out = (tt, rw (operator_is o n i, row_stops k h o row is out) refl)
 
   pub taken_by : (o : Op) (n : ℕ) → g ≡ sign.At o n → (row : Row) → row ≡ row_of o → k ≤ row.level → row.left ≤ h
       → at ≤ from → WithinSign s from g → (m : ℕ) → n ≤ m → m ≤ length s → drop m s ≡ skip (drop n s)
       → TakenHere (taken.By o m row.level row.right)
   unfolding taken_in SameTaken WithinTaken
   taken_by o n i row is kl lh lo u m nm hi d =
-      let l : k ≤ level o = omega (arith, row-level row o is) in
-      let e : left_level o ≤ h = omega (arith, row-left row o is) in
+      let l : k ≤ level o = omega (arith, row_level row o is) in
+      let e : left_level o ≤ h = omega (arith, row_left row o is) in
       let v = sign_within s from g o n i u in (
         (omega (arith, v.0), hi),
-        rw (operator-is o n i, le-leb k (level o) l, le-leb (left_level o) h e)
-            (m, rw (← row-level row o is, ← row-right row o is) refl, d),
+        rw (operator_is o n i, le-leb k (level o) l, le-leb (left_level o) h e)
+            (m, rw (← row_level row o is, ← row_right row o is) refl, d),
       )
 
 -- ── what it tells ──
 
-pub is-missing : (s : List ℕ) (a : Found) (r : Taken) → r ≡ taken.Nothing → SameTaken s a r → a ≡ missing
+pub is_missing_lem : (s : List ℕ) (a : Found) (r : Taken) → r ≡ taken.Nothing → SameTaken s a r → a ≡ missing
 unfolding SameTaken
-is-missing s missing r e w = refl
-is-missing s (found o q) r e w = let e' = w.1 in cc
+is_missing_lem s missing r e w = refl
+is_missing_lem s (found o q) r e w = let e' = w.1 in cc
 
 pub record Told (s : List ℕ) (at : ℕ) (a : Found) (o : Op) (n l q : ℕ) : Type 0 where
   pub found : a ≡ found o (drop n s)
@@ -95,29 +95,29 @@ is_found s at a r o n l q p i w =
 -- ── the reader's step ──
 
 module _ (k h : ℕ) (stop : Out) (go : Op → List ℕ → Out) where
-  pub step-none : (a : Found) → taken_in k h a ≡ missing → step k h stop a go ≡ stop
+  pub step_none : (a : Found) → taken_in k h a ≡ missing → step k h stop a go ≡ stop
   unfolding step taken_in
-  step-none missing e = refl
-  step-none (found o r) e = pick (leb k (level o) && leb (left_level o) h) e
+  step_none missing e = refl
+  step_none (found o r) e = pick (leb k (level o) && leb (left_level o) h) e
     where
       pick : (b : Bool) → cond b (found o r) missing ≡ missing → cond b (go o r) stop ≡ stop
       pick true e = let z : ◌≡◌ {A = ℕ} 0 1 = cc in absurd (omega arith)
       pick false e = refl
 
-  pub step-some : (a : Found) (o : Op) (r : List ℕ) → taken_in k h a ≡ found o r → step k h stop a go ≡ go o r
+  pub step_some : (a : Found) (o : Op) (r : List ℕ) → taken_in k h a ≡ found o r → step k h stop a go ≡ go o r
   unfolding step taken_in
-  step-some missing o r e = let z : ◌≡◌ {A = ℕ} 0 1 = cc in absurd (omega arith)
-  step-some (found p q) o r e = pick (leb k (level p) && leb (left_level p) h) e
+  step_some missing o r e = let z : ◌≡◌ {A = ℕ} 0 1 = cc in absurd (omega arith)
+  step_some (found p q) o r e = pick (leb k (level p) && leb (left_level p) h) e
     where
       pick : (b : Bool) → cond b (found p q) missing ≡ found o r → cond b (go p q) stop ≡ go o r
       pick true e = let x : p ≡ o = cc in let y : q ≡ r = cc in rw (x, y)
       pick false e = let z : ◌≡◌ {A = ℕ} 0 1 = cc in absurd (omega arith)
 
 -- an operator that is taken binds as tightly as the level asks
-pub taken-level : (k h : ℕ) (a : Found) (o : Op) (r : List ℕ) → taken_in k h a ≡ found o r → k ≤ level o
+pub taken_level : (k h : ℕ) (a : Found) (o : Op) (r : List ℕ) → taken_in k h a ≡ found o r → k ≤ level o
 unfolding taken_in
-taken-level k h missing o r e = let z : ◌≡◌ {A = ℕ} 0 1 = cc in absurd (omega arith)
-taken-level k h (found p q) o r e = pick (leb k (level p) && leb (left_level p) h) refl e
+taken_level k h missing o r e = let z : ◌≡◌ {A = ℕ} 0 1 = cc in absurd (omega arith)
+taken_level k h (found p q) o r e = pick (leb k (level p) && leb (left_level p) h) refl e
   where
     pick : (b : Bool) → (leb k (level p) && leb (left_level p) h) ≡ b → cond b (found p q) missing ≡ found o r
         → k ≤ level o

@@ -26,10 +26,10 @@ module _ {N : Type 0} (may : N → Bool) where
   code_same YesNo Number = refl
   code_same YesNo YesNo = refl
 
-  code-some : (k : ValueType) → eqb 0 (type_code k) ≡ false
+  code_some : (k : ValueType) → eqb 0 (type_code k) ≡ false
   unfolding type_code
-  code-some Number = refl
-  code-some YesNo = refl
+  code_some Number = refl
+  code_some YesNo = refl
 
   by_test : (k j : ValueType) (x : Bool) → same_type k j && x ≡ eqb (cond x (type_code j) 0) (type_code k)
   by_test k j true = rw (code_same k j) (and_true' (eqb (type_code j) (type_code k)))
@@ -37,7 +37,7 @@ module _ {N : Type 0} (may : N → Bool) where
       and_true' : (b : Bool) → b && true ≡ b
       and_true' true = refl
       and_true' false = refl
-  by_test k j false = rw (code-some k) (and_false' (same_type k j))
+  by_test k j false = rw (code_some k) (and_false' (same_type k j))
     where
       and_false' : (b : Bool) → b && false ≡ false
       and_false' true = refl

@@ -20,9 +20,9 @@ module _ (s : List ℕ) (at : ℕ) where
   unfolding left_trim
   left_end le le' = let e : at ≡ length s = omega arith in rw (e, drop-length) refl
 
-  pub left-stop : at < length s → is_space (get_or s at 0) ≡ false → drop at s ≡ left_trim (drop at s)
+  pub left_stop : at < length s → is_space (get_or s at 0) ≡ false → drop at s ≡ left_trim (drop at s)
   unfolding left_trim
-  left-stop lt e = rw (drop-cons s at 0 lt, e) refl
+  left_stop lt e = rw (drop-cons s at 0 lt, e) refl
 
   pub left_step : at < length s → is_space (get_or s at 0) ≡ true → left_trim (drop at s) ≡ left_trim (drop (at + 1) s)
   unfolding left_trim
@@ -47,15 +47,15 @@ module _ (s : List ℕ) (n : ℕ) where
       let e : n ≡ suc (n - 1) = omega arith in
       ap (λ (m : ℕ). take m s) e ∙ take_last (n - 1) s (omega arith)
 
-  pub right-stop : 0 < n → n ≤ length s → is_space (get_or s (n - 1) 0) ≡ false → take n s ≡ right_trim (take n s)
-  right-stop lt le ne =
+  pub right_stop : 0 < n → n ≤ length s → is_space (get_or s (n - 1) 0) ≡ false → take n s ≡ right_trim (take n s)
+  right_stop lt le ne =
       let w = whole lt le in
       w ∙ sym (right_kept (take (n - 1) s) (get_or s (n - 1) 0) ne) ∙ ap right_trim (sym w)
 
-  pub right-step : 0 < n → n ≤ length s → is_space (get_or s (n - 1) 0) ≡ true
+  pub right_step : 0 < n → n ≤ length s → is_space (get_or s (n - 1) 0) ≡ true
       → right_trim (take n s) ≡ right_trim (take (n - 1) s)
   unfolding is_space
-  right-step lt le e =
+  right_step lt le e =
       ap right_trim (whole lt le ∙ ap (λ (c : ℕ). take (n - 1) s ++ (c ∷ [])) (eqb-true (get_or s
       (n - 1) 0) 32 e)) ∙ right_pad (take (n - 1) s) 1
 

@@ -9,7 +9,7 @@ use lib.ListN.{length, drop}
 use borrow.Author.Tests.{le-leb, lt-leb, eqb-true}
 use Rattle.base.specs.Bytes.{bytes}
 use Rattle.base.specs.Lists.{between}
-use Rattle.base.proofs.Lists.{and_left, and_right, not-both, true_between}
+use Rattle.base.proofs.Lists.{and_left, and_right, not_both, true_between}
 use Rattle.rules.specs.Limits.{fixed_most}
 use Rattle.rules.specs.Trees.{Tree, num, read, two, negation, is_number}
 use Rattle.rules.specs.Fields.{fixed, measured, rest}
@@ -21,7 +21,7 @@ use Rattle.texts.specs.HeldParts.{FixedFor, MeasureWithin, MeasureFor, SizedFor}
 use Rattle.texts.specs.StoredTrees.{held, StoredIs, StoredFor}
 use Rattle.texts.specs.declared.stored_trees.StoredTree.{StoredTree}
 use Rattle.texts.specs.declared.width_trees.Measure.{Measure}
-use Rattle.texts.proofs.FieldNames.{literal-at}
+use Rattle.texts.proofs.FieldNames.{literal_at}
 use Rattle.texts.proofs.FieldWidths.{
   single,
   one_single,
@@ -30,7 +30,7 @@ use Rattle.texts.proofs.FieldWidths.{
   variable_there,
   variable_none,
 }
-use Rattle.texts.proofs.ClauseTrees.{stored-miss, stored-hit}
+use Rattle.texts.proofs.ClauseTrees.{stored_miss, stored_hit}
 
 -- a width without an expression
 abbrev pub Plain : ℕ → ℕ → ℕ → Measure → Type 0
@@ -47,8 +47,8 @@ refused bits next r e k names n s b = (
 pub fixed_zero : (bits next : ℕ) (r : Measure) → bits ≡ 0 → Plain 0 0 0 r → FixedFor bits next r
 fixed_zero bits next r e h = refused bits next r h.0 (rw e refl)
 
-pub fixed-large : (bits next : ℕ) (r : Measure) → fixed_most < bits → Plain 0 0 0 r → FixedFor bits next r
-fixed-large bits next r lt h =
+pub fixed_large : (bits next : ℕ) (r : Measure) → fixed_most < bits → Plain 0 0 0 r → FixedFor bits next r
+fixed_large bits next r lt h =
     let p : 1 ≤ bits = omega arith in
     refused bits next r h.0 (rw (le-leb 1 bits p, lt-leb bits fixed_most lt) refl)
 
@@ -70,10 +70,10 @@ fixed_here bits next r z le h names n s b =
 -- ── the width of an expression with its unit ──
 
 module _ (s : List ℕ) (at : ℕ) (t : StoredTree) (u next : ℕ) (lo : at ≤ next) (hi : next ≤ length s) where
-  pub sized-single : (m bits : ℕ) (r : Measure) → (eqb t.depth 1 && eqb t.len 5) ≡ true
+  pub sized_single : (m bits : ℕ) (r : Measure) → (eqb t.depth 1 && eqb t.len 5) ≡ true
       → ((k : ℕ) (q : List ℕ) → read_tree (drop at s) ≡ hit (num k) q → m ≡ k) → bits ≡ u * m → FixedFor bits next r
       → MeasureWithin s at r × SizedFor s at t u next r
-  sized-single m bits r y f b x = (
+  sized_single m bits r y f b x = (
     λ e. (let p = (x (names_in []) 0 s []).1 e in (omega (arith, p, lo), omega (arith, p, hi))),
     same,
   )
@@ -103,7 +103,7 @@ module _ (s : List ℕ) (at : ℕ) (t : StoredTree) (u next : ℕ) (lo : at ≤ 
     where
       same : SizedFor s at t u next (record { kind = 13; bits = u; next = next; tree = t })
       same names n c (num m) q h e =
-          absurd (not-both (eqb t.depth 1 && eqb t.len 5)
+          absurd (not_both (eqb t.depth 1 && eqb t.len 5)
           (one_single m t.depth t.len (sym h.deep) (sym h.len)) y)
       same names n c (read a) q h e = measured_as names n c (read a) i h refl
       same names n c (two o a b) q h e = measured_as names n c (two o a b) i h refl
@@ -120,20 +120,20 @@ module _ (names : Names) (n : ℕ) (s : List ℕ) (at : ℕ) (t : StoredTree) (b
   absent r h e = ((λ k. absurd (k h.0)), record { wrong = λ _. e; there = λ k. absurd (k h.0) })
 
   pub measure_fail : (r : Measure) → Plain 0 0 0 r → t.len ≡ 0 → MeasureAt r
-  measure_fail r h e = absent r h (measure_none (drop at s) (stored-miss names n s (read_tree (drop at s)) (held t b)
+  measure_fail r h e = absent r h (measure_none (drop at s) (stored_miss names n s (read_tree (drop at s)) (held t b)
       x e))
 
   pub measure_bare : (r : Measure) → Plain 0 0 0 r → (t.len ≡ 0 → ⊥) → spaced_unit (drop t.next s) ≡ miss
       → MeasureAt r
   measure_bare r h e m =
-      let f = stored-hit names n s (read_tree (drop at s)) (held t b) x e in
+      let f = stored_hit names n s (read_tree (drop at s)) (held t b) x e in
       absent r h (measure_is (drop at s) f.tree (drop t.next s) f.is_read ∙ rw m refl)
 
   pub measure_sized : (u next : ℕ) (r : Measure) → (t.len ≡ 0 → ⊥)
       → spaced_unit (drop t.next s) ≡ hit u (drop next s) → MeasureWithin s at r → SizedFor s at t u next r
       → MeasureAt r
   measure_sized u next r e m w k =
-      let f = stored-hit names n s (read_tree (drop at s)) (held t b) x e in
+      let f = stored_hit names n s (read_tree (drop at s)) (held t b) x e in
       let g = k names n b f.tree (drop t.next s) f.stored f.is_read in
       (w, rw (measure_is (drop at s) f.tree (drop t.next s) f.is_read) (rw m g))
 
@@ -141,10 +141,10 @@ module _ (names : Names) (n : ℕ) (s : List ℕ) (at : ℕ) (t : StoredTree) (b
 
 module _ (names : Names) (n : ℕ) (s : List ℕ) (at : ℕ) (le : at ≤ length s) (r : Measure) (b : List ℕ)
   where
-    pub width-rest : begins (bytes "variable") (drop at s) ≡ true → Plain 14 0 (at + 8) r
+    pub width_rest : begins (bytes "variable") (drop at s) ≡ true → Plain 14 0 (at + 8) r
         → MeasureWithin s at r × MeasureFor names n s (read_width (drop at s)) b r
-    width-rest y h =
-        let l = literal-at (bytes "variable") s at le y in
+    width_rest y h =
+        let l = literal_at (bytes "variable") s at le y in
         let m : at + 8 ≤ length s = l.0 in (
           (λ _. (omega (arith, h.2), omega (arith, h.2, m))),
           record {

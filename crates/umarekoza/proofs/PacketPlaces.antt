@@ -52,78 +52,78 @@ use Rattle.rules.specs.Promises.{
 }
 use Rattle.laws.proofs.Decidable.{good_decidable}
 
-fault-low : (f : Fault) → fault_number f ≤ 29
+fault_low : (f : Fault) → fault_number f ≤ 29
 unfolding fault_number
-fault-low Fault.BitsMissing = omega arith
-fault-low Fault.ConstraintFalse = omega arith
-fault-low Fault.AbsentRead = omega arith
-fault-low Fault.OutOfRange = omega arith
-fault-low Fault.ZeroDivisor = omega arith
+fault_low Fault.BitsMissing = omega arith
+fault_low Fault.ConstraintFalse = omega arith
+fault_low Fault.AbsentRead = omega arith
+fault_low Fault.OutOfRange = omega arith
+fault_low Fault.ZeroDivisor = omega arith
 
-pub number-low : (r : PacketAnswer) → (of_packet r).number ≤ 29
+pub number_low : (r : PacketAnswer) → (of_packet r).number ≤ 29
 unfolding of_packet
-number-low (PacketAnswer.Accepted n) = omega arith
-number-low PacketAnswer.NotGood = omega arith
-number-low PacketAnswer.TooLong = omega arith
-number-low PacketAnswer.ShortRun = omega arith
-number-low (PacketAnswer.Refused f i) = fault-low f
-number-low PacketAnswer.LeftOver = omega arith
+number_low (PacketAnswer.Accepted n) = omega arith
+number_low PacketAnswer.NotGood = omega arith
+number_low PacketAnswer.TooLong = omega arith
+number_low PacketAnswer.ShortRun = omega arith
+number_low (PacketAnswer.Refused f i) = fault_low f
+number_low PacketAnswer.LeftOver = omega arith
 
 module _ (packet : List ℕ) where
-  ended-low : (entries : List Entry) (n : ℕ) (b : Bool)
+  ended_low : (entries : List Entry) (n : ℕ) (b : Bool)
       → (reading_answer (cond b (complete entries) left_over) packet).place ≤ n
   unfolding reading_answer
-  ended-low entries n true = omega arith
-  ended-low entries n false = omega arith
+  ended_low entries n true = omega arith
+  ended_low entries n false = omega arith
 
-  step-low : (entries : List Entry) (next : List Entry → ℕ → Reading) (n : ℕ) (s : Step)
+  step_low : (entries : List Entry) (next : List Entry → ℕ → Reading) (n : ℕ) (s : Step)
       → ((e : Entry) (at : ℕ) → (reading_answer (next (entries ++ (e ∷ [])) at) packet).place ≤ suc (length entries) + n)
       → (reading_answer (read_on entries s next) packet).place ≤ suc (length entries) + n
   unfolding reading_answer
-  step-low entries next n (step e at) h = h e at
-  step-low entries next n (stop f) h = omega arith
+  step_low entries next n (step e at) h = h e at
+  step_low entries next n (stop f) h = omega arith
 
-  fields-low : (entries : List Entry) (place : ℕ) (fs : List (Field ℕ))
+  fields_low : (entries : List Entry) (place : ℕ) (fs : List (Field ℕ))
       → (reading_answer (read_fields packet entries place fs) packet).place ≤ length entries + length fs
   unfolding read_fields_in
-  fields-low entries place [] = ended-low entries _ (eqb place (bit_total packet))
-  fields-low entries place (f ∷ fs) =
-      let q = step-low entries (λ more next. read_fields packet more next fs) (length fs)
+  fields_low entries place [] = ended_low entries _ (eqb place (bit_total packet))
+  fields_low entries place (f ∷ fs) =
+      let q = step_low entries (λ more next. read_fields packet more next fs) (length fs)
       (read_field packet entries place (sum fixed_bits fs) f)
-      (λ e at. omega (arith, fields-low (entries ++ (e ∷ [])) at fs, length-append entries (e ∷ []))) in
+      (λ e at. omega (arith, fields_low (entries ++ (e ∷ [])) at fs, length-append entries (e ∷ []))) in
       omega (arith, q)
 
-  reading-low : (d : Description) → (reading_answer (reading d packet) packet).place ≤ length d.fields
+  reading_low : (d : Description) → (reading_answer (reading d packet) packet).place ≤ length d.fields
   unfolding reading_in reading_answer
-  reading-low d = go (is_too_long packet)
+  reading_low d = go (is_too_long packet)
     where
       go : (b : Bool)
           → (reading_answer (cond b too_long (read_fields packet [] 0 d.fields)) packet).place ≤ length d.fields
       go true = omega arith
-      go false = omega (arith, fields-low [] 0 d.fields)
+      go false = omega (arith, fields_low [] 0 d.fields)
 
-  outcome-low : (d : Description) (run : List ℕ) → (packet_outcome d packet run).answer.place ≤ length d.fields
+  outcome_low : (d : Description) (run : List ℕ) → (packet_outcome d packet run).answer.place ≤ length d.fields
   unfolding packet_outcome_in
-  outcome-low d run = go (not (is_too_long packet) && ltb (length run) (4 * length d.fields))
+  outcome_low d run = go (not (is_too_long packet) && ltb (length run) (4 * length d.fields))
     where
       go : (b : Bool)
           → (cond b (leaves (refused 23 0) run)
           (leaves (reading_answer (reading d packet) packet) (run_after (reading d packet) run))).answer.place
           ≤ length d.fields
       go true = omega arith
-      go false = reading-low d
+      go false = reading_low d
 
-  partly-low : (d : Description) (run : List ℕ)
+  partly_low : (d : Description) (run : List ℕ)
       → (partly_outcome d packet run).outcome.answer.place ≤ length d.fields
   unfolding partly_outcome
-  partly-low d run = go (not (is_too_long packet) && ltb (length run) (4 * length d.fields))
+  partly_low d run = go (not (is_too_long packet) && ltb (length run) (4 * length d.fields))
     where
       go : (b : Bool)
           → (cond b (partly_none (refused 23 0) run)
           (partly (reading_answer (reading d packet) packet) run (entries_before d packet))).outcome.answer.place
           ≤ length d.fields
       go true = omega arith
-      go false = reading-low d
+      go false = reading_low d
 
 -- no place is beyond the fields, whatever a decision gives
 pub low_by : (table : List ℕ) (a : Answer) (v : Dec (Good table) → ℕ) → ((good : Dec (Good table)) → a.place ≡ v good)
@@ -138,16 +138,16 @@ low_by table a v is low none = go (good_decidable table)
     go (no b) = omega (arith, is (no b), none b)
 
 -- the place of an answer that keeps a promise
-pub place-low : (table packet run : List ℕ) (a : Answer) (after : List ℕ)
+pub place_low : (table packet run : List ℕ) (a : Answer) (after : List ℕ)
     → ReadsPacket table packet run (leaves a after) → a.place ≤ fields_most
-place-low table packet run a after h =
+place_low table packet run a after h =
     low_by table a (λ good. (by_table good (λ d. packet_outcome d packet run) (leaves not_good run)).answer.place)
-    (λ good. ap (λ (o : Outcome). o.answer.place) (h good)) (λ g. outcome-low packet g.description run) (λ b. refl)
+    (λ good. ap (λ (o : Outcome). o.answer.place) (h good)) (λ g. outcome_low packet g.description run) (λ b. refl)
 
-pub partly-place-low : (table packet run : List ℕ) (a : Answer) (after : List ℕ) (n : ℕ)
+pub partly_place_low : (table packet run : List ℕ) (a : Answer) (after : List ℕ) (n : ℕ)
     → ReadsPartly table packet run (leaves_partly a after n) → a.place ≤ fields_most
-partly-place-low table packet run a after n h =
+partly_place_low table packet run a after n h =
     low_by table a
     (λ good. (by_table good (λ d. partly_outcome d packet run) (partly_none not_good run)).outcome.answer.place)
-    (λ good. ap (λ (p : Partly). p.outcome.answer.place) (h good)) (λ g. partly-low packet g.description run)
+    (λ good. ap (λ (p : Partly). p.outcome.answer.place) (h good)) (λ g. partly_low packet g.description run)
     (λ b. refl)

@@ -65,25 +65,25 @@ text_replies_ruled_out = record {
 }
 
 -- a byte of the state of the empty text
-fresh-byte : (t : List ℕ) (i : ℕ) → take state_bytes t ≡ fresh_state → i < state_bytes → get_or t i 0 ≡ get_or fresh_state i 0
-fresh-byte t i e lt = sym (get_or-take state_bytes t i 0 lt) ∙ ap (λ (l : List ℕ). get_or l i 0) e
+fresh_byte : (t : List ℕ) (i : ℕ) → take state_bytes t ≡ fresh_state → i < state_bytes → get_or t i 0 ≡ get_or fresh_state i 0
+fresh_byte t i e lt = sym (get_or-take state_bytes t i 0 lt) ∙ ap (λ (l : List ℕ). get_or l i 0) e
 
-fresh-first : get_or fresh_state 0 0 ≡ 0
+fresh_first : get_or fresh_state 0 0 ≡ 0
 unfolding fresh_state zeros_around
-fresh-first = refl
+fresh_first = refl
 
-fresh-line : get_or fresh_state 24 0 ≡ 0
+fresh_line : get_or fresh_state 24 0 ≡ 0
 unfolding fresh_state zeros_around
-fresh-line = refl
+fresh_line = refl
 
 pub piece_replies_ruled_out : WrongPieceReplies
 unfolding digits same joined sum operator le2 le4 stored_tree tree_reads field_reads times readers stored_in stored_with
     records_in stored_field_in field_body head_body delivered two_at
 piece_replies_ruled_out = record {
   idle_start = λ s room nine h.
-      let n = fresh-byte s 0 (h.1 room).0 (omega arith) ∙ fresh-first in absurd (omega (arith, n, nine));
+      let n = fresh_byte s 0 (h.1 room).0 (omega arith) ∙ fresh_first in absurd (omega (arith, n, nine));
   left_start = λ s t room nine h.
-      let n = fresh-byte t 24 (h.1 room).0 (omega arith) ∙ fresh-line in absurd (omega (arith, n, nine));
+      let n = fresh_byte t 24 (h.1 room).0 (omega arith) ∙ fresh_line in absurd (omega (arith, n, nine));
   idle_piece = λ s left h.
       let n = left.size (omega arith) in
       let m = (h.1 [] left).size (omega arith) in

@@ -10,7 +10,7 @@ use lib.ListN.{length, length-append}
 use borrow.Author.Tests.{ltb-false}
 use Rattle.base.specs.Lists.{joined, first_break, or_else}
 use Rattle.base.proofs.Lists.{or_false_left, or_false_right}
-use Rattle.base.proofs.Lookups.{each-length}
+use Rattle.base.proofs.Lookups.{each_length}
 use Rattle.rules.specs.Limits.{text_most, fields_most}
 use Rattle.rules.specs.Names.{line_feed}
 use Rattle.rules.specs.Fields.{Form}
@@ -33,26 +33,26 @@ use Rattle.rules.specs.Refusals.{
   rule,
 }
 use Rattle.rules.specs.Promises.{Outcome, leaves, overlaid, delivered, ReadsText, spelled, refuses}
-use Rattle.text_laws.proofs.WrongPlaces.{wrong-low}
+use Rattle.text_laws.proofs.WrongPlaces.{wrong_low}
 
 -- ── lines ──
 
-lines-low : (ls : List (List ℕ)) → length ls ≤ length (joined ended ls)
+lines_low : (ls : List (List ℕ)) → length ls ≤ length (joined ended ls)
 unfolding joined
-lines-low [] = omega arith
-lines-low (l ∷ ls) =
+lines_low [] = omega arith
+lines_low (l ∷ ls) =
     omega (
       arith,
-      lines-low ls,
+      lines_low ls,
       length-append (l ++ (line_feed ∷ [])) (joined ended ls),
       length-append l (line_feed ∷ []),
     )
 
-frame-low : (text : List ℕ) (f : Frame) → FrameOf text f → length (head_lines f) ≤ length text
+frame_low : (text : List ℕ) (f : Frame) → FrameOf text f → length (head_lines f) ≤ length text
 unfolding frame_text
-frame-low text f h =
+frame_low text f h =
     let e = ap length h.is_text in
-    omega (arith, e, lines-low (head_lines f ++ f.lines), length-append (head_lines f) f.lines)
+    omega (arith, e, lines_low (head_lines f ++ f.lines), length-append (head_lines f) f.lines)
 
 count_low : (text : List ℕ) → line_count text ≤ length text
 unfolding line_count
@@ -88,86 +88,86 @@ break_low {A} keeps m before (x ∷ l) h =
     go true q = q
     go false q = record { is = omega (arith, h) }
 
-mismatch-low : (m i : ℕ) (cs : List Slot) (fs : List Form) → i + length cs ≤ m → Below m (mismatch i cs fs)
+mismatch_low : (m i : ℕ) (cs : List Slot) (fs : List Form) → i + length cs ≤ m → Below m (mismatch i cs fs)
 unfolding mismatch
-mismatch-low m i [] [] h = record { is = tt }
-mismatch-low m i [] (f ∷ fs) h = record { is = omega (arith, h) }
-mismatch-low m i (c ∷ cs) [] h = record { is = omega (arith, h) }
-mismatch-low m i (c ∷ cs) (f ∷ fs) h = go (shows c f) (mismatch-low m (suc i) cs fs (omega (arith, h)))
+mismatch_low m i [] [] h = record { is = tt }
+mismatch_low m i [] (f ∷ fs) h = record { is = omega (arith, h) }
+mismatch_low m i (c ∷ cs) [] h = record { is = omega (arith, h) }
+mismatch_low m i (c ∷ cs) (f ∷ fs) h = go (shows c f) (mismatch_low m (suc i) cs fs (omega (arith, h)))
   where
     go : (b : Bool) → Below m (mismatch (suc i) cs fs) → Below m (cond b (mismatch (suc i) cs fs) (some i))
     go true q = q
     go false q = record { is = omega (arith, h) }
 
-or-low : (m : ℕ) (a b : Option Answer) → Low m a → Low m b → Low m (or_else a b)
-or-low m none b p q = record { is = q.is }
-or-low m (some a) b p q = record { is = p.is }
+or_low : (m : ℕ) (a b : Option Answer) → Low m a → Low m b → Low m (or_else a b)
+or_low m none b p q = record { is = q.is }
+or_low m (some a) b p q = record { is = p.is }
 
-place-low : (f : Frame) (m number : ℕ) (i : Option ℕ) → Below m i
+place_low : (f : Frame) (m number : ℕ) (i : Option ℕ) → Below m i
     → Low (suc (length (head_lines f)) + m) (map (λ n. refused number (line_number f n)) i)
-place-low f m number none h = record { is = tt }
-place-low f m number (some i) h = record { is = omega (arith, h.is) }
+place_low f m number none h = record { is = tt }
+place_low f m number (some i) h = record { is = omega (arith, h.is) }
 
 -- ── rules ──
 
-rules-low : (f : Frame) (forms : List Form) (m : ℕ) → length (cells f) ≤ m → length forms ≤ m
+rules_low : (f : Frame) (forms : List Form) (m : ℕ) → length (cells f) ≤ m → length forms ≤ m
     → Low (suc (length (head_lines f)) + m) (rule_broken f forms)
 unfolding rule_broken
-rules-low f forms m p q =
-    or-low _ _ _ (place-low f m 6 _ (break_low keeps_size m [] forms (omega (arith, q))))
-    (or-low _ _ _ (place-low f m 7 _ (mismatch-low m 0 (cells f) forms (omega (arith, p))))
-    (or-low _ _ _ (place-low f m 8 _ (break_low keeps_names m [] forms (omega (arith, q))))
-    (or-low _ _ _ (place-low f m 9 _ (break_low (keeps_types name_readable) m [] forms (omega (arith, q))))
-    (place-low f m 10 _ (break_low keeps_rest m [] forms (omega (arith, q)))))))
+rules_low f forms m p q =
+    or_low _ _ _ (place_low f m 6 _ (break_low keeps_size m [] forms (omega (arith, q))))
+    (or_low _ _ _ (place_low f m 7 _ (mismatch_low m 0 (cells f) forms (omega (arith, p))))
+    (or_low _ _ _ (place_low f m 8 _ (break_low keeps_names m [] forms (omega (arith, q))))
+    (or_low _ _ _ (place_low f m 9 _ (break_low (keeps_types name_readable) m [] forms (omega (arith, q))))
+    (place_low f m 10 _ (break_low keeps_rest m [] forms (omega (arith, q)))))))
 
 -- ── the promise ──
 
 abbrev most : ℕ
 most = 1 + fields_most + text_most
 
-framed-low : (text : List ℕ) (f : Frame) → Framed text f
+framed_low : (text : List ℕ) (f : Frame) → Framed text f
     → (length (head_lines f) ≤ text_most) × (length (cells f) ≤ fields_most) × (length f.lines ≤ fields_most)
-framed-low text f h =
-    let head = frame-low text f h.is_frame_of in (
+framed_low text f h =
+    let head = frame_low text f h.is_frame_of in (
       omega (arith, head, h.plain.size),
       ltb-false fields_most _ (or_false_left (ltb fields_most (length (cells f))) _ h.few),
       ltb-false fields_most _ (or_false_right (ltb fields_most (length (cells f))) _ h.few),
     )
 
-refuses-low : (text : List ℕ) (a : Answer) → Refuses text a → a.place ≤ most
-refuses-low text a (long h) = omega arith
-refuses-low text a (byte h k) = omega arith
-refuses-low text a (line {k = k} p q r) =
-    let low = wrong-low k r.begins.frame in
+refuses_low : (text : List ℕ) (a : Answer) → Refuses text a → a.place ≤ most
+refuses_low text a (long h) = omega arith
+refuses_low text a (byte h k) = omega arith
+refuses_low text a (line {k = k} p q r) =
+    let low = wrong_low k r.begins.frame in
     omega (arith, low, r.there, count_low text, p.size)
-refuses-low text a (many p q r) = omega arith
-refuses-low text a (form {f = f} p q) =
-    let l = framed-low text f p in
+refuses_low text a (many p q r) = omega arith
+refuses_low text a (form {f = f} p q) =
+    let l = framed_low text f p in
     omega (arith, q.there, l.0, l.2)
-refuses-low text a (rule {f = f} forms p q r) =
-    let l = framed-low text f p in
-    let s = rules-low f forms fields_most l.1 (omega (
+refuses_low text a (rule {f = f} forms p q r) =
+    let l = framed_low text f p in
+    let s = rules_low f forms fields_most l.1 (omega (
       arith,
       l.2,
-      each-length (SpellsField Unresolved) forms f.lines q,
+      each_length (SpellsField Unresolved) forms f.lines q,
     )) in
     let t : Low (suc (length (head_lines f)) + fields_most) (some a) = rw r at s in
     omega (arith, t.is, l.0)
 
-delivered-low : (w out : List ℕ) → (delivered w out).answer.place ≤ most
+delivered_low : (w out : List ℕ) → (delivered w out).answer.place ≤ most
 unfolding delivered
-delivered-low w out = go (ltb (length out) (length w))
+delivered_low w out = go (ltb (length out) (length w))
   where
     go : (b : Bool)
         → (cond b (leaves (refused 11 0) out) (leaves (accepted (length w)) (overlaid w out))).answer.place ≤ most
     go true = omega arith
     go false = omega arith
 
-outcome-low : (text out : List ℕ) (o : Outcome) → ReadsText text out o → o.answer.place ≤ most
-outcome-low text out o (spelled {d = d} le s) = delivered-low (stored d) out
-outcome-low text out o (refuses {a = a} r) = refuses-low text a r
+outcome_low : (text out : List ℕ) (o : Outcome) → ReadsText text out o → o.answer.place ≤ most
+outcome_low text out o (spelled {d = d} le s) = delivered_low (stored d) out
+outcome_low text out o (refuses {a = a} r) = refuses_low text a r
 
 -- the place of an answer that keeps the promise
-pub text-place-low : (text out : List ℕ) (a : Answer) (after : List ℕ) → ReadsText text out (leaves a after)
+pub text_place_low : (text out : List ℕ) (a : Answer) (after : List ℕ) → ReadsText text out (leaves a after)
     → a.place < 4294967296
-text-place-low text out a after h = omega (arith, outcome-low text out (leaves a after) h)
+text_place_low text out a after h = omega (arith, outcome_low text out (leaves a after) h)

@@ -16,10 +16,10 @@ use Rattle.writing.specs.Delivery.{delivery_answer}
 use Rattle.writing.specs.Puts.{Placed, placed, nowhere, put}
 
 -- where w does not fit
-pub put-none : (before : List ℕ) (at : ℕ) (w : List ℕ) → length before < at + length w
+pub put_none : (before : List ℕ) (at : ℕ) (w : List ℕ) → length before < at + length w
     → placed nowhere before ≡ put before at w
 unfolding put
-put-none before at w h = rw (lt-leb (at + length w) (length before) h)
+put_none before at w h = rw (lt-leb (at + length w) (length before) h)
 
 -- where it fits
 pub put_some : (before : List ℕ) (at : ℕ) (w : List ℕ) → at + length w ≤ length before
@@ -27,9 +27,9 @@ pub put_some : (before : List ℕ) (at : ℕ) (w : List ℕ) → at + length w �
 unfolding put
 put_some before at w h = rw (le-leb (at + length w) (length before) h)
 
-pub put-writes : {before after : List ℕ} {at next : ℕ} {w : List ℕ} → at + length w ≤ length before
+pub put_writes : {before after : List ℕ} {at next : ℕ} {w : List ℕ} → at + length w ≤ length before
     → placed next after ≡ put before at w → Writes before at w after next
-put-writes {before} {after} {at} {next} {w} h e =
+put_writes {before} {after} {at} {next} {w} h e =
     let p : placed next after ≡ placed (at + length w) ((take at before ++ w) ++ drop (at + length w) before) =
     e ∙ sym (put_some before at w h) in
     let n : next ≡ at + length w = ap (λ (x : Placed). x.next) p in
@@ -45,9 +45,9 @@ put-writes {before} {after} {at} {next} {w} h e =
       beyond = rw (n, a) (rw whole at back);
     }
 
-pub writes-put : {before after : List ℕ} {at next : ℕ} {w : List ℕ} → at + length w ≤ length before
+pub writes_put : {before after : List ℕ} {at next : ℕ} {w : List ℕ} → at + length w ≤ length before
     → Writes before at w after next → placed next after ≡ put before at w
-writes-put {before} {after} {at} {next} {w} h p =
+writes_put {before} {after} {at} {next} {w} h p =
     let n : next ≡ at + length w = p.end in
     let a : after ≡ (take at before ++ w) ++ drop (at + length w) before =
     sym (take-append-drop next after) ∙ rw (p.text, p.beyond, n) in
@@ -59,25 +59,25 @@ pub put_join : (before : List ℕ) (at : ℕ) (w u : List ℕ) {mid after : List
     → placed end after ≡ put before at (w ++ u)
 put_join before at w u {mid} {after} {next} {end} h p q =
     let l = length-append w u in
-    let front = put-writes {w = w} (omega arith) p in
-    let back = put-writes {w = u} (omega (arith, front.end, front.kept)) q in
-    writes-put h (writes_join front back)
+    let front = put_writes {w = w} (omega arith) p in
+    let back = put_writes {w = u} (omega (arith, front.end, front.kept)) q in
+    writes_put h (writes_join front back)
 
-pub counted-length : (w : List ℕ) → length (counted w) ≡ 2 + length w
+pub counted_length : (w : List ℕ) → length (counted w) ≡ 2 + length w
 unfolding le2
-counted-length w = omega (arith, length-append (le2 (length w)) w)
+counted_length w = omega (arith, length-append (le2 (length w)) w)
 
 -- ── a text at the start of an output ──
 
-pub deliver-none : (before w : List ℕ) → length before < length w
+pub deliver_none : (before w : List ℕ) → length before < length w
     → leaves (delivery_answer false w) before ≡ delivered w before
 unfolding delivered
-deliver-none before w h = rw (lt-ltb (length before) (length w) h)
+deliver_none before w h = rw (lt-ltb (length before) (length w) h)
 
-pub deliver-some : (before w : List ℕ) {after : List ℕ} {next : ℕ} → length w ≤ length before
+pub deliver_some : (before w : List ℕ) {after : List ℕ} {next : ℕ} → length w ≤ length before
     → placed next after ≡ put before 0 w → leaves (delivery_answer true w) after ≡ delivered w before
 unfolding delivered
-deliver-some before w {after} {next} h e =
+deliver_some before w {after} {next} h e =
     let z : 0 + length w ≡ length w = omega arith in
     let a : after ≡ w ++ drop (length w) before =
     ap (λ (x : Placed). x.buffer) (e ∙ sym (put_some before 0 w (omega arith))) ∙ rw z in

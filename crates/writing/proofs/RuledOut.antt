@@ -1,7 +1,7 @@
 -- No promise allows an answer of specs/Wrong: each has other numbers, by one computation.
 use mathlib.Core.Path.{◌≡◌, refl}
 use mathlib.Core.Bool.{Bool, true, not}
-use mathlib.Core.List.{List, [], ◌∷◌}
+use mathlib.Core.List.{List, ◌∷◌}
 use Prim.Native.Nat.{ℕ}
 use Rattle.base.specs.Bytes.{digits, decimal}
 use Rattle.base.specs.Lists.{all, same}

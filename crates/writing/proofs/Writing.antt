@@ -29,8 +29,8 @@ put_further before out at i x e =
     let n : at + (i + 1) ≡ (at + i) + 1 = omega arith in
     rw n (drop-set-lt (at + i + 1) out (at + i) x (omega arith) ∙ drop_further out before (at + i) 1 e)
 
-pub writes-none : (out : List ℕ) (at : ℕ) → Writes out at [] out at
-writes-none out at = record { text = sym (append-nil (take at out)); end = omega arith; kept = refl; beyond = refl }
+pub writes_none : (out : List ℕ) (at : ℕ) → Writes out at [] out at
+writes_none out at = record { text = sym (append-nil (take at out)); end = omega arith; kept = refl; beyond = refl }
 
 -- one byte behind what was written
 pub writes_byte : (before out : List ℕ) (at next b : ℕ) (w : List ℕ) → Writes before at w out next → next < length out
@@ -54,9 +54,9 @@ writes_join {a} {b} {c} {at} {mid} {next} {w} {u} p q = record {
 }
 
 -- what is written is inside the buffer
-pub writes-inside : {before after : List ℕ} {at next : ℕ} {w : List ℕ} → Writes before at w after next
+pub writes_inside : {before after : List ℕ} {at next : ℕ} {w : List ℕ} → Writes before at w after next
     → at ≤ length before
     → next ≤ length before
-writes-inside {before} {after} {at} {next} {w} p h =
+writes_inside {before} {after} {at} {next} {w} p h =
     let t = ap length p.text in
     omega (arith, t, length-take next after, length-append (take at before) w, length-take at before, p.end, p.kept)

@@ -1,12 +1,12 @@
 use native.Mathlib.Omega.{arith}
 use Rattle.rules.specs.Answers.{of_edit}
-use Rattle.umarekoza.proofs.EditPlaces.{cut-place-low}
+use Rattle.umarekoza.proofs.EditPlaces.{cut_place_low}
 use borrow.Author.Rules.{rules}
 use Rattle.umarekoza.proofs.umarekoza_cut_fields.Goals as goal
 
 pub edit_reply-requires : goal.edit_reply-requires
 edit_reply-requires c =
-    let low = cut-place-low c.args.table.now
+    let low = cut_place_low c.args.table.now
     c.args.out.now
     c.args.first c.args.last (of_edit c.cut_fields.result) _ c.cut_fields.ensures in
     omega (arith, low)

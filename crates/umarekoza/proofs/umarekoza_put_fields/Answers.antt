@@ -1,12 +1,12 @@
 use native.Mathlib.Omega.{arith}
 use Rattle.rules.specs.Answers.{of_edit}
-use Rattle.umarekoza.proofs.EditPlaces.{put-place-low}
+use Rattle.umarekoza.proofs.EditPlaces.{put_place_low}
 use borrow.Author.Rules.{rules}
 use Rattle.umarekoza.proofs.umarekoza_put_fields.Goals as goal
 
 pub edit_reply-requires : goal.edit_reply-requires
 edit_reply-requires c =
-    let low = put-place-low c.args.table.now
+    let low = put_place_low c.args.table.now
     c.args.records.now
     c.args.out.now
     c.args.index

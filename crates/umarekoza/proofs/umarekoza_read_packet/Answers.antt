@@ -1,15 +1,15 @@
 use native.Mathlib.Omega.{arith}
 use Rattle.rules.specs.Answers.{of_packet}
-use Rattle.umarekoza.proofs.PacketPlaces.{place-low}
+use Rattle.umarekoza.proofs.PacketPlaces.{place_low}
 use borrow.Author.Rules.{rules}
 use Rattle.umarekoza.proofs.umarekoza_read_packet.Goals as goal
 
 pub packet_reply-requires : goal.packet_reply-requires
 packet_reply-requires c =
     let a = c.args in
-    let read-packet = c.read_packet in
-    let low = place-low a.table.now _ a.run.now (of_packet read-packet.result)
-    read-packet.new.run read-packet.ensures in
+    let read_packet = c.read_packet in
+    let low = place_low a.table.now _ a.run.now (of_packet read_packet.result)
+    read_packet.new.run read_packet.ensures in
     omega (arith, low)
 
 pub returns : goal.returns

@@ -1,15 +1,15 @@
 use native.Mathlib.Omega.{arith}
 use Rattle.rules.specs.Answers.{of_packet}
-use Rattle.umarekoza.proofs.PacketPlaces.{partly-place-low}
+use Rattle.umarekoza.proofs.PacketPlaces.{partly_place_low}
 use borrow.Author.Rules.{rules}
 use Rattle.umarekoza.proofs.umarekoza_read_partly.Goals as goal
 
 pub packet_reply-reply-requires : goal.packet_reply-reply-requires
 packet_reply-reply-requires c =
     let a = c.args in
-    let read-partly = c.read_partly-read in
-    let low = partly-place-low a.table.now _ a.run.now (of_packet read-partly.result.answer)
-    read-partly.new.run _ read-partly.ensures in
+    let read_partly = c.read_partly-read in
+    let low = partly_place_low a.table.now _ a.run.now (of_packet read_partly.result.answer)
+    read_partly.new.run _ read_partly.ensures in
     omega (arith, low)
 
 pub returns : goal.returns

@@ -1,7 +1,6 @@
 use mathlib.Core.Path.{◌∙◌}
 use native.Mathlib.Omega.{arith}
-use Rattle.bars.proofs.BarLaws.{goes_full, goes-empty, goes_other, goes_bars}
-use borrow.Author.Rules.{rules}
+use Rattle.bars.proofs.BarLaws.{goes_full, goes_empty, goes_other, goes_bars}
 use Rattle.bars.proofs.further_lines.goes_on.Goals as goal
 
 pub returns-then-n-ge-ROW_LINES_MOST : goal.returns-then-n-ge-ROW_LINES_MOST
@@ -12,7 +11,7 @@ returns-then-n-ge-ROW_LINES_MOST c =
 pub returns-then-first-eq0 : goal.returns-then-first-eq0
 returns-then-first-eq0 c =
     let a = c.args in
-    goes-empty a.n a.first.now a.line.now c.if-first-eq0.true
+    goes_empty a.n a.first.now a.line.now c.if-first-eq0.true
 
 pub returns-then-first-ne124 : goal.returns-then-first-ne124
 returns-then-first-ne124 c =

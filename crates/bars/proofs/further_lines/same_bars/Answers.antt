@@ -1,10 +1,6 @@
-use mathlib.Core.Path.{◌≡◌, refl, sym, ◌∙◌}
+use mathlib.Core.Path.{refl, sym, ◌∙◌}
 use native.Mathlib.Omega.{arith}
-use Prim.Native.Nat.{◌≤◌, ◌-◌}
-use lib.ListN.{length, drop}
-use Rattle.text_laws.specs.Bars.{same_bars}
 use Rattle.bars.proofs.BarLaws.{bars_size, bars_end, bars_stop, bars_next}
-use borrow.Author.Rules.{rules}
 use Rattle.bars.proofs.further_lines.same_bars.Goals as goal
 
 pub returns-then-a-b : goal.returns-then-a-b

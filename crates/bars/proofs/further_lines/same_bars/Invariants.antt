@@ -1,10 +1,7 @@
-use mathlib.Core.Path.{◌≡◌, refl, sym, ◌∙◌}
-use native.Mathlib.Omega.{arith}
+use mathlib.Core.Path.{◌≡◌}
 use Prim.Native.Nat.{◌≤◌, ◌-◌}
 use lib.ListN.{length, drop}
 use Rattle.text_laws.specs.Bars.{same_bars}
-use Rattle.bars.proofs.BarLaws.{bars_size, bars_end, bars_stop, bars_next}
-use borrow.Author.Rules.{rules}
 use Rattle.bars.proofs.further_lines.same_bars.Given as goal
 
 abbrev pub invariant-loop-i : goal.invariant-loop-i

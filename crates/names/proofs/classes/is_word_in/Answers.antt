@@ -1,5 +1,4 @@
-use mathlib.Core.Path.{◌≡◌, refl, sym, ◌∙◌}
-use borrow.Author.Rules.{rules}
+use mathlib.Core.Path.{refl, sym, ◌∙◌}
 use Rattle.names.proofs.classes.is_word_in.Goals as goal
 
 pub returns-then-is_letter_in : goal.returns-then-is_letter_in

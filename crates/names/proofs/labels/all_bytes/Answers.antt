@@ -1,12 +1,8 @@
 use mathlib.Core.Path.{◌≡◌, refl, sym, ◌∙◌}
-use Prim.Native.Nat.{ℕ, ◌+◌, ◌-◌, ◌≤◌, ◌<◌}
 use native.Mathlib.Omega.{arith}
-use lib.ListN.{length, drop, get_or}
-use borrow.Author.Tests.{not-true, not-false}
-use Rattle.base.specs.Lists.{all}
-use Rattle.base.proofs.Scans.{all-step, all_end}
+use lib.ListN.{length}
+use Rattle.base.proofs.Scans.{all_step, all_end}
 use Rattle.names.specs.LentNames.{is_name_in}
-use borrow.Author.Rules.{rules}
 use Rattle.names.proofs.labels.all_bytes.Goals as goal
 
 pub loop-i-init : goal.loop-i-init
@@ -15,7 +11,7 @@ loop-i-init c = (omega arith, refl)
 pub returns-then-not-is_name_in : goal.returns-then-not-is_name_in
 returns-then-not-is_name_in c =
     let e = sym c.is_name_in.ensures ∙ c.if-not-is_name_in.true in
-    sym (c.loop-i.invariant.1 ∙ all-step (is_name_in c.args.classes.now
+    sym (c.loop-i.invariant.1 ∙ all_step (is_name_in c.args.classes.now
     c.args.label) c.args.w.now c.loop-i.i
     (omega arith) ∙ rw e)
 
@@ -23,7 +19,7 @@ pub loop-i-preserved : goal.loop-i-preserved
 loop-i-preserved c =
     let e = sym c.is_name_in.ensures ∙ c.if-not-is_name_in.false in (
       omega arith,
-      c.loop-i.invariant.1 ∙ all-step (is_name_in c.args.classes.now
+      c.loop-i.invariant.1 ∙ all_step (is_name_in c.args.classes.now
           c.args.label) c.args.w.now c.loop-i.i
           (omega arith) ∙ rw e,
     )

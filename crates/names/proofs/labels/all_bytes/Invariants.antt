@@ -1,12 +1,8 @@
-use mathlib.Core.Path.{◌≡◌, refl, sym, ◌∙◌}
-use Prim.Native.Nat.{ℕ, ◌+◌, ◌-◌, ◌≤◌, ◌<◌}
-use native.Mathlib.Omega.{arith}
-use lib.ListN.{length, drop, get_or}
-use borrow.Author.Tests.{not-true, not-false}
+use mathlib.Core.Path.{◌≡◌}
+use Prim.Native.Nat.{◌-◌, ◌≤◌}
+use lib.ListN.{length, drop}
 use Rattle.base.specs.Lists.{all}
-use Rattle.base.proofs.Scans.{all-step, all_end}
 use Rattle.names.specs.LentNames.{is_name_in}
-use borrow.Author.Rules.{rules}
 use Rattle.names.proofs.labels.all_bytes.Given as goal
 
 abbrev pub invariant-loop-i : goal.invariant-loop-i

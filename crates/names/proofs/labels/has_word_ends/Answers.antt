@@ -1,16 +1,12 @@
-use mathlib.Core.List.{List, []}
-use mathlib.Core.Bool.{false}
-use Rattle.names.proofs.Ends.{no-ends, ends_are}
-use mathlib.Core.Path.{◌≡◌, refl, sym, ◌∙◌}
-use Prim.Native.Nat.{ℕ, ◌+◌, ◌-◌, ◌≤◌, ◌<◌}
+use Rattle.names.proofs.Ends.{no_ends, ends_are}
+use mathlib.Core.Path.{sym, ◌∙◌}
+use Prim.Native.Nat.{◌-◌}
 use native.Mathlib.Omega.{arith}
-use lib.ListN.{length, drop, get_or}
-use borrow.Author.Tests.{not-true, not-false}
-use borrow.Author.Rules.{rules}
+use lib.ListN.{length}
 use Rattle.names.proofs.labels.has_word_ends.Goals as goal
 
 pub returns-then-n-eq0 : goal.returns-then-n-eq0
-returns-then-n-eq0 c = sym (no-ends c.args.classes.now c.args.w.now c.if-n-eq0.true)
+returns-then-n-eq0 c = sym (no_ends c.args.classes.now c.args.w.now c.if-n-eq0.true)
 
 pub returns-then-not-is_word_in : goal.returns-then-not-is_word_in
 returns-then-not-is_word_in c =

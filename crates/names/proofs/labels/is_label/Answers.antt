@@ -1,6 +1,5 @@
 use mathlib.Core.Path.{◌∙◌}
 use Rattle.names.proofs.LentLaws.{label_in_lem}
-use borrow.Author.Rules.{rules}
 use Rattle.names.proofs.labels.is_label.Goals as goal
 
 pub returns : goal.returns

@@ -1,10 +1,9 @@
-use mathlib.Core.Path.{◌≡◌, refl, sym, ◌∙◌}
+use mathlib.Core.Path.{sym, ◌∙◌}
 use native.Mathlib.Omega.{arith}
 use lib.ListN.{length}
-use borrow.Author.Tests.{lt-leb, le-leb, not-true, not-false}
+use borrow.Author.Tests.{lt-leb, le-leb}
 use Rattle.rules.specs.Limits.{label_most}
 use Rattle.names.specs.LentNames.{is_label_in}
-use borrow.Author.Rules.{rules}
 use Rattle.names.proofs.labels.is_label_in.Goals as goal
 
 pub returns-then-w-gt-LABEL_MOST : goal.returns-then-w-gt-LABEL_MOST

@@ -1,13 +1,8 @@
-use mathlib.Core.Path.{◌≡◌, refl, sym, ◌∙◌}
-use Prim.Native.Nat.{ℕ, ◌+◌, ◌-◌, ◌≤◌, ◌<◌}
-use native.Mathlib.Omega.{arith}
-use lib.ListN.{length, drop, get_or}
-use mathlib.Core.Logic.{⊎_elim}
-use lib.ListN.{length-drop}
+use mathlib.Core.Path.{◌≡◌}
+use Prim.Native.Nat.{◌-◌, ◌≤◌}
+use lib.ListN.{length, drop}
 use Rattle.names.specs.Classes.{space_class, has_class}
 use Rattle.names.specs.LentNames.{no_two}
-use Rattle.names.proofs.Spaces.{two-end, two-pair, two-first, two-second}
-use borrow.Author.Rules.{rules}
 use Rattle.names.proofs.labels.no_two_spaces.Given as goal
 
 abbrev pub invariant-loop-i : goal.invariant-loop-i

@@ -1,7 +1,5 @@
-use mathlib.Core.Path.{◌≡◌, refl, sym, ◌∙◌}
 use borrow.Author.Tests.{lt-ltb, le-ltb}
 use Rattle.rules.specs.Limits.{fields_most}
-use borrow.Author.Rules.{rules}
 use Rattle.names.proofs.repeats.first_repeat.Goals as goal
 
 pub returns-then-n-gt-FIELDS_MOST : goal.returns-then-n-gt-FIELDS_MOST

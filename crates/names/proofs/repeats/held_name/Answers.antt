@@ -1,7 +1,5 @@
-use mathlib.Core.Path.{◌≡◌, refl}
-use Prim.Native.Nat.{◌-◌, ◌≤◌}
+use mathlib.Core.Path.{refl}
 use native.Mathlib.Omega.{arith}
-use lib.ListN.{length, take}
 use Rattle.rules.specs.Limits.{short_most}
 use Rattle.names.specs.Repeats.{pad_to}
 use Rattle.names.proofs.PadLaws.{pad_set, pad_whole}

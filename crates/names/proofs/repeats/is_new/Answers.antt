@@ -1,7 +1,6 @@
 use mathlib.Core.Path.{refl}
 use borrow.Author.Tests.{eq-eqb, ne_eqb}
 use Rattle.names.specs.Keys.{is_new}
-use borrow.Author.Rules.{rules}
 use Rattle.names.proofs.repeats.is_new.Goals as goal
 
 pub returns-then-name-eq0 : goal.returns-then-name-eq0

@@ -1,6 +1,5 @@
 use mathlib.Core.Path.{◌∙◌}
 use Rattle.names.proofs.KeyNumbers.{key_number}
-use borrow.Author.Rules.{rules}
 use Rattle.names.proofs.repeats.key_of.Goals as goal
 
 pub returns : goal.returns

@@ -2,7 +2,6 @@ use mathlib.Core.Path.{refl}
 use borrow.Author.Tests.{eq-eqb, ne_eqb}
 use Rattle.names.specs.Repeats.{same_name, names_meet}
 use Rattle.names.proofs.KeyNumbers.{keys_tell, same_by, other_by}
-use borrow.Author.Rules.{rules}
 use Rattle.names.proofs.repeats.names_meet.Goals as goal
 
 pub returns-then-t-eq0 : goal.returns-then-t-eq0

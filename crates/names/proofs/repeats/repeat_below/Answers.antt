@@ -1,10 +1,8 @@
-use mathlib.Core.Path.{◌≡◌, sym, ◌∙◌}
-use Prim.Native.Nat.{◌-◌}
+use mathlib.Core.Path.{sym, ◌∙◌}
 use native.Mathlib.Omega.{arith}
-use lib.ListN.{length}
-use Rattle.names.specs.Repeats.{names_alike, remainders}
-use Rattle.names.proofs.KeyLaws.{BothSeen, both_on, both-from}
-use Rattle.names.proofs.PairLaws.{Inner, Later, later_starts, inner_on, later_on, later_found, later_ends}
+use Rattle.names.specs.Repeats.{names_alike}
+use Rattle.names.proofs.KeyLaws.{both_on, both_from}
+use Rattle.names.proofs.PairLaws.{later_starts, inner_on, later_on, later_found, later_ends}
 use borrow.Author.Rules.{rules}
 use Rattle.names.proofs.repeats.repeat_below.Goals as goal
 
@@ -19,7 +17,7 @@ pub loop-i-init : goal.loop-i-init
 loop-i-init c =
     let o = c.later in
     rw c.start_of_both-i.ensures
-    (both-from c.args.shorts.now c.args.words.now o.j o.seen o.invariant.2)
+    (both_from c.args.shorts.now c.args.words.now o.j o.seen o.invariant.2)
 
 pub loop-i-preserved : goal.loop-i-preserved
 loop-i-preserved c =

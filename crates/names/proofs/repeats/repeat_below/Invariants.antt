@@ -1,11 +1,9 @@
-use mathlib.Core.Path.{◌≡◌, sym, ◌∙◌}
+use mathlib.Core.Path.{◌≡◌}
 use Prim.Native.Nat.{◌-◌}
-use native.Mathlib.Omega.{arith}
 use lib.ListN.{length}
 use Rattle.names.specs.Repeats.{names_alike, remainders}
-use Rattle.names.proofs.KeyLaws.{BothSeen, both_on, both-from}
-use Rattle.names.proofs.PairLaws.{Inner, Later, later_starts, inner_on, later_on, later_found, later_ends}
-use borrow.Author.Rules.{rules}
+use Rattle.names.proofs.KeyLaws.{BothSeen}
+use Rattle.names.proofs.PairLaws.{Inner, Later}
 use Rattle.names.proofs.repeats.repeat_below.Given as goal
 
 abbrev pub invariant-loop-i : goal.invariant-loop-i

@@ -1,6 +1,5 @@
 use mathlib.Core.Path.{refl, sym, ◌∙◌}
 use Rattle.names.specs.Keys.{start_of_both}
-use borrow.Author.Rules.{rules}
 use Rattle.names.proofs.repeats.start_of_both.Goals as goal
 
 pub returns-then-is_new-2 : goal.returns-then-is_new-2

@@ -1,7 +1,6 @@
 use mathlib.Core.Path.{sym}
 use native.Mathlib.Omega.{arith}
 use Rattle.names.proofs.PadLaws.{past_end}
-use borrow.Author.Rules.{rules}
 use Rattle.names.proofs.words.byte_of.Goals as goal
 
 pub returns : goal.returns

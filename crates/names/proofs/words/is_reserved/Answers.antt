@@ -1,9 +1,7 @@
-use mathlib.Core.Path.{◌≡◌, refl, sym, ◌∙◌}
-use mathlib.Core.Bool.{Bool, true, false, ◌||◌}
-use Rattle.base.specs.Lists.{any, same}
+use mathlib.Core.Path.{sym, ◌∙◌}
+use Rattle.base.specs.Lists.{any}
 use Rattle.rules.specs.Names.{reserved, is_reserved}
 use Rattle.names.proofs.Ends.{or_false}
-use borrow.Author.Rules.{rules}
 use Rattle.names.proofs.words.is_reserved.Goals as goal
 
 pub returns-then-same_words : goal.returns-then-same_words

@@ -1,11 +1,7 @@
-use mathlib.Core.Path.{◌≡◌, refl, sym, ◌∙◌}
-use Prim.Native.Nat.{ℕ, ◌+◌, ◌-◌, ◌≤◌, ◌<◌}
+use mathlib.Core.Path.{refl, sym, ◌∙◌}
 use native.Mathlib.Omega.{arith}
-use lib.ListN.{length, drop, get_or}
 use borrow.Author.Tests.{eq-eqb, ne_eqb}
-use Rattle.base.specs.Lists.{same}
 use Rattle.base.proofs.Scans.{same_step, same_end, same_length}
-use borrow.Author.Rules.{rules}
 use Rattle.names.proofs.words.same_words.Goals as goal
 
 pub returns-then-a-b : goal.returns-then-a-b

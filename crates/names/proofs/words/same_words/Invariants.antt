@@ -1,11 +1,7 @@
-use mathlib.Core.Path.{◌≡◌, refl, sym, ◌∙◌}
-use Prim.Native.Nat.{ℕ, ◌+◌, ◌-◌, ◌≤◌, ◌<◌}
-use native.Mathlib.Omega.{arith}
-use lib.ListN.{length, drop, get_or}
-use borrow.Author.Tests.{eq-eqb, ne_eqb}
+use mathlib.Core.Path.{◌≡◌}
+use Prim.Native.Nat.{◌-◌, ◌≤◌}
+use lib.ListN.{length, drop}
 use Rattle.base.specs.Lists.{same}
-use Rattle.base.proofs.Scans.{same_step, same_end, same_length}
-use borrow.Author.Rules.{rules}
 use Rattle.names.proofs.words.same_words.Given as goal
 
 abbrev pub invariant-loop-i : goal.invariant-loop-i

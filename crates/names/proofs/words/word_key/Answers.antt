@@ -1,10 +1,6 @@
-use mathlib.Core.Path.{◌≡◌, refl, sym, ◌∙◌}
-use Prim.Native.Nat.{◌-◌, ◌≤◌}
+use mathlib.Core.Path.{refl, sym, ◌∙◌}
 use native.Mathlib.Omega.{arith}
-use lib.ListN.{length, drop}
-use Rattle.names.specs.Keys.{key_from, word_key}
 use Rattle.names.proofs.KeyLaws.{key_step, key_end}
-use borrow.Author.Rules.{rules}
 use Rattle.names.proofs.words.word_key.Goals as goal
 
 pub loop-i-init : goal.loop-i-init

@@ -1,10 +1,7 @@
-use mathlib.Core.Path.{◌≡◌, refl, sym, ◌∙◌}
+use mathlib.Core.Path.{◌≡◌}
 use Prim.Native.Nat.{◌-◌, ◌≤◌}
-use native.Mathlib.Omega.{arith}
 use lib.ListN.{length, drop}
 use Rattle.names.specs.Keys.{key_from, word_key}
-use Rattle.names.proofs.KeyLaws.{key_step, key_end}
-use borrow.Author.Rules.{rules}
 use Rattle.names.proofs.words.word_key.Given as goal
 
 abbrev pub invariant-loop-i : goal.invariant-loop-i

@@ -1,4 +1,3 @@
-use borrow.Author.Rules.{rules}
 use Rattle.rules.specs.Operators.{operator}
 use Rattle.operators.specs.Rows.{row_of}
 use Rattle.operators.proofs.rows.operator.Goals as goal

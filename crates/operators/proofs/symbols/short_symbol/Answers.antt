@@ -2,7 +2,7 @@ use borrow.Author.Tests.{ne_eqb}
 use Rattle.base.specs.Lists.{same}
 use Rattle.rules.specs.Operators.{operator, operators}
 use Rattle.operators.specs.Symbols.{symbol_in}
-use Rattle.operators.proofs.SymbolLaws.{of_length, symbol_of-length}
+use Rattle.operators.proofs.SymbolLaws.{of_length, symbol_of_length}
 use Rattle.operators.proofs.symbols.short_symbol.Goals as goal
 
 pub returns-in-60 : goal.returns-in-60
@@ -47,7 +47,7 @@ returns-in_default c =
     let r₄ = r₃.0 in
     let r₅ = r₄.0 in
     let r₆ = r₅.0 in
-    rw symbol_of-length
+    rw symbol_of_length
     (simp (
       ne_eqb _ 94 r₀.1,
       ne_eqb _ 37 r₁.1,

@@ -1,11 +1,10 @@
 use mathlib.Core.Path.{◌≡◌}
 use mathlib.Core.List.{[], ◌∷◌}
 use native.Mathlib.Omega.{arith}
-use borrow.Author.Rules.{rules}
 use Rattle.base.specs.Lists.{same}
 use Rattle.rules.specs.Operators.{operator, operators}
 use Rattle.operators.specs.Symbols.{symbol_in, symbol_of}
-use Rattle.operators.proofs.SymbolLaws.{of_length, symbol_of-length, pair_other}
+use Rattle.operators.proofs.SymbolLaws.{of_length, symbol_of_length, pair_other}
 use Rattle.operators.proofs.symbols.symbol_of.Goals as goal
 
 pub returns-in-31868 : goal.returns-in-31868
@@ -60,7 +59,7 @@ returns-in_default c =
     let r₂ = r₁.0 in
     let r₃ = r₂.0 in
     let r₄ = r₃.0 in
-    rw (symbol_of-length operators (a ∷ b ∷ []), ← c.short_symbol.ensures)
+    rw (symbol_of_length operators (a ∷ b ∷ []), ← c.short_symbol.ensures)
     (simp (
       pair_other a b 62 61 r₀.1,
       pair_other a b 60 61 r₁.1,

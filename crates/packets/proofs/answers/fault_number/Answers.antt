@@ -1,6 +1,4 @@
-use mathlib.Core.Path.{◌≡◌, refl, sym, ◌∙◌}
-use Rattle.rules.specs.Answers.{fault_number, of_packet}
-use borrow.Author.Rules.{rules}
+use Rattle.rules.specs.Answers.{fault_number}
 use Rattle.packets.proofs.answers.fault_number.Goals as goal
 
 pub returns-in-BitsMissing : goal.returns-in-BitsMissing

@@ -1,6 +1,4 @@
-use mathlib.Core.Path.{◌≡◌, refl, sym, ◌∙◌}
-use Rattle.rules.specs.Answers.{fault_number, of_packet}
-use borrow.Author.Rules.{rules}
+use Rattle.rules.specs.Answers.{of_packet}
 use Rattle.packets.proofs.answers.number_of.Goals as goal
 
 pub returns-in-Accepted : goal.returns-in-Accepted

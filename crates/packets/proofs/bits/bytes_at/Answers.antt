@@ -1,11 +1,10 @@
 use mathlib.Core.Path.{◌≡◌, refl}
-use Prim.Native.Nat.{◌+◌, ◌-◌, ◌*◌, ◌≤◌, ◌<◌}
+use Prim.Native.Nat.{◌+◌, ◌*◌, ◌<◌}
 use lib.ListN.{get_or}
 use native.Mathlib.Omega.{arith}
-use Prim.Native.Nat.{◌+◌, ◌-◌, ◌*◌, ◌≤◌}
+use Prim.Native.Nat.{◌+◌, ◌*◌}
 use Rattle.rules.specs.Reading.{bits_at}
-use Rattle.packets.proofs.BitLaws.{bits_below, bytes-step}
-use borrow.Author.Rules.{rules}
+use Rattle.packets.proofs.BitLaws.{bits_below, bytes_step}
 use Rattle.packets.proofs.bits.bytes_at.Goals as goal
 
 pub loop-i-init : goal.loop-i-init
@@ -41,7 +40,7 @@ loop-i-preserved c =
     let shared-slice-known = c.shared_slice_known-1 in
     let byte : get_or a.packet.now (a.first + l.i) 0 < 256 =
     omega (arith, shared-slice-known.given (a.first + l.i)) in
-    (omega arith, rw (l.invariant.1, bytes-step a.packet.now a.first l.i byte))
+    (omega arith, rw (l.invariant.1, bytes_step a.packet.now a.first l.i byte))
 
 pub returns : goal.returns
 returns c =

@@ -1,5 +1,4 @@
 use mathlib.Core.Path.{refl}
-use borrow.Author.Rules.{rules}
 use Rattle.packets.proofs.conversions.adds_operators.Goals as goal
 
 pub returns : goal.returns

@@ -1,5 +1,4 @@
 use Rattle.packets.proofs.ConvertPromises.{by_bad, widened_part}
-use borrow.Author.Rules.{rules}
 use Rattle.packets.proofs.conversions.convert_by.Goals as goal
 
 pub returns-in_default : goal.returns-in_default

@@ -1,22 +1,20 @@
 use mathlib.Core.Path.{sym, ◌∙◌}
 use native.Mathlib.Omega.{arith}
-use borrow.Author.Tests.{not-true, not-false}
-use Rattle.packets.proofs.ConvertPromises.{refused-long, refused-head, refused-many}
-use borrow.Author.Rules.{rules}
+use Rattle.packets.proofs.ConvertPromises.{refused_long_lem, refused_head, refused_many}
 use Rattle.packets.proofs.conversions.convert_table.Goals as goal
 
 pub returns-then-table-gt-OLD_MOST : goal.returns-then-table-gt-OLD_MOST
 returns-then-table-gt-OLD_MOST c =
-    refused-long c.args.table.now c.args.out.now c.if-table-gt-OLD_MOST.true
+    refused_long_lem c.args.table.now c.args.out.now c.if-table-gt-OLD_MOST.true
 
 pub returns-then-not-is_head : goal.returns-then-not-is_head
 returns-then-not-is_head c =
-    refused-head c.args.table.now c.args.out.now
+    refused_head c.args.table.now c.args.out.now
     (sym c.is_head.ensures ∙ c.if-not-is_head.true)
 
 pub returns-then-two_at-gt-OLD_FIELDS : goal.returns-then-two_at-gt-OLD_FIELDS
 returns-then-two_at-gt-OLD_FIELDS c =
-    refused-many c.args.table.now c.args.out.now (omega (
+    refused_many c.args.table.now c.args.out.now (omega (
       arith,
       c.two_at.ensures.0,
       c.if-two_at-gt-OLD_FIELDS.true,

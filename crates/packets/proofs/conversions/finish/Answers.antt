@@ -1,8 +1,6 @@
 use mathlib.Core.Path.{refl}
 use native.Mathlib.Omega.{arith}
-use borrow.Author.Tests.{not-true, not-false}
 use Rattle.packets.proofs.ConvertPromises.{by_shape, by_added, by_all, with_room, without_room}
-use borrow.Author.Rules.{rules}
 use Rattle.packets.proofs.conversions.finish.Goals as goal
 
 pub returns-then-not-number_table : goal.returns-then-not-number_table

@@ -1,6 +1,5 @@
 use mathlib.Core.Path.{refl}
 use borrow.Author.Tests.{le-leb, lt-leb}
-use borrow.Author.Rules.{rules}
 use Rattle.packets.proofs.conversions.is_old_kind.Goals as goal
 
 pub returns-then-kind-lt2 : goal.returns-then-kind-lt2

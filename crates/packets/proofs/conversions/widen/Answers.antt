@@ -1,42 +1,29 @@
-use mathlib.Core.Path.{◌≡◌, refl, sym, ◌∙◌}
-use Prim.Native.Nat.{◌+◌, ◌-◌, ◌*◌, ◌≤◌}
+use mathlib.Core.Path.{refl, sym, ◌∙◌}
 use native.Mathlib.Omega.{arith}
-use lib.ListN.{length, length-drop}
-use borrow.Author.Tests.{not-true, not-false}
-use Rattle.packets.specs.Conversions.{widened_most}
-use Rattle.packets.proofs.TableSteps.{head-inside}
-use Rattle.packets.proofs.WidenSteps.{
-  Widening,
-  widen-start,
-  widen_less,
-  widen-over,
-  widen-kind,
-  widen-next,
-  part_size,
-  widen_done,
-}
-use borrow.Author.Rules.{rules}
+use lib.ListN.{length-drop}
+use Rattle.packets.proofs.TableSteps.{head_inside}
+use Rattle.packets.proofs.WidenSteps.{widen_start, widen_less, widen_over, widen_kind, widen_next, part_size, widen_done}
 use Rattle.packets.proofs.conversions.widen.Goals as goal
 
 pub slice_bounds-put-count : goal.slice_bounds-put-count
 slice_bounds-put-count c =
-    omega (arith, head-inside c.args.table.now c.requires.0 _ c.two_at-head.ensures.0)
+    omega (arith, head_inside c.args.table.now c.requires.0 _ c.two_at-head.ensures.0)
 
 pub slice_bounds-put-start : goal.slice_bounds-put-start
 slice_bounds-put-start c =
-    omega (arith, head-inside c.args.table.now c.requires.0 _ c.two_at-head.ensures.0)
+    omega (arith, head_inside c.args.table.now c.requires.0 _ c.two_at-head.ensures.0)
 
 pub slice_bounds-put-end : goal.slice_bounds-put-end
 slice_bounds-put-end c =
-    omega (arith, head-inside c.args.table.now c.requires.0 _ c.two_at-head.ensures.0)
+    omega (arith, head_inside c.args.table.now c.requires.0 _ c.two_at-head.ensures.0)
 
 pub loop-i-init : goal.loop-i-init
 loop-i-init c =
-    let head = head-inside c.args.table.now c.requires.0 _
+    let head = head_inside c.args.table.now c.requires.0 _
     c.two_at-head.ensures.0 in
     let room = c.requires.3 in
     let low = c.requires.2 in
-    let w = widen-start c.args.table.now c.args.out.now _ _ _ _ c.two_at-n.ensures.0 c.two_at-head.ensures.0
+    let w = widen_start c.args.table.now c.args.out.now _ _ _ _ c.two_at-n.ensures.0 c.two_at-head.ensures.0
     head (omega (arith, head, low, room)) c.put-to.ensures in
     (omega arith, head, omega (arith, w.0), refl, w.2, omega (arith, w.1, room))
 
@@ -60,7 +47,7 @@ overflow_sub-table c =
 pub returns-then-table-at : goal.returns-then-table-at
 returns-then-table-at c =
     let l = c.loop-i in
-    widen-over c.args.table.now _ l.i l.at l.out l.to l.invariant.4 c.loop-i-test.true _
+    widen_over c.args.table.now _ l.i l.at l.out l.to l.invariant.4 c.loop-i-test.true _
     c.two_at-size.ensures.0 c.if-size-lt4.false c.if-table-at.true l.invariant.1
 
 pub overflow_add-at : goal.overflow_add-at
@@ -79,7 +66,7 @@ pub returns-then-not-is_old_kind : goal.returns-then-not-is_old_kind
 returns-then-not-is_old_kind c =
     let l = c.loop-i in
     let other = sym c.is_old_kind.ensures ∙ c.if-not-is_old_kind.true in
-    widen-kind c.args.table.now _ l.i l.at l.out l.to l.invariant.4 c.loop-i-test.true _
+    widen_kind c.args.table.now _ l.i l.at l.out l.to l.invariant.4 c.loop-i-test.true _
     c.two_at-size.ensures.0 _ c.two_at.ensures.0 c.if-size-lt4.false c.if-table-at.false l.invariant.1 other
 
 pub overflow_add-next : goal.overflow_add-next
@@ -148,7 +135,7 @@ loop-i-preserved c =
     let l = c.loop-i in
     let kind = sym c.is_old_kind.ensures ∙ c.if-not-is_old_kind.false in
     let size = part_size c.args.table.now l.at _ c.if-table-at.false l.invariant.1 in
-    let more = widen-next c.args.table.now _ l.i l.at
+    let more = widen_next c.args.table.now _ l.i l.at
     l.out l.to l.invariant.4 c.loop-i-test.true _
     c.two_at-size.ensures.0 _ c.two_at.ensures.0 c.if-size-lt4.false c.if-table-at.false l.invariant.1 kind _ _
     c.put_record-to.ensures.bytes in (

@@ -1,21 +1,8 @@
-use mathlib.Core.Path.{◌≡◌, refl, sym, ◌∙◌}
+use mathlib.Core.Path.{◌≡◌}
 use Prim.Native.Nat.{◌+◌, ◌-◌, ◌*◌, ◌≤◌}
-use native.Mathlib.Omega.{arith}
-use lib.ListN.{length, length-drop}
-use borrow.Author.Tests.{not-true, not-false}
+use lib.ListN.{length}
 use Rattle.packets.specs.Conversions.{widened_most}
-use Rattle.packets.proofs.TableSteps.{head-inside}
-use Rattle.packets.proofs.WidenSteps.{
-  Widening,
-  widen-start,
-  widen_less,
-  widen-over,
-  widen-kind,
-  widen-next,
-  part_size,
-  widen_done,
-}
-use borrow.Author.Rules.{rules}
+use Rattle.packets.proofs.WidenSteps.{Widening}
 use Rattle.packets.proofs.conversions.widen.Given as goal
 
 abbrev pub invariant-loop-i : goal.invariant-loop-i

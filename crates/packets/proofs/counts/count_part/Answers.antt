@@ -1,5 +1,4 @@
 use Rattle.packets.proofs.CountSteps.{part_none}
-use borrow.Author.Rules.{rules}
 use Rattle.packets.proofs.counts.count_part.Goals as goal
 
 pub returns-then-p-eq0 : goal.returns-then-p-eq0

@@ -1,6 +1,5 @@
 use mathlib.Core.Path.{refl, ◌∙◌}
 use Rattle.packets.specs.CountsTest.{record_tallied}
-use borrow.Author.Rules.{rules}
 use Rattle.packets.proofs.counts.count_record.Goals as goal
 
 pub returns : goal.returns

@@ -1,12 +1,9 @@
-use mathlib.Core.Path.{◌≡◌, refl, sym, ◌∙◌}
-use Prim.Native.Nat.{◌-◌, ◌≤◌}
+use mathlib.Core.Path.{refl, sym, ◌∙◌}
 use native.Mathlib.Omega.{arith}
 use native.Mathlib.Nat.{sub-zero}
 use lib.ListN.{get_or}
 use borrow.Author.Tests.{eq-eqb, ne_eqb}
-use Rattle.packets.specs.CountsTest.{kept_from}
-use Rattle.packets.proofs.CountSteps.{kept_step, kept-end}
-use borrow.Author.Rules.{rules}
+use Rattle.packets.proofs.CountSteps.{kept_step, kept_end}
 use Rattle.packets.proofs.counts.keeps_numbers.Goals as goal
 
 pub loop-i-init : goal.loop-i-init
@@ -41,5 +38,5 @@ loop-i-preserved c =
 pub returns : goal.returns
 returns c =
     let l = c.loop-i in
-    sym (l.invariant.1 ∙ kept-end c.args.s.now c.args.places.now (λ j. get_or c.args.counts.now j 0) l.i
+    sym (l.invariant.1 ∙ kept_end c.args.s.now c.args.places.now (λ j. get_or c.args.counts.now j 0) l.i
     c.args.n (omega arith))

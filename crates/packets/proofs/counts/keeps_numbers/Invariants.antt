@@ -1,12 +1,7 @@
-use mathlib.Core.Path.{◌≡◌, refl, sym, ◌∙◌}
+use mathlib.Core.Path.{◌≡◌}
 use Prim.Native.Nat.{◌-◌, ◌≤◌}
-use native.Mathlib.Omega.{arith}
-use native.Mathlib.Nat.{sub-zero}
 use lib.ListN.{get_or}
-use borrow.Author.Tests.{eq-eqb, ne_eqb}
 use Rattle.packets.specs.CountsTest.{kept_from}
-use Rattle.packets.proofs.CountSteps.{kept_step, kept-end}
-use borrow.Author.Rules.{rules}
 use Rattle.packets.proofs.counts.keeps_numbers.Given as goal
 
 abbrev pub invariant-loop-i : goal.invariant-loop-i

@@ -1,16 +1,5 @@
-use Prim.Native.Nat.{◌-◌, ◌≤◌}
 use native.Mathlib.Omega.{arith}
-use lib.ListN.{length}
-use Rattle.packets.proofs.EditWrites.{
-  Passed,
-  none_passed,
-  bad_many,
-  bad_short,
-  bad_long,
-  one-passed,
-  all-passed,
-}
-use borrow.Author.Rules.{rules}
+use Rattle.packets.proofs.EditWrites.{none_passed, bad_many, bad_short, bad_long, one_passed, all_passed}
 use Rattle.packets.proofs.edits.count_records.Goals as goal
 
 pub loop-at-init : goal.loop-at-init
@@ -42,7 +31,7 @@ returns-then-records-at c =
 pub loop-at-preserved : goal.loop-at-preserved
 loop-at-preserved c =
     let size = c.two_at-size.ensures.0 in
-    let more = one-passed c.args.records.now
+    let more = one_passed c.args.records.now
     c.loop-at.k c.loop-at.at
     c.loop-at-test.true c.loop-at.invariant.2
     (omega (arith, size, c.if-size-lt6.false)) (omega (arith, size, c.if-records-at.false)) in (
@@ -54,7 +43,7 @@ loop-at-preserved c =
 
 pub returns : goal.returns
 returns c = (
-  all-passed c.args.records.now c.loop-at.k c.loop-at.at
+  all_passed c.args.records.now c.loop-at.k c.loop-at.at
       c.loop-at.invariant.2 (omega (arith, c.loop-at.invariant.0)),
   c.loop-at.invariant.1,
 )

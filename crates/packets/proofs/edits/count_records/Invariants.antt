@@ -1,16 +1,6 @@
 use Prim.Native.Nat.{◌-◌, ◌≤◌}
-use native.Mathlib.Omega.{arith}
 use lib.ListN.{length}
-use Rattle.packets.proofs.EditWrites.{
-  Passed,
-  none_passed,
-  bad_many,
-  bad_short,
-  bad_long,
-  one-passed,
-  all-passed,
-}
-use borrow.Author.Rules.{rules}
+use Rattle.packets.proofs.EditWrites.{Passed}
 use Rattle.packets.proofs.edits.count_records.Given as goal
 
 abbrev pub invariant-loop-at : goal.invariant-loop-at

@@ -1,8 +1,7 @@
 use mathlib.Core.Path.{refl}
 use native.Mathlib.Omega.{arith}
-use Rattle.packets.proofs.CutPromises.{judged-cut}
-use Rattle.packets.proofs.CutBytes.{cut_bounds, cut-room, cut_ready}
-use borrow.Author.Rules.{rules}
+use Rattle.packets.proofs.CutPromises.{judged_cut}
+use Rattle.packets.proofs.CutBytes.{cut_bounds, cut_room, cut_ready}
 use Rattle.packets.proofs.edits.cut_by.Goals as goal
 
 pub overflow_add-by : goal.overflow_add-by
@@ -32,20 +31,20 @@ overflow_sub-n c =
 
 pub put_start-to-requires : goal.put_start-to-requires
 put_start-to-requires c =
-    let r = cut-room c.args.table.now c.args.first c.args.last c.requires.0 _ _ _
+    let r = cut_room c.args.table.now c.args.first c.args.last c.requires.0 _ _ _
     c.place_behind-start.ensures c.place_behind-next.ensures refl in
     (r.0, omega (arith, r.1, r.2), omega (arith, r, c.requires.1))
 
 pub slice_bounds-put-count : goal.slice_bounds-put-count
 slice_bounds-put-count c =
-    let r = cut-room c.args.table.now
+    let r = cut_room c.args.table.now
     c.args.first c.args.last
     c.requires.0 _ _ _ c.place_behind-start.ensures c.place_behind-next.ensures refl in
     omega (arith, r.2)
 
 pub slice_bounds-put-start : goal.slice_bounds-put-start
 slice_bounds-put-start c =
-    let r = cut-room c.args.table.now
+    let r = cut_room c.args.table.now
     c.args.first c.args.last
     c.requires.0 _ _ _ c.place_behind-start.ensures c.place_behind-next.ensures refl in
     omega (arith, r.2)
@@ -78,6 +77,6 @@ returns c =
     c.place_behind-next.ensures
     c.requires.1 c.put_start-to.ensures
     c.put-size.ensures c.renumber_from.ensures in
-    judged-cut c.args.table.now c.args.out.now
+    judged_cut c.args.table.now c.args.out.now
     c.args.first c.args.last
     c.requires.0 ready.0 _ ready.1 _ c.deliver_new.ensures

@@ -1,8 +1,7 @@
 use mathlib.Core.Path.{refl}
 use native.Mathlib.Omega.{arith}
-use Rattle.packets.proofs.PacketPromises.{good-from}
-use Rattle.packets.proofs.CutPromises.{cut_bad, cut-empty, cut-beyond, cut-read, may_cut}
-use borrow.Author.Rules.{rules}
+use Rattle.packets.proofs.PacketPromises.{good_from}
+use Rattle.packets.proofs.CutPromises.{cut_bad, cut_empty, cut_beyond, cut_read, may_cut}
 use Rattle.packets.proofs.edits.cut_fields.Goals as goal
 
 pub returns-in_default : goal.returns-in_default
@@ -13,22 +12,22 @@ returns-in_default c =
 
 pub returns-then-last-first : goal.returns-then-last-first
 returns-then-last-first c =
-    cut-empty c.args.table.now c.args.out.now c.args.first c.args.last
-    (good-from _ _ _ c.check_table-checked.ensures
+    cut_empty c.args.table.now c.args.out.now c.args.first c.args.last
+    (good_from _ _ _ c.check_table-checked.ensures
     c.in-Good.is) c.if-last-first.true
 
 pub returns-then-n-last : goal.returns-then-n-last
 returns-then-n-last c =
-    cut-beyond c.args.table.now c.args.out.now c.args.first
-    c.args.last (good-from _ _ _ c.check_table-checked.ensures c.in-Good.is) c.if-last-first.false
+    cut_beyond c.args.table.now c.args.out.now c.args.first
+    c.args.last (good_from _ _ _ c.check_table-checked.ensures c.in-Good.is) c.if-last-first.false
     (omega (arith, c.two_at-n.ensures.0, c.if-n-last.true))
 
 pub returns-then-reader-n : goal.returns-then-reader-n
 returns-then-reader-n c =
     let n = c.two_at-n.ensures.0 in
-    cut-read c.args.table.now c.args.out.now
+    cut_read c.args.table.now c.args.out.now
     c.args.first c.args.last
-    (good-from _ _ _ c.check_table-checked.ensures c.in-Good.is) c.if-last-first.false (omega (arith, n, c.if-n-last.false)) _
+    (good_from _ _ _ c.check_table-checked.ensures c.in-Good.is) c.if-last-first.false (omega (arith, n, c.if-n-last.false)) _
     c.first_having-reader.ensures
     (omega (arith, n, c.if-reader-n.true))
 
@@ -38,7 +37,7 @@ cut_by-requires c =
       may_cut c.args.table.now
           c.args.out.now
           c.args.first c.args.last
-          (good-from _ _ _ c.check_table-checked.ensures c.in-Good.is)
+          (good_from _ _ _ c.check_table-checked.ensures c.in-Good.is)
           c.if-last-first.false (omega (
             arith,
             n,

@@ -1,19 +1,17 @@
 use mathlib.Core.Path.{refl}
-use borrow.Author.Tests.{not-true, not-false}
-use Rattle.packets.proofs.EditWrites.{judged-not, judged-room, judged_full}
-use borrow.Author.Rules.{rules}
+use Rattle.packets.proofs.EditWrites.{judged_not, judged_room, judged_full}
 use Rattle.packets.proofs.edits.deliver_new.Goals as goal
 
 pub returns-then-not-number_table : goal.returns-then-not-number_table
 returns-then-not-number_table c =
-    judged-not c.args.new.now _
+    judged_not c.args.new.now _
     c.args.out.now
     c.number_table.result c.number_table.ensures
     (c.if-not-number_table.true)
 
 pub returns-then-deliver : goal.returns-then-deliver
 returns-then-deliver c =
-    judged-room c.args.new.now _
+    judged_room c.args.new.now _
     c.args.out.now c.number_table.result
     c.number_table.ensures
     (c.if-not-number_table.false)

@@ -1,7 +1,6 @@
 use native.Mathlib.Omega.{arith}
-use Rattle.packets.proofs.PutPromises.{judged-put}
-use Rattle.packets.proofs.PutBytes.{put_bounds, place-room, put_ready}
-use borrow.Author.Rules.{rules}
+use Rattle.packets.proofs.PutPromises.{judged_put}
+use Rattle.packets.proofs.PutBytes.{put_bounds, place_room, put_ready}
 use Rattle.packets.proofs.edits.put_by.Goals as goal
 
 pub overflow_add-n : goal.overflow_add-n
@@ -11,19 +10,19 @@ overflow_add-n c =
 
 pub put_start-to-requires : goal.put_start-to-requires
 put_start-to-requires c =
-    let r = place-room c.args.table.now c.args.index c.args.k c.args.records.now c.requires.0
+    let r = place_room c.args.table.now c.args.index c.args.k c.args.records.now c.requires.0
     _ c.place_behind-place.ensures in
     (r.0, r.1, omega (arith, r, c.requires.1))
 
 pub slice_bounds-put-count : goal.slice_bounds-put-count
 slice_bounds-put-count c =
-    let r = place-room c.args.table.now c.args.index c.args.k c.args.records.now
+    let r = place_room c.args.table.now c.args.index c.args.k c.args.records.now
     c.requires.0 _ c.place_behind-place.ensures in
     omega (arith, r.1)
 
 pub slice_bounds-put-start : goal.slice_bounds-put-start
 slice_bounds-put-start c =
-    let r = place-room c.args.table.now c.args.index c.args.k c.args.records.now
+    let r = place_room c.args.table.now c.args.index c.args.k c.args.records.now
     c.requires.0 _ c.place_behind-place.ensures in
     omega (arith, r.1)
 
@@ -53,7 +52,7 @@ returns c =
     c.put_start-to.ensures c.put-next.ensures
     c.put-size.ensures c.renumber_from.ensures
     c.renumber_from-2.ensures in
-    judged-put c.args.table.now c.args.records.now c.args.out.now c.args.index
+    judged_put c.args.table.now c.args.records.now c.args.out.now c.args.index
     c.args.k
     c.requires.0 _ ready.0
     _ c.deliver_new.ensures

@@ -1,11 +1,7 @@
-use mathlib.Core.Path.{◌≡◌, refl, sym, ◌∙◌}
+use mathlib.Core.Path.{◌≡◌}
 use Prim.Native.Nat.{◌-◌, ◌≤◌}
-use native.Mathlib.Omega.{arith}
-use native.Mathlib.Nat.{sub-zero}
 use Rattle.laws.specs.Places.{two_at}
 use Rattle.packets.specs.Expressions.{having_from}
-use Rattle.packets.proofs.HavingLaws.{having_end, having_stop, having_here, having_next}
-use borrow.Author.Rules.{rules}
 use Rattle.packets.proofs.expressions.first_having.Given as goal
 
 abbrev pub invariant-loop-k : goal.invariant-loop-k

@@ -1,6 +1,5 @@
 use mathlib.Core.Path.{refl, sym, ◌∙◌}
 use Rattle.packets.specs.Expressions.{has_it}
-use borrow.Author.Rules.{rules}
 use Rattle.packets.proofs.expressions.has_it.Goals as goal
 
 pub returns-then-is_passed : goal.returns-then-is_passed

@@ -1,5 +1,4 @@
 use mathlib.Core.Path.{refl}
-use borrow.Author.Rules.{rules}
 use Rattle.packets.proofs.expressions.is_passed.Goals as goal
 
 pub returns-in-Added : goal.returns-in-Added

@@ -4,7 +4,6 @@ use native.Mathlib.Omega.{arith}
 use lib.ListN.{length}
 use borrow.Author.Tests.{eq-eqb, ne_eqb, lt-ltb, le-ltb}
 use Rattle.packets.specs.Expressions.{part_has}
-use borrow.Author.Rules.{rules}
 use Rattle.packets.proofs.expressions.part_has.Goals as goal
 
 pub returns-then-len-eq0 : goal.returns-then-len-eq0

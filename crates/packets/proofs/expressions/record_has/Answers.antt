@@ -1,5 +1,4 @@
 use mathlib.Core.Path.{refl, sym, ◌∙◌}
-use borrow.Author.Rules.{rules}
 use Rattle.packets.proofs.expressions.record_has.Goals as goal
 
 pub returns-then-part_has : goal.returns-then-part_has

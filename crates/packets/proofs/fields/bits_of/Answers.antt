@@ -1,4 +1,3 @@
-use Prim.Native.Nat.{◌-◌}
 use borrow.Author.Tests.{eq-eqb, ne_eqb}
 use Rattle.packets.specs.FieldTest.{bits_of}
 use Rattle.packets.proofs.fields.bits_of.Goals as goal

@@ -1,4 +1,3 @@
-use Prim.Native.Nat.{◌-◌}
 use Rattle.packets.proofs.fields.ends_with.Goals as goal
 
 pub returns-then-ended : goal.returns-then-ended

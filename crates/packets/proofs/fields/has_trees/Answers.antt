@@ -1,13 +1,8 @@
 use mathlib.Core.Path.{sym, ◌∙◌}
-use Prim.Native.Nat.{◌-◌}
-use borrow.Author.Tests.{not-true, not-false}
 use mathlib.Core.Path.{sym, ◌∙◌}
-use Prim.Native.Nat.{◌-◌}
 use native.Mathlib.Omega.{arith}
-use borrow.Author.Tests.{not-true, not-false}
 use Rattle.packets.specs.FieldTest.{trees_test}
 use lib.Seq.{length-take-le}
-use borrow.Author.Rules.{rules}
 use Rattle.packets.proofs.fields.has_trees.Goals as goal
 
 pub slice_bounds-is_measure-end : goal.slice_bounds-is_measure-end
@@ -30,8 +25,8 @@ pub returns-then-not-is_maybe : goal.returns-then-not-is_maybe
 unfolding trees_test
 returns-then-not-is_maybe c =
     let width = sym c.is_measure.ensures ∙ c.if-not-is_measure.false in
-    let no-constraint = sym c.is_maybe.ensures ∙ c.if-not-is_maybe.true in
-    rw (width, no-constraint)
+    let no_constraint = sym c.is_maybe.ensures ∙ c.if-not-is_maybe.true in
+    rw (width, no_constraint)
 
 pub slice_bounds-is_maybe-end-2 : goal.slice_bounds-is_maybe-end-2
 slice_bounds-is_maybe-end-2 c = sym (length-take-le _ _ (omega arith))

@@ -1,7 +1,5 @@
-use Prim.Native.Nat.{◌-◌}
 use borrow.Author.Tests.{le-leb, lt-leb, eq-eqb, ne_eqb}
 use Rattle.packets.specs.FieldTest.{bounds_test}
-use borrow.Author.Rules.{rules}
 use Rattle.packets.proofs.fields.is_bounded.Goals as goal
 
 pub returns-then-s-parts : goal.returns-then-s-parts

@@ -1,8 +1,6 @@
 use mathlib.Core.Path.{sym, ◌∙◌}
-use borrow.Author.Tests.{not-true, not-false}
 use Rattle.packets.specs.FieldTest.{field_test}
 use Rattle.packets.proofs.FieldSteps.{inside_of}
-use borrow.Author.Rules.{rules}
 use Rattle.packets.proofs.fields.is_field.Goals as goal
 
 pub returns-then-not-is_bounded : goal.returns-then-not-is_bounded
@@ -21,8 +19,8 @@ pub returns-then-not-is_formed : goal.returns-then-not-is_formed
 unfolding field_test
 returns-then-not-is_formed c =
     let bounds = sym c.is_bounded.ensures ∙ c.if-not-is_bounded.false in
-    let no-form = sym c.is_formed.ensures ∙ c.if-not-is_formed.true in
-    rw (bounds, no-form)
+    let no_form = sym c.is_formed.ensures ∙ c.if-not-is_formed.true in
+    rw (bounds, no_form)
 
 pub returns : goal.returns
 unfolding field_test

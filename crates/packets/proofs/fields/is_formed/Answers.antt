@@ -1,8 +1,6 @@
 use mathlib.Core.Path.{sym, ◌∙◌}
-use borrow.Author.Tests.{not-true, not-false}
 use Rattle.names.proofs.LentLaws.{label_in_lem}
 use Rattle.packets.specs.FieldTest.{form_test}
-use borrow.Author.Rules.{rules}
 use Rattle.packets.proofs.fields.is_formed.Goals as goal
 
 pub returns-then-not-is_label_in : goal.returns-then-not-is_label_in

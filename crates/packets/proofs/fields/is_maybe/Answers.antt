@@ -1,7 +1,5 @@
-use Prim.Native.Nat.{◌-◌}
 use borrow.Author.Tests.{eq-eqb, ne_eqb}
 use Rattle.packets.specs.FieldTest.{maybe_test}
-use borrow.Author.Rules.{rules}
 use Rattle.packets.proofs.fields.is_maybe.Goals as goal
 
 pub returns-then-p-eq0 : goal.returns-then-p-eq0

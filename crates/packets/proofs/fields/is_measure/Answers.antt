@@ -1,7 +1,5 @@
-use Prim.Native.Nat.{◌-◌}
 use borrow.Author.Tests.{eq-eqb, ne_eqb}
 use Rattle.packets.specs.FieldTest.{width_test}
-use borrow.Author.Rules.{rules}
 use Rattle.packets.proofs.fields.is_measure.Goals as goal
 
 pub returns-then-parts-ne-MEASURED : goal.returns-then-parts-ne-MEASURED

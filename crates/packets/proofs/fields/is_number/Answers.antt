@@ -1,4 +1,3 @@
-use Prim.Native.Nat.{◌-◌}
 use borrow.Author.Tests.{le-leb, lt-leb, eq-eqb, ne_eqb}
 use Rattle.packets.specs.FieldTest.{number_test}
 use Rattle.packets.proofs.fields.is_number.Goals as goal

@@ -1,11 +1,10 @@
-use Prim.Native.Nat.{◌+◌, ◌-◌, ◌<◌, ◌≤◌, ◌%◌}
+use Prim.Native.Nat.{◌+◌, ◌<◌, ◌≤◌, ◌%◌}
 use borrow.Author.Tests.{le-leb, lt-leb, eq-eqb, ne_eqb}
-use Prim.Native.Nat.{◌+◌, ◌-◌, ◌<◌, ◌≤◌, ◌%◌}
+use Prim.Native.Nat.{◌+◌, ◌<◌, ◌≤◌, ◌%◌}
 use native.Mathlib.Omega.{arith}
 use borrow.Author.Tests.{le-leb, lt-leb, eq-eqb, ne_eqb}
 use native.Mathlib.Nat.{mod-lt}
 use Rattle.packets.specs.FieldTest.{order_test}
-use borrow.Author.Rules.{rules}
 use Rattle.packets.proofs.fields.is_ordered.Goals as goal
 
 pub overflow_sub-w : goal.overflow_sub-w

@@ -1,11 +1,8 @@
 use mathlib.Core.Path.{sym, ◌∙◌}
-use Prim.Native.Nat.{◌-◌}
-use borrow.Author.Tests.{le-leb, lt-leb, not-true, not-false}
+use borrow.Author.Tests.{le-leb, lt-leb}
 use mathlib.Core.Path.{sym, ◌∙◌}
-use Prim.Native.Nat.{◌-◌}
-use borrow.Author.Tests.{le-leb, lt-leb, not-true, not-false}
+use borrow.Author.Tests.{le-leb, lt-leb}
 use Rattle.packets.specs.FieldTest.{tree_test}
-use borrow.Author.Rules.{rules}
 use Rattle.packets.proofs.fields.is_tree.Goals as goal
 
 pub returns-then-p-gt-STORED_MOST : goal.returns-then-p-gt-STORED_MOST

@@ -1,6 +1,5 @@
 use mathlib.Core.Path.{◌∙◌}
 use Rattle.names.proofs.LentLaws.{short_in_lem}
-use borrow.Author.Rules.{rules}
 use Rattle.packets.proofs.fields.is_word.Goals as goal
 
 pub returns : goal.returns

@@ -1,6 +1,5 @@
 use Rattle.writing.proofs.FitsLaws.{fits_join}
 use mathlib.Core.List.{append-nil}
-use borrow.Author.Rules.{rules}
 use Rattle.packets.proofs.lines.put_entry.Goals as goal
 
 pub returns-then-fixed : goal.returns-then-fixed

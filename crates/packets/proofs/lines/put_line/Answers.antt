@@ -5,14 +5,13 @@ use lib.ListN.{length}
 use borrow.Author.Tests.{le-ltb, lt-ltb}
 use Rattle.rules.specs.Limits.{label_most}
 use Rattle.packets.specs.LineTexts.{line_text}
-use Rattle.writing.proofs.FitsLaws.{fits-none, put-fits, fits_join}
-use borrow.Author.Rules.{rules}
+use Rattle.writing.proofs.FitsLaws.{fits_none, put_fits, fits_join}
 use Rattle.packets.proofs.lines.put_line.Goals as goal
 
 pub returns-then-len-gt-LABEL_MOST : goal.returns-then-len-gt-LABEL_MOST
 unfolding line_text
 returns-then-len-gt-LABEL_MOST c =
-    rw (lt-ltb label_most _ c.if-len-gt-LABEL_MOST.true) (fits-none c.args.out.now
+    rw (lt-ltb label_most _ c.if-len-gt-LABEL_MOST.true) (fits_none c.args.out.now
     c.args.at)
 
 pub returns-then-table-start : goal.returns-then-table-start
@@ -23,7 +22,7 @@ returns-then-table-start c =
       le-ltb label_most p.len c.if-len-gt-LABEL_MOST.false,
       lt-ltb (length c.args.table.now) p.at c.if-table-start.true,
     )
-    (fits-none c.args.out.now c.args.at)
+    (fits_none c.args.out.now c.args.at)
 
 pub returns-then-table-start-2 : goal.returns-then-table-start-2
 unfolding line_text
@@ -35,7 +34,7 @@ returns-then-table-start-2 c =
       le-ltb (length s) p.at c.if-table-start.false,
       lt-ltb (length s - p.at) p.len c.if-table-start-2.true,
     )
-    (fits-none c.args.out.now c.args.at)
+    (fits_none c.args.out.now c.args.at)
 
 pub returns : goal.returns
 unfolding line_text
@@ -49,6 +48,6 @@ returns c =
       le-ltb (length s) p.at c.if-table-start.false,
       le-ltb (length s - p.at) p.len c.if-table-start-2.false,
     )
-    (fits_join (put-fits (omega arith) name) (fits_join (put-fits (omega arith) c.put-colon.ensures)
-    (fits_join c.put_state-state.ensures (put-fits
+    (fits_join (put_fits (omega arith) name) (fits_join (put_fits (omega arith) c.put-colon.ensures)
+    (fits_join c.put_state-state.ensures (put_fits
     (omega arith) c.put.ensures))))

@@ -3,8 +3,7 @@ use Prim.Native.Nat.{◌*◌}
 use lib.ListN.{get_or}
 use borrow.Author.Tests.{eq-eqb, ne_eqb}
 use Rattle.packets.specs.LineTexts.{state_text}
-use Rattle.writing.proofs.FitsLaws.{put-fits}
-use borrow.Author.Rules.{rules}
+use Rattle.writing.proofs.FitsLaws.{put_fits}
 use Rattle.packets.proofs.lines.put_state.Goals as goal
 
 pub returns-then-run-i-eq1 : goal.returns-then-run-i-eq1
@@ -16,4 +15,4 @@ returns-then-run-i-eq1 c =
 pub returns : goal.returns
 unfolding state_text
 returns c =
-    rw (ne_eqb (get_or c.args.run.now (4 * c.args.i) 0) 1 c.if-run-i-eq1.false) (put-fits (omega arith) c.put.ensures)
+    rw (ne_eqb (get_or c.args.run.now (4 * c.args.i) 0) 1 c.if-run-i-eq1.false) (put_fits (omega arith) c.put.ensures)

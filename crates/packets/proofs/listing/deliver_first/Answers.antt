@@ -2,7 +2,6 @@ use Rattle.rules.specs.Answers.{of_listing}
 use native.Mathlib.Omega.{arith}
 use lib.Seq.{length-take-le}
 use mathlib.Core.Path.{sym}
-use borrow.Author.Rules.{rules}
 use Rattle.packets.proofs.listing.deliver_first.Goals as goal
 
 pub slice_bounds-deliver-end : goal.slice_bounds-deliver-end

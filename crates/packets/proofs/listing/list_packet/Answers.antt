@@ -2,7 +2,6 @@ use mathlib.Core.Path.{◌∙◌, ap}
 use mathlib.Core.List.{List}
 use Prim.Native.Nat.{ℕ}
 use Rattle.rules.specs.Promises.{delivered}
-use borrow.Author.Rules.{rules}
 use Rattle.packets.proofs.listing.list_packet.Goals as goal
 
 pub returns : goal.returns

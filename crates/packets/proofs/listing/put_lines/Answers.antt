@@ -1,7 +1,5 @@
 use native.Mathlib.Omega.{arith}
-use Prim.Native.Nat.{◌-◌}
-use Rattle.packets.proofs.LinesWritten.{Lines, lines_start, lines_end, lines-stop, lines_step}
-use borrow.Author.Rules.{rules}
+use Rattle.packets.proofs.LinesWritten.{lines_start, lines_end, lines_stop, lines_step}
 use Rattle.packets.proofs.listing.put_lines.Goals as goal
 
 pub loop-i-init : goal.loop-i-init
@@ -13,7 +11,7 @@ shape_of-out-then-begin-gt-TABLE_MOST c = c.loop-i.invariant.wrote.kept
 pub returns-then-begin-gt-TABLE_MOST : goal.returns-then-begin-gt-TABLE_MOST
 returns-then-begin-gt-TABLE_MOST c =
     let l = c.loop-i.invariant in
-    lines-stop l (omega arith) c.if-begin-gt-TABLE_MOST.true
+    lines_stop l (omega arith) c.if-begin-gt-TABLE_MOST.true
 
 pub parts_at-parts-requires : goal.parts_at-parts-requires
 parts_at-parts-requires c = omega arith

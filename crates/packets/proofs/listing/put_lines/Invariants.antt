@@ -1,7 +1,5 @@
-use native.Mathlib.Omega.{arith}
 use Prim.Native.Nat.{◌-◌}
-use Rattle.packets.proofs.LinesWritten.{Lines, lines_start, lines_end, lines-stop, lines_step}
-use borrow.Author.Rules.{rules}
+use Rattle.packets.proofs.LinesWritten.{Lines}
 use Rattle.packets.proofs.listing.put_lines.Given as goal
 
 abbrev pub invariant-loop-i : goal.invariant-loop-i

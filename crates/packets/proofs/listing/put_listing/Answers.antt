@@ -1,10 +1,9 @@
 use mathlib.Core.Path.{sym, ◌∙◌}
 use native.Mathlib.Omega.{arith}
-use Rattle.writing.proofs.Writing.{writes-inside}
+use Rattle.writing.proofs.Writing.{writes_inside}
 use Rattle.writing.proofs.FitsLaws.{fits_join}
-use Rattle.packets.proofs.LinesWritten.{listing-inside, refusal-inside}
-use Rattle.packets.proofs.ListingStored.{listed-accepted, listed-refused}
-use borrow.Author.Rules.{rules}
+use Rattle.packets.proofs.LinesWritten.{listing_inside, refusal_inside}
+use Rattle.packets.proofs.ListingStored.{listed_accepted, listed_refused}
 use Rattle.packets.proofs.listing.put_listing.Goals as goal
 
 pub put_lines-lines-requires : goal.put_lines-lines-requires
@@ -24,7 +23,7 @@ pub returns-then-number-eq0 : goal.returns-then-number-eq0
 returns-then-number-eq0 c =
     let s = c.args.table.now in
     let packet = c.args.packet.now in
-    let j = listing-inside _ _ _ _ _ (omega (arith, c.two_at-n.ensures.0)) (omega arith)
+    let j = listing_inside _ _ _ _ _ (omega (arith, c.two_at-n.ensures.0)) (omega arith)
     (fits_join c.put_lines-lines.ensures c.put_bits.ensures) in
     let k = rw (
       c.two_at-n.ensures.0,
@@ -32,22 +31,22 @@ returns-then-number-eq0 c =
       c.amount_of-total.ensures,
     ) at j in
     record {
-      text = λ d w is. rw (← listed-accepted s packet d w is _ _ (c.read_run-answer.ensures d w is)
+      text = λ d w is. rw (← listed_accepted s packet d w is _ _ (c.read_run-answer.ensures d w is)
           (sym c.number_of-number.ensures ∙ c.if-number-eq0.true)) k;
-      inside = writes-inside j (omega arith);
+      inside = writes_inside j (omega arith);
     }
 
 pub returns : goal.returns
 returns c =
     let s = c.args.table.now in
     let packet = c.args.packet.now in
-    let j = refusal-inside _ _ (omega arith) c.put_refusal.ensures in
+    let j = refusal_inside _ _ (omega arith) c.put_refusal.ensures in
     let k = rw (
       c.number_of-number.ensures,
       c.place_of-place.ensures,
     ) at j in
     record {
-      text = λ d w is. rw (← listed-refused s packet d w is _ _ (c.read_run-answer.ensures d w is)
+      text = λ d w is. rw (← listed_refused s packet d w is _ _ (c.read_run-answer.ensures d w is)
           (λ z. c.if-number-eq0.false (c.number_of-number.ensures ∙ z))) k;
-      inside = writes-inside k (omega arith);
+      inside = writes_inside k (omega arith);
     }

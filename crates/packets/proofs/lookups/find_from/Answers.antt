@@ -1,29 +1,14 @@
-use mathlib.Core.Path.{◌≡◌, refl, sym, ◌∙◌}
+use mathlib.Core.Path.{sym, ◌∙◌}
 use native.Mathlib.Omega.{arith}
 use native.Mathlib.Nat.{sub-zero}
-use Prim.Native.Nat.{◌+◌, ◌-◌, ◌≤◌}
-use lib.ListN.{length}
-use borrow.Author.Tests.{eq-eqb, ne_eqb, lt-ltb, le-ltb}
-use Rattle.laws.specs.Places.{two_at}
-use Rattle.packets.specs.Parts.{parts_at}
-use Rattle.packets.specs.Lookups.{place_from, is_named_in, has_name, find_from}
-use Rattle.packets.proofs.LookupSteps.{
-  place_end,
-  place-stop,
-  place-step,
-  find-end,
-  find-stop,
-  find_here,
-  find-next,
-}
-use borrow.Author.Rules.{rules}
+use Rattle.packets.proofs.LookupSteps.{find_end, find_stop, find_here, find_next}
 use Rattle.packets.proofs.lookups.find_from.Goals as goal
 
 pub loop-i-init : goal.loop-i-init
 loop-i-init c = (omega arith, rw sub-zero)
 
 pub returns-then-begin-gt-TABLE_MOST : goal.returns-then-begin-gt-TABLE_MOST
-returns-then-begin-gt-TABLE_MOST c = sym (c.loop-i.invariant.1 ∙ find-stop c.args.table.now c.args.name.now c.args.n
+returns-then-begin-gt-TABLE_MOST c = sym (c.loop-i.invariant.1 ∙ find_stop c.args.table.now c.args.name.now c.args.n
     c.loop-i.i c.loop-i.begin (omega arith) c.if-begin-gt-TABLE_MOST.true)
 
 pub returns-then-has_name : goal.returns-then-has_name
@@ -41,12 +26,12 @@ loop-i-preserved c =
     let e = sym c.has_name.ensures ∙ c.if-has_name.false in (
       omega arith,
       rw c.parts_at-parts.ensures
-          (l.invariant.1 ∙ find-next c.args.table.now c.args.name.now
+          (l.invariant.1 ∙ find_next c.args.table.now c.args.name.now
           c.args.n l.i l.begin
           (omega arith) (omega arith)
           (rw c.parts_at-parts.ensures at e)),
     )
 
 pub returns : goal.returns
-returns c = sym (c.loop-i.invariant.1 ∙ find-end c.args.table.now c.args.name.now c.args.n
+returns c = sym (c.loop-i.invariant.1 ∙ find_end c.args.table.now c.args.name.now c.args.n
     c.loop-i.i c.loop-i.begin (omega arith))

@@ -5,7 +5,6 @@ use lib.ListN.{length}
 use borrow.Author.Tests.{eq-eqb, ne_eqb, lt-ltb, le-ltb}
 use Rattle.packets.specs.Lookups.{is_named_in}
 use Rattle.packets.proofs.LookupSteps.{named_other}
-use borrow.Author.Rules.{rules}
 use Rattle.packets.proofs.lookups.is_named.Goals as goal
 
 pub returns-then-name-len : goal.returns-then-name-len

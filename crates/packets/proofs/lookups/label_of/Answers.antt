@@ -1,4 +1,3 @@
-use borrow.Author.Rules.{rules}
 use Rattle.packets.proofs.lookups.label_of.Goals as goal
 
 pub returns-in-NotGood : goal.returns-in-NotGood

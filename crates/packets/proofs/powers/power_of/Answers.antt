@@ -1,6 +1,5 @@
 use mathlib.Core.Path.{◌≡◌, sym}
-use mathlib.Core.Logic.{⊎_elim}
-use Prim.Native.Nat.{◌-◌, ◌^◌, ◌≤◌, ◌<◌, min}
+use Prim.Native.Nat.{◌^◌, ◌<◌, min}
 use native.Mathlib.Omega.{arith}
 use native.Mathlib.Nat.{pow-zero, pow-suc}
 use native.Mathlib.Numerals.{add-one}
@@ -15,7 +14,8 @@ use Rattle.packets.proofs.powers.power_of.Goals.{then-y-lt-PRODUCTS_MOST, else-y
 pub loop-i-init : goal.loop-i-init
 loop-i-init c = (
   elim c.if-y-lt-PRODUCTS_MOST.branch [
-    then-y-lt-PRODUCTS_MOST w ↦ omega arith | else-y-lt-PRODUCTS_MOST w ↦ omega arith
+    | then-y-lt-PRODUCTS_MOST w ↦ omega arith
+    | else-y-lt-PRODUCTS_MOST w ↦ omega arith
   ],
   omega arith,
   sym (pow-zero c.args.x),

@@ -1,10 +1,7 @@
 use mathlib.Core.Path.{◌≡◌, refl}
 use native.Mathlib.Omega.{arith}
-use Prim.Native.Nat.{◌-◌, ◌≤◌}
-use mathlib.Core.List.{◌++◌}
-use lib.ListN.{length, take, drop, length-set}
+use lib.ListN.{length-set}
 use Rattle.packets.proofs.CopyLaws.{copy_more}
-use borrow.Author.Rules.{rules}
 use Rattle.packets.proofs.readings.copy_numbers.Goals as goal
 
 pub loop-i-init : goal.loop-i-init

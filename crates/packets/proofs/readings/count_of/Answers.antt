@@ -1,5 +1,4 @@
 use Rattle.packets.specs.RunRead.{count_in}
-use borrow.Author.Rules.{rules}
 use Rattle.packets.proofs.readings.count_of.Goals as goal
 
 pub returns-in-Accepted : goal.returns-in-Accepted

@@ -2,7 +2,6 @@ use mathlib.Core.Path.{refl}
 use native.Mathlib.Omega.{arith}
 use native.Mathlib.Nat.{add-sub_cancel_left}
 use Rattle.packets.proofs.PartPromises.{field_handed}
-use borrow.Author.Rules.{rules}
 use Rattle.packets.proofs.readings.field_bytes.Goals as goal
 
 pub overflow_add-end : goal.overflow_add-end

@@ -1,5 +1,4 @@
 use Rattle.packets.proofs.PartPromises.{part_placed}
-use borrow.Author.Rules.{rules}
 use Rattle.packets.proofs.readings.field_place.Goals as goal
 
 pub returns : goal.returns

@@ -2,7 +2,6 @@ use native.Mathlib.Omega.{arith}
 use Prim.Native.Nat.{◌+◌, ◌*◌}
 use borrow.Author.Tests.{eq-eqb, ne_eqb}
 use Rattle.packets.specs.FieldParts.{part_at}
-use borrow.Author.Rules.{rules}
 use Rattle.packets.proofs.readings.part_at.Goals as goal
 
 pub overflow_cast-offset : goal.overflow_cast-offset

@@ -1,8 +1,7 @@
 use mathlib.Core.Path.{sym, ◌∙◌}
 use native.Mathlib.Omega.{arith}
 use Rattle.packets.proofs.WalkReads.{walks_read}
-use Rattle.packets.proofs.PacketPromises.{packet-accepted, packet-refused}
-use borrow.Author.Rules.{rules}
+use Rattle.packets.proofs.PacketPromises.{packet_accepted, packet_refused}
 use Rattle.packets.proofs.readings.read_by.Goals as goal
 
 pub copy_numbers-requires : goal.copy_numbers-requires
@@ -28,7 +27,7 @@ returns-then-is_accepted c =
     let reads = walks_read table packet _ p.1 p.2 w.ensures in
     let accepted = sym c.is_accepted.ensures ∙ c.if-is_accepted.true in λ good.
     rw (c.copy_numbers.ensures, c.two_at-n.ensures.0)
-    (packet-accepted table packet a.run.now w.result w.new.run good p.2 p.0 reads accepted)
+    (packet_accepted table packet a.run.now w.result w.new.run good p.2 p.0 reads accepted)
 
 pub returns : goal.returns
 returns c =
@@ -39,4 +38,4 @@ returns c =
     let w = c.walk_fields-answer in
     let reads = walks_read table packet _ p.1 p.2 w.ensures in
     let refused = sym c.is_accepted.ensures ∙ c.if-is_accepted.false in λ good.
-    packet-refused table packet a.run.now w.result w.new.run good p.2 p.0 reads refused
+    packet_refused table packet a.run.now w.result w.new.run good p.2 p.0 reads refused

@@ -1,7 +1,6 @@
 use mathlib.Core.Path.{refl}
 use native.Mathlib.Omega.{arith}
 use Rattle.packets.proofs.WalkReads.{run_long, walks_read}
-use borrow.Author.Rules.{rules}
 use Rattle.packets.proofs.readings.read_run.Goals as goal
 
 pub returns-then-packet-gt-PACKET_MOST : goal.returns-then-packet-gt-PACKET_MOST

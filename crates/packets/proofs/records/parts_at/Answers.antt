@@ -1,5 +1,4 @@
 use Rattle.packets.specs.Parts.{parts_at}
-use borrow.Author.Rules.{rules}
 use Rattle.packets.proofs.records.parts_at.Goals as goal
 
 pub returns : goal.returns

@@ -1,9 +1,8 @@
-use mathlib.Core.Path.{◌≡◌, ap, ◌∙◌}
+use mathlib.Core.Path.{◌≡◌}
 use Prim.Native.Nat.{◌+◌}
 use native.Mathlib.Omega.{arith}
 use lib.ListN.{get_or, get_or-eq_default}
 use Rattle.laws.specs.Places.{two_at}
-use borrow.Author.Rules.{rules}
 use Rattle.packets.proofs.records.two_at.Goals as goal
 
 pub returns-then-at-s : goal.returns-then-at-s

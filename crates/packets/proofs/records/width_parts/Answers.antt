@@ -1,7 +1,6 @@
 use native.Mathlib.Omega.{arith}
 use borrow.Author.Tests.{eq-eqb, ne_eqb}
 use Rattle.packets.specs.Parts.{width_at}
-use borrow.Author.Rules.{rules}
 use Rattle.packets.proofs.records.width_parts.Goals as goal
 
 pub returns-then-kind-eq-FIXED : goal.returns-then-kind-eq-FIXED

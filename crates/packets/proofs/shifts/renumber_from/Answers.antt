@@ -1,13 +1,10 @@
 use mathlib.Core.Path.{◌≡◌, refl, sym, ◌∙◌}
-use Prim.Native.Nat.{◌-◌, ◌≤◌}
 use native.Mathlib.Omega.{arith}
 use native.Mathlib.Nat.{sub-zero}
-use lib.ListN.{length}
 use Rattle.references.specs.Renumbered.{new_index}
 use Rattle.packets.specs.Parts.{parts_at}
-use Rattle.packets.specs.Shifts.{record_shifted, shifted_from}
+use Rattle.packets.specs.Shifts.{record_shifted}
 use Rattle.packets.proofs.ShiftSteps.{shifts_end, shifts_stop, shifts_next}
-use borrow.Author.Rules.{rules}
 use Rattle.packets.proofs.shifts.renumber_from.Goals as goal
 
 pub loop-k-init : goal.loop-k-init

@@ -1,13 +1,8 @@
-use mathlib.Core.Path.{◌≡◌, refl, sym, ◌∙◌}
+use mathlib.Core.Path.{◌≡◌}
 use Prim.Native.Nat.{◌-◌, ◌≤◌}
-use native.Mathlib.Omega.{arith}
-use native.Mathlib.Nat.{sub-zero}
 use lib.ListN.{length}
 use Rattle.references.specs.Renumbered.{new_index}
-use Rattle.packets.specs.Parts.{parts_at}
-use Rattle.packets.specs.Shifts.{record_shifted, shifted_from}
-use Rattle.packets.proofs.ShiftSteps.{shifts_end, shifts_stop, shifts_next}
-use borrow.Author.Rules.{rules}
+use Rattle.packets.specs.Shifts.{shifted_from}
 use Rattle.packets.proofs.shifts.renumber_from.Given as goal
 
 abbrev pub invariant-loop-k : goal.invariant-loop-k

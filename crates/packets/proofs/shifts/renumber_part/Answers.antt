@@ -1,6 +1,5 @@
 use Rattle.references.specs.Renumbered.{new_index}
 use Rattle.packets.proofs.ShiftSteps.{shift_none, shift_behind, shift_over, shift_there}
-use borrow.Author.Rules.{rules}
 use Rattle.packets.proofs.shifts.renumber_part.Goals as goal
 
 pub returns-then-len-eq0 : goal.returns-then-len-eq0

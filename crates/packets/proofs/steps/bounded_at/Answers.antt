@@ -3,7 +3,6 @@ use borrow.Author.Tests.{lt-ltb, le-ltb}
 use Prim.Native.Nat.{◌+◌}
 use Rattle.packets.specs.Steps.{bounded_at}
 use Rattle.rules.specs.Reading.{bit_total}
-use borrow.Author.Rules.{rules}
 use Rattle.packets.proofs.steps.bounded_at.Goals as goal
 
 pub returns-then-left-width : goal.returns-then-left-width

@@ -1,6 +1,5 @@
 use borrow.Author.Tests.{eq-eqb, ne_eqb}
 use Rattle.packets.specs.Steps.{extent_at}
-use borrow.Author.Rules.{rules}
 use Rattle.packets.proofs.steps.extent_at.Goals as goal
 
 pub returns-then-p-eq-MEASURED : goal.returns-then-p-eq-MEASURED
@@ -20,5 +19,5 @@ unfolding extent_at
 returns c =
     let if1 = c.if-p-eq-MEASURED in
     let if2 = c.if-p-eq-REST in
-    let fixed-bits = c.fixed_bits in
-    rw (ne_eqb _ 13 if1.false, ne_eqb _ 14 if2.false, fixed-bits.ensures.0)
+    let fixed_bits = c.fixed_bits in
+    rw (ne_eqb _ 13 if1.false, ne_eqb _ 14 if2.false, fixed_bits.ensures.0)

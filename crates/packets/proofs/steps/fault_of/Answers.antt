@@ -1,4 +1,3 @@
-use borrow.Author.Rules.{rules}
 use Rattle.packets.proofs.steps.fault_of.Goals as goal
 
 pub returns-in-Value : goal.returns-in-Value

@@ -1,8 +1,7 @@
 use mathlib.Core.Path.{◌∙◌}
 use Rattle.packets.specs.Steps.{field_step, holds_at}
 use borrow.Author.Tests.{eq-eqb, ne_eqb}
-use Rattle.packets.proofs.StepLaws.{got-value, got-stop}
-use borrow.Author.Rules.{rules}
+use Rattle.packets.proofs.StepLaws.{got_value, got_stop}
 use Rattle.packets.proofs.steps.field_step.Goals as goal
 
 pub returns-in_default : goal.returns-in_default
@@ -10,7 +9,7 @@ unfolding field_step
 returns-in_default c =
     let a = c.args in
     let v = holds_at a.table.now a.run.now a.p.condition in
-    let e = got-stop c.holds_at-condition.result v _ c.holds_at-condition.ensures
+    let e = got_stop c.holds_at-condition.result v _ c.holds_at-condition.ensures
     c.in_default.is in
     rw e (c.stopped.ensures ∙ rw c.in_default.is)
 
@@ -19,7 +18,7 @@ unfolding field_step
 returns-then-c-eq0 c =
     let a = c.args in
     let v = holds_at a.table.now a.run.now a.p.condition in
-    let e = got-value c.holds_at-condition.result v _ c.holds_at-condition.ensures c.in-Value.is in
+    let e = got_value c.holds_at-condition.result v _ c.holds_at-condition.ensures c.in-Value.is in
     rw (e, eq-eqb _ 0 c.if-c-eq0.true)
 
 pub returns : goal.returns
@@ -27,5 +26,5 @@ unfolding field_step
 returns c =
     let a = c.args in
     let v = holds_at a.table.now a.run.now a.p.condition in
-    let e = got-value c.holds_at-condition.result v _ c.holds_at-condition.ensures c.in-Value.is in
+    let e = got_value c.holds_at-condition.result v _ c.holds_at-condition.ensures c.in-Value.is in
     rw (e, ne_eqb _ 0 c.if-c-eq0.false) c.present_at.ensures

@@ -1,6 +1,5 @@
 use borrow.Author.Tests.{eq-eqb, ne_eqb}
 use Rattle.packets.specs.Steps.{holds_at}
-use borrow.Author.Rules.{rules}
 use Rattle.packets.proofs.steps.holds_at.Goals as goal
 
 pub returns-then-tree-eq0 : goal.returns-then-tree-eq0

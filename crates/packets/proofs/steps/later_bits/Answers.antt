@@ -1,10 +1,7 @@
 use mathlib.Core.Path.{◌≡◌, sym, ◌∙◌}
 use native.Mathlib.Omega.{arith}
-use Prim.Native.Nat.{◌+◌, ◌-◌, ◌*◌, ◌≤◌}
-use Rattle.packets.specs.Steps.{later_bits}
 use native.Mathlib.Nat.{sub-zero, zero-add}
 use Rattle.packets.proofs.StepLaws.{later_step, later_end}
-use borrow.Author.Rules.{rules}
 use Rattle.packets.proofs.steps.later_bits.Goals as goal
 
 pub loop-i-init : goal.loop-i-init
@@ -18,11 +15,11 @@ loop-i-preserved c =
     let a = c.args in
     let l = c.loop-i in
     let record_at = c.record_at-p in
-    let fixed-bits = c.fixed_bits-sum in
+    let fixed_bits = c.fixed_bits-sum in
     let h = later_step a.table.now a.n l.i l.sum l.at (omega arith) in (
       omega arith,
-      omega (arith, fixed-bits.ensures.1),
-      l.invariant.2 ∙ h ∙ rw (fixed-bits.ensures.0, record_at.ensures),
+      omega (arith, fixed_bits.ensures.1),
+      l.invariant.2 ∙ h ∙ rw (fixed_bits.ensures.0, record_at.ensures),
     )
 
 pub returns : goal.returns

@@ -1,10 +1,6 @@
-use mathlib.Core.Path.{◌≡◌, sym, ◌∙◌}
-use native.Mathlib.Omega.{arith}
+use mathlib.Core.Path.{◌≡◌}
 use Prim.Native.Nat.{◌+◌, ◌-◌, ◌*◌, ◌≤◌}
 use Rattle.packets.specs.Steps.{later_bits}
-use native.Mathlib.Nat.{sub-zero, zero-add}
-use Rattle.packets.proofs.StepLaws.{later_step, later_end}
-use borrow.Author.Rules.{rules}
 use Rattle.packets.proofs.steps.later_bits.Given as goal
 
 abbrev pub invariant-loop-i : goal.invariant-loop-i

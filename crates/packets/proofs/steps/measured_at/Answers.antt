@@ -1,6 +1,5 @@
 use mathlib.Core.Path.{◌∙◌}
 use Rattle.packets.specs.Steps.{tree_value, measured_at}
-use borrow.Author.Rules.{rules}
 use Rattle.packets.proofs.steps.measured_at.Goals as goal
 
 pub returns-in_default : goal.returns-in_default

@@ -1,6 +1,5 @@
 use borrow.Author.Tests.{eq-eqb, ne_eqb, le-leb, lt-leb}
 use Rattle.packets.specs.Steps.{number_of}
-use borrow.Author.Rules.{rules}
 use Rattle.packets.proofs.steps.number_of.Goals as goal
 
 pub returns-then-width-le-FIXED_MOST : goal.returns-then-width-le-FIXED_MOST

@@ -1,7 +1,6 @@
 use Rattle.packets.specs.Parts.{table_most}
 use borrow.Author.Tests.{lt-ltb, le-ltb}
 use Rattle.packets.specs.Steps.{record_at}
-use borrow.Author.Rules.{rules}
 use Rattle.packets.proofs.steps.record_at.Goals as goal
 
 pub returns-then-at-gt-TABLE_MOST : goal.returns-then-at-gt-TABLE_MOST

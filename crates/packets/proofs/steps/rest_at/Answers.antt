@@ -1,6 +1,5 @@
 use borrow.Author.Tests.{le-leb, lt-leb}
 use Rattle.packets.specs.Steps.{rest_at}
-use borrow.Author.Rules.{rules}
 use Rattle.packets.proofs.steps.rest_at.Goals as goal
 
 pub returns-then-taken-total : goal.returns-then-taken-total

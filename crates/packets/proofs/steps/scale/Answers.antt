@@ -1,7 +1,6 @@
 use native.Mathlib.Omega.{arith}
 use borrow.Author.Tests.{eq-eqb, ne_eqb}
 use Rattle.packets.specs.Steps.{unit_of}
-use borrow.Author.Rules.{rules}
 use Rattle.packets.proofs.steps.scale.Goals as goal
 
 pub returns-then-unit-eq8 : goal.returns-then-unit-eq8

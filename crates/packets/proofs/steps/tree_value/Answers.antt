@@ -1,6 +1,5 @@
 use mathlib.Core.Path.{◌∙◌}
 use Rattle.packets.specs.Steps.{tree_value}
-use borrow.Author.Rules.{rules}
 use Rattle.packets.proofs.steps.tree_value.Goals as goal
 
 pub returns-in_default : goal.returns-in_default

@@ -1,8 +1,6 @@
 use mathlib.Core.Path.{sym, ◌∙◌}
-use Prim.Native.Nat.{◌-◌}
 use native.Mathlib.Omega.{arith}
 use Rattle.packets.proofs.TableLaws.{accepts, refuses}
-use borrow.Author.Rules.{rules}
 use Rattle.packets.proofs.tables.check_table.Goals as goal
 
 pub returns-then-is_table : goal.returns-then-is_table

@@ -1,7 +1,5 @@
-use Prim.Native.Nat.{◌-◌}
 use borrow.Author.Tests.{eq-eqb, ne_eqb}
 use Rattle.packets.specs.TableTest.{last_test}
-use borrow.Author.Rules.{rules}
 use Rattle.packets.proofs.tables.is_last.Goals as goal
 
 pub returns-then-s-at : goal.returns-then-s-at

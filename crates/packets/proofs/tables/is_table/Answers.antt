@@ -1,11 +1,10 @@
 use mathlib.Core.Path.{sym, ◌∙◌}
 use native.Mathlib.Omega.{arith}
-use borrow.Author.Tests.{le-leb, lt-leb, not-true, not-false}
+use borrow.Author.Tests.{le-leb, lt-leb}
 use Rattle.laws.specs.Places.{two_at}
 use Rattle.packets.specs.TableTest.{table_test}
-use Rattle.packets.proofs.TableSteps.{head-is, count_most}
+use Rattle.packets.proofs.TableSteps.{head_is_lem, count_most}
 use Rattle.packets.proofs.CountSteps.{zeros}
-use borrow.Author.Rules.{rules}
 use Rattle.packets.proofs.tables.is_table.Goals as goal
 
 pub returns-then-table-gt-TABLE_MOST : goal.returns-then-table-gt-TABLE_MOST
@@ -16,8 +15,8 @@ returns-then-table-gt-TABLE_MOST c =
 pub returns-then-not-is_head : goal.returns-then-not-is_head
 unfolding table_test
 returns-then-not-is_head c =
-    let no-head = sym c.is_head.ensures ∙ c.if-not-is_head.true in
-    rw (le-leb _ _ c.if-table-gt-TABLE_MOST.false, no-head)
+    let no_head = sym c.is_head.ensures ∙ c.if-not-is_head.true in
+    rw (le-leb _ _ c.if-table-gt-TABLE_MOST.false, no_head)
 
 pub is_right-requires : goal.is_right-requires
 is_right-requires c =
@@ -38,7 +37,7 @@ pub is_right-requires-2 : goal.is_right-requires-2
 is_right-requires-2 c =
     let head = sym c.is_head.ensures ∙ c.if-not-is_head.false in
     let s = c.args.table.now in
-    let most = count_most (two_at s 6) (head-is s head).count in record {
+    let most = count_most (two_at s 6) (head_is_lem s head).count in record {
       table_len_bound = (c.if-table-gt-TABLE_MOST.false, head);
       table_in_bounds = (omega (arith, most), omega (arith, most), omega (arith, most), omega (arith, most), zeros 128);
     }

@@ -1,27 +1,22 @@
-use mathlib.Core.Path.{◌≡◌, refl, sym, ◌∙◌}
-use mathlib.Core.Bool.{false}
-use mathlib.Core.List.{[]}
-use Prim.Native.Nat.{◌-◌, ◌*◌, ◌≤◌}
+use mathlib.Core.Path.{refl, sym, ◌∙◌}
 use native.Mathlib.Omega.{arith}
 use native.Mathlib.Nat.{sub-zero}
-use lib.ListN.{length, take, length-set}
+use lib.ListN.{take, length-set}
 use lib.Seq.{lt-length-set}
-use borrow.Author.Tests.{eq-eqb, ne_eqb, not-true, not-false}
-use Rattle.rules.specs.Limits.{fixed_most}
-use Rattle.packets.specs.TableTest.{walk_at}
+use borrow.Author.Tests.{eq-eqb, ne_eqb}
 use Rattle.packets.specs.Parts.{parts_at}
-use Rattle.packets.proofs.FieldSteps.{parts-inside, field_next, bits_small}
+use Rattle.packets.proofs.FieldSteps.{parts_inside, field_next, bits_small}
 use Rattle.packets.proofs.WalkSteps.{
   take_own,
   walk_field,
-  walk-trees,
+  walk_trees,
   walk_on,
   walk_end,
-  own-trees,
-  mark-word,
+  own_trees,
+  mark_word,
 }
-use Rattle.packets.proofs.NameSteps.{Gathering, gather-start, gather_again, gather_done}
-use Rattle.packets.proofs.CountSteps.{Tallying, record_length, tally-start, tally_again, tally_done}
+use Rattle.packets.proofs.NameSteps.{gather_start, gather_again, gather_done}
+use Rattle.packets.proofs.CountSteps.{record_length, tally_start, tally_again, tally_done}
 use borrow.Author.Rules.{rules}
 use Rattle.packets.proofs.tables.walk.Goals as goal
 
@@ -33,13 +28,13 @@ loop-i-init c =
       omega arith,
       search rules,
       rw sub-zero,
-      gather-start a.s.now a.count a.from _ _ _ _,
+      gather_start a.s.now a.count a.from _ _ _ _,
       refl,
       refl,
       refl,
       refl,
       refl,
-      tally-start a.s.now a.count a.from _ c.requires.count_in_bounds.4,
+      tally_start a.s.now a.count a.from _ c.requires.count_in_bounds.4,
     )
 
 pub is_field-requires : goal.is_field-requires
@@ -64,7 +59,7 @@ pub is_word-word-requires : goal.is_word-word-requires
 is_word-word-requires c =
     let parts = c.parts_at-parts.ensures in
     let field = sym c.is_field.ensures ∙ c.if-not-is_field.false in
-    let inside = parts-inside _ _ (field_next _ _ _ _ _ _ (rw parts at field)) in
+    let inside = parts_inside _ _ (field_next _ _ _ _ _ _ (rw parts at field)) in
     (rw parts inside.label, c.requires.w_nonzero.3, c.requires.w_nonzero.5)
 
 pub has_trees-requires : goal.has_trees-requires
@@ -75,7 +70,7 @@ has_trees-requires c =
     let next = field_next _ _ _ _ _ _ (rw parts at field) in (
       lt-length-set l.marks l.i _ (omega arith),
       c.requires.w_nonzero.3,
-      rw parts (parts-inside _ _ next),
+      rw parts (parts_inside _ _ next),
     )
 
 pub returns-then-not-has_trees : goal.returns-then-not-has_trees
@@ -89,9 +84,9 @@ returns-then-not-has_trees c =
     let field = sym c.is_field.ensures ∙ c.if-not-is_field.false
     in
     let none = sym c.has_trees.ensures ∙ c.if-not-has_trees.true in
-    let marked = mark-word s _ c.is_word-word.ensures c.mark_of.ensures in
-    let own = own-trees l.marks l.i _ s _ (parts_at s l.at) parts marked (omega arith) none in record {
-      is = sym (l.invariant.4 ∙ walk-trees a.w a.count l.i before l.place l.ended s l.at (omega arith)
+    let marked = mark_word s _ c.is_word-word.ensures c.mark_of.ensures in
+    let own = own_trees l.marks l.i _ s _ (parts_at s l.at) parts marked (omega arith) none in record {
+      is = sym (l.invariant.4 ∙ walk_trees a.w a.count l.i before l.place l.ended s l.at (omega arith)
           (rw parts at field) own);
       gathered = tt;
       counted = tt;
@@ -106,7 +101,7 @@ gather-requires c =
     let few = c.requires.w_nonzero.1 in
     let room = c.requires.count_in_bounds in
     let next = field_next _ _ _ _ _ _ (rw parts at field) in record {
-      s_len_bound = (c.requires.w_nonzero.3, parts, rw parts (parts-inside _ _ next), c.is_word-word.ensures);
+      s_len_bound = (c.requires.w_nonzero.3, parts, rw parts (parts_inside _ _ next), c.is_word-word.ensures);
       i_in_bounds = (omega arith, omega arith, omega arith);
     }
 
@@ -115,7 +110,7 @@ count_record-requires c =
     let parts = c.parts_at-parts.ensures in
     let field = sym c.is_field.ensures ∙ c.if-not-is_field.false in
     let next = field_next _ _ _ _ _ _ (rw parts at field) in
-    (c.requires.w_nonzero.3, rw parts (parts-inside _ _ next))
+    (c.requires.w_nonzero.3, rw parts (parts_inside _ _ next))
 
 pub overflow_add-place : goal.overflow_add-place
 overflow_add-place c =
@@ -149,8 +144,8 @@ loop-i-preserved c =
     let space = c.requires.w_nonzero.2 in
     let few = c.requires.w_nonzero.1 in
     let trees = sym c.has_trees.ensures ∙ c.if-not-has_trees.false in
-    let marked = mark-word s _ c.is_word-word.ensures c.mark_of.ensures in
-    let own = own-trees l.marks l.i _ s _ (parts_at s l.at) parts marked (omega arith) trees in
+    let marked = mark_word s _ c.is_word-word.ensures c.mark_of.ensures in
+    let own = own_trees l.marks l.i _ s _ (parts_at s l.at) parts marked (omega arith) trees in
     let room = c.requires.count_in_bounds in
     let small = bits_small _ _ _ _ _ _ field in
     let bits = c.bits_of-place.ensures in

@@ -1,28 +1,12 @@
-use mathlib.Core.Path.{◌≡◌, refl, sym, ◌∙◌}
+use mathlib.Core.Path.{◌≡◌}
 use mathlib.Core.Bool.{false}
 use mathlib.Core.List.{[]}
 use Prim.Native.Nat.{◌-◌, ◌*◌, ◌≤◌}
-use native.Mathlib.Omega.{arith}
-use native.Mathlib.Nat.{sub-zero}
-use lib.ListN.{length, take, length-set}
-use lib.Seq.{lt-length-set}
-use borrow.Author.Tests.{eq-eqb, ne_eqb, not-true, not-false}
+use lib.ListN.{length, take}
 use Rattle.rules.specs.Limits.{fixed_most}
 use Rattle.packets.specs.TableTest.{walk_at}
-use Rattle.packets.specs.Parts.{parts_at}
-use Rattle.packets.proofs.FieldSteps.{parts-inside, field_next, bits_small}
-use Rattle.packets.proofs.WalkSteps.{
-  take_own,
-  walk_field,
-  walk-trees,
-  walk_on,
-  walk_end,
-  own-trees,
-  mark-word,
-}
-use Rattle.packets.proofs.NameSteps.{Gathering, gather-start, gather_again, gather_done}
-use Rattle.packets.proofs.CountSteps.{Tallying, record_length, tally-start, tally_again, tally_done}
-use borrow.Author.Rules.{rules}
+use Rattle.packets.proofs.NameSteps.{Gathering}
+use Rattle.packets.proofs.CountSteps.{Tallying}
 use Rattle.packets.proofs.tables.walk.Given as goal
 
 abbrev pub invariant-loop-i : goal.invariant-loop-i

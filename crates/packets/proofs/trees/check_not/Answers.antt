@@ -1,4 +1,3 @@
-use borrow.Author.Rules.{rules}
 use Rattle.packets.proofs.trees.check_not.Goals as goal
 
 pub returns-in-Number : goal.returns-in-Number

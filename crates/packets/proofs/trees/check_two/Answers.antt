@@ -1,5 +1,4 @@
 use Rattle.packets.proofs.TreeTypes.{types_of}
-use borrow.Author.Rules.{rules}
 use Rattle.packets.proofs.trees.check_two.Goals as goal
 
 pub returns-then-same_type-2 : goal.returns-then-same_type-2

@@ -1,5 +1,4 @@
 use Rattle.laws.specs.Places.{two_at, four_at}
-use borrow.Author.Rules.{rules}
 use Rattle.packets.proofs.trees.four_at.Goals as goal
 
 pub returns : goal.returns

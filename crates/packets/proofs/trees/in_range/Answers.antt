@@ -1,5 +1,4 @@
 use borrow.Author.Tests.{le-leb, lt-leb}
-use borrow.Author.Rules.{rules}
 use Rattle.packets.proofs.trees.in_range.Goals as goal
 
 pub returns-then-n : goal.returns-then-n

@@ -1,6 +1,5 @@
 use mathlib.Core.Path.{refl, sym}
 use lib.ListN.{get_or-eq_default}
-use borrow.Author.Rules.{rules}
 use Rattle.packets.proofs.trees.number_at.Goals as goal
 
 pub returns-then-run-i : goal.returns-then-run-i

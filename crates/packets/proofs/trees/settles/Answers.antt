@@ -1,7 +1,6 @@
 use Rattle.rules.specs.Values.{decides}
 use Rattle.operators.specs.Rows.{row_of}
 use Rattle.packets.proofs.TreeTypes.{settled_by}
-use borrow.Author.Rules.{rules}
 use Rattle.packets.proofs.trees.settles.Goals as goal
 
 pub returns-in-ByYes : goal.returns-in-ByYes

@@ -1,11 +1,10 @@
-use mathlib.Core.Path.{◌≡◌, sym, ◌∙◌}
-use Prim.Native.Nat.{ℕ, ◌-◌}
+use mathlib.Core.Path.{sym, ◌∙◌}
+use Prim.Native.Nat.{ℕ}
 use native.Mathlib.Omega.{arith}
-use lib.ListN.{length, get_or}
-use Rattle.names.specs.Repeats.{remainders}
+use lib.ListN.{get_or}
 use Rattle.packets.specs.NamesTest.{labels_alike}
 use Rattle.packets.proofs.NameSteps.{labels_apart}
-use Rattle.names.proofs.PairLaws.{Inner, Later, Seen, later_starts, inner_from}
+use Rattle.names.proofs.PairLaws.{later_starts, inner_from}
 use Rattle.names.proofs.PairLaws.{inner_on, later_on, seen_on, later_found, later_ends}
 use borrow.Author.Rules.{rules}
 use Rattle.packets.proofs.unique.first_label.Goals as goal

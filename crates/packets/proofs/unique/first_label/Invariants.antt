@@ -1,13 +1,9 @@
-use mathlib.Core.Path.{◌≡◌, sym, ◌∙◌}
-use Prim.Native.Nat.{ℕ, ◌-◌}
-use native.Mathlib.Omega.{arith}
+use mathlib.Core.Path.{◌≡◌}
+use Prim.Native.Nat.{◌-◌}
 use lib.ListN.{length, get_or}
 use Rattle.names.specs.Repeats.{remainders}
 use Rattle.packets.specs.NamesTest.{labels_alike}
-use Rattle.packets.proofs.NameSteps.{labels_apart}
-use Rattle.names.proofs.PairLaws.{Inner, Later, Seen, later_starts, inner_from}
-use Rattle.names.proofs.PairLaws.{inner_on, later_on, seen_on, later_found, later_ends}
-use borrow.Author.Rules.{rules}
+use Rattle.names.proofs.PairLaws.{Inner, Later, Seen}
 use Rattle.packets.proofs.unique.first_label.Given as goal
 
 abbrev pub invariant-loop-i : goal.invariant-loop-i

@@ -1,6 +1,5 @@
 use mathlib.Core.Path.{refl}
 use Rattle.packets.specs.NamesTest.{label_at, label_key}
-use borrow.Author.Rules.{rules}
 use Rattle.packets.proofs.unique.gather.Goals as goal
 
 pub returns : goal.returns
@@ -11,7 +10,7 @@ returns c =
       keys = rw (c.label_key.ensures, e);
       shorts = rw (c.held_part.ensures, e);
       words = rw (
-            c.held_label.ensures,
-            e,
-          );
+        c.held_label.ensures,
+        e,
+      );
     }

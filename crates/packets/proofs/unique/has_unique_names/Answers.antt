@@ -3,7 +3,6 @@ use native.Mathlib.Omega.{arith}
 use borrow.Author.Tests.{eq-eqb, ne_eqb, le-ltb}
 use Rattle.rules.specs.Limits.{fields_most}
 use Rattle.packets.specs.NamesTest.{unique_in}
-use borrow.Author.Rules.{rules}
 use Rattle.packets.proofs.unique.has_unique_names.Goals as goal
 
 pub returns-then-first_label-n : goal.returns-then-first_label-n

@@ -1,6 +1,5 @@
 use Rattle.packets.specs.NamesTest.{held_in}
 use Rattle.packets.proofs.NameSteps.{short_none}
-use borrow.Author.Rules.{rules}
 use Rattle.packets.proofs.unique.held_part.Goals as goal
 
 pub returns-then-p-eq0 : goal.returns-then-p-eq0

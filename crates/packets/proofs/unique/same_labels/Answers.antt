@@ -2,7 +2,6 @@ use mathlib.Core.Path.{sym, ◌∙◌}
 use native.Mathlib.Omega.{arith}
 use Rattle.packets.specs.NamesTest.{label_at, sample_key, label_key}
 use Rattle.names.proofs.KeyLaws.{keys_apart}
-use borrow.Author.Rules.{rules}
 use Rattle.packets.proofs.unique.same_labels.Goals as goal
 
 pub returns-then-key-other : goal.returns-then-key-other
@@ -16,8 +15,8 @@ returns-then-key-other c =
 pub overflow_add-a_end : goal.overflow_add-a_end
 overflow_add-a_end c =
     let pre = c.requires in
-    let label-span = c.label_span-p in
-    let z = rw (sym label-span.ensures) at pre.1.inside.label in omega arith
+    let label_span = c.label_span-p in
+    let z = rw (sym label_span.ensures) at pre.1.inside.label in omega arith
 
 pub overflow_add-b_end : goal.overflow_add-b_end
 overflow_add-b_end c =
@@ -28,8 +27,8 @@ overflow_add-b_end c =
 pub slice_bounds-same_words-end : goal.slice_bounds-same_words-end
 slice_bounds-same_words-end c =
     let pre = c.requires in
-    let label-span = c.label_span-p in
-    let z = rw (sym label-span.ensures) at pre.1.inside.label in omega arith
+    let label_span = c.label_span-p in
+    let z = rw (sym label_span.ensures) at pre.1.inside.label in omega arith
 
 pub slice_bounds-same_words-end-2 : goal.slice_bounds-same_words-end-2
 slice_bounds-same_words-end-2 c =
@@ -40,6 +39,6 @@ slice_bounds-same_words-end-2 c =
 pub returns : goal.returns
 unfolding label_at
 returns c =
-    let label-span = c.label_span-p in
+    let label_span = c.label_span-p in
     let label_span2 = c.label_span-q in
-    c.same_words.ensures ∙ rw (label-span.ensures, label_span2.ensures)
+    c.same_words.ensures ∙ rw (label_span.ensures, label_span2.ensures)

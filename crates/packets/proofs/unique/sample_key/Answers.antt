@@ -1,6 +1,5 @@
 use borrow.Author.Tests.{lt-ltb, le-ltb}
 use Rattle.packets.specs.NamesTest.{sample_key}
-use borrow.Author.Rules.{rules}
 use Rattle.packets.proofs.unique.sample_key.Goals as goal
 
 pub returns-then-n-lt2 : goal.returns-then-n-lt2

@@ -2,7 +2,6 @@ use mathlib.Core.Path.{refl}
 use native.Mathlib.Omega.{arith}
 use Rattle.packets.specs.Walks.{put_at}
 use lib.ListN.{length-set}
-use borrow.Author.Rules.{rules}
 use Rattle.packets.proofs.walks.put.Goals as goal
 
 pub bounds-run-at-2 : goal.bounds-run-at-2

@@ -1,4 +1,3 @@
-use borrow.Author.Rules.{rules}
 use Rattle.packets.proofs.walks.refused.Goals as goal
 
 pub returns-in-Stop : goal.returns-in-Stop

@@ -1,14 +1,11 @@
 use mathlib.Core.Path.{◌≡◌, refl, ◌∙◌}
 use native.Mathlib.Omega.{arith}
 use borrow.Author.Tests.{eq-eqb, ne_eqb}
-use Prim.Native.Nat.{◌-◌, ◌≤◌}
+use Prim.Native.Nat.{◌-◌}
 use Rattle.packets.specs.Steps.{field_step}
-use Rattle.packets.specs.Walks.{walk_all, walk_from, walk_answer}
+use Rattle.packets.specs.Walks.{walk_all, walk_answer}
 use native.Mathlib.Nat.{sub-zero}
-use lib.ListN.{length}
-use Rattle.rules.specs.Reading.{bit_total}
-use Rattle.packets.proofs.PacketWalk.{length_with, walk-to, walk-stop, walk_end, step-inside}
-use borrow.Author.Rules.{rules}
+use Rattle.packets.proofs.PacketWalk.{length_with, walk_to, walk_stop, walk_end, step_inside}
 use Rattle.packets.proofs.walks.walk_fields.Goals as goal
 
 pub loop-i-init : goal.loop-i-init
@@ -23,7 +20,7 @@ returns-in_default c =
     let l = c.loop-i in
     let h =
     l.invariant.3
-    ∙ walk-stop a.table.now a.packet.now l.run c.two_at-n.result l.i l.place l.at
+    ∙ walk_stop a.table.now a.packet.now l.run c.two_at-n.result l.i l.place l.at
     c.record_at-p.result c.one_field-found.result c.one_field-found.new.run c.loop-i-test.true c.record_at-p.ensures
     c.one_field-found.ensures.0 _
     c.one_field-found.ensures.1 c.in_default.is in
@@ -37,12 +34,12 @@ loop-i-preserved c =
     let later = c.two_at-n.result - l.i - 1 in
     let st = field_step a.table.now a.packet.now l.run c.record_at-p.result later l.place in
     let h =
-    walk-to a.table.now a.packet.now l.run c.two_at-n.result l.i l.place l.at
+    walk_to a.table.now a.packet.now l.run c.two_at-n.result l.i l.place l.at
     c.record_at-p.result one.result one.new.run
     c.loop-i-test.true c.record_at-p.ensures one.ensures.0
     _ _ one.ensures.1 c.in-Field.is in
     let inside =
-    step-inside a.table.now a.packet.now l.run l.i c.record_at-p.result later l.place one.result
+    step_inside a.table.now a.packet.now l.run l.i c.record_at-p.result later l.place one.result
     _ _ l.invariant.1 one.ensures.0 c.in-Field.is in (
       omega arith,
       inside,

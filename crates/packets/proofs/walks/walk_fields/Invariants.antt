@@ -1,14 +1,8 @@
-use mathlib.Core.Path.{◌≡◌, refl, ◌∙◌}
-use native.Mathlib.Omega.{arith}
-use borrow.Author.Tests.{eq-eqb, ne_eqb}
+use mathlib.Core.Path.{◌≡◌}
 use Prim.Native.Nat.{◌-◌, ◌≤◌}
-use Rattle.packets.specs.Steps.{field_step}
-use Rattle.packets.specs.Walks.{walk_all, walk_from, walk_answer}
-use native.Mathlib.Nat.{sub-zero}
+use Rattle.packets.specs.Walks.{walk_all, walk_from}
 use lib.ListN.{length}
 use Rattle.rules.specs.Reading.{bit_total}
-use Rattle.packets.proofs.PacketWalk.{length_with, walk-to, walk-stop, walk_end, step-inside}
-use borrow.Author.Rules.{rules}
 use Rattle.packets.proofs.walks.walk_fields.Given as goal
 
 abbrev pub invariant-loop-i : goal.invariant-loop-i

@@ -1,7 +1,6 @@
 use mathlib.Core.Path.{sym}
 use native.Mathlib.Omega.{arith}
 use lib.ListN.{get_or-eq_default}
-use borrow.Author.Rules.{rules}
 use Rattle.references.proofs.numbers.number_at.Goals as goal
 
 pub returns-else-index-numbers : goal.returns-else-index-numbers

@@ -1,14 +1,11 @@
 use mathlib.Core.Path.{◌≡◌, refl, ap, sym, ◌∙◌}
-use mathlib.Core.List.{◌++◌}
-use Prim.Native.Nat.{◌+◌, ◌-◌, ◌/◌, ◌%◌, ◌≤◌}
+use Prim.Native.Nat.{◌+◌, ◌-◌, ◌/◌, ◌%◌}
 use native.Mathlib.Nat.{sub-zero}
 use native.Mathlib.Omega.{arith}
-use lib.ListN.{length, set, take, drop, length-set}
+use lib.ListN.{length, set, drop, length-set}
 use lib.Seq.{lt-length-set}
 use Rattle.rules.specs.Trees.{le2}
-use Rattle.references.specs.Numbers.{numbered}
-use Rattle.references.proofs.NumberLaws.{numbered-ends, numbered_next, numbered_done}
-use borrow.Author.Rules.{rules}
+use Rattle.references.proofs.NumberLaws.{numbered_ends, numbered_next, numbered_done}
 use Rattle.references.proofs.numbers.put_numbers.Goals as goal
 
 pub loop-k-init : goal.loop-k-init
@@ -19,21 +16,21 @@ pub returns-then-left-lt6 : goal.returns-then-left-lt6
 returns-then-left-lt6 c =
     let l = c.loop-k in
     let a = c.args in
-    sym (l.invariant.3 ∙ numbered-ends (a.n - l.k) (drop l.k a.counts.now) l.records l.at
+    sym (l.invariant.3 ∙ numbered_ends (a.n - l.k) (drop l.k a.counts.now) l.records l.at
     (λ x y. omega (arith, x, y)))
 
 pub returns-then-size-lt6 : goal.returns-then-size-lt6
 returns-then-size-lt6 c =
     let l = c.loop-k in
     let a = c.args in
-    sym (l.invariant.3 ∙ numbered-ends (a.n - l.k) (drop l.k a.counts.now) l.records l.at
+    sym (l.invariant.3 ∙ numbered_ends (a.n - l.k) (drop l.k a.counts.now) l.records l.at
     (λ x y. omega (arith, x, y, c.two_of-size.ensures)))
 
 pub returns-then-left-size : goal.returns-then-left-size
 returns-then-left-size c =
     let l = c.loop-k in
     let a = c.args in
-    sym (l.invariant.3 ∙ numbered-ends (a.n - l.k) (drop l.k a.counts.now) l.records l.at
+    sym (l.invariant.3 ∙ numbered_ends (a.n - l.k) (drop l.k a.counts.now) l.records l.at
     (λ x y. omega (arith, x, y, c.two_of-size.ensures)))
 
 pub bounds-records-at-in-loop-k-3 : goal.bounds-records-at-in-loop-k-3

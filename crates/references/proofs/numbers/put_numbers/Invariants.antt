@@ -1,14 +1,8 @@
-use mathlib.Core.Path.{◌≡◌, refl, ap, sym, ◌∙◌}
+use mathlib.Core.Path.{◌≡◌}
 use mathlib.Core.List.{◌++◌}
-use Prim.Native.Nat.{◌+◌, ◌-◌, ◌/◌, ◌%◌, ◌≤◌}
-use native.Mathlib.Nat.{sub-zero}
-use native.Mathlib.Omega.{arith}
-use lib.ListN.{length, set, take, drop, length-set}
-use lib.Seq.{lt-length-set}
-use Rattle.rules.specs.Trees.{le2}
+use Prim.Native.Nat.{◌-◌, ◌≤◌}
+use lib.ListN.{length, take, drop}
 use Rattle.references.specs.Numbers.{numbered}
-use Rattle.references.proofs.NumberLaws.{numbered-ends, numbered_next, numbered_done}
-use borrow.Author.Rules.{rules}
 use Rattle.references.proofs.numbers.put_numbers.Given as goal
 
 abbrev pub invariant-loop-k : goal.invariant-loop-k

@@ -1,11 +1,9 @@
-use mathlib.Core.Path.{◌≡◌, refl, sym, ◌∙◌}
-use mathlib.Core.List.{◌++◌}
-use Prim.Native.Nat.{◌+◌, ◌-◌, ◌≤◌}
+use mathlib.Core.Path.{refl, sym, ◌∙◌}
+use Prim.Native.Nat.{◌+◌}
 use native.Mathlib.Omega.{arith}
-use lib.ListN.{length, take, drop, length-set}
-use Rattle.references.specs.Renumbered.{new_index, renumbered_bytes}
-use Rattle.references.proofs.RenumberLaws.{renumber-field, renumber_other, renumber-cut, renumber-end}
-use borrow.Author.Rules.{rules}
+use lib.ListN.{length-set}
+use Rattle.references.specs.Renumbered.{new_index}
+use Rattle.references.proofs.RenumberLaws.{renumber_field, renumber_other, renumber_cut, renumber_end}
 use Rattle.references.proofs.renumbering.renumber.Goals as goal
 
 pub loop-at-init : goal.loop-at-init
@@ -14,14 +12,14 @@ loop-at-init c =
 
 pub returns-then-expression-at-lt2 : goal.returns-then-expression-at-lt2
 returns-then-expression-at-lt2 c =
-    sym (c.loop-at.invariant.2 ∙ renumber-cut (new_index c.args.shift)
+    sym (c.loop-at.invariant.2 ∙ renumber_cut (new_index c.args.shift)
     c.loop-at.expression
     c.loop-at.at (omega arith) (omega arith))
 
 pub loop-at-preserved-else-expression-at-lt2 : goal.loop-at-preserved-else-expression-at-lt2
 loop-at-preserved-else-expression-at-lt2 c =
     let e = c.loop-at.expression in
-    let more = renumber-field (new_index c.args.shift) e c.loop-at.at (omega arith)
+    let more = renumber_field (new_index c.args.shift) e c.loop-at.at (omega arith)
     c.next_code-next.result c.new_index.result
     (omega arith) c.next_code-next.ensures.2
     c.if-expression-at-eq-FIELD_CODE.true c.next_code-next.ensures.0
@@ -44,5 +42,5 @@ loop-at-preserved c =
 
 pub returns : goal.returns
 returns c =
-    sym (c.loop-at.invariant.2 ∙ renumber-end (new_index c.args.shift)
+    sym (c.loop-at.invariant.2 ∙ renumber_end (new_index c.args.shift)
     c.loop-at.expression c.loop-at.at (omega arith))

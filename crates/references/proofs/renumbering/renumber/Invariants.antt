@@ -1,11 +1,8 @@
-use mathlib.Core.Path.{◌≡◌, refl, sym, ◌∙◌}
+use mathlib.Core.Path.{◌≡◌}
 use mathlib.Core.List.{◌++◌}
-use Prim.Native.Nat.{◌+◌, ◌-◌, ◌≤◌}
-use native.Mathlib.Omega.{arith}
-use lib.ListN.{length, take, drop, length-set}
+use Prim.Native.Nat.{◌-◌, ◌≤◌}
+use lib.ListN.{length, take, drop}
 use Rattle.references.specs.Renumbered.{new_index, renumbered_bytes}
-use Rattle.references.proofs.RenumberLaws.{renumber-field, renumber_other, renumber-cut, renumber-end}
-use borrow.Author.Rules.{rules}
 use Rattle.references.proofs.renumbering.renumber.Given as goal
 
 abbrev pub invariant-loop-at : goal.invariant-loop-at

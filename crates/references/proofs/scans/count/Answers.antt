@@ -1,13 +1,12 @@
 use native.Mathlib.Omega.{arith}
-use Rattle.references.proofs.TallyLaws.{tallied-own, tallied_out, tallied-one}
-use borrow.Author.Rules.{rules}
+use Rattle.references.proofs.TallyLaws.{tallied_own, tallied_out, tallied_one}
 use Rattle.references.proofs.scans.count.Goals as goal
 
 pub returns-then-i-counts : goal.returns-then-i-counts
 returns-then-i-counts c =
     let a = c.args in
     let m = c.one_more in
-    tallied-one a.own a.counts.now a.index m.result c.if-i-own.true m.ensures
+    tallied_one a.own a.counts.now a.index m.result c.if-i-own.true m.ensures
 
 pub returns-else-i-counts : goal.returns-else-i-counts
 returns-else-i-counts c =
@@ -17,4 +16,4 @@ returns-else-i-counts c =
 pub returns-else-i-own : goal.returns-else-i-own
 returns-else-i-own c =
     let a = c.args in
-    tallied-own a.own a.counts.now a.index (omega arith)
+    tallied_own a.own a.counts.now a.index (omega arith)

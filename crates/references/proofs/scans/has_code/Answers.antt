@@ -1,10 +1,7 @@
 use mathlib.Core.Path.{◌≡◌, refl, ◌∙◌, sym}
-use Prim.Native.Nat.{◌-◌, ◌≤◌}
 use native.Mathlib.Omega.{arith}
-use lib.ListN.{length, drop}
-use Rattle.references.specs.Scans.{has_code}
-use Rattle.references.proofs.ScanLaws.{has_here, has-next, has_end}
-use borrow.Author.Rules.{rules}
+use lib.ListN.{length}
+use Rattle.references.proofs.ScanLaws.{has_here, has_next, has_end}
 use Rattle.references.proofs.scans.has_code.Goals as goal
 
 pub loop-at-init : goal.loop-at-init
@@ -24,7 +21,7 @@ loop-at-preserved c =
     let n = c.next_code-at in
     let none = sym c.is_wanted.ensures ∙ c.if-is_wanted.false in (
       n.ensures.2,
-      l.invariant.1 ∙ has-next c.args.wanted s l.at n.result n.ensures.0 ∙ rw
+      l.invariant.1 ∙ has_next c.args.wanted s l.at n.result n.ensures.0 ∙ rw
           none refl,
     )
 

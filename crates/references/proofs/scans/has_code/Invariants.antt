@@ -1,10 +1,7 @@
-use mathlib.Core.Path.{◌≡◌, refl, ◌∙◌, sym}
+use mathlib.Core.Path.{◌≡◌}
 use Prim.Native.Nat.{◌-◌, ◌≤◌}
-use native.Mathlib.Omega.{arith}
 use lib.ListN.{length, drop}
 use Rattle.references.specs.Scans.{has_code}
-use Rattle.references.proofs.ScanLaws.{has_here, has-next, has_end}
-use borrow.Author.Rules.{rules}
 use Rattle.references.proofs.scans.has_code.Given as goal
 
 abbrev pub invariant-loop-at : goal.invariant-loop-at

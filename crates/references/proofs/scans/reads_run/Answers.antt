@@ -1,7 +1,6 @@
 use mathlib.Core.Path.{◌∙◌}
 use native.Mathlib.Omega.{arith}
-use Rattle.references.proofs.ScanLaws.{run_other, run-cut, run-field}
-use borrow.Author.Rules.{rules}
+use Rattle.references.proofs.ScanLaws.{run_other, run_cut, run_field}
 use Rattle.references.proofs.scans.reads_run.Goals as goal
 
 pub returns-then-expression-at-ne-FIELD_CODE : goal.returns-then-expression-at-ne-FIELD_CODE
@@ -11,12 +10,12 @@ returns-then-expression-at-ne-FIELD_CODE c =
 
 pub returns-then-expression-at-lt2 : goal.returns-then-expression-at-lt2
 returns-then-expression-at-lt2 c =
-    run-cut c.args.expression.now c.args.at
+    run_cut c.args.expression.now c.args.at
     c.args.first c.args.last (omega arith)
     (omega arith)
 
 pub returns : goal.returns
 returns c =
-    c.is_between.ensures ∙ run-field c.args.expression.now
+    c.is_between.ensures ∙ run_field c.args.expression.now
     c.args.at c.args.first c.args.last (omega arith)
     c.if-expression-at-ne-FIELD_CODE.false

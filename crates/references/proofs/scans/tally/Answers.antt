@@ -1,11 +1,6 @@
-use mathlib.Core.Path.{◌≡◌, refl, sym, ◌∙◌}
-use Prim.Native.Nat.{◌-◌, ◌≤◌}
+use mathlib.Core.Path.{refl, sym, ◌∙◌}
 use native.Mathlib.Omega.{arith}
-use lib.ListN.{length, drop}
-use Rattle.references.specs.Scans.{references}
-use Rattle.references.specs.Tallies.{tallied}
-use Rattle.references.proofs.TallyLaws.{tally-field, tally_other, tally-cut, tally-end}
-use borrow.Author.Rules.{rules}
+use Rattle.references.proofs.TallyLaws.{tally_field, tally_other, tally_cut, tally_end}
 use Rattle.references.proofs.scans.tally.Goals as goal
 
 pub loop-at-init : goal.loop-at-init
@@ -15,7 +10,7 @@ pub returns-then-expression-at-lt2 : goal.returns-then-expression-at-lt2
 returns-then-expression-at-lt2 c =
     let l = c.loop-at in
     let a = c.args in
-    sym (l.invariant.2 ∙ tally-cut a.own l.counts a.expression.now l.at (omega arith) (omega arith))
+    sym (l.invariant.2 ∙ tally_cut a.own l.counts a.expression.now l.at (omega arith) (omega arith))
 
 pub loop-at-preserved-else-expression-at-lt2 : goal.loop-at-preserved-else-expression-at-lt2
 loop-at-preserved-else-expression-at-lt2 c =
@@ -23,7 +18,7 @@ loop-at-preserved-else-expression-at-lt2 c =
     let a = c.args in
     let q = c.count in
     let n = c.next_code-next in
-    let more = tally-field a.own l.counts q.new.counts a.expression.now l.at n.result
+    let more = tally_field a.own l.counts q.new.counts a.expression.now l.at n.result
     (omega arith) c.if-expression-at-eq-FIELD_CODE.true n.ensures.0 q.ensures in
     (n.ensures.2, q.auto.counts ∙ l.invariant.1, l.invariant.2 ∙ more)
 
@@ -40,4 +35,4 @@ pub returns : goal.returns
 returns c =
     let l = c.loop-at in
     let a = c.args in
-    sym (l.invariant.2 ∙ tally-end a.own l.counts a.expression.now l.at (omega arith))
+    sym (l.invariant.2 ∙ tally_end a.own l.counts a.expression.now l.at (omega arith))

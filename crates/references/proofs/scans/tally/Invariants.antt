@@ -1,11 +1,8 @@
-use mathlib.Core.Path.{◌≡◌, refl, sym, ◌∙◌}
+use mathlib.Core.Path.{◌≡◌}
 use Prim.Native.Nat.{◌-◌, ◌≤◌}
-use native.Mathlib.Omega.{arith}
 use lib.ListN.{length, drop}
 use Rattle.references.specs.Scans.{references}
 use Rattle.references.specs.Tallies.{tallied}
-use Rattle.references.proofs.TallyLaws.{tally-field, tally_other, tally-cut, tally-end}
-use borrow.Author.Rules.{rules}
 use Rattle.references.proofs.scans.tally.Given as goal
 
 abbrev pub invariant-loop-at : goal.invariant-loop-at

@@ -1,6 +1,6 @@
 use native.Mathlib.Omega.{arith}
 use Rattle.io.proofs.Counting.{prefix_len_of_le}
-use Rattle.requests.proofs.WordLaws.{before_here, before_on, before-end}
+use Rattle.requests.proofs.WordLaws.{before_here, before_on, before_end}
 use Rattle.requests.proofs.words.find.Goals as goal
 
 pub loop-i-init : goal.loop-i-init
@@ -21,6 +21,6 @@ loop-i-preserved c = (
 pub returns : goal.returns
 returns c = record {
   prefix_len = prefix_len_of_le _ _ (omega arith);
-  value = before-end c.args.byte c.args.s.now c.loop-i.i (omega arith)
+  value = before_end c.args.byte c.args.s.now c.loop-i.i (omega arith)
       c.loop-i.invariant.1;
 }

@@ -1,5 +1,5 @@
 use native.Mathlib.Omega.{arith}
-use Rattle.requests.proofs.WordLaws.{next_on, next-end}
+use Rattle.requests.proofs.WordLaws.{next_on, next_end}
 use Rattle.requests.proofs.words.next_word.Goals as goal
 
 pub returns-then-end-line : goal.returns-then-end-line
@@ -11,5 +11,5 @@ returns-then-end-line c = record {
 pub returns : goal.returns
 returns c = record {
   upper_bound = omega arith;
-  value = next-end c.args.line.now _ c.find-end.ensures.value (omega arith);
+  value = next_end c.args.line.now _ c.find-end.ensures.value (omega arith);
 }

@@ -1,6 +1,6 @@
 use mathlib.Core.Path.{refl}
 use native.Mathlib.Omega.{arith}
-use Rattle.requests.proofs.WordLaws.{number-stop, number_full, number_on, number-end}
+use Rattle.requests.proofs.WordLaws.{number_stop, number_full, number_on, number_end}
 use Rattle.requests.proofs.words.number_in.Goals as goal
 
 pub loop-i-init : goal.loop-i-init
@@ -9,7 +9,7 @@ loop-i-init c = (omega arith, omega arith, refl)
 pub returns-then-d-gt9 : goal.returns-then-d-gt9
 returns-then-d-gt9 c = record {
   upper_bound = omega arith;
-  value = number-stop c.loop-i.number _ c.args.line.now c.loop-i.i (omega arith) c.digit-d.ensures.0 c.if-d-gt9.true c.loop-i.invariant.2;
+  value = number_stop c.loop-i.number _ c.args.line.now c.loop-i.i (omega arith) c.digit-d.ensures.0 c.if-d-gt9.true c.loop-i.invariant.2;
 }
 
 pub returns-then-number-gt999999 : goal.returns-then-number-gt999999
@@ -28,6 +28,6 @@ loop-i-preserved c = (
 pub returns : goal.returns
 returns c = record {
   upper_bound = omega arith;
-  value = number-end c.loop-i.number c.args.line.now c.loop-i.i (omega
+  value = number_end c.loop-i.number c.args.line.now c.loop-i.i (omega
       arith) c.loop-i.invariant.2;
 }

@@ -5,7 +5,7 @@ use lib.Dec.{eqb}
 use lib.ListN.{length, drop, drop_of_length-le}
 use borrow.Author.Tests.{eq-eqb, ne_eqb}
 use Rattle.base.specs.Lists.{all}
-use Rattle.base.proofs.Scans.{all-step}
+use Rattle.base.proofs.Scans.{all_step}
 use borrow.Author.Rules.{rules}
 use Rattle.runs.proofs.lent.kept.Goals as goal
 
@@ -15,14 +15,14 @@ loop-i-init c = refl
 pub returns-then-run-i : goal.returns-then-run-i
 returns-then-run-i c =
     sym (c.loop-i.invariant
-    ∙ all-step (eqb 2779096485) c.args.run.now
+    ∙ all_step (eqb 2779096485) c.args.run.now
     c.loop-i.i (omega arith)
     ∙ rw (ne_eqb 2779096485 _ (λ e. c.if-run-i.true (sym e))))
 
 pub loop-i-preserved : goal.loop-i-preserved
 loop-i-preserved c =
     c.loop-i.invariant
-    ∙ all-step (eqb 2779096485) c.args.run.now
+    ∙ all_step (eqb 2779096485) c.args.run.now
     c.loop-i.i (omega arith)
     ∙ rw (eq-eqb 2779096485 _ (sym c.if-run-i.false))
 

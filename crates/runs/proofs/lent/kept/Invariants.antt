@@ -5,7 +5,7 @@ use lib.Dec.{eqb}
 use lib.ListN.{length, drop, drop_of_length-le}
 use borrow.Author.Tests.{eq-eqb, ne_eqb}
 use Rattle.base.specs.Lists.{all}
-use Rattle.base.proofs.Scans.{all-step}
+use Rattle.base.proofs.Scans.{all_step}
 use borrow.Author.Rules.{rules}
 use Rattle.runs.proofs.lent.kept.Given as goal
 

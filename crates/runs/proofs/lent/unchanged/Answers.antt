@@ -5,7 +5,7 @@ use lib.Dec.{eqb}
 use lib.ListN.{length, drop, drop_of_length-le}
 use borrow.Author.Tests.{eq-eqb, ne_eqb}
 use Rattle.base.specs.Lists.{all}
-use Rattle.base.proofs.Scans.{all-step}
+use Rattle.base.proofs.Scans.{all_step}
 use borrow.Author.Rules.{rules}
 use Rattle.runs.proofs.lent.unchanged.Goals as goal
 
@@ -14,11 +14,11 @@ loop-i-init c = refl
 
 pub returns-then-out-i : goal.returns-then-out-i
 returns-then-out-i c =
-    sym (c.loop-i.invariant ∙ all-step (eqb 165) c.args.out.now c.loop-i.i (omega arith) ∙ rw (ne_eqb 165 _ (λ e. c.if-out-i.true (sym e))))
+    sym (c.loop-i.invariant ∙ all_step (eqb 165) c.args.out.now c.loop-i.i (omega arith) ∙ rw (ne_eqb 165 _ (λ e. c.if-out-i.true (sym e))))
 
 pub loop-i-preserved : goal.loop-i-preserved
 loop-i-preserved c =
-    c.loop-i.invariant ∙ all-step (eqb 165) c.args.out.now
+    c.loop-i.invariant ∙ all_step (eqb 165) c.args.out.now
     c.loop-i.i (omega arith) ∙ rw (eq-eqb 165 _ (sym c.if-out-i.false))
 
 pub returns : goal.returns

@@ -1,12 +1,11 @@
 use native.Mathlib.Omega.{arith}
-use Rattle.texts.proofs.AtomSteps.{atom-end, atom_bang, atom_paren, atom-word}
-use borrow.Author.Rules.{rules}
+use Rattle.texts.proofs.AtomSteps.{atom_end, atom_bang, atom_paren, atom_word}
 use Rattle.texts.proofs.atoms.atom_at.Goals as goal
 
 pub returns-then-at-s : goal.returns-then-at-s
 returns-then-at-s c =
     let a = c.args in
-    atom-end a.s.now a.at a.b c.if-at-s.true
+    atom_end a.s.now a.at a.b c.if-at-s.true
 
 pub returns-then-c-eq33 : goal.returns-then-c-eq33
 returns-then-c-eq33 c =
@@ -21,4 +20,4 @@ returns-then-c-eq40 c =
 pub returns : goal.returns
 returns c =
     let a = c.args in
-    atom-word a.s.now a.at a.b (omega arith) c.if-c-eq33.false c.if-c-eq40.false
+    atom_word a.s.now a.at a.b (omega arith) c.if-c-eq33.false c.if-c-eq40.false

@@ -1,6 +1,5 @@
 use native.Mathlib.Omega.{arith}
 use Rattle.texts.proofs.AtomSteps.{open_end, open_zero, open_other, open_in}
-use borrow.Author.Rules.{rules}
 use Rattle.texts.proofs.atoms.open_at.Goals as goal
 
 pub returns-then-at-s : goal.returns-then-at-s

@@ -1,5 +1,4 @@
-use Rattle.texts.proofs.CellSteps.{added_none, added_bare, added-behind}
-use borrow.Author.Rules.{rules}
+use Rattle.texts.proofs.CellSteps.{added_none, added_bare, added_behind}
 use Rattle.texts.proofs.cell_texts.add_line.Goals as goal
 
 pub returns-then-len-eq0 : goal.returns-then-len-eq0
@@ -23,7 +22,7 @@ returns c =
     let f = c.spaces_end-from in
     let t = c.trimmed-len
     in
-    added-behind c.args.chars.now f.result t.result f.ensures.1
+    added_behind c.args.chars.now f.result t.result f.ensures.1
     t.ensures.0
     t.ensures.1 c.requires.0
     c.if-len-eq0.false

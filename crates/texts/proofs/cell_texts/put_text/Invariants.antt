@@ -1,12 +1,7 @@
-use mathlib.Core.Path.{◌≡◌}
-use mathlib.Core.Logic.{⊎_elim}
-use Rattle.texts.proofs.CellSteps.{text-start, line-room, text-next, bare_down, bare_along}
 use Prim.Native.Nat.{◌-◌, ◌≤◌}
-use native.Mathlib.Omega.{arith}
 use Rattle.writing.specs.Writes.{Writes}
 use Rattle.rules.specs.Rows.{cell_text}
 use Rattle.texts.specs.RowPlaces.{cell_at}
-use borrow.Author.Rules.{rules}
 use Rattle.texts.proofs.cell_texts.put_text.Given as goal
 
 abbrev pub invariant-loop-j : goal.invariant-loop-j

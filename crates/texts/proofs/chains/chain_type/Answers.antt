@@ -1,7 +1,6 @@
 use mathlib.Core.Path.{refl}
 use borrow.Author.Tests.{eq-eqb, ne_eqb}
 use Rattle.texts.specs.Chains.{chain_type}
-use borrow.Author.Rules.{rules}
 use Rattle.texts.proofs.chains.chain_type.Goals as goal
 
 pub returns-then-c-eq0 : goal.returns-then-c-eq0

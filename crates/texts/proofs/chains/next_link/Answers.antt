@@ -1,6 +1,5 @@
-use Rattle.texts.proofs.OperatorRows.{row-code}
+use Rattle.texts.proofs.OperatorRows.{row_code}
 use Rattle.texts.proofs.ChainSteps.{link_ends, link_goes}
-use borrow.Author.Rules.{rules}
 use Rattle.texts.proofs.chains.next_link.Goals as goal
 
 pub returns-in-Nothing : goal.returns-in-Nothing
@@ -15,4 +14,4 @@ returns-in-By c =
     link_goes a.g a.c a.a a.out.now c.in-By.o c.in-By.end c.in-By.field-2 c.in-By.field-3 c.in-By.is _
     c.pushed-d.ensures c.place_in-from.result c.place_in-from.ensures.0
     c.place_in-from.ensures.1 _ p.auto.out c.operator-row.result.code
-    (row-code _ c.in-By.o c.operator-row.ensures) p.ensures
+    (row_code _ c.in-By.o c.operator-row.ensures) p.ensures

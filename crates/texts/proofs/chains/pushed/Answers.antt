@@ -1,6 +1,5 @@
 use mathlib.Core.Path.{refl}
-use Rattle.texts.proofs.OperatorRows.{row-takes, row_gives}
-use borrow.Author.Rules.{rules}
+use Rattle.texts.proofs.OperatorRows.{row_takes, row_gives}
 use Rattle.texts.proofs.chains.pushed.Goals as goal
 
 pub returns : goal.returns
@@ -12,6 +11,6 @@ returns c =
       c.chain_type-whole.ensures,
       c.type_code.ensures,
       c.type_code-want.ensures,
-      row-takes _ _ o.ensures,
+      row_takes _ _ o.ensures,
       row_gives _ _ o.ensures,
     ) refl

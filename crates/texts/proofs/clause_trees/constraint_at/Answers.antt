@@ -3,15 +3,14 @@ use Prim.Native.Nat.{◌+◌, ◌≤◌}
 use lib.ListN.{length}
 use Rattle.base.specs.Bytes.{bytes}
 use Rattle.texts.proofs.FieldClauses.{clause_room}
-use Rattle.texts.proofs.ClauseTrees.{constraint_yes, constraint-no, constraint-not_yet}
-use borrow.Author.Rules.{rules}
+use Rattle.texts.proofs.ClauseTrees.{constraint_yes, constraint_no, constraint_not_yet}
 use Rattle.texts.proofs.clause_trees.constraint_at.Goals as goal
 
 pub returns-then-starts_at : goal.returns-then-starts_at
 returns-then-starts_at c =
     let a = c.args in
     let both =
-      constraint-not_yet _ a.n a.s.now a.at c.requires.0 _ _
+    constraint_not_yet _ a.n a.s.now a.at c.requires.0 _ _
     (sym c.starts_at.ensures ∙ c.if-starts_at.true) c.no_clause.ensures in record {
       place = both.0;
       same = both.1;
@@ -34,7 +33,7 @@ returns-then-starts_at-2 c =
     let a = c.args in
     let t = c.tree_at in
     let both =
-      constraint_yes _ a.n a.s.now a.at c.requires.0 t.result _
+    constraint_yes _ a.n a.s.now a.at c.requires.0 t.result _
     (sym c.starts_at.ensures ∙ c.if-starts_at.false)
     (sym c.starts_at-2.ensures ∙ c.if-starts_at-2.true) t.ensures.place t.ensures.same in record {
       place = both.0;
@@ -45,7 +44,7 @@ pub returns : goal.returns
 returns c =
     let a = c.args in
     let both =
-      constraint-no _ a.n a.s.now a.at c.requires.0 _ _
+    constraint_no _ a.n a.s.now a.at c.requires.0 _ _
     (sym c.starts_at-2.ensures ∙ c.if-starts_at-2.false) c.no_clause-2.ensures in record {
       place = both.0;
       same = both.1;

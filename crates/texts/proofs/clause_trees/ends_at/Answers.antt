@@ -5,7 +5,7 @@ use lib.ListN.{length}
 use borrow.Author.Tests.{not-true, not-false}
 use Rattle.base.specs.Bytes.{bytes}
 use Rattle.texts.proofs.FieldClauses.{clause_room}
-use Rattle.texts.proofs.ClauseTrees.{ends-none, ends_later, ends_unstopped, ends-remark, ends-whole}
+use Rattle.texts.proofs.ClauseTrees.{ends_none, ends_later, ends_unstopped, ends_remark, ends_whole}
 use borrow.Author.Rules.{rules}
 use Rattle.texts.proofs.clause_trees.ends_at.Goals as goal
 
@@ -21,7 +21,7 @@ pub returns-then-not-c : goal.returns-then-not-c
 returns-then-not-c c =
     let a = c.args in
     let x = c.constraint_at-c in
-    ends-none _ a.n a.s.now a.at x.result _ _ x.ensures.same _ c.wrong_ends.ensures
+    ends_none _ a.n a.s.now a.at x.result _ _ x.ensures.same _ c.wrong_ends.ensures
     (not-true x.result.right c.if-not-c.true)
 
 pub condition_at-d-requires : goal.condition_at-d-requires
@@ -73,7 +73,7 @@ returns-then-remark_ok c =
     let first = not-false x.result.right c.if-not-c.false in
     let second = not-false y.result.right c.if-not-d.false in
     let w = y.ensures.place second in
-    ends-whole _ a.n a.s.now a.at x.result _ _ x.ensures.same first y.result y.ensures.same second w.1
+    ends_whole _ a.n a.s.now a.at x.result _ _ x.ensures.same first y.result y.ensures.same second w.1
     (sym c.starts_at.ensures ∙ c.if-starts_at.true) (sym c.remark_ok.ensures ∙ c.if-remark_ok.true)
 
 pub returns-then-starts_at : goal.returns-then-starts_at
@@ -84,7 +84,7 @@ returns-then-starts_at c =
     let first = not-false x.result.right c.if-not-c.false in
     let second = not-false y.result.right c.if-not-d.false in
     let w = y.ensures.place second in
-    ends-remark _ a.n a.s.now a.at x.result _ _ x.ensures.same first y.result y.ensures.same second w.1 _
+    ends_remark _ a.n a.s.now a.at x.result _ _ x.ensures.same first y.result y.ensures.same second w.1 _
     c.wrong_ends-then-starts_at.ensures (sym c.starts_at.ensures ∙
     c.if-starts_at.true) (sym c.remark_ok.ensures ∙ c.if-remark_ok.false)
 

@@ -1,10 +1,8 @@
-use mathlib.Core.Path.{◌≡◌, refl}
-use mathlib.Core.List.{◌++◌}
-use Prim.Native.Nat.{◌≤◌, ◌<◌, ◌-◌}
+use mathlib.Core.Path.{refl}
+use Prim.Native.Nat.{◌<◌}
 use native.Mathlib.Omega.{arith}
-use lib.ListN.{length, take, drop, length-set, replicate}
-use Rattle.texts.proofs.FillLaws.{filled_more, beyond-more, filled_none, filled-all}
-use borrow.Author.Rules.{rules}
+use lib.ListN.{length, length-set}
+use Rattle.texts.proofs.FillLaws.{filled_more, beyond_more, filled_none, filled_all}
 use Rattle.texts.proofs.fills.fill.Goals as goal
 
 pub loop-i-init : goal.loop-i-init
@@ -22,7 +20,7 @@ loop-i-preserved c =
       omega (arith, c.loop-i-test.true),
       simp length-set inv.2,
       filled_more s _ _ i _ inv.0 within inv.3,
-      beyond-more s _ i _ inv.4,
+      beyond_more s _ i _ inv.4,
     )
 
 pub shape_of-s : goal.shape_of-s
@@ -32,4 +30,4 @@ pub returns : goal.returns
 returns c =
     let inv = c.loop-i.invariant in
     let le = inv.1 in
-    filled-all _ _ _ c.loop-i.i _ _ (omega (arith, le, c.loop-i-test.false)) inv.3 inv.4
+    filled_all _ _ _ c.loop-i.i _ _ (omega (arith, le, c.loop-i-test.false)) inv.3 inv.4

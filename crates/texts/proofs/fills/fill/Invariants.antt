@@ -1,10 +1,7 @@
-use mathlib.Core.Path.{◌≡◌, refl}
+use mathlib.Core.Path.{◌≡◌}
 use mathlib.Core.List.{◌++◌}
-use Prim.Native.Nat.{◌≤◌, ◌<◌, ◌-◌}
-use native.Mathlib.Omega.{arith}
-use lib.ListN.{length, take, drop, length-set, replicate}
-use Rattle.texts.proofs.FillLaws.{filled_more, beyond-more, filled_none, filled-all}
-use borrow.Author.Rules.{rules}
+use Prim.Native.Nat.{◌≤◌, ◌-◌}
+use lib.ListN.{length, take, drop, replicate}
 use Rattle.texts.proofs.fills.fill.Given as goal
 
 abbrev pub invariant-loop-i : goal.invariant-loop-i

@@ -2,12 +2,11 @@ use mathlib.Core.Path.{◌≡◌, refl, ap, sym, ◌∙◌}
 use mathlib.Core.Bool.{Bool, true, false, ◌&&◌, not}
 use native.Mathlib.Omega.{arith}
 use lib.Dec.{eqb}
-use borrow.Author.Tests.{not-true, not-false}
 use Rattle.rules.specs.Within.{keeps_names, keeps_types, keeps_rest, name_readable}
 use Rattle.text_laws.specs.Judging.{faces, shows_cell}
 use Rattle.texts.specs.Noted.{note_of}
-use Rattle.texts.proofs.AreaLaws.{cells-long, names-long, labels-long}
-use Rattle.texts.proofs.FormRules.{names_here, types_are, rest-is, later_is, not_flip}
+use Rattle.texts.proofs.AreaLaws.{cells_long, names_long, labels_long}
+use Rattle.texts.proofs.FormRules.{names_here, types_are, rest_is, later_is, not_flip}
 use borrow.Author.Rules.{rules}
 use Rattle.texts.proofs.form_rules.later_rule.Goals as goal
 
@@ -21,7 +20,7 @@ pub shows_cell-requires : goal.shows_cell-requires
 shows_cell-requires c = (
   c.requires.0,
   c.requires.3,
-  (let n = cells-long c.args.held.now
+  (let n = cells_long c.args.held.now
       c.requires.4 in omega (arith, n)),
 )
 
@@ -31,10 +30,10 @@ returns-then-not-shows_cell c =
     let a = c.args in record {
       told = refl;
       rule = (λ f x v k n s nw e p.
-            let shown : shows_cell f.cells (faces f.judged.fields) x
-            ≡ false = sym (c.shows_cell.ensures f x _ v k n s p)
-            ∙ c.if-not-shows_cell.true in
-            sym (later_is f a.r x n false _ _ _ shown refl refl refl));
+          let shown : shows_cell f.cells (faces f.judged.fields) x
+          ≡ false = sym (c.shows_cell.ensures f x _ v k n s p)
+          ∙ c.if-not-shows_cell.true in
+          sym (later_is f a.r x n false _ _ _ shown refl refl refl));
       place = omega arith;
     }
 
@@ -49,8 +48,8 @@ pub clashes-requires : goal.clashes-requires
 clashes-requires c =
     let held = c.args.held.now in (
       c.requires.2,
-      (let n = labels-long held c.requires.4 in omega (arith, n)),
-      (let n = names-long held c.requires.4 in omega (arith, n)),
+      (let n = labels_long held c.requires.4 in omega (arith, n)),
+      (let n = names_long held c.requires.4 in omega (arith, n)),
     )
 
 pub returns-then-clashes : goal.returns-then-clashes
@@ -59,13 +58,13 @@ returns-then-clashes c =
     let a = c.args in record {
       told = refl;
       rule = (λ f x v k n s nw e p.
-            let shown : shows_cell f.cells (faces f.judged.fields) x
-            ≡ true = sym (c.shows_cell.ensures f x _ v k n s p)
-            ∙ c.if-not-shows_cell.false in
-            let unique : keeps_names (faces f.judged.fields) x ≡ false =
-            ap not (sym (names_here f k a.line.now x e a.r n nw) ∙ sym c.clashes.ensures
-            ∙ c.if-clashes.true) in
-            sym (later_is f a.r x n true false _ _ shown unique refl refl));
+          let shown : shows_cell f.cells (faces f.judged.fields) x
+          ≡ true = sym (c.shows_cell.ensures f x _ v k n s p)
+          ∙ c.if-not-shows_cell.false in
+          let unique : keeps_names (faces f.judged.fields) x ≡ false =
+          ap not (sym (names_here f k a.line.now x e a.r n nw) ∙ sym c.clashes.ensures
+          ∙ c.if-clashes.true) in
+          sym (later_is f a.r x n true false _ _ shown unique refl refl));
       place = omega arith;
     }
 
@@ -75,18 +74,18 @@ returns-then-not-types_kept c =
     let a = c.args in record {
       told = refl;
       rule = (λ f x v k n s nw e p.
-            let shown : shows_cell f.cells (faces f.judged.fields) x
-            ≡ true = sym (c.shows_cell.ensures f x _ v k n
-            s p)
-            ∙ c.if-not-shows_cell.false in
-            let unique : keeps_names (faces f.judged.fields) x ≡ true =
-            ap not (sym (names_here f k a.line.now x e a.r n nw)
-            ∙ sym c.clashes.ensures ∙ c.if-clashes.false) in
-            let typed : keeps_types name_readable (faces f.judged.fields) x ≡ false =
-            sym (types_are f k a.line.now x e a.r n nw) ∙ sym (c.types_kept.ensures _
-            a.r.fields a.line.now x v p)
-            ∙ c.if-not-types_kept.true in
-            sym (later_is f a.r x n true true false _ shown unique typed refl));
+          let shown : shows_cell f.cells (faces f.judged.fields) x
+          ≡ true = sym (c.shows_cell.ensures f x _ v k n
+          s p)
+          ∙ c.if-not-shows_cell.false in
+          let unique : keeps_names (faces f.judged.fields) x ≡ true =
+          ap not (sym (names_here f k a.line.now x e a.r n nw)
+          ∙ sym c.clashes.ensures ∙ c.if-clashes.false) in
+          let typed : keeps_types name_readable (faces f.judged.fields) x ≡ false =
+          sym (types_are f k a.line.now x e a.r n nw) ∙ sym (c.types_kept.ensures _
+          a.r.fields a.line.now x v p)
+          ∙ c.if-not-types_kept.true in
+          sym (later_is f a.r x n true true false _ shown unique typed refl));
       place = omega arith;
     }
 
@@ -96,22 +95,22 @@ returns-then-misplaced c =
     let a = c.args in record {
       told = refl;
       rule = (λ f x v k n s nw e p.
-            let shown : shows_cell f.cells (faces f.judged.fields) x
-            ≡ true = sym (c.shows_cell.ensures f x _ v k n s p) ∙ c.if-not-shows_cell.false in
-            let unique : keeps_names (faces f.judged.fields) x ≡ true =
-            ap not (sym (names_here f k a.line.now x e a.r n nw)
-            ∙ sym c.clashes.ensures
-            ∙ c.if-clashes.false) in
-            let typed : keeps_types name_readable (faces f.judged.fields) x ≡ true =
-            sym (types_are f k a.line.now x e a.r n nw)
-            ∙ sym (c.types_kept.ensures _ a.r.fields a.line.now x v p)
-            ∙ c.if-not-types_kept.false in
-            let rested : keeps_rest (faces f.judged.fields) x ≡ false =
-            not_flip (keeps_rest (faces f.judged.fields) x) (sym (rest-is f k a.line.now x e _
-            a.r.fields v a.p p)
-            ∙ ap (λ (b : Bool). b && not (eqb a.p.kind 12 && eqb a.p.condition.len 0)) (sym n.rested)
-            ∙ sym c.misplaced.ensures ∙ c.if-misplaced.true) in
-            sym (later_is f a.r x n true true true false shown unique typed rested));
+          let shown : shows_cell f.cells (faces f.judged.fields) x
+          ≡ true = sym (c.shows_cell.ensures f x _ v k n s p) ∙ c.if-not-shows_cell.false in
+          let unique : keeps_names (faces f.judged.fields) x ≡ true =
+          ap not (sym (names_here f k a.line.now x e a.r n nw)
+          ∙ sym c.clashes.ensures
+          ∙ c.if-clashes.false) in
+          let typed : keeps_types name_readable (faces f.judged.fields) x ≡ true =
+          sym (types_are f k a.line.now x e a.r n nw)
+          ∙ sym (c.types_kept.ensures _ a.r.fields a.line.now x v p)
+          ∙ c.if-not-types_kept.false in
+          let rested : keeps_rest (faces f.judged.fields) x ≡ false =
+          not_flip (keeps_rest (faces f.judged.fields) x) (sym (rest_is f k a.line.now x e _
+          a.r.fields v a.p p)
+          ∙ ap (λ (b : Bool). b && not (eqb a.p.kind 12 && eqb a.p.condition.len 0)) (sym n.rested)
+          ∙ sym c.misplaced.ensures ∙ c.if-misplaced.true) in
+          sym (later_is f a.r x n true true true false shown unique typed rested));
       place = omega arith;
     }
 
@@ -121,21 +120,21 @@ returns c =
     let a = c.args in record {
       told = refl;
       rule = (λ f x v k n s nw e p.
-            let shown : shows_cell f.cells (faces f.judged.fields) x
-            ≡ true = sym (c.shows_cell.ensures f x _ v k n s p) ∙ c.if-not-shows_cell.false in
-            let unique : keeps_names (faces f.judged.fields) x ≡ true =
-            ap not (sym (names_here f k a.line.now x e a.r n nw)
-            ∙ sym c.clashes.ensures
-            ∙ c.if-clashes.false) in
-            let typed : keeps_types name_readable (faces f.judged.fields) x ≡ true =
-            sym (types_are f k a.line.now x e a.r n nw)
-            ∙ sym (c.types_kept.ensures _ a.r.fields a.line.now x v p)
-            ∙ c.if-not-types_kept.false in
-            let rested : keeps_rest (faces f.judged.fields) x ≡ true =
-            not_flip (keeps_rest (faces f.judged.fields) x) (sym (rest-is f k a.line.now x e _
-            a.r.fields v a.p p)
-            ∙ ap (λ (b : Bool). b && not (eqb a.p.kind 12 && eqb a.p.condition.len 0)) (sym n.rested)
-            ∙ sym c.misplaced.ensures ∙ c.if-misplaced.false) in
-            sym (later_is f a.r x n true true true true shown unique typed rested));
+          let shown : shows_cell f.cells (faces f.judged.fields) x
+          ≡ true = sym (c.shows_cell.ensures f x _ v k n s p) ∙ c.if-not-shows_cell.false in
+          let unique : keeps_names (faces f.judged.fields) x ≡ true =
+          ap not (sym (names_here f k a.line.now x e a.r n nw)
+          ∙ sym c.clashes.ensures
+          ∙ c.if-clashes.false) in
+          let typed : keeps_types name_readable (faces f.judged.fields) x ≡ true =
+          sym (types_are f k a.line.now x e a.r n nw)
+          ∙ sym (c.types_kept.ensures _ a.r.fields a.line.now x v p)
+          ∙ c.if-not-types_kept.false in
+          let rested : keeps_rest (faces f.judged.fields) x ≡ true =
+          not_flip (keeps_rest (faces f.judged.fields) x) (sym (rest_is f k a.line.now x e _
+          a.r.fields v a.p p)
+          ∙ ap (λ (b : Bool). b && not (eqb a.p.kind 12 && eqb a.p.condition.len 0)) (sym n.rested)
+          ∙ sym c.misplaced.ensures ∙ c.if-misplaced.false) in
+          sym (later_is f a.r x n true true true true shown unique typed rested));
       place = omega arith;
     }

@@ -1,12 +1,12 @@
 use mathlib.Core.Path.{◌∙◌}
 use native.Mathlib.Omega.{arith}
-use Rattle.texts.proofs.SlotPlaces.{none-shown, slot_here, here_label, here_shown}
+use Rattle.texts.proofs.SlotPlaces.{none_shown, slot_here, here_label, here_shown}
 use Rattle.texts.proofs.form_rules.shows_cell.Goals as goal
 
 pub returns-then-r : goal.returns-then-r
 returns-then-r c =
     let a = c.args in
-    λ f x names v k n s p. none-shown f a.r a.cells.now n s c.if-r.true x
+    λ f x names v k n s p. none_shown f a.r a.cells.now n s c.if-r.true x
 
 pub part_shows-requires : goal.part_shows-requires
 part_shows-requires c =

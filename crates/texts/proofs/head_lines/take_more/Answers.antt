@@ -2,12 +2,12 @@ use mathlib.Core.Path.{sym, ◌∙◌}
 use Prim.Native.Nat.{◌+◌, ◌*◌}
 use native.Mathlib.Omega.{arith}
 use native.Mathlib.Nat.{sub-zero}
-use Rattle.writing.proofs.PutLaws.{put-writes}
+use Rattle.writing.proofs.PutLaws.{put_writes}
 use Rattle.texts.specs.RowPlaces.{slots_at}
-use Rattle.texts.proofs.MoreSteps.{behind-line, behind_bad, behind-border, behind-wrong}
-use Rattle.texts.proofs.RowLines.{goes-size}
-use Rattle.texts.proofs.RowSteps.{row-wrong, row_put, labels-all, room-line, room-ended}
-use Rattle.texts.proofs.StateSteps.{taken-wrong, taken-wrong-row}
+use Rattle.texts.proofs.MoreSteps.{behind_line, behind_bad, behind_border, behind_wrong}
+use Rattle.texts.proofs.RowLines.{goes_size}
+use Rattle.texts.proofs.RowSteps.{row_wrong, row_put, labels_all, room_line, room_ended}
+use Rattle.texts.proofs.StateSteps.{taken_wrong, taken_wrong_row}
 use borrow.Author.Rules.{rules}
 use Rattle.texts.proofs.head_lines.take_more.Goals as goal
 
@@ -40,11 +40,11 @@ returns-then-goes_on c =
     let safe = c.requires.0 in
     let room = c.requires.3.1 in
     let goes = rw (sub-zero (2 * r.width + 1)) at (sym c.goes_on.ensures ∙ c.if-goes_on.true) in
-    let size = goes-size r.row (2 * r.width + 1) row l goes (omega (arith, safe.width, room)) in
-    let w = put-writes (omega (arith, safe.width, safe.row, room, size.1)) c.put.ensures in record {
-      room = rw c.onward.ensures ((room-line r (r.row + 1) safe (omega (arith, size.0)), omega arith));
+    let size = goes_size r.row (2 * r.width + 1) row l goes (omega (arith, safe.width, room)) in
+    let w = put_writes (omega (arith, safe.width, safe.row, room, size.1)) c.put.ensures in record {
+      room = rw c.onward.ensures ((room_line r (r.row + 1) safe (omega (arith, size.0)), omega arith));
       step = rw c.onward.ensures (λ f x table labels names k b is kept h.
-          behind-line f x r l k is kept h room c.requires.3.0 goes safe size.1 w);
+          behind_line f x r l k is kept h room c.requires.3.0 goes safe size.1 w);
     }
 
 pub put_row-ended-requires : goal.put_row-ended-requires
@@ -66,9 +66,9 @@ returns-in_default c =
     let safe = c.requires.0 in
     let room = c.requires.3.1 in
     let stops = rw (sub-zero (2 * r.width + 1)) at (sym c.goes_on.ensures ∙ c.if-goes_on.false) in
-    let q = row-wrong row r.row (2 * r.width + 1) c.args.cells.now _ r.slots _ c.put_row-ended.ensures
+    let q = row_wrong row r.row (2 * r.width + 1) c.args.cells.now _ r.slots _ c.put_row-ended.ensures
     c.in_default.is in record {
-      room = rw c.wrong_row.ensures (taken-wrong-row r safe);
+      room = rw c.wrong_row.ensures (taken_wrong_row r safe);
       step = rw c.wrong_row.ensures (λ f x table labels names k b is kept h. behind_bad f x r l k is kept h room c.requires.3.0 stops q.0 q.1);
     }
 
@@ -90,9 +90,9 @@ returns-then-is_border c =
     let stops = rw (sub-zero (2 * r.width + 1)) at (sym c.goes_on.ensures ∙ c.if-goes_on.false) in
     let p = row_put row r.row (2 * r.width + 1) c.args.cells.now _ r.slots _ c.put_row-ended.ensures _ _
     c.in-Put.is in record {
-      room = rw c.end_row.ensures (room-ended r _ _ (slots_at row r.row (2 * r.width + 1) 1) safe
-          (labels-all row r.row (2 * r.width + 1) p.labels) p.is_count p.writes);
-      step = rw c.end_row.ensures (λ f x table labels names k b is kept h. behind-border f x r l k is kept h room c.requires.3.0 stops p.labels
+      room = rw c.end_row.ensures (room_ended r _ _ (slots_at row r.row (2 * r.width + 1) 1) safe
+          (labels_all row r.row (2 * r.width + 1) p.labels) p.is_count p.writes);
+      step = rw c.end_row.ensures (λ f x table labels names k b is kept h. behind_border f x r l k is kept h room c.requires.3.0 stops p.labels
           p.writes safe c.requires.2 b (sym c.is_border.ensures ∙ c.if-is_border.true) _ p.is_count);
     }
 
@@ -110,7 +110,7 @@ returns c =
     let stops = rw (sub-zero (2 * r.width + 1)) at (sym c.goes_on.ensures ∙ c.if-goes_on.false) in
     let p = row_put row r.row (2 * r.width + 1) c.args.cells.now _ r.slots _ c.put_row-ended.ensures _ _
     c.in-Put.is in record {
-      room = rw c.wrong.ensures (taken-wrong r safe);
-      step = rw c.wrong.ensures (λ f x table labels names k b is kept h. behind-wrong f x r l k is kept h room c.requires.3.0 stops p.labels
+      room = rw c.wrong.ensures (taken_wrong r safe);
+      step = rw c.wrong.ensures (λ f x table labels names k b is kept h. behind_wrong f x r l k is kept h room c.requires.3.0 stops p.labels
           p.writes safe c.requires.2 (sym c.is_border.ensures ∙ c.if-is_border.false));
     }

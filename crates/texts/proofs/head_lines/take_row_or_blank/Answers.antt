@@ -6,8 +6,7 @@ use Rattle.rules.specs.Rows.{Row}
 use Rattle.texts.specs.RowPlaces.{lines_in}
 use Rattle.text_laws.specs.Fold.{lined_at}
 use Rattle.texts.specs.declared.states.Stage.TheVariants as at
-use Rattle.texts.proofs.StateSteps.{taken-expect, holds-onward, empty_nil, filled_nil, kept_outside}
-use borrow.Author.Rules.{rules}
+use Rattle.texts.proofs.StateSteps.{taken_expect, holds_onward, empty_nil, filled_nil, kept_outside}
 use Rattle.texts.proofs.head_lines.take_row_or_blank.Goals as goal
 
 pub expect-requires : goal.expect-requires
@@ -18,11 +17,11 @@ unfolding lined_at
 returns-then-line-eq0 c =
     let r = c.args.r in
     let l = c.args.line.now in record {
-      room = rw c.expect.ensures (taken-expect true r at.WhereLine c.requires.0);
+      room = rw c.expect.ensures (taken_expect true r at.WhereLine c.requires.0);
       step = rw c.expect.ensures ((λ cells table f labels names k b o h. rw (empty_nil l c.if-line-eq0.true)
-            (holds-onward f r h at.WhereLine)));
+          (holds_onward f r h at.WhereLine)));
       row = rw c.expect.ensures (λ f o v z. rw (empty_nil l c.if-line-eq0.true)
-            (kept_outside o (z ∙ sym (ap (λ (p : Option Row). length (lines_in p)) o))));
+          (kept_outside o (z ∙ sym (ap (λ (p : Option Row). length (lines_in p)) o))));
     }
 
 pub take_row-requires : goal.take_row-requires

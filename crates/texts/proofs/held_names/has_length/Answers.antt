@@ -1,5 +1,4 @@
-use Rattle.texts.proofs.NameLengths.{length_none, length_full, length-ends}
-use borrow.Author.Rules.{rules}
+use Rattle.texts.proofs.NameLengths.{length_none, length_full, length_ends}
 use Rattle.texts.proofs.held_names.has_length.Goals as goal
 
 pub returns-then-names-end-eq0 : goal.returns-then-names-end-eq0
@@ -18,4 +17,4 @@ pub returns : goal.returns
 returns c =
     let a = c.args in
     let p = c.requires in
-    length-ends a.names.now a.at a.len p.1 p.2 c.if-names-end-eq0.false c.if-len-eq-SHORT_MOST.false
+    length_ends a.names.now a.at a.len p.1 p.2 c.if-names-end-eq0.false c.if-len-eq-SHORT_MOST.false

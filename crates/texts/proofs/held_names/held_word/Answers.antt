@@ -1,6 +1,5 @@
 use mathlib.Core.Path.{sym, ◌∙◌}
 use Rattle.names.proofs.LentLaws.{short_in_lem}
-use borrow.Author.Rules.{rules}
 use Rattle.texts.proofs.held_names.held_word.Goals as goal
 
 pub returns-then-is_short_in : goal.returns-then-is_short_in

@@ -1,7 +1,6 @@
 use mathlib.Core.Path.{refl, sym, ◌∙◌}
 use borrow.Author.Tests.{eq-eqb, ne_eqb}
 use Rattle.texts.proofs.NameAreas.{reads_at}
-use borrow.Author.Rules.{rules}
 use Rattle.texts.proofs.held_names.is_held.Goals as goal
 
 pub returns-then-names-i-ne1 : goal.returns-then-names-i-ne1

@@ -5,7 +5,6 @@ use Rattle.rules.specs.Limits.{short_most}
 use Rattle.names.specs.Repeats.{same_name}
 use Rattle.texts.proofs.LineSearches.{part_text}
 use Rattle.texts.proofs.NameLengths.{other_length}
-use borrow.Author.Rules.{rules}
 use Rattle.texts.proofs.held_names.is_name.Goals as goal
 
 pub returns-then-has_length : goal.returns-then-has_length

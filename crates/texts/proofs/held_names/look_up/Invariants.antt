@@ -1,13 +1,10 @@
-use mathlib.Core.Path.{◌≡◌, refl, sym, ◌∙◌}
+use mathlib.Core.Path.{◌≡◌}
 use Prim.Native.Nat.{◌-◌}
-use native.Mathlib.Omega.{arith}
 use Rattle.rules.specs.Limits.{short_most}
 use Rattle.names.specs.Repeats.{pad_to}
 use Rattle.texts.specs.HeldNames.{names_in}
 use Rattle.texts.specs.StoredTrees.{is_held, look_up}
-use Rattle.texts.proofs.NameLengths.{held-length}
-use Rattle.texts.proofs.StartLaws.{Rest, walk-found, walk_none, walk-next}
-use borrow.Author.Rules.{rules}
+use Rattle.texts.proofs.StartLaws.{Rest}
 use Rattle.texts.proofs.held_names.look_up.Given as goal
 
 abbrev pub invariant-loop-i : goal.invariant-loop-i

@@ -6,7 +6,6 @@ use Rattle.rules.specs.Limits.{short_most}
 use Rattle.names.specs.Repeats.{pad_to}
 use Rattle.texts.proofs.LineSearches.{part_text}
 use Rattle.texts.proofs.NameLengths.{pad_full}
-use borrow.Author.Rules.{rules}
 use Rattle.texts.proofs.held_names.name_at.Goals as goal
 
 pub returns : goal.returns

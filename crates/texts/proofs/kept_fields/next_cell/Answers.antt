@@ -1,12 +1,12 @@
 use mathlib.Core.Path.{sym, ◌∙◌}
 use native.Mathlib.Omega.{arith}
-use Rattle.texts.proofs.SlotPlaces.{none-next, slot_here}
+use Rattle.texts.proofs.SlotPlaces.{none_next, slot_here}
 use Rattle.texts.proofs.kept_fields.next_cell.Goals as goal
 
 pub returns-then-r : goal.returns-then-r
 returns-then-r c =
     let a = c.args in
-    (c.requires.0.cell, (λ f n s. none-next f a.r a.cells.now n s c.if-r.true))
+    (c.requires.0.cell, (λ f n s. none_next f a.r a.cells.now n s c.if-r.true))
 
 pub slot_end-end-requires : goal.slot_end-end-requires
 slot_end-end-requires c = let k = c.requires.0 in omega

@@ -9,15 +9,15 @@ use Rattle.text_laws.specs.Judging.{is_open}
 use Rattle.text_laws.specs.Fold as fold
 use Rattle.texts.specs.HeldParts.{bytes_of}
 use Rattle.texts.specs.Noted.{note_of}
-use Rattle.texts.proofs.AreaLaws.{labels-long, cells-long, table-room, areas_hold}
-use Rattle.texts.proofs.FormAreas.{label-back, label-room, label_areas, label-table, record_back, record_room}
+use Rattle.texts.proofs.AreaLaws.{labels_long, cells_long, table_room, areas_hold}
+use Rattle.texts.proofs.FormAreas.{label_back, label_room, label_areas, label_table, record_back, record_room}
 use Rattle.texts.proofs.FormAreas.{recorded, record_areas, record_writes}
-use Rattle.texts.proofs.FormRules.{form-short, all-formed}
-use Rattle.texts.proofs.FieldSteps.{holds_open, holds-closed, holds_named}
-use Rattle.texts.proofs.LineForms.{named_with, told-after, room-kept, room-refused}
-use Rattle.texts.proofs.LineForms.{form-note, rests_here}
+use Rattle.texts.proofs.FormRules.{form_short, all_formed}
+use Rattle.texts.proofs.FieldSteps.{holds_open, holds_closed, holds_named}
+use Rattle.texts.proofs.LineForms.{named_with, told_after, room_kept, room_refused}
+use Rattle.texts.proofs.LineForms.{form_note, rests_here}
 use Rattle.texts.proofs.PartBytes.{record_bytes, record_short}
-use Rattle.texts.proofs.LineCounts.{line-tallied}
+use Rattle.texts.proofs.LineCounts.{line_tallied_lem}
 use borrow.Author.Rules.{rules}
 use Rattle.texts.proofs.kept_fields.take_form.Goals as goal
 
@@ -28,7 +28,7 @@ pub hold_label-requires : goal.hold_label-requires
 hold_label-requires c =
     let q = c.requires in
     let few : c.args.r.fields < fields_most = omega (arith, q.0.0.fields, q.1) in
-    let long = labels-long c.args.held.now q.0.3 in
+    let long = labels_long c.args.held.now q.0.3 in
     (q.2.0.label, few, omega (arith, long))
 
 pub later_rule-b-requires : goal.later_rule-b-requires
@@ -41,19 +41,19 @@ later_rule-b-requires c =
       q.0.1,
       few,
       (w.label, w.short),
-      label-room
+      label_room
           c.args.held.now q.0.3
           c.hold_label.ensures,
     )
 
 pub slice_bounds-keep_field-count : goal.slice_bounds-keep_field-count
 slice_bounds-keep_field-count c =
-    let n = label-room c.args.held.now c.requires.0.3
+    let n = label_room c.args.held.now c.requires.0.3
     c.hold_label.ensures in omega (arith, n)
 
 pub slice_bounds-keep_field-start : goal.slice_bounds-keep_field-start
 slice_bounds-keep_field-start c =
-    let n = label-room c.args.held.now c.requires.0.3
+    let n = label_room c.args.held.now c.requires.0.3
     c.hold_label.ensures in
     omega (arith, n)
 
@@ -63,9 +63,9 @@ keep_field-end-requires c =
     let held = c.args.held.now in
     let few : c.args.r.fields < fields_most = omega
     (arith, q.0.0.fields, q.1) in
-    let part = ap (λ (z : List ℕ). length z) (label-table held q.0.3
+    let part = ap (λ (z : List ℕ). length z) (label_table held q.0.3
     c.hold_label.ensures) in
-    let room = table-room held q.0.3 in
+    let room = table_room held q.0.3 in
     (q.2.0, q.0.2, omega (arith, q.2.1, q.0.0.end, few, part, room), q.2.2)
 
 pub slice_bounds-next_cell-end : goal.slice_bounds-next_cell-end
@@ -79,7 +79,7 @@ pub next_cell-cell-requires : goal.next_cell-cell-requires
 next_cell-cell-requires c =
     let n = record_room c.args.held.now c.requires.0.3
     c.hold_label.ensures c.keep_field-end.ensures.bytes in
-    let m = cells-long (recorded c.args.held.now c.requires.0.3
+    let m = cells_long (recorded c.args.held.now c.requires.0.3
     c.hold_label.ensures c.keep_field-end.ensures.bytes) n in
     (c.requires.0.0, omega (arith, m))
 
@@ -122,11 +122,11 @@ returns-then-is_open c =
     let own = c.hold_label.ensures in
     let areas = label_areas held q.0.3 own in
     let last = record_areas held q.0.3 own put.ensures.bytes in
-    let told = told-after (note_of r.note) _ lowest.result lowest.ensures.lowest q.0.0.told rule.ensures.told
+    let told = told_after (note_of r.note) _ lowest.result lowest.ensures.lowest q.0.0.told rule.ensures.told
     in
     let kept = sym c.is_open.ensures ∙ c.if-is_open.true in record {
       room = rw c.onward.ensures ((
-        room-kept r cell.result put.result c.rests-rested.result lowest.result q.0.0
+        room_kept r cell.result put.result c.rests-rested.result lowest.result q.0.0
             q.1 cell.ensures.0 (omega (arith, put.ensures.end)) (omega (arith, put.ensures.end, q.2.1)) told
             (lowest.ensures.place (r.lines + 1) q.0.0.placed rule.ensures.place),
         omega arith,
@@ -135,7 +135,7 @@ returns-then-is_open c =
         record_back held q.0.3 own put.ensures.bytes,
         (λ f x k full h is_form small is.
             let nw = named_with l x a.p is f r h.counts few refl h.named own.labels in
-            let low = lowest.ensures.lowest ∙ form-note f r x h.counts small
+            let low = lowest.ensures.lowest ∙ form_note f r x h.counts small
             (rule.ensures.rule f x v k h.counts (rw areas.cells_are h.slots)
             (rw (areas.labels_are, areas.names_are) nw) is_form (rw areas.names_are is)) in
             areas_hold (fold.brief_field f l) _ _ last
@@ -144,10 +144,10 @@ returns-then-is_open c =
               writes = rw (record_bytes _ r.fields l x v a.p is q.2.0 q.2.2) at (record_writes held
                   q.0.3 own put.ensures.bytes);
               short = record_short _ r.fields l x v a.p is q.2.0 q.2.2 q.2.1;
-              tallies = put.ensures.counts ∙ line-tallied _ r.fields l x v a.p is q.2.0 q.2.2 _;
+              tallies = put.ensures.counts ∙ line_tallied_lem _ r.fields l x v a.p is q.2.0 q.2.2 _;
               rested = c.rests-rested.ensures ∙ rests_here f r x h.counts a.p is;
               named = nw;
-            }) k (form-short f k l x is_form) (all-formed f k l x is_form) l lowest.result full is_form low kept)),
+            }) k (form_short f k l x is_form) (all_formed f k l x is_form) l lowest.result full is_form low kept)),
       ));
     }
 
@@ -163,7 +163,7 @@ onward-requires-2 c =
 
 pub shape_of-held : goal.shape_of-held
 shape_of-held c =
-    let e = label-back c.args.held.now
+    let e = label_back c.args.held.now
     c.requires.0.3 c.hold_label.ensures in
     search (rules, e)
 
@@ -181,22 +181,22 @@ returns c =
     let own = c.hold_label.ensures in
     let few : r.fields < fields_most = omega (arith, room.fields, q.1) in
     let areas = label_areas held q.0.3 own in
-    let told = told-after (note_of r.note) _ lowest.result lowest.ensures.lowest room.told rule.ensures.told in
+    let told = told_after (note_of r.note) _ lowest.result lowest.ensures.lowest room.told rule.ensures.told in
     let shut : is_open (note_of lowest.result) ≡ false = sym c.is_open.ensures ∙
     c.if-is_open.false in record {
       room = rw c.onward-2.ensures ((
-        room-refused r lowest.result room q.1 told
+        room_refused r lowest.result room q.1 told
             (lowest.ensures.place (r.lines + 1) room.placed rule.ensures.place),
         omega arith,
       ));
       step = rw c.onward-2.ensures ((
-        label-back held q.0.3 own,
+        label_back held q.0.3 own,
         (λ f x k full h is_form small is.
             let nw = named_with l x a.p is f r h.counts few refl h.named own.labels in
-            let low = lowest.ensures.lowest ∙ form-note f r x h.counts small
+            let low = lowest.ensures.lowest ∙ form_note f r x h.counts small
             (rule.ensures.rule f x v k h.counts (rw areas.cells_are h.slots)
             (rw (areas.labels_are, areas.names_are) nw) is_form (rw areas.names_are is)) in
             areas_hold (fold.brief_field f l) _ _ areas
-            (holds-closed f r (holds_named f r x h nw) l x lowest.result full is_form low shut)),
+            (holds_closed f r (holds_named f r x h nw) l x lowest.result full is_form low shut)),
       ));
     }

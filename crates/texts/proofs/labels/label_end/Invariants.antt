@@ -1,11 +1,7 @@
-use mathlib.Core.Path.{◌≡◌, refl, sym, ◌∙◌}
-use native.Mathlib.Omega.{arith}
+use mathlib.Core.Path.{◌≡◌}
 use Prim.Native.Nat.{◌≤◌, ◌-◌}
-use mathlib.Core.Bool.{true, false}
 use lib.ListN.{length, drop}
-use Rattle.text_laws.specs.LineReader.{label_ends, label_behind}
-use Rattle.texts.proofs.FieldNames.{label-end, label-stop, label-step}
-use borrow.Author.Rules.{rules}
+use Rattle.text_laws.specs.LineReader.{label_behind}
 use Rattle.texts.proofs.labels.label_end.Given as goal
 
 abbrev pub invariant-loop-i : goal.invariant-loop-i

@@ -1,7 +1,6 @@
 use mathlib.Core.Path.{sym, ◌∙◌}
 use lib.ListN.{drop}
 use Rattle.texts.proofs.FieldNames.{ends_open, ends_colon}
-use borrow.Author.Rules.{rules}
 use Rattle.texts.proofs.labels.label_ends.Goals as goal
 
 pub returns-then-starts_at : goal.returns-then-starts_at

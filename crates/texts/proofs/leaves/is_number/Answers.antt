@@ -1,21 +1,17 @@
-use Rattle.rules.specs.Limits.{number_most}
 use mathlib.Core.Path.{◌≡◌, refl, sym, ◌∙◌}
 use native.Mathlib.Omega.{arith}
-use borrow.Author.Tests.{not-true, not-false}
 use Prim.Native.Nat.{◌≤◌, ◌-◌, ◌+◌, ◌*◌, ◌<◌}
 use mathlib.Core.Bool.{true, false}
-use lib.ListN.{length, drop, get_or}
-use Rattle.base.specs.Lists.{all}
-use Rattle.text_laws.specs.Reader.{scan, word_value}
+use lib.ListN.{drop, get_or}
+use Rattle.text_laws.specs.Reader.{word_value}
 use Rattle.rules.specs.Names.{is_digit}
 use Rattle.names.proofs.ClassRules.{digit_in}
-use Rattle.texts.proofs.ExprLeaves.{digit_range, all-step, all-stop, all_end, scan_step, scan-end, scan_ge}
-use Rattle.texts.proofs.ExprLeaves.{number-empty, number_zero, number_other, number-large, number_yes}
-use borrow.Author.Rules.{rules}
+use Rattle.texts.proofs.ExprLeaves.{digit_range, all_step, all_stop, all_end, scan_step, scan_end, scan_ge}
+use Rattle.texts.proofs.ExprLeaves.{number_empty, number_zero, number_other, number_large, number_yes}
 use Rattle.texts.proofs.leaves.is_number.Goals as goal
 
 pub returns-then-w-eq0 : goal.returns-then-w-eq0
-returns-then-w-eq0 c = sym (number-empty c.args.w.now c.if-w-eq0.true)
+returns-then-w-eq0 c = sym (number_empty c.args.w.now c.if-w-eq0.true)
 
 pub returns-then-w-eq48 : goal.returns-then-w-eq48
 returns-then-w-eq48 c = number_zero c.args.w.now (omega arith) c.if-w-eq48.true
@@ -39,7 +35,7 @@ returns-then-not-is_digit_in c =
     c.requires (get_or w i 0) byte) ∙ sym
     c.is_digit_in.ensures
     ∙ c.if-not-is_digit_in.true in
-    sym (number_other w (inv.3 ∙ all-stop is_digit w i (omega arith) n))
+    sym (number_other w (inv.3 ∙ all_stop is_digit w i (omega arith) n))
 
 pub overflow_mul-v : goal.overflow_mul-v
 overflow_mul-v c = omega arith
@@ -107,7 +103,7 @@ returns-then-v-gt-NUMBER_MOST c =
     let i = c.loop-i.i in
     let v = c.loop-i.v in
     let inv = c.loop-i.invariant in
-    sym (number-large w (omega (
+    sym (number_large w (omega (
       arith,
       inv.2,
       scan_step w i v (omega arith),
@@ -134,7 +130,7 @@ loop-i-preserved c =
       omega arith,
       omega arith,
       inv.2 ∙ scan_step w i v (omega arith),
-      inv.3 ∙ all-step is_digit w i
+      inv.3 ∙ all_step is_digit w i
           (omega arith) y,
     )
 
@@ -146,4 +142,4 @@ returns c =
     let inv = c.loop-i.invariant in
     sym (number_yes w (omega arith) c.if-w-eq48.false (inv.3 ∙ all_end is_digit w i (omega arith)
     (omega arith))
-    (omega (arith, inv.2, scan-end w i v (omega arith) (omega arith))))
+    (omega (arith, inv.2, scan_end w i v (omega arith) (omega arith))))

@@ -1,17 +1,10 @@
 use Rattle.rules.specs.Limits.{number_most}
-use mathlib.Core.Path.{◌≡◌, refl, sym, ◌∙◌}
-use native.Mathlib.Omega.{arith}
-use borrow.Author.Tests.{not-true, not-false}
-use Prim.Native.Nat.{◌≤◌, ◌-◌, ◌+◌, ◌*◌, ◌<◌}
-use mathlib.Core.Bool.{true, false}
-use lib.ListN.{length, drop, get_or}
+use mathlib.Core.Path.{◌≡◌}
+use Prim.Native.Nat.{◌≤◌, ◌-◌}
+use lib.ListN.{length, drop}
 use Rattle.base.specs.Lists.{all}
 use Rattle.text_laws.specs.Reader.{scan, word_value}
 use Rattle.rules.specs.Names.{is_digit}
-use Rattle.names.proofs.ClassRules.{digit_in}
-use Rattle.texts.proofs.ExprLeaves.{digit_range, all-step, all-stop, all_end, scan_step, scan-end, scan_ge}
-use Rattle.texts.proofs.ExprLeaves.{number-empty, number_zero, number_other, number-large, number_yes}
-use borrow.Author.Rules.{rules}
 use Rattle.texts.proofs.leaves.is_number.Given as goal
 
 abbrev pub invariant-loop-i : goal.invariant-loop-i

@@ -1,12 +1,9 @@
-use mathlib.Core.Path.{◌≡◌, refl, sym, ◌∙◌}
+use mathlib.Core.Path.{refl, sym, ◌∙◌}
 use native.Mathlib.Omega.{arith}
-use borrow.Author.Tests.{not-true, not-false}
-use Prim.Native.Nat.{◌≤◌, ◌-◌, ◌<◌}
-use lib.ListN.{length, drop, get_or}
-use Rattle.text_laws.specs.Reader.{behind}
+use Prim.Native.Nat.{◌<◌}
+use lib.ListN.{get_or}
 use Rattle.names.proofs.ClassRules.{word_in}
-use Rattle.texts.proofs.ExprLeaves.{behind-end, behind-stop, behind-step}
-use borrow.Author.Rules.{rules}
+use Rattle.texts.proofs.ExprLeaves.{behind_end, behind_stop, behind_step}
 use Rattle.texts.proofs.leaves.word_end.Goals as goal
 
 pub loop-i-init : goal.loop-i-init
@@ -26,7 +23,7 @@ returns-then-not-is_word_in c =
     c.requires.1 (get_or s i 0) byte in
     let n = sym word ∙ sym c.is_word_in.ensures ∙ c.if-not-is_word_in.true in record {
       place = omega arith;
-      rest = behind-stop s i (omega arith) n ∙ sym loop.invariant.2;
+      rest = behind_stop s i (omega arith) n ∙ sym loop.invariant.2;
     }
 
 pub loop-i-preserved : goal.loop-i-preserved
@@ -42,12 +39,12 @@ loop-i-preserved c =
     let word = word_in c.args.classes.now
     c.requires.1 (get_or s i 0) byte in
     let y = sym word ∙ sym c.is_word_in.ensures ∙ c.if-not-is_word_in.false in
-    (omega arith, omega arith, loop.invariant.2 ∙ behind-step s i (omega arith) y)
+    (omega arith, omega arith, loop.invariant.2 ∙ behind_step s i (omega arith) y)
 
 pub returns : goal.returns
 returns c =
     let s = c.args.s.now in
     let i = c.loop-i.i in record {
       place = omega arith;
-      rest = behind-end s i (omega arith) (omega arith) ∙ sym c.loop-i.invariant.2;
+      rest = behind_end s i (omega arith) (omega arith) ∙ sym c.loop-i.invariant.2;
     }

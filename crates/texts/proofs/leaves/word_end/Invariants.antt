@@ -1,12 +1,7 @@
-use mathlib.Core.Path.{◌≡◌, refl, sym, ◌∙◌}
-use native.Mathlib.Omega.{arith}
-use borrow.Author.Tests.{not-true, not-false}
-use Prim.Native.Nat.{◌≤◌, ◌-◌, ◌<◌}
-use lib.ListN.{length, drop, get_or}
+use mathlib.Core.Path.{◌≡◌}
+use Prim.Native.Nat.{◌≤◌, ◌-◌}
+use lib.ListN.{length, drop}
 use Rattle.text_laws.specs.Reader.{behind}
-use Rattle.names.proofs.ClassRules.{word_in}
-use Rattle.texts.proofs.ExprLeaves.{behind-end, behind-stop, behind-step}
-use borrow.Author.Rules.{rules}
 use Rattle.texts.proofs.leaves.word_end.Given as goal
 
 abbrev pub invariant-loop-i : goal.invariant-loop-i

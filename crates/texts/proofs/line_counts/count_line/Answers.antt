@@ -1,4 +1,3 @@
-use borrow.Author.Rules.{rules}
 use Rattle.texts.proofs.line_counts.count_line.Goals as goal
 
 pub count_tree-requires : goal.count_tree-requires

@@ -1,5 +1,4 @@
 use native.Mathlib.Nat.{sub-zero}
-use borrow.Author.Rules.{rules}
 use Rattle.texts.proofs.line_counts.count_tree.Goals as goal
 
 pub slice_bounds-tally-end : goal.slice_bounds-tally-end

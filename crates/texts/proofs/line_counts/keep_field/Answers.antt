@@ -1,5 +1,4 @@
 use native.Mathlib.Omega.{arith}
-use borrow.Author.Rules.{rules}
 use Rattle.texts.proofs.line_counts.keep_field.Goals as goal
 
 pub count_line-requires : goal.count_line-requires

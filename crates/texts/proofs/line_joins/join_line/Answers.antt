@@ -1,10 +1,8 @@
 use mathlib.Core.Path.{◌≡◌, refl, ◌∙◌}
-use Prim.Native.Nat.{◌-◌, ◌≤◌}
 use native.Mathlib.Omega.{arith}
-use lib.ListN.{length, take, length-set}
-use Rattle.writing.proofs.PutLaws.{put-writes}
-use Rattle.texts.proofs.JoinLaws.{plain_front, front-more, joined_line}
-use borrow.Author.Rules.{rules}
+use lib.ListN.{length-set}
+use Rattle.writing.proofs.PutLaws.{put_writes}
+use Rattle.texts.proofs.JoinLaws.{front_more, joined_line}
 use Rattle.texts.proofs.line_joins.join_line.Goals as goal
 
 pub loop-i-init : goal.loop-i-init
@@ -17,7 +15,7 @@ loop-i-preserved c =
     let p = c.requires in (
       omega arith,
       length-set v.line v.i c.plain.result ∙ v.invariant.1,
-      front-more s v.line v.i c.plain.result (omega arith) (omega arith) v.invariant.2 c.plain.ensures,
+      front_more s v.line v.i c.plain.result (omega arith) (omega arith) v.invariant.2 c.plain.ensures,
     )
 
 pub returns : goal.returns
@@ -26,4 +24,4 @@ returns c =
     let p = c.requires in
     let e : v.i ≡ c.args.used = omega arith in
     joined_line c.args.s.now c.args.used p.3
-    (rw e at v.invariant.2) (put-writes (omega arith) c.put.ensures)
+    (rw e at v.invariant.2) (put_writes (omega arith) c.put.ensures)

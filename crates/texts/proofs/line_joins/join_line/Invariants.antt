@@ -1,10 +1,7 @@
-use mathlib.Core.Path.{◌≡◌, refl, ◌∙◌}
+use mathlib.Core.Path.{◌≡◌}
 use Prim.Native.Nat.{◌-◌, ◌≤◌}
-use native.Mathlib.Omega.{arith}
-use lib.ListN.{length, take, length-set}
-use Rattle.writing.proofs.PutLaws.{put-writes}
-use Rattle.texts.proofs.JoinLaws.{plain_front, front-more, joined_line}
-use borrow.Author.Rules.{rules}
+use lib.ListN.{length, take}
+use Rattle.texts.proofs.JoinLaws.{plain_front}
 use Rattle.texts.proofs.line_joins.join_line.Given as goal
 
 abbrev pub invariant-loop-i : goal.invariant-loop-i

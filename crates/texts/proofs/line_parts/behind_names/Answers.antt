@@ -1,5 +1,5 @@
 use native.Mathlib.Omega.{arith}
-use Rattle.texts.proofs.PartSteps.{kept-all, own-kept, behind-none, behind-width, behind-whole}
+use Rattle.texts.proofs.PartSteps.{kept_all, own_kept, behind_none, behind_width, behind_whole}
 use borrow.Author.Rules.{rules}
 use Rattle.texts.proofs.line_parts.behind_names.Goals as goal
 
@@ -11,8 +11,8 @@ pub returns-then-w-eq0 : goal.returns-then-w-eq0
 returns-then-w-eq0 c =
     let a = c.args in
     let w = c.width_at-w in record {
-      kept = kept-all _ a.n;
-      same = behind-none _ a.n a.s.now a.label a.short a.at _ _ _ w.result c.no_parts.ensures
+      kept = kept_all _ a.n;
+      same = behind_none _ a.n a.s.now a.label a.short a.at _ _ _ w.result c.no_parts.ensures
           w.ensures.same c.if-w-eq0.true;
     }
 
@@ -45,8 +45,8 @@ returns-then-e c =
     let own = c.hold_own.ensures in
     let x = w.ensures.same.there c.if-w-eq0.false in
     let f = c.requires.3 in record {
-      kept = own-kept _ a.n a.s.now a.label a.short w.result.kind _ own;
-      same = rw c.whole_parts.ensures (behind-whole _ a.n a.s.now a.label a.short a.at _ _ w.result
+      kept = own_kept _ a.n a.s.now a.label a.short w.result.kind _ own;
+      same = rw c.whole_parts.ensures (behind_whole _ a.n a.s.now a.label a.short a.at _ _ w.result
           x e.result e.ensures
           c.if-e.true f.0 f.1 own);
     }
@@ -62,7 +62,7 @@ returns c =
     let e = c.ends_at-e in
     let own = c.hold_own.ensures in
     let x = w.ensures.same.there c.if-w-eq0.false in record {
-      kept = own-kept _ a.n a.s.now a.label a.short w.result.kind _ own;
-      same = behind-width _ a.n a.s.now a.label a.short a.at _ _ w.result x e.result e.ensures _
+      kept = own_kept _ a.n a.s.now a.label a.short w.result.kind _ own;
+      same = behind_width _ a.n a.s.now a.label a.short a.at _ _ w.result x e.result e.ensures _
           c.no_parts-2.ensures c.if-e.false;
     }

@@ -1,4 +1,3 @@
-
 use Rattle.texts.proofs.line_rules.rests.Goals as goal
 
 pub returns-then-rested : goal.returns-then-rested

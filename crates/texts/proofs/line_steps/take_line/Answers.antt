@@ -6,11 +6,11 @@ use native.Mathlib.Omega.{arith}
 use Rattle.base.specs.Bytes.{bytes}
 use Rattle.rules.specs.Frames.{units, border}
 use Rattle.text_laws.specs.FrameReader.{read_tens}
-use Rattle.text_laws.proofs.LongLines.{long-line}
-use Rattle.texts.proofs.AreaLaws.{cells-long, table_part, table-room}
-use Rattle.texts.proofs.LineAreas.{opening-step, more-step}
-use Rattle.texts.proofs.StateSteps.{same_nil, at_stage, field-stage, head-stage, row-stage}
-use Rattle.texts.proofs.StateSteps.{expect-step, width-row}
+use Rattle.text_laws.proofs.LongLines.{long_line}
+use Rattle.texts.proofs.AreaLaws.{cells_long, table_part, table_room}
+use Rattle.texts.proofs.LineAreas.{opening_step, more_step}
+use Rattle.texts.proofs.StateSteps.{same_nil, at_stage, field_stage, head_stage, row_stage}
+use Rattle.texts.proofs.StateSteps.{expect_step, width_row_lem}
 use Rattle.text_laws.specs.Fold as fold
 use Rattle.texts.specs.declared.states.Stage.TheVariants as at
 use borrow.Author.Rules.{rules}
@@ -30,7 +30,7 @@ returns-then-line-gt-LINE_MOST c =
       step = (
         refl,
         refl,
-        λ f k g h. rw (long-line f c.args.line.now k.small
+        λ f k g h. rw (long_line f c.args.line.now k.small
             (omega (arith, c.if-line-gt-LINE_MOST.true))) (q.step f c.args.held.now
             c.args.counts.now k g h),
       );
@@ -49,7 +49,7 @@ take_opening-requires c =
     let held = c.args.held.now in
     let room = c.requires.0.3 in
     let part = ap (λ (z : List ℕ). length z) (table_part held room) in
-    let n = table-room held room in
+    let n = table_room held room in
     (c.requires.0.0, c.requires.0.1, omega (arith, part, n))
 
 pub expect-requires : goal.expect-requires
@@ -86,7 +86,7 @@ slice_bounds-take_more-end c =
 
 pub take_more-requires : goal.take_more-requires
 take_more-requires c =
-    let n = cells-long c.args.held.now c.requires.0.3 in (
+    let n = cells_long c.args.held.now c.requires.0.3 in (
       c.requires.0.0,
       c.requires.0.1,
       omega (arith, n),
@@ -119,7 +119,7 @@ returns-in-Opening c =
     let l = c.args.line.now in
     let q = c.take_opening.ensures in record {
       room = q.room;
-      step = opening-step c.args.held.now l r _
+      step = opening_step c.args.held.now l r _
           c.requires.0.3 c.in-Opening.is c.take_opening.auto.table
           q.step;
     }
@@ -128,7 +128,7 @@ pub returns-in-Blank : goal.returns-in-Blank
 unfolding fold.lined_at
 returns-in-Blank c =
     let l = c.args.line.now in
-    let p = expect-step c.args.r l at.Blank c.in-Blank.is (λ o. refl)
+    let p = expect_step c.args.r l at.Blank c.in-Blank.is (λ o. refl)
     (λ w. []) at.TensRuler _ c.args.held.now
     c.requires.0.0 (same_nil l) (λ f. refl) in record {
       room = rw c.expect.ensures (p.0);
@@ -140,9 +140,9 @@ unfolding fold.lined_at
 returns-in-TensRuler c =
     let l = c.args.line.now in
     let q = c.take_ruler.ensures in
-    let held = head-stage c.args.r l at.TensRuler c.in-TensRuler.is (λ o. refl)
+    let held = head_stage c.args.r l at.TensRuler c.in-TensRuler.is (λ o. refl)
     refl (q.step _ _)
-    (λ f o. width-row f (read_tens l) o) in record {
+    (λ f o. width_row_lem f (read_tens l) o) in record {
       room = q.room;
       step = (refl, refl, held);
     }
@@ -151,7 +151,7 @@ pub returns-in-UnitsRuler : goal.returns-in-UnitsRuler
 unfolding fold.lined_at
 returns-in-UnitsRuler c =
     let l = c.args.line.now in
-    let p = expect-step c.args.r l at.UnitsRuler
+    let p = expect_step c.args.r l at.UnitsRuler
     c.in-UnitsRuler.is (λ o. refl) units at.TopBorder _
     c.args.held.now
     c.requires.0.0 c.is_units.ensures (λ f. refl) in record {
@@ -163,7 +163,7 @@ pub returns-in-TopBorder : goal.returns-in-TopBorder
 unfolding fold.lined_at
 returns-in-TopBorder c =
     let l = c.args.line.now in
-    let p = expect-step c.args.r l at.TopBorder c.in-TopBorder.is
+    let p = expect_step c.args.r l at.TopBorder c.in-TopBorder.is
     (λ o. refl) border at.FirstRow _ c.args.held.now
     c.requires.0.0 c.is_border.ensures (λ f. refl) in record {
       room = rw c.expect-in-TopBorder.ensures (p.0);
@@ -174,7 +174,7 @@ pub returns-in-FirstRow : goal.returns-in-FirstRow
 unfolding fold.lined_at
 returns-in-FirstRow c =
     let q = c.take_row.ensures in
-    let held = row-stage c.args.r
+    let held = row_stage c.args.r
     c.args.line.now at.FirstRow
     c.in-FirstRow.is (λ o. refl) refl
     (q.step _ _) q.row in record {
@@ -187,7 +187,7 @@ returns-in-InRow c =
     let q = c.take_more.ensures in
     let k = c.take_more.auto in record {
       room = q.room;
-      step = more-step c.args.held.now c.args.line.now
+      step = more_step c.args.held.now c.args.line.now
           c.args.r _ c.requires.0.3 c.in-InRow.is k.cells k.row q.step;
     }
 
@@ -195,7 +195,7 @@ pub returns-in-RowOrBlank : goal.returns-in-RowOrBlank
 unfolding fold.lined_at
 returns-in-RowOrBlank c =
     let q = c.take_row_or_blank.ensures in
-    let held = row-stage c.args.r
+    let held = row_stage c.args.r
     c.args.line.now at.RowOrBlank
     c.in-RowOrBlank.is (λ o. refl) refl
     (q.step _ _) q.row in record {
@@ -207,7 +207,7 @@ pub returns-in-WhereLine : goal.returns-in-WhereLine
 unfolding fold.lined_at
 returns-in-WhereLine c =
     let l = c.args.line.now in
-    let p = expect-step c.args.r l at.WhereLine
+    let p = expect_step c.args.r l at.WhereLine
     c.in-WhereLine.is (λ o. refl) (λ w. bytes "where:") at.LastBlank _
     c.args.held.now
     c.requires.0.0 c.same_words.ensures (λ f. refl) in record {
@@ -219,7 +219,7 @@ pub returns-in-LastBlank : goal.returns-in-LastBlank
 unfolding fold.lined_at
 returns-in-LastBlank c =
     let l = c.args.line.now in
-    let p = expect-step c.args.r l at.LastBlank c.in-LastBlank.is (λ o. refl)
+    let p = expect_step c.args.r l at.LastBlank c.in-LastBlank.is (λ o. refl)
     (λ w. []) at.FirstField _ c.args.held.now
     c.requires.0.0 (same_nil l) (λ f. refl) in record {
       room = rw c.expect-in-LastBlank.ensures (p.0);
@@ -231,7 +231,7 @@ unfolding fold.lined_at
 returns-in-FirstField c =
     let q = c.take_field.ensures in record {
       room = q.room;
-      step = field-stage c.args.r c.args.line.now at.FirstField c.in-FirstField.is
+      step = field_stage c.args.r c.args.line.now at.FirstField c.in-FirstField.is
           (λ f. refl) c.args.held.now c.take_field.new.held (omega (arith, c.if-line-gt-LINE_MOST.false)) q.step;
     }
 
@@ -240,7 +240,7 @@ unfolding fold.lined_at
 returns-in-FieldLine c =
     let q = c.take_field-in-FieldLine.ensures in record {
       room = q.room;
-      step = field-stage c.args.r c.args.line.now at.FieldLine c.in-FieldLine.is
+      step = field_stage c.args.r c.args.line.now at.FieldLine c.in-FieldLine.is
           (λ f. refl) c.args.held.now c.take_field-in-FieldLine.new.held (omega (arith, c.if-line-gt-LINE_MOST.false)) q.step;
     }
 

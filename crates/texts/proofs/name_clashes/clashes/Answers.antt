@@ -1,26 +1,16 @@
 use mathlib.Core.Bool.{true, false}
 use mathlib.Core.Path.{sym, ◌∙◌}
-use Prim.Native.Nat.{◌-◌}
 use native.Mathlib.Omega.{arith}
 use Rattle.texts.specs.HeldNames.{labels_in, names_in}
 use Rattle.texts.proofs.NameAreas.{meet_in}
-use Rattle.texts.proofs.HeldClashes.{
-  Left,
-  clash-start,
-  clash-next,
-  clash-none,
-  clash_here,
-  label_here,
-  meet_here,
-}
-use borrow.Author.Rules.{rules}
+use Rattle.texts.proofs.HeldClashes.{clash_start, clash_next, clash_none, clash_here, label_here, meet_here}
 use Rattle.texts.proofs.name_clashes.clashes.Goals as goal
 
 pub earlier-init : goal.earlier-init
 earlier-init c =
     let a = c.args in
     let b = a.names.now in
-    clash-start (labels_in a.labels.now) (names_in b).shorts (names_in b).words a.n
+    clash_start (labels_in a.labels.now) (names_in b).shorts (names_in b).words a.n
 
 pub earlier-preserved : goal.earlier-preserved
 earlier-preserved c =
@@ -34,7 +24,7 @@ earlier-preserved c =
     let met = meet_in b a.n e.i few (omega (arith, few)) c.name_at-short.ensures
     c.name_at-word.ensures c.name_at-t.ensures
     c.name_at-w.ensures in
-    clash-next labels shorts words a.n e.i (omega arith) e.invariant
+    clash_next labels shorts words a.n e.i (omega arith) e.invariant
     (meet_here labels shorts words a.n e.i (sym c.same_label.ensures ∙ c.if-same_label.false) false
     (met ∙ sym c.names_meet.ensures ∙ c.if-names_meet.false))
 
@@ -43,7 +33,7 @@ returns-then-i-n c =
     let a = c.args in
     let b = a.names.now in
     let e = c.earlier in
-    clash-none (labels_in a.labels.now) (names_in b).shorts (names_in b).words a.n e.i (omega arith) e.invariant
+    clash_none (labels_in a.labels.now) (names_in b).shorts (names_in b).words a.n e.i (omega arith) e.invariant
 
 pub returns-then-same_label : goal.returns-then-same_label
 returns-then-same_label c =

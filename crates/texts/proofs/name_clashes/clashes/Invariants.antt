@@ -1,19 +1,6 @@
-use mathlib.Core.Bool.{true, false}
-use mathlib.Core.Path.{sym, ◌∙◌}
 use Prim.Native.Nat.{◌-◌}
-use native.Mathlib.Omega.{arith}
 use Rattle.texts.specs.HeldNames.{labels_in, names_in}
-use Rattle.texts.proofs.NameAreas.{meet_in}
-use Rattle.texts.proofs.HeldClashes.{
-  Left,
-  clash-start,
-  clash-next,
-  clash-none,
-  clash_here,
-  label_here,
-  meet_here,
-}
-use borrow.Author.Rules.{rules}
+use Rattle.texts.proofs.HeldClashes.{Left}
 use Rattle.texts.proofs.name_clashes.clashes.Given as goal
 
 abbrev pub invariant-earlier : goal.invariant-earlier

@@ -1,11 +1,8 @@
-use mathlib.Core.Path.{◌≡◌, refl}
+use mathlib.Core.Path.{◌≡◌}
 use Prim.Native.Nat.{◌-◌, ◌≤◌}
-use native.Mathlib.Omega.{arith}
 use lib.ListN.{length, take}
 use Rattle.rules.specs.Limits.{label_most}
 use Rattle.names.specs.Repeats.{pad_to}
-use Rattle.names.proofs.PadLaws.{pad_set, pad_whole}
-use borrow.Author.Rules.{rules}
 use Rattle.texts.proofs.name_clashes.held_label.Given as goal
 
 abbrev pub invariant-loop-i : goal.invariant-loop-i

@@ -3,7 +3,6 @@ use Prim.Native.Nat.{◌*◌}
 use Rattle.rules.specs.Limits.{fields_most, label_most}
 use Rattle.texts.proofs.LineSearches.{part_text}
 use Rattle.texts.proofs.NameAreas.{entry_at}
-use borrow.Author.Rules.{rules}
 use Rattle.texts.proofs.name_clashes.same_label.Goals as goal
 
 pub returns : goal.returns

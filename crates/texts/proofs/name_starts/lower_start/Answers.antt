@@ -1,7 +1,6 @@
 use mathlib.Core.Path.{sym}
 use Rattle.texts.proofs.StartLaws.{most_below, most_above}
 use native.Mathlib.Omega.{arith}
-use borrow.Author.Rules.{rules}
 use Rattle.texts.proofs.name_starts.lower_start.Goals as goal
 
 pub returns-then-own-start : goal.returns-then-own-start

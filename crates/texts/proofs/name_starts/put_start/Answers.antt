@@ -1,9 +1,8 @@
-use Rattle.texts.proofs.StartLaws.{put-none, put_some}
-use borrow.Author.Rules.{rules}
+use Rattle.texts.proofs.StartLaws.{put_none, put_some}
 use Rattle.texts.proofs.name_starts.put_start.Goals as goal
 
 pub returns-then-name-eq0 : goal.returns-then-name-eq0
-returns-then-name-eq0 c = put-none _ _ _ c.if-name-eq0.true
+returns-then-name-eq0 c = put_none _ _ _ c.if-name-eq0.true
 
 pub returns : goal.returns
 returns c =

@@ -1,17 +1,13 @@
 use mathlib.Core.Path.{◌≡◌, sym, ◌∙◌}
 use mathlib.Core.Bool.{true, false}
 use native.Mathlib.Omega.{arith}
-use borrow.Author.Tests.{not-true, not-false}
-use Prim.Native.Nat.{◌≤◌, ◌<◌, ◌-◌, ◌+◌, ◌*◌}
-use lib.ListN.{length, get_or}
-use Rattle.rules.specs.Limits.{number_most}
+use Prim.Native.Nat.{◌<◌, ◌-◌, ◌+◌, ◌*◌}
+use lib.ListN.{get_or}
 use Rattle.rules.specs.Names.{is_digit}
-use Rattle.text_laws.specs.Reader.{is_number_word}
-use Rattle.base.proofs.Lists.{not-both}
+use Rattle.base.proofs.Lists.{not_both}
 use Rattle.names.proofs.ClassRules.{digit_in}
 use Rattle.texts.proofs.ExprLeaves.{digit_range}
-use Rattle.texts.proofs.NumberWords.{Upto, upto_start, upto_digit, upto_step, upto_large, upto_end}
-use borrow.Author.Rules.{rules}
+use Rattle.texts.proofs.NumberWords.{upto_start, upto_digit, upto_step, upto_large, upto_end}
 use Rattle.texts.proofs.numbers.word_value.Goals as goal
 
 pub loop-i-init : goal.loop-i-init
@@ -30,7 +26,7 @@ returns-then-not-is_digit_in c =
     ∙ sym c.is_digit_in.ensures in
     let n : is_digit (get_or w l.i 0) ≡ false = tells ∙ c.if-not-is_digit_in.true in record {
       most = omega arith;
-      same = λ y. absurd (not-both _ (upto_digit w l.v l.i (omega arith) (l.invariant.2 y)) n);
+      same = λ y. absurd (not_both _ (upto_digit w l.v l.i (omega arith) (l.invariant.2 y)) n);
     }
 
 pub overflow_cast-v : goal.overflow_cast-v

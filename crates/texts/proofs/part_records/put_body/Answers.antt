@@ -1,13 +1,12 @@
 use native.Mathlib.Omega.{arith}
 use Rattle.writing.proofs.Writing.{writes_join}
-use Rattle.texts.proofs.PartBytes.{size-sum}
-use borrow.Author.Rules.{rules}
+use Rattle.texts.proofs.PartBytes.{size_sum}
 use Rattle.texts.proofs.part_records.put_body.Goals as goal
 
 pub put_names-named-requires : goal.put_names-named-requires
 put_names-named-requires c =
     let q = c.requires in
-    (q.0, omega (arith, size-sum c.args.p, q.1))
+    (q.0, omega (arith, size_sum c.args.p, q.1))
 
 pub put_width-measured-requires : goal.put_width-measured-requires
 put_width-measured-requires c =
@@ -16,7 +15,7 @@ put_width-measured-requires c =
       omega (arith, q.0.width, q.2.width),
       omega (
         arith,
-        size-sum c.args.p,
+        size_sum c.args.p,
         q.1,
         n.end,
         n.bytes.kept,
@@ -31,7 +30,7 @@ put_tree-next-requires c =
       omega (arith, q.0.constraint, q.2.constraint),
       omega (
         arith,
-        size-sum c.args.p,
+        size_sum c.args.p,
         q.1,
         n.end,
         n.bytes.kept,
@@ -48,7 +47,7 @@ put_tree-requires c =
     let w = c.put_width-measured.ensures in
     let t = c.put_tree-next.ensures in (
       omega (arith, q.0.condition, q.2.condition),
-      omega (arith, size-sum p, q.1, n.end, n.bytes.kept, w.end, w.bytes.kept, t.end, t.bytes.kept),
+      omega (arith, size_sum p, q.1, n.end, n.bytes.kept, w.end, w.bytes.kept, t.end, t.bytes.kept),
     )
 
 pub returns : goal.returns
@@ -58,6 +57,6 @@ returns c =
     let w = c.put_width-measured.ensures in
     let t = c.put_tree-next.ensures in
     let u = c.put_tree.ensures in record {
-      end = omega (arith, size-sum p, n.end, w.end, t.end, u.end);
+      end = omega (arith, size_sum p, n.end, w.end, t.end, u.end);
       bytes = writes_join n.bytes (writes_join w.bytes (writes_join t.bytes u.bytes));
     }

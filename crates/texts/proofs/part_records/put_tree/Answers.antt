@@ -1,5 +1,4 @@
-use Rattle.texts.proofs.PartBytes.{tree-put}
-use borrow.Author.Rules.{rules}
+use Rattle.texts.proofs.PartBytes.{tree_put}
 use Rattle.texts.proofs.part_records.put_tree.Goals as goal
 
 pub slice_bounds-put_counted-end : goal.slice_bounds-put_counted-end
@@ -10,7 +9,7 @@ returns c =
     let a = c.args in
     let q = c.requires in
     let both =
-      tree-put a.len a.tree.now q.0 q.1 c.put_counted.ensures in record {
+    tree_put a.len a.tree.now q.0 q.1 c.put_counted.ensures in record {
       end = both.0;
       bytes = both.1;
     }

@@ -1,12 +1,11 @@
-use Rattle.texts.proofs.PartBytes.{width-fixed, width_two, width-measured, width-rest}
-use borrow.Author.Rules.{rules}
+use Rattle.texts.proofs.PartBytes.{width_fixed, width_two, width_measured, width_rest}
 use Rattle.texts.proofs.part_records.put_width.Goals as goal
 
 pub returns-then-p-eq-FIXED : goal.returns-then-p-eq-FIXED
 returns-then-p-eq-FIXED c =
     let a = c.args in
     let both =
-      width-fixed a.p a.wide.now c.if-p-eq-FIXED.true
+    width_fixed a.p a.wide.now c.if-p-eq-FIXED.true
     c.requires.1 c.put_two.ensures in record {
       end = both.0;
       bytes = both.1;
@@ -29,7 +28,7 @@ returns-then-p-eq-MEASURED c =
     c.put_two-next.ensures in
     let t = c.put_tree.ensures in
     let both =
-      width-measured a.p a.wide.now k w.0 t.end t.bytes in record {
+    width_measured a.p a.wide.now k w.0 t.end t.bytes in record {
       end = both.0;
       bytes = both.1;
     }
@@ -38,7 +37,7 @@ pub returns : goal.returns
 returns c =
     let a = c.args in
     let both =
-      width-rest a.p a.wide.now c.if-p-eq-FIXED.false c.if-p-eq-MEASURED.false in record {
+    width_rest a.p a.wide.now c.if-p-eq-FIXED.false c.if-p-eq-MEASURED.false in record {
       end = both.0;
       bytes = both.1;
     }

@@ -1,5 +1,4 @@
 use Rattle.texts.proofs.PartSlots.{part_not, part_yes}
-use borrow.Author.Rules.{rules}
 use Rattle.texts.proofs.part_slots.part_shows.Goals as goal
 
 pub returns-then-is_name_in : goal.returns-then-is_name_in

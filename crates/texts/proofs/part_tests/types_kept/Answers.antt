@@ -1,6 +1,5 @@
 use mathlib.Core.Path.{sym, ◌∙◌}
-use Rattle.texts.proofs.PartRules.{types-first, types-second, types_last}
-use borrow.Author.Rules.{rules}
+use Rattle.texts.proofs.PartRules.{types_first, types_second, types_last}
 use Rattle.texts.proofs.part_tests.types_kept.Goals as goal
 
 pub returns-then-is_type-2 : goal.returns-then-is_type-2
@@ -10,8 +9,8 @@ returns-then-is_type-2 c =
 
 pub returns-then-is_type : goal.returns-then-is_type
 returns-then-is_type c =
-    types-second c.args.p (sym c.is_type.ensures ∙ c.if-is_type.true) (sym c.is_type-then-is_type.ensures ∙ c.if-is_type-2.false)
+    types_second c.args.p (sym c.is_type.ensures ∙ c.if-is_type.true) (sym c.is_type-then-is_type.ensures ∙ c.if-is_type-2.false)
 
 pub returns : goal.returns
 returns c =
-    types-first c.args.p (sym c.is_type.ensures ∙ c.if-is_type.false)
+    types_first c.args.p (sym c.is_type.ensures ∙ c.if-is_type.false)

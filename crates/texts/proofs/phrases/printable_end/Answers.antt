@@ -1,12 +1,9 @@
 use mathlib.Core.Path.{◌≡◌, refl, sym, ◌∙◌}
 use native.Mathlib.Omega.{arith}
-use Prim.Native.Nat.{◌≤◌, ◌-◌}
-use lib.ListN.{length, drop}
-use borrow.Author.Tests.{eq-eqb, ne_eqb, not-true, not-false}
-use Rattle.base.specs.Lists.{all}
+use lib.ListN.{length}
+use borrow.Author.Tests.{eq-eqb, ne_eqb}
 use Rattle.rules.specs.Names.{is_printable}
-use Rattle.texts.proofs.ExprLeaves.{all-step, all-stop, all_end}
-use borrow.Author.Rules.{rules}
+use Rattle.texts.proofs.ExprLeaves.{all_step, all_stop, all_end}
 use Rattle.texts.proofs.phrases.printable_end.Goals as goal
 
 pub loop-i-init : goal.loop-i-init
@@ -18,14 +15,14 @@ returns-then-not-is_printable c =
     let s = c.args.s.now in
     let n = sym c.is_printable.ensures ∙ c.if-not-is_printable.true in
     let short : l.i ≡ length s → ⊥ = λ e. omega arith in
-    ne_eqb l.i (length s) short ∙ sym (l.invariant.1 ∙ all-stop is_printable s l.i (omega arith) n)
+    ne_eqb l.i (length s) short ∙ sym (l.invariant.1 ∙ all_stop is_printable s l.i (omega arith) n)
 
 pub loop-i-preserved : goal.loop-i-preserved
 loop-i-preserved c =
     let l = c.loop-i in
     let s = c.args.s.now in
     let y = sym c.is_printable.ensures ∙ c.if-not-is_printable.false in
-    (omega arith, l.invariant.1 ∙ all-step is_printable s l.i (omega arith) y)
+    (omega arith, l.invariant.1 ∙ all_step is_printable s l.i (omega arith) y)
 
 pub returns : goal.returns
 returns c =

@@ -1,12 +1,8 @@
-use mathlib.Core.Path.{◌≡◌, refl, sym, ◌∙◌}
-use native.Mathlib.Omega.{arith}
+use mathlib.Core.Path.{◌≡◌}
 use Prim.Native.Nat.{◌≤◌, ◌-◌}
 use lib.ListN.{length, drop}
-use borrow.Author.Tests.{eq-eqb, ne_eqb, not-true, not-false}
 use Rattle.base.specs.Lists.{all}
 use Rattle.rules.specs.Names.{is_printable}
-use Rattle.texts.proofs.ExprLeaves.{all-step, all-stop, all_end}
-use borrow.Author.Rules.{rules}
 use Rattle.texts.proofs.phrases.printable_end.Given as goal
 
 abbrev pub invariant-loop-i : goal.invariant-loop-i

@@ -1,11 +1,10 @@
 use mathlib.Core.Path.{sym, ◌∙◌}
 use native.Mathlib.Omega.{arith}
-use Rattle.texts.proofs.FieldWords.{remark-empty, remark_other, remark_space}
-use borrow.Author.Rules.{rules}
+use Rattle.texts.proofs.FieldWords.{remark_empty, remark_other, remark_space}
 use Rattle.texts.proofs.phrases.remark_ok.Goals as goal
 
 pub returns-then-at-s : goal.returns-then-at-s
-returns-then-at-s c = let a = c.args in sym (remark-empty a.s.now a.at c.if-at-s.true)
+returns-then-at-s c = let a = c.args in sym (remark_empty a.s.now a.at c.if-at-s.true)
 
 pub returns-then-s-at-ne32 : goal.returns-then-s-at-ne32
 returns-then-s-at-ne32 c =

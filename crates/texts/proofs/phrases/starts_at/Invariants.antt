@@ -1,11 +1,7 @@
-use mathlib.Core.Path.{◌≡◌, sym, ◌∙◌}
-use native.Mathlib.Omega.{arith}
+use mathlib.Core.Path.{◌≡◌}
 use Prim.Native.Nat.{◌≤◌, ◌-◌, ◌+◌}
-use native.Mathlib.Nat.{add-zero, add_assoc}
-use lib.ListN.{length, drop, length-drop}
+use lib.ListN.{length, drop}
 use Rattle.text_laws.specs.LineReader.{begins}
-use Rattle.texts.proofs.FieldWords.{begins-step, begins-stop, begins-end, begins-long}
-use borrow.Author.Rules.{rules}
 use Rattle.texts.proofs.phrases.starts_at.Given as goal
 
 abbrev pub invariant-loop-i : goal.invariant-loop-i

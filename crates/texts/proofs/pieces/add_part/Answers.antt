@@ -2,8 +2,7 @@ use native.Mathlib.Omega.{arith}
 use Prim.Native.Nat.{◌+◌, ◌≤◌}
 use lib.ListN.{length}
 use Rattle.rules.specs.Limits.{line_most}
-use Rattle.texts.proofs.KeptStates.{part_cut, part_around, part_added, least-used}
-use borrow.Author.Rules.{rules}
+use Rattle.texts.proofs.KeptStates.{part_cut, part_around, part_added, least_used}
 use Rattle.texts.proofs.pieces.add_part.Goals as goal
 
 pub returns-then-used-part : goal.returns-then-used-part
@@ -12,7 +11,7 @@ returns-then-used-part c =
     let part = c.args.part.now in
     let size = c.args.size in
     let used = c.least-used.result in
-    let is = least-used s c.two_at.ensures.0 c.least-used.ensures.2 in
+    let is = least_used s c.two_at.ensures.0 c.least-used.ensures.2 in
     let pre = c.requires in
     let over = c.if-used-part.true in
     let cut = c.cut_state.ensures in record {
@@ -28,11 +27,11 @@ returns c =
     let used = c.least-used.result in
     let t = c.put.new.out in
     let least = c.least-used.ensures in
-    let is = least-used s c.two_at.ensures.0 least.2 in
+    let is = least_used s c.two_at.ensures.0 least.2 in
     let pre = c.requires in
     let room = pre.0 in
-    let not-over = c.if-used-part.false in
-    let fit : used + length part ≤ line_most = omega (arith, not-over, least.1) in
+    let not_over = c.if-used-part.false in
+    let fit : used + length part ≤ line_most = omega (arith, not_over, least.1) in
     let add = c.put.ensures in
     let two = c.put_two.ensures in record {
       around = part_around used s part t room fit add two;

@@ -1,5 +1,4 @@
 use Rattle.texts.proofs.ClearedStates.{parts_cleared}
-use borrow.Author.Rules.{rules}
 use Rattle.texts.proofs.pieces.clear_parts.Goals as goal
 
 pub returns : goal.returns

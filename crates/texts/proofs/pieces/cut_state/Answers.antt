@@ -1,5 +1,4 @@
 use Rattle.texts.proofs.KeptStates.{cut_around, cut_states}
-use borrow.Author.Rules.{rules}
 use Rattle.texts.proofs.pieces.cut_state.Goals as goal
 
 pub returns : goal.returns

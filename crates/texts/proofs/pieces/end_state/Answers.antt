@@ -4,7 +4,6 @@ use Rattle.texts.specs.RowPlaces.{row_room}
 use Rattle.texts.specs.StateNumbers.{row_at}
 use Rattle.texts.proofs.EndPieces.{table_from, state_ends}
 use Rattle.texts.proofs.StateChanges.{part_long}
-use borrow.Author.Rules.{rules}
 use Rattle.texts.proofs.pieces.end_state.Goals as goal
 
 pub end_text-requires : goal.end_text-requires

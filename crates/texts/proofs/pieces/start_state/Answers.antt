@@ -1,5 +1,4 @@
 use Rattle.texts.proofs.BegunStates.{start_states}
-use borrow.Author.Rules.{rules}
 use Rattle.texts.proofs.pieces.start_state.Goals as goal
 
 pub returns : goal.returns

@@ -1,12 +1,11 @@
 use Rattle.texts.proofs.KeptStates.{stored_states}
-use borrow.Author.Rules.{rules}
 use Rattle.texts.proofs.pieces.store.Goals as goal
 
 pub returns : goal.returns
 returns c =
     let counts = c.save_counts in
     let both =
-      stored_states c.args.s.now c.save.new.s c.put.new.out counts.new.s
+    stored_states c.args.s.now c.save.new.s c.put.new.out counts.new.s
     c.args.row.now c.args.counts.now c.requires.0 c.requires.1 c.save.ensures c.put.ensures
     counts.auto.s c.clear_parts.ensures counts.ensures.twos in record {
       around = both.0;

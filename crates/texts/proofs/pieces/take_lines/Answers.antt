@@ -1,15 +1,14 @@
 use mathlib.Core.Path.{sym, ◌∙◌}
-use Prim.Native.Nat.{◌+◌, ◌-◌, ◌≤◌, ◌<◌}
+use Prim.Native.Nat.{◌-◌}
 use native.Mathlib.Omega.{arith}
 use lib.ListN.{length, drop, length-drop}
 use lib.Seq.{take_all}
-use Rattle.rules.specs.Limits.{fields_most}
 use Rattle.texts.specs.RowPlaces.{row_room}
-use Rattle.texts.specs.StateNumbers.{row_at, state_room}
-use Rattle.texts.proofs.KeptStates.{least-used}
+use Rattle.texts.specs.StateNumbers.{row_at}
+use Rattle.texts.proofs.KeptStates.{least_used}
 use Rattle.texts.proofs.PieceLaws.{around_trans, room_around}
 use Rattle.texts.proofs.StateChanges.{part_long}
-use Rattle.texts.proofs.TakenPieces.{put_whole, lines-taken}
+use Rattle.texts.proofs.TakenPieces.{put_whole, lines_taken}
 use borrow.Author.Rules.{rules}
 use Rattle.texts.proofs.pieces.take_lines.Goals as goal
 
@@ -75,9 +74,9 @@ returns c =
     let rest = take_all (length piece - w.at) (drop w.at piece)
     (let n = length-drop w.at piece in omega (arith, n)) in record {
       around = around_trans (around_trans walk.around stored.around) add.around;
-      step = λ k eq h. lines-taken s piece c.args.size w p.1
+      step = λ k eq h. lines_taken s piece c.args.size w p.1
           c.load-r.ensures
-          (least-used s c.two_at.ensures.0 c.least-used.ensures.2)
+          (least_used s c.two_at.ensures.0 c.least-used.ensures.2)
           (put_whole c.args.row.now _ (p.4 ∙ sym m)
           c.put.ensures)
           c.load_counts.ensures walk.place walk.room walk.step

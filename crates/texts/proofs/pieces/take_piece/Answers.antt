@@ -1,9 +1,5 @@
-use mathlib.Core.Path.{◌≡◌, ◌∙◌}
-use Prim.Native.Nat.{◌+◌, ◌-◌, ◌≤◌, ◌<◌}
 use native.Mathlib.Omega.{arith}
-use lib.ListN.{length}
 use Rattle.texts.proofs.JoinedPieces.{over_piece, long_piece, piece_taken}
-use borrow.Author.Rules.{rules}
 use Rattle.texts.proofs.pieces.take_piece.Goals as goal
 
 pub returns-then-size-gt-TEXT_MOST : goal.returns-then-size-gt-TEXT_MOST

@@ -1,8 +1,5 @@
-use mathlib.Core.Path.{◌≡◌, ◌∙◌}
-use Prim.Native.Nat.{◌+◌, ◌-◌, ◌≤◌, ◌<◌}
 use native.Mathlib.Omega.{arith}
 use Rattle.texts.proofs.LineWalk.{rest_plain}
-use borrow.Author.Rules.{rules}
 use Rattle.texts.proofs.pieces.take_short.Goals as goal
 
 pub returns-then-e-piece : goal.returns-then-e-piece
@@ -17,6 +14,6 @@ returns-then-e-piece c =
 
 pub returns : goal.returns
 returns c = record {
-      around = c.take_lines.ensures.around;
-      step = c.take_lines.ensures.step;
-    }
+  around = c.take_lines.ensures.around;
+  step = c.take_lines.ensures.step;
+}

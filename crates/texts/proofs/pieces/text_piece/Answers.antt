@@ -1,5 +1,4 @@
 use Rattle.texts.proofs.JoinedPieces.{short_piece, empty_piece}
-use borrow.Author.Rules.{rules}
 use Rattle.texts.proofs.pieces.text_piece.Goals as goal
 
 pub returns-then-state-lt-STATE_BYTES : goal.returns-then-state-lt-STATE_BYTES

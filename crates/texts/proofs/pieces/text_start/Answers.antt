@@ -1,6 +1,5 @@
 use mathlib.Core.Path.{refl}
 use native.Mathlib.Omega.{arith}
-use borrow.Author.Rules.{rules}
 use Rattle.texts.proofs.pieces.text_start.Goals as goal
 
 pub returns-then-state-lt-STATE_BYTES : goal.returns-then-state-lt-STATE_BYTES

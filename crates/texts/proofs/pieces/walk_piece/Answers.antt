@@ -4,11 +4,11 @@ use Prim.Native.Nat.{ℕ, ◌-◌}
 use native.Mathlib.Omega.{arith}
 use lib.ListN.{length}
 use Rattle.texts.specs.WalkSteps.{WalkedTo}
-use Rattle.texts.proofs.JoinLaws.{held-long, held-put, held_back, around_put, around_same}
+use Rattle.texts.proofs.JoinLaws.{held_long, held_put, held_back, around_put, around_same}
 use Rattle.texts.proofs.LineEnds.{printable_line}
 use Rattle.texts.proofs.LineWalk.{bad_left}
 use Rattle.texts.proofs.PieceLaws.{around_trans, room_around}
-use Rattle.texts.proofs.PieceWalks.{fed_first, walked_first, first-room, bad_first}
+use Rattle.texts.proofs.PieceWalks.{fed_first, walked_first, first_room, bad_first}
 use borrow.Author.Rules.{rules}
 use Rattle.texts.proofs.pieces.walk_piece.Goals as goal
 
@@ -19,10 +19,10 @@ returns-then-piece-e-ne10 c =
     let z : length t - length t ≡ 0 = omega arith in record {
       place = search rules;
       room = rw (c.bad_byte.ensures, z) (bad_left (length t) c.args.r (length t) c.args.r
-            (c.requires.0.0, omega arith));
+          (c.requires.0.0, omega arith));
       around = around_same s;
       step = rw c.bad_byte.ensures (λ k size free short line is. bad_first k t c.args.e c.requires.3
-              c.requires.2 short size is c.if-piece-e-ne10.true);
+          c.requires.2 short size is c.if-piece-e-ne10.true);
     }
 
 pub slice_bounds-end_held-end : goal.slice_bounds-end_held-end
@@ -30,16 +30,15 @@ slice_bounds-end_held-end c =
     let k = c.requires.2 in omega (arith, k)
 
 pub end_held-q-requires : goal.end_held-q-requires
-end_held-q-requires c =
-    (
-      c.requires.0.0,
-      (let k = c.requires.0.1 in omega (arith, k)),
-      c.requires.5,
-      c.requires.4,
-      printable_line c.args.piece.now 0
-          c.args.e c.requires.3,
-      c.requires.6,
-    )
+end_held-q-requires c = (
+  c.requires.0.0,
+  (let k = c.requires.0.1 in omega (arith, k)),
+  c.requires.5,
+  c.requires.4,
+  printable_line c.args.piece.now 0
+      c.args.e c.requires.3,
+  c.requires.6,
+)
 
 pub overflow_add-e : goal.overflow_add-e
 overflow_add-e c =
@@ -64,7 +63,7 @@ walk_lines-requires c =
     let room = room_around around c.requires.5 in
     let q = c.end_held-q.ensures.room in
     let fits = c.requires.0.1 in
-    let long = held-long c.end_held-q.new.s room in
+    let long = held_long c.end_held-q.new.s room in
     let row = c.end_held-q.auto.row in (
       (let k = c.requires.2 in omega (arith, k)),
       c.requires.1,
@@ -79,7 +78,7 @@ shape_of-s c =
     let room = room_around around c.requires.5 in
     let k = c.walk_lines.auto.held in
     let s = c.end_held-q.new.s in
-    let back = held_back s room c.walk_lines.new.held (k ∙ held-long s room) in
+    let back = held_back s room c.walk_lines.new.held (k ∙ held_long s room) in
     back ∙ around.long
 
 pub shape_of-row : goal.shape_of-row
@@ -99,7 +98,7 @@ returns c =
     let w = c.walk_lines.result in
     let q = c.walk_lines.ensures in
     let part = c.walk_lines.new.held in
-    let long = c.walk_lines.auto.held ∙ held-long s room in
+    let long = c.walk_lines.auto.held ∙ held_long s room in
     let left = q.room.1 in
     let taken = c.end_held-q.ensures.room.1 in
     let lt = c.requires.2 in record {
@@ -107,14 +106,14 @@ returns c =
       room = (q.room.0, omega (arith, left, taken, lt));
       around = around_trans around (around_put s room part long);
       step = λ k size free short line is.
-              let first = c.end_held-q.ensures.step k.found k.line free short
-              line is in
-              let to = q.step (fed_first k t c.args.e
-              c.requires.3 c.requires.2 short size) refl
-              (first-room k t c.args.e c.requires.3
-              c.requires.2 short size is) first in
-              subst (λ (h : List ℕ). WalkedTo k t 0 w h c.walk_lines.new.row
-              c.walk_lines.new.counts) (sym (held-put s room part long))
-              (walked_first k t c.args.e c.requires.3
-              c.requires.2 short size is c.if-piece-e-ne10.false w to);
+          let first = c.end_held-q.ensures.step k.found k.line free short
+          line is in
+          let to = q.step (fed_first k t c.args.e
+          c.requires.3 c.requires.2 short size) refl
+          (first_room k t c.args.e c.requires.3
+          c.requires.2 short size is) first in
+          subst (λ (h : List ℕ). WalkedTo k t 0 w h c.walk_lines.new.row
+          c.walk_lines.new.counts) (sym (held_put s room part long))
+          (walked_first k t c.args.e c.requires.3
+          c.requires.2 short size is c.if-piece-e-ne10.false w to);
     }

@@ -1,5 +1,5 @@
 use native.Mathlib.Omega.{arith}
-use Rattle.texts.proofs.LineCounts.{numbers-none}
+use Rattle.texts.proofs.LineCounts.{numbers_none}
 use borrow.Author.Rules.{rules}
 use Rattle.texts.proofs.reading.read_short.Goals as goal
 
@@ -8,5 +8,5 @@ read_held-requires c = (
   c.requires,
   search rules,
   search rules,
-  numbers-none 128 (omega arith),
+  numbers_none 128 (omega arith),
 )

@@ -1,11 +1,9 @@
-use mathlib.Core.Path.{◌≡◌, sym, ◌∙◌}
+use mathlib.Core.Path.{◌≡◌}
 use Prim.Native.Nat.{◌≤◌, ◌-◌}
-use native.Mathlib.Omega.{arith}
 use lib.ListN.{length, drop}
 use Rattle.text_laws.specs.FrameReader.{pieces, rest}
 use Rattle.texts.specs.FramePlaces.{is_bits}
-use Rattle.texts.proofs.RowTests.{fits, fits-start, fits-none, fits-stop, fits_next, fits-end}
-use borrow.Author.Rules.{rules}
+use Rattle.texts.proofs.RowTests.{fits}
 use Rattle.texts.proofs.rows.is_bits.Given as goal
 
 abbrev pub invariant-loop-at : goal.invariant-loop-at

@@ -1,12 +1,9 @@
-use mathlib.Core.Path.{◌≡◌, refl, sym, ◌∙◌}
+use mathlib.Core.Path.{refl, sym, ◌∙◌}
 use native.Mathlib.Omega.{arith}
-use Prim.Native.Nat.{◌≤◌, ◌-◌, ◌<◌}
-use borrow.Author.Tests.{not-true, not-false}
-use lib.ListN.{length, drop, get_or}
+use Prim.Native.Nat.{◌<◌}
+use lib.ListN.{get_or}
 use Rattle.names.proofs.ClassRules.{space_in}
-use Rattle.texts.proofs.TrimLaws.{left_end, left-stop, left_step}
-use Rattle.rules.specs.Rows.{left_trim}
-use borrow.Author.Rules.{rules}
+use Rattle.texts.proofs.TrimLaws.{left_end, left_stop, left_step}
 use Rattle.texts.proofs.rows.spaces_end.Goals as goal
 
 pub loop-i-init : goal.loop-i-init
@@ -25,7 +22,7 @@ returns-then-not-is_space_in c =
     c.requires (get_or s i 0) byte)
     ∙ sym c.is_space_in.ensures in (
       omega arith,
-      left-stop s i (omega arith) (tells ∙ c.if-not-is_space_in.true) ∙ sym c.loop-i.invariant.1,
+      left_stop s i (omega arith) (tells ∙ c.if-not-is_space_in.true) ∙ sym c.loop-i.invariant.1,
     )
 
 pub loop-i-preserved : goal.loop-i-preserved

@@ -1,12 +1,7 @@
-use mathlib.Core.Path.{◌≡◌, refl, sym, ◌∙◌}
-use native.Mathlib.Omega.{arith}
-use Prim.Native.Nat.{◌≤◌, ◌-◌, ◌<◌}
-use borrow.Author.Tests.{not-true, not-false}
-use lib.ListN.{length, drop, get_or}
-use Rattle.names.proofs.ClassRules.{space_in}
-use Rattle.texts.proofs.TrimLaws.{left_end, left-stop, left_step}
+use mathlib.Core.Path.{◌≡◌}
+use Prim.Native.Nat.{◌≤◌, ◌-◌}
+use lib.ListN.{length, drop}
 use Rattle.rules.specs.Rows.{left_trim}
-use borrow.Author.Rules.{rules}
 use Rattle.texts.proofs.rows.spaces_end.Given as goal
 
 abbrev pub invariant-loop-i : goal.invariant-loop-i

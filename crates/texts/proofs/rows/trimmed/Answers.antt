@@ -1,13 +1,11 @@
-use mathlib.Core.Path.{◌≡◌, sym, ◌∙◌, ap}
+use mathlib.Core.Path.{sym, ◌∙◌, ap}
 use native.Mathlib.Omega.{arith}
-use Prim.Native.Nat.{◌≤◌, ◌-◌, ◌<◌}
-use borrow.Author.Tests.{not-true, not-false}
-use lib.ListN.{length, take, get_or}
+use Prim.Native.Nat.{◌-◌, ◌<◌}
+use lib.ListN.{length, get_or}
 use Rattle.names.proofs.ClassRules.{space_in}
 use lib.Seq.{take_all}
-use Rattle.texts.proofs.TrimLaws.{right_end, right-stop, right-step}
+use Rattle.texts.proofs.TrimLaws.{right_end, right_stop, right_step}
 use Rattle.rules.specs.Rows.{right_trim}
-use borrow.Author.Rules.{rules}
 use Rattle.texts.proofs.rows.trimmed.Goals as goal
 
 pub loop-n-init : goal.loop-n-init
@@ -27,7 +25,7 @@ returns-then-not-is_space_in c =
     c.requires (get_or s (n - 1) 0) byte)
     ∙ sym c.is_space_in.ensures in (
       omega arith,
-      right-stop s n (omega arith) (omega arith) (tells ∙ c.if-not-is_space_in.true)
+      right_stop s n (omega arith) (omega arith) (tells ∙ c.if-not-is_space_in.true)
           ∙ sym c.loop-n.invariant.1,
     )
 
@@ -43,7 +41,7 @@ loop-n-preserved c =
     c.requires (get_or s (n - 1) 0) byte)
     ∙ sym c.is_space_in.ensures in (
       omega arith,
-      c.loop-n.invariant.1 ∙ right-step s n (omega arith) (omega arith)
+      c.loop-n.invariant.1 ∙ right_step s n (omega arith) (omega arith)
           (tells ∙ c.if-not-is_space_in.false),
     )
 

@@ -1,6 +1,5 @@
 use mathlib.Core.Path.{refl}
 use borrow.Author.Tests.{eq-eqb, ne_eqb}
-use borrow.Author.Rules.{rules}
 use Rattle.texts.proofs.rulers.column.Goals as goal
 
 pub returns-then-c-eq1 : goal.returns-then-c-eq1

@@ -1,5 +1,4 @@
 use Rattle.rules.specs.Frames.{border}
-use borrow.Author.Rules.{rules}
 use Rattle.texts.proofs.rulers.is_border.Goals as goal
 
 pub returns : goal.returns

@@ -1,11 +1,7 @@
-use mathlib.Core.Path.{◌≡◌, refl, sym, ◌∙◌}
+use mathlib.Core.Path.{refl, sym, ◌∙◌}
 use native.Mathlib.Omega.{arith}
-use Prim.Native.Nat.{◌≤◌, ◌-◌}
-use lib.ListN.{length, drop}
 use Rattle.texts.proofs.FrameLeaves.{ruler_length, ruler_end, ruler_stop, ruler_next}
-use Rattle.base.specs.Lists.{same, tabulate}
 use Rattle.texts.specs.FramePlaces.{column_at}
-use borrow.Author.Rules.{rules}
 use Rattle.texts.proofs.rulers.is_ruler.Goals as goal
 
 pub returns-then-line-n : goal.returns-then-line-n

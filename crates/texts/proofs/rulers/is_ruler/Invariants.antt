@@ -1,11 +1,8 @@
-use mathlib.Core.Path.{◌≡◌, refl, sym, ◌∙◌}
-use native.Mathlib.Omega.{arith}
+use mathlib.Core.Path.{◌≡◌}
 use Prim.Native.Nat.{◌≤◌, ◌-◌}
 use lib.ListN.{length, drop}
-use Rattle.texts.proofs.FrameLeaves.{ruler_length, ruler_end, ruler_stop, ruler_next}
 use Rattle.base.specs.Lists.{same, tabulate}
 use Rattle.texts.specs.FramePlaces.{column_at}
-use borrow.Author.Rules.{rules}
 use Rattle.texts.proofs.rulers.is_ruler.Given as goal
 
 abbrev pub invariant-loop-i : goal.invariant-loop-i

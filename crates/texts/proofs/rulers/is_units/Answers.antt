@@ -1,5 +1,4 @@
 use Rattle.rules.specs.Frames.{units}
-use borrow.Author.Rules.{rules}
 use Rattle.texts.proofs.rulers.is_units.Goals as goal
 
 pub returns : goal.returns

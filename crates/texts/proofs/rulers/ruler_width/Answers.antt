@@ -1,7 +1,6 @@
 use mathlib.Core.Path.{sym, ◌∙◌}
 use mathlib.Core.Bool.{true, false}
 use Rattle.texts.proofs.FrameLeaves.{width_8, width_16, width_last}
-use borrow.Author.Rules.{rules}
 use Rattle.texts.proofs.rulers.ruler_width.Goals as goal
 
 pub returns-then-is_ruler : goal.returns-then-is_ruler

@@ -1,15 +1,13 @@
 use mathlib.Core.Path.{sym, ◌∙◌}
 use native.Mathlib.Omega.{arith}
 use lib.ListN.{get_or}
-use borrow.Author.Tests.{not-true}
 use Rattle.names.proofs.ClassRules.{operator_in}
-use Rattle.texts.proofs.ExprSigns.{sign_end, sign_other, sign_none-at, sign_length, sign_at-place}
-use borrow.Author.Rules.{rules}
+use Rattle.texts.proofs.ExprSigns.{sign_end, sign_other, sign_none_at, sign_length, sign_at_place}
 use Rattle.texts.proofs.signs.sign_at.Goals as goal
 
 pub returns-then-at-s : goal.returns-then-at-s
 returns-then-at-s c = let both =
-      sign_end _ _ c.if-at-s.true in record {
+    sign_end _ _ c.if-at-s.true in record {
       place = both.0;
       same = both.1;
     }
@@ -22,7 +20,7 @@ returns-then-not-is_operator_in c =
     c.requires.0 (get_or s at 0) (omega
     (arith, c.shared_slice_known-1.given at)) in
     let both =
-      sign_other s at (omega arith)
+    sign_other s at (omega arith)
     (sym k ∙ sym c.is_operator_in.ensures ∙ c.if-not-is_operator_in.true) in record {
       place = both.0;
       same = both.1;
@@ -40,7 +38,7 @@ overflow_add-result c =
 pub returns-in-Nothing : goal.returns-in-Nothing
 returns-in-Nothing c =
     let both =
-      sign_none-at c.args.s.now
+    sign_none_at c.args.s.now
     c.args.at (omega arith)
     c.byte_of.result c.symbol_of-found.result
     c.byte_of.ensures c.symbol_of-found.ensures
@@ -52,7 +50,7 @@ returns-in-Nothing c =
 pub returns-in-Is : goal.returns-in-Is
 returns-in-Is c =
     let both =
-      sign_at-place c.args.s.now
+    sign_at_place c.args.s.now
     c.args.at (omega arith)
     c.byte_of.result c.symbol_of-found.result
     c.byte_of.ensures c.symbol_of-found.ensures c.in-Is.o

@@ -1,8 +1,7 @@
 use mathlib.Core.Logic.{inl, inr}
 use native.Mathlib.Omega.{arith}
 use Rattle.texts.proofs.ExprSigns.{sign_within}
-use Rattle.texts.proofs.TakenSteps.{taken_none, taken-stop, taken_by}
-use borrow.Author.Rules.{rules}
+use Rattle.texts.proofs.TakenSteps.{taken_none, taken_stop, taken_by}
 use Rattle.texts.proofs.signs.taken_at.Goals as goal
 
 pub returns-then-row-k : goal.returns-then-row-k
@@ -10,7 +9,7 @@ returns-then-row-k c =
     let p = c.skipped-from in
     let a = c.args in
     let both =
-      taken-stop a.s.now a.at p.result a.k a.h _ p.ensures.rest c.sign_at-g.ensures.same c.in-At.o
+    taken_stop a.s.now a.at p.result a.k a.h _ p.ensures.rest c.sign_at-g.ensures.same c.in-At.o
     c.in-At.n c.in-At.is _ c.operator-row.ensures (inl (omega (arith, c.if-row-k.true))) in record {
       place = both.0;
       same = both.1;
@@ -21,7 +20,7 @@ returns-then-h-row c =
     let p = c.skipped-from in
     let a = c.args in
     let both =
-      taken-stop a.s.now a.at p.result a.k a.h _ p.ensures.rest c.sign_at-g.ensures.same c.in-At.o
+    taken_stop a.s.now a.at p.result a.k a.h _ p.ensures.rest c.sign_at-g.ensures.same c.in-At.o
     c.in-At.n c.in-At.is _ c.operator-row.ensures
     (inr (omega (arith, c.if-h-row.true))) in record {
       place = both.0;
@@ -39,7 +38,7 @@ returns-in-Nothing c =
     let p = c.skipped-from in
     let a = c.args in
     let both =
-      taken_none a.s.now a.at p.result a.k a.h _ p.ensures.rest c.sign_at-g.ensures.same
+    taken_none a.s.now a.at p.result a.k a.h _ p.ensures.rest c.sign_at-g.ensures.same
     c.in-Nothing.is in record {
       place = both.0;
       same = both.1;
@@ -50,7 +49,7 @@ returns-else-h-row c =
     let p = c.skipped-from in
     let a = c.args in
     let both =
-      taken_by a.s.now a.at p.result a.k a.h _ p.ensures.rest c.sign_at-g.ensures.same c.in-At.o
+    taken_by a.s.now a.at p.result a.k a.h _ p.ensures.rest c.sign_at-g.ensures.same c.in-At.o
     c.in-At.n c.in-At.is _ c.operator-row.ensures
     c.if-row-k.false c.if-h-row.false p.ensures.place.0 c.sign_at-g.ensures.place _
     c.skipped-end.ensures.place.0 c.skipped-end.ensures.place.1 c.skipped-end.ensures.rest in record {

@@ -1,20 +1,14 @@
-use mathlib.Core.Path.{◌≡◌, sym, ◌∙◌}
-use Prim.Native.Nat.{◌-◌, ◌≤◌}
+use mathlib.Core.Path.{sym, ◌∙◌}
 use native.Mathlib.Omega.{arith}
-use borrow.Author.Tests.{not-true, not-false}
-use Rattle.rules.specs.Names.{is_label}
-use Rattle.rules.specs.Rows.{cell_text}
-use Rattle.texts.specs.RowPlaces.{cell_at}
-use Rattle.texts.proofs.SlotRows.{end_is, OnePut, one-put, text-place, label-there}
-use Rattle.texts.proofs.SlotRows.{Putting, putting-start, putting_open, putting-wrong, putting-next}
-use Rattle.texts.proofs.SlotRows.{putting-end}
-use borrow.Author.Rules.{rules}
+use Rattle.texts.proofs.SlotRows.{end_is, one_put, text_place, label_there}
+use Rattle.texts.proofs.SlotRows.{putting_start, putting_open, putting_wrong, putting_next}
+use Rattle.texts.proofs.SlotRows.{putting_end}
 use Rattle.texts.proofs.slots.put_row.Goals as goal
 
 pub loop-from-init : goal.loop-from-init
 loop-from-init c =
     let a = c.args in
-    (omega arith, omega arith, putting-start _ a.row.now a.at a.n a.size)
+    (omega arith, omega arith, putting_start _ a.row.now a.at a.n a.size)
 
 pub returns-then-to-size : goal.returns-then-to-size
 returns-then-to-size c =
@@ -42,10 +36,10 @@ slice_bounds-is_label_in-count c =
     let a = c.args in
     let l = c.loop-from in
     let v = l.invariant.2 in
-    let one = one-put a.row.now a.n a.size l.from c.part_end-to.result (omega arith)
+    let one = one_put a.row.now a.n a.size l.from c.part_end-to.result (omega arith)
     (omega arith) c.part_end-to.ensures.first (omega arith)
     (omega (arith, v.near, v.writes.kept)) c.put_slot-end.ensures in
-    let q = text-place one in
+    let q = text_place one in
     omega (arith, q.0, q.1)
 
 pub slice_bounds-is_label_in-start : goal.slice_bounds-is_label_in-start
@@ -53,10 +47,10 @@ slice_bounds-is_label_in-start c =
     let a = c.args in
     let l = c.loop-from in
     let v = l.invariant.2 in
-    let one = one-put a.row.now a.n a.size l.from c.part_end-to.result (omega arith)
+    let one = one_put a.row.now a.n a.size l.from c.part_end-to.result (omega arith)
     (omega arith) c.part_end-to.ensures.first (omega arith)
     (omega (arith, v.near, v.writes.kept)) c.put_slot-end.ensures in
-    let q = text-place one in
+    let q = text_place one in
     omega (arith, q.0, q.1)
 
 pub slice_bounds-is_label_in-end : goal.slice_bounds-is_label_in-end
@@ -64,10 +58,10 @@ slice_bounds-is_label_in-end c =
     let a = c.args in
     let l = c.loop-from in
     let v = l.invariant.2 in
-    let one = one-put a.row.now a.n a.size l.from c.part_end-to.result (omega arith)
+    let one = one_put a.row.now a.n a.size l.from c.part_end-to.result (omega arith)
     (omega arith) c.part_end-to.ensures.first (omega arith)
     (omega (arith, v.near, v.writes.kept)) c.put_slot-end.ensures in
-    let q = text-place one in
+    let q = text_place one in
     omega (arith, q.0, q.1)
 
 pub returns-then-not-is_label_in : goal.returns-then-not-is_label_in
@@ -75,25 +69,25 @@ returns-then-not-is_label_in c =
     let a = c.args in
     let l = c.loop-from in
     let v = l.invariant.2 in
-    let one = one-put a.row.now a.n a.size l.from c.part_end-to.result (omega arith)
+    let one = one_put a.row.now a.n a.size l.from c.part_end-to.result (omega arith)
     (omega arith) c.part_end-to.ensures.first (omega arith)
     (omega (arith, v.near, v.writes.kept)) c.put_slot-end.ensures in
-    let labelled = sym (label-there one a.classes.now c.requires.5) ∙ sym c.is_label_in.ensures in
-    putting-wrong v (omega arith) one (labelled ∙ c.if-not-is_label_in.true)
+    let labelled = sym (label_there one a.classes.now c.requires.5) ∙ sym c.is_label_in.ensures in
+    putting_wrong v (omega arith) one (labelled ∙ c.if-not-is_label_in.true)
 
 pub loop-from-preserved : goal.loop-from-preserved
 loop-from-preserved c =
     let a = c.args in
     let l = c.loop-from in
     let v = l.invariant.2 in
-    let one = one-put a.row.now a.n a.size l.from c.part_end-to.result (omega arith)
+    let one = one_put a.row.now a.n a.size l.from c.part_end-to.result (omega arith)
     (omega arith) c.part_end-to.ensures.first (omega arith)
     (omega (arith, v.near, v.writes.kept)) c.put_slot-end.ensures in
-    let labelled = sym (label-there one a.classes.now c.requires.5) ∙ sym c.is_label_in.ensures in (
+    let labelled = sym (label_there one a.classes.now c.requires.5) ∙ sym c.is_label_in.ensures in (
       omega arith,
       omega arith,
-      putting-next v (omega arith) one (labelled ∙ c.if-not-is_label_in.false) (omega arith),
+      putting_next v (omega arith) one (labelled ∙ c.if-not-is_label_in.false) (omega arith),
     )
 
 pub returns : goal.returns
-returns c = putting-end c.loop-from.invariant.2 (omega arith) (omega arith)
+returns c = putting_end c.loop-from.invariant.2 (omega arith) (omega arith)

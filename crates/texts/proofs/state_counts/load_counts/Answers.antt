@@ -1,17 +1,14 @@
-use mathlib.Core.Path.{◌≡◌, refl}
-use Prim.Native.Nat.{◌≤◌, ◌<◌, ◌-◌}
+use mathlib.Core.Path.{refl}
+use Prim.Native.Nat.{◌<◌}
 use native.Mathlib.Omega.{arith}
-use lib.ListN.{length, take, length-set}
-use Rattle.rules.specs.Limits.{fields_most}
-use Rattle.texts.specs.StateNumbers.{twos_in}
-use Rattle.texts.proofs.CountBytes.{twos-none, twos_loaded, all_loaded}
-use borrow.Author.Rules.{rules}
+use lib.ListN.{length, length-set}
+use Rattle.texts.proofs.CountBytes.{twos_none, twos_loaded, all_loaded}
 use Rattle.texts.proofs.state_counts.load_counts.Goals as goal
 
 pub loop-i-init : goal.loop-i-init
 loop-i-init c =
     let args = c.args in
-    (omega arith, refl, twos-none args.s.now args.counts.now)
+    (omega arith, refl, twos_none args.s.now args.counts.now)
 
 pub two_at-requires : goal.two_at-requires
 two_at-requires c = omega (arith, c.requires.0, c.loop-i-test.true)

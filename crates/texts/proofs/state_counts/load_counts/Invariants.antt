@@ -1,11 +1,8 @@
-use mathlib.Core.Path.{◌≡◌, refl}
-use Prim.Native.Nat.{◌≤◌, ◌<◌, ◌-◌}
-use native.Mathlib.Omega.{arith}
-use lib.ListN.{length, take, length-set}
+use mathlib.Core.Path.{◌≡◌}
+use Prim.Native.Nat.{◌≤◌, ◌-◌}
+use lib.ListN.{length, take}
 use Rattle.rules.specs.Limits.{fields_most}
 use Rattle.texts.specs.StateNumbers.{twos_in}
-use Rattle.texts.proofs.CountBytes.{twos-none, twos_loaded, all_loaded}
-use borrow.Author.Rules.{rules}
 use Rattle.texts.proofs.state_counts.load_counts.Given as goal
 
 abbrev pub invariant-loop-i : goal.invariant-loop-i

@@ -1,15 +1,13 @@
-use mathlib.Core.Path.{◌≡◌, refl, sym, ◌∙◌}
-use Prim.Native.Nat.{◌+◌, ◌*◌, ◌≤◌, ◌<◌, ◌-◌}
+use mathlib.Core.Path.{refl, sym, ◌∙◌}
+use Prim.Native.Nat.{◌+◌, ◌*◌, ◌<◌}
 use native.Mathlib.Omega.{arith}
-use lib.ListN.{length, take, drop, get_or, length-set}
+use lib.ListN.{length, get_or, length-set}
 use Rattle.rules.specs.Limits.{fields_most}
-use Rattle.texts.specs.StateNumbers.{twos_in}
-use Rattle.texts.proofs.CountBytes.{twos-none, twos_saved, twos-beyond, all_saved}
-use borrow.Author.Rules.{rules}
+use Rattle.texts.proofs.CountBytes.{twos_none, twos_saved, twos_beyond, all_saved}
 use Rattle.texts.proofs.state_counts.save_counts.Goals as goal
 
 pub loop-i-init : goal.loop-i-init
-loop-i-init c = (omega arith, refl, sym (twos-none c.args.s.now c.args.counts.now), refl)
+loop-i-init c = (omega arith, refl, sym (twos_none c.args.s.now c.args.counts.now), refl)
 
 pub bounds-s-i : goal.bounds-s-i
 bounds-s-i c =
@@ -38,7 +36,7 @@ loop-i-preserved c =
       omega arith,
       simp length-set inv.1,
       twos_saved s counts i n within small (omega (arith, room.1)) refl inv.2,
-      twos-beyond s counts i n within (2 * fields_most) (omega arith) ∙ inv.3,
+      twos_beyond s counts i n within (2 * fields_most) (omega arith) ∙ inv.3,
     )
 
 pub shape_of-s : goal.shape_of-s
@@ -46,6 +44,6 @@ shape_of-s c = c.loop-i.invariant.1
 
 pub returns : goal.returns
 returns c = record {
-      twos = all_saved _ _ c.loop-i.i (omega arith) c.loop-i.invariant.2;
-      beyond = c.loop-i.invariant.3;
-    }
+  twos = all_saved _ _ c.loop-i.i (omega arith) c.loop-i.invariant.2;
+  beyond = c.loop-i.invariant.3;
+}

@@ -1,11 +1,8 @@
-use mathlib.Core.Path.{◌≡◌, refl, sym, ◌∙◌}
-use Prim.Native.Nat.{◌+◌, ◌*◌, ◌≤◌, ◌<◌, ◌-◌}
-use native.Mathlib.Omega.{arith}
-use lib.ListN.{length, take, drop, get_or, length-set}
+use mathlib.Core.Path.{◌≡◌}
+use Prim.Native.Nat.{◌*◌, ◌≤◌, ◌-◌}
+use lib.ListN.{length, take, drop}
 use Rattle.rules.specs.Limits.{fields_most}
 use Rattle.texts.specs.StateNumbers.{twos_in}
-use Rattle.texts.proofs.CountBytes.{twos-none, twos_saved, twos-beyond, all_saved}
-use borrow.Author.Rules.{rules}
 use Rattle.texts.proofs.state_counts.save_counts.Given as goal
 
 abbrev pub invariant-loop-i : goal.invariant-loop-i

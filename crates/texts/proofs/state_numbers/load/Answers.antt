@@ -1,7 +1,6 @@
 use mathlib.Core.Path.{refl}
 use native.Mathlib.Omega.{arith}
 use Rattle.texts.proofs.StateBytes.{least_of, note_of_lem, numbers_loaded}
-use borrow.Author.Rules.{rules}
 use Rattle.texts.proofs.state_numbers.load.Goals as goal
 
 pub bounds-s-6 : goal.bounds-s-6

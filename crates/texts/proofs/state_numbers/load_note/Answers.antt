@@ -1,6 +1,5 @@
 use native.Mathlib.Omega.{arith}
 use Rattle.texts.proofs.StateBytes.{one_loaded, more_loaded, two_loaded, four_loaded, other_loaded}
-use borrow.Author.Rules.{rules}
 use Rattle.texts.proofs.state_numbers.load_note.Goals as goal
 
 pub returns-then-number-eq1 : goal.returns-then-number-eq1

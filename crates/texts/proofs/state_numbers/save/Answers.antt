@@ -1,5 +1,4 @@
 use Rattle.texts.proofs.StateBytes.{put_saved}
-use borrow.Author.Rules.{rules}
 use Rattle.texts.proofs.state_numbers.save.Goals as goal
 
 pub returns : goal.returns

@@ -1,7 +1,6 @@
 use mathlib.Core.Path.{refl}
 use borrow.Author.Tests.{ne_eqb}
 use Rattle.texts.specs.StateNumbers.{stage_at}
-use borrow.Author.Rules.{rules}
 use Rattle.texts.proofs.state_numbers.stage_at.Goals as goal
 
 pub returns-in-0 : goal.returns-in-0

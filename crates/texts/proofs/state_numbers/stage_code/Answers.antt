@@ -1,5 +1,4 @@
 use Rattle.texts.specs.StateNumbers.{stage_code}
-use borrow.Author.Rules.{rules}
 use Rattle.texts.proofs.state_numbers.stage_code.Goals as goal
 
 pub returns-in-Opening : goal.returns-in-Opening

@@ -1,4 +1,3 @@
-use borrow.Author.Rules.{rules}
 use Rattle.texts.proofs.states.expect.Goals as goal
 
 pub returns-then-right : goal.returns-then-right

@@ -1,7 +1,6 @@
 use mathlib.Core.Path.{refl}
 use native.Mathlib.Omega.{arith}
-use Rattle.texts.proofs.StoredBytes.{set-two}
-use borrow.Author.Rules.{rules}
+use Rattle.texts.proofs.StoredBytes.{set_two}
 use Rattle.texts.proofs.stored_nodes.field_node.Goals as goal
 
 pub returns-then-out-ge2 : goal.returns-then-out-ge2
@@ -10,7 +9,7 @@ returns-then-out-ge2 c = record {
   gives = c.name_type-gives.ensures;
   deep = refl;
   len = refl;
-  bytes = λ h. set-two c.args.out.now _ _ (omega (arith, c.if-out-ge2.true));
+  bytes = λ h. set_two c.args.out.now _ _ (omega (arith, c.if-out-ge2.true));
 }
 
 pub returns-else-out-ge2 : goal.returns-else-out-ge2

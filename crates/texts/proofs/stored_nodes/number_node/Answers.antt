@@ -3,7 +3,7 @@ use native.Mathlib.Omega.{arith}
 use Prim.Native.Nat.{◌<◌}
 use lib.ListN.{length}
 use Rattle.rules.specs.Trees.{le4}
-use Rattle.texts.proofs.StoredBytes.{set-five}
+use Rattle.texts.proofs.StoredBytes.{set_five}
 use borrow.Author.Rules.{rules}
 use Rattle.texts.proofs.stored_nodes.number_node.Goals as goal
 
@@ -39,7 +39,7 @@ returns-then-out-ge5 c = record {
   gives = refl;
   deep = refl;
   len = refl;
-  bytes = λ h. set-five c.args.out.now _ _ _ _ _ (omega (arith, c.if-out-ge5.true));
+  bytes = λ h. set_five c.args.out.now _ _ _ _ _ (omega (arith, c.if-out-ge5.true));
 }
 
 pub returns-else-out-ge5 : goal.returns-else-out-ge5

@@ -1,12 +1,7 @@
-use mathlib.Core.Path.{◌≡◌, refl, ap, ◌∙◌}
+use mathlib.Core.Path.{◌≡◌}
 use mathlib.Core.List.{◌∷◌}
 use Prim.Native.Nat.{ℕ, ◌+◌, ◌-◌, ◌≤◌, ◌<◌}
-use native.Mathlib.Omega.{arith}
-use native.Mathlib.Numerals.{add-one}
-use lib.ListN.{length, take, get_or, length-set}
-use lib.Seq.{get_or-set_other}
-use Rattle.texts.proofs.StoredBytes.{shift_more}
-use borrow.Author.Rules.{rules}
+use lib.ListN.{length, take, get_or}
 use Rattle.texts.proofs.stored_nodes.put_first.Given as goal
 
 abbrev pub invariant-loop-i : goal.invariant-loop-i

@@ -2,8 +2,7 @@ use mathlib.Core.Path.{◌≡◌, refl, ap, ◌∙◌}
 use Prim.Native.Nat.{ℕ, ◌+◌, ◌<◌}
 use native.Mathlib.Omega.{arith}
 use lib.ListN.{length}
-use Rattle.texts.proofs.OperatorRows.{row-code}
-use borrow.Author.Rules.{rules}
+use Rattle.texts.proofs.OperatorRows.{row_code}
 use Rattle.texts.proofs.stored_nodes.two_node.Goals as goal
 
 pub returns : goal.returns
@@ -16,5 +15,5 @@ returns c = record {
       let n = c.args.a.len + c.args.b.len in
       let lt : n < length c.args.out.now = omega (arith, h, c.put_first.auto.out) in
       let e : 1 + n ≡ n + 1 = omega arith in
-      rw e (c.put_first.ensures lt ∙ rw (row-code c.operator-row.result c.args.o c.operator-row.ensures) refl);
+      rw e (c.put_first.ensures lt ∙ rw (row_code c.operator-row.result c.args.o c.operator-row.ensures) refl);
 }

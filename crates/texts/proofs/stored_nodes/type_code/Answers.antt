@@ -1,6 +1,5 @@
 use mathlib.Core.Path.{refl}
 use Rattle.texts.specs.StoredTrees.{type_code}
-use borrow.Author.Rules.{rules}
 use Rattle.texts.proofs.stored_nodes.type_code.Goals as goal
 
 pub returns-in-Number : goal.returns-in-Number

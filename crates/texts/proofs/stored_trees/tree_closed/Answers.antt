@@ -1,14 +1,13 @@
 use mathlib.Core.Path.{refl}
 use native.Mathlib.Omega.{arith}
-use Rattle.texts.proofs.StoredSteps.{close-end, close-no, close-not, close-same}
-use borrow.Author.Rules.{rules}
+use Rattle.texts.proofs.StoredSteps.{close_end, close_no, close_not, close_same}
 use Rattle.texts.proofs.stored_trees.tree_closed.Goals as goal
 
 pub returns-then-at-s : goal.returns-then-at-s
 returns-then-at-s c =
     let a = c.args in
     let both =
-      close-end a.s.now a.p c.no_tree.result a.neg a.out.now _ c.if-at-s.true c.no_tree.ensures in record {
+    close_end a.s.now a.p c.no_tree.result a.neg a.out.now _ c.if-at-s.true c.no_tree.ensures in record {
       place = both.0;
       same = both.1;
     }
@@ -26,7 +25,7 @@ pub returns-then-neg : goal.returns-then-neg
 returns-then-neg c =
     let a = c.args in
     let both =
-      close-not a.s.now a.p c.not_node.result a.neg a.out.now _ (omega (
+    close_not a.s.now a.p c.not_node.result a.neg a.out.now _ (omega (
       arith,
       c.requires.0,
       c.if-at-s.false,
@@ -40,7 +39,7 @@ pub returns-then-s-at-eq41 : goal.returns-then-s-at-eq41
 returns-then-s-at-eq41 c =
     let a = c.args in
     let both =
-      close-same a.s.now a.p _ a.neg a.out.now _ (omega (
+    close_same a.s.now a.p _ a.neg a.out.now _ (omega (
       arith,
       c.requires.0,
       c.if-at-s.false,
@@ -54,7 +53,7 @@ pub returns : goal.returns
 returns c =
     let a = c.args in
     let both =
-      close-no a.s.now a.p c.no_tree-2.result a.neg a.out.now _ (omega (
+    close_no a.s.now a.p c.no_tree-2.result a.neg a.out.now _ (omega (
       arith,
       c.requires.0,
       c.if-at-s.false,

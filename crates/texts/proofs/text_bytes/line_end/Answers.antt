@@ -1,8 +1,6 @@
-use mathlib.Core.Path.{◌≡◌, refl}
+use mathlib.Core.Path.{refl}
 use native.Mathlib.Omega.{arith}
-use Prim.Native.Nat.{◌≤◌, ◌-◌, ◌+◌}
-use lib.ListN.{length, drop, get_or}
-use Rattle.texts.specs.LineEnds.{printable_length}
+use lib.ListN.{get_or}
 use Rattle.texts.proofs.FieldWords.{printable_low}
 use Rattle.texts.proofs.LineEnds.{
   printable_high,
@@ -11,7 +9,6 @@ use Rattle.texts.proofs.LineEnds.{
   printable_stop,
   printable_step,
 }
-use borrow.Author.Rules.{rules}
 use Rattle.texts.proofs.text_bytes.line_end.Goals as goal
 
 pub loop-i-init : goal.loop-i-init

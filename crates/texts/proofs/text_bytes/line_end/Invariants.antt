@@ -1,17 +1,7 @@
-use mathlib.Core.Path.{◌≡◌, refl}
-use native.Mathlib.Omega.{arith}
+use mathlib.Core.Path.{◌≡◌}
 use Prim.Native.Nat.{◌≤◌, ◌-◌, ◌+◌}
-use lib.ListN.{length, drop, get_or}
+use lib.ListN.{length, drop}
 use Rattle.texts.specs.LineEnds.{printable_length}
-use Rattle.texts.proofs.FieldWords.{printable_low}
-use Rattle.texts.proofs.LineEnds.{
-  printable_high,
-  printable_between,
-  printable_end,
-  printable_stop,
-  printable_step,
-}
-use borrow.Author.Rules.{rules}
 use Rattle.texts.proofs.text_bytes.line_end.Given as goal
 
 abbrev pub invariant-loop-i : goal.invariant-loop-i

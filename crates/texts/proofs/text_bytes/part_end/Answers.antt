@@ -1,10 +1,6 @@
-use mathlib.Core.Path.{◌≡◌, refl}
+use mathlib.Core.Path.{refl}
 use native.Mathlib.Omega.{arith}
-use Prim.Native.Nat.{◌≤◌, ◌-◌, ◌+◌}
-use lib.ListN.{length, drop}
-use Rattle.texts.proofs.FrameLeaves.{up_to-end, up_to-stop, up_to-step}
-use Rattle.texts.specs.FramePlaces.{up_to}
-use borrow.Author.Rules.{rules}
+use Rattle.texts.proofs.FrameLeaves.{up_to_end, up_to_stop, up_to_step}
 use Rattle.texts.proofs.text_bytes.part_end.Goals as goal
 
 pub loop-i-init : goal.loop-i-init
@@ -14,7 +10,7 @@ pub returns-then-s-i : goal.returns-then-s-i
 returns-then-s-i c =
     let s = c.args.s.now in
     let i = c.loop-i.i in
-    let q = up_to-stop c.args.e s i (omega arith) c.if-s-i.true in
+    let q = up_to_stop c.args.e s i (omega arith) c.if-s-i.true in
     let v = c.loop-i.invariant.2 in record {
       place = (omega arith, omega arith);
       first = omega (arith, q, v);
@@ -24,7 +20,7 @@ pub loop-i-preserved : goal.loop-i-preserved
 loop-i-preserved c =
     let s = c.args.s.now in
     let i = c.loop-i.i in
-    let q = up_to-step c.args.e s i (omega arith) c.if-s-i.false in
+    let q = up_to_step c.args.e s i (omega arith) c.if-s-i.false in
     let v = c.loop-i.invariant.2 in
     (omega arith, omega arith, omega (arith, q, v))
 
@@ -32,7 +28,7 @@ pub returns : goal.returns
 returns c =
     let s = c.args.s.now in
     let i = c.loop-i.i in
-    let q = up_to-end c.args.e s i (omega arith) (omega arith) in
+    let q = up_to_end c.args.e s i (omega arith) (omega arith) in
     let v = c.loop-i.invariant.2 in record {
       place = (omega arith, omega arith);
       first = omega (arith, q, v);

@@ -1,10 +1,7 @@
-use mathlib.Core.Path.{◌≡◌, refl}
-use native.Mathlib.Omega.{arith}
+use mathlib.Core.Path.{◌≡◌}
 use Prim.Native.Nat.{◌≤◌, ◌-◌, ◌+◌}
 use lib.ListN.{length, drop}
-use Rattle.texts.proofs.FrameLeaves.{up_to-end, up_to-stop, up_to-step}
 use Rattle.texts.specs.FramePlaces.{up_to}
-use borrow.Author.Rules.{rules}
 use Rattle.texts.proofs.text_bytes.part_end.Given as goal
 
 abbrev pub invariant-loop-i : goal.invariant-loop-i

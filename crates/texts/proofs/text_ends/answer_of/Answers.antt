@@ -1,13 +1,13 @@
 use mathlib.Core.Path.{refl}
 use Rattle.rules.specs.Answers.{of_text}
-use Rattle.texts.proofs.EndSteps.{told-two, told-four, told-one, none_other}
+use Rattle.texts.proofs.EndSteps.{told_two, told_four, told_one, none_other}
 use Rattle.texts.proofs.text_ends.answer_of.Goals as goal
 
 pub returns-in-2 : goal.returns-in-2
 unfolding of_text
 returns-in-2 c = let a = c.args.a in rw (
   c.in-2.is,
-  told-two a c.requires.0 c.requires.1
+  told_two a c.requires.0 c.requires.1
       c.in-2.is,
 ) refl
 
@@ -19,7 +19,7 @@ pub returns-in-4 : goal.returns-in-4
 unfolding of_text
 returns-in-4 c = let a = c.args.a in rw (
   c.in-4.is,
-  told-four a c.requires.0 c.requires.1
+  told_four a c.requires.0 c.requires.1
       c.in-4.is,
 ) refl
 
@@ -50,7 +50,7 @@ returns-in-10 c = rw c.in-10.is refl
 pub returns-in_default : goal.returns-in_default
 unfolding of_text
 returns-in_default c =
-    let n = told-one c.args.a c.requires.0 c.requires.1 in
+    let n = told_one c.args.a c.requires.0 c.requires.1 in
     let r₀ = c.in_default.in_default-own.rest in
     let r₁ = r₀.0 in
     let r₂ = r₁.0 in

@@ -1,6 +1,5 @@
 use mathlib.Core.Path.{refl}
-use Rattle.texts.proofs.CutLines.{cut-taken, cut_step}
-use borrow.Author.Rules.{rules}
+use Rattle.texts.proofs.CutLines.{cut_taken, cut_step}
 use Rattle.texts.proofs.text_ends.cut_line.Goals as goal
 
 pub last_note-n-requires : goal.last_note-n-requires
@@ -11,7 +10,7 @@ returns c =
     let a = c.last_note-n in
     let r = c.args.r in
     let row = c.args.row.now in record {
-      room = rw c.staged.ensures (cut-taken r row a.result a.ensures.lowest c.requires.0 a.ensures.place);
+      room = rw c.staged.ensures (cut_taken r row a.result a.ensures.lowest c.requires.0 a.ensures.place);
       step = rw c.staged.ensures (cut_step r row a.result a.ensures.lowest);
       lines = rw c.staged.ensures (refl);
     }

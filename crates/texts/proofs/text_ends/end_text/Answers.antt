@@ -5,9 +5,8 @@ use lib.ListN.{drop}
 use borrow.Author.Tests.{ne_eqb}
 use Rattle.rules.specs.Answers.{refused, of_text}
 use Rattle.texts.specs.States.{is_told}
-use Rattle.texts.proofs.EndSteps.{last_told, last_is_lem, note-refused, note-none}
-use Rattle.texts.proofs.EndSteps.{end_refused, end_short, end-table}
-use borrow.Author.Rules.{rules}
+use Rattle.texts.proofs.EndSteps.{last_told, last_is_lem, note_refused, note_none}
+use Rattle.texts.proofs.EndSteps.{end_refused, end_short, end_table}
 use Rattle.texts.proofs.text_ends.end_text.Goals as goal
 
 pub last_note-last-requires : goal.last_note-last-requires
@@ -29,7 +28,7 @@ returns-then-last-ne0 c =
     let l = n.result in record {
       step = λ k cells labels names e steady kept h.
           let low = sym (last_is_lem k.found r h.counts steady row kept k.line c.args.whole e)
-          ∙ sym n.ensures.lowest ∙ note-refused l c.if-last-ne0.true in
+          ∙ sym n.ensures.lowest ∙ note_refused l c.if-last-ne0.true in
           rw c.answer_of.ensures (end_refused k c.args.out.now (refused l.number l.place) low);
       refusal = λ told. refl;
       place = rw c.answer_of.ensures n.ensures.place;
@@ -49,7 +48,7 @@ returns-then-out-size c =
     let n = c.last_note-last in record {
       step = λ k cells labels names e steady kept h.
           let low = sym (last_is_lem k.found r h.counts steady row kept k.line c.args.whole e)
-          ∙ sym n.ensures.lowest ∙ note-none n.result c.if-last-ne0.false in
+          ∙ sym n.ensures.lowest ∙ note_none n.result c.if-last-ne0.false in
           end_short k r h low c.requires.0 _ c.if-out-size.true;
       refusal = λ told. refl;
       place = omega arith;
@@ -58,12 +57,11 @@ returns-then-out-size c =
     }
 
 pub put_table-requires : goal.put_table-requires
-put_table-requires c =
-    (
-      c.requires.0,
-      c.requires.2,
-      omega (arith, c.if-out-size.false),
-    )
+put_table-requires c = (
+  c.requires.0,
+  c.requires.2,
+  omega (arith, c.if-out-size.false),
+)
 
 pub returns : goal.returns
 unfolding of_text
@@ -76,8 +74,8 @@ returns c =
     put.end put.bytes.beyond in record {
       step = λ k cells labels names e steady kept h.
           let low = sym (last_is_lem k.found r h.counts steady row kept k.line c.args.whole e)
-          ∙ sym n.ensures.lowest ∙ note-none n.result c.if-last-ne0.false in
-          end-table k r h low c.requires.0 _ _ _ (omega (arith, c.if-out-size.false))
+          ∙ sym n.ensures.lowest ∙ note_none n.result c.if-last-ne0.false in
+          end_table k r h low c.requires.0 _ _ _ (omega (arith, c.if-out-size.false))
           put.bytes;
       refusal = λ told. absurd (told refl);
       place = omega arith;

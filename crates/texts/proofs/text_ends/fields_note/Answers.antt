@@ -5,7 +5,6 @@ use Rattle.text_laws.specs.Lowest.{lower}
 use Rattle.texts.specs.Noted.{note_of}
 use Rattle.texts.specs.declared.notes.Note.{Note}
 use Rattle.texts.proofs.EndSteps.{remain_placed}
-use borrow.Author.Rules.{rules}
 use Rattle.texts.proofs.text_ends.fields_note.Goals as goal
 
 pub returns-then-whole : goal.returns-then-whole
@@ -20,6 +19,6 @@ returns-then-whole c =
 
 pub returns : goal.returns
 returns c = record {
-      lowest = rw c.if-whole.false (ap note_of c.early.ensures);
-      place = rw c.early.ensures (omega arith);
-    }
+  lowest = rw c.if-whole.false (ap note_of c.early.ensures);
+  place = rw c.early.ensures (omega arith);
+}

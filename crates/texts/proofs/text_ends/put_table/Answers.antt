@@ -46,7 +46,7 @@ returns c =
     let big : r.end ≤ length t = omega (arith, k.end, k.fields, k.count, c.requires.1) in
     let put = c.put_records-body.ensures in
     let both =
-      put_all r t a.counts.now k big c.requires.2 c.put_head-head.ensures put.end put.bytes c.put_two-size.ensures
+    put_all r t a.counts.now k big c.requires.2 c.put_head-head.ensures put.end put.bytes c.put_two-size.ensures
     c.put_two.ensures in record {
       bytes = both.0;
       end = both.1;

@@ -1,6 +1,5 @@
 use mathlib.Core.Path.{refl}
 use borrow.Author.Tests.{lt-ltb, le-ltb}
-use borrow.Author.Rules.{rules}
 use Rattle.texts.proofs.text_ends.remaining.Goals as goal
 
 pub returns-then-r : goal.returns-then-r

@@ -2,7 +2,6 @@ use mathlib.Core.Path.{refl, sym, ◌∙◌}
 use mathlib.Core.Bool.{true, false}
 use Rattle.texts.specs.FieldPlaces.{unless0}
 use Rattle.texts.proofs.FieldWords.{unit_case}
-use borrow.Author.Rules.{rules}
 use Rattle.texts.proofs.units.unit_of.Goals as goal
 
 pub returns-then-same_words : goal.returns-then-same_words

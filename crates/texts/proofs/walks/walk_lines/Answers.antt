@@ -1,14 +1,10 @@
 use mathlib.Core.Path.{◌≡◌, refl}
-use mathlib.Core.List.{[]}
-use Prim.Native.Nat.{◌+◌, ◌-◌, ◌≤◌, ◌<◌}
+use Prim.Native.Nat.{◌-◌, ◌<◌}
 use native.Mathlib.Omega.{arith}
 use lib.ListN.{length, drop, length-drop}
 use lib.Seq.{length-take-le}
-use Rattle.rules.specs.Limits.{text_most}
-use Rattle.text_laws.specs.Fold as fold
-use Rattle.texts.specs.WalkSteps.{KeptAs, LinesLeft, Walking}
 use Rattle.texts.proofs.LineEnds.{printable_line}
-use Rattle.texts.proofs.LineWalk.{walking_start, walking-next, rest_plain, bad_to, bad_left}
+use Rattle.texts.proofs.LineWalk.{walking_start, walking_next, rest_plain, bad_to, bad_left}
 use borrow.Author.Rules.{rules}
 use Rattle.texts.proofs.walks.walk_lines.Goals as goal
 
@@ -31,9 +27,9 @@ returns-then-e-text c =
       place = v.invariant.0;
       room = v.invariant.1;
       step = λ k z le h. record {
-          walking = v.invariant.5 k z le h;
-          plain = rest_plain t v.at e.result e.ensures.first (omega (arith, c.if-e-text.true));
-        };
+        walking = v.invariant.5 k z le h;
+        plain = rest_plain t v.at e.result e.ensures.first (omega (arith, c.if-e-text.true));
+      };
     }
 
 pub returns-then-text-e-ne10 : goal.returns-then-text-e-ne10
@@ -48,8 +44,8 @@ returns-then-text-e-ne10 c =
       place = search rules;
       room = rw (c.bad_byte.ensures, z) (fits);
       step = rw c.bad_byte.ensures (λ k b le h. bad_to k t c.args.from v.at e.result v.r
-            (v.invariant.5 k b le h) e.ensures.first lt
-            c.if-text-e-ne10.true);
+          (v.invariant.5 k b le h) e.ensures.first lt
+          c.if-text-e-ne10.true);
     }
 
 pub take_line-r-requires : goal.take_line-r-requires
@@ -90,7 +86,7 @@ loop-r-preserved c =
       omega (arith, q.step.0, v.invariant.2),
       omega (arith, q.step.1, v.invariant.3),
       (let k = c.take_line-r.auto.counts in omega (arith, k, v.invariant.4)),
-      λ k b le h. walking-next k t c.args.from v.at e.result v.r (v.invariant.5 k b le h)
+      λ k b le h. walking_next k t c.args.from v.at e.result v.r (v.invariant.5 k b le h)
           e.ensures.first lt
           c.if-text-e-ne10.false c.take_line-r.result q.step,
     )

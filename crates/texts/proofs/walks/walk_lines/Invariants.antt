@@ -1,15 +1,10 @@
-use mathlib.Core.Path.{◌≡◌, refl}
+use mathlib.Core.Path.{◌≡◌}
 use mathlib.Core.List.{[]}
-use Prim.Native.Nat.{◌+◌, ◌-◌, ◌≤◌, ◌<◌}
-use native.Mathlib.Omega.{arith}
-use lib.ListN.{length, drop, length-drop}
-use lib.Seq.{length-take-le}
+use Prim.Native.Nat.{◌+◌, ◌-◌, ◌≤◌}
+use lib.ListN.{length}
 use Rattle.rules.specs.Limits.{text_most}
 use Rattle.text_laws.specs.Fold as fold
 use Rattle.texts.specs.WalkSteps.{KeptAs, LinesLeft, Walking}
-use Rattle.texts.proofs.LineEnds.{printable_line}
-use Rattle.texts.proofs.LineWalk.{walking_start, walking-next, rest_plain, bad_to, bad_left}
-use borrow.Author.Rules.{rules}
 use Rattle.texts.proofs.walks.walk_lines.Given as goal
 
 abbrev pub invariant-loop-r : goal.invariant-loop-r

@@ -1,5 +1,4 @@
-use Rattle.texts.proofs.WidthTrees.{fixed_zero, fixed-large, fixed_here}
-use borrow.Author.Rules.{rules}
+use Rattle.texts.proofs.WidthTrees.{fixed_zero, fixed_large, fixed_here}
 use Rattle.texts.proofs.width_trees.fixed_width.Goals as goal
 
 pub returns-then-bits-eq0 : goal.returns-then-bits-eq0
@@ -8,7 +7,7 @@ returns-then-bits-eq0 c =
 
 pub returns-then-bits-gt-FIXED_MOST : goal.returns-then-bits-gt-FIXED_MOST
 returns-then-bits-gt-FIXED_MOST c =
-    fixed-large c.args.bits c.args.next _ c.if-bits-gt-FIXED_MOST.true c.plain-then-bits-gt-FIXED_MOST.ensures
+    fixed_large c.args.bits c.args.next _ c.if-bits-gt-FIXED_MOST.true c.plain-then-bits-gt-FIXED_MOST.ensures
 
 pub returns : goal.returns
 returns c =

@@ -1,13 +1,12 @@
 use mathlib.Core.Path.{sym, ◌∙◌}
-use Rattle.texts.proofs.WidthTrees.{width-rest, width_measure}
-use borrow.Author.Rules.{rules}
+use Rattle.texts.proofs.WidthTrees.{width_rest, width_measure}
 use Rattle.texts.proofs.width_trees.width_at.Goals as goal
 
 pub returns-then-starts_at : goal.returns-then-starts_at
 returns-then-starts_at c =
     let a = c.args in
     let both =
-      width-rest _ a.n a.s.now a.at c.requires.0
+    width_rest _ a.n a.s.now a.at c.requires.0
     _ _ (sym c.starts_at.ensures ∙ c.if-starts_at.true) c.plain.ensures in record {
       place = both.0;
       same = both.1;

@@ -1,5 +1,4 @@
 use Rattle.texts.proofs.NumberTrees.{number_at}
-use borrow.Author.Rules.{rules}
 use Rattle.texts.proofs.widths.number_in.Goals as goal
 
 pub returns : goal.returns

@@ -1,10 +1,6 @@
-use mathlib.Core.Path.{◌≡◌, refl, sym, ◌∙◌}
+use mathlib.Core.Path.{refl, sym, ◌∙◌}
 use native.Mathlib.Omega.{arith}
-use Prim.Native.Nat.{◌≤◌, ◌-◌}
-use lib.ListN.{length, drop}
-use Rattle.texts.specs.PartPlaces.{past_open}
 use Rattle.texts.proofs.NumberTrees.{open_end, open_stop, open_step}
-use borrow.Author.Rules.{rules}
 use Rattle.texts.proofs.widths.past_open.Goals as goal
 
 pub loop-i-init : goal.loop-i-init

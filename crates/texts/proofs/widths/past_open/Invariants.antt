@@ -1,10 +1,7 @@
-use mathlib.Core.Path.{◌≡◌, refl, sym, ◌∙◌}
-use native.Mathlib.Omega.{arith}
+use mathlib.Core.Path.{◌≡◌}
 use Prim.Native.Nat.{◌≤◌, ◌-◌}
 use lib.ListN.{length, drop}
 use Rattle.texts.specs.PartPlaces.{past_open}
-use Rattle.texts.proofs.NumberTrees.{open_end, open_stop, open_step}
-use borrow.Author.Rules.{rules}
 use Rattle.texts.proofs.widths.past_open.Given as goal
 
 abbrev pub invariant-loop-i : goal.invariant-loop-i

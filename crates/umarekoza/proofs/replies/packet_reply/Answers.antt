@@ -1,5 +1,5 @@
 use native.Mathlib.Omega.{arith}
-use Rattle.umarekoza.proofs.PacketPlaces.{number-low}
+use Rattle.umarekoza.proofs.PacketPlaces.{number_low}
 use borrow.Author.Rules.{rules}
 use Rattle.umarekoza.proofs.replies.packet_reply.Goals as goal
 
@@ -7,7 +7,7 @@ pub overflow_cast-result : goal.overflow_cast-result
 overflow_cast-result c =
     let number_of_lem = c.number_of-number in
     let a = c.args in
-    record { fits = omega (arith, number_of_lem.ensures, number-low a.answer) }
+    record { fits = omega (arith, number_of_lem.ensures, number_low a.answer) }
 
 pub overflow_cast-result-2 : goal.overflow_cast-result-2
 overflow_cast-result-2 c = record { fits = omega (arith, c.place_of-place.ensures, c.requires) }

@@ -1,11 +1,9 @@
 use mathlib.Core.Path.{◌≡◌, refl, ◌∙◌}
-use mathlib.Core.List.{◌++◌, append-nil}
-use Prim.Native.Nat.{◌+◌, ◌-◌, ◌≤◌}
+use mathlib.Core.List.{append-nil}
 use native.Mathlib.Omega.{arith}
-use lib.ListN.{length, drop, length-set}
+use lib.ListN.{length-set}
 use Rattle.base.specs.Bytes.{digits, decimal}
-use Rattle.writing.proofs.DigitLaws.{digits-first, digits-next}
-use borrow.Author.Rules.{rules}
+use Rattle.writing.proofs.DigitLaws.{digits_first, digits_next}
 use Rattle.writing.proofs.decimals.digits_of.Goals as goal
 
 pub loop-start-init : goal.loop-start-init
@@ -14,7 +12,7 @@ loop-start-init c = (omega arith, refl, append-nil (decimal c.args.number))
 pub returns-then-left-lt10 : goal.returns-then-left-lt10
 returns-then-left-lt10 c =
     let l = c.loop-start in (
-      digits-first l.start l.left l.text (omega arith) (omega arith) (omega arith) ∙ l.invariant.2,
+      digits_first l.start l.left l.text (omega arith) (omega arith) (omega arith) ∙ l.invariant.2,
       omega arith,
       rw length-set l.invariant.1,
     )
@@ -24,7 +22,7 @@ loop-start-preserved c =
     let l = c.loop-start in (
       omega arith,
       rw length-set l.invariant.1,
-      digits-next l.start l.left l.text (omega arith) (omega arith) (omega arith) ∙ l.invariant.2,
+      digits_next l.start l.left l.text (omega arith) (omega arith) (omega arith) ∙ l.invariant.2,
     )
 
 pub returns : goal.returns

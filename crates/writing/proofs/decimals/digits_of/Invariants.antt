@@ -1,11 +1,8 @@
-use mathlib.Core.Path.{◌≡◌, refl, ◌∙◌}
-use mathlib.Core.List.{◌++◌, append-nil}
-use Prim.Native.Nat.{◌+◌, ◌-◌, ◌≤◌}
-use native.Mathlib.Omega.{arith}
-use lib.ListN.{length, drop, length-set}
+use mathlib.Core.Path.{◌≡◌}
+use mathlib.Core.List.{◌++◌}
+use Prim.Native.Nat.{◌≤◌}
+use lib.ListN.{length, drop}
 use Rattle.base.specs.Bytes.{digits, decimal}
-use Rattle.writing.proofs.DigitLaws.{digits-first, digits-next}
-use borrow.Author.Rules.{rules}
 use Rattle.writing.proofs.decimals.digits_of.Given as goal
 
 abbrev pub invariant-loop-start : goal.invariant-loop-start

@@ -1,6 +1,4 @@
-use native.Mathlib.Omega.{arith}
 use Rattle.writing.proofs.DigitLaws.{digits_part}
-use borrow.Author.Rules.{rules}
 use Rattle.writing.proofs.decimals.put_decimal.Goals as goal
 
 pub returns : goal.returns

@@ -1,19 +1,17 @@
 use mathlib.Core.Path.{◌≡◌, refl}
-use Prim.Native.Nat.{◌-◌, ◌≤◌}
 use native.Mathlib.Numerals.{add-one}
 use native.Mathlib.Omega.{arith}
 use lib.ListN.{length, length-set}
-use lib.Seq.{paste, paste-zero, paste-suc, take-length}
-use Rattle.writing.proofs.PutLaws.{put-none, put_some}
-use borrow.Author.Rules.{rules}
+use lib.Seq.{paste-zero, paste-suc, take-length}
+use Rattle.writing.proofs.PutLaws.{put_none, put_some}
 use Rattle.writing.proofs.puts.put.Goals as goal
 
 pub returns-then-out-at : goal.returns-then-out-at
-returns-then-out-at c = put-none c.args.out.now c.args.at c.args.word.now (omega arith)
+returns-then-out-at c = put_none c.args.out.now c.args.at c.args.word.now (omega arith)
 
 pub returns-then-out-at-2 : goal.returns-then-out-at-2
 returns-then-out-at-2 c =
-    put-none c.args.out.now c.args.at c.args.word.now
+    put_none c.args.out.now c.args.at c.args.word.now
     (omega arith)
 
 pub loop-i-init : goal.loop-i-init

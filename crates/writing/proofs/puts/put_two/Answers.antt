@@ -1,5 +1,4 @@
 use Rattle.rules.specs.Trees.{le2}
-use borrow.Author.Rules.{rules}
 use Rattle.writing.proofs.puts.put_two.Goals as goal
 
 pub returns : goal.returns

@@ -1,13 +1,9 @@
-use Rattle.packets.proofs.TreeSteps.{check-none, check_past, check-step}
-use Rattle.packets.specs.StoredTrees.{check_at, check_code}
-use Rattle.operators.specs.declared.codes.Code.{Code}
-use mathlib.Core.Path.{◌≡◌, sym}
-use borrow.Author.Rules.{rules}
-use Prim.Native.Nat.{ℕ, ◌<◌, ◌-◌}
+use Rattle.packets.proofs.TreeSteps.{check_none, check_past, check_step}
+use mathlib.Core.Path.{sym}
 use Rattle.packets.proofs.trees.Cursor.+check.Goals as goal
 
 pub returns-then-depth-eq0 : goal.returns-then-depth-eq0
-returns-then-depth-eq0 t c = sym (check-none _ _ _ _ c.if-depth-eq0.true)
+returns-then-depth-eq0 t c = sym (check_none _ _ _ _ c.if-depth-eq0.true)
 
 pub returns-then-s-at : goal.returns-then-s-at
 returns-then-s-at t c = sym (check_past _ _ _ _ c.if-s-at.true)
@@ -15,7 +11,7 @@ returns-then-s-at t c = sym (check_past _ _ _ _ c.if-s-at.true)
 pub returns-in_default : goal.returns-in_default
 returns-in_default t c =
     rw (
-      (check-step _ _ _ _ c.if-depth-eq0.false c.if-s-at.false c.code_of-c.ensures c.in-Not.is),
+      (check_step _ _ _ _ c.if-depth-eq0.false c.if-s-at.false c.code_of-c.ensures c.in-Not.is),
       ← c.check.ensures,
       c.in_default.is,
     )
@@ -23,7 +19,7 @@ returns-in_default t c =
 pub returns-in_default-check : goal.returns-in_default-check
 returns-in_default-check t c =
     rw (
-      (check-step _ _ _ _ c.if-depth-eq0.false c.if-s-at.false c.code_of-c.ensures c.in-Two.is),
+      (check_step _ _ _ _ c.if-depth-eq0.false c.if-s-at.false c.code_of-c.ensures c.in-Two.is),
       ← c.check-in-Two.ensures,
       c.in_default-check.is,
     )
@@ -31,7 +27,7 @@ returns-in_default-check t c =
 pub returns-in_default-check-2 : goal.returns-in_default-check-2
 returns-in_default-check-2 t c =
     rw (
-      (check-step _ _ _ _ c.if-depth-eq0.false c.if-s-at.false c.code_of-c.ensures c.in-Two.is),
+      (check_step _ _ _ _ c.if-depth-eq0.false c.if-s-at.false c.code_of-c.ensures c.in-Two.is),
       ← c.check-in-Two.ensures,
       c.in-Tree-check.is,
       ← c.check-in-Two-2.ensures,
@@ -40,16 +36,16 @@ returns-in_default-check-2 t c =
 
 pub returns-in-Number : goal.returns-in-Number
 returns-in-Number t c =
-    rw ((check-step _ _ _ _ c.if-depth-eq0.false c.if-s-at.false c.code_of-c.ensures c.in-Number.is)) c.check_number.ensures
+    rw ((check_step _ _ _ _ c.if-depth-eq0.false c.if-s-at.false c.code_of-c.ensures c.in-Number.is)) c.check_number.ensures
 
 pub returns-in-Field : goal.returns-in-Field
 returns-in-Field t c =
-    rw ((check-step _ _ _ _ c.if-depth-eq0.false c.if-s-at.false c.code_of-c.ensures c.in-Field.is)) c.check_field.ensures
+    rw ((check_step _ _ _ _ c.if-depth-eq0.false c.if-s-at.false c.code_of-c.ensures c.in-Field.is)) c.check_field.ensures
 
 pub returns-in-Tree : goal.returns-in-Tree
 returns-in-Tree t c =
     rw (
-      (check-step _ _ _ _ c.if-depth-eq0.false c.if-s-at.false c.code_of-c.ensures c.in-Not.is),
+      (check_step _ _ _ _ c.if-depth-eq0.false c.if-s-at.false c.code_of-c.ensures c.in-Not.is),
       ← c.check.ensures,
       c.in-Tree.is,
     )
@@ -58,7 +54,7 @@ returns-in-Tree t c =
 pub returns-in-Tree-check-2 : goal.returns-in-Tree-check-2
 returns-in-Tree-check-2 t c =
     rw (
-      (check-step _ _ _ _ c.if-depth-eq0.false c.if-s-at.false c.code_of-c.ensures c.in-Two.is),
+      (check_step _ _ _ _ c.if-depth-eq0.false c.if-s-at.false c.code_of-c.ensures c.in-Two.is),
       ← c.check-in-Two.ensures,
       c.in-Tree-check.is,
       ← c.check-in-Two-2.ensures,
@@ -68,4 +64,4 @@ returns-in-Tree-check-2 t c =
 
 pub returns-in-Other : goal.returns-in-Other
 returns-in-Other t c =
-    rw ((check-step _ _ _ _ c.if-depth-eq0.false c.if-s-at.false c.code_of-c.ensures c.in-Other.is))
+    rw ((check_step _ _ _ _ c.if-depth-eq0.false c.if-s-at.false c.code_of-c.ensures c.in-Other.is))

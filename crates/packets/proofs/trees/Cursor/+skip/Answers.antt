@@ -1,13 +1,9 @@
-use Rattle.packets.proofs.TreeSteps.{skip-none, skip_past, skip_step}
-use Rattle.packets.specs.StoredTrees.{skip_at, skip_code}
-use Rattle.operators.specs.declared.codes.Code.{Code}
-use mathlib.Core.Path.{◌≡◌, ap}
-use borrow.Author.Rules.{rules}
-use Prim.Native.Nat.{ℕ, ◌<◌, ◌-◌}
+use Rattle.packets.proofs.TreeSteps.{skip_none, skip_past, skip_step}
+use mathlib.Core.Path.{ap}
 use Rattle.packets.proofs.trees.Cursor.+skip.Goals as goal
 
 pub returns-then-depth-eq0 : goal.returns-then-depth-eq0
-returns-then-depth-eq0 t c = rw (skip-none _ _ _ c.if-depth-eq0.true)
+returns-then-depth-eq0 t c = rw (skip_none _ _ _ c.if-depth-eq0.true)
 
 pub returns-then-s-at : goal.returns-then-s-at
 returns-then-s-at t c = rw (skip_past _ _ _ c.if-s-at.true)

@@ -1,9 +1,5 @@
-use Rattle.packets.proofs.TreeSteps.{value_none, value_past, value-step}
-use Rattle.packets.specs.StoredTrees.{skip_at, value_at, value_code}
-use Rattle.operators.specs.declared.codes.Code.{Code}
-use mathlib.Core.Path.{◌≡◌, sym}
-use borrow.Author.Rules.{rules}
-use Prim.Native.Nat.{ℕ, ◌<◌, ◌-◌}
+use Rattle.packets.proofs.TreeSteps.{value_none, value_past, value_step}
+use mathlib.Core.Path.{sym}
 use Rattle.packets.proofs.trees.Cursor.+value.Goals as goal
 
 pub returns-then-depth-eq0 : goal.returns-then-depth-eq0
@@ -15,7 +11,7 @@ returns-then-s-at t c = sym (value_past _ _ _ _ c.if-s-at.true)
 pub returns-in_default : goal.returns-in_default
 returns-in_default t c =
     rw (
-      (value-step _ _ _ _ c.if-depth-eq0.false c.if-s-at.false c.code_of-c.ensures c.in-Not.is),
+      (value_step _ _ _ _ c.if-depth-eq0.false c.if-s-at.false c.code_of-c.ensures c.in-Not.is),
       ← c.value-v.ensures,
       c.in_default.is,
     )
@@ -23,7 +19,7 @@ returns-in_default t c =
 pub returns-in_default-v : goal.returns-in_default-v
 returns-in_default-v t c =
     rw (
-      (value-step _ _ _ _ c.if-depth-eq0.false c.if-s-at.false c.code_of-c.ensures c.in-Two.is),
+      (value_step _ _ _ _ c.if-depth-eq0.false c.if-s-at.false c.code_of-c.ensures c.in-Two.is),
       ← c.value-v-in-Two.ensures,
       c.in_default-v.is,
     )
@@ -31,7 +27,7 @@ returns-in_default-v t c =
 pub returns-then-settles : goal.returns-then-settles
 returns-then-settles t c =
     rw (
-      (value-step _ _ _ _ c.if-depth-eq0.false c.if-s-at.false c.code_of-c.ensures c.in-Two.is),
+      (value_step _ _ _ _ c.if-depth-eq0.false c.if-s-at.false c.code_of-c.ensures c.in-Two.is),
       ← c.value-v-in-Two.ensures,
       c.in-Value-v.is,
       ← c.settles.ensures,
@@ -42,7 +38,7 @@ returns-then-settles t c =
 pub returns-in_default-w : goal.returns-in_default-w
 returns-in_default-w t c =
     rw (
-      (value-step _ _ _ _ c.if-depth-eq0.false c.if-s-at.false c.code_of-c.ensures c.in-Two.is),
+      (value_step _ _ _ _ c.if-depth-eq0.false c.if-s-at.false c.code_of-c.ensures c.in-Two.is),
       ← c.value-v-in-Two.ensures,
       c.in-Value-v.is,
       ← c.settles.ensures,
@@ -53,16 +49,16 @@ returns-in_default-w t c =
 
 pub returns-in-Number : goal.returns-in-Number
 returns-in-Number t c =
-    rw ((value-step _ _ _ _ c.if-depth-eq0.false c.if-s-at.false c.code_of-c.ensures c.in-Number.is)) c.number.ensures
+    rw ((value_step _ _ _ _ c.if-depth-eq0.false c.if-s-at.false c.code_of-c.ensures c.in-Number.is)) c.number.ensures
 
 pub returns-in-Field : goal.returns-in-Field
 returns-in-Field t c =
-    rw ((value-step _ _ _ _ c.if-depth-eq0.false c.if-s-at.false c.code_of-c.ensures c.in-Field.is)) c.field.ensures
+    rw ((value_step _ _ _ _ c.if-depth-eq0.false c.if-s-at.false c.code_of-c.ensures c.in-Field.is)) c.field.ensures
 
 pub returns-in-Value : goal.returns-in-Value
 returns-in-Value t c =
     rw (
-      (value-step _ _ _ _ c.if-depth-eq0.false c.if-s-at.false c.code_of-c.ensures c.in-Not.is),
+      (value_step _ _ _ _ c.if-depth-eq0.false c.if-s-at.false c.code_of-c.ensures c.in-Not.is),
       ← c.value-v.ensures,
       c.in-Value.is,
       c.yes_no.ensures,
@@ -71,7 +67,7 @@ returns-in-Value t c =
 pub returns-in-Value-w : goal.returns-in-Value-w
 returns-in-Value-w t c =
     rw (
-      (value-step _ _ _ _ c.if-depth-eq0.false c.if-s-at.false c.code_of-c.ensures c.in-Two.is),
+      (value_step _ _ _ _ c.if-depth-eq0.false c.if-s-at.false c.code_of-c.ensures c.in-Two.is),
       ← c.value-v-in-Two.ensures,
       c.in-Value-v.is,
       ← c.settles.ensures,
@@ -83,4 +79,4 @@ returns-in-Value-w t c =
 
 pub returns-in-Other : goal.returns-in-Other
 returns-in-Other t c =
-    rw ((value-step _ _ _ _ c.if-depth-eq0.false c.if-s-at.false c.code_of-c.ensures c.in-Other.is))
+    rw ((value_step _ _ _ _ c.if-depth-eq0.false c.if-s-at.false c.code_of-c.ensures c.in-Other.is))

@@ -1,5 +1,4 @@
 use borrow.Author.Tests.{le-ltb, lt-ltb, eq-eqb, ne_eqb}
-use borrow.Author.Rules.{rules}
 use Rattle.packets.proofs.trees.Cursor.check_field.Goals as goal
 
 pub returns-then-s-at-lt2 : goal.returns-then-s-at-lt2

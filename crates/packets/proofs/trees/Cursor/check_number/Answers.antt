@@ -1,5 +1,4 @@
 use borrow.Author.Tests.{le-ltb, lt-ltb}
-use borrow.Author.Rules.{rules}
 use Rattle.packets.proofs.trees.Cursor.check_number.Goals as goal
 
 pub returns-then-s-at-lt5 : goal.returns-then-s-at-lt5

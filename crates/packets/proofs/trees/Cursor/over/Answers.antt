@@ -1,5 +1,4 @@
 use borrow.Author.Tests.{le-ltb, lt-ltb}
-use borrow.Author.Rules.{rules}
 use Rattle.packets.proofs.trees.Cursor.over.Goals as goal
 
 pub returns-then-s-at : goal.returns-then-s-at
