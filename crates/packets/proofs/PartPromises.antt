@@ -1,5 +1,5 @@
 -- A field's part by its numbers is the part that the reading says, and lies within the packet.
-use mathlib.Core.Path.{◌≡◌, refl, sym, ◌∙◌, ap}
+use mathlib.Core.Path.{◌≡◌, refl, ap}
 use mathlib.Core.Bool.{Bool, true, false, cond, ◌&&◌}
 use mathlib.Core.Logic.{inl, inr}
 use mathlib.Core.List.{List, [], ◌∷◌}
@@ -31,7 +31,6 @@ use Rattle.rules.specs.Promises.{ChecksTable, part_by, PlacesPart, moved_by, Len
 use Rattle.rules.specs.Answers.{of_table}
 use Rattle.laws.proofs.Readings.{reading_told}
 use Rattle.laws.proofs.Cover.{cover_in_order}
-use Rattle.laws.proofs.Decidable.{good_decidable}
 use Rattle.packets.specs.declared.readings.Bytes.{Bytes}
 use Rattle.packets.specs.FieldParts.{is_accepted, bytes_of, part_at, OnPacket}
 use Rattle.packets.specs.RunRead.{ReadsRun}

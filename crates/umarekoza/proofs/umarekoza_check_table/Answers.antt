@@ -1,5 +1,4 @@
 use mathlib.Core.Path.{◌∙◌}
-use borrow.Author.Rules.{rules}
 use Rattle.umarekoza.proofs.umarekoza_check_table.Goals as goal
 
 pub returns : goal.returns

@@ -1,4 +1,3 @@
-use borrow.Author.Rules.{rules}
 use Rattle.umarekoza.proofs.umarekoza_convert_table.Goals as goal
 
 pub returns : goal.returns

@@ -1,5 +1,4 @@
 use mathlib.Core.Path.{◌∙◌}
-use borrow.Author.Rules.{rules}
 use Rattle.umarekoza.proofs.umarekoza_count_fields.Goals as goal
 
 pub returns : goal.returns

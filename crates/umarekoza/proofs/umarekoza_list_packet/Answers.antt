@@ -1,4 +1,3 @@
-use borrow.Author.Rules.{rules}
 use Rattle.umarekoza.proofs.umarekoza_list_packet.Goals as goal
 
 pub returns : goal.returns

@@ -1,7 +1,6 @@
 use native.Mathlib.Omega.{arith}
 use Rattle.rules.specs.Answers.{of_edit}
 use Rattle.umarekoza.proofs.EditPlaces.{put_place_low}
-use borrow.Author.Rules.{rules}
 use Rattle.umarekoza.proofs.umarekoza_put_fields.Goals as goal
 
 pub edit_reply-requires : goal.edit_reply-requires

@@ -1,7 +1,6 @@
 use native.Mathlib.Omega.{arith}
 use Rattle.rules.specs.Answers.{of_packet}
 use Rattle.umarekoza.proofs.PacketPlaces.{place_low}
-use borrow.Author.Rules.{rules}
 use Rattle.umarekoza.proofs.umarekoza_read_packet.Goals as goal
 
 pub packet_reply-requires : goal.packet_reply-requires

@@ -1,7 +1,6 @@
 use native.Mathlib.Omega.{arith}
 use Rattle.rules.specs.Answers.{of_packet}
 use Rattle.umarekoza.proofs.PacketPlaces.{partly_place_low}
-use borrow.Author.Rules.{rules}
 use Rattle.umarekoza.proofs.umarekoza_read_partly.Goals as goal
 
 pub packet_reply-reply-requires : goal.packet_reply-reply-requires

@@ -1,5 +1,4 @@
 use native.Mathlib.Omega.{arith}
-use borrow.Author.Rules.{rules}
 use Rattle.umarekoza.proofs.umarekoza_text_end.Goals as goal
 
 pub text_reply-requires : goal.text_reply-requires

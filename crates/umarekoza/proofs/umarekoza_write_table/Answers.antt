@@ -1,6 +1,5 @@
 use Rattle.rules.specs.Answers.{of_text}
 use Rattle.umarekoza.proofs.TextPlaces.{text_place_low}
-use borrow.Author.Rules.{rules}
 use Rattle.umarekoza.proofs.umarekoza_write_table.Goals as goal
 
 pub text_reply-requires : goal.text_reply-requires

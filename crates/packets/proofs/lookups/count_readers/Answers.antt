@@ -1,5 +1,4 @@
 use Rattle.packets.proofs.LookupPromises.{readers_told}
-use borrow.Author.Rules.{rules}
 use Rattle.packets.proofs.lookups.count_readers.Goals as goal
 
 pub returns : goal.returns

@@ -1,5 +1,4 @@
 use Rattle.packets.proofs.LookupPromises.{kind_told}
-use borrow.Author.Rules.{rules}
 use Rattle.packets.proofs.lookups.field_kind.Goals as goal
 
 pub returns : goal.returns

@@ -1,7 +1,6 @@
 use mathlib.Core.Path.{refl}
 use native.Mathlib.Nat.{add-sub_cancel_left}
 use Rattle.packets.proofs.LookupPromises.{on_lent}
-use borrow.Author.Rules.{rules}
 use Rattle.packets.proofs.lookups.field_short.Goals as goal
 
 pub returns : goal.returns

@@ -1,5 +1,4 @@
 use Rattle.packets.proofs.LookupPromises.{label_on}
-use borrow.Author.Rules.{rules}
 use Rattle.packets.proofs.lookups.find_label.Goals as goal
 
 pub returns : goal.returns

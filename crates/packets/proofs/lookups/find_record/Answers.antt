@@ -3,7 +3,6 @@ use Prim.Native.Nat.{◌<◌}
 use Rattle.laws.specs.Places.{two_at}
 use Rattle.packets.proofs.PacketPromises.{good_from, bad_from, not_good}
 use Rattle.packets.proofs.LookupPromises.{placed}
-use borrow.Author.Rules.{rules}
 use Rattle.packets.proofs.lookups.find_record.Goals as goal
 
 pub returns-in_default : goal.returns-in_default

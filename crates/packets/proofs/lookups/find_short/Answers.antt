@@ -1,5 +1,4 @@
 use Rattle.packets.proofs.LookupPromises.{short_on}
-use borrow.Author.Rules.{rules}
 use Rattle.packets.proofs.lookups.find_short.Goals as goal
 
 pub returns : goal.returns

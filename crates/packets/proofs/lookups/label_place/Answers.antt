@@ -1,5 +1,4 @@
 use Rattle.packets.proofs.LookupPromises.{on_placed}
-use borrow.Author.Rules.{rules}
 use Rattle.packets.proofs.lookups.label_place.Goals as goal
 
 pub returns : goal.returns

@@ -1,12 +1,8 @@
-use mathlib.Core.Path.{◌≡◌, refl, sym, ◌∙◌}
+use mathlib.Core.Path.{◌≡◌}
 use Prim.Native.Nat.{◌-◌}
-use native.Mathlib.Omega.{arith}
 use lib.Dec.{eqb}
-use lib.ListN.{length, drop, drop_of_length-le}
-use borrow.Author.Tests.{eq-eqb, ne_eqb}
+use lib.ListN.{length, drop}
 use Rattle.base.specs.Lists.{all}
-use Rattle.base.proofs.Scans.{all_step}
-use borrow.Author.Rules.{rules}
 use Rattle.runs.proofs.lent.kept.Given as goal
 
 abbrev pub invariant-loop-i : goal.invariant-loop-i

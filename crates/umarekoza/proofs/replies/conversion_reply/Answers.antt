@@ -1,5 +1,4 @@
 use Rattle.rules.specs.Answers.{of_conversion}
-use borrow.Author.Rules.{rules}
 use Rattle.umarekoza.proofs.replies.conversion_reply.Goals as goal
 
 pub returns-in-Converted : goal.returns-in-Converted

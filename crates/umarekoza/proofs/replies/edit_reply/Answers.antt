@@ -1,5 +1,4 @@
 use Rattle.rules.specs.Answers.{of_edit}
-use borrow.Author.Rules.{rules}
 use Rattle.umarekoza.proofs.replies.edit_reply.Goals as goal
 
 pub refuse-requires-in-StillRead : goal.refuse-requires-in-StillRead

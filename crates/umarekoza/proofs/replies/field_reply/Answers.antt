@@ -1,5 +1,4 @@
 use Rattle.rules.specs.Answers.{of_field}
-use borrow.Author.Rules.{rules}
 use Rattle.umarekoza.proofs.replies.field_reply.Goals as goal
 
 pub returns-in-At : goal.returns-in-At

@@ -1,5 +1,4 @@
 use Rattle.rules.specs.Answers.{of_listing}
-use borrow.Author.Rules.{rules}
 use Rattle.umarekoza.proofs.replies.listing_reply.Goals as goal
 
 pub returns-in-Written : goal.returns-in-Written

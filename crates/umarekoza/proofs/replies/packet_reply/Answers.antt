@@ -1,6 +1,5 @@
 use native.Mathlib.Omega.{arith}
 use Rattle.umarekoza.proofs.PacketPlaces.{number_low}
-use borrow.Author.Rules.{rules}
 use Rattle.umarekoza.proofs.replies.packet_reply.Goals as goal
 
 pub overflow_cast-result : goal.overflow_cast-result

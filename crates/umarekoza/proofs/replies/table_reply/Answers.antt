@@ -1,5 +1,4 @@
 use Rattle.rules.specs.Answers.{of_table}
-use borrow.Author.Rules.{rules}
 use Rattle.umarekoza.proofs.replies.table_reply.Goals as goal
 
 pub returns-in-Good : goal.returns-in-Good

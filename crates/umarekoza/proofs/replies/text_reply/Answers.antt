@@ -1,5 +1,4 @@
 use Rattle.rules.specs.Answers.{of_text}
-use borrow.Author.Rules.{rules}
 use Rattle.umarekoza.proofs.replies.text_reply.Goals as goal
 
 pub refuse-requires-in-BadLine : goal.refuse-requires-in-BadLine
