@@ -7,10 +7,10 @@ use Prim.Native.Nat.{ℕ, ◌+◌, ◌-◌, ◌≤◌, ◌<◌}
 use native.Mathlib.Omega.{arith}
 use native.Mathlib.Numerals.{add-one}
 use native.Mathlib.Nat.{le_of_suc-le-suc}
-use lib.Dec.{eqb, leb}
+use lib.Dec.{eqb}
 use lib.ListN.{length, take, drop, get_or}
 use lib.Seq.{drop-cons, drop-length}
-use borrow.Author.Tests.{le-leb, lt-leb, eq-eqb, ne_eqb}
+use borrow.Author.Tests.{eq-eqb, ne_eqb}
 use Rattle.base.specs.Bytes.{bytes}
 use Rattle.base.specs.Lists.{all, same, is_none}
 use Rattle.rules.specs.Names.{is_printable}
@@ -63,14 +63,6 @@ module _ (s : List ℕ) (at : ℕ) where
   pub remark_space : at < length s → get_or s at 0 ≡ 32 → is_remark (drop at s) ≡ all is_printable (drop (at + 1) s)
   unfolding is_remark
   remark_space lt e = rw (add-one at, drop-cons s at 0 lt, eq-eqb (get_or s at 0) 32 e) refl
-
-pub printable_low : (b : ℕ) → b < 32 → is_printable b ≡ false
-unfolding is_printable
-printable_low b lt = rw (lt-leb 32 b lt) refl
-
-pub printable_rest : (b : ℕ) → 32 ≤ b → is_printable b ≡ leb b 126
-unfolding is_printable
-printable_rest b le = rw (le-leb 32 b le) refl
 
 -- ── units ──
 

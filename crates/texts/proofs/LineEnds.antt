@@ -1,16 +1,16 @@
 -- The first byte of a text that is not printable: the bytes in front of it are allowed, and none is a line feed.
 use mathlib.Core.Path.{◌≡◌, refl, ap, sym, ◌∙◌}
-use mathlib.Core.Bool.{Bool, true, false, cond}
-use mathlib.Core.List.{List, [], ◌∷◌}
-use Prim.Native.Nat.{ℕ, suc, ◌+◌, ◌-◌, ◌≤◌, ◌<◌}
+use mathlib.Core.Bool.{Bool, true, false, cond, ◌&&◌}
+use mathlib.Core.List.{List, [], ◌∷◌, ◌++◌}
+use Prim.Native.Nat.{ℕ, zero, suc, ◌+◌, ◌-◌, ◌≤◌, ◌<◌}
 use native.Mathlib.Omega.{arith}
 use native.Mathlib.Numerals.{add-one}
-use lib.Dec.{eqb}
+use lib.Dec.{eqb, eqb-suc-suc, eqb-zero-suc}
 use lib.ListN.{length, take, drop, get_or, length-drop}
-use lib.Seq.{drop-cons, drop-drop, drop-length, get_or-drop}
-use borrow.Author.Tests.{le-leb, lt-leb, ne_eqb, eq-eqb}
+use lib.Seq.{drop-cons, drop-drop, drop-length, get_or-drop, take-suc}
+use borrow.Author.Tests.{ne_eqb, eq-eqb}
 use Rattle.base.specs.Lists.{all}
-use Rattle.base.proofs.Lists.{between_true, true_between, or_right}
+use Rattle.base.proofs.Lists.{and_left, and_right, between_true, or_right}
 use Rattle.rules.specs.Names.{is_printable, is_allowed, line_feed}
 use Rattle.rules.specs.Frames.{is_line}
 use Rattle.texts.specs.FramePlaces.{up_to}
@@ -19,15 +19,6 @@ use Rattle.texts.proofs.ExprLeaves.{all_step, all_stop, all_end}
 use Rattle.texts.proofs.FrameLeaves.{up_to_end, up_to_stop}
 
 -- ── bytes ──
-
-pub printable_high : (b : ℕ) → 126 < b → is_printable b ≡ false
-unfolding is_printable
-printable_high b lt =
-    let le : 32 ≤ b = omega arith in rw (le-leb 32 b le, lt-leb b 126 lt) refl
-
-pub printable_between : (b : ℕ) → 32 ≤ b → b ≤ 126 → is_printable b ≡ true
-unfolding is_printable
-printable_between b le le' = true_between 32 b 126 le le'
 
 -- a printable byte is no line feed
 feed_other : (b : ℕ) → is_printable b ≡ true → eqb b line_feed ≡ false
@@ -57,6 +48,72 @@ module _ (s : List ℕ) (at : ℕ) where
       → printable_length (drop at s) ≡ suc (printable_length (drop (at + 1) s))
   unfolding printable_length
   printable_step lt e = rw (drop-cons s at 0 lt, e, add-one at) refl
+
+-- ── bytes tested together ──
+
+all_last : (p : ℕ → Bool) (s : List ℕ) (b : ℕ) → all p (s ++ (b ∷ [])) ≡ (all p s && p b)
+unfolding all
+all_last p [] b = go (p b)
+  where
+    go : (x : Bool) → (x && true) ≡ (true && x)
+    go true = refl
+    go false = refl
+all_last p (c ∷ s) b = go (p c) (all_last p s b)
+  where
+    go : (x : Bool) → all p (s ++ (b ∷ [])) ≡ (all p s && p b)
+        → (x && all p (s ++ (b ∷ []))) ≡ ((x && all p s) && p b)
+    go true h = h
+    go false h = refl
+
+-- one byte more is tested
+pub tested_step : (s : List ℕ) (at i : ℕ) → at + i < length s
+    → all is_printable (take (i + 1) (drop at s))
+    ≡ (all is_printable (take i (drop at s)) && is_printable (get_or s (at + i) 0))
+tested_step s at i lt =
+    let l : i < length (drop at s) = omega (arith, lt, length-drop at s) in
+    let q = take-suc (drop at s) i 0 l in
+    ap (λ (n : ℕ). all is_printable (take n (drop at s))) (add-one i) ∙ ap (all is_printable) q
+    ∙ all_last is_printable (take i (drop at s)) (get_or (drop at s) i 0)
+    ∙ ap (λ (b : ℕ). all is_printable (take i (drop at s)) && is_printable b) (get_or-drop at s i 0)
+
+printable_front : (n : ℕ) (s : List ℕ) → n ≤ length s → all is_printable (take n s) ≡ true
+    → printable_length s ≡ n + printable_length (drop n s)
+unfolding all printable_length
+printable_front zero s le e = omega arith
+printable_front (suc n) [] le e = absurd (omega arith)
+printable_front (suc n) (b ∷ s) le e =
+    let p = and_left (is_printable b) (all is_printable (take n s)) e in
+    let q = printable_front n s (omega arith) (and_right (is_printable b) (all is_printable (take n s)) e) in
+    rw p (omega (arith, q))
+
+-- the bytes tested together are printable
+pub printable_steps : (s : List ℕ) (at n : ℕ) → at + n ≤ length s → all is_printable (take n (drop at s)) ≡ true
+    → printable_length (drop at s) ≡ n + printable_length (drop (at + n) s)
+printable_steps s at n le e =
+    printable_front n (drop at s) (omega (arith, le, length-drop at s)) e
+    ∙ ap (λ (l : List ℕ). n + printable_length l) (drop-drop n at s)
+
+printable_all : (s : List ℕ) → eqb (printable_length s) (length s) ≡ all is_printable s
+unfolding all printable_length
+printable_all [] = refl
+printable_all (b ∷ s) = go (is_printable b) (printable_all s)
+  where
+    go : (x : Bool) → eqb (printable_length s) (length s) ≡ all is_printable s
+        → eqb (cond x (suc (printable_length s)) 0) (suc (length s)) ≡ (x && all is_printable s)
+    go true h = eqb-suc-suc (printable_length s) (length s) ∙ h
+    go false h = eqb-zero-suc (length s)
+
+-- no byte from a place on is another
+pub printable_whole : (s : List ℕ) (at : ℕ) → at ≤ length s
+    → eqb (at + printable_length (drop at s)) (length s) ≡ all is_printable (drop at s)
+printable_whole s zero le =
+    let e : 0 + printable_length s ≡ printable_length s = omega arith in
+    ap (λ (n : ℕ). eqb n (length s)) e ∙ printable_all s
+printable_whole [] (suc at) le = absurd (omega arith)
+printable_whole (b ∷ s) (suc at) le =
+    let n = printable_length (drop at s) in
+    let e : suc at + n ≡ suc (at + n) = omega arith in
+    ap (λ (m : ℕ). eqb m (suc (length s))) e ∙ eqb-suc-suc (at + n) (length s) ∙ printable_whole s at (omega arith)
 
 -- ── what the bytes in front of it tell ──
 

@@ -16,7 +16,7 @@ use Rattle.text_laws.specs.Fold as fold
 use Rattle.texts.specs.HeldNames.{Names}
 use Rattle.texts.specs.Noted.{note_of}
 use Rattle.texts.specs.RowPlaces.{strips_at, lines_in, RowKept}
-use Rattle.texts.specs.Changes.{note, changed, made_wrong, made_wrong_row, expected}
+use Rattle.texts.specs.Changes.{note, awaits_field, changed, made_wrong, made_wrong_row, expected}
 use Rattle.texts.specs.States.{is_told, Room, Taken, stage_of}
 use Rattle.texts.specs.States.{Counts, Area, Records, Holds, FieldStep, HeadStep, HeadRow, RowStep, LineStep}
 use Rattle.text_laws.specs.Steady.{StandIn, is_head, row_goes, Steady}
@@ -194,6 +194,31 @@ kept_same {f} {g} {r} {q} {row} c d e w h =
 
 -- ── the line of a stage ──
 
+other_truth : false ≡ true → ⊥
+other_truth e = let z : ◌≡◌ {A = ℕ} 0 1 = cc in omega arith
+
+-- no field line must come where none must
+pub no_field : {s t : Stage} → s ≡ t → awaits_field s ≡ false → awaits_field t ≡ true → ⊥
+no_field e free must = other_truth (sym free ∙ ap awaits_field e ∙ must)
+
+-- what the fold makes of a line where a field line must come
+pub field_lined : (s : Stage) → awaits_field s ≡ true → (f : fold.Found) (l : List ℕ)
+    → fold.lined_at (stage_of s) f l ≡ fold.with_field f l
+unfolding fold.lined_at
+field_lined at.Opening e f l = absurd (other_truth e)
+field_lined at.Blank e f l = absurd (other_truth e)
+field_lined at.TensRuler e f l = absurd (other_truth e)
+field_lined at.UnitsRuler e f l = absurd (other_truth e)
+field_lined at.TopBorder e f l = absurd (other_truth e)
+field_lined at.FirstRow e f l = absurd (other_truth e)
+field_lined at.InRow e f l = absurd (other_truth e)
+field_lined at.RowOrBlank e f l = absurd (other_truth e)
+field_lined at.WhereLine e f l = absurd (other_truth e)
+field_lined at.LastBlank e f l = absurd (other_truth e)
+field_lined at.FirstField e f l = refl
+field_lined at.FieldLine e f l = refl
+field_lined at.Lost e f l = absurd (other_truth e)
+
 module _ (r : Reading) (l : List ℕ) (s : Stage) (told : r.stage ≡ s) where
   -- what is held behind it, by what the fold makes of a line at that stage
   pub at_stage : {q : Reading} {cells cells' row row' : List ℕ} {table table' : Area}
@@ -270,13 +295,14 @@ module _ (r : Reading) (l : List ℕ) (s : Stage) (told : r.stage ≡ s) where
         ))
 
     -- a line that must be a certain one, which may go by W
-    pub expect_step : (want : ℕ → List ℕ) (next : Stage) (right : Bool) (held : List ℕ) {row counts : List ℕ}
+    pub expect_step : (want : ℕ → List ℕ) (next : Stage) (right : Bool) (held : List ℕ) {row : List ℕ}
         → Room r → right ≡ same l (want r.width)
         → ((f : fold.Found) → fold.lined_at (stage_of s) f l ≡ fold.expect (want f.width) (stage_of next) f l)
-        → Taken r (expected right r next) × LineStep l r (expected right r next) held held row row counts counts
+        → Taken r (expected right r next)
+        × ((counts : List ℕ) → LineStep l r (expected right r next) held held row row counts counts)
     expect_step want next right held room e is = (
       taken_expect right r next room,
-      (
+      λ counts. (
         refl,
         refl,
         at_stage (λ f k t g h.

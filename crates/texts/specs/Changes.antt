@@ -1,5 +1,5 @@
 -- What a line changes in the numbers that the code keeps: mirrors the code, no public promise rests on it.
-use Rattle.std.specs.Prelude.{Bool, false, cond, ℕ, ◌+◌, ◌-◌, ltb}
+use Rattle.std.specs.Prelude.{Bool, true, false, cond, ℕ, ◌+◌, ◌-◌, ltb}
 use Rattle.rules.specs.Limits.{fields_most}
 use Rattle.texts.specs.declared.notes.Note.{Note}
 use Rattle.texts.specs.declared.states.Stage.{Stage}
@@ -8,6 +8,22 @@ use Rattle.texts.specs.declared.states.Reading.{Reading}
 
 abbrev pub note : ℕ → ℕ → Note
 note number place = record { number = number; place = place }
+
+-- a field line must come next
+abbrev pub awaits_field : Stage → Bool
+awaits_field at.Opening = false
+awaits_field at.Blank = false
+awaits_field at.TensRuler = false
+awaits_field at.UnitsRuler = false
+awaits_field at.TopBorder = false
+awaits_field at.FirstRow = false
+awaits_field at.InRow = false
+awaits_field at.RowOrBlank = false
+awaits_field at.WhereLine = false
+awaits_field at.LastBlank = false
+awaits_field at.FirstField = true
+awaits_field at.FieldLine = true
+awaits_field at.Lost = false
 
 abbrev pub begun_with : Reading
 begun_with = record {

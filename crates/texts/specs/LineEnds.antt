@@ -6,3 +6,7 @@ use Rattle.rules.specs.Names.{is_printable}
 unfoldable pub printable_length : List ℕ → ℕ
 printable_length [] = 0
 printable_length (b ∷ t) = cond (is_printable b) (suc (printable_length t)) 0
+
+-- so many bytes are tested at once
+abbrev pub stride : ℕ
+stride = 16

@@ -36,7 +36,7 @@ fn column(k: Ruler, c: usize) -> u8
     }
 }
 
-// The line is that ruler, of `n` columns.
+// The line is that ruler, of `n` columns; no test ends the loop early, so that several are made at once.
 fn is_ruler(line: &[u8], k: Ruler, n: usize) -> bool
     requires { n ≤ 100 }
     ensures { result ≡ same line.now (tabulate (column_at k) 0 n) }
@@ -44,14 +44,13 @@ fn is_ruler(line: &[u8], k: Ruler, n: usize) -> bool
     if line.len() != n {
         return false;
     }
+    let mut each = true;
     let mut i = 0;
     while i < line.len() {
-        if line[i] != column(k, i) {
-            return false;
-        }
+        each = each & (line[i] == column(k, i));
         i += 1;
     }
-    true
+    each
 }
 
 pub(crate) fn is_units(line: &[u8], w: usize) -> bool

@@ -1,7 +1,7 @@
 // What is kept of a text between two lines, but for the bytes of cells, records and names.
 ghost use Rattle.std.specs.Prelude.{◌≡◌, ◌+◌, ◌≤◌};
 ghost use Rattle.rules.specs.Limits.{text_most};
-ghost use Rattle.texts.specs.Changes.{note, begun_with, changed, made_wrong, made_wrong_row, expected};
+ghost use Rattle.texts.specs.Changes.{note, awaits_field, begun_with, changed, made_wrong, made_wrong_row, expected};
 
 use crate::notes::Note;
 
@@ -41,6 +41,27 @@ pub(crate) struct Reading {
     pub end: usize,
     pub rested: bool,
     pub note: Note,
+}
+
+// A field line must come next.
+pub(crate) fn awaits_field(s: Stage) -> bool
+    ensures { result ≡ awaits_field s }
+{
+    match s {
+        Stage::Opening => false,
+        Stage::Blank => false,
+        Stage::TensRuler => false,
+        Stage::UnitsRuler => false,
+        Stage::TopBorder => false,
+        Stage::FirstRow => false,
+        Stage::InRow => false,
+        Stage::RowOrBlank => false,
+        Stage::WhereLine => false,
+        Stage::LastBlank => false,
+        Stage::FirstField => true,
+        Stage::FieldLine => true,
+        Stage::Lost => false,
+    }
 }
 
 // Before the first line.

@@ -1,6 +1,10 @@
-use mathlib.Core.Path.{sym, ◌∙◌}
+use mathlib.Core.Path.{ap, sym, ◌∙◌}
+use Prim.Native.Nat.{ℕ, ◌+◌}
+use lib.Dec.{eqb}
+use lib.ListN.{length}
 use native.Mathlib.Omega.{arith}
 use Rattle.texts.proofs.FieldWords.{remark_empty, remark_other, remark_space}
+use Rattle.texts.proofs.LineEnds.{printable_whole}
 use Rattle.texts.proofs.phrases.remark_ok.Goals as goal
 
 pub returns-then-at-s : goal.returns-then-at-s
@@ -14,4 +18,6 @@ returns-then-s-at-ne32 c =
 pub returns : goal.returns
 returns c =
     let a = c.args in
-    c.printable_end.ensures ∙ sym (remark_space a.s.now a.at (omega arith) c.if-s-at-ne32.false)
+    let s = a.s.now in
+    ap (λ (n : ℕ). eqb n (length s)) c.line_end.ensures.first ∙ printable_whole s (a.at + 1) (omega arith)
+    ∙ sym (remark_space a.s.now a.at (omega arith) c.if-s-at-ne32.false)
