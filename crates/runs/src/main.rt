@@ -12,7 +12,7 @@ use kinds::answer_line;
 use loading::{large_buffer, load};
 use requests::words::find;
 use std::io;
-use std::io::{BufWriter, Write};
+use std::io::Write;
 use std::rt::Files;
 
 // The requests in order; each ends in LF.
@@ -93,12 +93,11 @@ fn run_edits<R: Files, W: Write>(rt: &R, w: &mut W) -> io::Result<()> {
 }
 
 fn main(rt: HostRuntime) -> io::Result<()> {
-    let mut w = BufWriter::new(rt.alloc(), io::writer(&rt))?;
+    let mut w = io::writer(&rt);
     run_texts(&rt, &mut w)?;
     run_file(&rt, &mut w, "marked_packets")?;
     run_limits(&rt, &mut w)?;
     run_tables(&rt, &mut w)?;
     run_packets(&rt, &mut w)?;
-    run_edits(&rt, &mut w)?;
-    w.flush()
+    run_edits(&rt, &mut w)
 }
