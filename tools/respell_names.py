@@ -162,7 +162,7 @@ def main(argv):
     # the pages: names in code spans
     for folder in (".", "docs"):
         for f in sorted(os.listdir(folder)):
-            if not f.endswith(".md") or f in ("LANDINGS.md", "PORT.md"):
+            if not f.endswith(".md") or f == "PORT.md":
                 continue
             p = os.path.join(folder, f)
             t = open(p, encoding="utf-8").read()
