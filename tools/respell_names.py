@@ -1,5 +1,5 @@
 #!/usr/bin/env python3
-"""Spells the repository's own names anew, after /opt/rattle/port/port.py: words in snake case, types and modules in camel case.
+"""Spells the repository's own names anew, after the kit's port.py: words in snake case, types and modules in camel case.
 
 usage: respell_names.py [--check]      at the top of the repository
 

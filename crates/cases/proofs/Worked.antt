@@ -29,10 +29,12 @@ use Rattle.rules.specs.Rows.{left_trim, keep_end, right_trim, by_spaces, cell_te
 use Rattle.rules.specs.Frames.{tens, units, border, is_drawn_in, head_lines, cells}
 use Rattle.rules.specs.Spelling.{mismatch}
 use Rattle.rules.specs.Refusals.{unlabelled_line, rule_broken}
-use Rattle.rules.specs.Reading.{bits_at, value_in, read_field_in, read_fields_in, reading_in, fields_before, entries_before}
+use Rattle.rules.specs.Reading.{bits_at, value_in, read_field_in, read_fields_in, reading_in, fields_before}
+use Rattle.rules.specs.Reading.{entries_before}
 use Rattle.rules.specs.Listing.{entry_lines, lines_text}
 use Rattle.rules.specs.Answers.{fault_number, of_table, of_packet, of_text, of_field, of_listing, of_conversion}
-use Rattle.rules.specs.Promises.{delivered, reading_answer, packet_outcome_in, partly_outcome, first_named, reading_lines}
+use Rattle.rules.specs.Promises.{delivered, reading_answer, packet_outcome_in, partly_outcome, first_named}
+use Rattle.rules.specs.Promises.{reading_lines}
 use Rattle.rules.specs.Pages.{many_fields, many_rows, many_lines, not_times, and_times}
 use Rattle.text_laws.specs.Reader.{
   after,
@@ -144,21 +146,22 @@ use Rattle.cases.proofs.ClaimTests.{all_so}
 
 cases_hold : AllHold marked × Worked
 unfolding digits all any same last_is sum joined tabulate first_break operator operators is_letter is_digit is_space
-    is_printable is_allowed is_word_byte is_label_byte no_two_spaces is_label reserved is_reserved is_short depth le2 le4
-    stored_tree is_in_range has_type has_operators power apply decides evaluate_by rows_fit tree_reads field_reads times
-    readers stored_in stored_with records_in stored_field_in field_body head_body tens units border only left_trim keep_end
-    right_trim by_spaces cell_text are_fitted columns row_lines unlabelled_line is_drawn_in head_lines cells mismatch
-    rule_broken bits_at value_in read_field_in read_fields_in reading_in fields_before entries_before entry_lines lines_text
-    fault_number of_table of_packet of_text of_field of_listing of_conversion delivered reading_answer packet_outcome_in
-    partly_outcome first_named reading_lines many_fields not_times and_times after many_rows many_lines first_of insert
-    longest_first order skip skip_behind operator_at word behind scan word_value is_numeral is_number_word and_then leaf close
-    inside atom step expr more Lines.read_field literal begins label_ends label_text label_behind read_label read_closed_name
-    read_short read_tree unit_of read_unit read_measure read_width read_phrase read_maybe is_condition is_constraint
-    read_constraint read_condition is_remark read_form Frames.read_name Frames.step on_first pieces rest keep_row strips_of
-    long_of read_long row_of read_row with_strips more_row closing read_tens on_name on_width on_row row_or_end opened on_same
-    on_brief row_or_border run right_from right_lines whole read_drawn if_labelled read_frame reach place_of first_index
-    rename_tree resolve same_tree forms_of seen Tables.read_two Tables.read_four Tables.read_counted Tables.code_in
-    Tables.code_of Tables.read_after Tables.read_tree Tables.tree_of Tables.read_fixed Tables.read_measured Tables.read_width
+    is_printable is_allowed is_word_byte is_label_byte no_two_spaces is_label reserved is_reserved is_short depth le2
+    le4 stored_tree is_in_range has_type has_operators power apply decides evaluate_by rows_fit tree_reads field_reads
+    times readers stored_in stored_with records_in stored_field_in field_body head_body tens units border only
+    left_trim keep_end right_trim by_spaces cell_text are_fitted columns row_lines unlabelled_line is_drawn_in
+    head_lines cells mismatch rule_broken bits_at value_in read_field_in read_fields_in reading_in fields_before
+    entries_before entry_lines lines_text fault_number of_table of_packet of_text of_field of_listing of_conversion
+    delivered reading_answer packet_outcome_in partly_outcome first_named reading_lines many_fields not_times
+    and_times after many_rows many_lines first_of insert longest_first order skip skip_behind operator_at word behind
+    scan word_value is_numeral is_number_word and_then leaf close inside atom step expr more Lines.read_field literal
+    begins label_ends label_text label_behind read_label read_closed_name read_short read_tree unit_of read_unit
+    read_measure read_width read_phrase read_maybe is_condition is_constraint read_constraint read_condition is_remark
+    read_form Frames.read_name Frames.step on_first pieces rest keep_row strips_of long_of read_long row_of read_row
+    with_strips more_row closing read_tens on_name on_width on_row row_or_end opened on_same on_brief row_or_border
+    run right_from right_lines whole read_drawn if_labelled read_frame reach place_of first_index rename_tree resolve
+    same_tree forms_of seen Tables.read_two Tables.read_four Tables.read_counted Tables.code_in Tables.code_of
+    Tables.read_after Tables.read_tree Tables.tree_of Tables.read_fixed Tables.read_measured Tables.read_width
     Tables.field_from Tables.read_field Tables.read_fields Tables.described_in entries_of lines_of Wrong.powers
     Wrong.quotients doubled renumbered_tree renumbered closed Edits.opened cut put first_reader read_records number_at
 cases_hold = (

@@ -251,7 +251,8 @@ putting =
     -- a record that reads its own field; a rest field before a fixed one, and a fixed one behind it; no such places
     ∷ put_to letters 1 (given (mark 1 1 ∷ [])) (page (plain "A" ∷ mark 1 1 ∷ plain "B" ∷ []))
     ∷ put_to letters 1 (given (rest_new ∷ [])) (page (plain "A" ∷ rest_new ∷ plain "B" ∷ []))
-    ∷ put_to (page (plain "A" ∷ rest_new ∷ [])) 2 (given (plain "B" ∷ [])) (page (plain "A" ∷ rest_new ∷ plain "B" ∷ []))
+    ∷ put_to (page (plain "A" ∷ rest_new ∷ [])) 2 (given (plain "B" ∷ []))
+    (page (plain "A" ∷ rest_new ∷ plain "B" ∷ []))
     ∷ put_to pair 2 (given (rest_new ∷ [])) (page (flag ∷ if_one "Gap" 0 ∷ rest_new ∷ []))
     ∷ put_stops pair 4_294_967_296 new_record 30
     ∷ put_stops pair 18_446_744_073_709_551_615 new_record 30

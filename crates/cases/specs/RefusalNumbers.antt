@@ -94,7 +94,8 @@ rules =
     ∷ breaks (sheet (bits_of "A" ∷ bits_of "B" ∷ []) 2)
     (requiring "A" (is_one "X") ∷ named "B" "X" (fixed 8) none none ∷ [])
     (refused 9 13)
-    ∷ breaks (sheet (long_of "A" ∷ bits_of "B" ∷ []) 2) (summed "A" "X" ∷ requiring "B" (is_one "X") ∷ []) (refused 9 14)
+    ∷ breaks (sheet (long_of "A" ∷ bits_of "B" ∷ []) 2) (summed "A" "X" ∷ requiring "B" (is_one "X") ∷ [])
+    (refused 9 14)
     ∷ breaks (sheet (bits_of "A" ∷ []) 1) (named "A" "X" (fixed 8) none (some (is_one "X")) ∷ []) (refused 9 11)
     ∷ breaks (sheet (bits_of "A" ∷ []) 1) (requiring "A" (num 1) ∷ []) (refused 9 11)
     ∷ []

@@ -14,5 +14,6 @@ spelling =
     ∷ spells free_text free_page
     -- a cell may show either name, and a line may read by either [02, R-2]
     ∷ keeps (sheet (long_of "A" ∷ bits_of "B" ∷ bits_of "Y" ∷ []) 3)
-    (left "A" ∷ named "X" "B" (fixed 8) (some (is_one "B")) none ∷ named "Y" "Z" (fixed 8) (some (is_one "X")) none ∷ [])
+    (left "A" ∷ named "X" "B" (fixed 8) (some (is_one "B")) none ∷ named "Y" "Z" (fixed 8) (some (is_one "X")) none ∷
+    [])
     ∷ []

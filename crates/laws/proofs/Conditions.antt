@@ -11,7 +11,9 @@ use Rattle.base.specs.Lists.{sum}
 use Rattle.rules.specs.declared.Fault.TheVariants.{BitsMissing, ConstraintFalse}
 use Rattle.rules.specs.Values.{Value, value, fault}
 use Rattle.rules.specs.Fields.{Field, Description, fixed_bits}
-use Rattle.rules.specs.Reading.{Entry, absent, Step, step, stop, and_then, complete, left_over, read_on, read_field, read_field_in, read_fields, read_fields_in, reading, bit_total, holds, width_at, entry_at, constrained, bounded}
+use Rattle.rules.specs.Reading.{Entry, absent, Step, step, stop, and_then, complete, left_over, read_on, read_field}
+use Rattle.rules.specs.Reading.{read_field_in, read_fields, read_fields_in, reading, bit_total, holds, width_at}
+use Rattle.rules.specs.Reading.{entry_at, constrained, bounded}
 use Rattle.rules.specs.Cover.{IsYes, KeptBy, Kept}
 use Rattle.laws.proofs.Readings.{accepted_fields}
 

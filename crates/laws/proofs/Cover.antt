@@ -12,7 +12,9 @@ use Rattle.base.specs.Lists.{sum}
 use Rattle.rules.specs.Fields.{Field, Description, fixed_bits}
 use Rattle.rules.specs.declared.Fault.TheVariants.{BitsMissing, ConstraintFalse}
 use Rattle.rules.specs.Values.{Value, value, fault}
-use Rattle.rules.specs.Reading.{Entry, absent, Step, step, stop, and_then, complete, left_over, read_on, read_field, read_field_in, read_fields, read_fields_in, reading, bit_total, holds, width_at, entry_at, constrained, bounded}
+use Rattle.rules.specs.Reading.{Entry, absent, Step, step, stop, and_then, complete, left_over, read_on, read_field}
+use Rattle.rules.specs.Reading.{read_field_in, read_fields, read_fields_in, reading, bit_total, holds, width_at}
+use Rattle.rules.specs.Reading.{entry_at, constrained, bounded}
 use Rattle.rules.specs.Cover.{LiesIn, Covers, OnlyOne, InOrder}
 use Rattle.laws.proofs.Readings.{accepted_fields}
 
@@ -84,7 +86,8 @@ pub fields_behind : (packet : List ℕ) (entries all : List Entry) (place : ℕ)
 unfolding read_fields_in
 fields_behind packet entries all place [] h = at_end packet entries all place (eqb place (bit_total packet)) refl h
 fields_behind packet entries all place (f ∷ fs) h =
-    go (read_field packet entries place (sum fixed_bits fs) f) (field_placed packet entries place (sum fixed_bits fs) f) h
+    go (read_field packet entries place (sum fixed_bits fs) f)
+    (field_placed packet entries place (sum fixed_bits fs) f) h
     (λ more next. fields_behind packet more all next fs)
   where
     go : (s : Step) → Placed place s → read_on entries s (λ more next. read_fields packet more next fs) ≡ complete all

@@ -85,7 +85,8 @@ module _ (first last : ℕ) where
     still : StillIn b c
     own : StillIn (b ++ (f ∷ [])) (c ++ (move f ∷ []))
 
-  names_left : (f : Field ℕ) (b c : List (Field ℕ)) → Left f b c → keeps_names b f ≡ true → keeps_names c (move f) ≡ true
+  names_left : (f : Field ℕ) (b c : List (Field ℕ)) → Left f b c → keeps_names b f ≡ true
+      → keeps_names c (move f) ≡ true
   unfolding renumbered
   names_left f b c l h =
       not_more (any (clash f) b) (any (clash f) c)

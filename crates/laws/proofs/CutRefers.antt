@@ -56,7 +56,8 @@ remaining_element : (first last : ℕ) (fs : List (Field ℕ)) → first ≤ las
 remaining_element first last fs low high i outside =
     let s = split_run first last fs low high in
     subst
-    (λ (l : List (Field ℕ)). get_elem? (remaining first last l) (closed first (run_length first last) i) ≡ get_elem? l i)
+    (λ (l : List (Field ℕ)). get_elem? (remaining first last l) (closed first (run_length first last) i) ≡ get_elem? l
+    i)
     (sym s.whole)
     (ap (λ (l : List (Field ℕ)). get_elem? l (closed first (run_length first last) i))
     (remaining_between s.xs s.gs s.ys first last s.start s.end)

@@ -12,7 +12,8 @@ use Rattle.rules.specs.Editions.{Edition, current, earlier}
 use Rattle.rules.specs.Fields.{Width, fixed, measured, rest, Field, Description}
 use Rattle.rules.specs.Within.{keeps_operators_in, Keeps, WithinIn}
 use Rattle.rules.specs.References.{readers}
-use Rattle.rules.specs.Stored.{record_of, kind_in, stored_field_in, records_in, head_body, stored_with, stored_in, GoodIn, Good}
+use Rattle.rules.specs.Stored.{record_of, kind_in, stored_field_in, records_in, head_body, stored_with, stored_in}
+use Rattle.rules.specs.Stored.{GoodIn, Good}
 use Rattle.rules.specs.Reading.{is_too_long_in, reading_in}
 use Rattle.rules.specs.Answers.{Answer, accepted}
 use Rattle.rules.specs.Promises.{Outcome, leaves, not_good, by_table, reading_answer, packet_outcome_in}
@@ -59,7 +60,8 @@ module _ (a b : Edition) (wide : Widens a b) where
     reading_like e = rw (e, short_more e) (fields_like a b wide packet d.fields [] known [] 0)
 
     module _ (run : List ℕ) where
-      outcome_like : is_too_long_in a packet ≡ false → packet_outcome_in a d packet run ≡ packet_outcome_in b d packet run
+      outcome_like : is_too_long_in a packet ≡ false → packet_outcome_in a d packet run ≡ packet_outcome_in b d packet
+          run
       unfolding packet_outcome_in
       outcome_like e = rw (reading_like e, e, short_more e)
 
@@ -71,7 +73,8 @@ module _ (a b : Edition) (wide : Widens a b) where
           → packet_outcome_in a d packet run ≡ packet_outcome_in b d packet run
       outcome_more ne = go (is_too_long_in a packet) refl
         where
-          go : (x : Bool) → is_too_long_in a packet ≡ x → packet_outcome_in a d packet run ≡ packet_outcome_in b d packet run
+          go : (x : Bool) → is_too_long_in a packet ≡ x → packet_outcome_in a d packet run ≡ packet_outcome_in b d
+              packet run
           go true e = absurd (ne (outcome_long e))
           go false e = outcome_like e
 

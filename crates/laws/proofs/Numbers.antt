@@ -13,7 +13,8 @@ use Rattle.rules.specs.Editions.{Edition, current}
 use Rattle.rules.specs.Fields.{Width, fixed, measured, rest, Field, Description}
 use Rattle.rules.specs.Within.{WithinIn, Within}
 use Rattle.rules.specs.References.{readers}
-use Rattle.rules.specs.Stored.{record_of, kind_in, field_body, head_body, stored_field, stored_field_in, records, records_in}
+use Rattle.rules.specs.Stored.{record_of, kind_in, field_body, head_body, stored_field, stored_field_in, records}
+use Rattle.rules.specs.Stored.{records_in}
 use Rattle.rules.specs.Stored.{stored_with, stored_in, GoodIn, Good}
 use Rattle.rules.specs.Results.{WrongNumberRefused, OldRefused}
 use Rattle.laws.proofs.Readers.{and_then, read_two, read_counted, described_in}

@@ -77,7 +77,8 @@ pub record Widens (a b : Edition) : Type 0 where
   pub means : (o : Op) → a.knows o ≡ true → (x y : ℕ) → a.means o x y ≡ b.means o x y
 
 module _ (a b : Edition) (w : Widens a b) where
-  pub operators_more : {N : Type 0} (l : List (Field N)) → Keeps (keeps_operators_in a) l → Keeps (keeps_operators_in b) l
+  pub operators_more : {N : Type 0} (l : List (Field N)) → Keeps (keeps_operators_in a) l
+      → Keeps (keeps_operators_in b) l
   operators_more l h =
       keeps_weaker (keeps_operators_in a) (keeps_operators_in b) (λ before f k. field_known a b w.knows f k) [] l h
 

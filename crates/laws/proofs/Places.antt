@@ -62,7 +62,8 @@ stands_rest s a b x w p = stands_right s a b (x ∷ []) w p
 pub stands_next : (s : List ℕ) (a m b x : ℕ) (w : List ℕ) → m ≡ a + 1 → Stands s a (x ∷ w) b → Stands s m w b
 stands_next s a m b x w e p = rw e (stands_rest s a b x w p)
 
-pub stands_front : (s : List ℕ) (a m b x : ℕ) (w : List ℕ) → a < length s → m ≡ a + 1 → get_or s a 0 ≡ x → Stands s m w b
+pub stands_front : (s : List ℕ) (a m b x : ℕ) (w : List ℕ) → a < length s → m ≡ a + 1 → get_or s a 0 ≡ x
+    → Stands s m w b
     → Stands s a (x ∷ w) b
 stands_front s a m b x w lt f e p = record {
   text = rw (drop_front s a m lt f, e, p.text);

@@ -135,8 +135,11 @@ module _ (at k : ℕ) (d : Description) where
   sound_moved w =
       let sound : all is_sound (take at moved ++ drop at moved) ≡ true =
       rw (take-append-drop at moved)
-      (sound_stays (opened at k) d.fields (within_sound [] d.fields w.form w.size)) in
-      (all_front is_sound (take at moved) (drop at moved) sound, all_back is_sound (take at moved) (drop at moved) sound)
+      (sound_stays (opened at k) d.fields (within_sound [] d.fields w.form w.size)) in (
+        all_front is_sound (take at moved) (drop at moved) sound,
+        all_back is_sound (take at moved) (drop at moved)
+            sound,
+      )
 
 module _ (at k : ℕ) (numbers : ℕ → ℕ) (bytes : List ℕ) (d : Description) where
   abbrev xs : List (Field ℕ)

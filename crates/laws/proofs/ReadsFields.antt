@@ -50,7 +50,8 @@ label_length w h = leb-true _ _ (and_true (leb (length w) label_most) _ h).0
 pub short_length : (w : List ℕ) → is_short w ≡ true → length w ≤ short_most
 unfolding is_short
 short_length w h =
-    let e = and_true (head_is is_letter w) (all is_word_byte w && (leb (length w) short_most && not (is_reserved w))) h in
+    let e = and_true (head_is is_letter w) (all is_word_byte w && (leb (length w) short_most && not (is_reserved w)))
+    h in
     let f = and_true (all is_word_byte w) (leb (length w) short_most && not (is_reserved w)) e.1 in
     leb-true _ _ (and_true (leb (length w) short_most) (not (is_reserved w)) f.1).0
 

@@ -13,7 +13,8 @@ use Rattle.rules.specs.declared.Op.{Op}
 use Rattle.rules.specs.declared.Op.TheVariants.{Or, And, Eq, Ne, Lt, Le, Gt, Ge, Add, Sub, Mul, Div, Rem, Pow}
 use Rattle.rules.specs.Limits.{depth_most, stored_most}
 use Rattle.rules.specs.Operators.{operator, operators, code}
-use Rattle.rules.specs.Trees.{Tree, num, read, two, negation, depth, le4, stored_tree, stored_length, is_small, is_in_range}
+use Rattle.rules.specs.Trees.{Tree, num, read, two, negation, depth, le4, stored_tree, stored_length, is_small}
+use Rattle.rules.specs.Trees.{is_in_range}
 use Rattle.rules.specs.Stored.{stored_expression}
 use Rattle.laws.proofs.Readers.{code_of, code_in, operation, read_after, read_tree, tree_of, unless_empty}
 use Rattle.laws.proofs.ReadsNumbers.{read_four_le4}

@@ -135,13 +135,15 @@ module _ (g : ℕ → ℕ) where
       (joined tree_reads (list_of o))
   unfolding joined
   maybe_reads_lem none = refl
-  maybe_reads_lem (some t) = rw (append-nil (tree_reads (renumbered_tree g t)), append-nil (tree_reads t)) (tree_reads_lem t)
+  maybe_reads_lem (some t) = rw (append-nil (tree_reads (renumbered_tree g t)), append-nil (tree_reads t))
+      (tree_reads_lem t)
 
   width_reads : (w : Width ℕ) → joined tree_reads (width_trees (renumbered_width g w)) ≡ map g
       (joined tree_reads (width_trees w))
   unfolding joined
   width_reads (fixed n) = refl
-  width_reads (measured u t) = rw (append-nil (tree_reads (renumbered_tree g t)), append-nil (tree_reads t)) (tree_reads_lem t)
+  width_reads (measured u t) = rw (append-nil (tree_reads (renumbered_tree g t)), append-nil (tree_reads t))
+      (tree_reads_lem t)
   width_reads rest = refl
 
   pub field_reads_lem : (x : Field ℕ) → field_reads (renumbered g x) ≡ map g (field_reads x)

@@ -289,14 +289,14 @@ every_claim = wrong ++ (wrong_limits ++ (wrong_names ++ (wrong_operators ++ (wro
 
 -- each wrong program's answer is ruled out
 pub all_ruled_out : AllFalse every_claim
-unfolding digits all any same last_is sum joined first_break operator operators is_letter is_digit is_space is_word_byte
-    is_label_byte no_two_spaces is_label reserved is_reserved is_short depth le2 le4 stored_tree is_in_range has_type
-    has_operators power apply decides evaluate_by rows_fit tree_reads field_reads times readers stored_in stored_with
-    records_in stored_field_in field_body head_body bits_at value_in read_field_in read_fields_in reading_in entry_lines
-    lines_text fault_number of_packet delivered reading_answer packet_outcome_in reading_lines first_named fields_before
-    entries_before partly_outcome many_fields not_times and_times entries_of lines_of powers quotients doubled
-    Tables.read_two Tables.read_four Tables.read_counted Tables.code_in Tables.code_of Tables.read_after Tables.read_tree
-    Tables.tree_of Tables.read_fixed Tables.read_measured Tables.read_width Tables.field_from Tables.read_field
-    Tables.read_fields Tables.described_in renumbered_tree renumbered closed opened cut put first_reader read_records
-    number_at
+unfolding digits all any same last_is sum joined first_break operator operators is_letter is_digit is_space
+    is_word_byte is_label_byte no_two_spaces is_label reserved is_reserved is_short depth le2 le4 stored_tree
+    is_in_range has_type has_operators power apply decides evaluate_by rows_fit tree_reads field_reads times readers
+    stored_in stored_with records_in stored_field_in field_body head_body bits_at value_in read_field_in
+    read_fields_in reading_in entry_lines lines_text fault_number of_packet delivered reading_answer packet_outcome_in
+    reading_lines first_named fields_before entries_before partly_outcome many_fields not_times and_times entries_of
+    lines_of powers quotients doubled Tables.read_two Tables.read_four Tables.read_counted Tables.code_in
+    Tables.code_of Tables.read_after Tables.read_tree Tables.tree_of Tables.read_fixed Tables.read_measured
+    Tables.read_width Tables.field_from Tables.read_field Tables.read_fields Tables.described_in renumbered_tree
+    renumbered closed opened cut put first_reader read_records number_at
 all_ruled_out = all_out every_claim refl

@@ -129,5 +129,6 @@ opened_away at n last h [] = refl
 opened_away at n last h (f ∷ fs) =
     let g = opened at n in
     let e : any (λ i. between at i last) (field_reads (renumbered g f)) ≡ false =
-    rw (field_reads_lem g f) (any_map_none (λ i. between at i last) g (field_reads f) (λ i. opened_outside at n last i h)) in
+    rw (field_reads_lem g f) (any_map_none (λ i. between at i last) g (field_reads f)
+    (λ i. opened_outside at n last i h)) in
     rw e (opened_away at n last h fs)

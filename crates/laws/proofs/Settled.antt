@@ -169,7 +169,8 @@ apart : {R : Type 0} (told : R → Answer) → ((a b : R) → told a ≡ told b 
 apart told back a b after other e =
     (back a b (ap (λ (o : Outcome). o.answer) e), ap (λ (o : Outcome). o.buffer) e)
 
-pub table_settled : (table : List ℕ) (a b : TableAnswer) → ChecksTable table (of_table a) → ChecksTable table (of_table b)
+pub table_settled : (table : List ℕ) (a b : TableAnswer) → ChecksTable table (of_table a)
+    → ChecksTable table (of_table b)
     → a ≡ b
 table_settled table a b p q = table_number a b (both table _ (of_table a) (of_table b) p q)
 
@@ -262,4 +263,5 @@ pub text_settled : TextUnique → (text out : List ℕ) (a b : TextAnswer) (afte
     → ReadsText text out (leaves (of_text a) after) → ReadsText text out (leaves (of_text b) other)
     → (a ≡ b) × (after ≡ other)
 text_settled unique text out a b after other p q =
-    apart of_text text_number a b after other (unique text out (leaves (of_text a) after) (leaves (of_text b) other) p q)
+    apart of_text text_number a b after other
+    (unique text out (leaves (of_text a) after) (leaves (of_text b) other) p q)

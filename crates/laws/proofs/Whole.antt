@@ -57,7 +57,8 @@ sound_kept before (f ∷ fs) h =
     let k = sound_kept (before ++ (f ∷ [])) fs b.1 in
     (rw s.0 k.0, rw s.1 k.1)
 
-pub sound_stays : (g : ℕ → ℕ) (fs : List (Field ℕ)) → all is_sound fs ≡ true → all is_sound (map (renumbered g) fs) ≡ true
+pub sound_stays : (g : ℕ → ℕ) (fs : List (Field ℕ)) → all is_sound fs ≡ true
+    → all is_sound (map (renumbered g) fs) ≡ true
 unfolding all
 sound_stays g [] h = refl
 sound_stays g (f ∷ fs) h =

@@ -1,5 +1,6 @@
 -- Answers of programs that are wrong about how often a field is read, and about old tables. [02, R-5]
-use Rattle.std.specs.Prelude.{refl, true, false, cond, List, [], ◌∷◌, ◌++◌, map, ℕ, zero, suc, eqb, length, replicate, take, drop, set, get_or}
+use Rattle.std.specs.Prelude.{refl, true, false, cond, List, [], ◌∷◌, ◌++◌, map, ℕ, zero, suc, eqb, length, replicate}
+use Rattle.std.specs.Prelude.{take, drop, set, get_or}
 use Rattle.std.proofs.Math.Option.{none, some}
 use Rattle.base.specs.Bytes.{bytes}
 use Rattle.rules.specs.declared.Op.TheVariants.{And, Eq, Lt, Add, Div, Rem, Pow}

@@ -130,7 +130,8 @@ in_puts =
     ∷ put_stops pair 1 (stored_field 7 (plain "New")) 34
     ∷ put_stops pair 1 (stored_field 65_535 (plain "New")) 34
     ∷ put_bytes pair 1 new_record (listed new_second [])
-    ∷ put_bytes pair 2 (given (if_one "New" 0 ∷ [])) (listed (page (flag ∷ if_one "Gap" 0 ∷ if_one "New" 0 ∷ [])) (1 ∷ []))
+    ∷ put_bytes pair 2 (given (if_one "New" 0 ∷ []))
+    (listed (page (flag ∷ if_one "Gap" 0 ∷ if_one "New" 0 ∷ [])) (1 ∷ []))
     ∷ put_bytes pair 1 (given (reading 1)) (listed two_second (1 ∷ []))
     ∷ put_bytes pair 0 new_record (listed new_first (1 ∷ []))
     ∷ []
@@ -219,7 +220,8 @@ in_places =
     ∷ puts_with 84 (stored pair) 1 new_record (accepted 84) (take 84 (stored new_second))
     ∷ puts_with 84 (stored pair) 1 new_record (refused 11 0) (take 84 (stored new_second))
     ∷ puts_with 84 (stored pair) 1 new_record (refused 34 0) (nines 84)
-    ∷ puts_with 200 (stored pair) 1 (new_record ++ last_record) (refused 34 0) (overlaid (stored new_second) (nines 200))
+    ∷ puts_with 200 (stored pair) 1 (new_record ++ last_record) (refused 34 0)
+    (overlaid (stored new_second) (nines 200))
     ∷ puts_with 200 (stored pair) 3 new_record (refused 30 0) (overlaid (stored new_last) (nines 200))
     ∷ puts_with 9 (stored pair) 1 last_record (refused 11 0) (nines 9)
     ∷ puts_with 9 (stored pair) 1 [] (refused 11 0) (nines 9)

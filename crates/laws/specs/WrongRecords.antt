@@ -47,7 +47,7 @@ long_record n = page
 abbrev pub longer : ℕ → ℕ → List ℕ → List ℕ
 longer from to table = set (take to table ++ (0 ∷ drop to table)) from (1 + get_or table from 0)
 
--- the kind of Readings; of withRest's Body
+-- the kind of Readings; of with_rest's Body
 abbrev pub readings_kind : ℕ → List ℕ
 readings_kind k = set (stored blade_report) 166 k
 

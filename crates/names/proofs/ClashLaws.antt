@@ -83,7 +83,13 @@ clash_held_lem f g p q = go f.short g.short p q
         (none_shape (same l m))
     go (some a) none p q = rw (none_second a p, word_same a m p, none_first (held_word l))
         (first_shape (same l m) (same a m))
-    go none (some b) p q = rw (none_first (held_short (some b)), none_first (held_word m), word_same b l q, same_turn b l)
+    go none (some b) p q = rw (
+      none_first (held_short (some b)),
+      none_first (held_word m),
+      word_same b l q,
+      same_turn
+          b l,
+    )
         (second_shape (same l m) (same l b))
     go (some a) (some b) p q = rw (held_same a b p q, word_same a m p, word_same b l q, same_turn b l)
         (both_shape (same l m) (same l b) (same a m) (same a b))

@@ -58,7 +58,8 @@ pub record Held (w : List ℕ) : Type 0 where
 pub short_held : (w : List ℕ) → is_short w ≡ true → Held w × (head_is is_letter w ≡ true)
 unfolding is_short
 short_held w h =
-    let e = and_true (head_is is_letter w) (all is_word_byte w && (leb (length w) short_most && not (is_reserved w))) h in
+    let e = and_true (head_is is_letter w) (all is_word_byte w && (leb (length w) short_most && not (is_reserved w)))
+    h in
     let f = and_true (all is_word_byte w) (leb (length w) short_most && not (is_reserved w)) e.1 in
     let g = and_true (leb (length w) short_most) (not (is_reserved w)) f.1 in
     (record { bytes = f.0; size = leb-true _ _ g.0 }, e.0)

@@ -123,11 +123,14 @@ one_false c h p =
 each_false : (cs : List Claim) → all is_other cs ≡ true → AllFalse cs
 unfolding all
 each_false [] h = tt
-each_false (c ∷ cs) h =
-    (one_false c (and_left (is_other c) (all is_other cs) h), each_false cs (and_right (is_other c) (all is_other cs) h))
+each_false (c ∷ cs) h = (
+  one_false c (and_left (is_other c) (all is_other cs) h),
+  each_false cs
+      (and_right (is_other c) (all is_other cs) h),
+)
 
 pub ruled_out : AllFalse wrong
-unfolding all any same last_is tabulate operator operators is_letter is_digit is_operator is_space class_of is_word_byte
-    is_label_byte no_two_spaces is_label is_short reserved is_reserved class_table has_class no_two is_label_in is_short_in
-    first_from pad_to same_name names_meet start_of number_from
+unfolding all any same last_is tabulate operator operators is_letter is_digit is_operator is_space class_of
+    is_word_byte is_label_byte no_two_spaces is_label is_short reserved is_reserved class_table has_class no_two
+    is_label_in is_short_in first_from pad_to same_name names_meet start_of number_from
 ruled_out = each_false wrong refl

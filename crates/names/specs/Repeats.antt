@@ -56,7 +56,8 @@ names_meet s v t w = same_name s t || (same_name s w || same_name t v)
 
 -- the names of two indexes meet
 abbrev pub names_alike : List (List ℕ) → List (List ℕ) → ℕ → ℕ → Bool
-names_alike shorts words i j = names_meet (get_or shorts i []) (get_or words i []) (get_or shorts j []) (get_or words j [])
+names_alike shorts words i j = names_meet (get_or shorts i []) (get_or words i []) (get_or shorts j [])
+    (get_or words j [])
 
 -- n, or most where n is more
 abbrev pub at_most : ℕ → ℕ → ℕ

@@ -46,7 +46,8 @@ use Rattle.packets.proofs.PlainLaws.{is_plain_field, adds_stored}
 -- ── an old good table ──
 
 -- the numbers do not matter, as none is kept
-pub old_alike : (a b : ℕ → ℕ) (k l : ℕ) (fs : List (Field ℕ)) → records_in uncounted a k fs ≡ records_in uncounted b l fs
+pub old_alike : (a b : ℕ → ℕ) (k l : ℕ) (fs : List (Field ℕ))
+    → records_in uncounted a k fs ≡ records_in uncounted b l fs
 unfolding records_in stored_field_in
 old_alike a b k l [] = refl
 old_alike a b k l (f ∷ fs) =

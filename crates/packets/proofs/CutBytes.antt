@@ -91,7 +91,8 @@ module _ (table : List ℕ) (first last : ℕ) (may : MayCut table first last) w
       omega (arith, ap length both, length-append (records numbers 0 (take first fs)) more)
 
   module _ (start next count : ℕ) (at_start : start ≡ place_from table first (two_at table 0))
-      (at_next : next ≡ place_from table (last + 1) (two_at table 0)) (less : count ≡ two_at table 6 - (last + 1 - first))
+      (at_next : next ≡ place_from table (last + 1) (two_at table 0))
+      (less : count ≡ two_at table 6 - (last + 1 - first))
     where
       abbrev built : List ℕ
       built = start_with table start count ++ drop next table
@@ -236,7 +237,8 @@ module _ (table : List ℕ) (first last : ℕ) (may : MayCut table first last) w
       (bounds.0, omega (arith, bounds.1, c), omega (arith, count_most d good.within, c))
 
   -- what the code leaves in the buffer that it builds in
-  pub cut_ready : (scratch s₁ s₂ s₃ : List ℕ) (n head start next to size : ℕ) → n ≡ two_at table 6 → head ≡ two_at table 0
+  pub cut_ready : (scratch s₁ s₂ s₃ : List ℕ) (n head start next to size : ℕ) → n ≡ two_at table 6
+      → head ≡ two_at table 0
       → start ≡ place_from table first (two_at table 0) → next ≡ place_from table (last + 1) (two_at table 0)
       → length scratch ≡ table_most → Writes scratch 0 (start_with table start (n - (last + 1 - first))) s₁ to
       → placed size s₂ ≡ put s₁ to (take (length table - next) (drop next table))

@@ -78,7 +78,8 @@ module _ (table : List ℕ) (good : Good table) (first last : ℕ) where
       (λ b f. ap (λ (x : Bool). between first (length b) last || not x)
       (any_joined (λ i. between first i last) tree_reads (trees f))) [] fs in
       rw (head_count d table is w)
-      (rw z at (having_stored (Run first last) (readers fs) 0 table [] fs (two_at table 0) (length table) (record_of 5 [])
+      (rw z at (having_stored (Run first last) (readers fs) 0 table [] fs (two_at table 0) (length table)
+      (record_of 5 [])
       w.form w.size (stored_length_lem d w table is) (fields_stand d table is w))
       ∙ ap (or_end (length fs)) alike)
 
@@ -115,7 +116,8 @@ module _ (table out : List ℕ) (first last : ℕ) where
         → Cuts o
     by_good o h (yes g) fits =
         h fits
-        ∙ ap (λ (e : Description). cut_outcome first last e (fits (cut first last e)) out) (one_description table good g)
+        ∙ ap (λ (e : Description). cut_outcome first last e (fits (cut first last e)) out)
+        (one_description table good g)
     by_good o h (no bad) fits = absurd (bad good)
 
     pub cut_empty : last < first → Cuts (leaves (of_edit EditAnswer.NoFields) out)

@@ -73,7 +73,8 @@ module _ (table : List ℕ) (good : Good table) where
   place_is i le =
       let w = good.within in
       let st = fields_stand d table good.is_stored w in
-      let p = place_upto numbers table (length table) (record_of 5 []) (stored_length_lem d w table good.is_stored) 0 fs []
+      let p = place_upto numbers table (length table) (record_of 5 []) (stored_length_lem d w table good.is_stored) 0
+      fs []
       i (two_at table 0) w.form w.size st le in
       omega (arith, p, head_first d table good.is_stored w, length-append head (records numbers 0 (take i fs)))
 

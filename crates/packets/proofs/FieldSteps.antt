@@ -27,7 +27,8 @@ use Rattle.packets.specs.FieldTest.{
 }
 
 -- a width's place and its tree's end are not behind the width's end
-width_ends : (s : List ℕ) (k a : ℕ) → (a ≤ (width_at s k a).next) × (ending (width_at s k a).tree ≤ (width_at s k a).next)
+width_ends : (s : List ℕ) (k a : ℕ) → (a ≤ (width_at s k a).next)
+    × (ending (width_at s k a).tree ≤ (width_at s k a).next)
 unfolding width_at
 width_ends s k a = go (eqb k 12) (eqb k 13)
   where

@@ -66,7 +66,8 @@ module _ (s marks : List ℕ) (p : Span) where
   maybe_small none h = refl
   maybe_small (some t) h = and_both (is_small t) true h.small refl
 
-  maybe_in : (o : Option (Tree ℕ)) → if_any (has_type (marked marks) YesNo) o ≡ true → all is_in_range (list_of o) ≡ true
+  maybe_in : (o : Option (Tree ℕ)) → if_any (has_type (marked marks) YesNo) o ≡ true
+      → all is_in_range (list_of o) ≡ true
       → all is_small (list_of o) ≡ true → In s p (stored_maybe o) → MaybeIn s marks p o
   maybe_in none a b c d = d
   maybe_in (some t) a b c d = record {

@@ -101,7 +101,8 @@ module _ (w : Wanted) (s : List ℕ) where
   width_has at (measured u t) k i = maybe_has _ (some t) i.1
   width_has at rest k i = rw k (part_none _ refl)
 
-  record_has_lem : (at : ℕ) (f : Field ℕ) → PartsStand s (parts_at s at) f → record_has w s (parts_at s at) ≡ field_has w f
+  record_has_lem : (at : ℕ) (f : Field ℕ) → PartsStand s (parts_at s at) f
+      → record_has w s (parts_at s at) ≡ field_has w f
   unfolding parts_at
   record_has_lem at f q =
       let v = width_trees f.width in

@@ -50,12 +50,14 @@ use Rattle.packets.proofs.PacketPromises.{not_good}
 -- ── the index of a name ──
 
 module _ (table name : List ℕ) where
-  pub index_bad : ChecksTable table (of_table TableAnswer.NotGood) → FindsField table name (of_field FieldAnswer.NotGood)
+  pub index_bad : ChecksTable table (of_table TableAnswer.NotGood)
+      → FindsField table name (of_field FieldAnswer.NotGood)
   unfolding of_table of_field
   index_bad h (yes g) = let q = ap (λ (a : Answer). a.number) (h (yes g)) in absurd (omega (arith, q))
   index_bad h (no b) = refl
 
-  pub index_found : Good table → FindsField table name (of_field (find_from table name 0 (two_at table 6) (two_at table 0)))
+  pub index_found : Good table → FindsField table name
+      (of_field (find_from table name 0 (two_at table 6) (two_at table 0)))
   index_found g (no b) = absurd (b g)
   index_found g (yes k) =
       let d = k.description in

@@ -44,7 +44,8 @@ use Rattle.packets.proofs.ShiftSteps.{shift_none}
 
 -- ── lengths ──
 
-maybe_length : (g : ℕ → ℕ) (o : Option (Tree ℕ)) → length (stored_maybe (renumbered_maybe g o)) ≡ length (stored_maybe o)
+maybe_length : (g : ℕ → ℕ) (o : Option (Tree ℕ)) → length (stored_maybe (renumbered_maybe g o)) ≡ length
+    (stored_maybe o)
 maybe_length g none = refl
 maybe_length g (some t) = mapped_length g t
 

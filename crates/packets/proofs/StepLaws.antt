@@ -13,7 +13,8 @@ use Rattle.packets.specs.declared.steps.Found.{Found}
 use Rattle.packets.specs.Steps.{got_of, numbers_in, entry_in, found_of, record_at, fixed_of, later_bits}
 
 pub later_step : (s : List ℕ) (n i sum at : ℕ) → i < n
-    → sum + later_bits (n - i) s at ≡ (sum + fixed_of (record_at s at)) + later_bits (n - (i + 1)) s (record_at s at).next
+    → sum + later_bits (n - i) s at ≡ (sum + fixed_of (record_at s at)) + later_bits (n - (i + 1)) s
+    (record_at s at).next
 unfolding later_bits
 later_step s n i sum at h = let e : n - i ≡ suc (n - (i + 1)) = omega arith in rw e (omega arith)
 

@@ -97,7 +97,8 @@ value_stored d s run at (two o a b) next r le p =
     let there = stands_right s (at + 1) next l _ q in
     let left = value_stored (d - 1) s run (at + 1) a mid (and_left (is_in_range a) (is_in_range b) r) (omega arith)
     (stands_left s (at + 1) next l _ q) in
-    let right = value_stored (d - 1) s run mid b next (and_right (is_in_range a) (is_in_range b) r) (omega arith) there in
+    let right = value_stored (d - 1) s run mid b next (and_right (is_in_range a) (is_in_range b) r) (omega arith)
+    there in
     let past = skip_stored (d - 1) s mid b next (omega arith) there in
     value_there d s run at next _ _ (Code.Two o) (omega arith) p (code_two o)
     ∙ rw left

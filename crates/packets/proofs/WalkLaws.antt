@@ -127,7 +127,8 @@ break_cons keeps before f l e h = rw e h
 
 -- the rules of a field by the marks are those by the fields
 module _ (before : List (Field ℕ)) (f : Field ℕ) where
-  keeps_types_lem : Keeps (marks_of before) (marks_of (before ++ (f ∷ []))) f → keeps_types index_readable before f ≡ true
+  keeps_types_lem : Keeps (marks_of before) (marks_of (before ++ (f ∷ []))) f
+      → keeps_types index_readable before f ≡ true
   keeps_types_lem h =
       and_both (width_has_type (index_readable before) f.width) _
       (rw (marked_readable before) at h.width)

@@ -1,6 +1,7 @@
 -- Old tables with a number put into each record. This mirrors the code of src/conversions.rt: no public promise rests
 -- on this file.
-use Rattle.std.specs.Prelude.{◌≡◌, Bool, true, false, cond, ◌&&◌, List, ◌++◌, ℕ, zero, suc, ◌+◌, ◌*◌, leb, ltb, length, take, drop}
+use Rattle.std.specs.Prelude.{◌≡◌, Bool, true, false, cond, ◌&&◌, List, ◌++◌, ℕ, zero, suc, ◌+◌, ◌*◌, leb, ltb}
+use Rattle.std.specs.Prelude.{length, take, drop}
 use Rattle.std.proofs.Math.Option.{Option, none, some, map}
 use Rattle.base.specs.Lists.{between}
 use Rattle.laws.specs.Places.{two_at}

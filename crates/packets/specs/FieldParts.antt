@@ -22,7 +22,8 @@ part_at run i =
     cond (eqb (get_or run (4 * i) 0) 1)
     (cond (eqb (get_or run (4 * i + 1) 0 % 8) 0)
     (cond (eqb (get_or run (4 * i + 2) 0 % 8) 0)
-    (bytes_of (get_or run (4 * i + 1) 0 / 8) (get_or run (4 * i + 2) 0 / 8)) (bytes_of 0 0)) (bytes_of 0 0)) (bytes_of 0 0)
+    (bytes_of (get_or run (4 * i + 1) 0 / 8) (get_or run (4 * i + 2) 0 / 8)) (bytes_of 0 0)) (bytes_of 0 0))
+    (bytes_of 0 0)
 
 -- the field's part, which lies within the packet
 pub record OnPacket (table packet : List ℕ) (i : ℕ) (r : Bytes) : Type 0 where

@@ -1,5 +1,6 @@
 -- The tests of one field's record. This mirrors the code of src/fields.rt: no public promise rests on this file.
-use Rattle.std.specs.Prelude.{Bool, true, false, cond, ◌&&◌, ◌||◌, not, List, ℕ, ◌+◌, ◌-◌, ◌%◌, ◌≤◌, leb, eqb, length, get_or, take, drop}
+use Rattle.std.specs.Prelude.{Bool, true, false, cond, ◌&&◌, ◌||◌, not, List, ℕ, ◌+◌, ◌-◌, ◌%◌, ◌≤◌, leb, eqb, length}
+use Rattle.std.specs.Prelude.{get_or, take, drop}
 use Rattle.base.specs.Lists.{between}
 use Rattle.laws.specs.Places.{two_at}
 use Rattle.rules.specs.declared.ValueType.{ValueType}

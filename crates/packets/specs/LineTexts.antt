@@ -1,6 +1,7 @@
 -- The text of a field's line, from the parts of its record and its entry in a run.
 -- This mirrors the code: no public promise rests on this file.
-use Rattle.std.specs.Prelude.{Bool, cond, ◌||◌, List, [], ◌++◌, ℕ, zero, suc, ◌+◌, ◌*◌, ◌-◌, ltb, eqb, length, get_or, take, drop}
+use Rattle.std.specs.Prelude.{Bool, cond, ◌||◌, List, [], ◌++◌, ℕ, zero, suc, ◌+◌, ◌*◌, ◌-◌, ltb, eqb, length, get_or}
+use Rattle.std.specs.Prelude.{take, drop}
 use Rattle.base.specs.Bytes.{bytes}
 use Rattle.rules.specs.Limits.{fields_most, label_most}
 use Rattle.rules.specs.Reading.{Entry, is_present}

@@ -1,5 +1,6 @@
 -- The test that names are unique. This mirrors the code of src/unique.rt: no public promise rests on this file.
-use Rattle.std.specs.Prelude.{Bool, cond, ◌&&◌, List, [], ◌∷◌, map, ◌≡◌, ℕ, zero, suc, ◌+◌, ◌-◌, ◌*◌, ◌/◌, ◌<◌, ◌≤◌, eqb, ltb, length, take, get_or}
+use Rattle.std.specs.Prelude.{Bool, cond, ◌&&◌, List, [], ◌∷◌, map, ◌≡◌, ℕ, zero, suc, ◌+◌, ◌-◌, ◌*◌, ◌/◌, ◌<◌, ◌≤◌}
+use Rattle.std.specs.Prelude.{eqb, ltb, length, take, get_or}
 use Rattle.base.specs.Lists.{same}
 use Rattle.laws.specs.Places.{two_at}
 use Rattle.names.specs.Repeats.{pad_to, held_word, names_alike, first_repeat}

@@ -1,5 +1,6 @@
 -- The test of a whole table. This mirrors the code of src/tables.rt: no public promise rests on this file.
-use Rattle.std.specs.Prelude.{◌≡◌, Bool, true, false, cond, ◌&&◌, ◌||◌, List, [], ◌∷◌, ◌++◌, ℕ, zero, suc, ◌+◌, ◌%◌, leb, eqb, length, take}
+use Rattle.std.specs.Prelude.{◌≡◌, Bool, true, false, cond, ◌&&◌, ◌||◌, List, [], ◌∷◌, ◌++◌, ℕ, zero, suc, ◌+◌, ◌%◌}
+use Rattle.std.specs.Prelude.{leb, eqb, length, take}
 use Rattle.base.specs.Lists.{between}
 use Rattle.laws.specs.Places.{two_at}
 use Rattle.rules.specs.Names.{is_label}

@@ -78,4 +78,5 @@ Steps s packet run i later place p r after =
 
 -- all fields: the answer r, and the run before and after
 abbrev pub Walks : List ℕ → List ℕ → List ℕ → PacketAnswer → List ℕ → Type 0
-Walks s packet run r after = (r ≡ walk_answer packet (walk_all s packet run)) × (after ≡ walk_run (walk_all s packet run))
+Walks s packet run r after = (r ≡ walk_answer packet (walk_all s packet run))
+    × (after ≡ walk_run (walk_all s packet run))

@@ -86,7 +86,8 @@ take_same s a b e =
 
 module _ (g : ℕ → ℕ) (s : List ℕ) (at : ℕ) (lt : at < length s) where
   -- behind a code that is no field's
-  pub renumber_other : (r : ℕ) → (get_or s at 0 ≡ 2 → ⊥) → codes_from 0 (drop at s) ≡ drop at s ∷ codes_from 0 (drop r s)
+  pub renumber_other : (r : ℕ) → (get_or s at 0 ≡ 2 → ⊥) → codes_from 0 (drop at s) ≡ drop at s ∷ codes_from 0
+      (drop r s)
       → take at s ++ renumbered_bytes g (drop at s) ≡ take r s ++ renumbered_bytes g (drop r s)
   renumber_other r n e =
       let c = get_or s at 0 in

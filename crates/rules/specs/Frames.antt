@@ -1,6 +1,7 @@
 -- The frame of a text: opening line, rulers, borders, rows of cells, and field lines of any form.
 -- From the frame to its text. [01, The lines of a text] [02, R-1] [02, R-9]
-use Rattle.std.specs.Prelude.{◌≡◌, Bool, true, false, cond, ◌&&◌, ◌||◌, not, List, [], ◌∷◌, ◌++◌, map, ℕ, suc, ◌+◌, ◌*◌, ◌-◌, ◌/◌, ◌%◌, leb, ltb, eqb, length}
+use Rattle.std.specs.Prelude.{◌≡◌, Bool, true, false, cond, ◌&&◌, ◌||◌, not, List, [], ◌∷◌, ◌++◌, map, ℕ, suc, ◌+◌}
+use Rattle.std.specs.Prelude.{◌*◌, ◌-◌, ◌/◌, ◌%◌, leb, ltb, eqb, length}
 use Rattle.base.specs.Bytes.{bytes}
 use Rattle.base.specs.Lists.{all, is_empty, joined, tabulate}
 use Rattle.rules.specs.Editions.{Edition, current}

@@ -1,6 +1,7 @@
 -- When a text is refused, by which number and at which place. [01, Refusal numbers]
 -- Each stage speaks of what nothing spells; a later one presumes the earlier ones passed.
-use Rattle.std.specs.Prelude.{◌≡◌, true, false, cond, List, [], ◌∷◌, ◌++◌, ℕ, zero, suc, ◌+◌, ◌-◌, ◌≤◌, ◌<◌, ltb, eqb, length, get_or, take}
+use Rattle.std.specs.Prelude.{◌≡◌, true, false, cond, List, [], ◌∷◌, ◌++◌, ℕ, zero, suc, ◌+◌, ◌-◌, ◌≤◌, ◌<◌, ltb, eqb}
+use Rattle.std.specs.Prelude.{length, get_or, take}
 use Rattle.std.proofs.Math.Option.{Option, none, some, map}
 use Rattle.base.specs.Lists.{all, Each, first_break, or_else}
 use Rattle.rules.specs.Answers.{Answer, refused}

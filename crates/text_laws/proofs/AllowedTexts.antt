@@ -16,8 +16,10 @@ use Rattle.rules.specs.Fields.{Field, Description}
 use Rattle.rules.specs.Editions.{Edition, current}
 use Rattle.rules.specs.Within.{is_row_width}
 use Rattle.rules.specs.Lines.{SpellsField}
-use Rattle.rules.specs.Rows.{Cell, cell_text, Row, bit_row, long_row, bar_line, row_lines, is_drawn_row, columns, is_labelled}
-use Rattle.rules.specs.Frames.{tens_at, tens, units_at, units, border_at, border, is_drawn_in, Frame, article, head_lines}
+use Rattle.rules.specs.Rows.{Cell, cell_text, Row, bit_row, long_row, bar_line, row_lines, is_drawn_row, columns}
+use Rattle.rules.specs.Rows.{is_labelled}
+use Rattle.rules.specs.Frames.{tens_at, tens, units_at, units, border_at, border, is_drawn_in, Frame, article}
+use Rattle.rules.specs.Frames.{head_lines}
 use Rattle.rules.specs.Frames.{ended, frame_text, FrameOfIn}
 use Rattle.rules.specs.Spelling.{SpellsIn, Spells, NameOf}
 use Rattle.text_laws.proofs.NamedRules.{name_short}
@@ -37,7 +39,8 @@ made_printable f (suc n) i h =
     and_both (is_printable (f i)) (printable (tabulate f (suc i) n)) (h i (omega arith))
     (made_printable f n (suc i) (λ c lt. h c (omega arith)))
 
-either_printable : (b : Bool) (x y : ℕ) → is_printable x ≡ true → is_printable y ≡ true → is_printable (cond b x y) ≡ true
+either_printable : (b : Bool) (x y : ℕ) → is_printable x ≡ true → is_printable y ≡ true
+    → is_printable (cond b x y) ≡ true
 either_printable true x y p q = p
 either_printable false x y p q = q
 
@@ -113,7 +116,8 @@ row_printable w (long_row n s) d h =
     and_both (printable (bytes ":" ++ (s ++ bytes ":"))) true
     (printable_both (bytes ":") (s ++ bytes ":") refl (printable_both s (bytes ":") k.0 refl)) refl
 
-rows_printable : (w : ℕ) (rows : List Row) → all (is_drawn_row row_lines_most w) rows ≡ true → all is_labelled rows ≡ true
+rows_printable : (w : ℕ) (rows : List Row) → all (is_drawn_row row_lines_most w) rows ≡ true
+    → all is_labelled rows ≡ true
     → all printable (joined (λ r. row_lines r ++ (border w ∷ [])) rows) ≡ true
 unfolding all joined
 rows_printable w [] d h = refl

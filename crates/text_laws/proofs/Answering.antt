@@ -158,11 +158,13 @@ module _ (text out : List ℕ) (plain : Plain text) (g : Found) (r : List ℕ) (
   Ends o = ReadsText text out (outcome g out o)
 
   -- 3
-  wrong_line_lem : (o : Option Answer) → o ≡ some (refused 3 (strict_place 0 begun (lines_of text))) → read_frame text ≡ none
+  wrong_line_lem : (o : Option Answer) → o ≡ some (refused 3 (strict_place 0 begun (lines_of text)))
+      → read_frame text ≡ none
       → Ends o
   wrong_line_lem o e n =
       subst Ends
-      (ap (λ (p : ℕ). some (refused 3 p)) (place_right text (right_lines text) (right_lines_lem text) ∙ strict_place_lem text)
+      (ap (λ (p : ℕ). some (refused 3 p)) (place_right text (right_lines text) (right_lines_lem text)
+      ∙ strict_place_lem text)
       ∙ sym e)
       (refuses (line plain (frame_none text n) (right_lines_lem text)))
 
@@ -180,7 +182,8 @@ module _ (text out : List ℕ) (plain : Plain text) (g : Found) (r : List ℕ) (
   no_end : (q : State) → strict_run begun (lines_of text) ≡ some q → is_empty r ≡ false → read_frame text ≡ none
   no_end q e h = strict_read text q e ∙ rw (is_rest, h) refl
 
-  module _ (q : State) (is_run : strict_run begun (lines_of text) ≡ some q) (h : Stands (length (lines_of text)) q g) where
+  module _ (q : State) (is_run : strict_run begun (lines_of text) ≡ some q)
+      (h : Stands (length (lines_of text)) q g) where
     -- the text ends early
     ends_early : read_frame text ≡ none → lowest_at (stage_of q) r g ≡ early g → Ends (lowest_at g.stage r g)
     ends_early n e =
@@ -206,7 +209,8 @@ module _ (text out : List ℕ) (plain : Plain text) (g : Found) (r : List ℕ) (
       let f : Frame = record { an = t.an; name = t.name; row_width = t.row_width; rows = rows; lines = m ∷ ms } in
       let is_frame_of : FrameOf text f = frame_sound text f
       (strict_read text (filled t rows (m ∷ ms)) e ∙ rw (is_rest, k) refl) in
-      let n : length (lines_of text) ≡ length (head_lines f ++ (m ∷ ms)) = ap length (frame_lines_lem text f is_frame_of) in
+      let n : length (lines_of text) ≡ length (head_lines f ++ (m ∷ ms)) = ap length
+      (frame_lines_lem text f is_frame_of) in
       let all_lines : length (head_lines f ++ (m ∷ ms)) ≡ length (head_lines f) + length (m ∷ ms) =
       length-append (head_lines f) (m ∷ ms) in
       let from : h.from ≡ length (head_lines f) = let c = h.counts in omega (arith, c, n, all_lines) in

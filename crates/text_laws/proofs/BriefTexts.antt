@@ -16,7 +16,8 @@ use Rattle.rules.specs.Names.{is_label, line_feed}
 use Rattle.rules.specs.Within.{is_row_width}
 use Rattle.rules.specs.Editions.{current, any_line}
 use Rattle.rules.specs.Rows.{Row, is_drawn_row, is_labelled}
-use Rattle.rules.specs.Frames.{Frame, is_line, is_brief_in, is_brief, ended, is_drawn_in, is_drawn, head_lines, frame_text}
+use Rattle.rules.specs.Frames.{Frame, is_line, is_brief_in, is_brief, ended, is_drawn_in, is_drawn, head_lines}
+use Rattle.rules.specs.Frames.{frame_text}
 use Rattle.rules.specs.Frames.{FrameOfIn, FrameOf}
 use Rattle.rules.specs.Refusals.{line_count, BeginsIn, Begins, RightLinesIn, rows_within, unlabelled_line, or_behind}
 use Rattle.rules.specs.Refusals.{wrong_line, Plain, Refuses, line}
@@ -145,7 +146,8 @@ more_lines : (m : List (List ℕ)) → is_empty (m ++ ([] ∷ [])) ≡ false
 more_lines [] = refl
 more_lines (l ∷ m) = refl
 
-refill : (f : Frame) → Parts f → (ls ms : List (List ℕ)) → frame_lines f ≡ ls ++ ms → all is_brief ls ≡ true → Refill f ls
+refill : (f : Frame) → Parts f → (ls ms : List (List ℕ)) → frame_lines f ≡ ls ++ ms → all is_brief ls ≡ true
+    → Refill f ls
 unfolding all head_lines
 refill f p ls ms e b = go (cut_lists (head_lines f) f.lines ls ms e)
   where

@@ -10,7 +10,8 @@ use borrow.Author.Tests.{eqb-true, lt-ltb}
 use Rattle.base.specs.Lists.{all, only, is_empty, joined, sum}
 use Rattle.base.proofs.Lists.{and_left, and_right, and_both, all_append, all_front, all_back}
 use Rattle.rules.specs.Names.{is_space, is_label}
-use Rattle.rules.specs.Rows.{left_trim, right_trim, keep_end, trimmed, by_spaces, Cell, cell_text, is_fitted, are_fitted}
+use Rattle.rules.specs.Rows.{left_trim, right_trim, keep_end, trimmed, by_spaces, Cell, cell_text, is_fitted}
+use Rattle.rules.specs.Rows.{are_fitted}
 use Rattle.rules.specs.Rows.{first, others, columns, Row, row_cells, is_labelled, is_long}
 use Rattle.text_laws.proofs.RowCells.{lead, left_split, right_some}
 use Rattle.rules.specs.Frames.{Slot, slots_in}
@@ -79,7 +80,8 @@ module _ (p : ℕ → Bool) (blank : p 32 ≡ true) where
   by_spaces_all (s ∷ []) h = and_both (all p s) true h refl
   by_spaces_all (s ∷ t ∷ ss) h =
       and_both (all p s) (all (all p) (t ∷ ss)) (all_front p s (32 ∷ by_spaces (t ∷ ss)) h)
-      (by_spaces_all (t ∷ ss) (and_right (p 32) (all p (by_spaces (t ∷ ss))) (all_back p s (32 ∷ by_spaces (t ∷ ss)) h)))
+      (by_spaces_all (t ∷ ss) (and_right (p 32) (all p (by_spaces (t ∷ ss)))
+      (all_back p s (32 ∷ by_spaces (t ∷ ss)) h)))
 
   only_lines : (ls : List (List ℕ)) → all (all p) (only (λ l. not (is_empty l)) ls) ≡ true → all (all p) ls ≡ true
   unfolding all only

@@ -103,7 +103,8 @@ module _ (p : ℕ) where
   five_rules : (m : ℕ) (a b c d e : Option ℕ) (r : Bool)
       → lower (or_else (at 6 a) (or_else (at 7 b) (or_else (at 8 c) (or_else (at 9 d) (or_else (at 10 e) none)))))
       (at 7 (cond r (some m) none))
-      ≡ or_else (at 6 a) (or_else (at 7 (or_else b (cond r (some m) none))) (or_else (at 8 c) (or_else (at 9 d) (at 10 e))))
+      ≡ or_else (at 6 a) (or_else (at 7 (or_else b (cond r (some m) none)))
+      (or_else (at 8 c) (or_else (at 9 d) (at 10 e))))
   five_rules m (some i) b c d e r =
       lower_stays 7 (refused 6 (p + i)) (at 7 (cond r (some m) none)) (seven_above m r) (omega arith)
   five_rules m none (some i) c d e r =

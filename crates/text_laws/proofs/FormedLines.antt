@@ -12,7 +12,8 @@ use Rattle.laws.proofs.OperatorLaws.{knows_all}
 
 module _ {N : Type 0} (R : N → List ℕ → Type 0) where
   pub formed_lines : (before fields : List (Field N)) (lines : List (List ℕ))
-      → first_break keeps_form before fields ≡ none → Each (SpellsLine R) fields lines → Each (SpellsField R) fields lines
+      → first_break keeps_form before fields ≡ none → Each (SpellsLine R) fields lines
+      → Each (SpellsField R) fields lines
   formed_lines before [] [] h p = tt
   formed_lines before [] (l ∷ lines) h p = absurd p
   formed_lines before (f ∷ fields) [] h p = absurd p

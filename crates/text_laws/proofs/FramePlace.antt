@@ -70,7 +70,8 @@ cut_lines (bit_row bits lines) l ls c e = front_map lines (l ∷ ls) c e
 cut_lines (long_row n s) l [] c e = cc
 cut_lines (long_row n s) l (m ∷ ls) c e = cc
 
-drawn_cut : (w : ℕ) (r : Row) (m : ℕ) → is_drawn_row row_lines_most w r ≡ true → is_drawn_row row_lines_most w (cut_row (suc
+drawn_cut : (w : ℕ) (r : Row) (m : ℕ) → is_drawn_row row_lines_most w r ≡ true
+    → is_drawn_row row_lines_most w (cut_row (suc
     m) r) ≡ true
 drawn_cut w (bit_row bits []) m h = h
 drawn_cut w (bit_row bits (ss ∷ lines)) m h =

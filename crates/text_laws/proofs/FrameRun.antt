@@ -14,7 +14,8 @@ use Rattle.rules.specs.Limits.{row_lines_most}
 use Rattle.rules.specs.Names.{is_label, line_feed}
 use Rattle.rules.specs.Within.{is_row_width}
 use Rattle.rules.specs.Rows.{Row, bit_row, long_row, bar_line, row_lines, is_drawn_row}
-use Rattle.rules.specs.Frames.{tens, units, border, is_line, is_brief, Frame, is_drawn, is_drawn_in, head_lines, article}
+use Rattle.rules.specs.Frames.{tens, units, border, is_line, is_brief, Frame, is_drawn, is_drawn_in, head_lines}
+use Rattle.rules.specs.Frames.{article}
 use Rattle.text_laws.specs.FrameReader.{closing, Top, State, begun, named, spaced, ruled, counted, bordered}
 use Rattle.text_laws.specs.FrameReader.{rowed, closed, headed, filled, on_width, on_row, row_or_end, on_same, step}
 use Rattle.text_laws.specs.FrameReader.{read_row, more_row, row_or_border, on_brief, run}
@@ -141,8 +142,10 @@ run_more h rows bits ss done [] m d =
     ap (λ (l : List (List (List ℕ))). run (rowed h rows (bit_row bits (ss ∷ l))) m) (sym (append-nil done))
 run_more h rows bits ss done (t ∷ more) m d =
     let e = append_assoc done (t ∷ []) more in
-    let d' : is_drawn_row row_lines_most h.row_width (bit_row bits (ss ∷ ((done ++ (t ∷ [])) ++ more))) ≡ true = rw e d in
-    run_one (rowed h rows (bit_row bits (ss ∷ done))) (rowed h rows (bit_row bits (ss ∷ (done ++ (t ∷ []))))) (bar_line t)
+    let d' : is_drawn_row row_lines_most h.row_width (bit_row bits (ss ∷ ((done ++ (t ∷ [])) ++ more))) ≡ true = rw e
+    d in
+    run_one (rowed h rows (bit_row bits (ss ∷ done))) (rowed h rows (bit_row bits (ss ∷ (done ++ (t ∷ [])))))
+    (bar_line t)
     (map bar_line more ++ m)
     (step_more h rows (bit_row bits (ss ∷ done)) (bit_row bits (ss ∷ (done ++ (t ∷ [])))) (bar_line t)
     (row_more h.row_width bits (ss ∷ done) t (drawn_front h.row_width bits ss (done ++ (t ∷ [])) more d')))
@@ -150,7 +153,8 @@ run_more h rows bits ss done (t ∷ more) m d =
     ∙ ap (λ (l : List (List (List ℕ))). run (rowed h rows (bit_row bits (ss ∷ l))) m) e
 
 -- all lines of a row
-pub run_row : (h : Top) (rows : List Row) (r : Row) (m : List (List ℕ)) → is_drawn_row row_lines_most h.row_width r ≡ true
+pub run_row : (h : Top) (rows : List Row) (r : Row) (m : List (List ℕ))
+    → is_drawn_row row_lines_most h.row_width r ≡ true
     → run (bordered h rows) (row_lines r ++ m) ≡ run (rowed h rows r) m
 unfolding row_lines
 run_row h rows (bit_row bits []) m d = absurd (not_both false (and_right (eqb (sum (λ n. n) bits) h.row_width) false
@@ -170,7 +174,8 @@ unfolding joined all
 run_rows h [] done m a = ap (λ (l : List Row). run (bordered h l) m) (sym (append-nil done))
 run_rows h (r ∷ rows) done m a =
     let w : ℕ = h.row_width in
-    let p : is_drawn_row row_lines_most w r ≡ true = and_left (is_drawn_row row_lines_most w r) (all (is_drawn_row row_lines_most
+    let p : is_drawn_row row_lines_most w r ≡ true = and_left (is_drawn_row row_lines_most w r)
+    (all (is_drawn_row row_lines_most
     w) rows) a in
     let i = run_rows h rows (done ++ (r ∷ [])) m (and_right (is_drawn_row row_lines_most w r) (all (is_drawn_row
     row_lines_most w) rows) a) in

@@ -90,7 +90,8 @@ row_or_end_lem h rows [] t a = go (is_empty rows) refl
     go true e = tt
     go false e = ((t, a, e), framed_more h rows [] ([] ∷ []))
 
-pub more_rows : (h : Top) (rows : List Row) (r : Row) → AreRows h rows → is_drawn_row row_lines_most h.row_width r ≡ true
+pub more_rows : (h : Top) (rows : List Row) (r : Row) → AreRows h rows
+    → is_drawn_row row_lines_most h.row_width r ≡ true
     → AreRows h (rows ++ (r ∷ []))
 unfolding all
 more_rows h rows r a p = all_append (is_drawn_row row_lines_most h.row_width) rows (r ∷ []) a (rw p)

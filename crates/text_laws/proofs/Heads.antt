@@ -160,7 +160,8 @@ unfolding opened opening_name
 on_opening n f l h = go (same (take 3 l) (bytes "An ")) (same (take 2 l) (bytes "A "))
   where
     go : (a b : Bool)
-        → Follows n f (cond a (on_name true (read_name (drop 3 l))) (cond b (on_name false (read_name (drop 2 l))) none))
+        → Follows n f (cond a (on_name true (read_name (drop 3 l)))
+        (cond b (on_name false (read_name (drop 2 l))) none))
         (with_name f (cond a (read_name (drop 3 l)) (cond b (read_name (drop 2 l)) none)))
     go true b = on_name_lem n f true h (read_name (drop 3 l))
     go false true = on_name_lem n f false h (read_name (drop 2 l))
@@ -198,7 +199,8 @@ on_border n f h (r ∷ rows) [] s =
     head_stands (suc n) (suc s.from) (closed h (r ∷ rows)) (onward where_line f) refl (ap suc s.lines) refl
     s.name s.width s.row s.fills
 on_border n f h (r ∷ rows) (b ∷ l) s =
-    subst (λ (w : ℕ). Follows n f (on_row h (r ∷ rows) (read_row h.row_width (b ∷ l))) (with_row f (read_row w (b ∷ l))))
+    subst (λ (w : ℕ). Follows n f (on_row h (r ∷ rows) (read_row h.row_width (b ∷ l)))
+    (with_row f (read_row w (b ∷ l))))
     (sym s.width) (on_row_lem n f h (r ∷ rows) s (read_row h.row_width (b ∷ l)))
 
 more_lines : (ls : List (List ℕ)) (l : List ℕ) → is_empty (ls ++ (l ∷ [])) ≡ false
@@ -299,7 +301,8 @@ line_stands n (counted t) f l h =
     (on_ruler n f border t.row_width (bordered t []) first_row l h.width
     (next_stands n (counted t) (bordered t []) first_row f h refl refl refl refl refl refl refl))
 line_stands n (bordered t rows) f l h =
-    at_stage n f (row_or_end t rows l) l (cond (is_empty rows) first_row row_or_blank) h.stage (on_border n f t rows l h)
+    at_stage n f (row_or_end t rows l) l (cond (is_empty rows) first_row row_or_blank) h.stage
+    (on_border n f t rows l h)
 line_stands n (rowed t rows r) f l h =
     let o : Option State = leave t rows r l (more_row t.row_width r l) in
     at_stage n f o l in_row h.stage

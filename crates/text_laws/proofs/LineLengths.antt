@@ -64,7 +64,8 @@ pub row_wide : (w : ℕ) (r : Row) → is_drawn_row row_lines_most w r ≡ true 
 unfolding row_lines all
 row_wide w (bit_row bits lines₀) h = go lines₀ (drawn_fitted w bits lines₀ h)
   where
-    go : (lines : List (List (List ℕ))) → all (are_fitted bits) lines ≡ true → all (is_wide w) (map bar_line lines) ≡ true
+    go : (lines : List (List (List ℕ))) → all (are_fitted bits) lines ≡ true
+        → all (is_wide w) (map bar_line lines) ≡ true
     go [] k = refl
     go (ss ∷ lines) k =
         let n = strips_length bits ss (and_left (are_fitted bits ss) (all (are_fitted bits) lines) k) in

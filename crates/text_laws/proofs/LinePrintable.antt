@@ -13,7 +13,8 @@ use Rattle.base.specs.Lists.{all, between, if_any}
 use Rattle.base.proofs.Lists.{and_left, and_right, or_cases, between_true, true_between, all_append, all_weaken}
 use Rattle.rules.specs.declared.Op.{Op}
 use Rattle.rules.specs.Operators.{operator, operators, symbol}
-use Rattle.rules.specs.Names.{is_letter, is_digit, is_space, is_printable, is_word_byte, is_label_byte, is_label, is_short}
+use Rattle.rules.specs.Names.{is_letter, is_digit, is_space, is_printable, is_word_byte, is_label_byte, is_label}
+use Rattle.rules.specs.Names.{is_short}
 use Rattle.rules.specs.Trees.{Tree, is_in_range}
 use Rattle.rules.specs.Fields.{Width, fixed, measured, rest, Field, Form, trees}
 use Rattle.rules.specs.Within.{is_width}

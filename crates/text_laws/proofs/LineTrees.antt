@@ -36,7 +36,8 @@ tree_sound s = go (expr (suc (length s)) 0 open_most s) (sound (suc (length s)) 
     go fail g = tt
     go (got t r) g = g
 
-pub tree_finds : (t : Tree (List ℕ)) (u r : List ℕ) → SpellsTree Unresolved t u → Stop 0 r → read_tree (u ++ r) ≡ hit t r
+pub tree_finds : (t : Tree (List ℕ)) (u r : List ℕ) → SpellsTree Unresolved t u → Stop 0 r
+    → read_tree (u ++ r) ≡ hit t r
 unfolding read_tree
 tree_finds t u r x st = rw (found_is r x st (suc (length (u ++ r))) (omega arith))
 
@@ -76,6 +77,6 @@ unfolding read_tree expr and_then atom leaf word is_number_word is_numeral is_le
 variable_barren z = rw (variable_word (word z))
 
 pub present_barren : (z : List ℕ) → read_tree (bytes "present only when " ++ z) ≡ miss
-unfolding read_tree expr and_then atom leaf word is_number_word is_numeral is_short is_letter is_digit is_word_byte is_reserved
-    reserved all any same
+unfolding read_tree expr and_then atom leaf word is_number_word is_numeral is_short is_letter is_digit is_word_byte
+    is_reserved reserved all any same
 present_barren z = refl

@@ -92,7 +92,8 @@ unit_stop r bytes_word = stop_word 0 98 (121 ∷ 116 ∷ 101 ∷ 115 ∷ r) refl
 abbrev pub WidthFront : List ℕ → Width (List ℕ) → List ℕ → Type 0
 WidthFront s w r = (u : List ℕ) × (s ≡ u ++ r) × SpellsWidth Unresolved w u × (is_width w ≡ true)
 
-width_of_lem : (u : ℕ) (t : Tree (List ℕ)) (s : List ℕ) → Measure Unresolved u t s → SpellsWidth Unresolved (width_of u t) s
+width_of_lem : (u : ℕ) (t : Tree (List ℕ)) (s : List ℕ) → Measure Unresolved u t s
+    → SpellsWidth Unresolved (width_of u t) s
 width_of_lem u (num m) s x = (u, m, refl, x)
 width_of_lem u (read a) s x = x
 width_of_lem u (two o a b) s x = x

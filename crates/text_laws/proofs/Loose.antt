@@ -199,7 +199,8 @@ module _ (f : Found) (fs : List (Field ℕ)) (h : StandIn f.judged fs) where
   moves_field l = go (leb (length l) line_most)
     where
       go : (b : Bool)
-          → Moves (cond b (brief_field f l) (wrong f)) (cond b (brief_field (found_with f fs) l) (wrong (found_with f fs)))
+          → Moves (cond b (brief_field f l) (wrong f))
+          (cond b (brief_field (found_with f fs) l) (wrong (found_with f fs)))
       go true = moves_brief l
       go false = moves_losing (refused 3 (blamed f.row f.lines))
 

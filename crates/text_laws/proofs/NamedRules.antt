@@ -28,7 +28,8 @@ use Rattle.text_laws.proofs.NamedFields.{
 
 module _ {N : Type 0} (fields : List (Field N)) where
   -- a name by which a field may be read has the form of a short name
-  pub name_short : first_break keeps_form [] fields ≡ none → (i : ℕ) (w : List ℕ) → NameIn fields i w → is_short w ≡ true
+  pub name_short : first_break keeps_form [] fields ≡ none → (i : ℕ) (w : List ℕ) → NameIn fields i w
+      → is_short w ≡ true
   name_short h i w p =
       let x = p.0 in
       let s = element_parts fields i x p.1 in

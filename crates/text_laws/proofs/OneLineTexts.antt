@@ -43,7 +43,8 @@ one_line_framed text f h k le b = record {
       ∙ ap (λ (ls : List (List ℕ)). joined ended ls ++ rest line_feed text) (sym (take-append-drop k (lines_of text)))
       ∙ ap (λ (m : List ℕ). m ++ rest line_feed text)
       (joined_append ended (take k (lines_of text)) (drop k (lines_of text)))
-      ∙ append_assoc (joined ended (take k (lines_of text))) (joined ended (drop k (lines_of text))) (rest line_feed text)
+      ∙ append_assoc (joined ended (take k (lines_of text))) (joined ended (drop k (lines_of text)))
+      (rest line_feed text)
       ∙ ap (λ (m : List ℕ). m ++ (joined ended (drop k (lines_of text)) ++ rest line_feed text))
       (sym (first_lines_lines k text (rw (line_count_lines text) at le)));
 }

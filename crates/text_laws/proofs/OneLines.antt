@@ -15,7 +15,8 @@ use Rattle.base.proofs.Breaks.{all_cons}
 use Rattle.rules.specs.Names.{is_label, is_label_byte, is_word_byte, is_letter, is_digit, is_space, no_two_spaces}
 use Rattle.rules.specs.Within.{is_row_width}
 use Rattle.rules.specs.Editions.{current, one_line}
-use Rattle.rules.specs.Rows.{left_trim, keep_end, right_trim, by_spaces, columns, cell_text, Row, row_lines, is_labelled}
+use Rattle.rules.specs.Rows.{left_trim, keep_end, right_trim, by_spaces, columns, cell_text, Row, row_lines}
+use Rattle.rules.specs.Rows.{is_labelled}
 use Rattle.rules.specs.Frames.{Frame, is_drawn, is_drawn_in, ended, frame_text, FrameOfIn, FrameOf}
 use Rattle.rules.specs.Refusals.{line_count, Begins, RightLines, rows_within, cut_row, wrong_line, Plain, RightLinesIn}
 use Rattle.rules.specs.Refusals.{RefusesIn, line}
@@ -94,8 +95,8 @@ abbrev is_fine : Row → Bool
 is_fine r = is_labelled r && is_one_line r
 
 plain_fine : (w : ℕ) → is_row_width w ≡ true → is_fine (plain_row w) ≡ true
-unfolding plain_row all only joined left_trim keep_end right_trim by_spaces cell_text columns row_lines is_label is_label_byte
-    is_word_byte is_letter is_digit is_space last_is no_two_spaces
+unfolding plain_row all only joined left_trim keep_end right_trim by_spaces cell_text columns row_lines is_label
+    is_label_byte is_word_byte is_letter is_digit is_space last_is no_two_spaces
 plain_fine w h = width_cases (λ v. is_fine (plain_row v) ≡ true) refl refl refl w h
 
 both_fine : (rows : List Row) → all is_labelled rows ≡ true → all is_one_line rows ≡ true → all is_fine rows ≡ true

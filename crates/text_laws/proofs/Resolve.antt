@@ -19,7 +19,8 @@ use Rattle.rules.specs.Limits.{fields_most}
 use Rattle.rules.specs.Names.{is_label}
 use Rattle.rules.specs.Trees.{Tree, has_type}
 use Rattle.rules.specs.Fields.{Width, fixed, measured, rest, Field, Form, is_fixed, read_names}
-use Rattle.rules.specs.Within.{Within, is_row_width, keeps_form, keeps_names, keeps_types, width_has_type, name_readable}
+use Rattle.rules.specs.Within.{Within, is_row_width, keeps_form, keeps_names, keeps_types, width_has_type}
+use Rattle.rules.specs.Within.{name_readable}
 use Rattle.rules.specs.Lines.{SpellsField, Unresolved}
 use Rattle.laws.proofs.OperatorLaws.{keeps_known}
 use Rattle.rules.specs.Editions.{Edition, current}

@@ -74,7 +74,8 @@ fit_row w more f (c ∷ cs) p place (x ∷ fields) h e m s =
     fit_bits w place c x.width (widths fields) (place_of (bit_cell c) x s.0) (rw at (omega arith))
     (fit_row w more f cs (p + c.bits) (place + c.bits) fields k.1 (omega arith) next s.1)
 
-pub rows_fit_lem : (w : ℕ) (rows : List Row) → all (is_drawn_row row_lines_most w) rows ≡ true → Fits w (joined slots_in rows)
+pub rows_fit_lem : (w : ℕ) (rows : List Row) → all (is_drawn_row row_lines_most w) rows ≡ true
+    → Fits w (joined slots_in rows)
 unfolding joined rows_fit
 rows_fit_lem w [] h place [] e s = eq-eqb (place % w) 0 e
 rows_fit_lem w [] h place (x ∷ fields) e s = absurd s

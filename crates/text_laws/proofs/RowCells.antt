@@ -9,7 +9,8 @@ use borrow.Author.Tests.{eqb-true, ne_eqb}
 use Rattle.base.specs.Lists.{all, head_is, last_is}
 use Rattle.base.proofs.Lists.{and_left, and_right, all_weaken, not_both}
 use Rattle.rules.specs.Limits.{label_most}
-use Rattle.rules.specs.Names.{line_feed, is_label, is_label_byte, is_word_byte, is_letter, is_digit, is_space, has_word_ends}
+use Rattle.rules.specs.Names.{line_feed, is_label, is_label_byte, is_word_byte, is_letter, is_digit, is_space}
+use Rattle.rules.specs.Names.{has_word_ends}
 use Rattle.rules.specs.Names.{no_two_spaces}
 use Rattle.rules.specs.Rows.{left_trim, keep_end, right_trim}
 use Rattle.text_laws.proofs.SplitLaws.{is_free}

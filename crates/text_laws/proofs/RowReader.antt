@@ -176,7 +176,8 @@ drawn_fitted w bits lines h = and_right (is_tall lines) (all (are_fitted bits) l
 
 -- the first lines of a drawn row are one
 pub drawn_front : (w : ℕ) (bits : List ℕ) (l : List (List ℕ)) (front more : List (List (List ℕ)))
-    → is_drawn_row row_lines_most w (bit_row bits (l ∷ (front ++ more))) ≡ true → is_drawn_row row_lines_most w (bit_row bits
+    → is_drawn_row row_lines_most w (bit_row bits (l ∷ (front ++ more))) ≡ true
+    → is_drawn_row row_lines_most w (bit_row bits
     (l ∷ front)) ≡ true
 drawn_front w bits l front more h =
     let n = length-append front more in
@@ -190,7 +191,8 @@ drawn_front w bits l front more h =
     (le-leb (suc (length front)) row_lines_most (omega (arith, n, t))))
     (all_front (are_fitted bits) (l ∷ front) more (drawn_fitted w bits (l ∷ (front ++ more)) h)))
 
-pub row_first : (w : ℕ) (bits : List ℕ) (ss : List (List ℕ)) → is_drawn_row row_lines_most w (bit_row bits (ss ∷ [])) ≡ true
+pub row_first : (w : ℕ) (bits : List ℕ) (ss : List (List ℕ)) → is_drawn_row row_lines_most w (bit_row bits (ss ∷ []))
+    ≡ true
     → read_row w (bar_line ss) ≡ some (bit_row bits (ss ∷ []))
 unfolding read_row row_of keep_row all
 row_first w bits ss h =

@@ -60,7 +60,8 @@ lower_right none b e = e
 lower_right (some a) b e = absurd (none-ne-some a (sym (lower_left (some a) b e)))
 
 -- one more name that repeats none
-pub unique_more : (before : List Form) (x : Form) → first_break keeps_names [] before ≡ none → keeps_names before x ≡ true
+pub unique_more : (before : List Form) (x : Form) → first_break keeps_names [] before ≡ none
+    → keeps_names before x ≡ true
     → first_break keeps_names [] (before ++ (x ∷ [])) ≡ none
 unique_more before x h k = rw (break_more keeps_names before x, h, k) refl
 

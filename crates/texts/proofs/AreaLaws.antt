@@ -145,12 +145,14 @@ module _ (held part : List ℕ) (room : held_room ≤ length held) where
   }
 
   pub table_put : length part ≡ length held - table_at
-      → AreasAre (put_mid table_at (length held - table_at) held part) (cell_bytes held) (name_bytes held) (label_bytes held)
+      → AreasAre (put_mid table_at (length held - table_at) held part) (cell_bytes held) (name_bytes held)
+      (label_bytes held)
       part
   table_put long = record {
     cells_are = mid_before table_at (length held - table_at) held part (omega arith) 0 slots_most (omega arith);
     names_are = mid_before table_at (length held - table_at) held part (omega arith) names_at names_room (omega arith);
-    labels_are = mid_before table_at (length held - table_at) held part (omega arith) labels_at labels_room (omega arith);
+    labels_are = mid_before table_at (length held - table_at) held part (omega arith) labels_at labels_room
+        (omega arith);
     table_is = mid_from table_at (length held - table_at) held part (omega arith)
         ∙ ap (λ (z : List ℕ). part ++ z) none ∙ append-nil part;
   }

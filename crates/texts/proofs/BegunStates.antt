@@ -129,7 +129,8 @@ module _ (s z names : List ℕ) (room : state_room ≤ length s) (zeros : z ≡ 
       ap (λ (l : List ℕ). take state_room (put_mid (held_at + names_at) names_room z l)) starts
       ∙ ap (λ (l : List ℕ). take state_room (put_mid (held_at + names_at) names_room l
       (filled 0 buckets no_start (take names_room (drop (held_at + names_at) l))))) zeros
-      ∙ around_front (held_at + names_at) buckets (names_room - buckets) (state_room - (held_at + names_at + names_room))
+      ∙ around_front (held_at + names_at) buckets (names_room - buckets)
+      (state_room - (held_at + names_at + names_room))
       no_start s
 
   pub start_states : StartsText Left fresh_state s (put_mid (held_at + names_at) names_room z names)

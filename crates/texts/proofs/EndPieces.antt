@@ -75,7 +75,8 @@ module _ (s : List ℕ) (room : state_room ≤ length s) where
         (area t (twos_in fields_most (count_bytes s))) out after a) table_lent_lem
         (subst (λ (x : Reading). EndStep x (eqb (two_at s used_at) 0) (row_bytes s)
         (area (table_lent s) (twos_in fields_most (count_bytes s))) out after a) e step) in
-        at_end q (cell_bytes (held_bytes s)) (labels_in (label_bytes (held_bytes s))) (names_in (name_bytes (held_bytes s)))
+        at_end q (cell_bytes (held_bytes s)) (labels_in (label_bytes (held_bytes s)))
+        (names_in (name_bytes (held_bytes s)))
         (line_empty h.used) h.kept.steady h.kept.rows h.kept.holds
         ∙ sym (finish_alike k q out (record { found = refl; line = λ z. sym (h.line z) }))
 
@@ -163,7 +164,8 @@ short_ends s out lt = (
 
 -- the state of a text that is too long
 pub long_ends : (s out : List ℕ) → state_room ≤ length s → text_most < two_at s 0
-    → EndsText Left s out (leaves (of_text TextAnswer.TooLong) out) × ((of_text TextAnswer.TooLong).place ≤ text_most + 1)
+    → EndsText Left s out (leaves (of_text TextAnswer.TooLong) out)
+    × ((of_text TextAnswer.TooLong).place ≤ text_most + 1)
 unfolding of_text
 long_ends s out room over = (
   record {

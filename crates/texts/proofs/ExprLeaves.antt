@@ -104,7 +104,8 @@ pub number_large : (w : List ℕ) → number_most < word_value w → is_number_w
 unfolding is_number_word
 number_large w lt = rw (lt-leb (word_value w) number_most lt) (and-false (is_numeral w))
 
-pub number_yes : (w : List ℕ) → 0 < length w → (get_or w 0 0 ≡ 48 → ⊥) → all is_digit w ≡ true → word_value w ≤ number_most
+pub number_yes : (w : List ℕ) → 0 < length w → (get_or w 0 0 ≡ 48 → ⊥) → all is_digit w ≡ true
+    → word_value w ≤ number_most
     → is_number_word w ≡ true
 unfolding is_number_word is_numeral all
 number_yes [] lt ne a le = absurd (omega arith)

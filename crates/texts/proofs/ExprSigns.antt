@@ -53,7 +53,8 @@ module _ (s : List ℕ) (at : ℕ) where
     unfolding WithinSign SameSign
     sign_other n = (tt, rw (here, no_operator (get_or s at 0) (drop (suc at) s) n) refl)
 
-    module _ (next : ℕ) (m : Symbol) (is : next ≡ get_or s (at + 1) 0) (found_is : m ≡ symbol_of (get_or s at 0) next) where
+    module _ (next : ℕ) (m : Symbol) (is : next ≡ get_or s (at + 1) 0)
+        (found_is : m ≡ symbol_of (get_or s at 0) next) where
       second : get_or (drop (suc at) s) 0 0 ≡ next
       second = get_or-drop (suc at) s 0 0 ∙ rw is (rw (add-one at, add-zero (suc at)) refl)
 
@@ -72,7 +73,8 @@ module _ (s : List ℕ) (at : ℕ) where
           let k : (1 ≤ n) × (n ≤ length (drop at s)) = rw e at sized_is in
           (k.0, omega (arith, k.1, length-drop at s))
 
-      pub sign_at_place : (o : Op) (n : ℕ) → m ≡ Symbol.Is o n → Signed (first_of order (drop at s)) (sign.At o (at + n))
+      pub sign_at_place : (o : Op) (n : ℕ) → m ≡ Symbol.Is o n
+          → Signed (first_of order (drop at s)) (sign.At o (at + n))
       unfolding WithinSign SameSign
       sign_at_place o n e =
           let k = sign_length o n e in

@@ -17,7 +17,8 @@ use Rattle.rules.specs.Names.{is_short}
 use Rattle.rules.specs.Fields.{Width, fixed, measured, rest, Field, Form, is_rest, is_rest_width}
 use Rattle.text_laws.specs.LineReader.{read_form}
 use Rattle.text_laws.specs.Lowest.{lower, broken}
-use Rattle.text_laws.specs.Judging.{face_width, face, faces, resolved_in, rules, Judged, is_open, is_many, is_full, many}
+use Rattle.text_laws.specs.Judging.{face_width, face, faces, resolved_in, rules, Judged, is_open, is_many, is_full}
+use Rattle.text_laws.specs.Judging.{many}
 use Rattle.text_laws.specs.Judging.{with_form, judge}
 use Rattle.text_laws.specs.Fold as fold
 use Rattle.text_laws.specs.Steady.{StandIn, Steady}

@@ -7,10 +7,10 @@ use Prim.Native.Nat.{ℕ, ◌+◌, ◌-◌, ◌≤◌, ◌<◌}
 use native.Mathlib.Omega.{arith}
 use native.Mathlib.Numerals.{add-one}
 use native.Mathlib.Nat.{le_of_suc-le-suc}
-use lib.Dec.{eqb}
+use lib.Dec.{eqb, leb}
 use lib.ListN.{length, take, drop, get_or}
 use lib.Seq.{drop-cons, drop-length}
-use borrow.Author.Tests.{eq-eqb, ne_eqb}
+use borrow.Author.Tests.{le-leb, lt-leb, eq-eqb, ne_eqb}
 use Rattle.base.specs.Bytes.{bytes}
 use Rattle.base.specs.Lists.{all, same, is_none}
 use Rattle.rules.specs.Names.{is_printable}
@@ -24,7 +24,8 @@ use Rattle.texts.proofs.ExprLeaves.{word_part}
 
 -- one byte of a phrase
 module _ (w s : List ℕ) (i j : ℕ) (lw : i < length w) (ls : j < length s) where
-  pub begins_step : get_or w i 0 ≡ get_or s j 0 → begins (drop i w) (drop j s) ≡ begins (drop (i + 1) w) (drop (j + 1) s)
+  pub begins_step : get_or w i 0 ≡ get_or s j 0 → begins (drop i w) (drop j s) ≡ begins (drop (i + 1) w)
+      (drop (j + 1) s)
   unfolding begins after
   begins_step e =
       rw (add-one i, add-one j, drop-cons w i 0 lw, drop-cons s j 0 ls, eq-eqb (get_or w i 0) (get_or s j 0) e) refl
@@ -63,6 +64,14 @@ module _ (s : List ℕ) (at : ℕ) where
   pub remark_space : at < length s → get_or s at 0 ≡ 32 → is_remark (drop at s) ≡ all is_printable (drop (at + 1) s)
   unfolding is_remark
   remark_space lt e = rw (add-one at, drop-cons s at 0 lt, eq-eqb (get_or s at 0) 32 e) refl
+
+pub printable_low : (b : ℕ) → b < 32 → is_printable b ≡ false
+unfolding is_printable
+printable_low b lt = rw (lt-leb 32 b lt) refl
+
+pub printable_rest : (b : ℕ) → 32 ≤ b → is_printable b ≡ leb b 126
+unfolding is_printable
+printable_rest b le = rw (le-leb 32 b le) refl
 
 -- ── units ──
 

@@ -49,7 +49,8 @@ abbrev AreOf : ℕ → List Op → Bool
 AreOf n os = all (λ o. eqb (length (symbol o)) n) os
 
 first_of_length : (os rest : List Op) (n : ℕ) (s : List ℕ) (m : Symbol) → AreOf n os ≡ true
-    → length (take n s) ≡ n → first_of rest s ≡ found_by m s → first_of (os ++ rest) s ≡ found_by (symbol_in os (take n s)
+    → length (take n s) ≡ n → first_of rest s ≡ found_by m s → first_of (os ++ rest) s ≡ found_by
+    (symbol_in os (take n s)
     m) s
 unfolding all first_of symbol_in
 first_of_length [] rest n s m a l e = e

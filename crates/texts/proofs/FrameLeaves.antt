@@ -73,17 +73,30 @@ module _ (f : ℕ → ℕ) (l : List ℕ) (n : ℕ) where
   pub ruler_length : (length l ≡ n → ⊥) → same l (tabulate f 0 n) ≡ false
   ruler_length ne = same_length l (tabulate f 0 n) (λ e. ne (e ∙ length_tabulate f 0 n))
 
+  pub ruler_end : (i : ℕ) → length l ≡ n → length l ≤ i → i ≤ length l
+      → same (drop i l) (drop i (tabulate f 0 n)) ≡ true
+  ruler_end i e le le' = same_end l (tabulate f 0 n) i (omega arith) (omega (arith, length_tabulate f 0 n))
+
   -- all columns were told
-  pub ruler_end : (each : Bool) (i : ℕ) → length l ≡ n → length l ≤ i → i ≤ length l
+  pub ruler_whole : (each : Bool) (i : ℕ) → length l ≡ n → length l ≤ i → i ≤ length l
       → (each && same (drop i l) (drop i (tabulate f 0 n))) ≡ each
-  ruler_end true i e le le' = same_end l (tabulate f 0 n) i (omega arith) (omega (arith, length_tabulate f 0 n))
-  ruler_end false i e le le' = refl
+  ruler_whole true i e le le' = ruler_end i e le le'
+  ruler_whole false i e le le' = refl
 
   ruler_step : (i : ℕ) → length l ≡ n → i < length l → same (drop i l) (drop i (tabulate f 0 n))
       ≡ (eqb (get_or l i 0) (f i) && same (drop (i + 1) l) (drop (i + 1) (tabulate f 0 n)))
   ruler_step i e lt =
       same_step l (tabulate f 0 n) i lt (omega (arith, length_tabulate f 0 n))
       ∙ rw (get_d_tabulate f n i (omega arith)) refl
+
+  pub ruler_stop : (i r : ℕ) → length l ≡ n → i < length l → r ≡ f i → (get_or l i 0 ≡ r → ⊥)
+      → same (drop i l) (drop i (tabulate f 0 n)) ≡ false
+  ruler_stop i r e lt q ne =
+      ruler_step i e lt ∙ rw (ne_eqb (get_or l i 0) (f i) (λ h. ne (h ∙ sym q))) refl
+
+  pub ruler_next : (i r : ℕ) → length l ≡ n → i < length l → r ≡ f i → get_or l i 0 ≡ r
+      → same (drop i l) (drop i (tabulate f 0 n)) ≡ same (drop (i + 1) l) (drop (i + 1) (tabulate f 0 n))
+  ruler_next i r e lt q h = ruler_step i e lt ∙ rw (eq-eqb (get_or l i 0) (f i) (h ∙ q)) refl
 
   -- a column more is told
   pub ruler_told : (each : Bool) (i r : ℕ) → length l ≡ n → i < length l → r ≡ f i

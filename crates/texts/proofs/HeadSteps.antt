@@ -82,7 +82,8 @@ name_of s h = go (ltb (length s) 25) refl
     n : ℕ
     n = length s - 25
 
-    found : 25 ≤ length s → (b : Bool) → (same (drop n s) (bytes " is formatted as follows:") && is_label (take n s)) ≡ b
+    found : 25 ≤ length s → (b : Bool) → (same (drop n s) (bytes " is formatted as follows:") && is_label (take n s))
+        ≡ b
         → is_some (cond b (some (take n s)) none) ≡ true → NameOf s
     found le true e k = record {
       long = le;

@@ -192,7 +192,8 @@ cut_is f = go (fold.is_lost f.stage) refl
     go false e = (refl, refl)
 
 -- how long the held line is
-held_long : (s : List ℕ) → state_room ≤ length s → two_at s used_at ≤ line_most → length (held_line s) ≡ two_at s used_at
+held_long : (s : List ℕ) → state_room ≤ length s → two_at s used_at ≤ line_most
+    → length (held_line s) ≡ two_at s used_at
 held_long s room less =
     length-take-le (two_at s used_at) (drop line_at s) (let n = length-drop line_at s in omega (arith, n))
 

@@ -12,7 +12,8 @@ use Rattle.text_laws.specs.Fold as fold
 use Rattle.texts.specs.Fills.{zeros}
 use Rattle.texts.specs.HeldAreas.{held_room}
 use Rattle.texts.specs.RowPlaces.{row_room}
-use Rattle.texts.specs.StateNumbers.{used_at, line_at, row_at, counts_at, held_at, state_room, reading_in, Fits, twos_in}
+use Rattle.texts.specs.StateNumbers.{used_at, line_at, row_at, counts_at, held_at, state_room, reading_in, Fits}
+use Rattle.texts.specs.StateNumbers.{twos_in}
 use Rattle.texts.specs.PieceStates.{StateHolds, Left, line_bytes, row_bytes, count_bytes, held_bytes}
 use Rattle.texts.specs.declared.states.Reading.{Reading}
 use Rattle.texts.proofs.KeptStates.{kept_in}

@@ -8,9 +8,9 @@ use native.Mathlib.Numerals.{add-one}
 use lib.Dec.{eqb, eqb-suc-suc, eqb-zero-suc}
 use lib.ListN.{length, take, drop, get_or, length-drop}
 use lib.Seq.{drop-cons, drop-drop, drop-length, get_or-drop, take-suc}
-use borrow.Author.Tests.{ne_eqb, eq-eqb}
+use borrow.Author.Tests.{le-leb, lt-leb, ne_eqb, eq-eqb}
 use Rattle.base.specs.Lists.{all}
-use Rattle.base.proofs.Lists.{and_left, and_right, between_true, or_right}
+use Rattle.base.proofs.Lists.{and_left, and_right, between_true, true_between, or_right}
 use Rattle.rules.specs.Names.{is_printable, is_allowed, line_feed}
 use Rattle.rules.specs.Frames.{is_line}
 use Rattle.texts.specs.FramePlaces.{up_to}
@@ -19,6 +19,15 @@ use Rattle.texts.proofs.ExprLeaves.{all_step, all_stop, all_end}
 use Rattle.texts.proofs.FrameLeaves.{up_to_end, up_to_stop}
 
 -- ── bytes ──
+
+pub printable_high : (b : ℕ) → 126 < b → is_printable b ≡ false
+unfolding is_printable
+printable_high b lt =
+    let le : 32 ≤ b = omega arith in rw (le-leb 32 b le, lt-leb b 126 lt) refl
+
+pub printable_between : (b : ℕ) → 32 ≤ b → b ≤ 126 → is_printable b ≡ true
+unfolding is_printable
+printable_between b le le' = true_between 32 b 126 le le'
 
 -- a printable byte is no line feed
 feed_other : (b : ℕ) → is_printable b ≡ true → eqb b line_feed ≡ false
@@ -175,7 +184,8 @@ module _ (s : List ℕ) (at i : ℕ) (first : i ≡ at + printable_length (drop 
   feed_end le le' = omega (arith, part_feed, up_to_end line_feed s i le le')
 
   -- at a line feed, what is behind it decides
-  pub allowed_feed : i < length s → get_or s i 0 ≡ line_feed → all is_allowed (drop at s) ≡ all is_allowed (drop (i + 1) s)
+  pub allowed_feed : i < length s → get_or s i 0 ≡ line_feed → all is_allowed (drop at s) ≡ all is_allowed
+      (drop (i + 1) s)
   allowed_feed lt e = part_allowed ∙ all_step is_allowed s i lt (feed_allowed (get_or s i 0) e)
 
   pub feed_here : i < length s → get_or s i 0 ≡ line_feed → i ≡ at + up_to line_feed (drop at s)

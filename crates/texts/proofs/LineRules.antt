@@ -24,7 +24,8 @@ module _ (names : Names) (n : ℕ) where
   fixed_kind_lem (measured u v) k b t h = rw h.0 refl
   fixed_kind_lem rest k b t h = rw h.0 refl
 
-  pub rest_kind_lem : (v : Width (List ℕ)) (k b : ℕ) (t : TreeBytes) → WidthHeld names n v k b t → eqb k 14 ≡ is_rest_width v
+  pub rest_kind_lem : (v : Width (List ℕ)) (k b : ℕ) (t : TreeBytes) → WidthHeld names n v k b t
+      → eqb k 14 ≡ is_rest_width v
   rest_kind_lem (fixed m) k b t h = rw h.0 refl
   rest_kind_lem (measured u v) k b t h = rw h.0 refl
   rest_kind_lem rest k b t h = rw h.0 refl

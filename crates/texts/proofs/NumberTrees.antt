@@ -14,7 +14,8 @@ use Rattle.rules.specs.Limits.{open_most}
 use Rattle.rules.specs.Names.{is_short}
 use Rattle.rules.specs.Operators.{level, left_level, right_level, atom_level}
 use Rattle.rules.specs.Trees.{Tree, num, read, two, negation}
-use Rattle.text_laws.specs.Reader.{Out, fail, got, Found, missing, found, word, behind, word_value, is_number_word, leaf}
+use Rattle.text_laws.specs.Reader.{Out, fail, got, Found, missing, found, word, behind, word_value, is_number_word}
+use Rattle.text_laws.specs.Reader.{leaf}
 use Rattle.text_laws.specs.Reader.{close, inside, atom, step, and_then, expr, more, operator_at}
 use Rattle.text_laws.specs.LineReader.{hit, of_out, read_tree}
 use Rattle.texts.specs.PartPlaces.{past_open}

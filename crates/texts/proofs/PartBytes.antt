@@ -15,7 +15,8 @@ use Rattle.writing.proofs.Writing.{writes_none, writes_join}
 use Rattle.rules.specs.Limits.{text_most, stored_most}
 use Rattle.rules.specs.Trees.{Tree, le2, stored_tree}
 use Rattle.rules.specs.Fields.{Width, fixed, measured, rest, Form}
-use Rattle.rules.specs.Stored.{stored_field_in, counted, kind_number, stored_width, stored_name, stored_maybe, field_body}
+use Rattle.rules.specs.Stored.{stored_field_in, counted, kind_number, stored_width, stored_name, stored_maybe}
+use Rattle.rules.specs.Stored.{field_body}
 use Rattle.text_laws.specs.Resolving.{rename_tree, rename_width}
 use Rattle.writing.specs.Puts.{placed, put}
 use Rattle.texts.specs.HeldNames.{Names}

@@ -88,7 +88,8 @@ long_other w l le n = go (eqb (up_to 58 l) (length l)) refl
         (behind t (take (up_to 58 l) l) (pieces 58 t) refl (omega (arith, lt, n, length-drop (suc (up_to 58 l)) l)))
 
 -- the colon is the last byte: the length decides
-long_one_lem : (w : ℕ) (l : List ℕ) → is_line l ≡ true → length l - up_to 58 l ≡ 1 → eqb (length l) (2 * w) ≡ is_long w l
+long_one_lem : (w : ℕ) (l : List ℕ) → is_line l ≡ true → length l - up_to 58 l ≡ 1
+    → eqb (length l) (2 * w) ≡ is_long w l
 unfolding long_of pieces rest all
 long_one_lem w l i e =
     let lt : up_to 58 l < length l = omega arith in

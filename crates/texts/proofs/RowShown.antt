@@ -12,7 +12,8 @@ use Rattle.base.specs.Lists.{all, is_empty, joined, sum}
 use Rattle.base.proofs.Lists.{and_left, and_right, between_true}
 use Rattle.rules.specs.Limits.{row_lines_most}
 use Rattle.rules.specs.Names.{is_label}
-use Rattle.rules.specs.Rows.{Cell, cell_text, Row, bit_row, long_row, bar_line, row_lines, is_fitted, are_fitted, is_drawn_row}
+use Rattle.rules.specs.Rows.{Cell, cell_text, Row, bit_row, long_row, bar_line, row_lines, is_fitted, are_fitted}
+use Rattle.rules.specs.Rows.{is_drawn_row}
 use Rattle.rules.specs.Rows.{first, others, columns, row_cells, is_labelled, is_long}
 use Rattle.rules.specs.Frames.{Slot, slots_in}
 use Rattle.text_laws.specs.FrameReader.{pieces, rest}

@@ -294,13 +294,13 @@ module _ (r : Reading) (l : List ℕ) (s : Stage) (told : r.stage ≡ s) where
           begun f o h.counts.width (h.counts.row ∙ ap (λ (p : Option Row). length (lines_in p)) o),
         ))
 
-    -- a line that must be a certain one, which may go by W
-    pub expect_step : (want : ℕ → List ℕ) (next : Stage) (right : Bool) (held : List ℕ) {row : List ℕ}
+    -- a line that must be a certain one, which may go by W, whatever counts are held
+    pub expect_head : (want : ℕ → List ℕ) (next : Stage) (right : Bool) (held : List ℕ) {row : List ℕ}
         → Room r → right ≡ same l (want r.width)
         → ((f : fold.Found) → fold.lined_at (stage_of s) f l ≡ fold.expect (want f.width) (stage_of next) f l)
         → Taken r (expected right r next)
         × ((counts : List ℕ) → LineStep l r (expected right r next) held held row row counts counts)
-    expect_step want next right held room e is = (
+    expect_head want next right held room e is = (
       taken_expect right r next room,
       λ counts. (
         refl,
@@ -319,3 +319,11 @@ module _ (r : Reading) (l : List ℕ) (s : Stage) (told : r.stage ≡ s) where
             go : (b : Bool) → (cond b (fold.onward n f) (fold.wrong f)).row ≡ f.row
             go true = refl
             go false = refl
+
+    pub expect_step : (want : ℕ → List ℕ) (next : Stage) (right : Bool) (held : List ℕ) {row counts : List ℕ}
+        → Room r → right ≡ same l (want r.width)
+        → ((f : fold.Found) → fold.lined_at (stage_of s) f l ≡ fold.expect (want f.width) (stage_of next) f l)
+        → Taken r (expected right r next) × LineStep l r (expected right r next) held held row row counts counts
+    expect_step want next right held {row = row} {counts = counts} room e is =
+        let p = expect_head want next right held {row = row} room e is in
+        (p.0, p.1 counts)

@@ -1,5 +1,6 @@
 -- The names of fields as the code holds them, by value: mirrors the code, no public promise rests on it.
-use Rattle.std.specs.Prelude.{◌≡◌, Bool, true, cond, ◌&&◌, ◌||◌, not, List, [], ◌∷◌, ℕ, zero, suc, ◌+◌, ◌*◌, ◌-◌, ◌≤◌, ◌<◌, eqb, ltb, length, take, drop, get_or, set}
+use Rattle.std.specs.Prelude.{◌≡◌, Bool, true, cond, ◌&&◌, ◌||◌, not, List, [], ◌∷◌, ℕ, zero, suc, ◌+◌, ◌*◌, ◌-◌, ◌≤◌}
+use Rattle.std.specs.Prelude.{◌<◌, eqb, ltb, length, take, drop, get_or, set}
 use Rattle.base.specs.Lists.{same}
 use Rattle.rules.specs.Limits.{fields_most, label_most, short_most}
 use Rattle.names.specs.Classes.{class_table}

@@ -1,6 +1,7 @@
 -- The record of a field line by the parts that the code holds, and what it tests of them: mirrors the code, no public
 -- promise rests on it.
-use Rattle.std.specs.Prelude.{◌≡◌, Bool, true, cond, ◌&&◌, ◌||◌, not, List, [], ◌++◌, ℕ, ◌+◌, ◌≤◌, eqb, leb, length, take, drop}
+use Rattle.std.specs.Prelude.{◌≡◌, Bool, true, cond, ◌&&◌, ◌||◌, not, List, [], ◌++◌, ℕ, ◌+◌, ◌≤◌, eqb, leb, length}
+use Rattle.std.specs.Prelude.{take, drop}
 use Rattle.base.specs.Lists.{same}
 use Rattle.rules.specs.Limits.{depth_most, stored_most}
 use Rattle.rules.specs.Names.{is_label}

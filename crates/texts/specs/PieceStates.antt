@@ -10,7 +10,8 @@ use Rattle.texts.specs.RowPlaces.{row_room}
 use Rattle.texts.specs.Fills.{zeros, zeros_around}
 use Rattle.texts.specs.NameStarts.{buckets, no_start}
 use Rattle.texts.specs.HeldAreas.{names_at, held_room}
-use Rattle.texts.specs.StateNumbers.{used_at, line_at, row_at, counts_at, held_at, state_room, reading_in, Fits, twos_in}
+use Rattle.texts.specs.StateNumbers.{used_at, line_at, row_at, counts_at, held_at, state_room, reading_in, Fits}
+use Rattle.texts.specs.StateNumbers.{twos_in}
 use Rattle.texts.specs.WalkSteps.{KeptAs, WalkedTo}
 use Rattle.texts.specs.declared.walks.Walked.{Walked}
 use Rattle.texts.specs.declared.states.Reading.{Reading}

@@ -1,6 +1,7 @@
 -- The numbers of what is kept of a text, as bytes of a state: mirrors the code, no public promise rests on it.
 -- [02, R-9]
-use Rattle.std.specs.Prelude.{◌≡◌, true, cond, List, [], ◌∷◌, ℕ, zero, suc, ◌+◌, ◌*◌, ◌/◌, ◌%◌, ◌≤◌, eqb, length, take, drop, get_or}
+use Rattle.std.specs.Prelude.{◌≡◌, true, cond, List, [], ◌∷◌, ℕ, zero, suc, ◌+◌, ◌*◌, ◌/◌, ◌%◌, ◌≤◌, eqb, length}
+use Rattle.std.specs.Prelude.{take, drop, get_or}
 use Rattle.rules.specs.Limits.{text_most, line_most, fields_most}
 use Rattle.rules.specs.Values.{yes_no}
 use Rattle.laws.specs.Places.{two_at}

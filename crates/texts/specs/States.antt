@@ -1,5 +1,6 @@
 -- What the code keeps of a text between two lines: mirrors the code, no public promise rests on it.
-use Rattle.std.specs.Prelude.{◌≡◌, Bool, true, false, cond, ◌&&◌, ◌||◌, not, List, [], ◌∷◌, ◌++◌, ℕ, suc, ◌+◌, ◌-◌, ◌*◌, ◌≤◌, eqb, ltb, leb, length, take, drop, get_or}
+use Rattle.std.specs.Prelude.{◌≡◌, Bool, true, false, cond, ◌&&◌, ◌||◌, not, List, [], ◌∷◌, ◌++◌, ℕ, suc, ◌+◌, ◌-◌}
+use Rattle.std.specs.Prelude.{◌*◌, ◌≤◌, eqb, ltb, leb, length, take, drop, get_or}
 use Rattle.std.proofs.Math.Option.{Option, none, some}
 use Rattle.std.proofs.Math.ListN.{get_elem?}
 use Rattle.base.specs.Lists.{all, any, joined, between, is_empty}
@@ -145,7 +146,8 @@ pub record Holds (f : fold.Found) (r : Reading) (cells : List ℕ) (table : Area
 -- in the bytes that hold all of it but the counts
 abbrev pub HoldsIn : fold.Found → Reading → List ℕ → List ℕ → Type 0
 HoldsIn f r held counts =
-    Holds f r (cell_bytes held) (area (table_bytes held) counts) (labels_in (label_bytes held)) (names_in (name_bytes held))
+    Holds f r (cell_bytes held) (area (table_bytes held) counts) (labels_in (label_bytes held))
+    (names_in (name_bytes held))
 
 -- one line of the head outside of rows, with the buffers of cells and of records before and behind it
 abbrev pub HeadStep : (fold.Found → fold.Found) → Reading → Reading → List ℕ → List ℕ → Area → Area → Type 0
@@ -263,7 +265,8 @@ last_note at.RowOrBlank r whole row = note_of (early_note r)
 last_note at.WhereLine r whole row = note_of (early_note r)
 last_note at.LastBlank r whole row = note_of (early_note r)
 last_note at.FirstField r whole row = note_of (early_note r)
-last_note at.FieldLine r whole row = cond whole (lower (note_of r.note) (note_of (remain_note r))) (note_of (early_note r))
+last_note at.FieldLine r whole row = cond whole (lower (note_of r.note) (note_of (remain_note r)))
+    (note_of (early_note r))
 last_note at.Lost r whole row = note_of r.note
 
 -- the table that is put into an output

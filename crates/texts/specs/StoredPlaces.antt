@@ -1,6 +1,7 @@
 -- How the code makes stored expressions, and what it promises of them at places of a text: mirrors the code, no public
 -- promise rests on it.
-use Rattle.std.specs.Prelude.{◌≡◌, Bool, cond, ◌&&◌, List, ◌∷◌, ℕ, suc, ◌+◌, ◌*◌, ◌≤◌, ◌<◌, max, eqb, length, take, drop}
+use Rattle.std.specs.Prelude.{◌≡◌, Bool, cond, ◌&&◌, List, ◌∷◌, ℕ, suc, ◌+◌, ◌*◌, ◌≤◌, ◌<◌, max, eqb, length, take}
+use Rattle.std.specs.Prelude.{drop}
 use Rattle.rules.specs.declared.Op.{Op}
 use Rattle.rules.specs.Operators.{code, takes, gives, not_code}
 use Rattle.rules.specs.Trees.{Tree}

@@ -45,7 +45,8 @@ unfoldable pub type_of : {N : Type 0} → (N → Bool) → Tree N → ℕ
 type_of may (num n) = 1
 type_of may (read a) = cond (may a) 1 0
 type_of may (two o a b) =
-    cond (eqb (type_of may a) (type_code (takes o)) && eqb (type_of may b) (type_code (takes o))) (type_code (gives o)) 0
+    cond (eqb (type_of may a) (type_code (takes o)) && eqb (type_of may b) (type_code (takes o)))
+    (type_code (gives o)) 0
 type_of may (negation a) = cond (eqb (type_of may a) 2) 2 0
 
 -- ── stored expressions ──

@@ -69,7 +69,8 @@ pub cut_place_low : (table out : List ℕ) (first last : ℕ) (a : Answer) (afte
 cut_place_low table out first last a after h =
     let fits = within_decidable current in
     low_by table a
-    (λ good. (by_table good (λ d. cut_outcome first last d (fits (cut first last d)) out) (leaves not_good out)).answer.place)
+    (λ good. (by_table good (λ d. cut_outcome first last d (fits (cut first last d)) out)
+    (leaves not_good out)).answer.place)
     (λ good. ap (λ (o : Outcome). o.answer.place) (h good fits))
     (λ g. cut_low first last g.description (fits (cut first last g.description)) out) (λ b. refl)
 

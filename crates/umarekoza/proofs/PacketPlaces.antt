@@ -77,7 +77,8 @@ module _ (packet : List ℕ) where
   ended_low entries n false = omega arith
 
   step_low : (entries : List Entry) (next : List Entry → ℕ → Reading) (n : ℕ) (s : Step)
-      → ((e : Entry) (at : ℕ) → (reading_answer (next (entries ++ (e ∷ [])) at) packet).place ≤ suc (length entries) + n)
+      → ((e : Entry) (at : ℕ) → (reading_answer (next (entries ++ (e ∷ [])) at) packet).place ≤ suc (length entries) +
+      n)
       → (reading_answer (read_on entries s next) packet).place ≤ suc (length entries) + n
   unfolding reading_answer
   step_low entries next n (step e at) h = h e at

@@ -26,10 +26,12 @@ use Rattle.rules.specs.Within.{rows_fit}
 use Rattle.rules.specs.References.{tree_reads, field_reads, times, readers}
 use Rattle.rules.specs.Edits.{renumbered_tree, renumbered, closed, opened, cut, put, first_reader}
 use Rattle.rules.specs.Stored.{stored_in, stored_with, records_in, stored_field_in, field_body, head_body}
-use Rattle.rules.specs.Reading.{bits_at, value_in, read_field_in, read_fields_in, reading_in, fields_before, entries_before}
+use Rattle.rules.specs.Reading.{bits_at, value_in, read_field_in, read_fields_in, reading_in, fields_before}
+use Rattle.rules.specs.Reading.{entries_before}
 use Rattle.rules.specs.Listing.{entry_lines, lines_text}
 use Rattle.rules.specs.Answers.{fault_number}
-use Rattle.rules.specs.Promises.{delivered, reading_answer, packet_outcome_in, partly_outcome, reading_lines, first_named}
+use Rattle.rules.specs.Promises.{delivered, reading_answer, packet_outcome_in, partly_outcome, reading_lines}
+use Rattle.rules.specs.Promises.{first_named}
 use Rattle.rules.specs.Marked.{tag_text}
 use Rattle.rules.specs.Pieces.{state_bytes}
 use Rattle.rules.specs.Pages.{tag_lines}
@@ -47,10 +49,10 @@ pub replies_ruled_out : AllFalse wrong_replies
 unfolding digits all any same last_is sum joined first_break operator is_letter is_digit is_space is_word_byte
     is_label_byte no_two_spaces is_label reserved is_reserved is_short depth le2 le4 stored_tree is_in_range has_type
     has_operators power apply decides evaluate_by rows_fit tree_reads field_reads times readers stored_in stored_with
-    records_in stored_field_in field_body head_body bits_at value_in read_field_in read_fields_in reading_in entry_lines lines_text
-    fault_number delivered reading_answer packet_outcome_in
-    reading_lines first_named fields_before entries_before partly_outcome operators Tables.read_two Tables.read_four
-    Tables.read_counted Tables.code_in Tables.code_of Tables.read_after Tables.read_tree Tables.tree_of Tables.read_fixed
+    records_in stored_field_in field_body head_body bits_at value_in read_field_in read_fields_in reading_in
+    entry_lines lines_text fault_number delivered reading_answer packet_outcome_in reading_lines first_named
+    fields_before entries_before partly_outcome operators Tables.read_two Tables.read_four Tables.read_counted
+    Tables.code_in Tables.code_of Tables.read_after Tables.read_tree Tables.tree_of Tables.read_fixed
     Tables.read_measured Tables.read_width Tables.field_from Tables.read_field Tables.read_fields Tables.described_in
     renumbered_tree renumbered closed opened cut put first_reader read_records number_at
 replies_ruled_out = all_out wrong_replies refl
@@ -65,7 +67,8 @@ text_replies_ruled_out = record {
 }
 
 -- a byte of the state of the empty text
-fresh_byte : (t : List ℕ) (i : ℕ) → take state_bytes t ≡ fresh_state → i < state_bytes → get_or t i 0 ≡ get_or fresh_state i 0
+fresh_byte : (t : List ℕ) (i : ℕ) → take state_bytes t ≡ fresh_state → i < state_bytes
+    → get_or t i 0 ≡ get_or fresh_state i 0
 fresh_byte t i e lt = sym (get_or-take state_bytes t i 0 lt) ∙ ap (λ (l : List ℕ). get_or l i 0) e
 
 fresh_first : get_or fresh_state 0 0 ≡ 0

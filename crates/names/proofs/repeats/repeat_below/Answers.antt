@@ -38,7 +38,8 @@ later-preserved c =
     o.invariant.0 in (
       on,
       search rules,
-      rw (c.name_key-short.ensures.key, c.name_key-word.ensures.key) (both_on shorts words o.j o.seen o.invariant.1 o.invariant.2),
+      rw (c.name_key-short.ensures.key, c.name_key-word.ensures.key)
+          (both_on shorts words o.j o.seen o.invariant.1 o.invariant.2),
     )
 
 pub returns-then-j-n : goal.returns-then-j-n

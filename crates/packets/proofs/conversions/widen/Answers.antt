@@ -2,7 +2,8 @@ use mathlib.Core.Path.{refl, sym, ◌∙◌}
 use native.Mathlib.Omega.{arith}
 use lib.ListN.{length-drop}
 use Rattle.packets.proofs.TableSteps.{head_inside}
-use Rattle.packets.proofs.WidenSteps.{widen_start, widen_less, widen_over, widen_kind, widen_next, part_size, widen_done}
+use Rattle.packets.proofs.WidenSteps.{widen_start, widen_less, widen_over, widen_kind, widen_next, part_size}
+use Rattle.packets.proofs.WidenSteps.{widen_done}
 use Rattle.packets.proofs.conversions.widen.Goals as goal
 
 pub slice_bounds-put-count : goal.slice_bounds-put-count

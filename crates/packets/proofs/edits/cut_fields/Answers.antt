@@ -27,7 +27,8 @@ returns-then-reader-n c =
     let n = c.two_at-n.ensures.0 in
     cut_read c.args.table.now c.args.out.now
     c.args.first c.args.last
-    (good_from _ _ _ c.check_table-checked.ensures c.in-Good.is) c.if-last-first.false (omega (arith, n, c.if-n-last.false)) _
+    (good_from _ _ _ c.check_table-checked.ensures c.in-Good.is) c.if-last-first.false
+    (omega (arith, n, c.if-n-last.false)) _
     c.first_having-reader.ensures
     (omega (arith, n, c.if-reader-n.true))
 

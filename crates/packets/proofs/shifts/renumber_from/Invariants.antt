@@ -9,7 +9,8 @@ abbrev pub invariant-loop-k : goal.invariant-loop-k
 invariant-loop-k l =
     (l.k ≤ l.n)
     × (length l.table ≡ length l.initial.table)
-    × (shifted_from (new_index l.shift) l.n l.place l.initial.table ≡ shifted_from (new_index l.shift) (l.n - l.k) l.at l.table)
+    × (shifted_from (new_index l.shift) l.n l.place l.initial.table ≡ shifted_from (new_index l.shift) (l.n - l.k)
+    l.at l.table)
 
 abbrev pub decreases-loop-k : goal.decreases-loop-k
 decreases-loop-k l = l.n - l.k

@@ -4,11 +4,19 @@ use Rattle.packets.proofs.steps.number_of.Goals as goal
 
 pub returns-then-width-le-FIXED_MOST : goal.returns-then-width-le-FIXED_MOST
 unfolding number_of
-returns-then-width-le-FIXED_MOST c = rw (eq-eqb _ 12 c.if-kind-eq-FIXED.true, le-leb _ 32 c.if-width-le-FIXED_MOST.true) c.bits_at.ensures
+returns-then-width-le-FIXED_MOST c = rw (
+  eq-eqb _ 12 c.if-kind-eq-FIXED.true,
+  le-leb _ 32
+      c.if-width-le-FIXED_MOST.true,
+) c.bits_at.ensures
 
 pub returns-else-width-le-FIXED_MOST : goal.returns-else-width-le-FIXED_MOST
 unfolding number_of
-returns-else-width-le-FIXED_MOST c = rw (eq-eqb _ 12 c.if-kind-eq-FIXED.true, lt-leb _ 32 c.if-width-le-FIXED_MOST.false)
+returns-else-width-le-FIXED_MOST c = rw (
+  eq-eqb _ 12 c.if-kind-eq-FIXED.true,
+  lt-leb _ 32
+      c.if-width-le-FIXED_MOST.false,
+)
 
 pub returns-else-kind-eq-FIXED : goal.returns-else-kind-eq-FIXED
 unfolding number_of

@@ -31,4 +31,5 @@ returns c =
     let yes_fields = c.if-not-has_fields.false in
     let fields = sym c.has_fields.ensures.is ∙ yes_fields in
     let g = gathered_true s _ _ yes_fields c.has_fields.ensures.gathered in
-    rw fields (right_numbers s _ c.has_fields.new.counts _ c.keeps_numbers.ensures n g (omega (arith, p.table_in_bounds.3, kept)))
+    rw fields (right_numbers s _ c.has_fields.new.counts _ c.keeps_numbers.ensures n g
+    (omega (arith, p.table_in_bounds.3, kept)))

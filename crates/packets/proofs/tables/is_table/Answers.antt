@@ -24,7 +24,13 @@ is_right-requires c =
     let n = c.two_at.ensures.0 in
     let few = c.if-two_at-le-FEW_FIELDS.true in record {
       table_len_bound = (c.if-table-gt-TABLE_MOST.false, head);
-      table_in_bounds = (omega (arith, n, few), omega (arith, n, few), omega (arith, n, few), omega (arith, n, few), zeros 16);
+      table_in_bounds = (
+        omega (arith, n, few),
+        omega (arith, n, few),
+        omega (arith, n, few),
+        omega (arith, n, few),
+        zeros 16,
+      );
     }
 
 pub returns-then-two_at-le-FEW_FIELDS : goal.returns-then-two_at-le-FEW_FIELDS

@@ -15,7 +15,8 @@ invariant-loop-i l =
     × (length l.marks ≡ length l.initial.marks)
     × (l.place ≤ fixed_most * l.i)
     × (l.at ≤ length l.s)
-    × (walk_at l.w l.count [] 0 false l.s l.from ≡ walk_at l.w (l.count - l.i) (take l.i l.marks) l.place l.ended l.s l.at)
+    × (walk_at l.w l.count [] 0 false l.s l.from ≡ walk_at l.w (l.count - l.i) (take l.i l.marks) l.place l.ended l.s
+    l.at)
     × Gathering l.s l.count l.from l.i l.at l.places l.keys l.shorts l.words
     × (length l.places ≡ length l.initial.places)
     × (length l.keys ≡ length l.initial.keys)

@@ -9,7 +9,8 @@ abbrev pub invariant-loop-at : goal.invariant-loop-at
 invariant-loop-at l =
     (l.at ≤ length l.expression)
     × (length l.counts ≡ length l.initial.counts)
-    × (tallied l.own l.initial.counts (references l.expression) ≡ tallied l.own l.counts (references (drop l.at l.expression)))
+    × (tallied l.own l.initial.counts (references l.expression) ≡ tallied l.own l.counts
+    (references (drop l.at l.expression)))
 
 abbrev pub decreases-loop-at : goal.decreases-loop-at
 decreases-loop-at l = length l.expression - l.at

@@ -1,6 +1,7 @@
 use native.Mathlib.Omega.{arith}
 use Rattle.io.proofs.Counting.{prefix_len_of_le}
-use Rattle.requests.proofs.HexLaws.{filling_none, filling_short, filling_first, filling_second, filling_on, filling_full}
+use Rattle.requests.proofs.HexLaws.{filling_none, filling_short, filling_first, filling_second, filling_on}
+use Rattle.requests.proofs.HexLaws.{filling_full}
 use Rattle.requests.proofs.words.bytes_in.Goals as goal
 
 pub loop-n-init : goal.loop-n-init
@@ -21,7 +22,8 @@ shape_of-out-then-high-gt15 c = c.loop-n.invariant.size
 pub returns-then-high-gt15 : goal.returns-then-high-gt15
 returns-then-high-gt15 c = record {
   prefix_len = prefix_len_of_le _ _ c.loop-n.invariant.within;
-  holds = filling_first c.loop-n.invariant (omega arith) c.digit-high.ensures.0 c.digit-low.ensures.0 c.if-high-gt15.true;
+  holds = filling_first c.loop-n.invariant (omega arith) c.digit-high.ensures.0 c.digit-low.ensures.0
+      c.if-high-gt15.true;
 }
 
 pub shape_of-out-then-low-gt15 : goal.shape_of-out-then-low-gt15
@@ -30,7 +32,8 @@ shape_of-out-then-low-gt15 c = c.loop-n.invariant.size
 pub returns-then-low-gt15 : goal.returns-then-low-gt15
 returns-then-low-gt15 c = record {
   prefix_len = prefix_len_of_le _ _ c.loop-n.invariant.within;
-  holds = filling_second c.loop-n.invariant (omega arith) c.digit-high.ensures.0 c.digit-low.ensures.0 (omega arith) c.if-low-gt15.true;
+  holds = filling_second c.loop-n.invariant (omega arith) c.digit-high.ensures.0 c.digit-low.ensures.0 (omega arith)
+      c.if-low-gt15.true;
 }
 
 pub loop-n-preserved : goal.loop-n-preserved

@@ -12,7 +12,8 @@ loop-i-init c = refl
 
 pub returns-then-out-i : goal.returns-then-out-i
 returns-then-out-i c =
-    sym (c.loop-i.invariant ∙ all_step (eqb 165) c.args.out.now c.loop-i.i (omega arith) ∙ rw (ne_eqb 165 _ (λ e. c.if-out-i.true (sym e))))
+    sym (c.loop-i.invariant ∙ all_step (eqb 165) c.args.out.now c.loop-i.i (omega arith)
+    ∙ rw (ne_eqb 165 _ (λ e. c.if-out-i.true (sym e))))
 
 pub loop-i-preserved : goal.loop-i-preserved
 loop-i-preserved c =

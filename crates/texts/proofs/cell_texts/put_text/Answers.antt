@@ -32,7 +32,11 @@ loop-j-preserved c =
     let e = c.add_line-end.ensures in
     elim c.if-down.branch [
       | then-down v ↦ (omega arith, text_next row _ a.a a.b w (bare_down t (eq-eqb _ _ v.if-down.true) v.bare-is) e)
-      | else-down v ↦ (omega arith, text_next row _ a.a a.b w (bare_along _ t w.end (ne_eqb _ _ v.if-down.false) v.bare-is) e)
+      | else-down v ↦ (
+        omega arith,
+        text_next row _ a.a a.b w
+            (bare_along _ t w.end (ne_eqb _ _ v.if-down.false) v.bare-is) e,
+      )
     ]
 
 pub returns : goal.returns

@@ -35,7 +35,8 @@ pub returns : goal.returns
 returns c =
     let a = c.args in
     let both =
-    condition_no _ a.n a.s.now a.at c.requires.0 _ _ (sym c.starts_at.ensures ∙ c.if-starts_at.false) c.no_clause.ensures in record {
+    condition_no _ a.n a.s.now a.at c.requires.0 _ _ (sym c.starts_at.ensures ∙ c.if-starts_at.false)
+    c.no_clause.ensures in record {
       place = both.0;
       same = both.1;
     }

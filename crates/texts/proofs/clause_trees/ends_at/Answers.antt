@@ -41,7 +41,8 @@ returns-then-not-d c =
     let x = c.constraint_at-c in
     let y = c.condition_at-d in
     let first = not-false x.result.right c.if-not-c.false in
-    ends_later _ a.n a.s.now a.at x.result _ _ x.ensures.same first y.result y.ensures.same _ c.wrong_ends-then-not-d.ensures
+    ends_later _ a.n a.s.now a.at x.result _ _ x.ensures.same first y.result y.ensures.same _
+    c.wrong_ends-then-not-d.ensures
     (not-true y.result.right c.if-not-d.true)
 
 pub starts_at-requires : goal.starts_at-requires

@@ -69,7 +69,8 @@ returns-in_default c =
     let q = row_wrong row r.row (2 * r.width + 1) c.args.cells.now _ r.slots _ c.put_row-ended.ensures
     c.in_default.is in record {
       room = rw c.wrong_row.ensures (taken_wrong_row r safe);
-      step = rw c.wrong_row.ensures (λ f x table labels names k b is kept h. behind_bad f x r l k is kept h room c.requires.3.0 stops q.0 q.1);
+      step = rw c.wrong_row.ensures (λ f x table labels names k b is kept h. behind_bad f x r l k is kept h room
+          c.requires.3.0 stops q.0 q.1);
     }
 
 pub is_border-requires : goal.is_border-requires
@@ -92,7 +93,8 @@ returns-then-is_border c =
     c.in-Put.is in record {
       room = rw c.end_row.ensures (room_ended r _ _ (slots_at row r.row (2 * r.width + 1) 1) safe
           (labels_all row r.row (2 * r.width + 1) p.labels) p.is_count p.writes);
-      step = rw c.end_row.ensures (λ f x table labels names k b is kept h. behind_border f x r l k is kept h room c.requires.3.0 stops p.labels
+      step = rw c.end_row.ensures (λ f x table labels names k b is kept h. behind_border f x r l k is kept h room
+          c.requires.3.0 stops p.labels
           p.writes safe c.requires.2 b (sym c.is_border.ensures ∙ c.if-is_border.true) _ p.is_count);
     }
 
@@ -111,6 +113,7 @@ returns c =
     let p = row_put row r.row (2 * r.width + 1) c.args.cells.now _ r.slots _ c.put_row-ended.ensures _ _
     c.in-Put.is in record {
       room = rw c.wrong.ensures (taken_wrong r safe);
-      step = rw c.wrong.ensures (λ f x table labels names k b is kept h. behind_wrong f x r l k is kept h room c.requires.3.0 stops p.labels
+      step = rw c.wrong.ensures (λ f x table labels names k b is kept h. behind_wrong f x r l k is kept h room
+          c.requires.3.0 stops p.labels
           p.writes safe c.requires.2 (sym c.is_border.ensures ∙ c.if-is_border.false));
     }

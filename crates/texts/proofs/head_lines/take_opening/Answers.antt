@@ -16,7 +16,8 @@ returns-then-from-eq0 c =
     let e = c.article-from.ensures.name ∙ behind_none l c.article-from.result
     c.if-from-eq0.true in record {
       room = rw c.wrong.ensures (taken_wrong a.r c.requires.0);
-      step = rw c.wrong.ensures ((λ cells counts f labels names k b o h. rw e (holds_wrong f a.r h (blamed_outside f.row f.lines o))));
+      step = rw c.wrong.ensures ((λ cells counts f labels names k b o h. rw e
+          (holds_wrong f a.r h (blamed_outside f.row f.lines o))));
     }
 
 pub overflow_sub-to : goal.overflow_sub-to
@@ -84,5 +85,6 @@ returns c =
     ∙ behind_read l c.article-from.result
     c.if-from-eq0.false ∙ o in record {
       room = rw c.wrong-2.ensures (taken_wrong a.r c.requires.0);
-      step = rw c.wrong-2.ensures ((λ cells counts f labels names k b o h. rw e (holds_wrong f a.r h (blamed_outside f.row f.lines o))));
+      step = rw c.wrong-2.ensures ((λ cells counts f labels names k b o h. rw e
+          (holds_wrong f a.r h (blamed_outside f.row f.lines o))));
     }

@@ -14,7 +14,8 @@ returns-then-w-eq0 c =
     let l = a.line.now in
     let e : read_tens l ≡ none = tens_none l (sym c.ruler_width-w.ensures ∙ c.if-w-eq0.true) in record {
       room = rw c.wrong.ensures (taken_wrong a.r c.requires.0);
-      step = rw c.wrong.ensures ((λ cells table f labels names k b o h. rw e (holds_wrong f a.r h (blamed_outside f.row f.lines o))));
+      step = rw c.wrong.ensures ((λ cells table f labels names k b o h. rw e
+          (holds_wrong f a.r h (blamed_outside f.row f.lines o))));
     }
 
 pub returns : goal.returns

@@ -9,7 +9,7 @@ use Rattle.text_laws.specs.FrameReader.{read_tens}
 use Rattle.texts.proofs.AreaLaws.{cells_long, table_part, table_room}
 use Rattle.texts.proofs.LineAreas.{opening_step, more_step}
 use Rattle.texts.proofs.StateSteps.{same_nil, no_field, at_stage, head_stage, row_stage}
-use Rattle.texts.proofs.StateSteps.{expect_step, width_row_lem}
+use Rattle.texts.proofs.StateSteps.{expect_head, width_row_lem}
 use Rattle.text_laws.specs.Fold as fold
 use Rattle.texts.specs.declared.states.Stage.TheVariants as at
 use borrow.Author.Rules.{rules}
@@ -99,7 +99,7 @@ pub returns-in-Blank : goal.returns-in-Blank
 unfolding fold.lined_at
 returns-in-Blank c =
     let l = c.args.line.now in
-    let p = expect_step c.args.r l at.Blank c.in-Blank.is (λ o. refl)
+    let p = expect_head c.args.r l at.Blank c.in-Blank.is (λ o. refl)
     (λ w. []) at.TensRuler _ c.args.held.now
     c.requires.0.0 (same_nil l) (λ f. refl) in record {
       room = rw c.expect.ensures (p.0);
@@ -122,7 +122,7 @@ pub returns-in-UnitsRuler : goal.returns-in-UnitsRuler
 unfolding fold.lined_at
 returns-in-UnitsRuler c =
     let l = c.args.line.now in
-    let p = expect_step c.args.r l at.UnitsRuler
+    let p = expect_head c.args.r l at.UnitsRuler
     c.in-UnitsRuler.is (λ o. refl) units at.TopBorder _
     c.args.held.now
     c.requires.0.0 c.is_units.ensures (λ f. refl) in record {
@@ -134,7 +134,7 @@ pub returns-in-TopBorder : goal.returns-in-TopBorder
 unfolding fold.lined_at
 returns-in-TopBorder c =
     let l = c.args.line.now in
-    let p = expect_step c.args.r l at.TopBorder c.in-TopBorder.is
+    let p = expect_head c.args.r l at.TopBorder c.in-TopBorder.is
     (λ o. refl) border at.FirstRow _ c.args.held.now
     c.requires.0.0 c.is_border.ensures (λ f. refl) in record {
       room = rw c.expect-in-TopBorder.ensures (p.0);
@@ -180,7 +180,7 @@ pub returns-in-WhereLine : goal.returns-in-WhereLine
 unfolding fold.lined_at
 returns-in-WhereLine c =
     let l = c.args.line.now in
-    let p = expect_step c.args.r l at.WhereLine
+    let p = expect_head c.args.r l at.WhereLine
     c.in-WhereLine.is (λ o. refl) (λ w. bytes "where:") at.LastBlank _
     c.args.held.now
     c.requires.0.0 c.same_words.ensures (λ f. refl) in record {
@@ -192,7 +192,7 @@ pub returns-in-LastBlank : goal.returns-in-LastBlank
 unfolding fold.lined_at
 returns-in-LastBlank c =
     let l = c.args.line.now in
-    let p = expect_step c.args.r l at.LastBlank c.in-LastBlank.is (λ o. refl)
+    let p = expect_head c.args.r l at.LastBlank c.in-LastBlank.is (λ o. refl)
     (λ w. []) at.FirstField _ c.args.held.now
     c.requires.0.0 (same_nil l) (λ f. refl) in record {
       room = rw c.expect-in-LastBlank.ensures (p.0);

@@ -4,7 +4,8 @@ use Rattle.texts.proofs.part_slots.part_shows.Goals as goal
 pub returns-then-is_name_in : goal.returns-then-is_name_in
 returns-then-is_name_in c =
     part_yes c.args.cells.now c.args.line.now c.args.at c.slot_end-end.result c.args.p c.slot_end-end.ensures.end
-    c.is_name_in.result c.is_place_in.result c.is_name_in.ensures c.if-is_name_in.true (rw c.wide.ensures.0 at c.is_place_in.ensures)
+    c.is_name_in.result c.is_place_in.result c.is_name_in.ensures c.if-is_name_in.true
+    (rw c.wide.ensures.0 at c.is_place_in.ensures)
 
 pub returns : goal.returns
 returns c =

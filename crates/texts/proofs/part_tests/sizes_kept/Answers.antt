@@ -9,7 +9,8 @@ returns-then-is_small-2 c =
 
 pub returns-then-is_small : goal.returns-then-is_small
 returns-then-is_small c =
-    sizes_second c.args.p (sym c.is_small.ensures ∙ c.if-is_small.true) (sym c.is_small-then-is_small.ensures ∙ c.if-is_small-2.false)
+    sizes_second c.args.p (sym c.is_small.ensures ∙ c.if-is_small.true)
+    (sym c.is_small-then-is_small.ensures ∙ c.if-is_small-2.false)
 
 pub returns : goal.returns
 returns c =

@@ -9,7 +9,8 @@ returns-then-is_type-2 c =
 
 pub returns-then-is_type : goal.returns-then-is_type
 returns-then-is_type c =
-    types_second c.args.p (sym c.is_type.ensures ∙ c.if-is_type.true) (sym c.is_type-then-is_type.ensures ∙ c.if-is_type-2.false)
+    types_second c.args.p (sym c.is_type.ensures ∙ c.if-is_type.true)
+    (sym c.is_type-then-is_type.ensures ∙ c.if-is_type-2.false)
 
 pub returns : goal.returns
 returns c =

@@ -1,6 +1,6 @@
 use mathlib.Core.Path.{refl, sym, ◌∙◌}
 use native.Mathlib.Omega.{arith}
-use Rattle.texts.proofs.FrameLeaves.{ruler_length, ruler_end, ruler_told}
+use Rattle.texts.proofs.FrameLeaves.{ruler_length, ruler_whole, ruler_told}
 use Rattle.texts.specs.FramePlaces.{column_at}
 use Rattle.texts.proofs.rulers.is_ruler.Goals as goal
 
@@ -24,6 +24,6 @@ pub returns : goal.returns
 returns c =
     let l = c.loop-i in
     let a = c.args in
-    let q = ruler_end (column_at a.k) a.line.now a.n l.each l.i (omega arith) (omega arith)
+    let q = ruler_whole (column_at a.k) a.line.now a.n l.each l.i (omega arith) (omega arith)
     (omega arith) in
     sym (l.invariant.2 ∙ q)

@@ -8,7 +8,8 @@ use Rattle.texts.proofs.rulers.is_ruler.Given as goal
 
 abbrev pub invariant-loop-i : goal.invariant-loop-i
 invariant-loop-i l = (l.i ≤ length l.line) × (length l.line ≡ l.n) ×
-    (same l.line (tabulate (column_at l.k) 0 l.n) ≡ (l.each && same (drop l.i l.line) (drop l.i (tabulate (column_at l.k) 0 l.n))))
+    (same l.line (tabulate (column_at l.k) 0 l.n) ≡
+    (l.each && same (drop l.i l.line) (drop l.i (tabulate (column_at l.k) 0 l.n))))
 
 abbrev pub decreases-loop-i : goal.decreases-loop-i
 decreases-loop-i l = length l.line - l.i

@@ -8,7 +8,8 @@ returns-then-is_ruler c = width_8 c.args.line.now (sym c.is_ruler.ensures ∙ c.
 
 pub returns-then-is_ruler-2 : goal.returns-then-is_ruler-2
 returns-then-is_ruler-2 c =
-    width_16 c.args.line.now (sym c.is_ruler.ensures ∙ c.if-is_ruler.false) (sym c.is_ruler-2.ensures ∙ c.if-is_ruler-2.true)
+    width_16 c.args.line.now (sym c.is_ruler.ensures ∙ c.if-is_ruler.false)
+    (sym c.is_ruler-2.ensures ∙ c.if-is_ruler-2.true)
 
 pub returns-then-is_ruler-3 : goal.returns-then-is_ruler-3
 returns-then-is_ruler-3 c =

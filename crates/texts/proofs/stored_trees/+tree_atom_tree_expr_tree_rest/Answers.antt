@@ -41,13 +41,15 @@ tree_atom-tree_closed-requires t c =
 pub tree_atom-returns-in-Nothing : goal.tree_atom-returns-in-Nothing
 tree_atom-returns-in-Nothing t c = record {
   place = none_within _ _ _ _ _ c.no_tree.ensures;
-  same = atom_none _ c.args.n c.args.s.now c.args.at c.args.b _ (told_none _ _ _ _ c.in-Nothing.is c.atom_at-start.ensures) c.no_tree.ensures;
+  same = atom_none _ c.args.n c.args.s.now c.args.at c.args.b _
+      (told_none _ _ _ _ c.in-Nothing.is c.atom_at-start.ensures) c.no_tree.ensures;
 }
 
 pub tree_atom-returns-in-Word : goal.tree_atom-returns-in-Word
 tree_atom-returns-in-Word t c = record {
   place = c.tree_leaf.ensures.place;
-  same = atom_leaf _ c.args.n c.args.s.now c.args.at c.args.b _ (told_word _ _ _ _ c.in-Word.is c.atom_at-start.ensures) c.tree_leaf.ensures.same;
+  same = atom_leaf _ c.args.n c.args.s.now c.args.at c.args.b _
+      (told_word _ _ _ _ c.in-Word.is c.atom_at-start.ensures) c.tree_leaf.ensures.same;
 }
 
 pub tree_atom-returns-else-e-eq0 : goal.tree_atom-returns-else-e-eq0
@@ -58,7 +60,8 @@ tree_atom-returns-else-e-eq0 t c =
     let g = got_within c.args.s.now (c.in-In.from + 1) c.in-In.from 0 r c.if-e-eq0.false y.ensures.place in record {
       place = up_within c.args.s.now (r.next + 1) r.next r.len (c.args.at + 1) c.args.at 0 _
           (omega (arith, g.0, w.0)) (omega (arith, g.2, w.0)) c.tree_closed.ensures.place;
-      same = atom_closed _ c.args.n c.args.s.now c.args.at c.args.b c.in-In.from c.in-In.neg w.0 w.1 w.3 _ y.ensures.same c.if-e-eq0.false _
+      same = atom_closed _ c.args.n c.args.s.now c.args.at c.args.b c.in-In.from c.in-In.neg w.0 w.1 w.3 _
+          y.ensures.same c.if-e-eq0.false _
           c.tree_closed.ensures.same;
     }
 
@@ -105,7 +108,8 @@ tree_expr-returns-then-not-q t c =
     r.auto.out in
     let both =
     rest_whole _ a.n a.s.now a.at a.k a.b _ _ _ _ l.invariant.1 l.invariant.2 j _ r.ensures.same
-    r.ensures.place c.if-a-eq0.false _ _ c.tree_rest-q.ensures (not-true c.tree_rest-q.result.on c.if-not-q.true) in record {
+    r.ensures.place c.if-a-eq0.false _ _ c.tree_rest-q.ensures (not-true c.tree_rest-q.result.on c.if-not-q.true) in
+    record {
       place = both.0;
       same = both.1;
     }

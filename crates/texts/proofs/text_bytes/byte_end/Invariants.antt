@@ -6,7 +6,8 @@ use Rattle.texts.proofs.text_bytes.byte_end.Given as goal
 
 abbrev pub invariant-loop-i : goal.invariant-loop-i
 invariant-loop-i l =
-    (l.at ≤ l.i) × (l.i ≤ length l.text) × (l.at + printable_length (drop l.at l.text) ≡ l.i + printable_length (drop l.i l.text))
+    (l.at ≤ l.i) × (l.i ≤ length l.text) × (l.at + printable_length (drop l.at l.text) ≡ l.i + printable_length
+    (drop l.i l.text))
 
 abbrev pub decreases-loop-i : goal.decreases-loop-i
 decreases-loop-i l = length l.text - l.i

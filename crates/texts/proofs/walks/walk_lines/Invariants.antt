@@ -14,7 +14,8 @@ invariant-loop-r l =
     (length l.held ≡ length l.initial.held) ×
     (length l.row ≡ length l.initial.row) ×
     (length l.counts ≡ length l.initial.counts) ×
-    ((k : fold.Kept) → k.line ≡ [] → k.size + (length l.text - l.from) ≤ text_most → KeptAs k.found l.initial.r l.initial.held l.initial.row
+    ((k : fold.Kept) → k.line ≡ [] → k.size + (length l.text - l.from) ≤ text_most
+    → KeptAs k.found l.initial.r l.initial.held l.initial.row
     l.initial.counts
     → Walking k l.text l.from l.at l.r l.held l.row l.counts)
 

@@ -55,7 +55,8 @@ returns-in-At c =
     let k = c.sized in
     let m = bits_some a.s.now t.result.next _ h.same c.in-At.is in
     let both =
-    measure_sized _ a.n a.s.now a.at t.result _ t.ensures.same c.in-At.u c.in-At.next k.result c.if-t-eq0.false m k.ensures.place
+    measure_sized _ a.n a.s.now a.at t.result _ t.ensures.same c.in-At.u c.in-At.next k.result c.if-t-eq0.false m
+    k.ensures.place
     k.ensures.same in record {
       place = both.0;
       same = both.1;

@@ -5,7 +5,8 @@ use lib.Seq.{paste}
 use Rattle.writing.proofs.puts.put.Given as goal
 
 abbrev pub invariant-loop-i : goal.invariant-loop-i
-invariant-loop-i l = (l.i ≤ length l.word) × (length l.out ≡ length l.initial.out) × (l.out ≡ paste l.initial.out l.at l.word l.i)
+invariant-loop-i l = (l.i ≤ length l.word) × (length l.out ≡ length l.initial.out)
+    × (l.out ≡ paste l.initial.out l.at l.word l.i)
 
 abbrev pub decreases-loop-i : goal.decreases-loop-i
 decreases-loop-i l = length l.word - l.i

@@ -36,11 +36,13 @@ returns-in_default-check-2 t c =
 
 pub returns-in-Number : goal.returns-in-Number
 returns-in-Number t c =
-    rw ((check_step _ _ _ _ c.if-depth-eq0.false c.if-s-at.false c.code_of-c.ensures c.in-Number.is)) c.check_number.ensures
+    rw ((check_step _ _ _ _ c.if-depth-eq0.false c.if-s-at.false c.code_of-c.ensures c.in-Number.is))
+    c.check_number.ensures
 
 pub returns-in-Field : goal.returns-in-Field
 returns-in-Field t c =
-    rw ((check_step _ _ _ _ c.if-depth-eq0.false c.if-s-at.false c.code_of-c.ensures c.in-Field.is)) c.check_field.ensures
+    rw ((check_step _ _ _ _ c.if-depth-eq0.false c.if-s-at.false c.code_of-c.ensures c.in-Field.is))
+    c.check_field.ensures
 
 pub returns-in-Tree : goal.returns-in-Tree
 returns-in-Tree t c =

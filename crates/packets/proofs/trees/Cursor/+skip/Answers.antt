@@ -14,7 +14,8 @@ returns-in-Number t c =
 
 pub returns-in-Field : goal.returns-in-Field
 returns-in-Field t c =
-    rw ((skip_step _ _ _ c.if-depth-eq0.false c.if-s-at.false c.code_of-c.ensures c.in-Field.is)) c.over-in-Field.ensures
+    rw ((skip_step _ _ _ c.if-depth-eq0.false c.if-s-at.false c.code_of-c.ensures c.in-Field.is))
+    c.over-in-Field.ensures
 
 pub returns-in-Not : goal.returns-in-Not
 returns-in-Not t c =
