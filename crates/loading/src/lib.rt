@@ -1,7 +1,7 @@
 // Files of a program's data folder, loaded into buffers.
 #![tactic(auto)]
 
-ghost use Rattle.std.specs.Prelude.{◌≡◌, IfOk, length};
+ghost use Rattle.std.specs.Prelude.{◌≡◌, IfOk, OnErr, length};
 ghost use Rattle.io.specs.Counts.{IsPrefixLen};
 
 use std::io::Read;
@@ -15,9 +15,10 @@ pub fn large_buffer() -> [u8; 65536]
     [0; 65536]
 }
 
-// A reader's bytes, as many as fit; answers how many.
+// A reader's bytes, as many as fit; answers how many. Where a read fails, the bytes of the buffer are any.
 pub fn fill<R: Read>(reader: &mut R, out: &mut [u8]) -> io::Result<usize>
-    ensures { IfOk result (λ n. IsPrefixLen n out.new) }
+    ensures ok { IfOk result (λ n. IsPrefixLen n out.new) }
+    ensures err { OnErr result (length out.new ≡ length out.old) }
 {
     let mut n = 0;
     while n < out.len() {
@@ -30,9 +31,10 @@ pub fn fill<R: Read>(reader: &mut R, out: &mut [u8]) -> io::Result<usize>
     Ok(n)
 }
 
-// A file's bytes, as many as fit; answers how many.
+// A file's bytes, as many as fit; answers how many. Fails where the file cannot be opened or read.
 pub fn load<R: Files>(rt: &R, path: &str, out: &mut [u8]) -> io::Result<usize>
-    ensures { IfOk result (λ n. IsPrefixLen n out.new) }
+    ensures ok { IfOk result (λ n. IsPrefixLen n out.new) }
+    ensures err { OnErr result (length out.new ≡ length out.old) }
 {
     let mut file = fs::open(rt, path)?;
     fill(&mut file, out)
