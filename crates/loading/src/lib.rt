@@ -1,30 +1,35 @@
 // Files of a program's data folder, loaded into buffers.
 #![tactic(auto)]
 
-ghost use Rattle.std.specs.Prelude.{◌≡◌, IfOk, OnErr, length};
+ghost use Rattle.std.specs.Prelude.{◌≡◌, ◌<◌, IfOk, OnErr, length, replicate, take};
+ghost use Rattle.std.specs.Io.KnownBytes.{Consumes, IsAtEnd};
 ghost use Rattle.io.specs.Counts.{IsPrefixLen};
 
 use std::io::Read;
 use std::rt::Files;
 use std::{fs, io};
 
-// Room for any page, table, packet and listing, and for any file of requests.
+// Zeros, room for any page, table, packet and listing, and for any file of requests.
 pub fn large_buffer() -> [u8; 65536]
-    ensures { 65536 ≡ length result }
+    ensures zeros { result ≡ replicate 65536 0 }
+    ensures len { 65536 ≡ length result }
 {
     [0; 65536]
 }
 
-// A reader's bytes, as many as fit; answers how many. Where a read fails, the bytes of the buffer are any.
+// A reader's bytes, as many as fit, in front of the buffer; answers how many. Fewer than fit are all that were left, and
+// where a read fails the buffer's bytes are any.
 pub fn fill<R: Read>(reader: &mut R, out: &mut [u8]) -> io::Result<usize>
     ensures ok { IfOk result (λ n. IsPrefixLen n out.new) }
     ensures err { OnErr result (length out.new ≡ length out.old) }
+    ensures bytes { IfOk result (λ n. Consumes (R.remaining reader.old) (R.remaining reader.new) (take n out.new)) }
+    ensures end { IfOk result (λ n. n < length out.new → IsAtEnd (R.remaining reader.new)) }
 {
     let mut n = 0;
     while n < out.len() {
         let more = reader.read(&mut out[n..])?;
         if more == 0 {
-            break;
+            return Ok(n);
         }
         n += more;
     }

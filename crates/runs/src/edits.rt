@@ -1,5 +1,5 @@
 // The requests `cut` and `put`.
-use crate::lent::{output, room_in};
+use crate::lent::{output, room_for};
 use crate::packet_answers::show_edit;
 use loading::large_buffer;
 use packets::edits::{cut_fields, put_fields};
@@ -16,7 +16,7 @@ fn run_cut<W: Write>(
     out: &mut [u8],
     size: usize,
 ) -> io::Result<()> {
-    let n = room_in(size, out);
+    let n = room_for(size, out);
     let answer = cut_fields(table, first, last, &mut out[..n]);
     show_edit(w, answer, out)
 }
@@ -54,7 +54,7 @@ fn run_put<W: Write>(
     out: &mut [u8],
     size: usize,
 ) -> io::Result<()> {
-    let n = room_in(size, out);
+    let n = room_for(size, out);
     let answer = put_fields(table, index, records, &mut out[..n]);
     show_edit(w, answer, out)
 }

@@ -2,7 +2,7 @@
 ghost use Rattle.std.specs.Prelude.{◌≡◌, length};
 
 use crate::edits::answer_edit;
-use crate::lent::{output, room_for, room_in, run};
+use crate::lent::{output, room_for, run};
 use crate::packet_answers::{
     show_conversion, show_listing, show_readers, show_reading, show_table,
 };
@@ -28,7 +28,7 @@ fn text_room() -> [u8; 20480]
 
 // The text read into the first size bytes of an output, or into all if there are fewer.
 fn run_text<W: Write>(w: &mut W, text: &[u8], out: &mut [u8], size: usize) -> io::Result<()> {
-    let n = room_in(size, out);
+    let n = room_for(size, out);
     let answer = read_text(text, &mut out[..n]);
     show_text(w, answer, out)
 }
@@ -66,7 +66,7 @@ fn run_conversion<W: Write>(
     out: &mut [u8],
     size: usize,
 ) -> io::Result<()> {
-    let n = room_in(size, out);
+    let n = room_for(size, out);
     let answer = convert_table(table, &mut out[..n]);
     show_conversion(w, answer, out)
 }

@@ -1,7 +1,6 @@
 // Outputs and runs to lend, and what a call left in them.
-ghost use Rattle.std.specs.Prelude.{◌≡◌, eqb, length, drop};
+ghost use Rattle.std.specs.Prelude.{◌≡◌, ◌≤◌, min, eqb, length, take, drop};
 ghost use Rattle.base.specs.Lists.{all};
-ghost use Rattle.io.specs.Counts.{IsPrefixLen};
 
 // What each byte of an output and each number of a run is before a call.
 const BEFORE: u8 = 165;
@@ -22,22 +21,13 @@ pub(crate) fn run() -> [u32; 640]
     [NUMBER_BEFORE; 640]
 }
 
-// How many numbers of a run are lent: size, or all if there are fewer.
-pub(crate) fn room_for(size: usize, run: &[u32]) -> usize
-    ensures { IsPrefixLen result run.now }
+// How many elements are lent: size, or all if there are fewer.
+pub(crate) fn room_for<T>(size: usize, lent: &[T]) -> usize
+    ensures value { result ≡ min size (length lent.now) }
+    ensures prefix { (result ≤ length lent.now) × (result ≡ length (take result lent.now)) }
 {
-    if run.len() < size {
-        return run.len();
-    }
-    size
-}
-
-// How many bytes of an output are lent: size, or all if there are fewer.
-pub(crate) fn room_in(size: usize, out: &[u8]) -> usize
-    ensures { IsPrefixLen result out.now }
-{
-    if out.len() < size {
-        return out.len();
+    if lent.len() < size {
+        return lent.len();
     }
     size
 }
