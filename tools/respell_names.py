@@ -5,8 +5,8 @@ usage: respell_names.py [--check]      at the top of the repository
 
 A name of a definition, a constructor, a lemma or a variable that has capitals or dashes inside gets underscores: 'readTwo' is
 'read_two', 'cut-put' is 'cut_put'; a lemma that would have its function's name gets `_lem`. What a file imports from the kit, what
-Rattle makes for a function's proof, strings and comments' words with dashes stay. Two names that would meet in one file are told,
-and the names of LEAVE stay. --check writes nothing.
+Rattle makes for a function's proof, strings and comments' words with dashes stay. Two names that would meet in one file are told.
+--check writes nothing.
 """
 
 import os
@@ -15,12 +15,8 @@ import sys
 
 TOKEN = re.compile(r'--[^\n]*|"(?:[^"\\\n]|\\.)*"|(?<![\w\'-])[A-Za-z_][\w\'-]*')
 DECLARED = re.compile(r"(?m)^ *(?:(?:pub|abbrev|unfoldable|data|record) +)*([a-z][\w'-]*)(?: \{[^{}\n]*\})* :(?: |$)")
-KIT = re.compile(r"(?m)^use (?!Rattle\.(?:%s)\b)[^\s{]+\{([^}]*)\}")
-USE_KIT = re.compile(r"(?m)^(?:ghost )?use (?!Rattle\.(?:%s)\.)[^\n]*$")
 # Names that Rattle makes for a function's proof: they follow the code.
 MADE = re.compile(r"(?:Need|Lts|After|Given|Loop)-|.*-(?:spec|requires|init|preserved|smaller|told|known)(?:-\d+)?$|^(?:returns|enum|overflow|slice|shared|loop|same)-")
-# Names that stay: two would meet.
-LEAVE = {}
 # Lemmas that port.py spelled like a definition that turns here: a lemma that would have its function's name gets `_lem`.
 LEMMAS = "first_kind all_true part_shifted strict_place plain_row on_same on_row rows_in rows_fit skip_at".split()
 
@@ -129,7 +125,7 @@ def main(argv):
                 return w
             if w.startswith("--"):
                 return re.sub(r"(?<![\w'-])[a-z]\w*[A-Z]\w*(?![\w'-])", lambda k: table.get(k.group(), k.group()), w) if not p.endswith(".rt") else w
-            if w in kit or w in made or w in LEAVE:
+            if w in kit or w in made:
                 return w
             if behind_c and "-" in w and m.start() and t[m.start() - 1] == ".":
                 return w
@@ -149,7 +145,7 @@ def main(argv):
         # two names that meet
         before, seen = set() if p.endswith(".rt") else set(re.findall(r"(?<![\w'.-])[a-z][\w'-]*(?!\.\w)", bare(t))), {}
         for n in before:
-            to = n if (n in kit or n in made or n in LEAVE) else mine.get(n, table.get(n, n))
+            to = n if (n in kit or n in made) else mine.get(n, table.get(n, n))
             seen.setdefault(to, set()).add(n)
         for to, ns in sorted(seen.items()):
             if len(ns) > 1:
