@@ -6,6 +6,7 @@
 -- Scans    tests over a list, one index after the other
 -- Joined   parts one after the other
 -- Also     facts one behind the other
+-- Library  the library's words for tests, equal lists and ends
 pub mod Lists
 pub mod Decimal
 pub mod Breaks
@@ -14,3 +15,4 @@ pub mod Lookups
 pub mod Scans
 pub mod Joined
 pub mod Also
+pub mod Library

@@ -149,6 +149,16 @@ same_self (x ∷ s) = and_both (eqb x x) (same s s) (eq-eqb x x refl) (same_self
 pub not_same : (s t : List ℕ) → not (same s t) ≡ true → s ≡ t → ⊥
 not_same s t n e = false≢true (sym (ap not (ap (λ u. same u t) e ∙ same_self t)) ∙ n)
 
+-- the order of two lists does not matter
+pub same_turn : (s t : List ℕ) → same s t ≡ same t s
+same_turn s t = go (same s t) refl (same t s) refl
+  where
+    go : (x : Bool) → same s t ≡ x → (y : Bool) → same t s ≡ y → x ≡ y
+    go true e true f = refl
+    go true e false f = absurd (not_both (same t s) (rw (same_true s t e) (same_self t)) f)
+    go false e true f = absurd (not_both (same s t) (rw (same_true t s f) (same_self s)) e)
+    go false e false f = refl
+
 -- what has other numbers is another
 pub other_numbers : {A : Type 0} (numbers : A → List ℕ) (a b : A) → not (same (numbers a) (numbers b)) ≡ true
     → a ≡ b → ⊥

@@ -2,13 +2,12 @@
 use mathlib.Core.Path.{◌≡◌, refl, ap}
 use mathlib.Core.Bool.{Bool, true, false, ◌&&◌}
 use mathlib.Core.List.{List, [], ◌∷◌}
-use Prim.Native.Nat.{ℕ, zero, suc, ◌+◌, ◌<◌}
+use Prim.Native.Nat.{ℕ, suc, ◌+◌, ◌<◌}
 use native.Mathlib.Numerals.{add-one}
-use native.Mathlib.Omega.{arith}
 use lib.Dec.{eqb}
 use lib.ListN.{length, drop, get_or}
 use lib.Seq.{drop-cons, drop-length}
-use Rattle.base.specs.Lists.{all, same, head_is, last_is}
+use Rattle.base.specs.Lists.{all, same}
 
 pub all_step : (p : ℕ → Bool) (l : List ℕ) (i : ℕ) → i < length l
     → all p (drop i l) ≡ (p (get_or l i 0) && all p (drop (i + 1) l))
@@ -42,16 +41,3 @@ same_length [] [] n = absurd (n refl)
 same_length [] (y ∷ b) n = refl
 same_length (x ∷ a) [] n = refl
 same_length (x ∷ a) (y ∷ b) n = rw (same_length a b (λ e. n (ap suc e)), and_false)
-
-pub head_get_d : (p : ℕ → Bool) (l : List ℕ) → 0 < length l → head_is p l ≡ p (get_or l 0 0)
-head_get_d p [] h = absurd (omega arith)
-head_get_d p (x ∷ l) h = refl
-
--- the last element stands at an index one less than the length
-pub last_get_d : (p : ℕ → Bool) (l : List ℕ) (n : ℕ) → length l ≡ suc n → last_is p l ≡ p (get_or l n 0)
-unfolding last_is
-last_get_d p [] n h = absurd (omega arith)
-last_get_d p (x ∷ []) zero h = refl
-last_get_d p (x ∷ []) (suc n) h = absurd (omega arith)
-last_get_d p (x ∷ y ∷ l) zero h = absurd (omega arith)
-last_get_d p (x ∷ y ∷ l) (suc n) h = last_get_d p (y ∷ l) n (omega arith)

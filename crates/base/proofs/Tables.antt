@@ -26,7 +26,7 @@ below_holds p (suc n) e k h = go (eqb k n) refl (λ lt. below_holds p n w.1 k lt
     go true q ih = rw (eqb-true k n q) w.0
     go false q ih = ih (omega (arith, eqb-false k n q))
 
-beq_eq : (a b : Bool) → beq a b ≡ true → a ≡ b
+pub beq_eq : (a b : Bool) → beq a b ≡ true → a ≡ b
 beq_eq true true e = refl
 beq_eq true false e = absurd (false≢true e)
 beq_eq false true e = absurd (false≢true e)

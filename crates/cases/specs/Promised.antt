@@ -2,12 +2,12 @@
 -- WrongNumbers, WrongRecords, WrongEdits and WrongPuts list false ones, one that holds, so that none of those is false
 -- for want of an answer.
 -- [01, The blade report, marked cases and listing] [02, R-10] [02, R-2] [02, R-4] [02, R-7] [02, R-5]
-use Rattle.std.specs.Prelude.{List, [], ◌∷◌, ◌++◌, map, length, replicate, set}
+use Rattle.std.specs.Prelude.{List, [], ◌∷◌, ◌++◌, map, length, replicate, set, Ok, Err}
 use Rattle.base.specs.Bytes.{bytes}
 use Rattle.base.specs.Lists.{joined, Every}
 use Rattle.rules.specs.declared.Op.TheVariants.{Add, Div, Rem, Pow}
 use Rattle.rules.specs.declared.Fault.TheVariants.{BitsMissing, ZeroDivisor}
-use Rattle.rules.specs.declared.PacketAnswer.TheVariants.{Accepted, Refused}
+use Rattle.rules.specs.declared.PacketRefusal.{PacketRefusal}
 use Rattle.rules.specs.Limits.{limits}
 use Rattle.rules.specs.Reading.{absent, numbers_of, part_from}
 use Rattle.rules.specs.Answers.{accepted, refused}
@@ -113,8 +113,8 @@ in_operators =
     ∷ places_part (sized Div) (7 ∷ 0 ∷ []) 1 (part_from 0 0)
     ∷ reads_partly (sized Div) (7 ∷ 0 ∷ []) (refused 29 3) (run_of (first_two 7 0)) 2
     ∷ reads_partly (required_by (both_give Div 0)) (7 ∷ 0 ∷ 5 ∷ []) (refused 29 3) (run_of (first_two 7 0)) 2
-    ∷ tells_number (Refused ZeroDivisor 3) 29
-    ∷ tells_place (Refused ZeroDivisor 3) 3
+    ∷ tells_number (Err (PacketRefusal.Field ZeroDivisor 3)) 29
+    ∷ tells_place (Err (PacketRefusal.Field ZeroDivisor 3)) 3
     ∷ checks (sized Pow) (accepted 90)
     ∷ checks_in earlier (stored (sized Pow)) (accepted 90)
     ∷ checks_bytes (coded 0x15) (accepted 90)
@@ -267,9 +267,9 @@ in_all =
     ∷ finds blade_report (bytes "Blade") (accepted 3)
     ∷ labels blade_report 0 (bytes "Version") 30
     ∷ places_label blade_report 0 (part_from 30 7)
-    ∷ tells_number (Refused BitsMissing 7) 24
-    ∷ tells_place (Refused BitsMissing 7) 7
-    ∷ tells_amount (Accepted 64) 64
+    ∷ tells_number (Err (PacketRefusal.Field BitsMissing 7)) 24
+    ∷ tells_place (Err (PacketRefusal.Field BitsMissing 7)) 7
+    ∷ tells_amount (Ok 64) 64
     ∷ tells_limits limits
     ∷ counts blade_report (accepted 7)
     ∷ tells_kind blade_report 5 (accepted 13)

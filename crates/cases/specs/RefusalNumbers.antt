@@ -1,16 +1,16 @@
 -- Worked cases: numbers and places of refusals, and of the answers of the code. [01, Refusal numbers]
-use Rattle.std.specs.Prelude.{List, [], ◌∷◌, ◌++◌, ℕ, ◌-◌, replicate, take, drop, set}
+use Rattle.std.specs.Prelude.{List, [], ◌∷◌, ◌++◌, ℕ, ◌-◌, replicate, take, drop, set, Ok, Err}
 use Rattle.std.proofs.Math.Option.{none, some}
 use Prim.Native.String.{String}
 use Rattle.base.specs.Bytes.{bytes}
 use Rattle.base.specs.Lists.{joined}
 use Rattle.rules.specs.declared.Fault.{Fault}
-use Rattle.rules.specs.declared.TableAnswer.{TableAnswer}
-use Rattle.rules.specs.declared.PacketAnswer.{PacketAnswer}
-use Rattle.rules.specs.declared.TextAnswer.{TextAnswer}
-use Rattle.rules.specs.declared.FieldAnswer.{FieldAnswer}
-use Rattle.rules.specs.declared.ListingAnswer.{ListingAnswer}
-use Rattle.rules.specs.declared.ConversionAnswer.{ConversionAnswer}
+use Rattle.rules.specs.declared.TableRefusal.{TableRefusal}
+use Rattle.rules.specs.declared.PacketRefusal.{PacketRefusal}
+use Rattle.rules.specs.declared.TextRefusal.{TextRefusal}
+use Rattle.rules.specs.declared.FieldRefusal.{FieldRefusal}
+use Rattle.rules.specs.declared.ListingRefusal.{ListingRefusal}
+use Rattle.rules.specs.declared.ConversionRefusal.{ConversionRefusal}
 use Rattle.rules.specs.Trees.{num}
 use Rattle.rules.specs.Fields.{fixed}
 use Rattle.rules.specs.Answers.{accepted, refused, of_table, of_packet, of_text, of_field, of_listing, of_conversion}
@@ -235,39 +235,39 @@ tables =
 abbrev answers_of_the_code : List Case
 answers_of_the_code =
     -- 01's numbers for the answers of the code
-    stands (of_table (TableAnswer.Good 46)) (accepted 46)
-    ∷ stands (of_table TableAnswer.NotGood) (refused 21 0)
-    ∷ stands (of_packet (PacketAnswer.Accepted 64)) (accepted 64)
-    ∷ stands (of_packet PacketAnswer.NotGood) (refused 21 0)
-    ∷ stands (of_packet PacketAnswer.TooLong) (refused 22 0)
-    ∷ stands (of_packet PacketAnswer.ShortRun) (refused 23 0)
-    ∷ stands (of_packet (PacketAnswer.Refused Fault.BitsMissing 7)) (refused 24 7)
-    ∷ stands (of_packet (PacketAnswer.Refused Fault.ConstraintFalse 1)) (refused 25 1)
-    ∷ stands (of_packet (PacketAnswer.Refused Fault.AbsentRead 3)) (refused 26 3)
-    ∷ stands (of_packet (PacketAnswer.Refused Fault.OutOfRange 2)) (refused 27 2)
-    ∷ stands (of_packet (PacketAnswer.Refused Fault.ZeroDivisor 2)) (refused 29 2)
-    ∷ stands (of_packet PacketAnswer.LeftOver) (refused 28 0)
-    ∷ stands (of_text (TextAnswer.Accepted 46)) (accepted 46)
-    ∷ stands (of_text TextAnswer.TooLong) (refused 1 0)
-    ∷ stands (of_text TextAnswer.BadByte) (refused 2 0)
-    ∷ stands (of_text (TextAnswer.BadLine 11)) (refused 3 11)
-    ∷ stands (of_text TextAnswer.TooMany) (refused 4 0)
-    ∷ stands (of_text (TextAnswer.BadForm 11)) (refused 5 11)
-    ∷ stands (of_text (TextAnswer.OverLimit 11)) (refused 6 11)
-    ∷ stands (of_text (TextAnswer.Mismatch 11)) (refused 7 11)
-    ∷ stands (of_text (TextAnswer.Repeated 11)) (refused 8 11)
-    ∷ stands (of_text (TextAnswer.BadName 11)) (refused 9 11)
-    ∷ stands (of_text (TextAnswer.BadRest 11)) (refused 10 11)
-    ∷ stands (of_text TextAnswer.NoRoom) (refused 11 0)
-    ∷ stands (of_listing (ListingAnswer.Written 92)) (accepted 92)
-    ∷ stands (of_listing ListingAnswer.NoRoom) (refused 11 0)
+    stands (of_table (Ok 46)) (accepted 46)
+    ∷ stands (of_table (Err TableRefusal.NotGood)) (refused 21 0)
+    ∷ stands (of_packet (Ok 64)) (accepted 64)
+    ∷ stands (of_packet (Err PacketRefusal.NotGood)) (refused 21 0)
+    ∷ stands (of_packet (Err PacketRefusal.TooLong)) (refused 22 0)
+    ∷ stands (of_packet (Err PacketRefusal.ShortRun)) (refused 23 0)
+    ∷ stands (of_packet (Err (PacketRefusal.Field Fault.BitsMissing 7))) (refused 24 7)
+    ∷ stands (of_packet (Err (PacketRefusal.Field Fault.ConstraintFalse 1))) (refused 25 1)
+    ∷ stands (of_packet (Err (PacketRefusal.Field Fault.AbsentRead 3))) (refused 26 3)
+    ∷ stands (of_packet (Err (PacketRefusal.Field Fault.OutOfRange 2))) (refused 27 2)
+    ∷ stands (of_packet (Err (PacketRefusal.Field Fault.ZeroDivisor 2))) (refused 29 2)
+    ∷ stands (of_packet (Err PacketRefusal.LeftOver)) (refused 28 0)
+    ∷ stands (of_text (Ok 46)) (accepted 46)
+    ∷ stands (of_text (Err TextRefusal.TooLong)) (refused 1 0)
+    ∷ stands (of_text (Err TextRefusal.BadByte)) (refused 2 0)
+    ∷ stands (of_text (Err (TextRefusal.BadLine 11))) (refused 3 11)
+    ∷ stands (of_text (Err TextRefusal.TooMany)) (refused 4 0)
+    ∷ stands (of_text (Err (TextRefusal.BadForm 11))) (refused 5 11)
+    ∷ stands (of_text (Err (TextRefusal.OverLimit 11))) (refused 6 11)
+    ∷ stands (of_text (Err (TextRefusal.Mismatch 11))) (refused 7 11)
+    ∷ stands (of_text (Err (TextRefusal.Repeated 11))) (refused 8 11)
+    ∷ stands (of_text (Err (TextRefusal.BadName 11))) (refused 9 11)
+    ∷ stands (of_text (Err (TextRefusal.BadRest 11))) (refused 10 11)
+    ∷ stands (of_text (Err TextRefusal.NoRoom)) (refused 11 0)
+    ∷ stands (of_listing (Ok 92)) (accepted 92)
+    ∷ stands (of_listing (Err ListingRefusal.NoRoom)) (refused 11 0)
     -- what is told of a field, and a table that is converted [02, R-5]
-    ∷ stands (of_field (FieldAnswer.At 4)) (accepted 4)
-    ∷ stands (of_field FieldAnswer.NotGood) (refused 21 0)
-    ∷ stands (of_field FieldAnswer.Unknown) (refused 30 0)
-    ∷ stands (of_conversion (ConversionAnswer.Converted 46)) (accepted 46)
-    ∷ stands (of_conversion ConversionAnswer.NotGood) (refused 21 0)
-    ∷ stands (of_conversion ConversionAnswer.NoRoom) (refused 11 0)
+    ∷ stands (of_field (Ok 4)) (accepted 4)
+    ∷ stands (of_field (Err FieldRefusal.NotGood)) (refused 21 0)
+    ∷ stands (of_field (Err FieldRefusal.Unknown)) (refused 30 0)
+    ∷ stands (of_conversion (Ok 46)) (accepted 46)
+    ∷ stands (of_conversion (Err ConversionRefusal.NotGood)) (refused 21 0)
+    ∷ stands (of_conversion (Err ConversionRefusal.NoRoom)) (refused 11 0)
     ∷ []
 
 abbrev pub refusal_numbers : List Case

@@ -48,6 +48,7 @@
 -- Allowed         all that a promise allows
 -- RuledOut        the answers of wrong programs (specs/Wrong) are ruled out
 -- RuledOutAlways  what is ruled out for all inputs
+-- RuledOutRefusals  the numbers and places of wrong programs (specs/WrongRefusals) are ruled out
 -- Places        where bytes stand: joined, split, the byte in front, the end
 pub mod WithinTest
 pub mod Readers
@@ -99,4 +100,5 @@ pub mod RunCover
 pub mod Allowed
 pub mod RuledOut
 pub mod RuledOutAlways
+pub mod RuledOutRefusals
 pub mod Places

@@ -11,8 +11,6 @@ use native.Mathlib.Omega.{arith}
 use lib.Dec.{ltb}
 use lib.ListN.{length}
 use Rattle.base.specs.Lists.{is_empty}
-use Rattle.rules.specs.declared.PacketAnswer.{PacketAnswer}
-use Rattle.rules.specs.declared.ConversionAnswer.{ConversionAnswer}
 use Rattle.rules.specs.Fields.{Description}
 use Rattle.rules.specs.Within.{Within}
 use Rattle.rules.specs.Editions.{current, uncounted}
@@ -20,7 +18,7 @@ use Rattle.rules.specs.Edits.{cut, put, first_reader}
 use Rattle.rules.specs.References.{readers}
 use Rattle.rules.specs.Stored.{stored, GoodIn, Good}
 use Rattle.rules.specs.Reading.{Reading, complete, refusing, is_too_long, reading, bit_total}
-use Rattle.rules.specs.Answers.{Answer, accepted, refused, of_packet, of_conversion}
+use Rattle.rules.specs.Answers.{Answer, accepted, refused, of_packet, of_conversion, PacketAnswer, ConversionAnswer}
 use Rattle.rules.specs.Promises.{
   Outcome,
   leaves,

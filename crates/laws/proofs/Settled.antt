@@ -4,15 +4,31 @@ use mathlib.Core.Bool.{cond}
 use mathlib.Core.List.{List}
 use Prim.Native.Nat.{ℕ}
 use lib.Dec.{eqb}
+use Rattle.std.specs.Prelude.{Ok, Err}
 use Rattle.rules.specs.declared.Fault.{Fault}
-use Rattle.rules.specs.declared.TableAnswer.{TableAnswer}
-use Rattle.rules.specs.declared.PacketAnswer.{PacketAnswer}
-use Rattle.rules.specs.declared.FieldAnswer.{FieldAnswer}
-use Rattle.rules.specs.declared.ListingAnswer.{ListingAnswer}
-use Rattle.rules.specs.declared.TextAnswer.{TextAnswer}
-use Rattle.rules.specs.declared.ConversionAnswer.{ConversionAnswer}
+use Rattle.rules.specs.declared.TableRefusal.{TableRefusal}
+use Rattle.rules.specs.declared.PacketRefusal.{PacketRefusal}
+use Rattle.rules.specs.declared.FieldRefusal.{FieldRefusal}
+use Rattle.rules.specs.declared.ListingRefusal.{ListingRefusal}
+use Rattle.rules.specs.declared.TextRefusal.{TextRefusal}
+use Rattle.rules.specs.declared.ConversionRefusal.{ConversionRefusal}
 use Rattle.rules.specs.Reading.{Part}
-use Rattle.rules.specs.Answers.{Answer, fault_number, of_table, of_packet, of_field, of_listing, of_text, of_conversion}
+use Rattle.rules.specs.Answers.{
+  Answer,
+  fault_number,
+  of_table,
+  of_packet,
+  of_field,
+  of_listing,
+  of_text,
+  of_conversion,
+  TableAnswer,
+  PacketAnswer,
+  FieldAnswer,
+  ListingAnswer,
+  TextAnswer,
+  ConversionAnswer,
+}
 use Rattle.rules.specs.Editions.{uncounted}
 use Rattle.rules.specs.Stored.{Good}
 use Rattle.rules.specs.Promises.{
@@ -47,96 +63,96 @@ use Rattle.laws.proofs.Decidable.{good_decidable, good_decidable_in}
 -- ── an answer is known by its number, place and value ──
 
 table_of : Answer → TableAnswer
-table_of a = cond (eqb a.number 0) (TableAnswer.Good a.amount) TableAnswer.NotGood
+table_of a = cond (eqb a.number 0) (Ok a.amount) (Err TableRefusal.NotGood)
 
 table_back : (r : TableAnswer) → table_of (of_table r) ≡ r
 unfolding table_of of_table
-table_back (TableAnswer.Good n) = refl
-table_back TableAnswer.NotGood = refl
+table_back (Ok n) = refl
+table_back (Err TableRefusal.NotGood) = refl
 
 packet_of : Answer → PacketAnswer
 packet_of a =
-    cond (eqb a.number 0) (PacketAnswer.Accepted a.amount)
-    (cond (eqb a.number 21) PacketAnswer.NotGood
-    (cond (eqb a.number 22) PacketAnswer.TooLong
-    (cond (eqb a.number 23) PacketAnswer.ShortRun
-    (cond (eqb a.number 24) (PacketAnswer.Refused Fault.BitsMissing a.place)
-    (cond (eqb a.number 25) (PacketAnswer.Refused Fault.ConstraintFalse a.place)
-    (cond (eqb a.number 26) (PacketAnswer.Refused Fault.AbsentRead a.place)
-    (cond (eqb a.number 27) (PacketAnswer.Refused Fault.OutOfRange a.place)
-    (cond (eqb a.number 29) (PacketAnswer.Refused Fault.ZeroDivisor a.place) PacketAnswer.LeftOver))))))))
+    cond (eqb a.number 0) (Ok a.amount)
+    (cond (eqb a.number 21) (Err PacketRefusal.NotGood)
+    (cond (eqb a.number 22) (Err PacketRefusal.TooLong)
+    (cond (eqb a.number 23) (Err PacketRefusal.ShortRun)
+    (cond (eqb a.number 24) (Err (PacketRefusal.Field Fault.BitsMissing a.place))
+    (cond (eqb a.number 25) (Err (PacketRefusal.Field Fault.ConstraintFalse a.place))
+    (cond (eqb a.number 26) (Err (PacketRefusal.Field Fault.AbsentRead a.place))
+    (cond (eqb a.number 27) (Err (PacketRefusal.Field Fault.OutOfRange a.place))
+    (cond (eqb a.number 29) (Err (PacketRefusal.Field Fault.ZeroDivisor a.place)) (Err PacketRefusal.LeftOver)))))))))
 
 packet_back : (r : PacketAnswer) → packet_of (of_packet r) ≡ r
 unfolding packet_of of_packet fault_number
-packet_back (PacketAnswer.Accepted n) = refl
-packet_back PacketAnswer.NotGood = refl
-packet_back PacketAnswer.TooLong = refl
-packet_back PacketAnswer.ShortRun = refl
-packet_back (PacketAnswer.Refused Fault.BitsMissing i) = refl
-packet_back (PacketAnswer.Refused Fault.ConstraintFalse i) = refl
-packet_back (PacketAnswer.Refused Fault.AbsentRead i) = refl
-packet_back (PacketAnswer.Refused Fault.OutOfRange i) = refl
-packet_back (PacketAnswer.Refused Fault.ZeroDivisor i) = refl
-packet_back PacketAnswer.LeftOver = refl
+packet_back (Ok n) = refl
+packet_back (Err PacketRefusal.NotGood) = refl
+packet_back (Err PacketRefusal.TooLong) = refl
+packet_back (Err PacketRefusal.ShortRun) = refl
+packet_back (Err (PacketRefusal.Field Fault.BitsMissing i)) = refl
+packet_back (Err (PacketRefusal.Field Fault.ConstraintFalse i)) = refl
+packet_back (Err (PacketRefusal.Field Fault.AbsentRead i)) = refl
+packet_back (Err (PacketRefusal.Field Fault.OutOfRange i)) = refl
+packet_back (Err (PacketRefusal.Field Fault.ZeroDivisor i)) = refl
+packet_back (Err PacketRefusal.LeftOver) = refl
 
 field_of : Answer → FieldAnswer
 field_of a =
-    cond (eqb a.number 0) (FieldAnswer.At a.amount) (cond (eqb
-    a.number 21) FieldAnswer.NotGood FieldAnswer.Unknown)
+    cond (eqb a.number 0) (Ok a.amount) (cond (eqb
+    a.number 21) (Err FieldRefusal.NotGood) (Err FieldRefusal.Unknown))
 
 field_back : (r : FieldAnswer) → field_of (of_field r) ≡ r
 unfolding field_of of_field
-field_back (FieldAnswer.At i) = refl
-field_back FieldAnswer.NotGood = refl
-field_back FieldAnswer.Unknown = refl
+field_back (Ok i) = refl
+field_back (Err FieldRefusal.NotGood) = refl
+field_back (Err FieldRefusal.Unknown) = refl
 
 listing_of : Answer → ListingAnswer
-listing_of a = cond (eqb a.number 0) (ListingAnswer.Written a.amount) ListingAnswer.NoRoom
+listing_of a = cond (eqb a.number 0) (Ok a.amount) (Err ListingRefusal.NoRoom)
 
 listing_back : (r : ListingAnswer) → listing_of (of_listing r) ≡ r
 unfolding listing_of of_listing
-listing_back (ListingAnswer.Written n) = refl
-listing_back ListingAnswer.NoRoom = refl
+listing_back (Ok n) = refl
+listing_back (Err ListingRefusal.NoRoom) = refl
 
 text_of : Answer → TextAnswer
 text_of a =
-    cond (eqb a.number 0) (TextAnswer.Accepted a.amount)
-    (cond (eqb a.number 1) TextAnswer.TooLong
-    (cond (eqb a.number 2) TextAnswer.BadByte
-    (cond (eqb a.number 3) (TextAnswer.BadLine a.place)
-    (cond (eqb a.number 4) TextAnswer.TooMany
-    (cond (eqb a.number 5) (TextAnswer.BadForm a.place)
-    (cond (eqb a.number 6) (TextAnswer.OverLimit a.place)
-    (cond (eqb a.number 7) (TextAnswer.Mismatch a.place)
-    (cond (eqb a.number 8) (TextAnswer.Repeated a.place)
-    (cond (eqb a.number 9) (TextAnswer.BadName a.place)
-    (cond (eqb a.number 10) (TextAnswer.BadRest a.place) TextAnswer.NoRoom))))))))))
+    cond (eqb a.number 0) (Ok a.amount)
+    (cond (eqb a.number 1) (Err TextRefusal.TooLong)
+    (cond (eqb a.number 2) (Err TextRefusal.BadByte)
+    (cond (eqb a.number 3) (Err (TextRefusal.BadLine a.place))
+    (cond (eqb a.number 4) (Err TextRefusal.TooMany)
+    (cond (eqb a.number 5) (Err (TextRefusal.BadForm a.place))
+    (cond (eqb a.number 6) (Err (TextRefusal.OverLimit a.place))
+    (cond (eqb a.number 7) (Err (TextRefusal.Mismatch a.place))
+    (cond (eqb a.number 8) (Err (TextRefusal.Repeated a.place))
+    (cond (eqb a.number 9) (Err (TextRefusal.BadName a.place))
+    (cond (eqb a.number 10) (Err (TextRefusal.BadRest a.place)) (Err TextRefusal.NoRoom)))))))))))
 
 text_back : (r : TextAnswer) → text_of (of_text r) ≡ r
 unfolding text_of of_text
-text_back (TextAnswer.Accepted n) = refl
-text_back TextAnswer.TooLong = refl
-text_back TextAnswer.BadByte = refl
-text_back (TextAnswer.BadLine p) = refl
-text_back TextAnswer.TooMany = refl
-text_back (TextAnswer.BadForm p) = refl
-text_back (TextAnswer.OverLimit p) = refl
-text_back (TextAnswer.Mismatch p) = refl
-text_back (TextAnswer.Repeated p) = refl
-text_back (TextAnswer.BadName p) = refl
-text_back (TextAnswer.BadRest p) = refl
-text_back TextAnswer.NoRoom = refl
+text_back (Ok n) = refl
+text_back (Err TextRefusal.TooLong) = refl
+text_back (Err TextRefusal.BadByte) = refl
+text_back (Err (TextRefusal.BadLine p)) = refl
+text_back (Err TextRefusal.TooMany) = refl
+text_back (Err (TextRefusal.BadForm p)) = refl
+text_back (Err (TextRefusal.OverLimit p)) = refl
+text_back (Err (TextRefusal.Mismatch p)) = refl
+text_back (Err (TextRefusal.Repeated p)) = refl
+text_back (Err (TextRefusal.BadName p)) = refl
+text_back (Err (TextRefusal.BadRest p)) = refl
+text_back (Err TextRefusal.NoRoom) = refl
 
 conversion_of : Answer → ConversionAnswer
 conversion_of a =
-    cond (eqb a.number 0) (ConversionAnswer.Converted a.amount)
-    (cond (eqb a.number 21) ConversionAnswer.NotGood ConversionAnswer.NoRoom)
+    cond (eqb a.number 0) (Ok a.amount)
+    (cond (eqb a.number 21) (Err ConversionRefusal.NotGood) (Err ConversionRefusal.NoRoom))
 
 conversion_back : (r : ConversionAnswer) → conversion_of (of_conversion r) ≡ r
 unfolding conversion_of of_conversion
-conversion_back (ConversionAnswer.Converted n) = refl
-conversion_back ConversionAnswer.NotGood = refl
-conversion_back ConversionAnswer.NoRoom = refl
+conversion_back (Ok n) = refl
+conversion_back (Err ConversionRefusal.NotGood) = refl
+conversion_back (Err ConversionRefusal.NoRoom) = refl
 
 pub table_number : (a b : TableAnswer) → of_table a ≡ of_table b → a ≡ b
 table_number a b e = sym (table_back a) ∙ ap table_of e ∙ table_back b

@@ -6,6 +6,7 @@
 -- WrongRecords  of those that are wrong about some records: their kinds, their lengths, what is read in many fields
 -- WrongEdits  of those that are wrong about fields that are cut out
 -- WrongPuts  of those that are wrong about fields that are put in
+-- WrongRefusals  of those that are wrong about what is refused, by its number and place
 -- Places  where bytes stand in a list: a helper of code and proofs; no public promise rests on it
 -- Records  records one behind the other, by their lengths: a helper too
 pub mod Wrong
@@ -16,5 +17,6 @@ pub mod WrongNumbers
 pub mod WrongRecords
 pub mod WrongEdits
 pub mod WrongPuts
+pub mod WrongRefusals
 pub mod Places
 pub mod Records

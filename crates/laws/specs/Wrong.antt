@@ -1,21 +1,20 @@
 -- Answers of wrong programs: of each, what is claimed is a promise, and it is false (proofs/RuledOut). A program that
 -- keeps the promises is none of these, and no export is: its promise is the entry's.
 -- [01, How the promises are judged] [01, Easy ways to go wrong]
-use Rattle.std.specs.Prelude.{◌≡◌, List, [], ◌∷◌, ◌++◌, ℕ, length, replicate, take, drop, set}
+use Rattle.std.specs.Prelude.{◌≡◌, List, [], ◌∷◌, ◌++◌, ℕ, length, replicate, take, drop, set, Ok, Err}
 use Rattle.std.proofs.Math.Option.{none, some}
 use Rattle.base.specs.Bytes.{bytes}
 use Rattle.base.specs.Lists.{joined, Every}
 use Rattle.rules.specs.declared.Op.TheVariants.{Eq}
 use Rattle.rules.specs.declared.Fault.TheVariants.{BitsMissing}
-use Rattle.rules.specs.declared.PacketAnswer.{PacketAnswer}
-use Rattle.rules.specs.declared.PacketAnswer.TheVariants.{Accepted, Refused, LeftOver}
+use Rattle.rules.specs.declared.PacketRefusal.{PacketRefusal}
 use Rattle.rules.specs.Limits.{limits}
 use Rattle.rules.specs.Trees.{num, read, two}
 use Rattle.rules.specs.Fields.{fixed, Description}
 use Rattle.rules.specs.Editions.{Edition, current}
 use Rattle.rules.specs.Stored.{stored}
 use Rattle.rules.specs.Reading.{Entry, absent, numbers_of, Part, part_from}
-use Rattle.rules.specs.Answers.{Answer, accepted, refused, of_packet}
+use Rattle.rules.specs.Answers.{Answer, accepted, refused, of_packet, PacketAnswer}
 use Rattle.rules.specs.Promises.{
   leaves,
   overlaid,
@@ -290,20 +289,20 @@ wrong_labels =
 abbrev wrong_answers : List Claim
 wrong_answers =
     -- a number: 24 told as 25; 0 for a refusal; the bit total of an accepted packet
-    tells_number (Refused BitsMissing 7) 25
-    ∷ tells_number (Refused BitsMissing 7) 0
-    ∷ tells_number PacketAnswer.NotGood 0
-    ∷ tells_number (Accepted 64) 64
+    tells_number (Err (PacketRefusal.Field BitsMissing 7)) 25
+    ∷ tells_number (Err (PacketRefusal.Field BitsMissing 7)) 0
+    ∷ tells_number (Err PacketRefusal.NotGood) 0
+    ∷ tells_number (Ok 64) 64
     -- a place: fields counted from 0; no place for a field's fault; one for an accepted packet, or for bits left over
-    ∷ tells_place (Refused BitsMissing 7) 6
-    ∷ tells_place (Refused BitsMissing 7) 0
-    ∷ tells_place (Accepted 64) 7
-    ∷ tells_place LeftOver 7
+    ∷ tells_place (Err (PacketRefusal.Field BitsMissing 7)) 6
+    ∷ tells_place (Err (PacketRefusal.Field BitsMissing 7)) 0
+    ∷ tells_place (Ok 64) 7
+    ∷ tells_place (Err PacketRefusal.LeftOver) 7
     -- an amount: one for a refusal; none, or bytes for bits, for an accepted packet
-    ∷ tells_amount (Refused BitsMissing 7) 56
-    ∷ tells_amount LeftOver 72
-    ∷ tells_amount (Accepted 64) 0
-    ∷ tells_amount (Accepted 64) 8
+    ∷ tells_amount (Err (PacketRefusal.Field BitsMissing 7)) 56
+    ∷ tells_amount (Err PacketRefusal.LeftOver) 72
+    ∷ tells_amount (Ok 64) 0
+    ∷ tells_amount (Ok 64) 8
     -- the limits: one field more; a byte less for a label; one left out
     ∷ tells_limits (set limits 1 129)
     ∷ tells_limits (set limits 3 39)

@@ -1,11 +1,11 @@
 -- Answers of programs that are wrong about quotients, remainders and powers. [02, R-7]
-use Rattle.std.specs.Prelude.{List, [], ◌∷◌, ◌++◌, map, ℕ, zero, suc, ◌+◌, ◌*◌, length, replicate, set}
+use Rattle.std.specs.Prelude.{List, [], ◌∷◌, ◌++◌, map, ℕ, zero, suc, ◌+◌, ◌*◌, length, replicate, set, Err}
 use Rattle.std.proofs.Math.Option.{none, some}
 use Rattle.base.specs.Bytes.{bytes}
 use Rattle.rules.specs.declared.Op.{Op}
 use Rattle.rules.specs.declared.Op.TheVariants.{Or, And, Eq, Ne, Sub, Div, Rem, Pow}
 use Rattle.rules.specs.declared.Fault.TheVariants.{ZeroDivisor}
-use Rattle.rules.specs.declared.PacketAnswer.TheVariants.{Refused}
+use Rattle.rules.specs.declared.PacketRefusal.{PacketRefusal}
 use Rattle.rules.specs.Trees.{Tree, num, read, two}
 use Rattle.rules.specs.Values.{apply}
 use Rattle.rules.specs.Fields.{fixed, measured, Field, Description}
@@ -246,11 +246,11 @@ in_others =
     ∷ reads_partly (required_by (both_give Div 0)) (7 ∷ 0 ∷ 5 ∷ []) (refused 29 3)
     (run_of (first_two 7 0 ++ (entry 16 8 5 ∷ []))) 3
     -- its number and place
-    ∷ tells_number (Refused ZeroDivisor 3) 27
-    ∷ tells_number (Refused ZeroDivisor 3) 28
-    ∷ tells_number (Refused ZeroDivisor 3) 0
-    ∷ tells_place (Refused ZeroDivisor 3) 0
-    ∷ tells_place (Refused ZeroDivisor 3) 2
+    ∷ tells_number (Err (PacketRefusal.Field ZeroDivisor 3)) 27
+    ∷ tells_number (Err (PacketRefusal.Field ZeroDivisor 3)) 28
+    ∷ tells_number (Err (PacketRefusal.Field ZeroDivisor 3)) 0
+    ∷ tells_place (Err (PacketRefusal.Field ZeroDivisor 3)) 0
+    ∷ tells_place (Err (PacketRefusal.Field ZeroDivisor 3)) 2
     ∷ []
 
 -- the bytes are accepted as a table

@@ -17,14 +17,15 @@ pub fn large_buffer() -> [u8; 65536]
     [0; 65536]
 }
 
-// A reader's bytes, as many as fit, in front of the buffer; answers how many. Fewer than fit are all that were left, and
-// where a read fails the buffer's bytes are any.
+// A reader's bytes, as many as fit, in front of the buffer; answers how many. Fewer than fit are all that were left,
+// and where a read fails the buffer's bytes are any.
 pub fn fill<R: Read>(reader: &mut R, out: &mut [u8]) -> io::Result<usize>
     ensures ok { IfOk result (λ n. IsPrefixLen n out.new) }
     ensures err { OnErr result (length out.new ≡ length out.old) }
     ensures bytes { IfOk result (λ n. Consumes (R.remaining reader.old) (R.remaining reader.new) (take n out.new)) }
     ensures end { IfOk result (λ n. n < length out.new → IsAtEnd (R.remaining reader.new)) }
 {
+    // A count and no iterator: a read puts in as many bytes as it likes.
     let mut n = 0;
     while n < out.len() {
         let more = reader.read(&mut out[n..])?;

@@ -5,7 +5,7 @@ use mathlib.Core.List.{List, [], ◌∷◌}
 use mathlib.Core.Option.{Option, none, some}
 use Prim.Native.Nat.{ℕ}
 use Rattle.base.specs.Lists.{any, same, if_any, list_of}
-use Rattle.base.proofs.Lists.{not_both, fails, same_true, same_self}
+use Rattle.base.proofs.Lists.{not_both, fails, same_true, same_turn}
 use Rattle.rules.specs.Limits.{short_most}
 use Rattle.rules.specs.Names.{is_short}
 use Rattle.rules.specs.Fields.{Field}
@@ -13,16 +13,6 @@ use Rattle.rules.specs.Stored.{stored_name}
 use Rattle.rules.specs.Within.{clash}
 use Rattle.names.specs.Repeats.{pad_to, same_name, held_word, names_meet}
 use Rattle.names.proofs.PadLaws.{held_same, none_first, none_second}
-
--- the order of two words does not matter
-pub same_turn : (a b : List ℕ) → same a b ≡ same b a
-same_turn a b = go (same a b) refl (same b a) refl
-  where
-    go : (x : Bool) → same a b ≡ x → (y : Bool) → same b a ≡ y → x ≡ y
-    go true e true f = refl
-    go true e false f = absurd (not_both (same b a) (rw (same_true a b e) (same_self b)) f)
-    go false e true f = absurd (not_both (same a b) (rw (same_true b a f) (same_self a)) e)
-    go false e false f = refl
 
 -- a short name and a label as they are held
 pub word_same : (s l : List ℕ) → is_short s ≡ true → same_name (pad_to short_most s) (held_word l) ≡ same s l

@@ -1,24 +1,18 @@
 -- What the class numbers say of a byte: one test over the 256 values.
 use mathlib.Core.Path.{◌≡◌, refl}
-use mathlib.Core.Bool.{Bool, true, false, ◌&&◌, ◌||◌, beq, false≢true}
+use mathlib.Core.Bool.{Bool, true, ◌&&◌, beq}
 use mathlib.Core.List.{List}
 use Prim.Native.Nat.{ℕ, ◌<◌}
 use lib.Dec.{eqb}
 use lib.ListN.{get_or}
 use Rattle.base.specs.Lists.{any}
 use Rattle.base.proofs.Breaks.{and_true}
-use Rattle.base.proofs.Tables.{below_holds, get_d_tabulate}
+use Rattle.base.proofs.Tables.{below_holds, beq_eq, get_d_tabulate}
 use Rattle.rules.specs.Operators.{operator, operators}
-use Rattle.rules.specs.Names.{is_letter, is_digit, is_operator, is_space, class_of, is_word_byte}
+use Rattle.rules.specs.Names.{is_letter, is_digit, is_operator, is_space, class_of, is_word_byte, is_label_byte}
 use Rattle.names.specs.Classes.{letter_class, digit_class, operator_class, space_class, class_table}
 use Rattle.names.specs.Classes.{has_class, is_word_in}
-use Rattle.names.specs.LentNames.{is_name_in}
-
-beq_eq : (a b : Bool) → beq a b ≡ true → a ≡ b
-beq_eq true true h = refl
-beq_eq true false h = absurd (false≢true h)
-beq_eq false true h = absurd (false≢true h)
-beq_eq false false h = refl
+use Rattle.names.specs.LentNames.{is_label_byte_in}
 
 -- each class is that of the bytes that it is named by
 unfoldable is_right : ℕ → Bool
@@ -67,12 +61,6 @@ module _ (classes : List ℕ) (known : classes ≡ class_table) (b : ℕ) (fits 
   unfolding is_word_byte
   word_in = rw (letter_in, digit_in) refl
 
-pub name_word : (classes : List ℕ) (label : Bool) (b : ℕ) → is_word_in classes b ≡ true
-    → is_name_in classes label b ≡ true
-name_word classes true b e = rw e
-name_word classes false b e = e
-
--- a byte that is no letter or digit, in a label
-pub name_label : (classes : List ℕ) (label : Bool) (b : ℕ) → is_word_in classes b ≡ false → label ≡ true
-    → is_name_in classes label b ≡ (has_class space_class classes b || eqb b 45)
-name_label classes label b e h = rw (h, e)
+  pub label_byte_in : is_label_byte_in classes b ≡ is_label_byte b
+  unfolding is_label_byte
+  label_byte_in = rw (word_in, space_in) refl

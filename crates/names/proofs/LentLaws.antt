@@ -11,7 +11,7 @@ use Rattle.base.specs.Lists.{tabulate}
 use Rattle.rules.specs.Names.{is_letter, is_digit, is_space, class_of, is_word_byte, is_label_byte}
 use Rattle.rules.specs.Names.{no_two_spaces, is_label, is_short}
 use Rattle.names.specs.Classes.{letter_class, digit_class, space_class, class_table, has_class, is_word_in}
-use Rattle.names.specs.LentNames.{is_name_in, no_two, is_label_in, is_short_in}
+use Rattle.names.specs.LentNames.{is_label_byte_in, no_two, is_label_in, is_short_in}
 use Rattle.names.proofs.ClassRules.{letter_in, digit_in, space_in}
 
 -- ── a number above the bytes has no class ──
@@ -87,7 +87,7 @@ words : is_word_in class_table ≡ is_word_byte
 unfolding is_word_byte
 words = fun_ext (λ b. rw (letter_table b, digit_table b) refl)
 
-label_bytes_lem : is_name_in class_table true ≡ is_label_byte
+label_bytes_lem : is_label_byte_in class_table ≡ is_label_byte
 unfolding is_label_byte is_word_byte
 label_bytes_lem = fun_ext (λ b. rw (letter_table b, digit_table b, space_table b) refl)
 

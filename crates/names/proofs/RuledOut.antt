@@ -37,6 +37,7 @@ use Rattle.names.specs.Wrong.{
   says_reserved,
   says_same,
   answers_byte,
+  pads,
   holds,
   makes_key,
   says_meet,
@@ -69,6 +70,7 @@ claimed (says_label w r) = bit r
 claimed (says_reserved w r) = bit r
 claimed (says_same a b r) = bit r
 claimed (answers_byte w i r) = single r
+claimed (pads n w r) = r
 claimed (holds w r) = r
 claimed (makes_key name r) = single r
 claimed (says_meet a v b w r) = bit r
@@ -87,6 +89,7 @@ given (says_label w r) = bit (is_label w)
 given (says_reserved w r) = bit (is_reserved w)
 given (says_same a b r) = bit (same a b)
 given (answers_byte w i r) = single (get_or w i 0)
+given (pads n w r) = pad_to n w
 given (holds w r) = pad_to short_most w
 given (makes_key name r) = single (name_number name)
 given (says_meet a v b w r) = bit (names_meet a v b w)
@@ -105,6 +108,7 @@ claim_only (says_label w r) p = ap bit p
 claim_only (says_reserved w r) p = ap bit p
 claim_only (says_same a b r) p = ap bit p
 claim_only (answers_byte w i r) p = ap single p
+claim_only (pads n w r) p = p
 claim_only (holds w r) p = p
 claim_only (makes_key name r) p = ap single p
 claim_only (says_meet a v b w r) p = ap bit p

@@ -36,7 +36,8 @@ pub data Claim : Type 0 where
   says_same : List ℕ → List ℕ → Bool → Claim
   -- the byte of an index
   answers_byte : List ℕ → ℕ → ℕ → Claim
-  -- a name as it is held, and the key of a held one
+  -- the first n bytes of a word, a name as it is held, and the key of a held one
+  pads : ℕ → List ℕ → List ℕ → Claim
   holds : List ℕ → List ℕ → Claim
   makes_key : List ℕ → ℕ → Claim
   -- whether the names of two fields meet: short name and label of one, then of the other
@@ -58,6 +59,7 @@ Claimed (says_label w r) = r ≡ is_label w
 Claimed (says_reserved w r) = r ≡ is_reserved w
 Claimed (says_same a b r) = r ≡ same a b
 Claimed (answers_byte w i r) = r ≡ get_or w i 0
+Claimed (pads n w r) = r ≡ pad_to n w
 Claimed (holds w r) = r ≡ pad_to short_most w
 Claimed (makes_key name r) = r ≡ name_number name
 Claimed (says_meet a v b w r) = r ≡ names_meet a v b w
@@ -164,8 +166,12 @@ wrong_words =
 -- of held names
 abbrev pub wrong_held : List Claim
 wrong_held =
+    -- a word cut a byte too soon; zeros in front; more bytes than were asked for
+    pads 4 (bytes "ABCD") (bytes "ABC")
+    ∷ pads 4 (bytes "AB") (0 ∷ 0 ∷ bytes "AB")
+    ∷ pads 2 (bytes "ABC") (bytes "ABC")
     -- a held name cut at 7 bytes; the first byte in every place; spaces behind its end
-    holds (bytes "ABCDEFGH") (pad_to short_most (bytes "ABCDEFG"))
+    ∷ holds (bytes "ABCDEFGH") (pad_to short_most (bytes "ABCDEFG"))
     ∷ holds (bytes "AB") (replicate short_most 65)
     ∷ holds (bytes "AB") (bytes "AB      ")
     -- the last byte the most significant; the first byte alone; the last byte left out [02, R-3]

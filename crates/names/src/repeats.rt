@@ -2,10 +2,11 @@
 // label is an earlier short name.
 ghost use Rattle.std.specs.Prelude.{◌≡◌, ◌≤◌};
 ghost use Rattle.rules.specs.Limits.{fields_most, short_most};
-ghost use Rattle.names.specs.Keys.{word_key, IsHeld, is_new, start_of_both};
+ghost use Rattle.names.specs.Keys.{IsHeld, is_new, start_of_both};
 ghost use Rattle.names.specs.Repeats.{
   pad_to,
   name_number,
+  same_name,
   names_meet,
   names_alike,
   first_repeat,
@@ -13,53 +14,65 @@ ghost use Rattle.names.specs.Repeats.{
   at_most,
 };
 
-use crate::words::{byte_of, word_key};
 use rules::{FIELDS_MOST, SHORT_MOST};
 
 // How many remainders of keys are told apart.
 pub const REMAINDERS: usize = 241;
 
-// A name of at most SHORT_MOST bytes, with zeros behind its end; of a longer one its first bytes.
-pub fn held_name(w: &[u8]) -> [u8; SHORT_MOST]
-    ensures { result ≡ pad_to short_most w.now }
+// The first N bytes of a word, with zeros behind its end.
+pub fn padded<const N: usize>(w: &[u8]) -> [u8; N]
+    ensures { result ≡ pad_to N w.now }
 {
-    let mut name = [0u8; SHORT_MOST];
-    let mut i = 0;
-    while i < SHORT_MOST {
-        name[i] = byte_of(w, i);
-        i += 1;
-    }
+    let mut name = [0; N];
+    let n = w.len().min(N);
+    name[..n].copy_from_slice(&w[..n]);
     name
 }
 
-fn name_key(name: [u8; SHORT_MOST]) -> usize
-    ensures key { result ≡ word_key name }
-    ensures held { IsHeld name }
+// A name of at most SHORT_MOST bytes, with zeros behind its end; of a longer one its first bytes. Zeros and no
+// None: document 01 names arrays of 8-byte arrays.
+pub fn held_name(w: &[u8]) -> [u8; SHORT_MOST]
+    ensures { result ≡ pad_to short_most w.now }
 {
-    word_key(&name)
+    padded(w)
 }
 
-// The number that the bytes of a held name make.
+// The number that the bytes of a held name make: no other name has it.
+#[tactic(auto, using(crate::proofs::KeyNumbers::be_number))]
+fn name_key(name: &[u8; SHORT_MOST]) -> usize
+    ensures key { result ≡ name_number name.now }
+    ensures held { IsHeld name.now }
+{
+    usize::from_be_bytes(*name)
+}
+
+// The same of a name by value, as texts takes names out of what it keeps.
 pub fn key_of(name: [u8; SHORT_MOST]) -> usize
     ensures { result ≡ name_number name }
 {
-    name_key(name)
+    name_key(&name)
 }
 
 // Where the earlier ones begin that can be like the one of index j: at j itself if none of them has such a key. What
-// keys were seen is told by their remainders.
+// keys were seen is told by their remainders. Bytes and no bools: callers lend them so.
+#[tactic(auto, unfolding(crate::specs::Repeats::start_of))]
 pub fn start_of(seen: &[u8; REMAINDERS], key: usize, j: usize) -> usize
     ensures { result ≡ start_of seen.now key j }
 {
-    let rest = key % REMAINDERS;
-    if seen[rest] == 0 {
-        return j;
-    }
-    0
+    if seen[key % REMAINDERS] == 0 { j } else { 0 }
+}
+
+// Both are the same name, and not none.
+#[tactic(auto, using(crate::proofs::KeyNumbers::number_same), unfolding(crate::specs::Repeats::same_name))]
+fn same_name(a: &[u8; SHORT_MOST], b: &[u8; SHORT_MOST]) -> bool
+    ensures { result ≡ same_name a.now b.now }
+{
+    a[0] != 0 && name_key(a) == name_key(b)
 }
 
 // Of two fields with the held short names s and t and the held labels v and w: the short name of one is a name of the
-// other. Names are told by their keys.
+// other.
+#[tactic(auto, unfolding(crate::specs::Repeats::names_meet))]
 pub fn names_meet(
     s: [u8; SHORT_MOST],
     v: [u8; SHORT_MOST],
@@ -68,38 +81,19 @@ pub fn names_meet(
 ) -> bool
     ensures { result ≡ names_meet s v t w }
 {
-    let x = name_key(s);
-    let y = name_key(t);
-    if s[0] == 0 {
-        if t[0] == 0 {
-            return false;
-        }
-        return y == name_key(v);
-    }
-    if x == y {
-        return true;
-    }
-    if x == name_key(w) {
-        return true;
-    }
-    if t[0] == 0 {
-        return false;
-    }
-    y == name_key(v)
+    same_name(&s, &t) || same_name(&s, &w) || same_name(&t, &v)
 }
 
 // None, or no name with such a key was seen.
+#[tactic(auto, unfolding(crate::specs::Keys::is_new))]
 fn is_new(seen: &[u8; REMAINDERS], name: [u8; SHORT_MOST]) -> bool
     ensures { result ≡ is_new seen.now name }
 {
-    if name[0] == 0 {
-        return true;
-    }
-    let key = name_key(name);
-    seen[key % REMAINDERS] == 0
+    name[0] == 0 || seen[name_key(&name) % REMAINDERS] == 0
 }
 
 // Where the earlier ones begin that can share a name with the one of index j: at j itself if both names are new.
+#[tactic(auto, unfolding(crate::specs::Keys::start_of_both))]
 fn start_of_both(
     seen: &[u8; REMAINDERS],
     short: [u8; SHORT_MOST],
@@ -108,16 +102,15 @@ fn start_of_both(
 ) -> usize
     ensures { result ≡ start_of_both seen.now short word j }
 {
-    if is_new(seen, short) {
-        if is_new(seen, word) {
-            return j;
-        }
-        return 0;
+    if is_new(seen, short) && is_new(seen, word) {
+        j
+    } else {
+        0
     }
-    0
 }
 
-// The first of n fields whose names meet those of an earlier one, else n.
+// The first of n fields whose names meet those of an earlier one, else n. n for none, as first_repeat promises.
+// Document 01 gives the form: labelled loops that end with the answer.
 fn repeat_below(
     shorts: &[[u8; SHORT_MOST]; FIELDS_MOST],
     words: &[[u8; SHORT_MOST]; FIELDS_MOST],
@@ -132,17 +125,14 @@ fn repeat_below(
         if j >= n {
             break 'later n;
         }
-        let mut i = start_of_both(&seen, shorts[j], words[j], j);
-        while i < j {
+        let start = start_of_both(&seen, shorts[j], words[j], j);
+        for i in start..j {
             if names_meet(shorts[i], words[i], shorts[j], words[j]) {
                 break 'later j;
             }
-            i += 1;
         }
-        let short = name_key(shorts[j]);
-        let word = name_key(words[j]);
-        seen[short % REMAINDERS] = 1;
-        seen[word % REMAINDERS] = 1;
+        seen[name_key(&shorts[j]) % REMAINDERS] = 1;
+        seen[name_key(&words[j]) % REMAINDERS] = 1;
         j += 1;
     }
 }
@@ -156,8 +146,5 @@ pub fn first_repeat(
     ensures { result
         ≡ first_repeat (names_alike shorts.now words.now) (at_most fields_most n) }
 {
-    if FIELDS_MOST < n {
-        return repeat_below(shorts, words, FIELDS_MOST);
-    }
-    repeat_below(shorts, words, n)
+    repeat_below(shorts, words, n.min(FIELDS_MOST))
 }

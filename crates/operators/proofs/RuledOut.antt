@@ -2,15 +2,16 @@
 use mathlib.Core.Path.{◌≡◌, refl}
 use mathlib.Core.Bool.{Bool, true, not}
 use mathlib.Core.List.{List, [], ◌∷◌}
+use Rattle.std.specs.Prelude.{Option, Some, None}
 use Prim.Native.Nat.{ℕ}
 use Rattle.base.specs.Lists.{all, same}
 use Rattle.base.proofs.Lists.{every_passes, other_numbers}
+use Rattle.rules.specs.declared.Op.{Op}
 use Rattle.rules.specs.declared.ValueType.{ValueType}
 use Rattle.rules.specs.declared.Decider.{Decider}
 use Rattle.rules.specs.Operators.{operator, operators, code}
 use Rattle.operators.specs.declared.rows.Row.{Row}
 use Rattle.operators.specs.declared.codes.Code.{Code}
-use Rattle.operators.specs.declared.symbols.Symbol.{Symbol}
 use Rattle.operators.specs.Rows.{row_of}
 use Rattle.operators.specs.Codes.{code_in, code_of}
 use Rattle.operators.specs.Symbols.{symbol_in, symbol_of}
@@ -27,10 +28,14 @@ decider_number Decider.ByYes = 0
 decider_number Decider.ByNo = 1
 decider_number Decider.Neither = 2
 
+abbrev second_number : Option ℕ → ℕ
+second_number None = 0
+second_number (Some b) = b
+
 abbrev row_numbers : Row → List ℕ
 row_numbers r =
     r.first
-    ∷ r.second
+    ∷ second_number r.second
     ∷ r.level
     ∷ r.left
     ∷ r.right
@@ -47,9 +52,9 @@ code_numbers (Code.Two o) = 2 ∷ code o ∷ []
 code_numbers Code.Not = 3 ∷ []
 code_numbers Code.Other = 4 ∷ []
 
-abbrev symbol_numbers : Symbol → List ℕ
-symbol_numbers Symbol.Nothing = []
-symbol_numbers (Symbol.Is o n) = code o ∷ n ∷ []
+abbrev symbol_numbers : Option (Op × ℕ) → List ℕ
+symbol_numbers None = []
+symbol_numbers (Some (o, n)) = code o ∷ n ∷ []
 
 -- ── other numbers ──
 

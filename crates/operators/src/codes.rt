@@ -4,7 +4,13 @@ ghost use Rattle.operators.specs.Codes.{code_of};
 
 use rules::Op;
 
-#[derive(Clone, Copy)]
+// The first bytes of a stored number and of a stored field. Bytes and no enum: stored expressions begin with them.
+pub const NUMBER_CODE: u8 = 0x01;
+
+pub const FIELD_CODE: u8 = 0x02;
+
+// `Other` and no `None`: readers tell all five apart by one `match`.
+#[derive(Clone, Copy, PartialEq, Eq, Debug)]
 pub enum Code {
     Number,
     Field,
@@ -13,12 +19,15 @@ pub enum Code {
     Other,
 }
 
+#[tactic(auto, unfolding(crate::specs::Codes::code_of, crate::specs::Codes::code_in,
+// the table of the rules
+rules::specs::Operators::operators, rules::specs::Operators::operator))]
 pub fn code_of(c: u8) -> Code
     ensures { result ≡ code_of c }
 {
     match c {
-        0x01 => Code::Number,
-        0x02 => Code::Field,
+        NUMBER_CODE => Code::Number,
+        FIELD_CODE => Code::Field,
         0x10 => Code::Two(Op::Add),
         0x11 => Code::Two(Op::Sub),
         0x12 => Code::Two(Op::Mul),

@@ -3,9 +3,9 @@ use mathlib.Core.Path.{◌≡◌, refl, sym, subst, ap, ap₂, ◌∙◌}
 use mathlib.Core.Bool.{Bool, true, false, not}
 use mathlib.Core.List.{List, [], ◌∷◌, ◌++◌}
 use mathlib.Core.Option.{Option, none, some, map, none-ne-some, some-injective}
-use Prim.Native.Nat.{ℕ, suc, ◌+◌, ◌-◌, ◌*◌, ◌<◌, ◌≤◌}
+use Prim.Native.Nat.{ℕ, suc, ◌+◌, ◌*◌, ◌<◌, ◌≤◌}
 use native.Mathlib.Omega.{arith}
-use native.Mathlib.Nat.{zero-add, sub-zero}
+use native.Mathlib.Nat.{zero-add}
 use lib.ListN.{length, take, drop, get_or, length-append, length-drop, take-append-drop, get_or-append}
 use lib.Seq.{length-take-le, take-append_seam, drop-append_seam, get_or-take, get_or-drop}
 use Rattle.base.specs.Lists.{all, first_break}
@@ -21,7 +21,8 @@ use Rattle.laws.proofs.Readers.{described_in}
 use Rattle.laws.proofs.Numbers.{front_same}
 use Rattle.laws.proofs.Converted.{uncounted_widens}
 use Rattle.laws.proofs.Earlier.{within_by, within_more}
-use Rattle.rules.specs.declared.ConversionAnswer.{ConversionAnswer}
+use Rattle.std.specs.Prelude.{Ok, Err}
+use Rattle.rules.specs.declared.ConversionRefusal.{ConversionRefusal}
 use Rattle.rules.specs.Trees.{le2}
 use Rattle.rules.specs.Editions.{current, uncounted}
 use Rattle.rules.specs.Fields.{Field, Description}
@@ -33,8 +34,7 @@ use Rattle.rules.specs.Answers.{accepted, of_conversion}
 use Rattle.rules.specs.Promises.{leaves, delivered, ConvertsTable}
 use Rattle.writing.specs.Delivery.{delivery_answer}
 use Rattle.packets.specs.TableTest.{head_test}
-use Rattle.packets.specs.declared.conversions.Widened.{Widened}
-use Rattle.packets.specs.declared.conversions.Widened.TheVariants.{Bytes, Bad}
+use Rattle.std.specs.Prelude.{Option as Returned, Some, None}
 use Rattle.packets.specs.Conversions.{old_most, widen_from, widen_table, WidensTo, NumbersTable, adds_any}
 use Rattle.laws.proofs.FieldSizes.{field_sizes, body_size}
 use Rattle.packets.proofs.TableSteps.{head_is_lem}
@@ -251,7 +251,7 @@ module _ (table : List ℕ) (b : IsBytes table) (low : length table ≤ old_most
 
 module _ (table out : List ℕ) where
   abbrev Refused : Type 0
-  Refused = ConvertsTable table out (leaves (of_conversion ConversionAnswer.NotGood) out)
+  Refused = ConvertsTable table out (leaves (of_conversion (Err ConversionRefusal.NotGood)) out)
 
   refused_by_lem : (GoodIn uncounted table → ⊥) → Refused
   unfolding of_conversion
@@ -323,11 +323,11 @@ module _ (table out : List ℕ) where
 -- ── the steps of the code ──
 
 -- the bytes that were widened to
-bytes_some : (x : Option (List ℕ)) (r : Widened) (after : List ℕ) (n : ℕ) → r ≡ Bytes n → WidensTo x r after
+bytes_some : (x : Option (List ℕ)) (r : Returned ℕ) (after : List ℕ) (n : ℕ) → r ≡ Some n → WidensTo x r after
     → (x ≡ some (take n after)) × (n ≤ length after)
-bytes_some none (Bytes m) after n e h = absurd h
-bytes_some none Bad after n e h = let z : ◌≡◌ {A = ℕ} 0 1 = cc in absurd (omega arith)
-bytes_some (some w) (Bytes m) after n e h =
+bytes_some none (Some m) after n e h = absurd h
+bytes_some none None after n e h = let z : ◌≡◌ {A = ℕ} 0 1 = cc in absurd (omega arith)
+bytes_some (some w) (Some m) after n e h =
     let k : m ≡ n = cc in
     let t : take n after ≡ w = rw k at h.0 in
     let q = ap length t in
@@ -336,34 +336,33 @@ bytes_some (some w) (Bytes m) after n e h =
   where
     length_take_most : (n : ℕ) (l : List ℕ) → length (take n l) ≤ length l
     length_take_most n l = omega (arith, length-append (take n l) (drop n l), ap length (take-append-drop n l))
-bytes_some (some w) Bad after n e h = absurd h
+bytes_some (some w) None after n e h = absurd h
 
-bad_none : (x : Option (List ℕ)) (r : Widened) (after : List ℕ) → r ≡ Bad → WidensTo x r after → x ≡ none
+bad_none : (x : Option (List ℕ)) (r : Returned ℕ) (after : List ℕ) → r ≡ None → WidensTo x r after → x ≡ none
 bad_none none r after e h = refl
-bad_none (some w) (Bytes n) after e h = let z : ◌≡◌ {A = ℕ} 0 1 = cc in absurd (omega arith)
-bad_none (some w) Bad after e h = absurd h
+bad_none (some w) (Some n) after e h = let z : ◌≡◌ {A = ℕ} 0 1 = cc in absurd (omega arith)
+bad_none (some w) None after e h = absurd h
 
-pub by_bad : (table out scratch : List ℕ) {r : Widened} → WidensTo (widen_table table) r scratch → r ≡ Bad
-    → ConvertsTable table out (leaves (of_conversion ConversionAnswer.NotGood) out)
+pub by_bad : (table out scratch : List ℕ) {r : Returned ℕ} → WidensTo (widen_table table) r scratch → r ≡ None
+    → ConvertsTable table out (leaves (of_conversion (Err ConversionRefusal.NotGood)) out)
 by_bad table out scratch {r} h e = refused_widen table out (bad_none (widen_table table) r scratch e h)
 
 -- the part of the scratch that was written
-pub widened_part : (table scratch : List ℕ) (n : ℕ) {r : Widened} → WidensTo (widen_table table) r scratch → r ≡ Bytes n
-    → (widen_table table ≡ some (take (n - 0) scratch)) × (n ≤ length scratch)
-widened_part table scratch n {r} h e =
-    let q = bytes_some (widen_table table) r scratch n e h in
-    (rw (sub-zero n) q.0, q.1)
+pub widened_part : (table scratch : List ℕ) (n : ℕ) {r : Returned ℕ} → WidensTo (widen_table table) r scratch
+    → r ≡ Some n
+    → (widen_table table ≡ some (take n scratch)) × (n ≤ length scratch)
+widened_part table scratch n {r} h e = bytes_some (widen_table table) r scratch n e h
 
 module _ (table out w : List ℕ) (is : widen_table table ≡ some w) (after : List ℕ) {x : Bool}
     (numbered_to : NumbersTable x w after) where
   known : (b : Bool) → x ≡ b → NumbersTable b w after
   known b f = subst (λ (c : Bool). NumbersTable c w after) f numbered_to
 
-  pub by_shape : x ≡ false → ConvertsTable table out (leaves (of_conversion ConversionAnswer.NotGood) out)
+  pub by_shape : x ≡ false → ConvertsTable table out (leaves (of_conversion (Err ConversionRefusal.NotGood)) out)
   by_shape f = refused_shape table out w is after (known false f)
 
   module _ (t : x ≡ true) {y : Bool} (added : y ≡ adds_any after) where
-    pub by_added : y ≡ true → ConvertsTable table out (leaves (of_conversion ConversionAnswer.NotGood) out)
+    pub by_added : y ≡ true → ConvertsTable table out (leaves (of_conversion (Err ConversionRefusal.NotGood)) out)
     by_added f = refused_added table out w is after (known true t) (sym added ∙ f)
 
     pub by_all : y ≡ false → IsBytes table → length table ≤ old_most → head_test table ≡ true → two_at table 6 ≤ 64
@@ -373,13 +372,13 @@ module _ (table out w : List ℕ) (is : widen_table table ≡ some w) (after : L
 -- what was delivered
 pub with_room : (table out after whole : List ℕ) (n : ℕ) {z : Bool} → ConvertsTable table out (delivered whole out)
     → leaves (delivery_answer z whole) after ≡ delivered whole out → z ≡ true → n ≡ length whole
-    → ConvertsTable table out (leaves (of_conversion (ConversionAnswer.Converted n)) after)
+    → ConvertsTable table out (leaves (of_conversion (Ok n)) after)
 unfolding of_conversion
 with_room table out after whole n p d e k good =
     ap (λ (m : ℕ). leaves (accepted m) after) k ∙ rw e at d ∙ p good
 
 pub without_room : (table out after whole : List ℕ) {z : Bool} → ConvertsTable table out (delivered whole out)
     → leaves (delivery_answer z whole) after ≡ delivered whole out → z ≡ false
-    → ConvertsTable table out (leaves (of_conversion ConversionAnswer.NoRoom) after)
+    → ConvertsTable table out (leaves (of_conversion (Err ConversionRefusal.NoRoom)) after)
 unfolding of_conversion
 without_room table out after whole p d e good = rw e at d ∙ p good

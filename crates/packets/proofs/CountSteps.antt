@@ -1,13 +1,14 @@
 -- What the code that counts references is told at its steps.
 use mathlib.Core.Path.{◌≡◌, refl, sym, ap, ◌∙◌}
-use mathlib.Core.Bool.{true, cond, ◌&&◌}
-use mathlib.Core.List.{List, ◌++◌}
+use mathlib.Core.Bool.{true, cond}
+use mathlib.Core.List.{List, [], ◌∷◌, ◌++◌}
 use Prim.Native.Nat.{ℕ, zero, suc, ◌+◌, ◌-◌, ◌%◌, ◌<◌, ◌≤◌}
 use native.Mathlib.Omega.{arith}
-use native.Mathlib.Nat.{add-zero, zero-add, sub-zero}
+use native.Mathlib.Nat.{add-zero}
 use native.Mathlib.Numerals.{add-one}
 use lib.Dec.{eqb}
-use lib.ListN.{length, get_or, replicate}
+use lib.ListN.{length, get_or, take}
+use Rattle.std.specs.List.{list_all, zip}
 use borrow.Author.Tests.{eq-eqb, eqb-true}
 use Rattle.base.specs.Lists.{joined}
 use Rattle.base.proofs.Lists.{and_left, and_right, and_both}
@@ -20,7 +21,7 @@ use Rattle.writing.specs.declared.spans.Span.{Span}
 use Rattle.packets.specs.declared.records.Parts.{Parts}
 use Rattle.packets.specs.Parts.{parts_at}
 use Rattle.packets.specs.FieldTest.{bytes_in}
-use Rattle.packets.specs.CountsTest.{part_reads, record_tallied, reads_from, Zeros, Tallied, kept_from}
+use Rattle.packets.specs.CountsTest.{part_reads, record_tallied, reads_from, Tallied, kept_from}
 
 -- ── an expression ──
 
@@ -60,15 +61,6 @@ pub record Tallying (s : List ℕ) (count from i at : ℕ) (counts : List ℕ) :
   pub sum : (j : ℕ) → j < length counts
       → (get_or counts j 0 + reads_from s i (count - i) at j) % 65536 ≡ reads_from s 0 count from j % 65536
 
-pub tally_start : (s : List ℕ) (count from : ℕ) (counts : List ℕ) → Zeros counts → Tallying s count from 0 from counts
-tally_start s count from counts z = record {
-  small = λ j lt. let e = z j in omega (arith, e);
-  sum = λ j lt.
-      let e : get_or counts j 0 + reads_from s 0 (count - 0) from j ≡ reads_from s 0 count from j =
-      rw (z j, sub-zero count, zero-add) refl in
-      ap (λ (n : ℕ). n % 65536) e;
-}
-
 pub tally_again : (s : List ℕ) (count from i at : ℕ) (counts : List ℕ) → i < count
     → Tallying s count from i at counts
     → Tallying s count from (i + 1) (parts_at s at).next (record_tallied s (parts_at s at) i counts)
@@ -107,24 +99,41 @@ tally_done s count from i at counts le h j lt =
     let small = h.small j lt in
     omega (arith, e, small)
 
-pub zeros : (n : ℕ) → Zeros (replicate n 0)
-zeros zero i = refl
-zeros (suc n) zero = refl
-zeros (suc n) (suc i) = zeros n i
-
 -- ── the numbers that are kept ──
 
+kept_behind : (s : List ℕ) (x : ℕ) (places : List ℕ) (counts : ℕ → ℕ) (i n : ℕ)
+    → kept_from s (x ∷ places) counts (suc i) n ≡ kept_from s places (λ k. counts (suc k)) i n
+unfolding kept_from
+kept_behind s x places counts i zero = refl
+kept_behind s x places counts i (suc n) =
+    let e : suc i + 1 ≡ suc (i + 1) = omega arith in
+    rw (e, kept_behind s x places counts (i + 1) n)
+
+-- by pairs of a place and a count
+pub kept_zip : (s : List ℕ) (n : ℕ) (places counts : List ℕ) → n ≤ length places → n ≤ length counts
+    → list_all (λ q. eqb (two_at s (q.0 + 4)) q.1) (zip (take n places) (take n counts))
+    ≡ kept_from s places (λ i. get_or counts i 0) 0 n
+unfolding kept_from
+kept_zip s zero places counts p c = refl
+kept_zip s (suc n) [] counts p c = absurd (omega arith)
+kept_zip s (suc n) (x ∷ places) [] p c = absurd (omega arith)
+kept_zip s (suc n) (x ∷ places) (y ∷ counts) p c =
+    let e : 0 + 1 ≡ suc 0 = omega arith in
+    rw (
+      e,
+      kept_behind s x places (λ i. get_or (y ∷ counts) i 0) 0 n,
+      kept_zip s n places counts (omega arith) (omega arith),
+    )
+
+-- the first of a pair
+pub zip_first : (a b : List ℕ) (k : ℕ) (d : ℕ × ℕ) → k < length (zip a b)
+    → ((get_or (zip a b) k d).0 ≡ get_or a k 0) × (k < length a)
+zip_first [] b k d h = absurd (omega arith)
+zip_first (x ∷ a) [] k d h = absurd (omega arith)
+zip_first (x ∷ a) (y ∷ b) zero d h = (refl, omega arith)
+zip_first (x ∷ a) (y ∷ b) (suc k) d h = let r = zip_first a b k d (omega arith) in (r.0, omega (arith, r.1))
+
 module _ (s places : List ℕ) (counts : ℕ → ℕ) where
-  pub kept_step : (i n : ℕ) → i < n
-      → kept_from s places counts i (n - i)
-      ≡ (eqb (two_at s (get_or places i 0 + 4)) (counts i) && kept_from s places counts (i + 1) (n - (i + 1)))
-  unfolding kept_from
-  kept_step i n lt = let m : n - i ≡ suc (n - (i + 1)) = omega arith in rw m refl
-
-  pub kept_end : (i n : ℕ) → n ≤ i → kept_from s places counts i (n - i) ≡ true
-  unfolding kept_from
-  kept_end i n le = let m : n - i ≡ 0 = omega arith in rw m refl
-
   pub kept_true : (i n : ℕ) → kept_from s places counts i n ≡ true → (j : ℕ) → j < n
       → two_at s (get_or places (i + j) 0 + 4) ≡ counts (i + j)
   unfolding kept_from

@@ -19,6 +19,7 @@ use Rattle.rules.specs.Fields.{Field, Description}
 use Rattle.rules.specs.References.{readers}
 use Rattle.rules.specs.Edits.{renumbered, closed, run_length, remaining, cut}
 use Rattle.rules.specs.Stored.{record_of, records, head_body, stored_with, Good}
+use Rattle.references.specs.declared.renumbering.Shift.{Shift}
 use Rattle.references.specs.Renumbered.{new_index}
 use Rattle.writing.specs.Puts.{placed, put}
 use Rattle.writing.specs.Writes.{Writes}
@@ -34,7 +35,7 @@ use Rattle.packets.proofs.ShiftLaws.{renumbered_length, shifted_stored}
 
 -- in one byte an index below 256 stays what it is without a run
 down_alike : (first n i : ℕ) → i < 256
-    → new_index (record { from = first; by = n; up = false }) i ≡ closed first n i
+    → new_index (Shift.Down first n) i ≡ closed first n i
 unfolding new_index closed
 down_alike first n i byte = go (ltb i first)
   where
@@ -63,7 +64,7 @@ module _ (table : List ℕ) (first last : ℕ) (may : MayCut table first last) w
 
   -- the new index, in one byte
   abbrev shifts : ℕ → ℕ
-  shifts = new_index (record { from = first; by = last + 1 - first; up = false })
+  shifts = new_index (Shift.Down first (last + 1 - first))
 
   bounds : (first ≤ last) × (last < length fs)
   bounds = run_bounds first last fs may.run

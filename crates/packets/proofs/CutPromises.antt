@@ -13,23 +13,22 @@ use Rattle.base.specs.Lists.{between, first_break}
 use Rattle.laws.specs.Places.{two_at}
 use Rattle.laws.proofs.Unique.{stored_unique}
 use Rattle.laws.proofs.CutCandidate.{cut_judged}
-use Rattle.rules.specs.declared.TableAnswer.{TableAnswer}
-use Rattle.rules.specs.declared.EditAnswer.{EditAnswer}
+use Rattle.std.specs.Prelude.{Err}
+use Rattle.rules.specs.declared.EditRefusal.{EditRefusal}
 use Rattle.rules.specs.Editions.{current}
 use Rattle.rules.specs.Fields.{Field, Description, trees}
 use Rattle.rules.specs.References.{tree_reads, field_reads, readers}
 use Rattle.rules.specs.Edits.{cut, reads_run, first_reader}
 use Rattle.rules.specs.Within.{Within}
 use Rattle.rules.specs.Stored.{record_of, stored_with, stored, Good}
-use Rattle.rules.specs.Answers.{refused, of_table, of_edit}
-use Rattle.rules.specs.Promises.{Outcome, leaves, delivered, ChecksTable, is_run, by_limits, cut_outcome, CutsFields}
+use Rattle.rules.specs.Answers.{refused, of_edit}
+use Rattle.rules.specs.Promises.{Outcome, leaves, delivered, is_run, by_limits, cut_outcome, CutsFields}
 use Rattle.references.specs.declared.scans.Wanted.TheVariants.{Run}
 use Rattle.references.proofs.ScanLaws.{any_joined}
 use Rattle.packets.specs.Expressions.{having_from}
 use Rattle.packets.specs.EditSteps.{Judged, right, wrong, MayCut}
 use Rattle.packets.proofs.TableHead.{head_count, fields_stand}
 use Rattle.packets.proofs.TableParts.{stored_length_lem}
-use Rattle.packets.proofs.PacketPromises.{not_good}
 use Rattle.packets.proofs.HavingLaws.{or_end, lacks, having_stored}
 
 -- good tables of the same bytes have one description
@@ -101,11 +100,10 @@ module _ (table out : List ℕ) (first last : ℕ) where
   abbrev Cuts : Outcome → Type 0
   Cuts o = CutsFields table first last out o
 
-  pub cut_bad : (r : TableAnswer) → ChecksTable table (of_table r) → r ≡ TableAnswer.NotGood
-      → Cuts (leaves (of_edit EditAnswer.NotGood) out)
+  pub cut_bad : (Good table → ⊥) → Cuts (leaves (of_edit (Err EditRefusal.NotGood)) out)
   unfolding of_edit
-  cut_bad r h e (yes g) fits = absurd (not_good table (rw e at h) g)
-  cut_bad r h e (no bad) fits = refl
+  cut_bad bad (yes g) fits = absurd (bad g)
+  cut_bad bad (no b) fits = refl
 
   module _ (good : Good table) where
     abbrev d : Description
@@ -120,11 +118,11 @@ module _ (table out : List ℕ) (first last : ℕ) where
         (one_description table good g)
     by_good o h (no bad) fits = absurd (bad good)
 
-    pub cut_empty : last < first → Cuts (leaves (of_edit EditAnswer.NoFields) out)
+    pub cut_empty : last < first → Cuts (leaves (of_edit (Err EditRefusal.NoFields)) out)
     unfolding of_edit cut_outcome
     cut_empty lt = by_good _ (λ fits. rw (lt-leb first last lt) refl)
 
-    pub cut_beyond : first ≤ last → two_at table 6 ≤ last → Cuts (leaves (of_edit EditAnswer.NoFields) out)
+    pub cut_beyond : first ≤ last → two_at table 6 ≤ last → Cuts (leaves (of_edit (Err EditRefusal.NoFields)) out)
     unfolding of_edit cut_outcome
     cut_beyond low le =
         let c = head_count d table good.is_stored good.within in
@@ -137,7 +135,7 @@ module _ (table out : List ℕ) (first last : ℕ) where
           rw (le-leb first last low, lt-ltb last (length d.fields) (omega (arith, c, high))) refl
 
       module _ (r : ℕ) (found : r ≡ having_from (Run first last) table 0 (two_at table 6) (two_at table 0)) where
-        pub cut_read : r < two_at table 6 → Cuts (leaves (of_edit (EditAnswer.StillRead (r + 1))) out)
+        pub cut_read : r < two_at table 6 → Cuts (leaves (of_edit (Err (EditRefusal.StillRead (r + 1)))) out)
         unfolding of_edit cut_outcome
         cut_read lt =
             let c = head_count d table good.is_stored good.within in

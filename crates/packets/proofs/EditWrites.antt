@@ -12,7 +12,8 @@ use borrow.Author.Tests.{le-leb, leb-true}
 use Rattle.base.proofs.Lists.{and_left, and_right, not_both}
 use Rattle.laws.specs.Places.{two_at}
 use Rattle.laws.specs.Records.{whole}
-use Rattle.rules.specs.declared.EditAnswer.{EditAnswer}
+use Rattle.std.specs.Prelude.{Ok, Err}
+use Rattle.rules.specs.declared.EditRefusal.{EditRefusal}
 use Rattle.rules.specs.Trees.{le2}
 use Rattle.rules.specs.Answers.{accepted, of_edit}
 use Rattle.rules.specs.Promises.{Outcome, leaves, delivered}
@@ -60,7 +61,7 @@ in_front_lem {a} {c} {end} {w} p = (
 
 module _ (new after out : List ℕ) where
   pub judged_not : (x : Bool) → NumbersTable x new after → x ≡ false
-      → Judged new out (leaves (of_edit EditAnswer.BeyondLimits) out)
+      → Judged new out (leaves (of_edit (Err EditRefusal.BeyondLimits)) out)
   unfolding of_edit
   judged_not true h e = absurd (not_both true refl e)
   judged_not false h e = wrong (λ numbers d within is. h d within numbers is)
@@ -76,11 +77,11 @@ module _ (new after out : List ℕ) where
     known = subst (λ (b : Bool). NumbersTable b new after) t h
 
     pub judged_room : z ≡ true → (n : ℕ) → n ≡ length after
-        → Judged new out (leaves (of_edit (EditAnswer.Edited n)) left)
+        → Judged new out (leaves (of_edit (Ok n)) left)
     unfolding of_edit
     judged_room r n size = judged_to known _ (ap (λ (m : ℕ). leaves (accepted m) left) size ∙ rw r at e)
 
-    pub judged_full : z ≡ false → Judged new out (leaves (of_edit EditAnswer.NoRoom) left)
+    pub judged_full : z ≡ false → Judged new out (leaves (of_edit (Err EditRefusal.NoRoom)) left)
     unfolding of_edit
     judged_full r = judged_to known _ (rw r at e)
 

@@ -1,5 +1,5 @@
 -- What the code that tests a field's record is told: its parts lie in the table.
-use mathlib.Core.Path.{◌≡◌}
+use mathlib.Core.Path.{◌≡◌, refl}
 use mathlib.Core.Bool.{Bool, true, false, cond, ◌||◌}
 use mathlib.Core.List.{List}
 use Prim.Native.Nat.{ℕ, ◌+◌, ◌≤◌}
@@ -10,8 +10,9 @@ use borrow.Author.Tests.{leb-true, eqb-true}
 use Rattle.base.specs.Lists.{between}
 use Rattle.laws.specs.Places.{two_at}
 use Rattle.base.proofs.Lists.{and_left, and_right, between_true}
-use Rattle.rules.specs.Names.{is_label}
+use Rattle.rules.specs.Names.{is_label, is_short}
 use Rattle.rules.specs.Limits.{fixed_most}
+use Rattle.writing.specs.declared.spans.Span.{Span}
 use Rattle.packets.specs.declared.records.WidthParts.{WidthParts}
 use Rattle.packets.specs.declared.records.Parts.{Parts}
 use Rattle.packets.specs.Parts.{span_of, ending, span_at, width_of, width_at, parts_at}
@@ -25,6 +26,11 @@ use Rattle.packets.specs.FieldTest.{
   field_test,
   bits_of,
 }
+
+-- a short name's test: it is none, or of the form
+pub short_is : (s : List ℕ) (p : Span) → short_test s p ≡ (eqb p.len 0 || is_short (bytes_in s p))
+unfolding short_test
+short_is s p = refl
 
 -- a width's place and its tree's end are not behind the width's end
 width_ends : (s : List ℕ) (k a : ℕ) → (a ≤ (width_at s k a).next)

@@ -1,4 +1,3 @@
--- Products                          a product of two 32-bit numbers
 -- TreeSteps, TreeTypes              one step of checking, skipping and evaluating a stored tree
 -- TreeSound, TreeComplete           what the check finds is stored, and what is stored is found
 -- TreeValues                        a stored tree's value
@@ -9,14 +8,13 @@
 -- PartBytes, FieldParts, FieldTests, FieldOrder  a field's record: tests and rules
 -- WalkLaws, NameLaws, CountLaws, TableParts, TableLaws   all fields, names, numbers, the whole table: tests and rules
 -- BitLaws, StepLaws, PacketWalk     bits, one field of a packet, and all
--- RunEntries, FieldReads, FieldMatches, HeadReads, CopyLaws, WalkReads   what a stored table's walk reads
+-- RunEntries, FieldReads, FieldMatches, HeadReads, WalkReads   what a stored table's walk reads
 -- PacketPromises, PartPromises, PartlyPromises   from the walk to the promises
 -- WriteLaws, LinesWritten           writing one byte, and one line, behind the other
 -- LinesStored, ListingTexts, ListingStored   what is written by a table is its description's listing
 -- LookupSteps, LookupStored, LookupPromises   records by index and fields by name
 -- HavingLaws, ShiftSteps, ShiftLaws   what is looked for in a table's expressions, and other indexes put into them
 -- PlainLaws, WidenLaws, WidenSteps, NumberedLaws, ConvertPromises   old tables converted
-pub mod Products
 pub mod TreeSteps
 pub mod TreeTypes
 pub mod TreeSound
@@ -48,7 +46,6 @@ pub mod RunEntries
 pub mod FieldReads
 pub mod FieldMatches
 pub mod HeadReads
-pub mod CopyLaws
 pub mod WalkReads
 pub mod PacketPromises
 pub mod PartPromises

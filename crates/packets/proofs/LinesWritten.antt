@@ -1,13 +1,12 @@
 -- The lines of fields, written one behind the other.
-use mathlib.Core.Path.{◌≡◌, refl, sym, ◌∙◌}
+use mathlib.Core.Path.{◌≡◌, refl, sym, ap}
 use mathlib.Core.Bool.{Bool, true, false, cond, ◌||◌}
-use mathlib.Core.List.{List, [], ◌++◌, append_assoc, append-nil}
-use Prim.Native.Nat.{ℕ, zero, suc, ◌+◌, ◌*◌, ◌-◌, ◌<◌, ◌≤◌}
+use mathlib.Core.List.{List, [], ◌∷◌, ◌++◌, append_assoc, append-nil}
+use Prim.Native.Nat.{ℕ, zero, suc, ◌+◌, ◌*◌, ◌-◌, ◌≤◌}
 use native.Mathlib.Omega.{arith}
-use native.Mathlib.Nat.{sub-zero}
 use lib.Dec.{ltb, eqb}
 use lib.ListN.{length, take, drop, length-append, length-take}
-use borrow.Author.Tests.{lt-ltb, le-ltb, ltb-false}
+use borrow.Author.Tests.{ltb-false}
 use Rattle.base.specs.Bytes.{bytes}
 use Rattle.rules.specs.Limits.{fields_most, label_most}
 use Rattle.packets.specs.declared.records.Parts.{Parts}
@@ -15,7 +14,8 @@ use Rattle.packets.specs.Parts.{table_most, parts_at}
 use Rattle.writing.specs.Writes.{Writes}
 use Rattle.rules.specs.Listing.{refused_line, bits_line}
 use Rattle.writing.specs.Fits.{Fits}
-use Rattle.writing.proofs.FitsLaws.{fits_none, fits_join}
+use Rattle.std.specs.List.{enumerate_from}
+use Rattle.packets.specs.Lookups.{records_from}
 use Rattle.packets.specs.LineTexts.{entry_in, state_text, line_text, lines_from, line_most, listing_most}
 use Rattle.packets.proofs.WriteLaws.{digits_length, state_length}
 
@@ -53,58 +53,36 @@ lines_length s run i (suc n) place = go (ltb table_most place) (lines_length s r
     go true ih = omega arith
     go false ih = omega (arith, length-append line more, line_length s (parts_at s place) run i)
 
--- what is written of the n lines once i of them are
-pub record Lines (before : List ℕ) (at : ℕ) (s : List ℕ) (place : ℕ) (run : List ℕ) (n : ℕ) (out : List ℕ)
-    (next begin i : ℕ) : Type 0 where
-  pub inside : i ≤ n
-  pub done : List ℕ
-  pub wrote : Fits before at done out next
-  pub left : done ++ lines_from s run i (n - i) begin ≡ lines_from s run 0 n place
+-- the lines of some records with their indexes
+abbrev pub texts : List ℕ → List ℕ → List (ℕ × Parts) → List ℕ
+texts s run [] = []
+texts s run (e ∷ es) = line_text s e.1 run e.0 ++ texts s run es
 
-pub lines_start : (before : List ℕ) (at : ℕ) (s : List ℕ) (place : ℕ) (run : List ℕ) (n : ℕ)
-    → Lines before at s place run n before at place 0
-lines_start before at s place run n = record {
-  inside = omega arith;
-  done = [];
-  wrote = fits_none before at;
-  left = rw sub-zero;
-}
+pub texts_more : (s run : List ℕ) (es : List (ℕ × Parts)) (e : ℕ × Parts)
+    → texts s run (es ++ (e ∷ [])) ≡ texts s run es ++ line_text s e.1 run e.0
+texts_more s run [] e = append-nil _
+texts_more s run (x ∷ es) e =
+    rw (texts_more s run es e) (sym (append_assoc (line_text s x.1 run x.0) (texts s run es) _))
 
-module _
-    {before : List ℕ} {at : ℕ} {s : List ℕ} {place : ℕ} {run : List ℕ} {n : ℕ} {out : List ℕ} {next begin i : ℕ}
+pub texts_are : (s run : List ℕ) (i n place : ℕ)
+    → texts s run (enumerate_from i (records_from s n place)) ≡ lines_from s run i n place
+unfolding lines_from records_from
+texts_are s run i zero place = refl
+texts_are s run i (suc n) place =
+    go (ltb table_most place) _
+    (ap (λ (l : List ℕ). line_text s p run i ++ l) (texts_are s run (i + 1) n p.next))
   where
-    -- nothing is left
-    ended : (l : Lines before at s place run n out next begin i) → lines_from s run i (n - i) begin ≡ []
-        → Fits before at (lines_from s run 0 n place) out next
-    ended l e =
-        let d : l.done ≡ lines_from s run 0 n place = sym (append-nil l.done) ∙ rw e at l.left in
-        rw d at l.wrote
+    p : Parts
+    p = parts_at s place
 
-    pub lines_end : Lines before at s place run n out next begin i → n ≤ i → Fits before at
-        (lines_from s run 0 n place) out next
-    unfolding lines_from
-    lines_end l h = ended l (let z : n - i ≡ 0 = omega arith in rw z)
+    line : List ℕ
+    line = line_text s p run i
 
-    pub lines_stop : Lines before at s place run n out next begin i → i < n → table_most < begin
-        → Fits before at (lines_from s run 0 n place) out next
-    unfolding lines_from
-    lines_stop l h k = ended l (let z : n - i ≡ suc (n - (i + 1)) = omega arith in rw (z, lt-ltb table_most begin k))
-
-    pub lines_step : Lines before at s place run n out next begin i → i < n → begin ≤ table_most
-        → {after : List ℕ} {more : ℕ} → Fits out next (line_text s (parts_at s begin) run i) after more
-        → Lines before at s place run n after more (parts_at s begin).next (i + 1)
-    unfolding lines_from
-    lines_step l h k {after} {more} w =
-        let z : n - i ≡ suc (n - (i + 1)) = omega arith in
-        let e : lines_from s run i (n - i) begin
-        ≡ line_text s (parts_at s begin) run i ++ lines_from s run (i + 1) (n - (i + 1)) (parts_at s begin).next
-        = rw (z, le-ltb table_most begin k) in
-        record {
-          inside = omega arith;
-          done = l.done ++ line_text s (parts_at s begin) run i;
-          wrote = fits_join l.wrote w;
-          left = append_assoc l.done (line_text s (parts_at s begin) run i) _ ∙ rw (← e) l.left;
-        }
+    go : (b : Bool) (more : List ℕ)
+        → line ++ texts s run (enumerate_from (i + 1) (records_from s n p.next)) ≡ line ++ more
+        → texts s run (enumerate_from i (cond b [] (p ∷ records_from s n p.next))) ≡ cond b [] (line ++ more)
+    go true more e = refl
+    go false more e = e
 
 -- ── room in a buffer for listings ──
 

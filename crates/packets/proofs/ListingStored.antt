@@ -6,16 +6,18 @@ use native.Mathlib.Omega.{arith}
 use native.Mathlib.Nat.{zero-add}
 use lib.ListN.{length, get_or}
 use Rattle.laws.specs.Places.{two_at}
-use Rattle.rules.specs.declared.PacketAnswer.{PacketAnswer}
-use Rattle.rules.specs.declared.TableAnswer.{TableAnswer}
+use Rattle.std.specs.Prelude.{Ok, Err}
+use Rattle.rules.specs.declared.TableRefusal.{TableRefusal}
+use Rattle.rules.specs.declared.PacketRefusal.{PacketRefusal}
+use Rattle.rules.specs.declared.refusals.Refusal.{Refusal}
 use Rattle.rules.specs.Fields.{Description}
 use Rattle.rules.specs.Within.{Within}
 use Rattle.rules.specs.References.{readers}
 use Rattle.rules.specs.Stored.{record_of, stored, Good}
 use Rattle.rules.specs.Reading.{Entry, complete, reading, absent, bit_total}
 use Rattle.rules.specs.Listing.{refused_line, bits_line, lines_text, entry_lines}
-use Rattle.rules.specs.Answers.{Answer, accepted, of_table, of_packet}
-use Rattle.rules.specs.Promises.{reading_answer, listing, refusal, not_good, by_table, ChecksTable}
+use Rattle.rules.specs.Answers.{Answer, refused, of_table, of_packet, PacketAnswer}
+use Rattle.rules.specs.Promises.{reading_answer, listing, refusal, not_good, by_table}
 use Rattle.packets.specs.RunRead.{RunHolds}
 use Rattle.writing.specs.Writes.{Writes}
 use Rattle.packets.specs.Listings.{ListsStored, ListsInto}
@@ -23,6 +25,7 @@ use Rattle.packets.specs.LineTexts.{entry_in, lines_from}
 use Rattle.packets.proofs.TableHead.{head_count, fields_stand}
 use Rattle.packets.specs.Parts.{table_most}
 use Rattle.packets.proofs.TableParts.{stored_length_lem}
+use Rattle.packets.proofs.PacketPromises.{refusal_positive}
 use Rattle.packets.proofs.RunEntries.{run_number, run_present}
 use Rattle.packets.proofs.LinesStored.{lines_stored}
 use Rattle.packets.proofs.ListingTexts.{
@@ -56,51 +59,51 @@ module _ (s packet : List ℕ) (d : Description) (w : Within d) (is : stored d �
       (lines_stored (readers d.fields) 0 s run d.fields es [] 0 (two_at s 0) (length s) (record_of 5 []) w.form w.size
       (entries_length d packet es e) l (fields_stand d s is w) (entries_in_lem es e))
 
-  pub listed_accepted : (of_packet a).number ≡ 0
-      → lines_from s run 0 (two_at s 6) (two_at s 0) ++ (bits_line (of_packet a).amount ++ (10 ∷ [])) ≡ listing d packet
-  unfolding reading_answer
-  listed_accepted n =
+  pub listed_accepted : (total : ℕ) → a ≡ Ok total
+      → lines_from s run 0 (two_at s 6) (two_at s 0) ++ (bits_line total ++ (10 ∷ [])) ≡ listing d packet
+  unfolding reading_answer of_packet
+  listed_accepted total is =
+      let e : of_packet (Ok total) ≡ reading_answer (reading d packet) packet = ap of_packet (sym is) ∙ h.answer in
       let c = accepted_entries (reading d packet) (reading_told d packet) packet
-      (sym (ap (λ (x : Answer). x.number) h.answer) ∙ n) in
-      let v : (of_packet a).amount ≡ bit_total packet
-      = ap (λ (x : Answer). x.amount) h.answer ∙ rw (c.1, reading_answer) refl in
+      (sym (ap (λ (x : Answer). x.number) e)) in
+      let v : total ≡ bit_total packet = ap (λ (x : Answer). x.amount) e ∙ rw (c.1, reading_answer) refl in
       ap (λ (n : ℕ). lines_from s run 0 (two_at s 6) (two_at s 0) ++ (bits_line n ++ (10 ∷ []))) v
       ∙ ap (λ (l : List ℕ). l ++ (bits_line (bit_total packet) ++ (10 ∷ []))) (lines_are c.0 c.1)
       ∙ sym (listing_lines d packet c.0 c.1)
 
-  pub listed_refused : ((of_packet a).number ≡ 0 → ⊥)
-      → refused_line (of_packet a).number (of_packet a).place ++ (10 ∷ []) ≡ listing d packet
-  listed_refused n =
-      let e = h.answer in
-      rw e (sym (listing_refused d packet (λ z. n (rw e z))))
+  pub listed_refused : (e : PacketRefusal) (r : Refusal) → a ≡ Err e
+      → refused r.number r.place ≡ of_packet (Err e)
+      → refused_line r.number r.place ++ (10 ∷ []) ≡ listing d packet
+  listed_refused e r is told =
+      let q : refused r.number r.place ≡ reading_answer (reading d packet) packet
+      = told ∙ ap of_packet (sym is) ∙ h.answer in
+      let n = ap (λ (x : Answer). x.number) q in
+      let p = ap (λ (x : Answer). x.place) q in
+      rw (n, p) (sym (listing_refused d packet (λ z.
+      refusal_positive e (ap (λ (x : Answer). x.number) (sym told) ∙ n ∙ z))))
 
 -- ── by any table ──
 
-good_answer : (table : List ℕ) (r : TableAnswer) (n : ℕ) → r ≡ TableAnswer.Good n → (good : Dec (Good table))
-    → of_table r ≡ by_table good (λ d. accepted (length table)) not_good → (g : Good table) × (good ≡ yes g)
-unfolding of_table
-good_answer table r n e (yes g) h = (g, refl)
-good_answer table r n e (no b) h = let z : ◌≡◌ {A = Answer} (accepted n) not_good = rw (e, of_table) at h in
-    let q : ◌≡◌ {A = ℕ} 0 21 = ap (λ (x : Answer). x.number) z in absurd (omega arith)
-
-pub into_good : (table packet before after : List ℕ) (next : ℕ) (r : TableAnswer) (n : ℕ)
-    → ChecksTable table (of_table r)
-    → r ≡ TableAnswer.Good n → ListsStored table packet before after next → ListsInto table packet before after next
-into_good table packet before after next r n c e l = record { text = go; inside = l.inside }
+pub into_good : (table packet before after : List ℕ) (next : ℕ) → Good table
+    → ListsStored table packet before after next → ListsInto table packet before after next
+into_good table packet before after next good l = record { text = go; inside = l.inside }
   where
-    go : (good : Dec (Good table))
-        → Writes before 0 (by_table good (λ d. listing d packet) (lines_text (refusal not_good))) after next
+    go : (x : Dec (Good table))
+        → Writes before 0 (by_table x (λ d. listing d packet) (lines_text (refusal not_good))) after next
     go (yes g) = l.text g.description g.within g.is_stored
-    go (no b) = let w = good_answer table r n e (no b) (c (no b)) in absurd (b w.0)
+    go (no b) = absurd (b good)
 
-pub into_bad : (table packet before after : List ℕ) (next : ℕ) (r : TableAnswer) → ChecksTable table (of_table r)
-    → r ≡ TableAnswer.NotGood → Writes before 0 (refused_line 21 0 ++ (10 ∷ [])) after next → next ≤ length before
+pub into_bad : (table packet before after : List ℕ) (next : ℕ) (e : TableRefusal) (r : Refusal) → (Good table → ⊥)
+    → refused r.number r.place ≡ of_table (Err e)
+    → Writes before 0 (refused_line r.number r.place ++ (10 ∷ [])) after next → next ≤ length before
     → ListsInto table packet before after next
 unfolding of_table
-into_bad table packet before after next r c e w le = record { text = go; inside = le }
+into_bad table packet before after next TableRefusal.NotGood r bad told w le = record { text = go; inside = le }
   where
-    go : (good : Dec (Good table))
-        → Writes before 0 (by_table good (λ d. listing d packet) (lines_text (refusal not_good))) after next
-    go (yes g) = let z : ◌≡◌ {A = Answer} not_good (accepted (length table)) = rw (e, of_table) at (c (yes g)) in
-        let q : ◌≡◌ {A = ℕ} 21 0 = ap (λ (x : Answer). x.number) z in absurd (omega arith)
-    go (no b) = rw (one_line (refused_line 21 0)) w
+    go : (x : Dec (Good table))
+        → Writes before 0 (by_table x (λ d. listing d packet) (lines_text (refusal not_good))) after next
+    go (yes g) = absurd (bad g)
+    go (no b) =
+        let n = ap (λ (x : Answer). x.number) told in
+        let p = ap (λ (x : Answer). x.place) told in
+        rw (one_line (refused_line 21 0)) (rw (n, p) at w)

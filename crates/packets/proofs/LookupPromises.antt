@@ -1,60 +1,48 @@
 -- From the walk over records to the promises on a table's fields: how many, by name and by index.
-use mathlib.Core.Path.{◌≡◌, refl, ap}
+use mathlib.Core.Path.{◌≡◌, refl}
 use mathlib.Core.Bool.{true, false≢true}
 use mathlib.Core.List.{List, [], ◌∷◌}
 use mathlib.Core.Option.{Option, none, some}
 use Prim.Native.Nat.{ℕ, zero, suc, ◌+◌, ◌<◌, ◌≤◌}
 use native.Mathlib.Omega.{arith}
-use lib.ListN.{length, take, drop, get_elem?}
+use lib.ListN.{length, get_elem?}
 use native.Mathlib.Nat.{zero-add}
 use borrow.Author.Tests.{lt-ltb, le-ltb, eq-eqb, ne_eqb}
 use Rattle.base.specs.Lists.{if_any}
 use Rattle.laws.specs.Places.{two_at}
 use Rattle.laws.proofs.Places.{stands_some}
 use Rattle.laws.proofs.Counting.{readers_fit}
-use Rattle.rules.specs.declared.TableAnswer.{TableAnswer}
-use Rattle.rules.specs.declared.FieldAnswer.{FieldAnswer}
+use Rattle.std.specs.Prelude.{Ok, Err}
+use Rattle.rules.specs.declared.TableRefusal.{TableRefusal}
+use Rattle.rules.specs.declared.FieldRefusal.{FieldRefusal}
 use Rattle.rules.specs.Names.{is_short}
 use Rattle.rules.specs.Fields.{Field}
 use Rattle.rules.specs.References.{readers}
 use Rattle.rules.specs.Stored.{record_of, stored_name, Good}
-use Rattle.rules.specs.Answers.{Answer, of_table, of_field}
-use Rattle.rules.specs.Reading.{Part, part_from, no_part}
-use Rattle.rules.specs.Promises.{
-  ChecksTable,
-  FindsField,
-  CountsFields,
-  TellsKind,
-  CountsReaders,
-  label_of,
-  label_by,
-  short_part,
-  short_by,
-  moved_by,
-  Lends,
-}
+use Rattle.rules.specs.Answers.{of_table, of_field}
+use Rattle.rules.specs.Reading.{Part, no_part}
+use Rattle.rules.specs.Promises.{FindsField, CountsFields, TellsKind, CountsReaders}
+use Rattle.rules.specs.Promises.{label_of, label_by, short_part, short_by}
 use Rattle.writing.specs.declared.spans.Span.{Span}
-use Rattle.packets.specs.declared.lookups.FieldRecord.{FieldRecord}
+use Rattle.std.specs.Prelude.{Result, Ok, Err, MatchResult}
 use Rattle.packets.specs.declared.records.Parts.{Parts}
 use Rattle.packets.specs.Parts.{table_most, span_of, ending, parts_at}
 use Rattle.packets.specs.PartsStand.{In}
 use Rattle.packets.specs.Lookups.{place_from, find_from}
 use Rattle.packets.specs.Found.{Finds, span_in, label_in, filled_span, short_in, kind_in, readers_in}
-use Rattle.packets.specs.Found.{OnTable, OnLabel, OnShort}
+use Rattle.packets.specs.Found.{OnBytes, OnLabel, OnShort}
 use Rattle.packets.proofs.TableHead.{head_first, head_count, fields_stand}
 use Rattle.packets.proofs.TableParts.{stored_length_lem}
 use Rattle.packets.proofs.LinesStored.{label_inside}
 use Rattle.packets.proofs.LookupStored.{find_stored, Placed, place_stored}
-use Rattle.packets.proofs.PacketPromises.{not_good}
 
 -- ── the index of a name ──
 
 module _ (table name : List ℕ) where
-  pub index_bad : ChecksTable table (of_table TableAnswer.NotGood)
-      → FindsField table name (of_field FieldAnswer.NotGood)
-  unfolding of_table of_field
-  index_bad h (yes g) = let q = ap (λ (a : Answer). a.number) (h (yes g)) in absurd (omega (arith, q))
-  index_bad h (no b) = refl
+  pub index_bad : (Good table → ⊥) → FindsField table name (of_field (Err FieldRefusal.NotGood))
+  unfolding of_field
+  index_bad bad (yes g) = absurd (bad g)
+  index_bad bad (no b) = refl
 
   pub index_found : Good table → FindsField table name
       (of_field (find_from table name 0 (two_at table 6) (two_at table 0)))
@@ -71,13 +59,12 @@ module _ (table name : List ℕ) where
 -- ── the number of fields ──
 
 module _ (table : List ℕ) where
-  pub count_bad : (r : TableAnswer) → ChecksTable table (of_table r) → r ≡ TableAnswer.NotGood
-      → CountsFields table (of_table TableAnswer.NotGood)
+  pub count_bad : (e : TableRefusal) → (Good table → ⊥) → CountsFields table (of_table (Err e))
   unfolding of_table
-  count_bad r h e (yes k) = absurd (not_good table (rw e at h) k)
-  count_bad r h e (no b) = refl
+  count_bad TableRefusal.NotGood bad (yes k) = absurd (bad k)
+  count_bad TableRefusal.NotGood bad (no b) = refl
 
-  pub count_told : Good table → CountsFields table (of_table (TableAnswer.Good (two_at table 6)))
+  pub count_told : Good table → CountsFields table (of_table (Ok (two_at table 6)))
   unfolding of_table
   count_told g (yes k) = rw (head_count k.description table k.is_stored k.within)
   count_told g (no b) = absurd (b g)
@@ -104,22 +91,16 @@ short_span s p label (some (x ∷ w)) h i a =
     let z : p.len ≡ 0 → ⊥ = λ e. omega arith in
     rw (ne_eqb p.len 0 z) (inside, λ j. record { at = a j; len = n j })
 
-module _ (table : List ℕ) (part : Dec (Good table) → Part) where
+module _ (table bytes : List ℕ) (part : Dec (Good table) → Part) where
   -- the empty part
-  none_on : ((good : Dec (Good table)) → part good ≡ no_part) → OnTable table part (span_of 0 0)
+  pub none_on : ((good : Dec (Good table)) → part good ≡ no_part) → OnBytes table bytes part (span_of 0 0)
   none_on h = record { is = λ good. rw (h good); within = omega arith }
 
-  -- what is handed back
-  pub on_placed : (r : Span) → OnTable table part r → (good : Dec (Good table)) → part_from r.at r.len ≡ part good
-  on_placed r on good = ap (λ (x : Span). part_from x.at x.len) (on.is good)
-
-  pub on_lent : (r : Span) (bytes : List ℕ) (from at : ℕ × ℕ) → OnTable table part r
-      → bytes ≡ take r.len (drop r.at table) → at ≡ moved_by r.at from
-      → (good : Dec (Good table)) → Lends table from (part good) bytes at
-  on_lent r bytes from at on content place good = record {
-    content = rw (← ap (λ (x : Span). x.at) (on.is good), ← ap (λ (x : Span). x.len) (on.is good)) content;
-    place = rw (← ap (λ (x : Span). x.at) (on.is good)) place;
-  }
+-- what the code makes of a part of what is found
+pub span_told : (span : Parts → Span) (r : Result Parts FieldRefusal) (u : Span)
+    → MatchResult r (λ p. u ≡ span p) (λ _. u ≡ span_of 0 0) → u ≡ span_in span r
+span_told span (Ok p) u h = h
+span_told span (Err e) u h = h
 
 module _ (table : List ℕ) (i : ℕ) where
   abbrev here : ℕ
@@ -149,18 +130,18 @@ module _ (table : List ℕ) (i : ℕ) where
       → ((k : Good table) → two_at table 6 ≤ i → part (yes k) ≡ no_part)
       → ((k : Good table) → i < two_at table 6 → (ending (span (parts_at table here)) ≤ length table)
       × (span (parts_at table here) ≡ span_of (part (yes k)).start (part (yes k)).size))
-      → (r : FieldRecord) → Finds table i r → OnTable table part (span_in span r)
-  span_on part span bad out found FieldRecord.NotGood h = none_on table part go
+      → (r : Result Parts FieldRefusal) → Finds table i r → OnBytes table table part (span_in span r)
+  span_on part span bad out found (Err FieldRefusal.NotGood) h = none_on table table part go
     where
       go : (good : Dec (Good table)) → part good ≡ no_part
       go (yes k) = absurd (h k)
       go (no b) = bad b
-  span_on part span bad out found FieldRecord.Unknown h = none_on table part go
+  span_on part span bad out found (Err FieldRefusal.Unknown) h = none_on table table part go
     where
       go : (good : Dec (Good table)) → part good ≡ no_part
       go (yes k) = out k h.1
       go (no b) = bad b
-  span_on part span bad out found (FieldRecord.At p) h =
+  span_on part span bad out found (Ok p) h =
       rw h.2 (record { is = go; within = (found h.0 h.1).0 })
     where
       go : (good : Dec (Good table)) → span (parts_at table here) ≡ span_of (part good).start (part good).size
@@ -169,27 +150,27 @@ module _ (table : List ℕ) (i : ℕ) where
 
   -- ── kind ──
 
-  pub kind_told : (r : FieldRecord) → Finds table i r → TellsKind table i (of_field (kind_in r))
+  pub kind_told : (r : Result Parts FieldRefusal) → Finds table i r → TellsKind table i (of_field (kind_in r))
   unfolding of_field
-  kind_told FieldRecord.NotGood bad (yes k) = absurd (bad k)
-  kind_told FieldRecord.NotGood bad (no b) = refl
-  kind_told FieldRecord.Unknown h (yes k) = rw (outside k h.1)
-  kind_told FieldRecord.Unknown h (no b) = absurd (b h.0)
-  kind_told (FieldRecord.At p) h (yes k) =
+  kind_told (Err FieldRefusal.NotGood) bad (yes k) = absurd (bad k)
+  kind_told (Err FieldRefusal.NotGood) bad (no b) = refl
+  kind_told (Err FieldRefusal.Unknown) h (yes k) = rw (outside k h.1)
+  kind_told (Err FieldRefusal.Unknown) h (no b) = absurd (b h.0)
+  kind_told (Ok p) h (yes k) =
       let q = placed k h.1 in rw (q.element, h.2, q.parts_are.kind)
-  kind_told (FieldRecord.At p) h (no b) = absurd (b h.0)
+  kind_told (Ok p) h (no b) = absurd (b h.0)
 
   -- ── readers ──
 
-  pub readers_told : (r : FieldRecord) → Finds table i r → CountsReaders table i (of_field (readers_in r))
+  pub readers_told : (r : Result Parts FieldRefusal) → Finds table i r → CountsReaders table i (of_field (readers_in r))
   unfolding of_field parts_at
-  readers_told FieldRecord.NotGood bad (yes k) = absurd (bad k)
-  readers_told FieldRecord.NotGood bad (no b) = refl
-  readers_told FieldRecord.Unknown h (yes k) =
+  readers_told (Err FieldRefusal.NotGood) bad (yes k) = absurd (bad k)
+  readers_told (Err FieldRefusal.NotGood) bad (no b) = refl
+  readers_told (Err FieldRefusal.Unknown) h (yes k) =
       let c = head_count k.description table k.is_stored k.within in
       rw (le-ltb i (length k.description.fields) (omega (arith, c, h.1))) refl
-  readers_told FieldRecord.Unknown h (no b) = absurd (b h.0)
-  readers_told (FieldRecord.At p) h (yes k) =
+  readers_told (Err FieldRefusal.Unknown) h (no b) = absurd (b h.0)
+  readers_told (Ok p) h (yes k) =
       let d = k.description in
       let c = head_count d table k.is_stored k.within in
       let q = (placed k h.1).number_is in
@@ -197,7 +178,7 @@ module _ (table : List ℕ) (i : ℕ) where
       let z : 0 + i ≡ i = zero-add i in
       let n : two_at table (here + 4) ≡ readers d.fields i = omega (arith, rw z at q, fit) in
       rw (lt-ltb i (length d.fields) (omega (arith, c, h.1)), h.2, n) refl
-  readers_told (FieldRecord.At p) h (no b) = absurd (b h.0)
+  readers_told (Ok p) h (no b) = absurd (b h.0)
 
   -- ── label ──
 
@@ -221,7 +202,7 @@ module _ (table : List ℕ) (i : ℕ) where
         rw (q.element, label_by) (λ j. record { at = e.0 j; len = e.1 j }),
       )
 
-  pub label_on : (r : FieldRecord) → Finds table i r → OnLabel table i (label_in r)
+  pub label_on : (r : Result Parts FieldRefusal) → Finds table i r → OnLabel table i (label_in r)
   unfolding label_by
   label_on = span_on _ (λ p. p.label) (λ b. refl) (λ k h. rw (outside k h)) label_found
 
@@ -239,6 +220,6 @@ module _ (table : List ℕ) (i : ℕ) where
       rw (q.element, short_by)
       (short_span table (parts_at table here).short label q.field.short q.short_is q.parts_are.short a)
 
-  pub short_on : (r : FieldRecord) → Finds table i r → OnShort table i (short_in r)
+  pub short_on : (r : Result Parts FieldRefusal) → Finds table i r → OnShort table i (short_in r)
   unfolding short_by
   short_on = span_on _ (λ p. filled_span p.short) (λ b. refl) (λ k h. rw (outside k h)) short_found

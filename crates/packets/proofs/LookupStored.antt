@@ -11,10 +11,10 @@ use lib.ListN.{length, take, drop, get_elem?, length-append}
 use lib.Seq.{take_at}
 use borrow.Author.Tests.{le-ltb, eq-eqb, ne_eqb}
 use Rattle.base.specs.Lists.{all, any, same, if_any, list_of, first_break}
-use Rattle.rules.specs.declared.FieldAnswer.{FieldAnswer}
 use Rattle.laws.specs.Places.{Stands, two_at}
 use Rattle.laws.proofs.Places.{stands_left, stands_right, stands_some}
 use Rattle.base.proofs.Breaks.{first_break_cons}
+use Rattle.std.specs.Prelude.{Ok}
 use Rattle.rules.specs.Names.{is_label, is_short}
 use Rattle.rules.specs.Fields.{Field, field_names}
 use Rattle.rules.specs.Within.{keeps_form, keeps_size}
@@ -134,7 +134,7 @@ module _ (numbers : ℕ → ℕ) (s : List ℕ) (end : ℕ) (r : List ℕ) (shor
       go : (b : Bool)
           → of_field (find_from s name (i + 1) (length fs) (place + length (stored_field (numbers k) f)))
           ≡ first_named name (suc i) fs
-          → of_field (cond b (FieldAnswer.At i)
+          → of_field (cond b (Ok i)
           (find_from s name (i + 1) (length fs) (place + length (stored_field (numbers k) f))))
           ≡ cond b (accepted i) (first_named name (suc i) fs)
       go true ih = refl

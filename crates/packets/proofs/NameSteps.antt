@@ -3,12 +3,12 @@ use mathlib.Core.Path.{◌≡◌, refl, sym, ◌∙◌, ap}
 use mathlib.Core.Bool.{Bool, true, false}
 use mathlib.Core.List.{List, [], ◌∷◌, ◌++◌, append_assoc, append-nil}
 use Prim.Native.Nat.{ℕ, suc, ◌+◌, ◌-◌, ◌<◌}
-use native.Mathlib.Nat.{sub-zero}
 use native.Mathlib.Omega.{arith}
 use lib.Dec.{ltb}
 use lib.ListN.{length, take, set, get_or, replicate}
 use lib.Seq.{get_or-take, get_or-set_same, get_or-set_other, get_or_at, length-take-le}
 use borrow.Author.Tests.{ltb-true, ltb-false}
+use Rattle.base.specs.Lists.{same}
 use Rattle.rules.specs.Limits.{short_most}
 use Rattle.rules.specs.Names.{is_short}
 use Rattle.names.specs.Repeats.{pad_to, held_word, names_alike, first_repeat}
@@ -90,15 +90,6 @@ pub record Gathering (s : List ℕ) (n from i at : ℕ) (places keys : List ℕ)
     pub held : HeldNames s (places_from s n from) i shorts
     pub worded : HeldWords s (places_from s n from) i words
 
-pub gather_start : (s : List ℕ) (n from : ℕ) (places keys : List ℕ) (shorts words : List (List ℕ))
-    → Gathering s n from 0 from places keys shorts words
-gather_start s n from places keys shorts words = record {
-  left = rw sub-zero;
-  keyed = λ k lt. absurd (omega arith);
-  held = λ k lt. absurd (omega arith);
-  worded = λ k lt. absurd (omega arith);
-}
-
 module _ (s : List ℕ) (n from i at : ℕ) (places keys : List ℕ) (shorts words : List (List ℕ))
     (g : Gathering s n from i at places keys shorts words) where
   pub gather_again : i < n → i < length places → i < length keys → i < length shorts → i < length words
@@ -124,12 +115,15 @@ module _ (s : List ℕ) (n from i at : ℕ) (places keys : List ℕ) (shorts wor
 
 -- ── labels of other keys ──
 
+pub keys_other : (s : List ℕ) (a b : ℕ) → (label_key s a ≡ label_key s b → ⊥)
+    → false ≡ same (label_at s a) (label_at s b)
+unfolding label_key
+keys_other s a b other = sym (keys_apart sample_key (label_at s a) (label_at s b) other)
+
 pub labels_apart : (s places keys : List ℕ) (n i j : ℕ) → LabelKeys s places n keys → i < n → j < n
     → (get_or keys i 0 ≡ get_or keys j 0 → ⊥) → labels_alike s places i j ≡ false
-unfolding label_key
 labels_apart s places keys n i j h p q apart =
-    keys_apart sample_key (label_at s (get_or places i 0)) (label_at s (get_or places j 0))
-    (λ e. apart (h i p ∙ e ∙ sym (h j q)))
+    sym (keys_other s (get_or places i 0) (get_or places j 0) (λ e. apart (h i p ∙ e ∙ sym (h j q))))
 
 -- ── a record without a short name, or whose label may not be read ──
 

@@ -8,11 +8,12 @@ use lib.Dec.{ltb}
 use lib.ListN.{length, take, drop}
 use borrow.Author.Tests.{lt-ltb, le-ltb}
 use Rattle.laws.specs.Places.{two_at}
-use Rattle.rules.specs.declared.TableAnswer.{TableAnswer}
-use Rattle.rules.specs.declared.PacketAnswer.{PacketAnswer}
+use Rattle.std.specs.Prelude.{Ok, Err, is_ok, is_err}
+use Rattle.rules.specs.declared.TableRefusal.{TableRefusal}
+use Rattle.rules.specs.declared.PacketRefusal.{PacketRefusal}
 use Rattle.rules.specs.Fields.{Description}
 use Rattle.rules.specs.Stored.{Good}
-use Rattle.rules.specs.Answers.{Answer, fault_number, of_table, of_packet}
+use Rattle.rules.specs.Answers.{Answer, fault_number, of_table, of_packet, TableAnswer, PacketAnswer}
 use Rattle.rules.specs.Reading.{Entry, Reading, complete, refusing, reading, reading_in}
 use Rattle.rules.specs.Promises.{
   leaves,
@@ -29,18 +30,17 @@ use Rattle.laws.proofs.Decidable.{good_decidable}
 use Rattle.laws.proofs.Conditions.{conditions_kept}
 use Rattle.laws.proofs.RunCover.{kept_length}
 use Rattle.rules.specs.Limits.{fields_most, packet_most}
-use Rattle.packets.specs.FieldParts.{is_accepted}
 use Rattle.packets.specs.RunRead.{ReadsRun}
 use Rattle.packets.proofs.RunEntries.{length_joined}
 use Rattle.packets.proofs.HeadReads.{head_stands}
 
 -- ── tables ──
 
-pub not_good : (table : List ℕ) → ChecksTable table (of_table TableAnswer.NotGood) → Good table → ⊥
+bad_of : (table : List ℕ) (e : TableRefusal) → ChecksTable table (of_table (Err e)) → Good table → ⊥
 unfolding of_table
-not_good table h g = let e = ap (λ (a : Answer). a.number) (h (yes g)) in omega (arith, e)
+bad_of table TableRefusal.NotGood h g = let q = ap (λ (a : Answer). a.number) (h (yes g)) in omega (arith, q)
 
-pub good_of : (table : List ℕ) (k : ℕ) → ChecksTable table (of_table (TableAnswer.Good k)) → Good table
+good_of : (table : List ℕ) (k : ℕ) → ChecksTable table (of_table (Ok k)) → Good table
 unfolding of_table
 good_of table k h = go (good_decidable table) refl
   where
@@ -49,13 +49,26 @@ good_of table k h = go (good_decidable table) refl
     go (no n) e = let q = ap (λ (a : Answer). a.number) (h (no n)) in absurd (omega (arith, q))
 
 -- the answer of a check, told apart
-pub good_from : (table : List ℕ) (r : TableAnswer) (k : ℕ) → ChecksTable table (of_table r) → r ≡ TableAnswer.Good k
+pub good_from : (table : List ℕ) (r : TableAnswer) (k : ℕ) → ChecksTable table (of_table r) → r ≡ Ok k
     → Good table
 good_from table r k h e = good_of table k (rw e at h)
 
-pub bad_from : (table : List ℕ) (r : TableAnswer) → ChecksTable table (of_table r) → r ≡ TableAnswer.NotGood
-    → ChecksTable table (of_table TableAnswer.NotGood)
-bad_from table r h e = rw e at h
+pub bad_from : (table : List ℕ) (r : TableAnswer) (e : TableRefusal) → ChecksTable table (of_table r) → r ≡ Err e
+    → Good table → ⊥
+bad_from table r e h is = bad_of table e (rw is at h)
+
+pub good_unless : (table : List ℕ) (r : TableAnswer) → ChecksTable table (of_table r)
+    → ((e : TableRefusal) → r ≡ Err e → ⊥) → Good table
+good_unless table (Ok k) h none = good_of table k h
+good_unless table (Err e) h none = absurd (none e refl)
+
+pub good_if : (table : List ℕ) (r : TableAnswer) → ChecksTable table (of_table r) → is_err r ≡ false → Good table
+good_if table (Ok k) h e = good_of table k h
+good_if table (Err e) h is = cc
+
+pub bad_if : (table : List ℕ) (r : TableAnswer) → ChecksTable table (of_table r) → is_err r ≡ true → Good table → ⊥
+bad_if table (Ok k) h e = cc
+bad_if table (Err e) h is = bad_of table e h
 
 pub good_count : (table : List ℕ) (g : Good table) → two_at table 6 ≡ length g.description.fields
 good_count table g = (head_stands g.description g.within table g.is_stored).count
@@ -80,35 +93,34 @@ fault_positive Fault.AbsentRead e = omega (arith, e)
 fault_positive Fault.OutOfRange e = omega (arith, e)
 fault_positive Fault.ZeroDivisor e = omega (arith, e)
 
-accepted_zero : (r : PacketAnswer) → is_accepted r ≡ true → (of_packet r).number ≡ 0
+pub refusal_positive : (e : PacketRefusal) → (of_packet (Err e)).number ≡ 0 → ⊥
 unfolding of_packet
-accepted_zero (PacketAnswer.Accepted n) h = refl
-accepted_zero PacketAnswer.NotGood h = cc
-accepted_zero PacketAnswer.TooLong h = cc
-accepted_zero PacketAnswer.ShortRun h = cc
-accepted_zero (PacketAnswer.Refused f i) h = cc
-accepted_zero PacketAnswer.LeftOver h = cc
+refusal_positive PacketRefusal.NotGood h = omega (arith, h)
+refusal_positive PacketRefusal.TooLong h = omega (arith, h)
+refusal_positive PacketRefusal.ShortRun h = omega (arith, h)
+refusal_positive (PacketRefusal.Field f i) h = fault_positive f h
+refusal_positive PacketRefusal.LeftOver h = omega (arith, h)
 
-zero_accepted : (r : PacketAnswer) → (of_packet r).number ≡ 0 → is_accepted r ≡ true
+accepted_zero : (r : PacketAnswer) → is_ok r ≡ true → (of_packet r).number ≡ 0
 unfolding of_packet
-zero_accepted (PacketAnswer.Accepted n) h = refl
-zero_accepted PacketAnswer.NotGood h = absurd (omega (arith, h))
-zero_accepted PacketAnswer.TooLong h = absurd (omega (arith, h))
-zero_accepted PacketAnswer.ShortRun h = absurd (omega (arith, h))
-zero_accepted (PacketAnswer.Refused f i) h = absurd (fault_positive f h)
-zero_accepted PacketAnswer.LeftOver h = absurd (omega (arith, h))
+accepted_zero (Ok n) h = refl
+accepted_zero (Err e) h = cc
+
+zero_accepted : (r : PacketAnswer) → (of_packet r).number ≡ 0 → is_ok r ≡ true
+zero_accepted (Ok n) h = refl
+zero_accepted (Err e) h = absurd (refusal_positive e h)
 
 -- the entries of an accepted packet
 pub accepted_complete : (got : Reading) → Told got → (packet : List ℕ) (r : PacketAnswer)
     → of_packet r ≡ reading_answer got packet
-    → is_accepted r ≡ true → (es : List Entry) × (got ≡ complete es)
+    → is_ok r ≡ true → (es : List Entry) × (got ≡ complete es)
 unfolding reading_answer
 accepted_complete (complete es) t packet r e h = (es, refl)
 accepted_complete (refusing a) t packet r e h =
     let q = ap (λ (a : Answer). a.number) e in absurd (omega (arith, q, accepted_zero r h, t.0))
 
 pub refused_open : (got : Reading) (packet : List ℕ) (r : PacketAnswer) → of_packet r ≡ reading_answer got packet
-    → is_accepted r ≡ false → (es : List Entry) → got ≡ complete es → ⊥
+    → is_ok r ≡ false → (es : List Entry) → got ≡ complete es → ⊥
 unfolding reading_answer
 refused_open got packet r e h es c =
     let q = e ∙ ap (λ (x : Reading). reading_answer x packet) c in
@@ -131,25 +143,25 @@ module _ (table packet run : List ℕ) (r : PacketAnswer) (after : List ℕ) whe
   by_good good h (no n) = absurd (n good)
 
 module _ (table packet run : List ℕ) where
-  pub packet_not_good : ChecksTable table (of_table TableAnswer.NotGood)
-      → ReadsPacket table packet run (leaves (of_packet PacketAnswer.NotGood) run)
+  pub packet_not_good : (Good table → ⊥)
+      → ReadsPacket table packet run (leaves (of_packet (Err PacketRefusal.NotGood)) run)
   unfolding of_packet
-  packet_not_good h (yes g) = absurd (not_good table h g)
-  packet_not_good h (no n) = refl
+  packet_not_good bad (yes g) = absurd (bad g)
+  packet_not_good bad (no n) = refl
 
   pub packet_too_long : Good table → packet_most < length packet
-      → ReadsPacket table packet run (leaves (of_packet PacketAnswer.TooLong) run)
+      → ReadsPacket table packet run (leaves (of_packet (Err PacketRefusal.TooLong)) run)
   unfolding of_packet packet_outcome_in reading_in reading_answer
   packet_too_long good lt =
       let far : ltb packet_most (length packet) ≡ true = lt-ltb packet_most (length packet) lt in
-      by_good table packet run PacketAnswer.TooLong run good (λ g. rw far)
+      by_good table packet run (Err PacketRefusal.TooLong) run good (λ g. rw far)
 
   pub packet_short_run : Good table → length packet ≤ packet_most → length run < 4 * two_at table 6
-      → ReadsPacket table packet run (leaves (of_packet PacketAnswer.ShortRun) run)
+      → ReadsPacket table packet run (leaves (of_packet (Err PacketRefusal.ShortRun)) run)
   unfolding of_packet packet_outcome_in
   packet_short_run good le lt =
       let near : ltb packet_most (length packet) ≡ false = le-ltb packet_most (length packet) le in
-      by_good table packet run PacketAnswer.ShortRun run good (λ g.
+      by_good table packet run (Err PacketRefusal.ShortRun) run good (λ g.
       let n = good_count table g in
       let few : ltb (length run) (4 * length g.description.fields) ≡ true =
       lt-ltb (length run) (4 * length g.description.fields) (omega arith) in
@@ -169,7 +181,7 @@ module _ (table packet run : List ℕ) where
         let e = (reads g.description g.within g.is_stored).answer in
         rw (near, many, e, h g))
 
-    pub packet_accepted : is_accepted r ≡ true
+    pub packet_accepted : is_ok r ≡ true
         → ReadsPacket table packet run
         (leaves (of_packet r) (take (4 * two_at table 6) numbers ++ drop (4 * two_at table 6) run))
     packet_accepted h = answered _ (λ g.
@@ -181,7 +193,7 @@ module _ (table packet run : List ℕ) where
         let k : 4 * two_at table 6 ≡ 4 * length c.0 = omega arith in
         rw (c.1, k, holds.front c.0 c.1, length_joined c.0))
 
-    pub packet_refused : is_accepted r ≡ false → ReadsPacket table packet run (leaves (of_packet r) run)
+    pub packet_refused : is_ok r ≡ false → ReadsPacket table packet run (leaves (of_packet r) run)
     packet_refused h = answered run (λ g.
         let e = (reads g.description g.within g.is_stored).answer in
         let got = reading g.description packet in

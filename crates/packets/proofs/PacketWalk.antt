@@ -14,8 +14,10 @@ use Rattle.rules.specs.Values.{Value, value, fault}
 use Rattle.rules.specs.Reading.{Step, step, stop, and_then, bit_total}
 use Rattle.packets.specs.declared.records.Parts.{Parts}
 use Rattle.packets.specs.declared.steps.Numbers.{Numbers}
-use Rattle.packets.specs.declared.steps.Found.{Found}
+use Rattle.std.proofs.Common.{Err}
 use Rattle.packets.specs.Steps.{
+  Found,
+  field,
   entry_in,
   found_of,
   record_at,
@@ -48,7 +50,7 @@ module _ (s packet run : List ℕ) (n i place at : ℕ) (p : Parts) (found : Fou
   here t h = let d : n - i - 1 ≡ n - (i + 1) = omega arith in rw (← parts, ← d) h
 
   pub walk_to : (e : Numbers) (next : ℕ) → after ≡ run_with run i (field_step s packet run p (n - i - 1) place)
-      → found ≡ Found.Field e next
+      → found ≡ field e next
       → walk_from s packet (n - i) i run place at ≡ walk_from s packet (n - (i + 1)) (i + 1) after next p.next
   unfolding walk_from
   walk_to e next left to =
@@ -58,7 +60,7 @@ module _ (s packet run : List ℕ) (n i place at : ℕ) (p : Parts) (found : Fou
       rw (m, here (step (entry_in e) next) (found_field found t e next goes to), left, d, parts)
 
   pub walk_stop : (f : Fault) → after ≡ run_with run i (field_step s packet run p (n - i - 1) place)
-      → found ≡ Found.Stop f → walk_from s packet (n - i) i run place at ≡ stopped f (i + 1) after
+      → found ≡ Err f → walk_from s packet (n - i) i run place at ≡ stopped f (i + 1) after
   unfolding walk_from
   walk_stop f left to =
       let m : n - i ≡ suc (n - (i + 1)) = omega arith in
@@ -115,7 +117,7 @@ after_inside s run i p total (stop f) q = tt
 pub step_inside : (s packet run : List ℕ) (i : ℕ) (p : Parts) (later place : ℕ) (found : Found)
     (e : Numbers) (next : ℕ) → place ≤ bit_total packet → found ≡ found_of (step_after s run i p
     (field_step s packet run p later place))
-    → found ≡ Found.Field e next → next ≤ bit_total packet
+    → found ≡ field e next → next ≤ bit_total packet
 step_inside s packet run i p later place found e next h goes to =
     let st = field_step s packet run p later place in
     let t = step_after s run i p st in

@@ -38,6 +38,7 @@ use Rattle.rules.specs.Stored.{stored_expression, stored_maybe}
 use Rattle.laws.proofs.ReadsTrees.{small_bounds, length_stored}
 use Rattle.writing.specs.declared.spans.Span.{Span}
 use Rattle.packets.specs.declared.trees.Checked.{Checked}
+use Rattle.packets.specs.declared.trees.Checked.TheVariants.{Typed, Bad}
 use Rattle.packets.specs.StoredTrees.{marked, check_at}
 use Rattle.packets.specs.Parts.{ending}
 use Rattle.packets.specs.PartsStand.{In}
@@ -86,8 +87,8 @@ module _ (s marks : List ℕ) (k : ValueType) (p : Span) where
     where
       go : (c : Checked) → check_at depth_most s marks p.at ≡ c → ends_as k (ending p) c ≡ true → p.len ≤ stored_most
           → (t : Tree ℕ) × TreeIn s marks k p t
-      go Checked.Bad e f le = absurd (not_both false f refl)
-      go (Checked.Tree j next) e f le =
+      go Bad e f le = absurd (not_both false f refl)
+      go (Typed j next) e f le =
           let a : j ≡ k = same_type_true j k (and_left (same_type j k) (eqb next.at (ending p)) f) in
           let b : next.at ≡ ending p = eqb-true next.at (ending p)
           (and_right (same_type j k) (eqb next.at (ending p)) f) in

@@ -6,37 +6,24 @@ use mathlib.Core.List.{List, [], ◌∷◌}
 use Prim.Native.Nat.{ℕ, zero, suc, ◌+◌, ◌*◌, ◌/◌, ◌%◌, ◌<◌, ◌≤◌}
 use native.Mathlib.Omega.{arith}
 use lib.Dec.{eqb}
-use lib.ListN.{length, get_or, take, drop, get_or-eq_default}
+use lib.ListN.{length, get_or, get_or-eq_default}
 use Rattle.laws.specs.Places.{two_at}
-use Rattle.rules.specs.declared.TableAnswer.{TableAnswer}
-use Rattle.rules.specs.declared.PacketAnswer.{PacketAnswer}
+use Rattle.std.specs.Prelude.{is_ok}
 use Rattle.rules.specs.Stored.{Good}
-use Rattle.rules.specs.Reading.{
-  Entry,
-  absent,
-  Reading,
-  complete,
-  refusing,
-  part_from,
-  reading,
-  bit_total,
-  Part,
-  no_part,
-  is_whole,
-  entry_part,
-  part_in,
-}
+use Rattle.rules.specs.Reading.{Entry, absent, Reading, complete, refusing, reading, bit_total}
+use Rattle.rules.specs.Reading.{Part, no_part, is_whole, entry_part, part_in}
 use Rattle.rules.specs.Cover.{InOrder}
-use Rattle.rules.specs.Promises.{ChecksTable, part_by, PlacesPart, moved_by, LendsPart}
-use Rattle.rules.specs.Answers.{of_table}
+use Rattle.rules.specs.Promises.{part_by}
+use Rattle.rules.specs.Answers.{PacketAnswer}
 use Rattle.laws.proofs.Readings.{reading_told}
 use Rattle.laws.proofs.Cover.{cover_in_order}
-use Rattle.packets.specs.declared.readings.Bytes.{Bytes}
-use Rattle.packets.specs.FieldParts.{is_accepted, bytes_of, part_at, OnPacket}
+use Rattle.writing.specs.declared.spans.Span.{Span}
+use Rattle.packets.specs.Parts.{span_of, ending}
+use Rattle.packets.specs.FieldParts.{part_at, OnPacket}
 use Rattle.packets.specs.RunRead.{ReadsRun}
 use Rattle.packets.proofs.RunEntries.{Begins, run_present, run_number}
+use Rattle.packets.proofs.LookupPromises.{none_on}
 use Rattle.packets.proofs.PacketPromises.{
-  not_good,
   good_count,
   entries_count,
   accepted_complete,
@@ -77,16 +64,16 @@ entry_inside e n h = go (is_whole e)
 -- ── a part by its numbers ──
 
 nested : (a b c : Bool) (x y : ℕ)
-    → cond a (cond b (cond c (bytes_of x y) (bytes_of 0 0)) (bytes_of 0 0)) (bytes_of 0 0)
-    ≡ bytes_of (cond (a && (b && c)) (record { start = x; size = y }) no_part).start
+    → cond a (cond b (cond c (span_of x y) (span_of 0 0)) (span_of 0 0)) (span_of 0 0)
+    ≡ span_of (cond (a && (b && c)) (record { start = x; size = y }) no_part).start
     (cond (a && (b && c)) (record { start = x; size = y }) no_part).size
 nested true true true x y = refl
 nested true true false x y = refl
 nested true false c x y = refl
 nested false b c x y = refl
 
-abbrev of_part : Part → Bytes
-of_part p = bytes_of p.start p.size
+abbrev of_part : Part → Span
+of_part p = span_of p.start p.size
 
 bytes_part : (run : List ℕ) (es : List Entry) (i : ℕ) → Begins run es → i < length es
     → part_at run i ≡ of_part (entry_part (get_or es i absent))
@@ -103,11 +90,11 @@ bytes_part run es i b lt =
 -- ── the part of each table, good or not ──
 
 module _ (table packet : List ℕ) (i : ℕ) where
-  none_is : ((good : Dec (Good table)) → part_by good packet i ≡ no_part) → OnPacket table packet i (bytes_of 0 0)
-  none_is h = record { is = λ good. rw (h good); within = omega arith }
+  abbrev none_is : ((good : Dec (Good table)) → part_by good packet i ≡ no_part) → OnPacket table packet i (span_of 0 0)
+  none_is = none_on table packet (λ good. part_by good packet i)
 
   by_good : Good table → ((g : Good table) → part_in (reading g.description packet) i ≡ no_part)
-      → OnPacket table packet i (bytes_of 0 0)
+      → OnPacket table packet i (span_of 0 0)
   unfolding part_by
   by_good good h = none_is go
     where
@@ -115,12 +102,12 @@ module _ (table packet : List ℕ) (i : ℕ) where
       go (yes g) = h g
       go (no n) = absurd (n good)
 
-  pub part_not_good : ChecksTable table (of_table TableAnswer.NotGood) → OnPacket table packet i (bytes_of 0 0)
+  pub part_not_good : (Good table → ⊥) → OnPacket table packet i (span_of 0 0)
   unfolding part_by
   part_not_good h = none_is go
     where
       go : (x : Dec (Good table)) → part_by x packet i ≡ no_part
-      go (yes g) = absurd (not_good table h g)
+      go (yes g) = absurd (h g)
       go (no n) = refl
 
   open_none : (got : Reading) → ((es : List Entry) → got ≡ complete es → ⊥) → part_in got i ≡ no_part
@@ -131,17 +118,17 @@ module _ (table packet : List ℕ) (i : ℕ) where
   past_none (complete es) h = rw (get_or-eq_default es absent (h es refl))
   past_none (refusing a) h = refl
 
-  pub part_outside : Good table → two_at table 6 ≤ i → OnPacket table packet i (bytes_of 0 0)
+  pub part_outside : Good table → two_at table 6 ≤ i → OnPacket table packet i (span_of 0 0)
   part_outside good le = by_good good (λ g. past_none (reading g.description packet) (λ es e.
       omega (arith, good_count table g, entries_count g.description packet es e)))
 
   module _ (r : PacketAnswer) (numbers : List ℕ) (good : Good table) (reads : ReadsRun table packet r numbers) where
-    pub part_refused : is_accepted r ≡ false → OnPacket table packet i (bytes_of 0 0)
+    pub part_refused : is_ok r ≡ false → OnPacket table packet i (span_of 0 0)
     part_refused h = by_good good (λ g.
         let got = reading g.description packet in
         open_none got (refused_open got packet r (reads g.description g.within g.is_stored).answer h))
 
-    pub part_found : i < two_at table 6 → is_accepted r ≡ true → OnPacket table packet i (part_at numbers i)
+    pub part_found : i < two_at table 6 → is_ok r ≡ true → OnPacket table packet i (part_at numbers i)
     unfolding part_by
     part_found lt h = record { is = is; within = within good }
       where
@@ -161,22 +148,8 @@ module _ (table packet : List ℕ) (i : ℕ) where
         is (yes g) = rw (entries g).1 (found g)
         is (no n) = absurd (n good)
 
-        within : Good table → (part_at numbers i).start + (part_at numbers i).size ≤ length packet
+        within : Good table → ending (part_at numbers i) ≤ length packet
         within g =
             let es = (entries g).0 in
             let o = (cover_in_order g.description packet es (entries g).1).0 in
             rw (found g) (entry_inside (get_or es i absent) (length packet) (order_entry es 0 (bit_total packet) i o))
-
--- ── what is handed back ──
-
-pub part_placed : (table packet : List ℕ) (i : ℕ) (r : Bytes) → OnPacket table packet i r
-    → PlacesPart table packet i (part_from r.start r.size)
-part_placed table packet i r on good = ap (λ (x : Bytes). part_from x.start x.size) (on.is good)
-
-pub field_handed : (table packet : List ℕ) (i : ℕ) (r : Bytes) (bytes : List ℕ) (from at : ℕ × ℕ)
-    → OnPacket table packet i r → bytes ≡ take r.size (drop r.start packet) → at ≡ moved_by r.start from
-    → LendsPart table packet i from bytes at
-field_handed table packet i r bytes from at on content place good = record {
-  content = rw (← ap (λ (x : Bytes). x.start) (on.is good), ← ap (λ (x : Bytes). x.size) (on.is good)) content;
-  place = rw (← ap (λ (x : Bytes). x.start) (on.is good)) place;
-}

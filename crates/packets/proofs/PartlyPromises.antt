@@ -9,18 +9,18 @@ use lib.ListN.{length, take, drop}
 use borrow.Author.Tests.{lt-ltb, le-ltb}
 use Rattle.base.specs.Lists.{joined}
 use Rattle.laws.specs.Places.{two_at}
-use Rattle.rules.specs.declared.TableAnswer.{TableAnswer}
-use Rattle.rules.specs.declared.PacketAnswer.{PacketAnswer}
+use Rattle.std.specs.Prelude.{Err}
+use Rattle.rules.specs.declared.PacketRefusal.{PacketRefusal}
 use Rattle.rules.specs.Limits.{packet_most}
 use Rattle.rules.specs.Stored.{Good}
-use Rattle.rules.specs.Answers.{of_table, of_packet}
+use Rattle.rules.specs.Answers.{of_packet, PacketAnswer}
 use Rattle.rules.specs.Reading.{reading_in, entries_before}
-use Rattle.rules.specs.Promises.{reading_answer, Partly, leaves_partly, partly_outcome, ChecksTable, ReadsPartly}
+use Rattle.rules.specs.Promises.{reading_answer, Partly, leaves_partly, partly_outcome, ReadsPartly}
 use Rattle.packets.specs.Walks.{Walks}
 use Rattle.packets.specs.RunRead.{count_in, RunBegins}
 use Rattle.packets.proofs.RunEntries.{length_joined}
 use Rattle.packets.proofs.WalkReads.{run_begins, walks_read}
-use Rattle.packets.proofs.PacketPromises.{not_good, good_count}
+use Rattle.packets.proofs.PacketPromises.{good_count}
 
 -- the answer for a good table serves for every decision
 by_good : (table packet run : List ℕ) (p : Partly) → Good table
@@ -29,21 +29,21 @@ by_good table packet run p good h (yes g) = h g
 by_good table packet run p good h (no n) = absurd (n good)
 
 module _ (table packet run : List ℕ) where
-  pub partly_not_good : ChecksTable table (of_table TableAnswer.NotGood)
-      → ReadsPartly table packet run (leaves_partly (of_packet PacketAnswer.NotGood) run 0)
+  pub partly_not_good : (Good table → ⊥)
+      → ReadsPartly table packet run (leaves_partly (of_packet (Err PacketRefusal.NotGood)) run 0)
   unfolding of_packet
-  partly_not_good h (yes g) = absurd (not_good table h g)
-  partly_not_good h (no n) = refl
+  partly_not_good bad (yes g) = absurd (bad g)
+  partly_not_good bad (no n) = refl
 
   pub partly_too_long : Good table → packet_most < length packet
-      → ReadsPartly table packet run (leaves_partly (of_packet PacketAnswer.TooLong) run 0)
+      → ReadsPartly table packet run (leaves_partly (of_packet (Err PacketRefusal.TooLong)) run 0)
   unfolding of_packet partly_outcome reading_in reading_answer entries_before joined
   partly_too_long good lt =
       let far : ltb packet_most (length packet) ≡ true = lt-ltb packet_most (length packet) lt in
       by_good table packet run _ good (λ g. rw far)
 
   pub partly_short_run : Good table → length packet ≤ packet_most → length run < 4 * two_at table 6
-      → ReadsPartly table packet run (leaves_partly (of_packet PacketAnswer.ShortRun) run 0)
+      → ReadsPartly table packet run (leaves_partly (of_packet (Err PacketRefusal.ShortRun)) run 0)
   unfolding of_packet partly_outcome
   partly_short_run good le lt =
       let near : ltb packet_most (length packet) ≡ false = le-ltb packet_most (length packet) le in

@@ -18,6 +18,7 @@ use Rattle.rules.specs.Fields.{Field, Description}
 use Rattle.rules.specs.References.{field_reads, readers}
 use Rattle.rules.specs.Edits.{renumbered, opened}
 use Rattle.rules.specs.Stored.{record_of, records, head_body, Good}
+use Rattle.references.specs.declared.renumbering.Shift.{Shift}
 use Rattle.references.specs.Renumbered.{new_index}
 use Rattle.writing.specs.Puts.{placed, put}
 use Rattle.writing.specs.Writes.{Writes}
@@ -56,7 +57,7 @@ all_parts p at fs h =
     (all_front p (take at fs) (drop at fs) w, all_back p (take at fs) (drop at fs) w)
 
 -- in one byte an index goes up by few fields
-up_alike : (at n i : ℕ) → i + n < 256 → new_index (record { from = at; by = n; up = true }) i ≡ opened at n i
+up_alike : (at n i : ℕ) → i + n < 256 → new_index (Shift.Up at n) i ≡ opened at n i
 unfolding new_index opened
 up_alike at n i byte = go (ltb i at)
   where
@@ -142,7 +143,7 @@ module _ (table : List ℕ) (at k : ℕ) (bytes : List ℕ) (may : MayPut table 
   end = record_of 5 []
 
   abbrev g : ℕ → ℕ
-  g = new_index (record { from = at; by = k; up = true })
+  g = new_index (Shift.Up at k)
 
   pub put_bounds : (at ≤ two_at table 6) × (two_at table 6 + k ≤ fields_most)
   put_bounds =

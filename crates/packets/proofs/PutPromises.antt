@@ -10,23 +10,21 @@ use borrow.Author.Tests.{lt-ltb, le-ltb}
 use Rattle.base.specs.Lists.{is_empty}
 use Rattle.laws.specs.Places.{two_at}
 use Rattle.laws.proofs.PutCandidate.{candidate, joins_whole, whole_count, joins_few, joins_candidate, put_judged}
-use Rattle.rules.specs.declared.TableAnswer.{TableAnswer}
-use Rattle.rules.specs.declared.EditAnswer.{EditAnswer}
+use Rattle.std.specs.Prelude.{Err}
+use Rattle.rules.specs.declared.EditRefusal.{EditRefusal}
 use Rattle.rules.specs.Limits.{fields_most}
 use Rattle.rules.specs.Fields.{Field, Description}
 use Rattle.rules.specs.References.{readers}
 use Rattle.rules.specs.Edits.{put}
 use Rattle.rules.specs.Stored.{stored, Good}
-use Rattle.rules.specs.Answers.{refused, of_table, of_edit}
-use Rattle.rules.specs.Promises.{Outcome, leaves, delivered, ChecksTable, Joins, by_records, put_outcome, PutsFields}
+use Rattle.rules.specs.Answers.{refused, of_edit}
+use Rattle.rules.specs.Promises.{Outcome, leaves, delivered, Joins, by_records, put_outcome, PutsFields}
 use Rattle.laws.proofs.Joining.{joins_fields}
-use Rattle.packets.specs.declared.edits.Counted.{Counted}
-use Rattle.packets.specs.declared.edits.Counted.TheVariants.{Records, Bad}
+use Rattle.std.specs.Prelude.{Option, Some, None}
 use Rattle.packets.specs.Parts.{table_most}
 use Rattle.packets.specs.EditSteps.{Judged, right, wrong, CountsTo, MayPut}
 use Rattle.packets.proofs.TableHead.{head_count, count_most}
 use Rattle.packets.proofs.TableParts.{stored_length_lem, table_length}
-use Rattle.packets.proofs.PacketPromises.{not_good}
 use Rattle.packets.proofs.CutPromises.{one_description}
 use Rattle.packets.proofs.PutBytes.{candidate_length}
 
@@ -37,11 +35,10 @@ module _ (table bytes out : List ℕ) (at : ℕ) where
   abbrev Puts : Outcome → Type 0
   Puts o = PutsFields table at bytes out o
 
-  pub put_bad : (r : TableAnswer) → ChecksTable table (of_table r) → r ≡ TableAnswer.NotGood
-      → Puts (leaves (of_edit EditAnswer.NotGood) out)
+  pub put_bad : (Good table → ⊥) → Puts (leaves (of_edit (Err EditRefusal.NotGood)) out)
   unfolding of_edit
-  put_bad r h e (yes g) joins = absurd (not_good table (rw e at h) g)
-  put_bad r h e (no bad) joins = refl
+  put_bad bad (yes g) joins = absurd (bad g)
+  put_bad bad (no b) joins = refl
 
   module _ (good : Good table) where
     abbrev d : Description
@@ -53,7 +50,7 @@ module _ (table bytes out : List ℕ) (at : ℕ) where
         h joins ∙ ap (λ (e : Description). put_outcome at bytes e (joins e) out) (one_description table good g)
     by_good o h (no bad) joins = absurd (bad good)
 
-    pub put_none : length bytes ≡ 0 → Puts (leaves (of_edit EditAnswer.NoFields) out)
+    pub put_none : length bytes ≡ 0 → Puts (leaves (of_edit (Err EditRefusal.NoFields)) out)
     unfolding of_edit put_outcome
     put_none e = by_good _ (λ joins. rw (go bytes e) refl)
       where
@@ -61,7 +58,7 @@ module _ (table bytes out : List ℕ) (at : ℕ) where
         go [] z = refl
         go (b ∷ l) z = absurd (omega (arith, z))
 
-    pub put_beyond : two_at table 6 < at → Puts (leaves (of_edit EditAnswer.NoFields) out)
+    pub put_beyond : two_at table 6 < at → Puts (leaves (of_edit (Err EditRefusal.NoFields)) out)
     unfolding of_edit put_outcome
     put_beyond lt =
         let c = head_count d table good.is_stored good.within in
@@ -117,7 +114,8 @@ module _ (table bytes out : List ℕ) (at : ℕ) where
             table_length q.0 (put at j.fields d) j.within,
           )
 
-      pub put_long : table_most - length table < length bytes → Puts (leaves (of_edit EditAnswer.BeyondLimits) out)
+      pub put_long : table_most - length table < length bytes
+          → Puts (leaves (of_edit (Err EditRefusal.BeyondLimits)) out)
       unfolding of_edit
       put_long lt =
           put_not given inside
@@ -125,20 +123,20 @@ module _ (table bytes out : List ℕ) (at : ℕ) where
           omega (arith, le, lt, good_short table good))
 
       module _ (most : ℕ) (limit : most ≡ fields_most - two_at table 6) where
-        pub put_uncounted : (r : Counted) → CountsTo bytes most r → r ≡ Bad
-            → Puts (leaves (of_edit EditAnswer.BeyondLimits) out)
+        pub put_uncounted : (r : Option ℕ) → CountsTo bytes most r → r ≡ None
+            → Puts (leaves (of_edit (Err EditRefusal.BeyondLimits)) out)
         unfolding of_edit
         put_uncounted r h e =
-            let none_do : CountsTo bytes most Bad = rw e at h in
+            let none_do : CountsTo bytes most None = rw e at h in
             let c = head_count d table good.is_stored good.within in
             put_not given inside
             (λ j. none_do (length j.fields)
             (omega (arith, joins_few at bytes d j, limit, c)) (joins_whole at bytes d j))
 
-        pub may_put : (r : Counted) (k : ℕ) → CountsTo bytes most r → r ≡ Records k
+        pub may_put : (r : Option ℕ) (k : ℕ) → CountsTo bytes most r → r ≡ Some k
             → length bytes ≤ table_most - length table → MayPut table at k bytes
         may_put r k h e fits =
-            let q : CountsTo bytes most (Records k) = rw e at h in
+            let q : CountsTo bytes most (Some k) = rw e at h in
             let c = head_count d table good.is_stored good.within in
             let l = good_short table good in
             let few = count_most d good.within in record {

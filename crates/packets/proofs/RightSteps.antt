@@ -7,8 +7,7 @@ use native.Mathlib.Omega.{arith}
 use lib.ListN.{length, get_or, take}
 use Rattle.base.proofs.Lists.{not_both}
 use Rattle.laws.specs.Places.{two_at}
-use Rattle.packets.specs.declared.tables.Walked.{Walked}
-use Rattle.packets.specs.declared.tables.Walked.TheVariants.{Past, Bad}
+use Rattle.std.specs.Prelude.{Option, Some, None}
 use Rattle.packets.specs.Parts.{table_most}
 use Rattle.packets.specs.NamesTest.{places_from}
 use Rattle.packets.specs.CountsTest.{reads_from, kept_from, numbers_test}
@@ -24,12 +23,12 @@ pub right_places : (s places : List ℕ) → length s ≤ table_most → head_te
 right_places s places short head fields e i lt =
     go (walk_at (two_at s 4) (two_at s 6) [] 0 false s (10 + two_at s 8)) refl fields
   where
-    go : (x : Walked) → walk_at (two_at s 4) (two_at s 6) [] 0 false s (10 + two_at s 8) ≡ x → after_fields s x ≡ true
+    go : (x : Option ℕ) → walk_at (two_at s 4) (two_at s 6) [] 0 false s (10 + two_at s 8) ≡ x → after_fields s x ≡ true
         → get_or places i 0 ≤ table_most
-    go (Past at) is f =
+    go (Some at) is f =
         (all_places s (two_at s 6) places (places_from s (two_at s 6) (10 + two_at s 8)) e
         (walk_places _ _ _ _ _ _ _ _ short (head_is_lem s head).end is) i lt).place
-    go Bad is f = absurd (not_both false f refl)
+    go None is f = absurd (not_both false f refl)
 
 pub gathered_true : (s places counts : List ℕ) {r : Bool} → r ≡ true → GatheredAll r s places counts
     → GatheredAll true s places counts

@@ -15,7 +15,8 @@ use Rattle.laws.proofs.OperatorLaws.{keeps_known}
 use Rattle.laws.proofs.Places.{stands_join, stands_left, stands_right}
 use Rattle.laws.proofs.Counting.{readers_are}
 use Rattle.laws.proofs.Numbers.{le2_mod, records_by}
-use Rattle.rules.specs.declared.TableAnswer.{TableAnswer}
+use Rattle.std.specs.Prelude.{Ok, Err}
+use Rattle.rules.specs.declared.TableRefusal.{TableRefusal}
 use Rattle.rules.specs.Trees.{le2}
 use Rattle.rules.specs.Editions.{current}
 use Rattle.rules.specs.Fields.{Field, Description}
@@ -24,8 +25,7 @@ use Rattle.rules.specs.Within.{Within}
 use Rattle.rules.specs.Stored.{record_of, records, head_body, stored_with, stored_in, Good}
 use Rattle.rules.specs.Answers.{of_table}
 use Rattle.rules.specs.Promises.{ChecksTable}
-use Rattle.packets.specs.declared.tables.Walked.{Walked}
-use Rattle.packets.specs.declared.tables.Walked.TheVariants.{Past, Bad}
+use Rattle.std.specs.Prelude.{Option, Some, None}
 use Rattle.packets.specs.Parts.{table_most, span_at}
 use Rattle.packets.specs.FieldTest.{bytes_in}
 use Rattle.packets.specs.NamesTest.{places_from, names_test}
@@ -47,7 +47,7 @@ use Rattle.packets.proofs.TableParts.{
   table_length,
 }
 
-abbrev walked : List ℕ → Walked
+abbrev walked : List ℕ → Option ℕ
 walked s = walk_at (two_at s 4) (two_at s 6) [] 0 false s (10 + two_at s 8)
 
 -- ── sound ──
@@ -101,12 +101,12 @@ shape_sound numbers s b kept h =
     let r = and_right (leb (length s) table_most) _ h in
     go (head_is_lem s (and_left (head_test s) _ r)) (walked s) refl (and_right (head_test s) _ r)
   where
-    go : HeadIs s → (x : Walked) → walked s ≡ x → after_fields s x ≡ true → Shaped s numbers
-    go head (Past at) e f =
+    go : HeadIs s → (x : Option ℕ) → walked s ≡ x → after_fields s x ≡ true → Shaped s numbers
+    go head (Some at) e f =
         let q = walk_sound numbers 0 (two_at s 4) (two_at s 6) [] 0 s (10 + two_at s 8) at b kept e in
         shaped_of numbers s at q.0 b head q.1 q.2 (and_left (last_test s at) _ f)
         (and_right (last_test s at) _ f)
-    go head Bad e f = absurd (not_both false f refl)
+    go head None e f = absurd (not_both false f refl)
 
 -- tables of like numbers
 pub stored_by : (a b : ℕ → ℕ) (d : Description)
@@ -185,7 +185,7 @@ module _ (numbers : ℕ → ℕ) (s : List ℕ) (d : Description) (w : Within d)
       let f = found in
       let h = f.head in
       let from = 10 + two_at s 8 in
-      let walk : walk_at d.row_width (length l) [] 0 false s from ≡ Past f.at =
+      let walk : walk_at d.row_width (length l) [] 0 false s from ≡ Some f.at =
       walk_complete numbers 0 d.row_width [] 0 s from f.at l f.end (record {
         stands = f.fields;
         form = w.form;
@@ -196,7 +196,7 @@ module _ (numbers : ℕ → ℕ) (s : List ℕ) (d : Description) (w : Within d)
       }) in
       let names = names_complete numbers s l from f.at w.form w.size f.fields w.names in
       let names' : names_test s (two_at s 6) from ≡ true = rw h.count names in
-      let walk' : walked s ≡ Past f.at = rw (h.row, h.count) walk in
+      let walk' : walked s ≡ Some f.at = rw (h.row, h.count) walk in
       let after : after_fields s (walked s) ≡ true = rw walk'
       (and_both (last_test s f.at) _ f.last names') in
       let most : length s ≤ table_most = rw (← is) (table_length numbers d w) in
@@ -234,12 +234,12 @@ table_complete s g =
 
 -- ── the answer ──
 
-pub accepts : (s : List ℕ) → IsBytes s → table_test s ≡ true → ChecksTable s (of_table (TableAnswer.Good (length s)))
+pub accepts : (s : List ℕ) → IsBytes s → table_test s ≡ true → ChecksTable s (of_table (Ok (length s)))
 unfolding of_table
 accepts s b h (yes good) = refl
 accepts s b h (no bad) = absurd (bad (table_sound s b h))
 
-pub refuses : (s : List ℕ) → table_test s ≡ false → ChecksTable s (of_table TableAnswer.NotGood)
+pub refuses : (s : List ℕ) → table_test s ≡ false → ChecksTable s (of_table (Err TableRefusal.NotGood))
 unfolding of_table
 refuses s h (yes good) = absurd (not_both (table_test s) (table_complete s good) h)
 refuses s h (no bad) = refl

@@ -14,15 +14,15 @@ use Rattle.base.proofs.Breaks.{or_true}
 use Rattle.rules.specs.Names.{is_label}
 use Rattle.rules.specs.Within.{is_row_width}
 use Rattle.rules.specs.Limits.{fields_most}
-use Rattle.packets.specs.declared.tables.Walked.{Walked}
-use Rattle.packets.specs.declared.tables.Walked.TheVariants.{Past, Bad}
+use Rattle.std.specs.Prelude.{Option, Some, None}
+use Rattle.std.proofs.lemmas.Option.{none-some}
 use Rattle.packets.specs.Parts.{table_most, span_at, parts_at}
 use Rattle.packets.specs.FieldTest.{bytes_in}
 use Rattle.packets.specs.NamesTest.{places_from, FieldPlaces, Gathered}
 use Rattle.packets.specs.CountsTest.{Tallied}
 use Rattle.packets.specs.TableTest.{walk_at, head_test, GatheredBy, TalliedBy, GatheredAll}
 use Rattle.packets.proofs.FieldSteps.{parts_inside, field_next}
-use Rattle.packets.proofs.WalkLaws.{past_bad, walk_parts}
+use Rattle.packets.proofs.WalkLaws.{walk_parts}
 
 -- ── the first record ──
 
@@ -64,20 +64,20 @@ row_positive w h =
 -- ── places in the walk ──
 
 pub walk_past : (w n : ℕ) (marks : List ℕ) (place : ℕ) (ended : Bool) (s : List ℕ) (at next : ℕ) → at ≤ length s
-    → walk_at w n marks place ended s at ≡ Past next → next ≤ length s
+    → walk_at w n marks place ended s at ≡ Some next → next ≤ length s
 unfolding walk_at
 walk_past w zero marks place ended s at next le h = go (eqb (place % w) 0) h
   where
-    go : (x : Bool) → cond x (Past at) Bad ≡ Past next → next ≤ length s
+    go : (x : Bool) → cond x (Some at) None ≡ Some next → next ≤ length s
     go true f = let m : at ≡ next = cc in omega arith
-    go false f = absurd (past_bad next f)
+    go false f = absurd (none-some next f)
 walk_past w (suc n) marks place ended s at next le h =
     let q = walk_parts w n marks place ended s at next h in
     walk_past w n _ _ _ s (parts_at s at).next next (field_next w place ended s at (parts_at s at) q.0) q.2
 
 pub walk_places : (w n : ℕ) (marks : List ℕ) (place : ℕ) (ended : Bool) (s : List ℕ) (at next : ℕ)
     → length s ≤ table_most
-    → at ≤ length s → walk_at w n marks place ended s at ≡ Past next → FieldPlaces s n (places_from s n at)
+    → at ≤ length s → walk_at w n marks place ended s at ≡ Some next → FieldPlaces s n (places_from s n at)
 unfolding places_from
 walk_places w zero marks place ended s at next short le h i lt = absurd (omega arith)
 walk_places w (suc n) marks place ended s at next short le h zero lt =
@@ -95,18 +95,18 @@ pub count_most : (n : ℕ) → between 1 n fields_most ≡ true → n ≤ fields
 count_most n h = (between_true 1 n fields_most h).1
 
 -- the code's walk, by the numbers that it read
-pub walk_of : (s : List ℕ) {w n from : ℕ} {r x : Walked} → w ≡ two_at s 4 → n ≡ two_at s 6 → from ≡ two_at s 8
+pub walk_of : (s : List ℕ) {w n from : ℕ} {r x : Option ℕ} → w ≡ two_at s 4 → n ≡ two_at s 6 → from ≡ two_at s 8
     → r ≡ walk_at w n [] 0 false s (10 + from) → r ≡ x
     → walk_at (two_at s 4) (two_at s 6) [] 0 false s (10 + two_at s 8) ≡ x
 walk_of s a b c e f = rw (← a, ← b, ← c) (sym e ∙ f)
 
 -- what a walk to the end has gathered
-pub gathered_past : {r : Walked} {at : ℕ} {s : List ℕ} {n from : ℕ} {places keys : List ℕ}
+pub gathered_past : {r : Option ℕ} {at : ℕ} {s : List ℕ} {n from : ℕ} {places keys : List ℕ}
     {shorts words : List (List ℕ)}
-    → r ≡ Past at → GatheredBy r s n from places keys shorts words → Gathered s n from places keys shorts words
+    → r ≡ Some at → GatheredBy r s n from places keys shorts words → Gathered s n from places keys shorts words
 gathered_past e g = rw e at g
 
-pub tallied_past : (s : List ℕ) (n from : ℕ) (counts : List ℕ) {r : Walked} {at : ℕ} → r ≡ Past at
+pub tallied_past : (s : List ℕ) (n from : ℕ) (counts : List ℕ) {r : Option ℕ} {at : ℕ} → r ≡ Some at
     → TalliedBy r s n from counts → Tallied s n from counts
 tallied_past s n from counts e g = rw e at g
 

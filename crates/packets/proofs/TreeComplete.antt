@@ -16,7 +16,7 @@ use Rattle.rules.specs.Trees.{Tree, num, read, two, negation, le4, depth, stored
 use Rattle.rules.specs.Stored.{stored_expression}
 use Rattle.operators.specs.declared.codes.Code.{Code}
 use Rattle.operators.specs.Codes.{code_of}
-use Rattle.packets.specs.declared.trees.Checked.{Checked}
+use Rattle.packets.specs.declared.trees.Checked.TheVariants.{Typed}
 use Rattle.packets.specs.StoredTrees.{marked, check_code, check_at, skip_code, skip_at}
 use Rattle.packets.proofs.TreeSteps.{check_step, skip_step}
 use Rattle.operators.proofs.CodeLaws.{code_number, code_field, code_not, code_two}
@@ -36,7 +36,7 @@ check_there d s marks at b x w k ne p f =
 
 pub check_complete : (d : ℕ) (s marks : List ℕ) (at : ℕ) (t : Tree ℕ) (ty : ValueType) (next : ℕ)
     → has_type (marked marks) ty t ≡ true → is_in_range t ≡ true → depth t ≤ d
-    → Stands s at (stored_expression t) next → check_at d s marks at ≡ Checked.Tree ty (record { at = next })
+    → Stands s at (stored_expression t) next → check_at d s marks at ≡ Typed ty (record { at = next })
 unfolding stored_tree depth is_in_range has_type le4
 check_complete d s marks at (num n) ty next h r le p =
     let k = same_type_true ty Number h in

@@ -22,6 +22,7 @@ use Rattle.packets.specs.declared.trees.Cursor.{Cursor}
 use Rattle.operators.specs.declared.codes.Code.{Code}
 use Rattle.operators.specs.Codes.{code_of}
 use Rattle.packets.specs.declared.trees.Checked.{Checked}
+use Rattle.packets.specs.declared.trees.Checked.TheVariants.{Typed, Bad}
 use Rattle.packets.specs.StoredTrees.{cursor, marked, check_number, check_field, check_not, check_two}
 use Rattle.packets.specs.StoredTrees.{on_tree, check_code, check_at}
 use Rattle.operators.proofs.CodeLaws.{Codes, codes}
@@ -37,13 +38,16 @@ Found d s marks at ty c =
     × Stands s at (stored_expression t) c.at
     × (c.at ≤ length s)
 
-clash : (k : ValueType) (c : Cursor) → Checked.Bad ≡ Checked.Tree k c → ⊥
+clash : (k : ValueType) (c : Cursor) → Bad ≡ Typed k c → ⊥
 clash k c h = let z : ◌≡◌ {A = ℕ} 0 1 = cc in omega arith
 
 -- the type and the place that a check names
 moved : (d : ℕ) (s marks : List ℕ) (at : ℕ) (k ty : ValueType) (n c : Cursor)
-    → Checked.Tree k n ≡ Checked.Tree ty c → Found d s marks at k n → Found d s marks at ty c
-moved d s marks at k ty n c h w = subst₂ (λ (j : ValueType) (m : Cursor). Found d s marks at j m) (cc) (cc) w
+    → Typed k n ≡ Typed ty c → Found d s marks at k n → Found d s marks at ty c
+moved d s marks at k ty n c h w =
+    let e : k ≡ ty = cc in
+    let f : n ≡ c = cc in
+    subst₂ (λ (j : ValueType) (m : Cursor). Found d s marks at j m) e f w
 
 -- ── numbers and fields ──
 
@@ -64,11 +68,11 @@ number_found d s marks at bs e lt =
     )
 
 sound_number : (d : ℕ) (s marks : List ℕ) (at : ℕ) (ty : ValueType) (c : Cursor) → IsBytes s → at < length s
-    → get_or s at 0 ≡ number_code → check_number s at ≡ Checked.Tree ty c → Found (suc d) s marks at ty c
+    → get_or s at 0 ≡ number_code → check_number s at ≡ Typed ty c → Found (suc d) s marks at ty c
 sound_number d s marks at ty c bs lt e h = go (ltb (length s - at) 5) refl h
   where
     go : (b : Bool) → ltb (length s - at) 5 ≡ b
-        → cond b Checked.Bad (Checked.Tree Number (cursor (at + 5))) ≡ Checked.Tree ty c
+        → cond b Bad (Typed Number (cursor (at + 5))) ≡ Typed ty c
         → Found (suc d) s marks at ty c
     go true f g = absurd (clash ty c g)
     go false f g = moved (suc d) s marks at Number ty (cursor (at + 5)) c g
@@ -89,11 +93,11 @@ field_found d s marks at e lt f =
     )
 
 sound_field : (d : ℕ) (s marks : List ℕ) (at : ℕ) (ty : ValueType) (c : Cursor) → at < length s
-    → get_or s at 0 ≡ field_code → check_field s marks at ≡ Checked.Tree ty c → Found (suc d) s marks at ty c
+    → get_or s at 0 ≡ field_code → check_field s marks at ≡ Typed ty c → Found (suc d) s marks at ty c
 sound_field d s marks at ty c lt e h = go (ltb (length s - at) 2) (marked marks (get_or s (at + 1) 0)) refl refl h
   where
     go : (b m : Bool) → ltb (length s - at) 2 ≡ b → marked marks (get_or s (at + 1) 0) ≡ m
-        → cond b Checked.Bad (cond m (Checked.Tree Number (cursor (at + 2))) Checked.Bad) ≡ Checked.Tree ty c
+        → cond b Bad (cond m (Typed Number (cursor (at + 2))) Bad) ≡ Typed ty c
         → Found (suc d) s marks at ty c
     go true m f f' g = absurd (clash ty c g)
     go false true f f' g = moved (suc d) s marks at Number ty (cursor (at + 2)) c g
@@ -116,12 +120,12 @@ not_found d s marks at c lt e w = (
 
 sound_not : (d : ℕ) (s marks : List ℕ) (at : ℕ) (ty : ValueType) (c : Cursor) → at < length s
     → get_or s at 0 ≡ not_code → (r : Checked)
-    → ((k : ValueType) (n : Cursor) → r ≡ Checked.Tree k n → Found d s marks (at + 1) k n)
-    → on_tree r check_not ≡ Checked.Tree ty c → Found (suc d) s marks at ty c
-sound_not d s marks at ty c lt e (Checked.Tree Number n) ih h = absurd (clash ty c h)
-sound_not d s marks at ty c lt e (Checked.Tree YesNo n) ih h =
+    → ((k : ValueType) (n : Cursor) → r ≡ Typed k n → Found d s marks (at + 1) k n)
+    → on_tree r check_not ≡ Typed ty c → Found (suc d) s marks at ty c
+sound_not d s marks at ty c lt e (Typed Number n) ih h = absurd (clash ty c h)
+sound_not d s marks at ty c lt e (Typed YesNo n) ih h =
     moved (suc d) s marks at YesNo ty n c h (not_found d s marks at n lt e (ih YesNo n refl))
-sound_not d s marks at ty c lt e Checked.Bad ih h = absurd (clash ty c h)
+sound_not d s marks at ty c lt e Bad ih h = absurd (clash ty c h)
 
 two_found : (d : ℕ) (s marks : List ℕ) (at : ℕ) (o : Op) (mid c : Cursor) → at < length s → get_or s at 0 ≡ code o
     → Found d s marks (at + 1) (takes o) mid → Found d s marks mid.at (takes o) c
@@ -139,44 +143,44 @@ two_found d s marks at o mid c lt e u v =
       v.5,
     )
 
-joins : (o : Op) (a b : ValueType) (n : Cursor) (ty : ValueType) (c : Cursor) → check_two o a b n ≡ Checked.Tree ty c
-    → (a ≡ takes o) × (b ≡ takes o) × (Checked.Tree (gives o) n ≡ Checked.Tree ty c)
+joins : (o : Op) (a b : ValueType) (n : Cursor) (ty : ValueType) (c : Cursor) → check_two o a b n ≡ Typed ty c
+    → (a ≡ takes o) × (b ≡ takes o) × (Typed (gives o) n ≡ Typed ty c)
 joins o a b n ty c h = go (same_type a (takes o)) (same_type b (takes o)) refl refl h
   where
     go : (p q : Bool) → same_type a (takes o) ≡ p → same_type b (takes o) ≡ q
-        → cond p (cond q (Checked.Tree (gives o) n) Checked.Bad) Checked.Bad ≡ Checked.Tree ty c
-        → (a ≡ takes o) × (b ≡ takes o) × (Checked.Tree (gives o) n ≡ Checked.Tree ty c)
+        → cond p (cond q (Typed (gives o) n) Bad) Bad ≡ Typed ty c
+        → (a ≡ takes o) × (b ≡ takes o) × (Typed (gives o) n ≡ Typed ty c)
     go true true f g x = (same_type_true a (takes o) f, same_type_true b (takes o) g, x)
     go true false f g x = absurd (clash ty c x)
     go false q f g x = absurd (clash ty c x)
 
 sound_right : (d : ℕ) (s marks : List ℕ) (at : ℕ) (o : Op) (ty : ValueType) (c : Cursor) → at < length s
     → get_or s at 0 ≡ code o → (a : ValueType) (mid : Cursor) → Found d s marks (at + 1) a mid → (r : Checked)
-    → ((k : ValueType) (n : Cursor) → r ≡ Checked.Tree k n → Found d s marks mid.at k n)
-    → on_tree r (λ b n. check_two o a b n) ≡ Checked.Tree ty c → Found (suc d) s marks at ty c
-sound_right d s marks at o ty c lt e a mid u (Checked.Tree b n) ih h =
+    → ((k : ValueType) (n : Cursor) → r ≡ Typed k n → Found d s marks mid.at k n)
+    → on_tree r (λ b n. check_two o a b n) ≡ Typed ty c → Found (suc d) s marks at ty c
+sound_right d s marks at o ty c lt e a mid u (Typed b n) ih h =
     let w = joins o a b n ty c h in
     let left = subst (λ (k : ValueType). Found d s marks (at + 1) k mid) w.0 u in
     let right = subst (λ (k : ValueType). Found d s marks mid.at k n) w.1 (ih b n refl) in
     moved (suc d) s marks at (gives o) ty n c w.2 (two_found d s marks at o mid n lt e left right)
-sound_right d s marks at o ty c lt e a mid u Checked.Bad ih h = absurd (clash ty c h)
+sound_right d s marks at o ty c lt e a mid u Bad ih h = absurd (clash ty c h)
 
 sound_left : (d : ℕ) (s marks : List ℕ) (at : ℕ) (o : Op) (ty : ValueType) (c : Cursor) → at < length s
     → get_or s at 0 ≡ code o → (check : ℕ → Checked)
-    → ((p : ℕ) (k : ValueType) (n : Cursor) → check p ≡ Checked.Tree k n → Found d s marks p k n)
+    → ((p : ℕ) (k : ValueType) (n : Cursor) → check p ≡ Typed k n → Found d s marks p k n)
     → (r : Checked) → check (at + 1) ≡ r
-    → on_tree r (λ a mid. on_tree (check mid.at) (λ b n. check_two o a b n)) ≡ Checked.Tree ty c
+    → on_tree r (λ a mid. on_tree (check mid.at) (λ b n. check_two o a b n)) ≡ Typed ty c
     → Found (suc d) s marks at ty c
-sound_left d s marks at o ty c lt e check ih (Checked.Tree a mid) f h =
+sound_left d s marks at o ty c lt e check ih (Typed a mid) f h =
     sound_right d s marks at o ty c lt e a mid (ih (at + 1) a mid f) (check mid.at) (ih mid.at) h
-sound_left d s marks at o ty c lt e check ih Checked.Bad f h = absurd (clash ty c h)
+sound_left d s marks at o ty c lt e check ih Bad f h = absurd (clash ty c h)
 
 -- ── the whole ──
 
 sound_code : (d : ℕ) (s marks : List ℕ) (at : ℕ) (k : Code) (ty : ValueType) (c : Cursor) → IsBytes s → at < length s
     → Codes (get_or s at 0) k → (check : ℕ → Checked)
-    → ((p : ℕ) (j : ValueType) (n : Cursor) → check p ≡ Checked.Tree j n → Found d s marks p j n)
-    → check_code k check s marks at ≡ Checked.Tree ty c → Found (suc d) s marks at ty c
+    → ((p : ℕ) (j : ValueType) (n : Cursor) → check p ≡ Typed j n → Found d s marks p j n)
+    → check_code k check s marks at ≡ Typed ty c → Found (suc d) s marks at ty c
 sound_code d s marks at Code.Number ty c bs lt e check ih h = sound_number d s marks at ty c bs lt e h
 sound_code d s marks at Code.Field ty c bs lt e check ih h = sound_field d s marks at ty c lt e h
 sound_code d s marks at (Code.Two o) ty c bs lt e check ih h =
@@ -186,7 +190,7 @@ sound_code d s marks at Code.Not ty c bs lt e check ih h =
 sound_code d s marks at Code.Other ty c bs lt e check ih h = absurd (clash ty c h)
 
 pub check_sound : (d : ℕ) (s marks : List ℕ) (at : ℕ) (ty : ValueType) (c : Cursor) → IsBytes s
-    → check_at d s marks at ≡ Checked.Tree ty c
+    → check_at d s marks at ≡ Typed ty c
     → (t : Tree ℕ)
     × (has_type (marked marks) ty t ≡ true)
     × (is_in_range t ≡ true)
@@ -198,9 +202,9 @@ check_sound zero s marks at ty c bs h = absurd (clash ty c h)
 check_sound (suc d) s marks at ty c bs h =
     go (λ p k n. check_sound d s marks p k n bs) (ltb at (length s)) refl h
   where
-    go : ((p : ℕ) (k : ValueType) (n : Cursor) → check_at d s marks p ≡ Checked.Tree k n → Found d s marks p k n)
+    go : ((p : ℕ) (k : ValueType) (n : Cursor) → check_at d s marks p ≡ Typed k n → Found d s marks p k n)
         → (b : Bool) → ltb at (length s) ≡ b
-        → cond b (check_code (code_of (get_or s at 0)) (check_at d s marks) s marks at) Checked.Bad ≡ Checked.Tree ty c
+        → cond b (check_code (code_of (get_or s at 0)) (check_at d s marks) s marks at) Bad ≡ Typed ty c
         → Found (suc d) s marks at ty c
     go ih true e g = sound_code d s marks at (code_of (get_or s at 0)) ty c bs (ltb-true at (length s) e)
         (codes (get_or s at 0)) (check_at d s marks) ih g

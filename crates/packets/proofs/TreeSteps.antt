@@ -8,15 +8,15 @@ use borrow.Author.Tests.{lt-ltb, le-ltb}
 use Rattle.rules.specs.declared.Fault.{Fault}
 use Rattle.operators.specs.declared.codes.Code.{Code}
 use Rattle.operators.specs.Codes.{code_of}
-use Rattle.packets.specs.declared.trees.Checked.{Checked}
-use Rattle.packets.specs.declared.trees.Evaluated.{Evaluated}
+use Rattle.std.proofs.Common.{Err}
+use Rattle.packets.specs.declared.trees.Checked.TheVariants.{Bad}
 use Rattle.packets.specs.StoredTrees.{check_at, check_code, skip_at, skip_code, value_at, value_code}
 
-pub check_none : (d : ℕ) (s marks : List ℕ) (at : ℕ) → d ≡ 0 → check_at d s marks at ≡ Checked.Bad
+pub check_none : (d : ℕ) (s marks : List ℕ) (at : ℕ) → d ≡ 0 → check_at d s marks at ≡ Bad
 unfolding check_at
 check_none d s marks at e = rw e
 
-pub check_past : (d : ℕ) (s marks : List ℕ) (at : ℕ) → length s ≤ at → check_at d s marks at ≡ Checked.Bad
+pub check_past : (d : ℕ) (s marks : List ℕ) (at : ℕ) → length s ≤ at → check_at d s marks at ≡ Bad
 unfolding check_at
 check_past zero s marks at le = refl
 check_past (suc d) s marks at le = rw (le-ltb _ _ le)
@@ -43,12 +43,12 @@ unfolding skip_at
 skip_step zero s at ne lt e f = absurd (ne refl)
 skip_step (suc d) s at ne lt e f = rw (sub-one, lt-ltb _ _ lt, ← e, f)
 
-pub value_none : (d : ℕ) (s run : List ℕ) (at : ℕ) → d ≡ 0 → value_at d s run at ≡ Evaluated.Stop Fault.OutOfRange
+pub value_none : (d : ℕ) (s run : List ℕ) (at : ℕ) → d ≡ 0 → value_at d s run at ≡ Err Fault.OutOfRange
 unfolding value_at
 value_none d s run at e = rw e
 
 pub value_past : (d : ℕ) (s run : List ℕ) (at : ℕ) → length s ≤ at
-    → value_at d s run at ≡ Evaluated.Stop Fault.OutOfRange
+    → value_at d s run at ≡ Err Fault.OutOfRange
 unfolding value_at
 value_past zero s run at le = refl
 value_past (suc d) s run at le = rw (le-ltb _ _ le)
@@ -59,3 +59,11 @@ pub value_step : (d : ℕ) (s run : List ℕ) (at : ℕ) {r k : Code} → (d ≡
 unfolding value_at
 value_step zero s run at ne lt e f = absurd (ne refl)
 value_step (suc d) s run at ne lt e f = rw (sub-one, lt-ltb _ _ lt, ← e, f)
+
+-- ── what a function is told at its steps ──
+
+pub ruleset check_steps = (check_none, check_past, check_step)
+
+pub ruleset skip_steps = (skip_none, skip_past, skip_step)
+
+pub ruleset value_steps = (value_none, value_past, value_step)

@@ -33,8 +33,8 @@ use Rattle.rules.specs.Values.{
 use Rattle.rules.specs.Stored.{stored_expression}
 use Rattle.operators.specs.declared.codes.Code.{Code}
 use Rattle.operators.specs.Codes.{code_of}
-use Rattle.packets.specs.declared.trees.Evaluated.{Evaluated}
-use Rattle.packets.specs.StoredTrees.{cursor, skip_at, placed, run_value, on_value, value_code, value_at}
+use Rattle.packets.specs.StoredTrees.{Evaluated, valued, cursor, skip_at, placed}
+use Rattle.packets.specs.StoredTrees.{run_value, on_value, value_code, value_at}
 use Rattle.packets.proofs.TreeSteps.{value_step}
 use Rattle.operators.proofs.CodeLaws.{code_number, code_field, code_not, code_two}
 use Rattle.packets.proofs.TreeComplete.{code_there, skip_stored}
@@ -42,7 +42,7 @@ use Rattle.packets.proofs.TreeComplete.{code_there, skip_stored}
 -- ── operands' values ──
 
 not_placed : (v : Value) (next : ℕ)
-    → on_value (placed v next) (λ x n. Evaluated.Value (yes_no (eqb x 0)) n) ≡ placed (opposite v) next
+    → on_value (placed v next) (λ x n. valued (yes_no (eqb x 0)) n) ≡ placed (opposite v) next
 not_placed (value x) next = refl
 not_placed (fault f) next = refl
 
@@ -54,13 +54,13 @@ right_placed o x (fault f) next = refl
 two_placed : (o : Op) (v w : Value) (mid next : ℕ) (val : ℕ → Evaluated) (skip : ℕ → ℕ)
     → val mid ≡ placed w next → skip mid ≡ next
     → on_value (placed v mid) (λ x m.
-    cond (decides o x) (Evaluated.Value x (cursor (skip m.at)))
+    cond (decides o x) (valued x (cursor (skip m.at)))
     (on_value (val m.at) (λ y n. placed (apply o x y) n.at)))
     ≡ placed (with_left apply o v w) next
 two_placed o (value x) w mid next val skip e f = go (decides o x)
   where
     go : (b : Bool)
-        → cond b (Evaluated.Value x (cursor (skip mid))) (on_value (val mid) (λ y n. placed (apply o x y) n.at))
+        → cond b (valued x (cursor (skip mid))) (on_value (val mid) (λ y n. placed (apply o x y) n.at))
         ≡ placed (cond b (value x) (with_right apply o x w)) next
     go true = rw f
     go false = rw e (right_placed o x w next)

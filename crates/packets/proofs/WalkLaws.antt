@@ -28,8 +28,8 @@ use Rattle.rules.specs.Within.{
 }
 use Rattle.rules.specs.Stored.{record_of, kind_number, field_body, stored_field, stored_field_in, records, records_in}
 use Rattle.laws.proofs.ReadsFields.{formed_parts}
-use Rattle.packets.specs.declared.tables.Walked.{Walked}
-use Rattle.packets.specs.declared.tables.Walked.TheVariants.{Past, Bad}
+use Rattle.std.specs.Prelude.{Option, Some, None}
+use Rattle.std.proofs.lemmas.Option.{none-some}
 use Rattle.packets.specs.Parts.{parts_at}
 use Rattle.packets.specs.PartsStand.{PartsStand}
 use Rattle.packets.specs.FieldTest.{trees_test, bounds_test, form_test, order_test, field_test, mark_of, bits_of}
@@ -52,34 +52,31 @@ use Rattle.packets.proofs.FieldOrder.{
 
 -- ── one step ──
 
-pub past_bad : (next : ℕ) → Bad ≡ Past next → ⊥
-past_bad next e = let z : ◌≡◌ {A = ℕ} 0 1 = cc in omega arith
-
 module _ (w n : ℕ) (marks : List ℕ) (place : ℕ) (ended : Bool) (s : List ℕ) (at next : ℕ) where
   abbrev own : List ℕ
   own = marks ++ (mark_of s (parts_at s at) ∷ [])
 
-  abbrev then : Walked
+  abbrev then : Option ℕ
   then =
       walk_at w n own (place + bits_of (parts_at s at)) (ended || eqb (parts_at s at).kind 14) s (parts_at s at).next
 
-  pub walk_parts : walk_at w (suc n) marks place ended s at ≡ Past next
+  pub walk_parts : walk_at w (suc n) marks place ended s at ≡ Some next
       → (field_test w place ended s at (parts_at s at) ≡ true) × (trees_test s marks own (parts_at s at) ≡ true)
-      × (then ≡ Past next)
+      × (then ≡ Some next)
   unfolding walk_at
   walk_parts h = go (field_test w place ended s at (parts_at s at) && trees_test s marks own (parts_at s at)) refl h
     where
       go : (b : Bool) → (field_test w place ended s at (parts_at s at) && trees_test s marks own (parts_at s at)) ≡ b
-          → cond b then Bad ≡ Past next
+          → cond b then None ≡ Some next
           → (field_test w place ended s at (parts_at s at) ≡ true) × (trees_test s marks own (parts_at s at) ≡ true)
-          × (then ≡ Past next)
+          × (then ≡ Some next)
       go true e f = (
         and_left (field_test w place ended s at (parts_at s at)) _ e,
         and_right
             (field_test w place ended s at (parts_at s at)) _ e,
         f,
       )
-      go false e f = absurd (past_bad next f)
+      go false e f = absurd (none-some next f)
 
   pub walk_passes : field_test w place ended s at (parts_at s at) ≡ true → trees_test s marks own (parts_at s at) ≡ true
       → walk_at w (suc n) marks place ended s at ≡ then
@@ -172,7 +169,7 @@ module _ (numbers : ℕ → ℕ) (k w n place : ℕ) (before : List (Field ℕ))
         ∙ and_both (fits_row w place f.width) _ row h.rows;
   }
 
-  walk_cons : ((b : List (Field ℕ)) (q a : ℕ) → walk_at w n (marks_of b) q (any is_rest b) s a ≡ Past next
+  walk_cons : ((b : List (Field ℕ)) (q a : ℕ) → walk_at w n (marks_of b) q (any is_rest b) s a ≡ Some next
       → KeptAt numbers (suc k) s n a
       → (l : List (Field ℕ)) × (length l ≡ n) × FieldsIn numbers (suc k) w b q s a next l)
       → (f : Field ℕ) → PartsStand s (parts_at s at) f
@@ -181,7 +178,7 @@ module _ (numbers : ℕ → ℕ) (k w n place : ℕ) (before : List (Field ℕ))
       → KeptAt numbers k s (suc n) at
       → order_test w place (any is_rest before) (parts_at s at) ≡ true
       → walk_at w n (marks_of before ++ (mark_of s (parts_at s at) ∷ [])) (place + bits_of (parts_at s at))
-      (any is_rest before || eqb (parts_at s at).kind 14) s (parts_at s at).next ≡ Past next
+      (any is_rest before || eqb (parts_at s at).kind 14) s (parts_at s at).next ≡ Some next
       → (l : List (Field ℕ)) × (length l ≡ suc n) × FieldsIn numbers k w before place s at next l
   unfolding places_from stored_field_in
   walk_cons rec f ps keeps st kept order h =
@@ -209,12 +206,12 @@ module _ (numbers : ℕ → ℕ) (k w n place : ℕ) (before : List (Field ℕ))
 
 pub walk_sound : (numbers : ℕ → ℕ) (k w n : ℕ) (before : List (Field ℕ)) (place : ℕ) (s : List ℕ) (at next : ℕ)
     → IsBytes s → KeptAt numbers k s n at
-    → walk_at w n (marks_of before) place (any is_rest before) s at ≡ Past next
+    → walk_at w n (marks_of before) place (any is_rest before) s at ≡ Some next
     → (l : List (Field ℕ)) × (length l ≡ n) × FieldsIn numbers k w before place s at next l
 unfolding walk_at first_break records_in rows_fit
 walk_sound numbers k w zero before place s at next b kept h = go (eqb (place % w) 0) refl h
   where
-    go : (x : Bool) → eqb (place % w) 0 ≡ x → cond x (Past at) Bad ≡ Past next
+    go : (x : Bool) → eqb (place % w) 0 ≡ x → cond x (Some at) None ≡ Some next
         → (l : List (Field ℕ)) × (length l ≡ 0) × FieldsIn numbers k w before place s at next l
     go true e f =
         let m : at ≡ next = cc in (
@@ -229,7 +226,7 @@ walk_sound numbers k w zero before place s at next b kept h = go (eqb (place % w
             rows = e;
           },
         )
-    go false e f = absurd (past_bad next f)
+    go false e f = absurd (none-some next f)
 walk_sound numbers k w (suc n) before place s at next b kept h =
     let p = parts_at s at in
     let ended = any is_rest before in
@@ -243,18 +240,18 @@ walk_sound numbers k w (suc n) before place s at next b kept h =
 -- ── complete ──
 
 walk_none : (w : ℕ) (marks : List ℕ) (place : ℕ) (ended : Bool) (s : List ℕ) (at next : ℕ) → rows_fit w place [] ≡ true
-    → next ≡ at → walk_at w 0 marks place ended s at ≡ Past next
+    → next ≡ at → walk_at w 0 marks place ended s at ≡ Some next
 unfolding walk_at rows_fit
 walk_none w marks place ended s at next r e = rw (r, e)
 
 pub walk_complete : (numbers : ℕ → ℕ) (k w : ℕ) (before : List (Field ℕ)) (place : ℕ) (s : List ℕ) (at next : ℕ)
     (l : List (Field ℕ)) → next ≤ length s → FieldsIn numbers k w before place s at next l
-    → walk_at w (length l) (marks_of before) place (any is_rest before) s at ≡ Past next
+    → walk_at w (length l) (marks_of before) place (any is_rest before) s at ≡ Some next
 unfolding records_in
 walk_complete numbers k w before place s at next [] le h = end h.rows h.stands.end
   where
     end : rows_fit w place [] ≡ true → next ≡ at + 0
-        → walk_at w 0 (marks_of before) place (any is_rest before) s at ≡ Past next
+        → walk_at w 0 (marks_of before) place (any is_rest before) s at ≡ Some next
     end r e = walk_none w (marks_of before) place (any is_rest before) s at next r (omega (arith, e))
 walk_complete numbers k w before place s at next (f ∷ l) le h =
     let p = parts_at s at in

@@ -13,12 +13,13 @@ use Rattle.base.specs.Lists.{joined, sum, first_break}
 use Rattle.laws.specs.Places.{Stands, two_at}
 use Rattle.base.proofs.Breaks.{first_break_cons}
 use Rattle.laws.proofs.Places.{stands_left, stands_right}
-use Rattle.rules.specs.declared.PacketAnswer.{PacketAnswer}
+use Rattle.std.specs.Prelude.{Ok, Err}
+use Rattle.rules.specs.declared.PacketRefusal.{PacketRefusal}
 use Rattle.rules.specs.Fields.{Field, Description, fixed_bits}
 use Rattle.rules.specs.Within.{keeps_form, keeps_size, keeps_types, index_readable, Within}
 use Rattle.rules.specs.References.{readers}
 use Rattle.rules.specs.Stored.{stored_field, records, records_in, stored}
-use Rattle.rules.specs.Answers.{of_packet}
+use Rattle.rules.specs.Answers.{of_packet, PacketAnswer}
 use Rattle.rules.specs.Reading.{
   Entry,
   Step,
@@ -104,13 +105,13 @@ pub record WalkHolds (packet : List ℕ) (n : ℕ) (got : Reading) (es : List En
 
 at_end : (packet : List ℕ) (entries : List Entry) (run : List ℕ) (place : ℕ) → Begins run entries → (x : Bool)
     → eqb place (bit_total packet) ≡ x
-    → of_packet (cond x (PacketAnswer.Accepted place) PacketAnswer.LeftOver)
+    → of_packet (cond x (Ok place) (Err PacketRefusal.LeftOver))
     ≡ reading_answer (cond x (complete entries) left_over) packet
 unfolding of_packet reading_answer
 at_end packet entries run place b true e = rw (eqb-true place (bit_total packet) e)
 at_end packet entries run place b false e = refl
 
-end_count : (x : Bool) (place n : ℕ) → count_in (cond x (PacketAnswer.Accepted place) PacketAnswer.LeftOver) n ≡ n
+end_count : (x : Bool) (place n : ℕ) → count_in (cond x (Ok place) (Err PacketRefusal.LeftOver)) n ≡ n
 unfolding count_in
 end_count true place n = refl
 end_count false place n = refl
@@ -222,7 +223,8 @@ module _ (d : Description) (s packet run : List ℕ) (r : PacketAnswer) (after :
         front = λ es q. rw (complete_before packet d.fields [] 0 es q) at h.begins.front;
       })
 
-  pub run_long : packet_most < length packet → r ≡ PacketAnswer.TooLong → RunHolds (reading d packet) packet r after
+  pub run_long : packet_most < length packet → r ≡ Err PacketRefusal.TooLong
+      → RunHolds (reading d packet) packet r after
   unfolding reading_in of_packet reading_answer
   run_long lt is =
       let far : ltb packet_most (length packet) ≡ true = lt-ltb packet_most (length packet) lt in

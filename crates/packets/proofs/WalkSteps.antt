@@ -9,7 +9,7 @@ use lib.Dec.{eqb}
 use lib.ListN.{length, take, set}
 use lib.Seq.{take-suc-set, take-set-le}
 use Rattle.rules.specs.Names.{is_short}
-use Rattle.packets.specs.declared.tables.Walked.TheVariants.{Past, Bad}
+use Rattle.std.specs.Prelude.{Some, None}
 use Rattle.packets.specs.declared.records.Parts.{Parts}
 use Rattle.packets.specs.Parts.{parts_at}
 use Rattle.packets.specs.FieldTest.{bytes_in, trees_test, field_test, mark_by, mark_of, bits_of}
@@ -28,12 +28,12 @@ module _ (w n i : ℕ) (marks : List ℕ) (place : ℕ) (ended : Bool) (s : List
   own = marks ++ (mark_of s (parts_at s at) ∷ [])
 
   pub walk_field : i < n → field_test w place ended s at (parts_at s at) ≡ false
-      → walk_at w (n - i) marks place ended s at ≡ Bad
+      → walk_at w (n - i) marks place ended s at ≡ None
   unfolding walk_at
   walk_field lt e = let m : n - i ≡ suc (n - (i + 1)) = omega arith in rw (m, e)
 
   pub walk_trees : i < n → field_test w place ended s at (parts_at s at) ≡ true
-      → trees_test s marks own (parts_at s at) ≡ false → walk_at w (n - i) marks place ended s at ≡ Bad
+      → trees_test s marks own (parts_at s at) ≡ false → walk_at w (n - i) marks place ended s at ≡ None
   unfolding walk_at
   walk_trees lt e f = let m : n - i ≡ suc (n - (i + 1)) = omega arith in rw (m, e, f)
 
@@ -45,7 +45,7 @@ module _ (w n i : ℕ) (marks : List ℕ) (place : ℕ) (ended : Bool) (s : List
   unfolding walk_at
   walk_on lt e f = let m : n - i ≡ suc (n - (i + 1)) = omega arith in rw (m, e, f)
 
-  pub walk_end : n ≤ i → walk_at w (n - i) marks place ended s at ≡ cond (eqb (place % w) 0) (Past at) Bad
+  pub walk_end : n ≤ i → walk_at w (n - i) marks place ended s at ≡ cond (eqb (place % w) 0) (Some at) None
   unfolding walk_at
   walk_end le = let m : n - i ≡ 0 = omega arith in rw m
 

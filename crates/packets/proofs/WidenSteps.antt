@@ -5,11 +5,12 @@ use mathlib.Core.List.{List, ◌++◌, append_assoc}
 use mathlib.Core.Option.{Option, none, some, map}
 use Prim.Native.Nat.{ℕ, suc, ◌+◌, ◌-◌, ◌*◌, ◌<◌, ◌≤◌}
 use native.Mathlib.Omega.{arith}
-use native.Mathlib.Nat.{add-zero, sub-zero}
+use native.Mathlib.Nat.{sub-zero}
 use lib.ListN.{length, take, drop, get_or, length-append, length-drop}
 use lib.Seq.{take_all, length-take-le, get_or-drop, drop-drop}
-use borrow.Author.Tests.{le-leb, lt-leb}
-use Rattle.base.specs.Lists.{between}
+use borrow.Author.Tests.{leb-true}
+use lib.Dec.{leb}
+use Rattle.base.proofs.Lists.{and_left, and_right}
 use Rattle.laws.specs.Places.{two_at}
 use Rattle.laws.proofs.PlacesOfNumbers.{length_le2}
 use Rattle.rules.specs.Trees.{le2}
@@ -17,7 +18,7 @@ use Rattle.writing.specs.Writes.{Writes}
 use Rattle.writing.specs.Puts.{placed, put}
 use Rattle.writing.proofs.PutLaws.{put_writes}
 use Rattle.writing.proofs.Writing.{writes_join}
-use Rattle.packets.specs.declared.conversions.Widened.TheVariants.{Bytes, Bad}
+use Rattle.std.specs.Prelude.{Some, None}
 use Rattle.packets.specs.Conversions.{widened, is_old, widen_from, widen_table, WidensTo}
 
 -- ── one record ──
@@ -65,65 +66,50 @@ two_there s a b =
     (get_or-drop a s (b + 1) 0 ∙ ap (λ (i : ℕ). get_or s i 0) e)
 
 pub widen_start : (table out after : List ℕ) (n head to : ℕ) → n ≡ two_at table 6 → head ≡ two_at table 0
-    → head ≤ length table → head ≤ length out → placed to after ≡ put out 0 (take (head - 0) table)
+    → head ≤ length table → head ≤ length out → placed to after ≡ put out 0 (take head table)
     → (to ≡ head) × (length after ≡ length out) × Widening table n 0 head after to
 unfolding widen_table
 widen_start table out after n head to a b le room e =
-    let e' : placed to after ≡ put out 0 (take head table) = rw (sub-zero head) at e in
     let size = length-take-le head table le in
-    let w = put_writes (omega (arith, size, room)) e' in
+    let w = put_writes (omega (arith, size, room)) e in
     let front : take to after ≡ take head table = w.text in (
       omega (arith, w.end, size),
       w.kept,
       rw (front, sub-zero n, a, b) refl,
     )
 
--- the record at a place, of which the size is known
-module _ (table : List ℕ) (n i at : ℕ) (out : List ℕ) (to : ℕ) (h : Widening table n i at out to) (lt : i < n)
-    (here : ℕ) (is : here ≡ two_at table at) where
+-- an old record has at least four bytes, and lies within
+pub old_size : (s : List ℕ) → is_old s ≡ true → (4 ≤ two_at s 0) × (two_at s 0 ≤ length s)
+old_size s h =
+    let r = and_right (leb 4 (two_at s 0)) _ h in
+    (leb-true _ _ (and_left (leb 4 (two_at s 0)) _ h), leb-true _ _ (and_left (leb (two_at s 0) (length s)) _ r))
+
+-- the bytes from a place on
+pub behind : (table : List ℕ) (at : ℕ) → take (length table - at) (drop at table) ≡ drop at table
+behind table at = take_all (length table - at) (drop at table) (omega (arith, length-drop at table))
+
+module _ (table : List ℕ) (n i at : ℕ) (out : List ℕ) (to : ℕ) (h : Widening table n i at out to) (lt : i < n) where
   abbrev s : List ℕ
   s = drop at table
 
   one_more : n - i ≡ suc (n - (i + 1))
   one_more = omega arith
 
-  size_is : two_at s 0 ≡ here
-  size_is = two_there table at 0 ∙ ap (two_at table) (add-zero at) ∙ sym is
-
   -- bytes that are no old record
-  none_here : is_old s ≡ false → widen_table table ≡ none
+  pub widen_bad : is_old s ≡ false → WidensTo (widen_table table) None out
   unfolding widen_from
-  none_here e = h ∙ rw (one_more, e) refl
+  widen_bad e = let none_here : widen_table table ≡ none = h ∙ rw (one_more, e) refl in rw none_here tt
 
-  pub widen_less : here < 4 → WidensTo (widen_table table) Bad out
-  widen_less less = rw (none_here (rw (size_is, lt-leb 4 here less) refl)) tt
-
-  pub widen_over : 4 ≤ here → length table - at < here → at ≤ length table → WidensTo (widen_table table) Bad out
-  widen_over le over in_table =
-      let long : length s < here = omega (arith, length-drop at table, over) in
-      rw (none_here (rw (size_is, le-leb 4 here le, lt-leb here (length s) long) refl)) tt
-
-  pub widen_kind : (kind : ℕ) → kind ≡ two_at table (at + 2) → 4 ≤ here → here ≤ length table - at → at ≤ length table
-      → between 2 kind 4 ≡ false → WidensTo (widen_table table) Bad out
-  widen_kind kind k le fits in_table e =
-      let long : here ≤ length s = omega (arith, length-drop at table, fits) in
-      let there : two_at s 2 ≡ kind = two_there table at 2 ∙ sym k in
-      rw (none_here (rw (size_is, there, le-leb 4 here le, le-leb here (length s) long, e) refl)) tt
-
-  pub widen_next : (kind : ℕ) → kind ≡ two_at table (at + 2) → 4 ≤ here → here ≤ length table - at
-      → at ≤ length table → between 2 kind 4 ≡ true → (after : List ℕ) (next : ℕ)
-      → Writes out to (widened (take (at + here - at) s)) after next
-      → Widening table n (i + 1) (at + here) after next
+  pub widen_next : (t r : List ℕ) → t ≡ drop at table → is_old t ≡ true → r ≡ take (two_at t 0) t → (after : List ℕ)
+      (next : ℕ) → Writes out to (widened r) after next → Widening table n (i + 1) (at + length r) after next
   unfolding widen_from
-  widen_next kind k le fits in_table e after next w =
-      let long : here ≤ length s = omega (arith, length-drop at table, fits) in
-      let z : at + here - at ≡ here = omega arith in
-      let there : two_at s 2 ≡ kind = two_there table at 2 ∙ sym k in
-      let ok : is_old s ≡ true =
-      rw (size_is, there, le-leb 4 here le, le-leb here (length s) long, e) refl in
-      let text : take next after ≡ take to out ++ widened (take here s) = rw z at w.text in
-      h ∙ rw (one_more, ok, size_is, drop-drop here at table, text)
-      (go (take to out) (widened (take here s)) (widen_from (n - (i + 1)) (drop (at + here) table)))
+  widen_next t r e ok is after next w =
+      let old : is_old s ≡ true = rw e at ok in
+      let here = two_at s 0 in
+      let size = length-take-le here s (old_size s old).1 in
+      let part : r ≡ take here s = rw e at is in
+      rw (part, size) (h ∙ rw (one_more, old, drop-drop here at table, rw part at w.text)
+      (go (take to out) (widened (take here s)) (widen_from (n - (i + 1)) (drop (at + here) table))))
     where
       go : (a b : List ℕ) (x : Option (List ℕ))
           → map (λ (l : List ℕ). a ++ l) (map (λ (l : List ℕ). b ++ l) x)
@@ -131,17 +117,10 @@ module _ (table : List ℕ) (n i at : ℕ) (out : List ℕ) (to : ℕ) (h : Wide
       go a b none = refl
       go a b (some l) = ap some (sym (append_assoc a b l))
 
--- the length of a record's part
-pub part_size : (table : List ℕ) (at n : ℕ) → n ≤ length table - at → at ≤ length table
-    → length (take (at + n - at) (drop at table)) ≡ n
-part_size table at n le in_table =
-    let z : at + n - at ≡ n = omega arith in
-    rw z (length-take-le n (drop at table) (omega (arith, length-drop at table, le)))
-
 pub widen_done : (table : List ℕ) (n i at : ℕ) (out after : List ℕ) (to end : ℕ) → Widening table n i at out to
     → n ≤ i → to ≤ length out → to + length (drop at table) ≤ length out → at ≤ length table
     → placed end after ≡ put out to (take (length table - at) (drop at table))
-    → WidensTo (widen_table table) (Bytes end) after
+    → WidensTo (widen_table table) (Some end) after
 unfolding widen_from
 widen_done table n i at out after to end h le fits room in_table e =
     let z : n - i ≡ 0 = omega arith in

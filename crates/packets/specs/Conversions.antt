@@ -1,7 +1,7 @@
 -- Old tables with a number put into each record. This mirrors the code of src/conversions.rt: no public promise rests
 -- on this file.
 use Rattle.std.specs.Prelude.{◌≡◌, Bool, true, false, cond, ◌&&◌, List, ◌++◌, ℕ, zero, suc, ◌+◌, ◌*◌, leb, ltb}
-use Rattle.std.specs.Prelude.{length, take, drop}
+use Rattle.std.specs.Prelude.{length, take, drop, Option as Returned, Some, None}
 use Rattle.std.proofs.Math.Option.{Option, none, some, map}
 use Rattle.base.specs.Lists.{between}
 use Rattle.laws.specs.Places.{two_at}
@@ -12,8 +12,6 @@ use Rattle.rules.specs.Fields.{Description}
 use Rattle.rules.specs.Within.{Within}
 use Rattle.rules.specs.Stored.{stored_with, stored}
 use Rattle.references.specs.declared.scans.Wanted.TheVariants.{Added}
-use Rattle.packets.specs.declared.conversions.Widened.{Widened}
-use Rattle.packets.specs.declared.conversions.Widened.TheVariants.{Bytes, Bad}
 use Rattle.packets.specs.Expressions.{having_from}
 
 -- no old good table is longer, nor what it becomes
@@ -46,11 +44,11 @@ unfoldable pub widen_table : List ℕ → Option (List ℕ)
 widen_table s = map (λ (l : List ℕ). take (two_at s 0) s ++ l) (widen_from (two_at s 6) (drop (two_at s 0) s))
 
 -- the bytes that a buffer begins with, if there are any
-abbrev pub WidensTo : Option (List ℕ) → Widened → List ℕ → Type 0
-WidensTo none (Bytes n) after = ⊥
-WidensTo none Bad after = Unit {0}
-WidensTo (some w) (Bytes n) after = (take n after ≡ w) × (n ≡ length w)
-WidensTo (some w) Bad after = ⊥
+abbrev pub WidensTo : Option (List ℕ) → Returned ℕ → List ℕ → Type 0
+WidensTo none (Some n) after = ⊥
+WidensTo none None after = Unit {0}
+WidensTo (some w) (Some n) after = (take n after ≡ w) × (n ≡ length w)
+WidensTo (some w) None after = ⊥
 
 -- ── the true numbers ──
 

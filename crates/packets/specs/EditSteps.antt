@@ -1,5 +1,6 @@
 -- What the code that cuts fields out and puts them in goes by. No public promise rests on this file.
 use Rattle.std.specs.Prelude.{◌≡◌, true, false, List, ◌++◌, ℕ, ◌+◌, ◌-◌, ◌≤◌, length, take, drop}
+use Rattle.std.specs.Prelude.{Option, Some, None}
 use Rattle.std.proofs.Math.Option.{none}
 use Rattle.base.specs.Lists.{is_empty}
 use Rattle.laws.specs.Records.{whole}
@@ -12,8 +13,6 @@ use Rattle.rules.specs.Within.{Within}
 use Rattle.rules.specs.Stored.{stored_with, stored, Good}
 use Rattle.rules.specs.Answers.{refused}
 use Rattle.rules.specs.Promises.{Outcome, leaves, delivered, is_run}
-use Rattle.packets.specs.declared.edits.Counted.{Counted}
-use Rattle.packets.specs.declared.edits.Counted.TheVariants.{Records, Bad}
 use Rattle.packets.specs.Parts.{table_most}
 
 -- the start of a table, up to a place behind its first record, with another number of fields
@@ -34,9 +33,9 @@ pub record MayCut (table : List ℕ) (first last : ℕ) : Type 0 where
   pub unread : first_reader first last good.description.fields ≡ none
 
 -- the number of records, at most so many; or there is no such number
-abbrev pub CountsTo : List ℕ → ℕ → Counted → Type 0
-CountsTo s most (Records k) = (whole k s ≡ true) × (k ≤ most)
-CountsTo s most Bad = (k : ℕ) → k ≤ most → whole k s ≡ true → ⊥
+abbrev pub CountsTo : List ℕ → ℕ → Option ℕ → Type 0
+CountsTo s most (Some k) = (whole k s ≡ true) × (k ≤ most)
+CountsTo s most None = (k : ℕ) → k ≤ most → whole k s ≡ true → ⊥
 
 -- k records and a place for them
 pub record MayPut (table : List ℕ) (at k : ℕ) (bytes : List ℕ) : Type 0 where

@@ -11,7 +11,7 @@ use Rattle.writing.specs.declared.spans.Span.{Span}
 use Rattle.rules.specs.Limits.{depth_most, stored_most, fixed_most}
 use Rattle.packets.specs.declared.records.Parts.{Parts}
 use Rattle.packets.specs.declared.trees.Checked.{Checked}
-use Rattle.packets.specs.declared.trees.Checked.TheVariants.{Tree, Bad}
+use Rattle.packets.specs.declared.trees.Checked.TheVariants.{Typed, Bad}
 use Rattle.packets.specs.StoredTrees.{check_at}
 use Rattle.packets.specs.Parts.{ending}
 
@@ -31,7 +31,7 @@ pub record Inside (s : List ℕ) (p : Parts) : Type 0 where
 
 -- the answer is a tree of the type that ends there
 abbrev pub ends_as : ValueType → ℕ → Checked → Bool
-ends_as k end (Tree j next) = same_type j k && eqb next.at end
+ends_as k end (Typed j next) = same_type j k && eqb next.at end
 ends_as k end Bad = false
 
 unfoldable pub tree_test : List ℕ → List ℕ → ValueType → Span → Bool

@@ -1,23 +1,25 @@
 -- One field of a packet by its record and the run so far. This mirrors the code: no public promise rests on this file.
-use Rattle.std.specs.Prelude.{cond, List, ℕ, zero, suc, ◌+◌, ltb, leb, eqb}
-use Rattle.rules.specs.declared.Fault.TheVariants.{BitsMissing, OutOfRange}
+use Rattle.std.specs.Prelude.{cond, List, ℕ, zero, suc, ◌+◌, ltb, leb, eqb, Result, Ok, Err}
+use Rattle.rules.specs.declared.Fault.{Fault}
+use Rattle.rules.specs.declared.Fault.TheVariants.{BitsMissing}
 use Rattle.rules.specs.Values.{Value, value, fault}
 use Rattle.rules.specs.Reading.{Entry, absent, Step, step, stop, and_then, scaled, remainder, bit_total, bits_at}
 use Rattle.writing.specs.declared.spans.Span.{Span}
 use Rattle.rules.specs.Limits.{depth_most, fixed_most}
 use Rattle.packets.specs.declared.records.Parts.{Parts}
-use Rattle.packets.specs.declared.trees.Evaluated.{Evaluated}
-use Rattle.packets.specs.declared.steps.Got.{Got}
 use Rattle.packets.specs.declared.steps.Numbers.{Numbers}
-use Rattle.packets.specs.declared.steps.Found.{Found}
 use Rattle.packets.specs.Parts.{table_most, parts_at}
-use Rattle.packets.specs.StoredTrees.{value_at}
+use Rattle.packets.specs.StoredTrees.{Evaluated, value_at}
 
 -- ── answers of the code ──
 
+-- a number, or the fault of finding it
+abbrev pub Got : Type 0
+Got = Result ℕ Fault
+
 abbrev pub got_of : Value → Got
-got_of (value n) = Got.Value n
-got_of (fault f) = Got.Stop f
+got_of (value n) = Ok n
+got_of (fault f) = Err f
 
 abbrev pub numbers_in : Entry → Numbers
 numbers_in e = record { present = e.present; offset = e.offset; width = e.width; value = e.value }
@@ -25,18 +27,16 @@ numbers_in e = record { present = e.present; offset = e.offset; width = e.width;
 abbrev pub entry_in : Numbers → Entry
 entry_in e = record { present = e.present; offset = e.offset; width = e.width; value = e.value }
 
+-- a field's numbers with the place behind it, or its fault
+abbrev pub Found : Type 0
+Found = Result (Numbers × ℕ) Fault
+
+abbrev pub field : Numbers → ℕ → Found
+field e next = Ok (e, next)
+
 abbrev pub found_of : Step → Found
-found_of (step e next) = Found.Field (numbers_in e) next
-found_of (stop f) = Found.Stop f
-
--- the fault of what was not found
-abbrev pub stopped_of : Got → Found
-stopped_of (Got.Value n) = Found.Stop OutOfRange
-stopped_of (Got.Stop f) = Found.Stop f
-
-abbrev pub fault_of : Evaluated → Got
-fault_of (Evaluated.Value n next) = Got.Stop OutOfRange
-fault_of (Evaluated.Stop f) = Got.Stop f
+found_of (step e next) = field (numbers_in e) next
+found_of (stop f) = Err f
 
 -- ── records ──
 
@@ -57,8 +57,8 @@ later_bits (suc n) s at = fixed_of (record_at s at) + later_bits n s (record_at 
 -- ── trees ──
 
 abbrev pub value_of : Evaluated → Value
-value_of (Evaluated.Value n next) = value n
-value_of (Evaluated.Stop f) = fault f
+value_of (Ok r) = value r.0
+value_of (Err f) = fault f
 
 unfoldable pub tree_value : List ℕ → List ℕ → ℕ → Value
 tree_value s run at = value_of (value_at depth_most s run at)

@@ -1,15 +1,15 @@
 -- The fields of a packet in order, by a table's records. This mirrors the code: no public promise rests on this file.
-use Rattle.std.specs.Prelude.{◌≡◌, cond, List, ℕ, zero, suc, ◌+◌, ◌*◌, eqb, set}
+use Rattle.std.specs.Prelude.{◌≡◌, cond, List, ℕ, zero, suc, ◌+◌, ◌*◌, eqb, set, Ok, Err}
 use Rattle.laws.specs.Places.{two_at}
 use Rattle.rules.specs.declared.Fault.{Fault}
 use Rattle.rules.specs.declared.Fault.TheVariants.{ConstraintFalse}
-use Rattle.rules.specs.declared.PacketAnswer.{PacketAnswer}
+use Rattle.rules.specs.declared.PacketRefusal.{PacketRefusal}
+use Rattle.rules.specs.Answers.{PacketAnswer}
 use Rattle.rules.specs.Reading.{Entry, Step, step, stop, and_then, bit_total}
 use Rattle.writing.specs.declared.spans.Span.{Span}
 use Rattle.packets.specs.declared.records.Parts.{Parts}
 use Rattle.packets.specs.declared.steps.Numbers.{Numbers}
-use Rattle.packets.specs.declared.steps.Found.{Found}
-use Rattle.packets.specs.Steps.{numbers_in, found_of, record_at, holds_at, field_step}
+use Rattle.packets.specs.Steps.{Found, numbers_in, found_of, record_at, holds_at, field_step}
 
 -- ── one field ──
 
@@ -56,12 +56,12 @@ walk_all s packet run = walk_from s packet (two_at s 6) 0 run 0 (two_at s 0)
 
 unfoldable pub walk_answer : List ℕ → Walk → PacketAnswer
 walk_answer packet (ended run place) =
-    cond (eqb place (bit_total packet)) (PacketAnswer.Accepted place) PacketAnswer.LeftOver
-walk_answer packet (stopped f k run) = PacketAnswer.Refused f k
+    cond (eqb place (bit_total packet)) (Ok place) (Err PacketRefusal.LeftOver)
+walk_answer packet (stopped f k run) = Err (PacketRefusal.Field f k)
 
 abbrev pub refused_of : Found → ℕ → PacketAnswer
-refused_of (Found.Stop f) k = PacketAnswer.Refused f k
-refused_of (Found.Field e next) k = PacketAnswer.LeftOver
+refused_of (Err f) k = Err (PacketRefusal.Field f k)
+refused_of (Ok r) k = Err PacketRefusal.LeftOver
 
 -- the run after a walk
 abbrev pub walk_run : Walk → List ℕ

@@ -8,12 +8,9 @@ fn bytes_at(packet: &[u8], first: usize, m: usize) -> u64
     requires { (m ≤ 5) × (first + m ≤ length packet.now) }
     ensures { result ≡ bits_at packet.now (8 * first) (8 * m) }
 {
-    let mut v: u64 = 0;
-    let mut i = 0;
-    while i < m {
-        let b = packet[first + i] as u64;
-        v = 256 * v + b;
-        i += 1;
+    let mut v = 0;
+    for &b in &packet[first..first + m] {
+        v = 256 * v + u64::from(b);
     }
     v
 }

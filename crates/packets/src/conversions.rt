@@ -1,7 +1,6 @@
 // Old tables, whose records keep no number, converted.
-ghost use Rattle.std.specs.Prelude.{◌≡◌, true, ◌+◌, ◌≤◌, length};
+ghost use Rattle.std.specs.Prelude.{◌≡◌, true, ◌+◌, ◌≤◌, length, take, is_some, IfSome};
 ghost use Rattle.std.proofs.Math.Option.{some};
-ghost use Rattle.base.specs.Lists.{between};
 ghost use Rattle.laws.specs.Places.{two_at};
 ghost use Rattle.rules.specs.Answers.{of_conversion};
 ghost use Rattle.rules.specs.Promises.{leaves, ConvertsTable};
@@ -11,6 +10,7 @@ ghost use Rattle.packets.specs.Conversions.{
   old_most,
   widened_most,
   widened,
+  is_old,
   widen_table,
   WidensTo,
   adds_any,
@@ -20,7 +20,7 @@ use crate::expressions::first_having;
 use crate::records::two_at;
 use crate::tables::{is_head, number_table};
 use references::scans::Wanted;
-use rules::{ConversionAnswer, LABEL_MOST, RECORD_MOST};
+use rules::{ConversionAnswer, ConversionRefusal, LABEL_MOST, RECORD_MOST};
 use writing::delivery::deliver;
 use writing::puts::{put, put_two};
 
@@ -31,20 +31,18 @@ const OLD_MOST: usize = 14 + LABEL_MOST + (RECORD_MOST - 2) * OLD_FIELDS;
 
 const WIDENED_MOST: usize = OLD_MOST + 2 * OLD_FIELDS;
 
-// How many bytes were written, or that records do not stand as old ones do.
-#[derive(Clone, Copy)]
-pub(crate) enum Widened {
-    Bytes(usize),
-    Bad,
-}
-
-fn is_old_kind(kind: usize) -> bool
-    ensures { result ≡ between 2 kind 4 }
+// The old record that stands in front.
+fn old_record(s: &[u8]) -> Option<&[u8]>
+    ensures variant { is_some result ≡ is_old s.now }
+    ensures record { IfSome result (λ r. r.now ≡ take (two_at s.now 0) s.now) }
 {
-    if kind < 2 {
-        return false;
+    let size = two_at(s, 0);
+    let kind = two_at(s, 2);
+    if 4 <= size && size <= s.len() && 2 <= kind && kind <= 4 {
+        Some(&s[..size])
+    } else {
+        None
     }
-    kind <= 4
 }
 
 // An old record with the number 0.
@@ -60,43 +58,31 @@ fn put_record(out: &mut [u8], to: usize, old: &[u8]) -> usize
     put(out, number, &old[4..])
 }
 
-// An old table with the number 0 in each record, where its records stand as they should.
-fn widen(table: &[u8], out: &mut [u8]) -> Widened
+// How many bytes there are of an old table with the number 0 in each record, where its records stand as they should.
+fn widen(table: &[u8], out: &mut [u8]) -> Option<usize>
     requires { (head_test table.now ≡ true) × (two_at table.now 6 ≤ 64) × (length table.now ≤ old_most)
         × (widened_most ≤ length out.old) }
     ensures { WidensTo (widen_table table.now) result out.new }
 {
     let n = two_at(table, 6);
     let head = two_at(table, 0);
-    let mut to = put(out, 0, &table[0..head]);
+    let mut to = put(out, 0, &table[..head]);
     let mut at = head;
-    let mut i = 0;
-    while i < n {
-        let size = two_at(table, at);
-        if size < 4 {
-            return Widened::Bad;
-        }
-        if table.len() - at < size {
-            return Widened::Bad;
-        }
-        if !is_old_kind(two_at(table, at + 2)) {
-            return Widened::Bad;
-        }
-        let next = at + size;
-        to = put_record(out, to, &table[at..next]);
-        at = next;
-        i += 1;
+    // Two places move on at once, and the first record that does not stand ends it all.
+    for _ in 0..n {
+        let record = old_record(&table[at..])?;
+        to = put_record(out, to, record);
+        at += record.len();
     }
-    let end = put(out, to, &table[at..]);
-    Widened::Bytes(end)
+    Some(put(out, to, &table[at..]))
 }
 
 // Some expression of the fields has an operator that the old rules do not know.
+#[tactic(auto, using(crate::proofs::HavingLaws::some_is))]
 fn adds_operators(table: &[u8]) -> bool
     ensures { result ≡ adds_any table.now }
 {
-    let n = two_at(table, 6);
-    first_having(table, Wanted::Added) < n
+    first_having(table, Wanted::Added).is_some()
 }
 
 // What a table was widened to: it gets the true numbers and is delivered.
@@ -107,15 +93,15 @@ fn finish(table: &[u8], new: &mut [u8], out: &mut [u8]) -> ConversionAnswer
         out.new) }
 {
     if !number_table(new) {
-        return ConversionAnswer::NotGood;
+        return Err(ConversionRefusal::NotGood);
     }
     if adds_operators(new) {
-        return ConversionAnswer::NotGood;
+        return Err(ConversionRefusal::NotGood);
     }
     if deliver(out, new) {
-        return ConversionAnswer::Converted(new.len());
+        return Ok(new.len());
     }
-    ConversionAnswer::NoRoom
+    Err(ConversionRefusal::NoRoom)
 }
 
 // A table with a right head and at most 64 fields, with room for what it becomes.
@@ -125,10 +111,10 @@ fn convert_by(table: &[u8], scratch: &mut [u8], out: &mut [u8]) -> ConversionAns
     ensures { ConvertsTable table.now out.old (leaves (of_conversion result)
         out.new) }
 {
-    let Widened::Bytes(size) = widen(table, scratch) else {
-        return ConversionAnswer::NotGood;
+    let Some(size) = widen(table, scratch) else {
+        return Err(ConversionRefusal::NotGood);
     };
-    finish(table, &mut scratch[0..size], out)
+    finish(table, &mut scratch[..size], out)
 }
 
 // An old good table becomes the table of the same description, at the output's start.
@@ -137,13 +123,13 @@ pub fn convert_table(table: &[u8], out: &mut [u8]) -> ConversionAnswer
         out.new) }
 {
     if OLD_MOST < table.len() {
-        return ConversionAnswer::NotGood;
+        return Err(ConversionRefusal::NotGood);
     }
     if !is_head(table) {
-        return ConversionAnswer::NotGood;
+        return Err(ConversionRefusal::NotGood);
     }
     if OLD_FIELDS < two_at(table, 6) {
-        return ConversionAnswer::NotGood;
+        return Err(ConversionRefusal::NotGood);
     }
     let mut scratch = [0u8; WIDENED_MOST];
     convert_by(table, &mut scratch, out)

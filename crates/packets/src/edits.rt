@@ -13,16 +13,9 @@ use crate::shifts::renumber_from;
 use crate::tables::{check_table, number_table};
 use references::renumbering::Shift;
 use references::scans::Wanted;
-use rules::{EditAnswer, FIELDS_MOST, TABLE_MOST, TableAnswer};
+use rules::{EditAnswer, EditRefusal, FIELDS_MOST, TABLE_MOST};
 use writing::delivery::deliver;
 use writing::puts::{put, put_two};
-
-// How many records there are, or that bytes are no whole records, or too many.
-#[derive(Clone, Copy)]
-pub(crate) enum Counted {
-    Records(usize),
-    Bad,
-}
 
 // The start of a table, up to a place behind its first record, with another number of fields.
 fn put_start(out: &mut [u8], table: &[u8], end: usize, count: usize) -> usize
@@ -39,12 +32,12 @@ fn deliver_new(new: &mut [u8], out: &mut [u8]) -> EditAnswer
     ensures { Judged new.old out.old (leaves (of_edit result) out.new) }
 {
     if !number_table(new) {
-        return EditAnswer::BeyondLimits;
+        return Err(EditRefusal::BeyondLimits);
     }
     if deliver(out, new) {
-        return EditAnswer::Edited(new.len());
+        return Ok(new.len());
     }
-    EditAnswer::NoRoom
+    Err(EditRefusal::NoRoom)
 }
 
 // The table without a run that may be cut.
@@ -60,11 +53,7 @@ fn cut_by(table: &[u8], first: usize, last: usize, scratch: &mut [u8], out: &mut
     let next = place_behind(table, last + 1);
     let to = put_start(scratch, table, start, n - by);
     let size = put(scratch, to, &table[next..]);
-    let shift = Shift {
-        from: first,
-        by,
-        up: false,
-    };
+    let shift = Shift::Down { from: first, by };
     renumber_from(scratch, head, n - by, shift);
     deliver_new(&mut scratch[0..size], out)
 }
@@ -74,47 +63,35 @@ pub fn cut_fields(table: &[u8], first: usize, last: usize, out: &mut [u8]) -> Ed
     ensures { CutsFields table.now first last out.old (leaves (of_edit result)
         out.new) }
 {
-    let checked = check_table(table);
-    let TableAnswer::Good(size) = checked else {
-        return EditAnswer::NotGood;
-    };
+    check_table(table)?;
     let n = two_at(table, 6);
-    if last < first {
-        return EditAnswer::NoFields;
+    if last < first || n <= last {
+        return Err(EditRefusal::NoFields);
     }
-    if n <= last {
-        return EditAnswer::NoFields;
-    }
-    let reader = first_having(table, Wanted::Run(first, last));
-    if reader < n {
-        return EditAnswer::StillRead(reader + 1);
+    if let Some(reader) = first_having(table, Wanted::Run(first, last)) {
+        return Err(EditRefusal::StillRead(reader + 1));
     }
     let mut scratch = [0u8; TABLE_MOST];
     cut_by(table, first, last, &mut scratch, out)
 }
 
-// The number of records in bytes, by their lengths, if there are at most so many.
-fn count_records(records: &[u8], most: usize) -> Counted
+// The number of records in bytes, by their lengths, if they are whole and there are at most so many. By `while`: a
+// record that is not whole ends it with none.
+fn count_records(records: &[u8], most: usize) -> Option<usize>
     requires { length records.now ≤ table_most }
     ensures { CountsTo records.now most result }
 {
     let mut at = 0;
     let mut k = 0;
     while at < records.len() {
-        if most <= k {
-            return Counted::Bad;
-        }
         let size = two_at(records, at);
-        if size < 6 {
-            return Counted::Bad;
-        }
-        if records.len() - at < size {
-            return Counted::Bad;
+        if most <= k || size < 6 || records.len() - at < size {
+            return None;
         }
         at += size;
         k += 1;
     }
-    Counted::Records(k)
+    Some(k)
 }
 
 // The table with k records before the field of an index, or at the end.
@@ -136,11 +113,7 @@ fn put_by(
     let to = put_start(scratch, table, place, n + k);
     let next = put(scratch, to, records);
     let size = put(scratch, next, &table[place..]);
-    let shift = Shift {
-        from: index,
-        by: k,
-        up: true,
-    };
+    let shift = Shift::Up { from: index, by: k };
     renumber_from(scratch, head, index, shift);
     renumber_from(scratch, next, n - index, shift);
     deliver_new(&mut scratch[0..size], out)
@@ -151,22 +124,16 @@ pub fn put_fields(table: &[u8], index: usize, records: &[u8], out: &mut [u8]) ->
     ensures { PutsFields table.now index records.now out.old (leaves (of_edit result)
         out.new) }
 {
-    let checked = check_table(table);
-    let TableAnswer::Good(size) = checked else {
-        return EditAnswer::NotGood;
-    };
+    check_table(table)?;
     let n = two_at(table, 6);
-    if records.len() == 0 {
-        return EditAnswer::NoFields;
-    }
-    if n < index {
-        return EditAnswer::NoFields;
+    if records.is_empty() || n < index {
+        return Err(EditRefusal::NoFields);
     }
     if TABLE_MOST - table.len() < records.len() {
-        return EditAnswer::BeyondLimits;
+        return Err(EditRefusal::BeyondLimits);
     }
-    let Counted::Records(k) = count_records(records, FIELDS_MOST - n) else {
-        return EditAnswer::BeyondLimits;
+    let Some(k) = count_records(records, FIELDS_MOST - n) else {
+        return Err(EditRefusal::BeyondLimits);
     };
     let mut scratch = [0u8; TABLE_MOST];
     put_by(table, index, k, records, &mut scratch, out)

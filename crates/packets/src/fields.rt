@@ -1,7 +1,6 @@
 // The tests of one field's record.
 ghost use Rattle.std.specs.Prelude.{◌≡◌, ◌||◌, ◌+◌, ◌<◌, ◌≤◌, eqb, length, take};
 ghost use Rattle.rules.specs.Names.{is_short};
-ghost use Rattle.names.specs.Classes.{class_table};
 ghost use Rattle.packets.specs.Parts.{place_most, table_most, ending, parts_at};
 ghost use Rattle.packets.specs.FieldTest.{
   bytes_in,
@@ -12,7 +11,6 @@ ghost use Rattle.packets.specs.FieldTest.{
   trees_test,
   bounds_test,
   number_test,
-  short_test,
   form_test,
   order_test,
   field_test,
@@ -20,15 +18,15 @@ ghost use Rattle.packets.specs.FieldTest.{
   bits_of,
 };
 
-use crate::records::{FIXED, MEASURED, Parts, REST, byte_at, two_at};
-use crate::trees::{Checked, Cursor, same_type};
-use names::labels::{is_label_in, is_short_in};
+use crate::records::{FIXED, MEASURED, Parts, REST, byte_at, bytes_of, two_at};
+use crate::trees::{Checked, Cursor};
+use names::classes::Classes;
+use operators::codes::NUMBER_CODE;
 use rules::{DEPTH_MOST, FIXED_MOST, STORED_MOST, ValueType};
 use writing::spans::Span;
 
-const NUMBER: usize = 1;
-
 // A tree of the type is stored in just this part.
+#[tactic(auto, unfolding(crate::specs::FieldTest::tree_test))]
 fn is_tree(s: &[u8], marks: &[u8], wanted: ValueType, p: Span) -> bool
     requires { ending p ≤ place_most }
     ensures { result ≡ tree_test s.now marks.now wanted p }
@@ -37,154 +35,110 @@ fn is_tree(s: &[u8], marks: &[u8], wanted: ValueType, p: Span) -> bool
         return false;
     }
     let start = Cursor { at: p.at };
-    let Checked::Tree(found, next) = start.check(s, DEPTH_MOST, marks) else {
+    let Checked::Typed(found, next) = start.check(s, DEPTH_MOST, marks) else {
         return false;
     };
-    if !same_type(found, wanted) {
-        return false;
-    }
-    next.at == p.at + p.len
+    found == wanted && next.at == p.at + p.len
 }
 
 // None, or a tree that is yes or no.
+#[tactic(auto, unfolding(crate::specs::FieldTest::maybe_test))]
 fn is_maybe(s: &[u8], marks: &[u8], p: Span) -> bool
     requires { ending p ≤ place_most }
     ensures { result ≡ maybe_test s.now marks.now p }
 {
-    if p.len == 0 {
-        return true;
-    }
-    is_tree(s, marks, ValueType::YesNo, p)
+    p.len == 0 || is_tree(s, marks, ValueType::YesNo, p)
 }
 
 // A measured width's tree is a number, but no single number.
+#[tactic(auto, unfolding(crate::specs::FieldTest::width_test))]
 fn is_measure(s: &[u8], marks: &[u8], parts: Parts) -> bool
     requires { ending parts.tree ≤ place_most }
     ensures { result ≡ width_test s.now marks.now parts }
 {
-    if parts.kind != MEASURED {
-        return true;
-    }
     let tree = parts.tree;
-    if byte_at(s, tree.at) == NUMBER {
-        return false;
-    }
-    is_tree(s, marks, ValueType::Number, tree)
+    parts.kind != MEASURED
+        || byte_at(s, tree.at) != usize::from(NUMBER_CODE)
+            && is_tree(s, marks, ValueType::Number, tree)
 }
 
 // The trees of the field of index i: its mark is set, for its constraint.
+// Inlined like `is_field`.
+#[inline(always)]
+#[tactic(auto, unfolding(crate::specs::FieldTest::trees_test))]
 pub(crate) fn has_trees(s: &[u8], parts: Parts, marks: &[u8], i: usize) -> bool
     requires { (i < length marks.now) × (length s.now ≤ table_most) × Inside s.now parts }
     ensures { result ≡ trees_test s.now (take i marks.now) (take (i + 1)
         marks.now) parts }
 {
-    if !is_measure(s, &marks[..i], parts) {
-        return false;
-    }
-    if !is_maybe(s, &marks[..i + 1], parts.constraint) {
-        return false;
-    }
-    is_maybe(s, &marks[..i], parts.condition)
+    is_measure(s, &marks[..i], parts)
+        && is_maybe(s, &marks[..i + 1], parts.constraint)
+        && is_maybe(s, &marks[..i], parts.condition)
 }
 
 // The record lies in the table, ends where its length says, and is a field's.
+#[tactic(auto, unfolding(crate::specs::FieldTest::bounds_test))]
 fn is_bounded(s: &[u8], at: usize, parts: Parts) -> bool
     requires { at ≤ table_most }
     ensures { result ≡ bounds_test s.now at parts }
 {
-    if s.len() < parts.next {
-        return false;
-    }
-    if at + two_at(s, at) != parts.next {
-        return false;
-    }
-    if parts.kind < FIXED {
-        return false;
-    }
-    parts.kind <= REST
+    parts.next <= s.len()
+        && at + two_at(s, at) == parts.next
+        && FIXED <= parts.kind
+        && parts.kind <= REST
 }
 
 // A fixed width's bits, or a measured one's unit.
+#[tactic(auto, unfolding(crate::specs::FieldTest::number_test))]
 fn is_number(kind: usize, number: usize) -> bool
     ensures { result ≡ number_test kind number }
 {
-    if kind == FIXED {
-        if number < 1 {
-            return false;
-        }
-        return number <= FIXED_MOST;
+    match kind {
+        FIXED => 1 <= number && number <= FIXED_MOST,
+        MEASURED => matches!(number, 1 | 8),
+        _ => true,
     }
-    if kind == MEASURED {
-        if number == 1 {
-            return true;
-        }
-        return number == 8;
-    }
-    true
 }
 
 // The part has the form of a short name.
-pub(crate) fn is_word(classes: &[u8; 256], s: &[u8], p: Span) -> bool
-    requires { (ending p ≤ length s.now) × (length s.now ≤ table_most) × (classes.now ≡ class_table) }
+pub(crate) fn is_word(classes: &Classes, s: &[u8], p: Span) -> bool
+    requires { (ending p ≤ length s.now) × (length s.now ≤ table_most) }
     ensures { result ≡ is_short (bytes_in s.now p) }
 {
-    let start = p.at;
-    let end = start + p.len;
-    is_short_in(classes, &s[start..end])
+    classes.is_short(bytes_of(s, p))
 }
 
-// None, or a short name.
-fn is_name(classes: &[u8; 256], s: &[u8], p: Span) -> bool
-    requires { (ending p ≤ length s.now) × (length s.now ≤ table_most) × (classes.now ≡ class_table) }
-    ensures { result ≡ short_test s.now p }
-{
-    if p.len == 0 {
-        return true;
-    }
-    is_word(classes, s, p)
-}
-
-fn is_formed(classes: &[u8; 256], s: &[u8], parts: Parts) -> bool
-    requires { (length s.now ≤ table_most) × Inside s.now parts × (classes.now ≡ class_table) }
+#[inline(always)]
+#[tactic(auto, using(crate::proofs::FieldSteps::short_is), unfolding(crate::specs::FieldTest::form_test))]
+fn is_formed(classes: &Classes, s: &[u8], parts: Parts) -> bool
+    requires { (length s.now ≤ table_most) × Inside s.now parts }
     ensures { result ≡ form_test s.now parts }
 {
-    let label = parts.label;
-    let start = label.at;
-    let end = start + label.len;
-    if !is_label_in(classes, &s[start..end]) {
-        return false;
-    }
-    if !is_name(classes, s, parts.short) {
-        return false;
-    }
-    is_number(parts.kind, parts.number)
+    classes.is_label(bytes_of(s, parts.label))
+        && (parts.short.len == 0 || is_word(classes, s, parts.short))
+        && is_number(parts.kind, parts.number)
 }
 
-// The field may stand behind `place` bits of fixed fields, and behind the rest field if that came.
+// The field may stand behind `place` bits of fixed fields, and behind the rest field if that came. Of a stored record,
+// by its kind; texts asks the same of a line.
+#[tactic(auto, unfolding(crate::specs::FieldTest::order_test))]
 fn is_ordered(w: usize, place: usize, ended: bool, parts: Parts) -> bool
     requires { 0 < w }
     ensures { result ≡ order_test w place ended parts }
 {
     let used = place % w;
     if parts.kind == FIXED {
-        if w - used < parts.number {
-            return false;
-        }
-        if ended {
-            let condition = parts.condition;
-            return condition.len == 0;
-        }
-        return true;
+        let condition = parts.condition;
+        return parts.number <= w - used && (!ended || condition.len == 0);
     }
-    if used != 0 {
-        return false;
-    }
-    !ended
+    used == 0 && !ended
 }
 
-// All but the trees of a field.
+// All but the trees of a field. Inlined into both sizes of the walk.
+#[inline(always)]
+#[tactic(auto, unfolding(crate::specs::FieldTest::field_test))]
 pub(crate) fn is_field(
-    classes: &[u8; 256],
+    classes: &Classes,
     s: &[u8],
     at: usize,
     parts: Parts,
@@ -192,52 +146,32 @@ pub(crate) fn is_field(
     place: usize,
     ended: bool,
 ) -> bool
-    requires { (0 < w) × (at ≤ table_most) × (length s.now ≤ table_most) × (parts ≡ parts_at s.now at)
-        × (classes.now ≡ class_table) }
+    requires { (0 < w) × (at ≤ table_most) × (length s.now ≤ table_most) × (parts ≡ parts_at s.now at) }
     ensures { result ≡ field_test w place ended s.now at parts }
 {
-    if !is_bounded(s, at, parts) {
-        return false;
-    }
-    if !is_formed(classes, s, parts) {
-        return false;
-    }
-    is_ordered(w, place, ended, parts)
+    is_bounded(s, at, parts) && is_formed(classes, s, parts) && is_ordered(w, place, ended, parts)
 }
 
 // 1 where the field may be read: it is fixed, and has a short name or a label that is such a word.
+#[tactic(auto, unfolding(crate::specs::FieldTest::mark_by))]
 pub(crate) fn mark_of(parts: Parts, word: bool) -> u8
     ensures { result ≡ mark_by word parts }
 {
-    if parts.kind == FIXED {
-        if word {
-            return 1;
-        }
-        let short = parts.short;
-        if short.len == 0 {
-            return 0;
-        }
-        return 1;
-    }
-    0
+    let short = parts.short;
+    u8::from(parts.kind == FIXED && (word || short.len != 0))
 }
 
-// The bits of a fixed field.
+// The bits of a fixed field, 0 for another. 0 and no None: it is a term of a sum.
+#[tactic(auto, unfolding(crate::specs::FieldTest::bits_of))]
 pub(crate) fn bits_of(parts: Parts) -> usize
     ensures { result ≡ bits_of parts }
 {
-    if parts.kind == FIXED {
-        return parts.number;
-    }
-    0
+    if parts.kind == FIXED { parts.number } else { 0 }
 }
 
-// The rest field came before, or is this one.
+// The rest field came before, or is this one. Of a stored record, by its kind; texts asks the same of a line.
 pub(crate) fn ends_with(ended: bool, parts: Parts) -> bool
     ensures { result ≡ (ended || eqb parts.kind 14) }
 {
-    if ended {
-        return true;
-    }
-    parts.kind == REST
+    ended || parts.kind == REST
 }

@@ -3,6 +3,7 @@
 
 pub mod answers;
 mod bits;
+mod columns;
 pub mod conversions;
 mod counts;
 pub mod edits;

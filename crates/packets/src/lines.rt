@@ -59,22 +59,14 @@ pub(crate) fn put_line(
     ensures { Fits out.old at (line_text table.now parts run.now i)
         out.new result }
 {
-    let label = parts.label;
-    let start = label.at;
-    let len = label.len;
-    if LABEL_MOST < len {
+    if LABEL_MOST < parts.label.len {
         return at;
     }
-    if table.len() < start {
+    let Some(label) = parts.label.of(table) else {
         return at;
-    }
-    if table.len() - start < len {
-        return at;
-    }
-    let end = start + len;
-    let named = put(out, at, &table[start..end]);
+    };
+    let named = put(out, at, label);
     let colon = put(out, named, b":");
-    let kind = parts.kind;
-    let state = put_state(out, colon, run, i, kind == FIXED);
+    let state = put_state(out, colon, run, i, parts.kind == FIXED);
     put(out, state, b"\n")
 }

@@ -11,53 +11,37 @@ ghost use Rattle.rules.specs.Promises.{leaves, delivered, ListsPacket};
 ghost use Rattle.packets.specs.LineTexts.{listing_most, lines_from};
 ghost use Rattle.packets.specs.Listings.{ListsStored, ListsInto};
 
-use crate::answers::{amount_of, number_of, place_of};
 use crate::lines::put_line;
 use crate::readings::read_run;
-use crate::records::{parts_at, two_at};
+use crate::records::{Records, two_at};
 use crate::tables::check_table;
-use rules::{LISTING_MOST, ListingAnswer, RUN_MOST, TABLE_MOST, TableAnswer};
+use rules::refusals::Refusal;
+use rules::{LISTING_MOST, ListingAnswer, ListingRefusal, RUN_MOST};
 use writing::decimals::put_decimal;
 use writing::delivery::deliver;
 use writing::puts::put;
 
-// The lines of the n fields whose records begin at a place.
-pub(crate) fn put_lines(
-    out: &mut [u8],
-    at: usize,
-    table: &[u8],
-    place: usize,
-    run: &[u32],
-    n: usize,
-) -> usize
-    requires { (n ≤ fields_most) × (length out.old < nowhere) × (4 * n ≤ length run.now) }
-    ensures { Fits out.old at (lines_from table.now
-        run.now 0 n place) out.new result }
+// The lines of the fields of a table.
+fn put_lines(out: &mut [u8], table: &[u8], run: &[u32]) -> usize
+    requires { (length out.old < nowhere) × (4 * two_at table.now 6 ≤ length run.now) }
+    ensures { Fits out.old 0 (lines_from table.now run.now 0 (two_at table.now 6) (two_at table.now 0)) out.new result }
 {
-    let mut next = at;
-    let mut begin = place;
-    let mut i = 0;
-    while i < n {
-        if TABLE_MOST < begin {
-            return next;
-        }
-        let parts = parts_at(table, begin);
+    let mut next = 0;
+    for (i, parts) in Records::of(table, two_at(table, 6)).enumerate() {
         next = put_line(out, next, table, parts, run, i);
-        begin = parts.next;
-        i += 1;
     }
     next
 }
 
 // `refused`, a number, `at` and a place.
-fn put_refusal(out: &mut [u8], number: usize, place: usize) -> usize
+fn put_refusal(out: &mut [u8], refusal: Refusal) -> usize
     requires { length out.old < nowhere }
-    ensures { Fits out.old 0 (refused_line number place ++ bytes "\n") out.new result }
+    ensures { Fits out.old 0 (refused_line refusal.number refusal.place ++ bytes "\n") out.new result }
 {
     let word = put(out, 0, b"refused ");
-    let first = put_decimal(out, word, number);
+    let first = put_decimal(out, word, usize::from(refusal.number));
     let between = put(out, first, b" at ");
-    let second = put_decimal(out, between, place);
+    let second = put_decimal(out, between, refusal.place);
     put(out, second, b"\n")
 }
 
@@ -78,17 +62,13 @@ fn put_listing(out: &mut [u8], table: &[u8], packet: &[u8]) -> usize
     ensures { ListsStored table.now packet.now out.old out.new result }
 {
     let mut run = [0u32; RUN_MOST];
-    let answer = read_run(table, packet, &mut run);
-    let number = number_of(answer);
-    if number == 0 {
-        let n = two_at(table, 6);
-        let first = two_at(table, 0);
-        let lines = put_lines(out, 0, table, first, &run, n);
-        let total = amount_of(answer);
-        return put_bits(out, lines, total);
+    match read_run(table, packet, &mut run) {
+        Ok(total) => {
+            let lines = put_lines(out, table, &run);
+            put_bits(out, lines, total)
+        }
+        Err(refusal) => put_refusal(out, Refusal::from(refusal)),
     }
-    let place = place_of(answer);
-    put_refusal(out, number, place)
 }
 
 // A packet's listing by any table.
@@ -96,11 +76,10 @@ fn list_into(out: &mut [u8], table: &[u8], packet: &[u8]) -> usize
     requires { (listing_most ≤ length out.old) × (length out.old < nowhere) }
     ensures { ListsInto table.now packet.now out.old out.new result }
 {
-    let checked = check_table(table);
-    let TableAnswer::Good(size) = checked else {
-        return put_refusal(out, 21, 0);
-    };
-    put_listing(out, table, packet)
+    match check_table(table) {
+        Ok(_) => put_listing(out, table, packet),
+        Err(refusal) => put_refusal(out, Refusal::from(refusal)),
+    }
 }
 
 // The first n bytes of a buffer into the output, where there is room.
@@ -110,9 +89,9 @@ fn deliver_first(out: &mut [u8], from: &[u8], n: usize) -> ListingAnswer
         out.old }
 {
     if deliver(out, &from[..n]) {
-        return ListingAnswer::Written(n);
+        return Ok(n);
     }
-    ListingAnswer::NoRoom
+    Err(ListingRefusal::NoRoom)
 }
 
 // The listing of a packet by a table, into an output.

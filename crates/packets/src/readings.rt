@@ -8,19 +8,31 @@ ghost use Rattle.rules.specs.Limits.{fields_most, packet_most};
 ghost use Rattle.rules.specs.Stored.{Good};
 ghost use Rattle.packets.specs.Parts.{run_most};
 ghost use Rattle.packets.specs.RunRead.{ReadsRun, count_in};
-ghost use Rattle.packets.specs.FieldParts.{is_accepted, part_at, OnPacket};
+ghost use Rattle.packets.specs.FieldParts.{part_at, OnPacket};
 ghost use Rattle.rules.specs.Answers.{of_packet};
 
-use crate::records::{FEW_FIELDS, two_at};
+use crate::records::{FEW_FIELDS, bytes_of, two_at};
 use crate::tables::check_table;
 use crate::walks::walk_fields;
-use rules::{PACKET_MOST, PacketAnswer, RUN_MOST, TableAnswer};
+use rules::{PACKET_MOST, PacketAnswer, PacketRefusal, RUN_MOST};
+use writing::spans::Span;
 
-// Where a part lies: its start, and its size.
+// Where a part lies: its start, and its size. A Span by the names that callers read.
 #[derive(Clone, Copy)]
 pub struct Bytes {
     pub start: usize,
     pub size: usize,
+}
+
+impl From<Span> for Bytes {
+    ghost from_gives = { λ p r. (r.start ≡ p.at) × (r.size ≡ p.len) };
+
+    fn from(p: Span) -> Bytes {
+        Bytes {
+            start: p.at,
+            size: p.len,
+        }
+    }
 }
 
 // A packet read into a run by a table that was checked before.
@@ -29,34 +41,17 @@ pub(crate) fn read_run(table: &[u8], packet: &[u8], run: &mut [u32]) -> PacketAn
     ensures { ReadsRun table.now packet.now result run.new }
 {
     if PACKET_MOST < packet.len() {
-        return PacketAnswer::TooLong;
+        return Err(PacketRefusal::TooLong);
     }
     walk_fields(table, packet, run)
 }
 
-fn is_accepted(answer: PacketAnswer) -> bool
-    ensures { result ≡ is_accepted answer }
-{
-    match answer {
-        PacketAnswer::Accepted(total) => true,
-        PacketAnswer::NotGood => false,
-        PacketAnswer::TooLong => false,
-        PacketAnswer::ShortRun => false,
-        PacketAnswer::Refused(f, i) => false,
-        PacketAnswer::LeftOver => false,
-    }
-}
-
-// The first n numbers of src into dst.
+// The first n numbers of src into dst. A function: its clause says what stays of the run.
 fn copy_numbers(dst: &mut [u32], src: &[u32], n: usize)
     requires { (n ≤ length dst.old) × (n ≤ length src.now) }
     ensures { dst.new ≡ take n src.now ++ drop n dst.old }
 {
-    let mut i = 0;
-    while i < n {
-        dst[i] = src[i];
-        i += 1;
-    }
+    dst[..n].copy_from_slice(&src[..n]);
 }
 
 // Four numbers a field.
@@ -69,13 +64,9 @@ fn read_by(table: &[u8], packet: &[u8], run: &mut [u32], numbers: &mut [u32]) ->
     ensures { Good table.now → ReadsPacket table.now packet.now
         run.old (leaves (of_packet result) run.new) }
 {
-    let answer = walk_fields(table, packet, numbers);
-    if is_accepted(answer) {
-        let n = 4 * two_at(table, 6);
-        copy_numbers(run, numbers, n);
-        return answer;
-    }
-    answer
+    let total = walk_fields(table, packet, numbers)?;
+    copy_numbers(run, numbers, 4 * two_at(table, 6));
+    Ok(total)
 }
 
 // A packet read by a table: four numbers a field into the run.
@@ -83,16 +74,13 @@ pub fn read_packet(table: &[u8], packet: &[u8], run: &mut [u32]) -> PacketAnswer
     ensures { ReadsPacket table.now packet.now run.old (leaves (of_packet result)
         run.new) }
 {
-    let checked = check_table(table);
-    let TableAnswer::Good(size) = checked else {
-        return PacketAnswer::NotGood;
-    };
+    check_table(table)?;
     if PACKET_MOST < packet.len() {
-        return PacketAnswer::TooLong;
+        return Err(PacketRefusal::TooLong);
     }
     let n = 4 * two_at(table, 6);
     if run.len() < n {
-        return PacketAnswer::ShortRun;
+        return Err(PacketRefusal::ShortRun);
     }
     if n <= FEW_NUMBERS {
         let mut few = [0u32; FEW_NUMBERS];
@@ -110,26 +98,15 @@ pub struct Partial {
 }
 
 // The number of fields before the first refused one, of n.
+#[tactic(auto, unfolding(crate::specs::RunRead::count_in))]
 fn count_of(answer: PacketAnswer, n: usize) -> usize
     ensures { result ≡ count_in answer n }
 {
     match answer {
-        PacketAnswer::Accepted(_) => n,
-        PacketAnswer::NotGood => 0,
-        PacketAnswer::TooLong => 0,
-        PacketAnswer::ShortRun => 0,
-        PacketAnswer::Refused(_, k) => one_less(k),
-        PacketAnswer::LeftOver => n,
+        Ok(_) | Err(PacketRefusal::LeftOver) => n,
+        Err(PacketRefusal::Field(_, k)) => k.saturating_sub(1),
+        Err(PacketRefusal::NotGood | PacketRefusal::TooLong | PacketRefusal::ShortRun) => 0,
     }
-}
-
-fn one_less(k: usize) -> usize
-    ensures { result ≡ k - 1 }
-{
-    if k == 0 {
-        return 0;
-    }
-    k - 1
 }
 
 // A packet read by a table as far as it goes: four numbers into the run for each field before the first refused one.
@@ -137,23 +114,22 @@ pub fn read_partly(table: &[u8], packet: &[u8], run: &mut [u32]) -> Partial
     ensures { ReadsPartly table.now packet.now run.old
         (leaves_partly (of_packet result.answer) run.new result.count) }
 {
-    let checked = check_table(table);
-    let TableAnswer::Good(size) = checked else {
+    if let Err(refusal) = check_table(table) {
         return Partial {
-            answer: PacketAnswer::NotGood,
+            answer: Err(refusal.into()),
             count: 0,
         };
-    };
+    }
     if PACKET_MOST < packet.len() {
         return Partial {
-            answer: PacketAnswer::TooLong,
+            answer: Err(PacketRefusal::TooLong),
             count: 0,
         };
     }
     let n = two_at(table, 6);
     if run.len() < 4 * n {
         return Partial {
-            answer: PacketAnswer::ShortRun,
+            answer: Err(PacketRefusal::ShortRun),
             count: 0,
         };
     }
@@ -165,51 +141,43 @@ pub fn read_partly(table: &[u8], packet: &[u8], run: &mut [u32]) -> Partial
 }
 
 // The part of the field of an index by its numbers: whole bytes that start on a byte, else the empty part at 0.
-fn part_at(run: &[u32], index: usize) -> Bytes
+#[tactic(auto, unfolding(crate::specs::FieldParts::part_at))]
+fn part_at(run: &[u32], index: usize) -> Span
     requires { (index < fields_most) × (run_most ≤ length run.now) }
     ensures { result ≡ part_at run.now index }
 {
     let at = 4 * index;
     let offset = run[at + 1] as usize;
     let width = run[at + 2] as usize;
-    if run[at] == 1 {
-        if offset % 8 == 0 {
-            if width % 8 == 0 {
-                return Bytes {
-                    start: offset / 8,
-                    size: width / 8,
-                };
-            }
-        }
+    if run[at] == 1 && offset % 8 == 0 && width % 8 == 0 {
+        return Span {
+            at: offset / 8,
+            len: width / 8,
+        };
     }
-    Bytes { start: 0, size: 0 }
+    Span::EMPTY
 }
 
-// The part of a packet that is the field of an index.
-fn find_part(table: &[u8], packet: &[u8], index: usize) -> Bytes
+// The part of a packet that is the field of an index. The empty part and no None: what callers are promised has it
+// for none.
+fn find_part(table: &[u8], packet: &[u8], index: usize) -> Span
     ensures { OnPacket table.now packet.now index result }
 {
-    let none = Bytes { start: 0, size: 0 };
-    let checked = check_table(table);
-    let TableAnswer::Good(size) = checked else {
-        return none;
-    };
-    if two_at(table, 6) <= index {
-        return none;
+    if check_table(table).is_err() || two_at(table, 6) <= index {
+        return Span::EMPTY;
     }
     let mut numbers = [0u32; RUN_MOST];
-    let answer = read_run(table, packet, &mut numbers);
-    if is_accepted(answer) {
+    if read_run(table, packet, &mut numbers).is_ok() {
         return part_at(&numbers, index);
     }
-    none
+    Span::EMPTY
 }
 
 // Where the bytes of the field of an index lie in the packet.
 pub fn field_place(table: &[u8], packet: &[u8], index: usize) -> Bytes
     ensures { PlacesPart table.now packet.now index (part_from result.start result.size) }
 {
-    find_part(table, packet, index)
+    find_part(table, packet, index).into()
 }
 
 // The bytes of the field of an index, as that part of the packet.
@@ -217,8 +185,5 @@ pub fn field_bytes<'a>(table: &[u8], packet: &'a [u8], index: usize) -> &'a [u8]
     ensures { LendsPart table.now packet.now index
         packet.entry.ref_ptr result.now result.ref_ptr }
 {
-    let part = find_part(table, packet, index);
-    let start = part.start;
-    let end = start + part.size;
-    &packet[start..end]
+    bytes_of(packet, find_part(table, packet, index))
 }

@@ -9,22 +9,13 @@ use rules::TABLE_MOST;
 use writing::spans::Span;
 
 // Into an expression, if that is there.
+#[tactic(auto, using(crate::proofs::ShiftSteps::shift_past, crate::proofs::ShiftSteps::shift_there))]
 fn renumber_part(table: &mut [u8], p: Span, shift: Shift)
     ensures { table.new ≡ part_shifted (new_index shift) p table.old }
 {
-    let start = p.at;
-    let len = p.len;
-    if len == 0 {
-        return;
+    if p.of(table).is_some() {
+        renumber(&mut table[p.at..p.at + p.len], shift);
     }
-    if table.len() < start {
-        return;
-    }
-    if table.len() - start < len {
-        return;
-    }
-    let end = start + len;
-    renumber(&mut table[start..end], shift);
 }
 
 // Into all three of a record.
@@ -36,19 +27,18 @@ fn renumber_record(table: &mut [u8], parts: Parts, shift: Shift)
     renumber_part(table, parts.condition, shift);
 }
 
-// Into those of the n records from a place on.
+// Into those of the n records from a place on. Not by Records, which would lend the table that is written here.
+#[tactic(auto, using(crate::proofs::ShiftSteps::shifts_rules))]
 pub(crate) fn renumber_from(table: &mut [u8], place: usize, n: usize, shift: Shift)
     ensures { table.new ≡ shifted_from (new_index shift) n place table.old }
 {
     let mut at = place;
-    let mut k = 0;
-    while k < n {
+    for _ in 0..n {
         if TABLE_MOST < at {
             return;
         }
         let parts = parts_at(table, at);
         renumber_record(table, parts, shift);
         at = parts.next;
-        k += 1;
     }
 }

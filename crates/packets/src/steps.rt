@@ -18,24 +18,15 @@ ghost use Rattle.packets.specs.Steps.{
   bounded_at,
   present_at,
   field_step,
-  fault_of,
-  stopped_of,
 };
 
 use crate::bits::bits_at;
 use crate::records::{FIXED, MEASURED, Parts, REST, parts_at};
-use crate::trees::{Cursor, Evaluated};
+use crate::trees::Cursor;
 use rules::{DEPTH_MOST, FIXED_MOST, Fault, TABLE_MOST};
 use writing::spans::Span;
 
-// A number, or the fault of finding it.
-#[derive(Clone, Copy)]
-pub(crate) enum Got {
-    Value(u64),
-    Stop(Fault),
-}
-
-// The four numbers of a field.
+// The four numbers of a field. The run's layout is the caller's: four numbers, the first 1 where the field is present.
 #[derive(Clone, Copy)]
 pub(crate) struct Numbers {
     pub present: u32,
@@ -44,14 +35,17 @@ pub(crate) struct Numbers {
     pub value: u32,
 }
 
-// A field's numbers with the place behind it, or its fault.
-#[derive(Clone, Copy)]
-pub(crate) enum Found {
-    Field(Numbers, usize),
-    Stop(Fault),
+impl Numbers {
+    const ABSENT: Numbers = Numbers {
+        present: 0,
+        offset: 0,
+        width: 0,
+        value: 0,
+    };
 }
 
 // The parts of the record at a place; behind the last place of a table, those of the first record.
+#[tactic(auto, unfolding(crate::specs::Steps::record_at))]
 pub(crate) fn record_at(table: &[u8], at: usize) -> Parts
     ensures { result ≡ record_at table.now at }
 {
@@ -61,193 +55,160 @@ pub(crate) fn record_at(table: &[u8], at: usize) -> Parts
     parts_at(table, at)
 }
 
-// The fault of a tree that has no value.
-fn fault_of(v: Evaluated) -> Got
-    ensures { result ≡ fault_of v }
-{
-    match v {
-        Evaluated::Value(_, _) => Got::Stop(Fault::OutOfRange),
-        Evaluated::Stop(f) => Got::Stop(f),
-    }
-}
-
-// The fault of a number that was not found.
-pub(crate) fn stopped(got: Got) -> Found
-    ensures { result ≡ stopped_of got }
-{
-    match got {
-        Got::Value(_) => Found::Stop(Fault::OutOfRange),
-        Got::Stop(f) => Found::Stop(f),
-    }
-}
-
-fn tree_value(table: &[u8], run: &[u32], at: usize) -> Got
+#[tactic(auto, unfolding(crate::specs::Steps::tree_value))]
+fn tree_value(table: &[u8], run: &[u32], at: usize) -> Result<u64, Fault>
     ensures { result ≡ got_of (tree_value table.now run.now at) }
 {
     let tree = Cursor { at };
-    let v = tree.value(table, DEPTH_MOST, run);
-    let Evaluated::Value(n, _) = v else {
-        return fault_of(v);
-    };
-    Got::Value(n as u64)
+    let (n, _) = tree.value(table, DEPTH_MOST, run)?;
+    Ok(u64::from(n))
 }
 
-// A condition or constraint; what is missing is yes.
-pub(crate) fn holds_at(table: &[u8], run: &[u32], tree: Span) -> Got
+// A condition or constraint; what is missing is yes. A number and no bool: it is the tree's value.
+#[tactic(auto, unfolding(crate::specs::Steps::holds_at))]
+pub(crate) fn holds_at(table: &[u8], run: &[u32], tree: Span) -> Result<u64, Fault>
     ensures { result ≡ got_of (holds_at table.now run.now tree) }
 {
     if tree.len == 0 {
-        return Got::Value(1);
+        return Ok(1);
     }
     tree_value(table, run, tree.at)
 }
 
-// The bits of a fixed field, 0 for another.
+// The bits of a fixed field, 0 for another. 0 and no None: it is a term of a sum.
+#[tactic(auto, unfolding(crate::specs::Steps::fixed_of))]
 fn fixed_bits(p: Parts) -> usize
     ensures { (result ≡ fixed_of p) × (result ≤ fixed_most) }
 {
-    if p.kind == FIXED {
-        if p.number <= FIXED_MOST {
-            return p.number;
-        }
+    if p.kind == FIXED && p.number <= FIXED_MOST {
+        p.number
+    } else {
+        0
     }
-    0
 }
 
-// A number of units: 8 bits, or 1.
+// A number of units: 8 bits, or 1; any unit but 8 counts as 1, as in the definition `unit_of`.
+#[tactic(auto, unfolding(crate::specs::Steps::unit_of))]
 fn scale(unit: usize, n: u32) -> u64
     ensures { result ≡ unit_of unit * n }
 {
-    if unit == 8 {
-        return 8 * (n as u64);
-    }
-    n as u64
+    let bits = if unit == 8 { 8 } else { 1 };
+    bits * u64::from(n)
 }
 
-// The sum of the fixed widths of n records from a place on.
+// The sum of the fixed widths of n records from a place on. Not by Records, which end behind the last place of a table
+// where `record_at` goes on.
 fn later_bits(table: &[u8], start: usize, n: usize) -> usize
     requires { n ≤ fields_most }
     ensures { (result ≡ later_bits n table.now start) × (result ≤ fixed_most * fields_most) }
 {
     let mut sum = 0;
     let mut at = start;
-    let mut i = 0;
-    while i < n {
+    for _ in 0..n {
         let p = record_at(table, at);
         sum += fixed_bits(p);
         at = p.next;
-        i += 1;
     }
     sum
 }
 
-fn measured_at(table: &[u8], run: &[u32], p: Parts) -> Got
+#[tactic(auto, unfolding(crate::specs::Steps::tree_value, crate::specs::Steps::measured_at))]
+fn measured_at(table: &[u8], run: &[u32], p: Parts) -> Result<u64, Fault>
     ensures { result ≡ got_of (measured_at table.now run.now p) }
 {
     let tree = Cursor { at: p.tree.at };
-    let v = tree.value(table, DEPTH_MOST, run);
-    let Evaluated::Value(n, _) = v else {
-        return fault_of(v);
-    };
-    Got::Value(scale(p.number, n))
-}
-
-fn rest_at(table: &[u8], packet: &[u8], p: Parts, later: usize, place: usize) -> Got
-    requires { (later ≤ fields_most) × (place ≤ bit_total packet.now) × (length packet.now ≤ packet_most) }
-    ensures { result ≡ got_of (rest_at table.now packet.now p later place) }
-{
-    let taken = place + later_bits(table, p.next, later);
-    let total = 8 * packet.len();
-    if taken <= total {
-        return Got::Value((total - taken) as u64);
-    }
-    Got::Stop(Fault::BitsMissing)
-}
-
-// A field's width; it starts at a bit, and n records come behind it.
-fn extent_at(table: &[u8], packet: &[u8], run: &[u32], p: Parts, n: usize, bit: usize) -> Got
-    requires { (n ≤ fields_most) × (bit ≤ bit_total packet.now) × (length packet.now ≤ packet_most) }
-    ensures { result ≡ got_of (extent_at table.now packet.now run.now p n bit) }
-{
-    if p.kind == MEASURED {
-        return measured_at(table, run, p);
-    }
-    if p.kind == REST {
-        return rest_at(table, packet, p, n, bit);
-    }
-    Got::Value(fixed_bits(p) as u64)
+    let (n, _) = tree.value(table, DEPTH_MOST, run)?;
+    Ok(scale(p.number, n))
 }
 
 // A field's value, 0 for long fields.
+#[tactic(auto, unfolding(crate::specs::Steps::number_of))]
 fn number_of(packet: &[u8], kind: usize, place: usize, width: usize) -> u32
     requires { (place + width ≤ bit_total packet.now) × (length packet.now ≤ packet_most) }
     ensures { result ≡ number_of packet.now kind place width }
 {
-    if kind == FIXED {
-        if width <= FIXED_MOST {
-            return bits_at(packet, place, width);
+    if kind == FIXED && width <= FIXED_MOST {
+        bits_at(packet, place, width)
+    } else {
+        0
+    }
+}
+
+// A table, and a packet that is read by it, as far as a field that starts at a bit and has so many behind it.
+#[derive(Clone, Copy)]
+pub(crate) struct Reader<'a> {
+    pub table: &'a [u8],
+    pub packet: &'a [u8],
+    pub later: usize,
+    pub bit: usize,
+    ghost short: { (length packet.now ≤ packet_most) × (later ≤ fields_most) × (bit ≤ bit_total packet.now) },
+}
+
+impl Reader<'_> {
+    #[tactic(auto, unfolding(crate::specs::Steps::rest_at))]
+    fn rest_at(self, p: Parts) -> Result<u64, Fault>
+        ensures { result
+            ≡ got_of (rest_at self.entry.table.now self.entry.packet.now p self.entry.later self.entry.bit) }
+    {
+        let taken = self.bit + later_bits(self.table, p.next, self.later);
+        let total = 8 * self.packet.len();
+        if taken <= total {
+            return Ok((total - taken) as u64);
+        }
+        Err(Fault::BitsMissing)
+    }
+
+    // A field's width.
+    #[tactic(auto, unfolding(crate::specs::Steps::extent_at))]
+    fn extent_at(self, run: &[u32], p: Parts) -> Result<u64, Fault>
+        ensures { result ≡ got_of (extent_at self.entry.table.now self.entry.packet.now run.now p
+            self.entry.later self.entry.bit) }
+    {
+        match p.kind {
+            MEASURED => measured_at(self.table, run, p),
+            REST => self.rest_at(p),
+            _ => Ok(fixed_bits(p) as u64),
         }
     }
-    0
-}
 
-// A field of a width, if its bits are there.
-fn bounded_at(packet: &[u8], kind: usize, place: usize, width: u64) -> Found
-    requires { (place ≤ bit_total packet.now) × (length packet.now ≤ packet_most) }
-    ensures { result ≡ found_of (bounded_at packet.now kind place width) }
-{
-    let total = 8 * packet.len();
-    let left = (total - place) as u64;
-    if left < width {
-        return Found::Stop(Fault::BitsMissing);
-    }
-    let n = width as usize;
-    let value = number_of(packet, kind, place, n);
-    let numbers = Numbers {
-        present: 1,
-        offset: place as u32,
-        width: width as u32,
-        value,
-    };
-    Found::Field(numbers, place + n)
-}
-
-// A field whose condition is yes.
-fn present_at(table: &[u8], packet: &[u8], run: &[u32], p: Parts, n: usize, bit: usize) -> Found
-    requires { (n ≤ fields_most) × (bit ≤ bit_total packet.now) × (length packet.now ≤ packet_most) }
-    ensures { result ≡ found_of (present_at table.now packet.now run.now p n bit) }
-{
-    let extent = extent_at(table, packet, run, p, n, bit);
-    let Got::Value(width) = extent else {
-        return stopped(extent);
-    };
-    bounded_at(packet, p.kind, bit, width)
-}
-
-// A field up to its constraint.
-pub(crate) fn field_step(
-    table: &[u8],
-    packet: &[u8],
-    run: &[u32],
-    p: Parts,
-    n: usize,
-    bit: usize,
-) -> Found
-    requires { (n ≤ fields_most) × (bit ≤ bit_total packet.now) × (length packet.now ≤ packet_most) }
-    ensures { result ≡ found_of (field_step table.now packet.now run.now p n bit) }
-{
-    let condition = holds_at(table, run, p.condition);
-    let Got::Value(c) = condition else {
-        return stopped(condition);
-    };
-    if c == 0 {
+    // A field of a width, if its bits are there.
+    #[tactic(auto, unfolding(crate::specs::Steps::bounded_at))]
+    fn bounded_at(self, kind: usize, width: u64) -> Result<(Numbers, usize), Fault>
+        ensures { result ≡ found_of (bounded_at self.entry.packet.now kind self.entry.bit width) }
+    {
+        let left = (8 * self.packet.len() - self.bit) as u64;
+        if left < width {
+            return Err(Fault::BitsMissing);
+        }
+        let n = width as usize;
         let numbers = Numbers {
-            present: 0,
-            offset: 0,
-            width: 0,
-            value: 0,
+            present: 1,
+            offset: self.bit as u32,
+            width: width as u32,
+            value: number_of(self.packet, kind, self.bit, n),
         };
-        return Found::Field(numbers, bit);
+        Ok((numbers, self.bit + n))
     }
-    present_at(table, packet, run, p, n, bit)
+
+    // A field whose condition is yes.
+    #[tactic(auto, unfolding(crate::specs::Steps::present_at))]
+    fn present_at(self, run: &[u32], p: Parts) -> Result<(Numbers, usize), Fault>
+        ensures { result ≡ found_of (present_at self.entry.table.now self.entry.packet.now run.now p
+            self.entry.later self.entry.bit) }
+    {
+        let width = self.extent_at(run, p)?;
+        self.bounded_at(p.kind, width)
+    }
+
+    // A field up to its constraint.
+    #[tactic(auto, unfolding(crate::specs::Steps::field_step))]
+    pub(crate) fn field_step(self, run: &[u32], p: Parts) -> Result<(Numbers, usize), Fault>
+        ensures { result ≡ found_of (field_step self.entry.table.now self.entry.packet.now run.now p
+            self.entry.later self.entry.bit) }
+    {
+        if holds_at(self.table, run, p.condition)? == 0 {
+            return Ok((Numbers::ABSENT, self.bit));
+        }
+        self.present_at(run, p)
+    }
 }

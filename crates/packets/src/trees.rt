@@ -1,9 +1,8 @@
 // Stored trees, checked and evaluated by functions that call themselves on operands.
-ghost use Rattle.std.specs.Prelude.{◌≡◌, ◌+◌, ◌<◌, length, get_or};
+ghost use Rattle.std.specs.Prelude.{◌≡◌, ◌+◌, ◌<◌, length};
 ghost use Rattle.laws.specs.Places.{four_at};
-ghost use Rattle.rules.specs.Trees.{same_type};
-ghost use Rattle.rules.specs.Values.{yes_no, in_range, apply, decides};
-ghost use Rattle.packets.specs.StoredTrees.{check_number, check_field, check_not, check_two, check_at};
+ghost use Rattle.rules.specs.Values.{in_range, apply, decides};
+ghost use Rattle.packets.specs.StoredTrees.{check_number, check_field, check_two, check_at};
 ghost use Rattle.packets.specs.StoredTrees.{cursor, skip_over, skip_at, placed, read_number, read_field, value_at};
 
 use crate::powers::power_of;
@@ -11,56 +10,17 @@ use operators::codes::{Code, code_of};
 use operators::rows::operator;
 use rules::{Decider, Fault, NUMBER_MOST, Op, ValueType};
 
-// A place in the bytes of a table.
+// A place in the bytes of a table. Document 01 names a cursor by value, and calls of oneself on operands.
 #[derive(Clone, Copy)]
 pub(crate) struct Cursor {
     pub at: usize,
 }
 
-// The type of a tree with the place past it.
+// The type of a tree with the place past it. Of an Option of the pair a check takes a sixth longer.
 #[derive(Clone, Copy)]
 pub(crate) enum Checked {
-    Tree(ValueType, Cursor),
+    Typed(ValueType, Cursor),
     Bad,
-}
-
-// The value of a tree with the place past it, or the fault of evaluating it.
-#[derive(Clone, Copy)]
-pub(crate) enum Evaluated {
-    Value(u32, Cursor),
-    Stop(Fault),
-}
-
-// What stands at an index, 0 past the end.
-fn byte_at(s: &[u8], i: usize) -> u8
-    ensures { result ≡ get_or s.now i 0 }
-{
-    if s.len() <= i {
-        return 0;
-    }
-    s[i]
-}
-
-fn number_at(run: &[u32], i: usize) -> u32
-    ensures { result ≡ get_or run.now i 0 }
-{
-    if run.len() <= i {
-        return 0;
-    }
-    run[i]
-}
-
-// A byte as a wider number.
-fn wide(x: u8) -> u32
-    ensures { (result ≡ x) × (result < 256) }
-{
-    x as u32
-}
-
-fn index(x: u8) -> usize
-    ensures { (result ≡ x) × (result < 256) }
-{
-    x as usize
 }
 
 // Four bytes, the least first.
@@ -68,56 +28,23 @@ fn four_at(s: &[u8], at: usize) -> u32
     requires { at + 3 < length s.now }
     ensures { result ≡ four_at s.now at }
 {
-    let low = wide(s[at]) + 256 * wide(s[at + 1]);
-    let high = wide(s[at + 2]) + 256 * wide(s[at + 2 + 1]);
-    low + 65536 * high
+    u32::from_le_bytes([s[at], s[at + 1], s[at + 2], s[at + 3]])
 }
 
-pub(crate) fn same_type(a: ValueType, b: ValueType) -> bool
-    ensures { result ≡ same_type a b }
-{
-    match a {
-        ValueType::Number => match b {
-            ValueType::Number => true,
-            ValueType::YesNo => false,
-        },
-        ValueType::YesNo => match b {
-            ValueType::Number => false,
-            ValueType::YesNo => true,
-        },
-    }
-}
-
-fn check_not(k: ValueType, next: Cursor) -> Checked
-    ensures { result ≡ check_not k next }
-{
-    match k {
-        ValueType::Number => Checked::Bad,
-        ValueType::YesNo => Checked::Tree(ValueType::YesNo, next),
-    }
-}
-
+// The type of an operator's tree, if its operands' types are the operator's.
+#[tactic(auto, using(crate::proofs::TreeTypes::types_of, crate::proofs::TreeTypes::type_test))]
 fn check_two(op: Op, a: ValueType, b: ValueType, next: Cursor) -> Checked
     ensures { result ≡ check_two op a b next }
 {
     let row = operator(op);
-    let takes = row.takes;
-    if same_type(a, takes) {
-        if same_type(b, takes) {
-            let gives = row.gives;
-            return Checked::Tree(gives, next);
-        }
+    if a == row.takes && b == row.takes {
+        return Checked::Typed(row.gives, next);
     }
     Checked::Bad
 }
 
-fn yes_no(b: bool) -> u32
-    ensures { result ≡ yes_no b }
-{
-    if b { 1 } else { 0 }
-}
-
 // The left operand's value settles the whole.
+#[tactic(auto, unfolding(rules::specs::Values::decides, operators::specs::Rows::row_of))]
 fn settles(op: Op, x: u32) -> bool
     ensures { result ≡ decides op x }
 {
@@ -130,50 +57,51 @@ fn settles(op: Op, x: u32) -> bool
     }
 }
 
-fn in_range(n: u64, next: Cursor) -> Evaluated
+fn in_range(n: u64, next: Cursor) -> Result<(u32, Cursor), Fault>
     ensures { result ≡ placed (in_range n) next.at }
 {
     if n <= NUMBER_MOST as u64 {
-        Evaluated::Value(n as u32, next)
+        Ok((n as u32, next))
     } else {
-        Evaluated::Stop(Fault::OutOfRange)
+        Err(Fault::OutOfRange)
     }
 }
 
-// Both operands' values under an operator.
-fn combine(op: Op, x: u32, y: u32, next: Cursor) -> Evaluated
+// Both operands' values under an operator. By tests and no checked sums: they are those of the definition `apply`.
+#[tactic(auto, unfolding(rules::specs::Values::apply))]
+fn combine(op: Op, x: u32, y: u32, next: Cursor) -> Result<(u32, Cursor), Fault>
     ensures { result ≡ placed (apply op x y) next.at }
 {
     match op {
-        Op::Or => Evaluated::Value(y, next),
-        Op::And => Evaluated::Value(y, next),
-        Op::Eq => Evaluated::Value(yes_no(x == y), next),
-        Op::Ne => Evaluated::Value(yes_no(x != y), next),
-        Op::Lt => Evaluated::Value(yes_no(x < y), next),
-        Op::Le => Evaluated::Value(yes_no(x <= y), next),
-        Op::Gt => Evaluated::Value(yes_no(y < x), next),
-        Op::Ge => Evaluated::Value(yes_no(y <= x), next),
-        Op::Add => in_range((x as u64) + (y as u64), next),
+        Op::Or => Ok((y, next)),
+        Op::And => Ok((y, next)),
+        Op::Eq => Ok((u32::from(x == y), next)),
+        Op::Ne => Ok((u32::from(x != y), next)),
+        Op::Lt => Ok((u32::from(x < y), next)),
+        Op::Le => Ok((u32::from(x <= y), next)),
+        Op::Gt => Ok((u32::from(y < x), next)),
+        Op::Ge => Ok((u32::from(y <= x), next)),
+        Op::Add => in_range(u64::from(x) + u64::from(y), next),
         Op::Sub => {
             if y <= x {
-                Evaluated::Value(x - y, next)
+                Ok((x - y, next))
             } else {
-                Evaluated::Stop(Fault::OutOfRange)
+                Err(Fault::OutOfRange)
             }
         }
-        Op::Mul => in_range((x as u64) * (y as u64), next),
+        Op::Mul => in_range(u64::from(x) * u64::from(y), next),
         Op::Div => {
             if y == 0 {
-                Evaluated::Stop(Fault::ZeroDivisor)
+                Err(Fault::ZeroDivisor)
             } else {
-                Evaluated::Value(x / y, next)
+                Ok((x / y, next))
             }
         }
         Op::Rem => {
             if y == 0 {
-                Evaluated::Stop(Fault::ZeroDivisor)
+                Err(Fault::ZeroDivisor)
             } else {
-                Evaluated::Value(x % y, next)
+                Ok((x % y, next))
             }
         }
         Op::Pow => in_range(power_of(x, y), next),
@@ -201,7 +129,7 @@ impl Cursor {
         if s.len() - at < 5 {
             return Checked::Bad;
         }
-        Checked::Tree(ValueType::Number, Cursor { at: at + 5 })
+        Checked::Typed(ValueType::Number, Cursor { at: at + 5 })
     }
 
     fn check_field(self, s: &[u8], marks: &[u8]) -> Checked
@@ -212,14 +140,15 @@ impl Cursor {
         if s.len() - at < 2 {
             return Checked::Bad;
         }
-        if byte_at(marks, index(s[at + 1])) == 1 {
-            Checked::Tree(ValueType::Number, Cursor { at: at + 2 })
+        if marks.get(usize::from(s[at + 1])).copied().unwrap_or(0) == 1 {
+            Checked::Typed(ValueType::Number, Cursor { at: at + 2 })
         } else {
             Checked::Bad
         }
     }
 
     // The type of the stored tree here, of at most the given depth; a field is read where its mark is 1.
+    #[tactic(auto, using(crate::proofs::TreeSteps::check_steps))]
     pub(crate) fn check(self, s: &[u8], depth: usize, marks: &[u8]) -> Checked
         ensures { result ≡ check_at depth s.now marks.now self.at }
     {
@@ -236,16 +165,20 @@ impl Cursor {
             Code::Number => self.check_number(s),
             Code::Field => self.check_field(s, marks),
             Code::Not => {
-                let Checked::Tree(found, next) = past.check(s, depth - 1, marks) else {
+                let Checked::Typed(found, next) = past.check(s, depth - 1, marks) else {
                     return Checked::Bad;
                 };
-                check_not(found, next)
+                if found == ValueType::YesNo {
+                    Checked::Typed(ValueType::YesNo, next)
+                } else {
+                    Checked::Bad
+                }
             }
             Code::Two(op) => {
-                let Checked::Tree(a, right) = past.check(s, depth - 1, marks) else {
+                let Checked::Typed(a, right) = past.check(s, depth - 1, marks) else {
                     return Checked::Bad;
                 };
-                let Checked::Tree(b, next) = right.check(s, depth - 1, marks) else {
+                let Checked::Typed(b, next) = right.check(s, depth - 1, marks) else {
                     return Checked::Bad;
                 };
                 check_two(op, a, b, next)
@@ -255,6 +188,7 @@ impl Cursor {
     }
 
     // The place past the stored tree here.
+    #[tactic(auto, using(crate::proofs::TreeSteps::skip_steps))]
     pub(crate) fn skip(self, s: &[u8], depth: usize) -> Self
         ensures { result ≡ cursor (skip_at depth s.now self.at) }
     {
@@ -279,43 +213,44 @@ impl Cursor {
         }
     }
 
-    fn number(self, s: &[u8]) -> Evaluated
+    fn number(self, s: &[u8]) -> Result<(u32, Cursor), Fault>
         requires { self.at < length s.now }
         ensures { result ≡ read_number s.now self.at }
     {
         let at = self.at;
         if s.len() - at < 5 {
-            return Evaluated::Stop(Fault::OutOfRange);
+            return Err(Fault::OutOfRange);
         }
-        Evaluated::Value(four_at(s, at + 1), Cursor { at: at + 5 })
+        Ok((four_at(s, at + 1), Cursor { at: at + 5 }))
     }
 
-    fn field(self, s: &[u8], run: &[u32]) -> Evaluated
+    fn field(self, s: &[u8], run: &[u32]) -> Result<(u32, Cursor), Fault>
         requires { self.at < length s.now }
         ensures { result ≡ read_field s.now run.now self.at }
     {
         let at = self.at;
         if s.len() - at < 2 {
-            return Evaluated::Stop(Fault::OutOfRange);
+            return Err(Fault::OutOfRange);
         }
-        let i = 4 * index(s[at + 1]);
-        if number_at(run, i) == 1 {
-            Evaluated::Value(number_at(run, i + 3), Cursor { at: at + 2 })
+        let i = 4 * usize::from(s[at + 1]);
+        if run.get(i).copied().unwrap_or(0) == 1 {
+            Ok((run.get(i + 3).copied().unwrap_or(0), Cursor { at: at + 2 }))
         } else {
-            Evaluated::Stop(Fault::AbsentRead)
+            Err(Fault::AbsentRead)
         }
     }
 
     // The value of the stored tree here; field i is present if run[4 * i] is 1, and its value is run[4 * i + 3].
-    pub(crate) fn value(self, s: &[u8], depth: usize, run: &[u32]) -> Evaluated
+    #[tactic(auto, using(crate::proofs::TreeSteps::value_steps))]
+    pub(crate) fn value(self, s: &[u8], depth: usize, run: &[u32]) -> Result<(u32, Cursor), Fault>
         ensures { result ≡ value_at depth s.now run.now self.at }
     {
         if depth == 0 {
-            return Evaluated::Stop(Fault::OutOfRange);
+            return Err(Fault::OutOfRange);
         }
         let at = self.at;
         if s.len() <= at {
-            return Evaluated::Stop(Fault::OutOfRange);
+            return Err(Fault::OutOfRange);
         }
         let c = code_of(s[at]);
         let past = Cursor { at: at + 1 };
@@ -323,27 +258,18 @@ impl Cursor {
             Code::Number => self.number(s),
             Code::Field => self.field(s, run),
             Code::Not => {
-                let v = past.value(s, depth - 1, run);
-                let Evaluated::Value(x, next) = v else {
-                    return v;
-                };
-                Evaluated::Value(yes_no(x == 0), next)
+                let (x, next) = past.value(s, depth - 1, run)?;
+                Ok((u32::from(x == 0), next))
             }
             Code::Two(op) => {
-                let v = past.value(s, depth - 1, run);
-                let Evaluated::Value(x, right) = v else {
-                    return v;
-                };
+                let (x, right) = past.value(s, depth - 1, run)?;
                 if settles(op, x) {
-                    return Evaluated::Value(x, right.skip(s, depth - 1));
+                    return Ok((x, right.skip(s, depth - 1)));
                 }
-                let w = right.value(s, depth - 1, run);
-                let Evaluated::Value(y, next) = w else {
-                    return w;
-                };
+                let (y, next) = right.value(s, depth - 1, run)?;
                 combine(op, x, y, next)
             }
-            Code::Other => Evaluated::Stop(Fault::OutOfRange),
+            Code::Other => Err(Fault::OutOfRange),
         }
     }
 }

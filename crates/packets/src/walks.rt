@@ -7,67 +7,62 @@ ghost use Rattle.packets.specs.Steps.{entry_in, found_of};
 ghost use Rattle.packets.specs.Walks.{put_at, kept_at, refused_of, Steps, Walks};
 
 use crate::records::{Parts, two_at};
-use crate::steps::{Found, Got, Numbers, field_step, holds_at, record_at, stopped};
-use rules::{Fault, PacketAnswer};
+use crate::steps::{Numbers, Reader, holds_at, record_at};
+use rules::{Fault, PacketAnswer, PacketRefusal};
 use writing::spans::Span;
 
+#[tactic(auto, unfolding(crate::specs::Walks::put_at))]
 fn put(run: &mut [u32], i: usize, e: Numbers)
     requires { (i < fields_most) × (4 * i + 4 ≤ length run.old) }
     ensures { run.new ≡ put_at run.old i e }
 {
-    let at = 4 * i;
-    run[at] = e.present;
-    run[at + 1] = e.offset;
-    run[at + 2] = e.width;
-    run[at + 3] = e.value;
+    run[4 * i..4 * i + 4].copy_from_slice(&[e.present, e.offset, e.width, e.value]);
 }
 
 // A present field's constraint.
-fn kept_at(table: &[u8], run: &[u32], tree: Span, e: Numbers, next: usize) -> Found
+#[tactic(auto, unfolding(crate::specs::Walks::kept_at))]
+fn kept_at(
+    table: &[u8],
+    run: &[u32],
+    tree: Span,
+    e: Numbers,
+    next: usize,
+) -> Result<(Numbers, usize), Fault>
     ensures { result ≡ found_of (kept_at table.now run.now tree (entry_in e) next) }
 {
-    let held = holds_at(table, run, tree);
-    let Got::Value(c) = held else {
-        return stopped(held);
-    };
-    if c == 0 {
-        return Found::Stop(Fault::ConstraintFalse);
+    if holds_at(table, run, tree)? == 0 {
+        return Err(Fault::ConstraintFalse);
     }
-    Found::Field(e, next)
+    Ok((e, next))
 }
 
-// Field i by its record; it starts at a bit, and n records come behind it.
+// Field i by its record.
+#[tactic(auto, unfolding(crate::specs::Walks::step_after))]
 fn one_field(
-    s: &[u8],
-    packet: &[u8],
+    reader: Reader<'_>,
     run: &mut [u32],
     i: usize,
-    n: usize,
-    bit: usize,
     p: Parts,
-) -> Found
-    requires i_lt_fields_most { (i < fields_most) × (4 * i + 4 ≤ length run.old) }
-    requires n_le_fields_most { (n ≤ fields_most) × (bit ≤ bit_total packet.now) × (length packet.now ≤ packet_most) }
-    ensures { Steps s.now packet.now run.old i n bit p result run.new }
+) -> Result<(Numbers, usize), Fault>
+    requires { (i < fields_most) × (4 * i + 4 ≤ length run.old) }
+    ensures { Steps reader.entry.table.now reader.entry.packet.now run.old i reader.entry.later reader.entry.bit p
+        result run.new }
 {
-    let found = field_step(s, packet, run, p, n, bit);
-    let Found::Field(e, next) = found else {
-        return found;
-    };
+    let (e, next) = reader.field_step(run, p)?;
     put(run, i, e);
     if e.present == 0 {
-        return found;
+        return Ok((e, next));
     }
-    kept_at(s, run, p.constraint, e, next)
+    kept_at(reader.table, run, p.constraint, e, next)
 }
 
 // The refusal that a fault is, at field k from 1.
-fn refused(found: Found, k: usize) -> PacketAnswer
+fn refused(found: Result<(Numbers, usize), Fault>, k: usize) -> PacketAnswer
     ensures { result ≡ refused_of found k }
 {
     match found {
-        Found::Stop(f) => PacketAnswer::Refused(f, k),
-        Found::Field(_, _) => PacketAnswer::LeftOver,
+        Err(fault) => Err(PacketRefusal::Field(fault, k)),
+        Ok(_) => Err(PacketRefusal::LeftOver),
     }
 }
 
@@ -81,19 +76,25 @@ pub(crate) fn walk_fields(table: &[u8], packet: &[u8], run: &mut [u32]) -> Packe
     let total = 8 * packet.len();
     let mut at = two_at(table, 0);
     let mut place = 0;
-    let mut i = 0;
-    while i < n {
+    // Not by Records, which end behind the last place of a table where record_at goes on.
+    for i in 0..n {
         let p = record_at(table, at);
-        let found = one_field(table, packet, run, i, n - i - 1, place, p);
-        let Found::Field(_, next) = found else {
+        let reader = Reader {
+            table,
+            packet,
+            later: n - i - 1,
+            bit: place,
+        };
+        // Let-else on each step's answer, as document 01 names it.
+        let found = one_field(reader, run, i, p);
+        let Ok((_, next)) = found else {
             return refused(found, i + 1);
         };
         place = next;
         at = p.next;
-        i += 1;
     }
     if place == total {
-        return PacketAnswer::Accepted(place);
+        return Ok(place);
     }
-    PacketAnswer::LeftOver
+    Err(PacketRefusal::LeftOver)
 }

@@ -1,8 +1,8 @@
 -- Stored expressions with other indexes, code by code, and of stored trees.
 use mathlib.Core.Path.{◌≡◌, refl, ap, sym, ◌∙◌}
-use mathlib.Core.Bool.{Bool, true, false, cond}
+use mathlib.Core.Bool.{Bool, true, false}
 use mathlib.Core.List.{List, [], ◌∷◌, ◌++◌, append_assoc, append-nil}
-use Prim.Native.Nat.{ℕ, zero, suc, ◌+◌, ◌-◌, ◌%◌, ◌≤◌, ◌<◌}
+use Prim.Native.Nat.{ℕ, zero, suc, ◌+◌, ◌≤◌, ◌<◌}
 use native.Mathlib.Omega.{arith}
 use lib.Dec.{eqb}
 use lib.ListN.{length, get_or, take, drop, set, length-append, length-drop, take-append-drop, drop_of_length-le}
@@ -14,10 +14,8 @@ use Rattle.rules.specs.Trees.{Tree, num, read, two, negation, le4, stored_tree}
 use Rattle.rules.specs.Stored.{stored_expression}
 use Rattle.rules.specs.Edits.{renumbered_tree}
 use Rattle.laws.proofs.RenumberedLaws.{stored_mapped}
-use Rattle.laws.proofs.Renumbering.{closed_low, closed_high, opened_low, opened_high}
-use Rattle.references.specs.declared.renumbering.Shift.{Shift}
 use Rattle.references.specs.Scans.{behind, codes_from}
-use Rattle.references.specs.Renumbered.{new_index, renumbered_from, renumbered_bytes}
+use Rattle.references.specs.Renumbered.{renumbered_from, renumbered_bytes}
 use Rattle.references.proofs.ScanLaws.{codes_cons, behind_field, op_codes}
 
 -- ── bytes passed over ──
@@ -167,32 +165,3 @@ renumber_stored g t =
     ∙ renumber_front g t []
     ∙ append-nil (stored_tree g t)
     ∙ sym (stored_mapped g t)
-
--- ── the new index ──
-
-module _ (shift : Shift) (i : ℕ) (byte : i < 256) where
-  abbrev from : ℕ
-  from = shift.from
-
-  abbrev by : ℕ
-  by = shift.by
-
-  pub index_low : i < from → i ≡ new_index shift i
-  unfolding new_index
-  index_low h = rw (opened_low from by i h, closed_low from by i h) (go shift.up)
-    where
-      go : (b : Bool) → i ≡ cond b i i % 256
-      go true = omega arith
-      go false = omega arith
-
-  pub index_up : from ≤ i → shift.up ≡ true → (i + by % 256) % 256 ≡ new_index shift i
-  unfolding new_index
-  index_up h u = rw (u, opened_high from by i h) (omega arith)
-
-  pub index_none : from ≤ i → shift.up ≡ false → i < by → 0 ≡ new_index shift i
-  unfolding new_index
-  index_none h u lt = let z : i - by ≡ 0 = omega arith in rw (u, closed_high from by i h, z) refl
-
-  pub index_down : from ≤ i → shift.up ≡ false → i - by ≡ new_index shift i
-  unfolding new_index
-  index_down h u = let z : (i - by) % 256 ≡ i - by = omega arith in rw (u, closed_high from by i h, z) refl

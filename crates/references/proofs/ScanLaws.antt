@@ -3,11 +3,10 @@ use mathlib.Core.Path.{◌≡◌, refl, ap, sym, ◌∙◌}
 use mathlib.Core.Bool.{Bool, true, false, not, ◌&&◌, ◌||◌}
 use mathlib.Core.List.{List, [], ◌∷◌, ◌++◌, append_assoc, append-nil}
 use Prim.Native.Nat.{ℕ, zero, suc, ◌+◌, ◌≤◌, ◌<◌}
-use native.Mathlib.Numerals.{add-one}
 use native.Mathlib.Omega.{arith}
 use lib.Dec.{eqb}
 use lib.ListN.{length, get_or, drop, drop_of_length-le}
-use lib.Seq.{drop-cons, drop-drop, drop-length}
+use lib.Seq.{drop-cons, drop-drop}
 use borrow.Author.Tests.{ne_eqb}
 use Rattle.base.specs.Lists.{any, between, joined}
 use Rattle.rules.specs.declared.Op.{Op}
@@ -18,7 +17,7 @@ use Rattle.rules.specs.Stored.{stored_expression}
 use Rattle.rules.specs.References.{tree_reads}
 use Rattle.references.specs.declared.scans.Wanted.{Wanted}
 use Rattle.references.specs.declared.scans.Wanted.TheVariants.{Added, Run}
-use Rattle.references.specs.Scans.{behind, codes_from, index_in, references, is_added_code, is_wanted, has_code}
+use Rattle.references.specs.Scans.{behind, codes_from, index_in, references, is_wanted, has_code}
 
 or_false : (a : Bool) → (a || false) ≡ a
 or_false true = refl
@@ -78,72 +77,34 @@ has_cons : (w : Wanted) (c : ℕ) (s : List ℕ)
 unfolding has_code any
 has_cons w c s = ap (λ (l : List (List ℕ)). any (is_wanted w) l) (codes_cons c s)
 
--- ── at a place ──
+pub codes_none : (s : List ℕ) → length s ≡ 0 → codes_from 0 s ≡ []
+unfolding codes_from
+codes_none [] e = refl
+codes_none (c ∷ s) e = absurd (omega arith)
 
-pub has_next : (w : Wanted) (s : List ℕ) (at r : ℕ) → codes_from 0 (drop at s) ≡ drop at s ∷ codes_from 0 (drop r s)
-    → has_code w (drop at s) ≡ (is_wanted w (drop at s) || has_code w (drop r s))
-unfolding has_code any
-has_next w s at r e = rw e refl
+-- ── at a code ──
 
-pub has_here : (w : Wanted) (s : List ℕ) (at : ℕ) → at < length s → is_wanted w (drop at s) ≡ true
-    → has_code w (drop at s) ≡ true
-has_here w s at lt e =
-    let d = drop-cons s at 0 lt in
-    let f : is_wanted w (get_or s at 0 ∷ drop (suc at) s) ≡ true = rw d at e in
-    rw (d, has_cons w (get_or s at 0) (drop (suc at) s), f)
-
-pub has_end : (w : Wanted) (s : List ℕ) → has_code w (drop (length s) s) ≡ false
-unfolding has_code codes_from any
-has_end w s = rw (drop-length s) refl
-
--- the code of `/`, `%` or `^`
-pub added_at : (s : List ℕ) (at : ℕ) → at < length s → is_added_code (get_or s at 0) ≡ is_wanted Added (drop at s)
-added_at s at lt = rw (drop-cons s at 0 lt) refl
-
-pub references_next : (s : List ℕ) (at r : ℕ) (l : List ℕ)
-    → codes_from 0 (drop at s) ≡ drop at s ∷ codes_from 0 (drop r s) → index_in (drop at s) ≡ l
-    → references (drop at s) ≡ l ++ references (drop r s)
-unfolding references joined
-references_next s at r l e f = rw (e, f)
-
-pub references_end : (s : List ℕ) (at : ℕ) → length s ≤ at → references (drop at s) ≡ []
-unfolding references codes_from joined
-references_end s at le = rw (drop_of_length-le s {i = at} le) refl
-
-pub index_field : (s : List ℕ) (at : ℕ) → at + 1 < length s → get_or s at 0 ≡ 2
-    → index_in (drop at s) ≡ get_or s (at + 1) 0 ∷ []
+pub index_field : (s : List ℕ) → 1 < length s → get_or s 0 0 ≡ 2 → index_in s ≡ get_or s 1 0 ∷ []
 unfolding index_in
-index_field s at lt e =
-    rw (drop-cons s at 0 (omega arith), e, ← add-one at, drop-cons s (at + 1) 0 lt) refl
+index_field [] lt e = absurd (omega arith)
+index_field (c ∷ []) lt e = absurd (omega arith)
+index_field (c ∷ i ∷ s) lt e = rw e refl
 
-pub index_other : (s : List ℕ) (at : ℕ) → at < length s → (get_or s at 0 ≡ 2 → ⊥) → index_in (drop at s) ≡ []
-index_other s at lt n =
-    let c = get_or s at 0 in
-    rw (drop-cons s at 0 lt) (index_none c (drop (suc at) s) (ne_eqb c 2 n))
+pub index_other : (s : List ℕ) → (1 < length s → get_or s 0 0 ≡ 2 → ⊥) → index_in s ≡ []
+unfolding index_in
+index_other [] n = refl
+index_other (c ∷ []) n = refl
+index_other (c ∷ i ∷ s) n = rw (ne_eqb c 2 (n (omega arith))) refl
 
--- a field of a run is read by its code, and by no other, nor where its index is missing
-module _ (s : List ℕ) (at first last : ℕ) where
-  pub run_other : at < length s → (get_or s at 0 ≡ 2 → ⊥) → false ≡ is_wanted (Run first last) (drop at s)
-  unfolding any
-  run_other lt n = rw (index_other s at lt n) refl
+-- a field of a run is read by its code
+pub run_field : (first last i : ℕ) (s : List ℕ) → index_in s ≡ i ∷ []
+    → is_wanted (Run first last) s ≡ between first i last
+unfolding any
+run_field first last i s e = rw e (or_false (between first i last))
 
-  pub run_cut : at < length s → length s ≤ at + 1 → false ≡ is_wanted (Run first last) (drop at s)
-  unfolding any index_in
-  run_cut lt le =
-      let z : drop (suc at) s ≡ [] = drop_of_length-le s {i = suc at} (omega arith) in
-      rw (drop-cons s at 0 lt, z) refl
-
-  pub run_field : at + 1 < length s → get_or s at 0 ≡ 2
-      → between first (get_or s (at + 1) 0) last ≡ is_wanted (Run first last) (drop at s)
-  unfolding any
-  run_field lt e = rw (index_field s at lt e) (sym (or_false (between first (get_or s (at + 1) 0) last)))
-
--- a last code without what comes behind it
-pub references_cut : (s : List ℕ) (at : ℕ) → at < length s → length s ≤ at + 1 → references (drop at s) ≡ []
-unfolding references codes_from joined index_in
-references_cut s at lt le =
-    let z : drop (suc at) s ≡ [] = drop_of_length-le s {i = suc at} (omega arith) in
-    rw (drop-cons s at 0 lt, z) refl
+pub run_other : (first last : ℕ) (s : List ℕ) → index_in s ≡ [] → is_wanted (Run first last) s ≡ false
+unfolding any
+run_other first last s e = rw e refl
 
 -- ── stored trees ──
 

@@ -1,24 +1,17 @@
 -- What is counted at each index.
-use mathlib.Core.Path.{◌≡◌, refl, ap, sym, ◌∙◌}
+use mathlib.Core.Path.{◌≡◌, refl, sym, ◌∙◌}
 use mathlib.Core.Bool.{Bool, true, false, cond}
 use mathlib.Core.List.{List, [], ◌∷◌, ◌++◌}
 use Prim.Native.Nat.{ℕ, ◌+◌, ◌%◌, ◌≤◌, ◌<◌}
 use native.Mathlib.Omega.{arith}
 use lib.Dec.{eqb}
-use lib.ListN.{length, get_or, set, drop, length-set}
+use lib.ListN.{length, get_or, set, length-set}
 use lib.Seq.{get_or-set_same, get_or-set_other, set_out}
-use borrow.Author.Tests.{eqb-true, eqb-false, eq-eqb, ne_eqb}
-use Rattle.base.specs.Lists.{sum}
+use borrow.Author.Tests.{eqb-true, eqb-false}
+use Rattle.base.specs.Lists.{joined, sum}
 use Rattle.rules.specs.References.{times}
-use Rattle.references.specs.Scans.{codes_from, index_in, references}
+use Rattle.references.specs.Scans.{index_in}
 use Rattle.references.specs.Tallies.{one_more, tallied}
-use Rattle.references.proofs.ScanLaws.{
-  references_next,
-  references_cut,
-  references_end,
-  index_field,
-  index_other,
-}
 
 -- the counts after one index
 abbrev one : ℕ → List ℕ → ℕ → List ℕ
@@ -44,10 +37,6 @@ tallied_append own counts (i ∷ l) m = tallied_append own (one own counts i) l 
 
 -- ── one index ──
 
-pub tallied_own : (own : ℕ) (counts : List ℕ) (i : ℕ) → i ≡ own → counts ≡ tallied own counts (i ∷ [])
-unfolding tallied
-tallied_own own counts i e = rw (eq-eqb i own e)
-
 pub tallied_out : (own : ℕ) (counts : List ℕ) (i : ℕ) → length counts ≤ i → counts ≡ tallied own counts (i ∷ [])
 unfolding tallied
 tallied_out own counts i le = go (eqb i own)
@@ -56,45 +45,19 @@ tallied_out own counts i le = go (eqb i own)
     go true = refl
     go false = sym (set_out counts i (one_more (get_or counts i 0)) le)
 
-pub tallied_one : (own : ℕ) (counts : List ℕ) (i x : ℕ) → (i ≡ own → ⊥) → x ≡ one_more (get_or counts i 0)
-    → set counts i x ≡ tallied own counts (i ∷ [])
-unfolding tallied
-tallied_one own counts i x n e = rw (ne_eqb i own n, e)
+-- ── the indexes of codes ──
 
--- ── at a place ──
+-- from one code to the next
+pub tally_next : (own : ℕ) (counts code l : List ℕ) (codes more : List (List ℕ)) → codes ≡ code ∷ more
+    → index_in code ≡ l → tallied own counts (joined index_in codes) ≡ tallied own (tallied own counts l)
+    (joined index_in more)
+unfolding joined
+tally_next own counts code l codes more e f = rw (e, f) (tallied_append own counts l (joined index_in more))
 
-next : (own : ℕ) (counts s : List ℕ) (at r : ℕ) (l : List ℕ)
-    → codes_from 0 (drop at s) ≡ drop at s ∷ codes_from 0 (drop r s) → index_in (drop at s) ≡ l
-    → tallied own counts (references (drop at s)) ≡ tallied own (tallied own counts l) (references (drop r s))
-next own counts s at r l e f =
-    ap (λ (m : List ℕ). tallied own counts m) (references_next s at r l e f)
-    ∙ tallied_append own counts l (references (drop r s))
-
--- the counts after a field's code
-pub tally_field : (own : ℕ) (counts after s : List ℕ) (at r : ℕ) → at + 1 < length s → get_or s at 0 ≡ 2
-    → codes_from 0 (drop at s) ≡ drop at s ∷ codes_from 0 (drop r s)
-    → after ≡ tallied own counts (get_or s (at + 1) 0 ∷ [])
-    → tallied own counts (references (drop at s)) ≡ tallied own after (references (drop r s))
-tally_field own counts after s at r lt c e f =
-    rw f (next own counts s at r (get_or s (at + 1) 0 ∷ []) e (index_field s at lt c))
-
--- after another
-pub tally_other : (own : ℕ) (counts s : List ℕ) (at r : ℕ) → at < length s → (get_or s at 0 ≡ 2 → ⊥)
-    → codes_from 0 (drop at s) ≡ drop at s ∷ codes_from 0 (drop r s)
-    → tallied own counts (references (drop at s)) ≡ tallied own counts (references (drop r s))
-unfolding tallied
-tally_other own counts s at r lt c e = next own counts s at r [] e (index_other s at lt c)
-
--- after a last code without what comes behind it, and at the end
-pub tally_cut : (own : ℕ) (counts s : List ℕ) (at : ℕ) → at < length s → length s ≤ at + 1
-    → tallied own counts (references (drop at s)) ≡ counts
-unfolding tallied
-tally_cut own counts s at lt le = rw (references_cut s at lt le) refl
-
-pub tally_end : (own : ℕ) (counts s : List ℕ) (at : ℕ) → length s ≤ at
-    → tallied own counts (references (drop at s)) ≡ counts
-unfolding tallied
-tally_end own counts s at le = rw (references_end s at le) refl
+pub tally_end : (own : ℕ) (counts : List ℕ) (codes : List (List ℕ)) → codes ≡ []
+    → tallied own counts (joined index_in codes) ≡ counts
+unfolding joined tallied
+tally_end own counts codes e = rw e refl
 
 -- ── the count at an index ──
 

@@ -7,7 +7,8 @@ use Rattle.references.specs.Scans.{behind}
 
 -- the new index, in one byte
 unfoldable pub new_index : Shift → ℕ → ℕ
-new_index s i = cond s.up (opened s.from s.by i) (closed s.from s.by i) % 256
+new_index (Shift.Up from by) i = opened from by i % 256
+new_index (Shift.Down from by) i = closed from by i % 256
 
 -- n bytes that come behind a code first: index says whether they are an index, i, which becomes g i
 unfoldable pub renumbered_from : (ℕ → ℕ) → Bool → ℕ → List ℕ → List ℕ

@@ -100,10 +100,10 @@ wrong_finds =
 
 -- down by two behind a run from 3 on, and up by two from 3 on
 abbrev down : Shift
-down = record { from = 3; by = 2; up = false }
+down = Shift.Down 3 2
 
 abbrev up : Shift
-up = record { from = 3; by = 2; up = true }
+up = Shift.Up 3 2
 
 abbrev wrong_renumbers : List Claim
 wrong_renumbers =
@@ -120,11 +120,11 @@ wrong_renumbers =
     ∷ renumbers up (0x20 ∷ 1 ∷ 2 ∷ 4 ∷ 0 ∷ 0 ∷ 2 ∷ 4 ∷ []) (0x20 ∷ 1 ∷ 2 ∷ 4 ∷ 0 ∷ 0 ∷ 2 ∷ 4 ∷ [])
     -- an index taken for a code; an operator of a like number changed; a code without its index changed
     ∷ renumbers up (0x20 ∷ 2 ∷ 1 ∷ 2 ∷ 9 ∷ []) (0x20 ∷ 2 ∷ 1 ∷ 2 ∷ 9 ∷ [])
-    ∷ renumbers (record { from = 1; by = 1; up = true }) (0x20 ∷ 2 ∷ 1 ∷ 2 ∷ 9 ∷ []) (0x20 ∷ 2 ∷ 2 ∷ 3 ∷ 9 ∷ [])
+    ∷ renumbers (Shift.Up 1 1) (0x20 ∷ 2 ∷ 1 ∷ 2 ∷ 9 ∷ []) (0x20 ∷ 2 ∷ 2 ∷ 3 ∷ 9 ∷ [])
     ∷ renumbers up (0x20 ∷ 2 ∷ 0 ∷ 2 ∷ 1 ∷ []) (0x22 ∷ 2 ∷ 0 ∷ 2 ∷ 1 ∷ [])
-    ∷ renumbers (record { from = 0; by = 2; up = true }) (0x32 ∷ 2 ∷ []) (0x32 ∷ 4 ∷ [])
+    ∷ renumbers (Shift.Up 0 2) (0x32 ∷ 2 ∷ []) (0x32 ∷ 4 ∷ [])
     -- one below zero taken for 255, and one over 255 for 255
-    ∷ renumbers (record { from = 0; by = 2; up = false }) (2 ∷ 1 ∷ []) (2 ∷ 255 ∷ [])
+    ∷ renumbers (Shift.Down 0 2) (2 ∷ 1 ∷ []) (2 ∷ 255 ∷ [])
     ∷ renumbers up (2 ∷ 254 ∷ []) (2 ∷ 255 ∷ [])
     ∷ []
 

@@ -1,79 +1,40 @@
--- A byte looked for, digits and numbers, one byte after the other: what the loops need.
+-- A byte looked for, and numbers, one digit after the other: what the code needs.
 use mathlib.Core.Path.{◌≡◌, sym, ◌∙◌}
 use mathlib.Core.Bool.{cond}
 use mathlib.Core.List.{List}
-use Prim.Native.Nat.{ℕ, suc, ◌+◌, ◌-◌, ◌*◌, ◌≤◌, ◌<◌}
+use Prim.Native.Nat.{ℕ, suc, ◌+◌, ◌*◌, ◌≤◌, ◌<◌}
 use native.Mathlib.Numerals.{add-one}
 use native.Mathlib.Omega.{arith}
 use lib.Dec.{eqb, ltb}
 use lib.ListN.{length, drop, get_or, drop_of_length-le}
 use lib.Seq.{drop-cons}
-use borrow.Author.Tests.{eq-eqb, ne_eqb, lt-ltb, le-ltb, le-leb, lt-leb}
-use Rattle.requests.specs.Words.{before, next_word, digit_of, number_from}
+use borrow.Author.Tests.{lt-ltb, le-ltb}
+use Rattle.std.specs.Prelude.{Bool, true, false, not, Option, Some, None, unwrap_or, refl}
+use Rattle.std.specs.List.{position_or_len}
+use Rattle.std.proofs.lemmas.List.Recursion.{is_position_or_len}
+use Rattle.std.proofs.lemmas.List.Sums.{prefix_len-le-length}
+use borrow.Author.Tests.{ltb-false}
+use Rattle.requests.specs.Words.{before, digit_of, number_from}
 
 -- ── the first such byte ──
 
-before_step : (b : ℕ) (s : List ℕ) (i : ℕ) → i < length s
-    → before b (drop i s) ≡ cond (eqb (get_or s i 0) b) 0 (suc (before b (drop (i + 1) s)))
+before_position : (b : ℕ) (s : List ℕ) → before b s ≡ position_or_len (λ c. eqb c b) s
 unfolding before
-before_step b s i h = rw (add-one i, drop-cons s i 0)
+before_position b = is_position_or_len (before b) (λ c. eqb c b) refl
+    (λ c s. let one : 1 + before b s ≡ suc (before b s) = omega arith in rw one refl)
 
-pub before_here : (b : ℕ) (s : List ℕ) (i : ℕ) → i < length s → get_or s i 0 ≡ b
-    → before b s ≡ i + before b (drop i s) → i ≡ before b s
-before_here b s i h e p =
-    let q : before b (drop i s) ≡ 0 = before_step b s i h ∙ rw (eq-eqb _ _ e) in
-    omega (arith, p, q)
+-- a place that was found, or the end
+pub found_or_all : (b : ℕ) (s : List ℕ) (r : Option ℕ)
+    → r ≡ cond (ltb (position_or_len (λ c. eqb c b) s) (length s)) (Some (position_or_len (λ c. eqb c b) s)) None
+    → unwrap_or r (length s) ≡ before b s
+found_or_all b s r e = rw (e, before_position b s) (go (ltb n (length s)) refl)
+  where
+    n : ℕ
+    n = position_or_len (λ c. eqb c b) s
 
-pub before_on : (b : ℕ) (s : List ℕ) (i : ℕ) → i < length s → (get_or s i 0 ≡ b → ⊥)
-    → before b s ≡ i + before b (drop i s) → before b s ≡ (i + 1) + before b (drop (i + 1) s)
-before_on b s i h n p =
-    let q : before b (drop i s) ≡ suc (before b (drop (i + 1) s)) = before_step b s i h ∙ rw (ne_eqb _ _ n) in
-    omega (arith, p, q)
-
-pub before_end : (b : ℕ) (s : List ℕ) (i : ℕ) → length s ≤ i → before b s ≡ i + before b (drop i s) → i ≡ before b s
-unfolding before
-before_end b s i h p =
-    let q : before b (drop i s) ≡ 0 = rw (drop_of_length-le s {i = i} h) in
-    omega (arith, p, q)
-
--- ── the next word ──
-
-pub next_on : (s : List ℕ) (n : ℕ) → n ≡ before 32 s → n < length s → n + 1 ≡ next_word s
-unfolding next_word
-next_on s n e h = rw (← e, lt-ltb n (length s) h)
-
-pub next_end : (s : List ℕ) (n : ℕ) → n ≡ before 32 s → length s ≤ n → n ≡ next_word s
-unfolding next_word
-next_end s n e h = rw (← e, le-ltb n (length s) h)
-
--- ── digits ──
-
-pub digit_under : (c : ℕ) → c < 48 → 16 ≡ digit_of c
-unfolding digit_of
-digit_under c h = rw (lt-ltb c 48 h)
-
-pub digit_decimal : (c : ℕ) → 48 ≤ c → c ≤ 57 → c - 48 ≡ digit_of c
-unfolding digit_of
-digit_decimal c h k = rw (le-ltb c 48 h, le-leb c 57 k)
-
-pub digit_between : (c : ℕ) → 48 ≤ c → 57 < c → c < 97 → 16 ≡ digit_of c
-unfolding digit_of
-digit_between c h k m = rw (le-ltb c 48 h, lt-leb c 57 k, lt-ltb c 97 m)
-
-pub digit_letter : (c : ℕ) → 97 ≤ c → c ≤ 102 → c - 97 + 10 ≡ digit_of c
-unfolding digit_of
-digit_letter c h k =
-    let a : 48 ≤ c = omega arith in
-    let b : 57 < c = omega arith in
-    rw (le-ltb c 48 a, lt-leb c 57 b, le-ltb c 97 h, le-leb c 102 k)
-
-pub digit_over : (c : ℕ) → 102 < c → 16 ≡ digit_of c
-unfolding digit_of
-digit_over c h =
-    let a : 48 ≤ c = omega arith in
-    let b : 57 < c = omega arith in
-    let d : 97 ≤ c = omega arith in
-    rw (le-ltb c 48 a, lt-leb c 57 b, le-ltb c 97 d, lt-leb c 102 h)
+    go : (t : Bool) → ltb n (length s) ≡ t → unwrap_or (cond t (Some n) None) (length s) ≡ n
+    go true f = refl
+    go false f = omega (arith, ltb-false n (length s) f, prefix_len-le-length (λ c. not (eqb c b)) s)
 
 -- ── numbers ──
 

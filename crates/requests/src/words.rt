@@ -1,5 +1,6 @@
 // The words of a request line: places, numbers and bytes in hex.
 ghost use Rattle.std.specs.Prelude.{◌≡◌, ◌≤◌, length};
+ghost use Rattle.std.specs.Option.{MatchOption};
 ghost use Rattle.io.specs.Counts.{IsPrefixLen};
 ghost use Rattle.requests.specs.Words.{before, next_word, digit_of, number_from, Holds};
 
@@ -8,45 +9,29 @@ pub fn find(s: &[u8], byte: u8) -> usize
     ensures prefix_len { IsPrefixLen result s.now }
     ensures value { result ≡ before byte s.now }
 {
-    let mut i = 0;
-    while i < s.len() {
-        if s[i] == byte {
-            return i;
-        }
-        i += 1;
-    }
-    i
+    s.iter().position(|&b| b == byte).unwrap_or(s.len())
 }
 
 // The place of the next word.
+#[tactic(auto, unfolding(crate::specs::Words::next_word))]
 pub fn next_word(line: &[u8]) -> usize
     ensures upper_bound { result ≤ length line.now }
     ensures value { result ≡ next_word line.now }
 {
     let end = find(line, b' ');
-    if end < line.len() {
-        return end + 1;
-    }
-    end
+    if end < line.len() { end + 1 } else { end }
 }
 
-// A hex digit's value, or 16.
-fn digit(byte: u8) -> usize
-    ensures { (result ≡ digit_of byte) × (result ≤ 16) }
+// A hex digit's value.
+#[tactic(auto, unfolding(crate::specs::Words::digit_of))]
+fn digit(byte: u8) -> Option<usize>
+    ensures { MatchOption result (digit_of byte ≡ 16) (λ d. (d ≡ digit_of byte) × (d ≤ 15)) }
 {
-    if byte < b'0' {
-        return 16;
+    match byte {
+        b'0'..=b'9' => Some(usize::from(byte - b'0')),
+        b'a'..=b'f' => Some(usize::from(byte - b'a') + 10),
+        _ => None,
     }
-    if byte <= b'9' {
-        return (byte - b'0') as usize;
-    }
-    if byte < b'a' {
-        return 16;
-    }
-    if byte <= b'f' {
-        return (byte - b'a') as usize + 10;
-    }
-    16
 }
 
 // The decimal number that a line begins with, of at most seven digits.
@@ -55,17 +40,14 @@ pub fn number_in(line: &[u8]) -> usize
     ensures value { result ≡ number_from 0 line.now }
 {
     let mut number = 0;
-    let mut i = 0;
-    while i < line.len() {
-        let d = digit(line[i]);
-        if 9 < d {
+    for &byte in line {
+        let Some(d) = digit(byte) else {
             return number;
-        }
-        if 999999 < number {
+        };
+        if 9 < d || 999999 < number {
             return number;
         }
         number = 10 * number + d;
-        i += 1;
     }
     number
 }
@@ -75,23 +57,17 @@ pub fn bytes_in(line: &[u8], out: &mut [u8]) -> usize
     ensures prefix_len { IsPrefixLen result out.new }
     ensures holds { Holds line.now out.old result out.new }
 {
-    let mut n = 0;
-    let mut i = 0;
-    while n < out.len() {
-        if line.len() - i < 2 {
+    // An index and no zip: it is the answer too.
+    let mut rest = line;
+    for n in 0..out.len() {
+        let [high, low, others @ ..] = rest else {
             return n;
-        }
-        let high = digit(line[i]);
-        let low = digit(line[i + 1]);
-        if 15 < high {
+        };
+        let (Some(high), Some(low)) = (digit(*high), digit(*low)) else {
             return n;
-        }
-        if 15 < low {
-            return n;
-        }
+        };
         out[n] = (16 * high + low) as u8;
-        n += 1;
-        i += 2;
+        rest = others;
     }
-    n
+    out.len()
 }

@@ -1,24 +1,37 @@
 // Outputs and runs to lend, and what a call left in them.
-ghost use Rattle.std.specs.Prelude.{◌≡◌, ◌≤◌, min, eqb, length, take, drop};
-ghost use Rattle.base.specs.Lists.{all};
+ghost use Rattle.std.specs.Prelude.{◌≡◌, ◌≤◌, min, length, take, drop};
+ghost use Rattle.std.specs.List.{list_all};
 
-// What each byte of an output and each number of a run is before a call.
-const BEFORE: u8 = 165;
+// What is lent: bytes of an output or numbers of a run, and what each is before a call.
+pub(crate) trait Lent: Copy + PartialEq {
+    ghost BEFORE: { Self };
 
-const NUMBER_BEFORE: u32 = 2779096485;
-
-// An output longer than any table.
-pub(crate) fn output() -> [u8; 57344]
-    ensures { 57344 ≡ length result }
-{
-    [BEFORE; 57344]
+    const BEFORE: Self;
 }
 
-// A run longer than any table needs.
-pub(crate) fn run() -> [u32; 640]
-    ensures { 640 ≡ length result }
+impl Lent for u8 {
+    ghost BEFORE = { 165 };
+
+    const BEFORE: u8 = 165;
+}
+
+impl Lent for u32 {
+    ghost BEFORE = { 2779096485 };
+
+    const BEFORE: u32 = 2779096485;
+}
+
+// How long a lent output is: longer than any table.
+pub(crate) const OUTPUT: usize = 57344;
+
+// How long a lent run is: longer than any table needs.
+pub(crate) const RUN: usize = 640;
+
+// An output or a run before a call.
+pub(crate) fn fresh<T: Lent, const N: usize>() -> [T; N]
+    ensures { N ≡ length result }
 {
-    [NUMBER_BEFORE; 640]
+    [T::BEFORE; N]
 }
 
 // How many elements are lent: size, or all if there are fewer.
@@ -26,36 +39,12 @@ pub(crate) fn room_for<T>(size: usize, lent: &[T]) -> usize
     ensures value { result ≡ min size (length lent.now) }
     ensures prefix { (result ≤ length lent.now) × (result ≡ length (take result lent.now)) }
 {
-    if lent.len() < size {
-        return lent.len();
-    }
-    size
+    size.min(lent.len())
 }
 
-// Each byte from a place on is as before.
-pub(crate) fn unchanged(out: &[u8], at: usize) -> bool
-    ensures { result ≡ all (eqb 165) (drop at out.now) }
+// Each element from a place on is as before.
+pub(crate) fn unchanged<T: Lent>(lent: &[T], at: usize) -> bool
+    ensures { result ≡ list_all (λ x. T.eq x T.BEFORE) (drop at lent.now) }
 {
-    let mut i = at;
-    while i < out.len() {
-        if out[i] != BEFORE {
-            return false;
-        }
-        i += 1;
-    }
-    true
-}
-
-// Each number from a place on is as before.
-pub(crate) fn kept(run: &[u32], at: usize) -> bool
-    ensures { result ≡ all (eqb 2779096485) (drop at run.now) }
-{
-    let mut i = at;
-    while i < run.len() {
-        if run[i] != NUMBER_BEFORE {
-            return false;
-        }
-        i += 1;
-    }
-    true
+    lent.iter().skip(at).all(|x| *x == T::BEFORE)
 }

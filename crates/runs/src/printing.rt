@@ -1,50 +1,34 @@
 // Words, numbers and bytes printed to a writer.
+use rules::refusals::Refusal;
 use std::io;
 use std::io::Write;
-
-pub(crate) fn show<W: Write>(w: &mut W, word: &[u8]) -> io::Result<()> {
-    w.write_all(word)
-}
-
-// A word and a number.
-pub(crate) fn show_number<W: Write>(w: &mut W, word: &[u8], number: u64) -> io::Result<()> {
-    show(w, word)?;
-    write!(w, "{number}")
-}
 
 // The end of a line; `changed` before it where something lent is not as it should be.
 pub(crate) fn show_end<W: Write>(w: &mut W, as_due: bool) -> io::Result<()> {
     if !as_due {
-        show(w, b" changed")?;
+        w.write_all(b" changed")?;
     }
-    show(w, b"\n")
+    w.write_all(b"\n")
 }
 
 // `refused N P`.
 pub(crate) fn show_refusal<W: Write>(
     w: &mut W,
-    number: u64,
-    place: usize,
+    refusal: impl Into<Refusal>,
     as_due: bool,
 ) -> io::Result<()> {
-    show_number(w, b"refused ", number)?;
-    show_number(w, b" ", place as u64)?;
+    let Refusal { number, place } = refusal.into();
+    write!(w, "refused {number} {place}")?;
     show_end(w, as_due)
 }
 
 // The first n bytes in hex, `-` for none.
 pub(crate) fn show_bytes<W: Write>(w: &mut W, s: &[u8], n: usize) -> io::Result<()> {
     if n == 0 {
-        show(w, b"-")?;
+        w.write_all(b"-")?;
     }
-    let mut i = 0;
-    while i < n {
-        if s.len() <= i {
-            break;
-        }
-        let byte = s[i];
+    for byte in &s[..n.min(s.len())] {
         write!(w, "{byte:02x}")?;
-        i += 1;
     }
     Ok(())
 }

@@ -3,7 +3,6 @@
 use mathlib.Core.Path.{◌≡◌}
 use mathlib.Core.List.{List}
 use Prim.Native.Nat.{ℕ}
-use Rattle.rules.specs.declared.TextAnswer.{TextAnswer}
 use Rattle.rules.specs.Promises.{ReadsText, leaves}
 use Rattle.rules.specs.Results.{SpellingUnique, TextTotal, TextUnique}
 use Rattle.laws.proofs.Settled as Settled
@@ -12,7 +11,7 @@ use Rattle.text_laws.proofs.FrameExact.{frame_unique}
 use Rattle.text_laws.proofs.FramePlace.{place_unique}
 use Rattle.text_laws.proofs.Answered as Answered
 use Rattle.text_laws.proofs.TextSeen.{seen, outcome_of, outcome_is}
-use Rattle.rules.specs.Answers.{of_text}
+use Rattle.rules.specs.Answers.{of_text, TextAnswer}
 
 pub spelling_unique : SpellingUnique
 spelling_unique = Answered.spelling_unique frame_unique form_unique place_unique

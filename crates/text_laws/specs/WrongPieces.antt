@@ -1,17 +1,10 @@
 -- Answers of programs that are wrong about texts in pieces: of each, what is claimed is that the end answers so behind
 -- these pieces from a fresh start, and it is false (proofs/RuledOutTexts). [02, R-9]
-use Rattle.std.specs.Prelude.{◌≡◌, List, [], ◌∷◌, ◌++◌, ℕ, ◌+◌, ◌-◌, ◌≤◌, ◌<◌, take, drop, length}
+use Rattle.std.specs.Prelude.{◌≡◌, List, [], ◌∷◌, ◌++◌, ℕ, ◌+◌, ◌-◌, ◌≤◌, ◌<◌, take, drop, length, Ok, Err}
 use Rattle.base.specs.Bytes.{bytes}
 use Rattle.base.specs.Lists.{Every}
-use Rattle.rules.specs.declared.TextAnswer.{TextAnswer}
-use Rattle.rules.specs.declared.TextAnswer.TheVariants.{
-  Accepted,
-  TooLong,
-  BadLine,
-  BadForm,
-  Mismatch,
-}
-use Rattle.rules.specs.Answers.{of_text}
+use Rattle.rules.specs.declared.TextRefusal.TheVariants.{TooLong, BadLine, BadForm, Mismatch}
+use Rattle.rules.specs.Answers.{of_text, TextAnswer}
 use Rattle.rules.specs.Frames.{ended}
 use Rattle.rules.specs.Fields.{Description}
 use Rattle.rules.specs.Stored.{stored}
@@ -46,7 +39,7 @@ abbrev leaves_all : List (List ℕ) → TextAnswer → PieceClaim
 leaves_all pieces r = ends pieces (nines 600) r (nines 600)
 
 abbrev writes_all : List (List ℕ) → Description → PieceClaim
-writes_all pieces d = ends pieces (nines 600) (Accepted (length (stored d))) (overlaid (stored d) (nines 600))
+writes_all pieces d = ends pieces (nines 600) (Ok (length (stored d))) (overlaid (stored d) (nines 600))
 
 -- a text in two pieces, and with an empty one between them
 abbrev cut_at : ℕ → List ℕ → List (List ℕ)
@@ -68,15 +61,15 @@ head = field_page []
 abbrev cuts : List PieceClaim
 cuts =
     -- a piece that ends in the middle of a line judged early
-    leaves_all (cut_at 20 good) (BadLine 1)
-    ∷ leaves_all (cut_at 40 good) (BadLine 4)
-    ∷ leaves_all (cut_at (length good - 3) good) (BadForm 11)
+    leaves_all (cut_at 20 good) (Err (BadLine 1))
+    ∷ leaves_all (cut_at 40 good) (Err (BadLine 4))
+    ∷ leaves_all (cut_at (length good - 3) good) (Err (BadForm 11))
     -- an LF at a piece's start lost
-    ∷ leaves_all (cut_at 31 good) (BadLine 2)
-    ∷ leaves_all (cut_at (length good - 1) good) (BadLine 11)
+    ∷ leaves_all (cut_at 31 good) (Err (BadLine 2))
+    ∷ leaves_all (cut_at (length good - 1) good) (Err (BadLine 11))
     -- the empty piece taken for the end
-    ∷ leaves_all (gap_at 20 good) (BadLine 1)
-    ∷ leaves_all ([] ∷ good ∷ []) (BadLine 1)
+    ∷ leaves_all (gap_at 20 good) (Err (BadLine 1))
+    ∷ leaves_all ([] ∷ good ∷ []) (Err (BadLine 1))
     -- 1,025 bytes accepted where they come in two pieces, or where the last one comes with the LF
     ∷ writes_all (cut_at (length head + 1000) long_page) (one_field "A")
     ∷ writes_all (cut_at (length head + 1024) long_page) (one_field "A")
@@ -89,13 +82,13 @@ cuts =
 abbrev order : List PieceClaim
 order =
     -- the output written before the end
-    ends (good ∷ ended (bytes "x") ∷ []) (nines 600) (BadForm 12) (overlaid (stored (one_field "A")) (nines 600))
-    ∷ ends (good ∷ bytes "x" ∷ []) (nines 600) (BadLine 12) (overlaid (stored (one_field "A")) (nines 600))
+    ends (good ∷ ended (bytes "x") ∷ []) (nines 600) (Err (BadForm 12)) (overlaid (stored (one_field "A")) (nines 600))
+    ∷ ends (good ∷ bytes "x" ∷ []) (nines 600) (Err (BadLine 12)) (overlaid (stored (one_field "A")) (nines 600))
     -- a later refusal of a higher number kept over an earlier lower one, and an earlier higher one over a later lower
-    ∷ leaves_all (field_page (bytes "A: 8 bits" ∷ []) ∷ ended (bytes "B: 8 bits.") ∷ []) (Mismatch 12)
-    ∷ leaves_all (field_page (bytes "B: 8 bits." ∷ []) ∷ ended (bytes "A: 8 bits") ∷ []) (Mismatch 11)
+    ∷ leaves_all (field_page (bytes "A: 8 bits" ∷ []) ∷ ended (bytes "B: 8 bits.") ∷ []) (Err (Mismatch 12))
+    ∷ leaves_all (field_page (bytes "B: 8 bits." ∷ []) ∷ ended (bytes "A: 8 bits") ∷ []) (Err (Mismatch 11))
     -- 3 of an earlier piece kept over 2 of a later one
-    ∷ leaves_all (bytes "x" ∷ ended [] ∷ (0x7F ∷ []) ∷ []) (BadLine 1)
+    ∷ leaves_all (bytes "x" ∷ ended [] ∷ (0x7F ∷ []) ∷ []) (Err (BadLine 1))
     ∷ []
 
 abbrev pub wrong_pieces : List PieceClaim
@@ -120,14 +113,14 @@ pub record WrongStates (Of : List ℕ → List ℕ → Type 0) (fresh : List ℕ
   pub dropped_started : (s : List ℕ) → state_bytes < length s → StartsText Of fresh s (take state_bytes s) → ⊥
   pub dropped_taken : (s piece : List ℕ) → state_bytes < length s → TakesPiece Of s piece (take state_bytes s) → ⊥
   -- 1 for a state that is too short
-  pub short_ended : EndsText Of [] (9 ∷ []) (leaves (of_text TooLong) (9 ∷ [])) → ⊥
+  pub short_ended : EndsText Of [] (9 ∷ []) (leaves (of_text (Err TooLong)) (9 ∷ [])) → ⊥
   -- refused with a byte of the output changed, and with a length
-  pub refused_written : (s : List ℕ) → EndsText Of s (9 ∷ []) (leaves (of_text (BadLine 1)) (0 ∷ [])) → ⊥
+  pub refused_written : (s : List ℕ) → EndsText Of s (9 ∷ []) (leaves (of_text (Err (BadLine 1))) (0 ∷ [])) → ⊥
   pub refused_long : (s : List ℕ)
       → EndsText Of s (9 ∷ []) (leaves (record { number = 3; place = 1; amount = 1 }) (9 ∷ [])) → ⊥
   -- a table longer than the output, a byte beyond it changed, one beyond it lost, and one with a place
-  pub overlong : (s : List ℕ) → EndsText Of s (9 ∷ []) (leaves (of_text (Accepted 2)) (0 ∷ [])) → ⊥
-  pub beyond_written : (s : List ℕ) → EndsText Of s (9 ∷ 9 ∷ []) (leaves (of_text (Accepted 1)) (0 ∷ 0 ∷ [])) → ⊥
-  pub beyond_lost : (s : List ℕ) → EndsText Of s (9 ∷ 9 ∷ []) (leaves (of_text (Accepted 2)) (0 ∷ [])) → ⊥
+  pub overlong : (s : List ℕ) → EndsText Of s (9 ∷ []) (leaves (of_text (Ok 2)) (0 ∷ [])) → ⊥
+  pub beyond_written : (s : List ℕ) → EndsText Of s (9 ∷ 9 ∷ []) (leaves (of_text (Ok 1)) (0 ∷ 0 ∷ [])) → ⊥
+  pub beyond_lost : (s : List ℕ) → EndsText Of s (9 ∷ 9 ∷ []) (leaves (of_text (Ok 2)) (0 ∷ [])) → ⊥
   pub accepted_placed : (s : List ℕ)
       → EndsText Of s (9 ∷ []) (leaves (record { number = 0; place = 1; amount = 1 }) (0 ∷ [])) → ⊥

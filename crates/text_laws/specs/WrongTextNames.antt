@@ -1,10 +1,10 @@
 -- Answers of programs that are wrong about the names that a text may read, and about those that clash. [02, R-2]
-use Rattle.std.specs.Prelude.{List, [], ◌∷◌, ◌++◌, map, ℕ}
+use Rattle.std.specs.Prelude.{List, [], ◌∷◌, ◌++◌, map, ℕ, Err}
 use Rattle.std.proofs.Math.Option.{none, some}
 use Prim.Native.String.{String}
 use Rattle.base.specs.Bytes.{bytes}
 use Rattle.rules.specs.declared.Op.TheVariants.{Or, Eq}
-use Rattle.rules.specs.declared.TextAnswer.TheVariants.{BadForm, Repeated, BadName, BadRest}
+use Rattle.rules.specs.declared.TextRefusal.TheVariants.{BadForm, Repeated, BadName, BadRest}
 use Rattle.rules.specs.Trees.{Tree, num, read, two}
 use Rattle.rules.specs.Fields.{Width, fixed, measured, rest, Field, Description}
 use Rattle.rules.specs.Cases.{named, unnamed}
@@ -199,41 +199,41 @@ long w = record {
 abbrev in_reads : List Claim
 in_reads =
     -- a readable label refused, by 9 or 5; the neighbour read
-    leaves_it by_label (BadName 12)
-    ∷ leaves_it by_label (BadForm 12)
+    leaves_it by_label (Err (BadName 12))
+    ∷ leaves_it by_label (Err (BadForm 12))
     ∷ writes_table by_label (pair (four "A") (four_if "B" (is_one 1)))
     -- the own label in a constraint refused; a label in a condition, in a width; a word that only looks reserved
-    ∷ leaves_it own_constraint (BadName 11)
-    ∷ leaves_it by_condition (BadName 12)
-    ∷ leaves_it by_width (BadName 16)
-    ∷ leaves_it capital (BadForm 12)
+    ∷ leaves_it own_constraint (Err (BadName 11))
+    ∷ leaves_it by_condition (Err (BadName 12))
+    ∷ leaves_it by_width (Err (BadName 16))
+    ∷ leaves_it capital (Err (BadForm 12))
     -- case ignored
     ∷ writes_table small (pair (four "A") (four_if "B" (is_one 0)))
     -- one of the two names passed over; the own label refused; each name an index of its own
-    ∷ leaves_it by_either (BadName 12)
+    ∷ leaves_it by_either (Err (BadName 12))
     ∷ writes_table by_either (either_read 0 1 1)
     ∷ writes_table by_either (either_read 1 0 1)
     ∷ writes_table by_either (either_read 0 0 0)
     -- the readable label of a later field read, or refused by 5; that of the own field in its condition
     ∷ writes_table forward (pair (four_if "A" (is_one 1)) (four "B"))
-    ∷ leaves_it forward (BadForm 11)
-    ∷ leaves_it forward (BadName 12)
+    ∷ leaves_it forward (Err (BadForm 11))
+    ∷ leaves_it forward (Err (BadName 12))
     ∷ writes_table own_condition (pair (unnamed "A" (fixed 4) none (some (is_one 0))) (four "B"))
     -- that of a measured field read, or of the rest field
     ∷ writes_table measured_text (long (measured 8 (read 0)))
-    ∷ leaves_it measured_text (BadForm 17)
+    ∷ leaves_it measured_text (Err (BadForm 17))
     ∷ writes_table rest_text (long rest)
-    ∷ leaves_it rest_text (BadForm 17)
+    ∷ leaves_it rest_text (Err (BadForm 17))
     -- a label read that has not the form of a short name, or 9 for it
     ∷ writes_table spaced (pair (four_both "My Own" "A") (four_if "B" (is_one 0)))
-    ∷ leaves_it spaced (BadName 12)
+    ∷ leaves_it spaced (Err (BadName 12))
     ∷ writes_table reserved_word (pair (four_both "present" "A") (four_if "B" (is_one 0)))
-    ∷ leaves_it reserved_word (BadName 12)
+    ∷ leaves_it reserved_word (Err (BadName 12))
     ∷ writes_table long_word (pair (four_both "Ninebytes" "A") (four_if "B" (is_one 0)))
-    ∷ leaves_it long_word (BadName 12)
+    ∷ leaves_it long_word (Err (BadName 12))
     -- a hyphen taken into a name, or refused by 5; a label read by its first 8 bytes
     ∷ writes_table hyphened (pair (four_both "Next-Hop" "A") (four_if "B" (is_one 0)))
-    ∷ leaves_it hyphened (BadForm 12)
+    ∷ leaves_it hyphened (Err (BadForm 12))
     ∷ writes_table cut_word (pair (four_both "Ninebytes" "A") (four_if "B" (is_one 0)))
     ∷ []
 
@@ -241,31 +241,31 @@ abbrev in_clashes : List Claim
 in_clashes =
     -- a label that is another's short name accepted, either way round, or refused at the earlier line
     writes_table label_first (pair (four "A") (four_both "B" "A"))
-    ∷ leaves_it label_first (Repeated 11)
+    ∷ leaves_it label_first (Err (Repeated 11))
     ∷ writes_table short_first (pair (four_both "Long" "A") (four_both "A" "B"))
-    ∷ leaves_it short_first (Repeated 11)
+    ∷ leaves_it short_first (Err (Repeated 11))
     ∷ writes_table exchanged (pair (four_both "A" "B") (four_both "B" "A"))
-    ∷ leaves_it exchanged (Repeated 11)
+    ∷ leaves_it exchanged (Err (Repeated 11))
     -- like names compared before unlike ones
-    ∷ leaves_it three_lines (Repeated 15)
-    ∷ leaves_it three_lines (Repeated 13)
+    ∷ leaves_it three_lines (Err (Repeated 15))
+    ∷ leaves_it three_lines (Err (Repeated 13))
     -- compared with the line before alone; a long field's names left out; 9 or 10 before 8
     ∷ writes_table far_clash far_fields
-    ∷ leaves_it long_clash (BadName 17)
-    ∷ leaves_it eight_nine (BadName 11)
-    ∷ leaves_it eight_ten (BadRest 17)
+    ∷ leaves_it long_clash (Err (BadName 17))
+    ∷ leaves_it eight_nine (Err (BadName 11))
+    ∷ leaves_it eight_ten (Err (BadRest 17))
     -- a label cut to 8 bytes, or letters without their case, taken for a clash
-    ∷ leaves_it cut_short (Repeated 12)
-    ∷ leaves_it other_case (Repeated 12)
+    ∷ leaves_it cut_short (Err (Repeated 12))
+    ∷ leaves_it other_case (Err (Repeated 12))
     -- a field refused because its label and short name are one word
-    ∷ leaves_it one_word (Repeated 11)
-    ∷ leaves_it one_word (Repeated 12)
-    ∷ leaves_it one_word (BadName 11)
+    ∷ leaves_it one_word (Err (Repeated 11))
+    ∷ leaves_it one_word (Err (Repeated 12))
+    ∷ leaves_it one_word (Err (BadName 11))
     ∷ []
 
 -- the line of the pair with the earliest first line, or of the sort that is compared first
 abbrev in_two_clashes : List Claim
-in_two_clashes = map (λ text. leaves_it text (Repeated 14)) two_clashes
+in_two_clashes = map (λ text. leaves_it text (Err (Repeated 14))) two_clashes
 
 abbrev pub wrong_text_names : List Claim
 wrong_text_names = in_reads ++ (in_clashes ++ in_two_clashes)

@@ -1,11 +1,11 @@
 -- Answers of programs that write a text's table with wrong numbers or kinds. [02, R-5]
-use Rattle.std.specs.Prelude.{List, [], ◌∷◌, ◌++◌, map, ℕ, suc, ◌+◌, length, set}
+use Rattle.std.specs.Prelude.{List, [], ◌∷◌, ◌++◌, map, ℕ, suc, ◌+◌, length, set, Ok, Err}
 use Rattle.std.proofs.Math.Option.{none, some}
 use Prim.Native.String.{String}
 use Rattle.base.specs.Bytes.{bytes, decimal}
 use Rattle.base.specs.Lists.{joined}
 use Rattle.rules.specs.declared.Op.TheVariants.{Eq, Lt, Add}
-use Rattle.rules.specs.declared.TextAnswer.TheVariants.{Accepted, NoRoom}
+use Rattle.rules.specs.declared.TextRefusal.TheVariants.{NoRoom}
 use Rattle.rules.specs.Trees.{num, read, two}
 use Rattle.rules.specs.Fields.{fixed, measured, Description}
 use Rattle.rules.specs.Editions.{uncounted}
@@ -94,11 +94,11 @@ chained_text i =
 
 -- these bytes are written to an output of 1,000
 abbrev pub writes_bytes : List ℕ → List ℕ → Claim
-writes_bytes text table = reads text (nines 1000) (Accepted (length table)) (overlaid table (nines 1000))
+writes_bytes text table = reads text (nines 1000) (Ok (length table)) (overlaid table (nines 1000))
 
 -- to one of 2,500
 abbrev pub writes_many : List ℕ → List ℕ → Claim
-writes_many text table = reads text (nines 2500) (Accepted (length table)) (overlaid table (nines 2500))
+writes_many text table = reads text (nines 2500) (Ok (length table)) (overlaid table (nines 2500))
 
 -- ── the answers ──
 
@@ -142,10 +142,10 @@ in_kinds =
     ∷ writes_bytes tag_text (set tag_table 15 2)
     ∷ writes_bytes tag_text (set tag_table 13 0x1B)
     -- the old length answered; accepted with room for an old table alone
-    ∷ reads tag_text (nines 50) (Accepted 44) (overlaid tag_table (nines 50))
-    ∷ reads tag_text (nines 44) (Accepted 44) old_tag_table
+    ∷ reads tag_text (nines 50) (Ok 44) (overlaid tag_table (nines 50))
+    ∷ reads tag_text (nines 44) (Ok 44) old_tag_table
     -- 11 after the first record was written
-    ∷ reads tag_text (nines 45) NoRoom (overlaid (13 ∷ 0 ∷ 1 ∷ 0 ∷ []) (nines 45))
+    ∷ reads tag_text (nines 45) (Err NoRoom) (overlaid (13 ∷ 0 ∷ 1 ∷ 0 ∷ []) (nines 45))
     ∷ []
 
 -- of many fields: references to a high index, or from one, left out; the own one counted there

@@ -1,10 +1,10 @@
 -- Answers of programs that are wrong about the quotients, remainders and powers of a text. [02, R-7]
-use Rattle.std.specs.Prelude.{List, [], ◌∷◌, ◌++◌, map, ℕ}
+use Rattle.std.specs.Prelude.{List, [], ◌∷◌, ◌++◌, map, ℕ, Err}
 use Rattle.std.proofs.Math.Option.{none, some}
 use Prim.Native.String.{String}
 use Rattle.rules.specs.declared.Op.{Op}
 use Rattle.rules.specs.declared.Op.TheVariants.{Eq, Add, Sub, Mul, Div, Rem, Pow}
-use Rattle.rules.specs.declared.TextAnswer.TheVariants.{BadByte, BadForm, OverLimit, Mismatch, BadName}
+use Rattle.rules.specs.declared.TextRefusal.TheVariants.{BadByte, BadForm, OverLimit, Mismatch, BadName}
 use Rattle.rules.specs.Trees.{Tree, num, read, two}
 use Rattle.rules.specs.Fields.{fixed, measured, Field, Description}
 use Rattle.rules.specs.Cases.{named, unnamed}
@@ -115,14 +115,14 @@ in_grouping =
 abbrev in_forms : List Claim
 in_forms =
     -- a page that has one of them refused by 5, or by 2
-    map (λ e. leaves_it (size_text e) (BadForm 14)) ("F/2" ∷ "F%2" ∷ "2^F" ∷ "F / 2" ∷ "2^F^2" ∷ [])
-    ++ (leaves_it (size_text "2^F") BadByte
-    ∷ leaves_it (required_text "F%2 == 1") (BadForm 14)
+    map (λ e. leaves_it (size_text e) (Err (BadForm 14))) ("F/2" ∷ "F%2" ∷ "2^F" ∷ "F / 2" ∷ "2^F^2" ∷ [])
+    ++ (leaves_it (size_text "2^F") (Err BadByte)
+    ∷ leaves_it (required_text "F%2 == 1") (Err (BadForm 14))
     -- a zero divisor, or a power out of range, that stands in the text refused
-    ∷ leaves_it (size_text "F/0") (BadForm 14)
-    ∷ leaves_it (size_text "F%0") (BadName 14)
-    ∷ leaves_it (size_text "2^32") (BadForm 14)
-    ∷ leaves_it (size_text "2^32") (OverLimit 14)
+    ∷ leaves_it (size_text "F/0") (Err (BadForm 14))
+    ∷ leaves_it (size_text "F%0") (Err (BadName 14))
+    ∷ leaves_it (size_text "2^32") (Err (BadForm 14))
+    ∷ leaves_it (size_text "2^32") (Err (OverLimit 14))
     -- two signs, or two spaces, accepted; a sign without an operand
     ∷ taken_for "F**2" (left Pow 2)
     ∷ taken_for "F//2" (left Div 2)
@@ -131,29 +131,29 @@ in_forms =
     ∷ taken_for "2  ^F" (right 2 Pow)
     ∷ taken_for "F^" (read 0)
     ∷ taken_for "/F" (read 0)
-    ∷ leaves_it (size_text "F//2") (BadName 14)
+    ∷ leaves_it (size_text "F//2") (Err (BadName 14))
     -- `2^3 bits` as 8 bits, in a long row and in one of bits; 5 for 7
     ∷ writes_table (size_text "2^3") eight
-    ∷ leaves_it (size_text "2^3") (Mismatch 14)
+    ∷ leaves_it (size_text "2^3") (Err (Mismatch 14))
     ∷ writes_table (bit_text "2^3") eight
-    ∷ leaves_it (bit_text "2^3") (BadForm 14)
+    ∷ leaves_it (bit_text "2^3") (Err (BadForm 14))
     -- yes or no under an operator accepted, or refused by 5; a number for yes or no
     ∷ taken_for "(F==1)^2" (two Pow (left Eq 1) (num 2))
-    ∷ leaves_it (size_text "(F==1)^2") (BadForm 14)
+    ∷ leaves_it (size_text "(F==1)^2") (Err (BadForm 14))
     ∷ writes_table (required_text "F%2") (required (left Rem 2))
     ∷ [])
 
 abbrev in_chains : List Claim
 in_chains =
     -- depth 12 refused, or refused by 5; 13 and 24 accepted, or refused by 5
-    leaves_it (size_text chain12) (OverLimit 14)
-    ∷ leaves_it (size_text chain12) (BadForm 14)
+    leaves_it (size_text chain12) (Err (OverLimit 14))
+    ∷ leaves_it (size_text chain12) (Err (BadForm 14))
     ∷ taken_for chain13 (powers 12)
-    ∷ leaves_it (size_text chain13) (BadForm 14)
+    ∷ leaves_it (size_text chain13) (Err (BadForm 14))
     ∷ taken_for chain24 (powers 23)
-    ∷ leaves_it (size_text chain24) (BadForm 14)
+    ∷ leaves_it (size_text chain24) (Err (BadForm 14))
     -- 6 though the form is wrong further right
-    ∷ map (λ e. leaves_it (size_text e) (OverLimit 14)) broken_chains
+    ∷ map (λ e. leaves_it (size_text e) (Err (OverLimit 14))) broken_chains
 
 abbrev pub wrong_text_operators : List Claim
 wrong_text_operators = in_grouping ++ (in_forms ++ in_chains)

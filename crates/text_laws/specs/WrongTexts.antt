@@ -1,15 +1,13 @@
 -- Answers of wrong programs to texts: of each, what is claimed is the promise of a text, and it is false
 -- (proofs/RuledOutTexts). A program that keeps the promise is none of these.
 -- [01, How the promises are judged] [01, Easy ways to go wrong]
-use Rattle.std.specs.Prelude.{List, [], ◌∷◌, ◌++◌, ℕ, ◌+◌, length, replicate, take, drop}
+use Rattle.std.specs.Prelude.{List, [], ◌∷◌, ◌++◌, ℕ, ◌+◌, length, replicate, take, drop, Ok, Err}
 use Rattle.std.proofs.Math.Option.{none, some}
 use Prim.Native.String.{String}
 use Rattle.base.specs.Bytes.{bytes}
 use Rattle.base.specs.Lists.{joined, Every}
 use Rattle.rules.specs.declared.Op.TheVariants.{Or, And, Eq, Ne, Ge, Sub}
-use Rattle.rules.specs.declared.TextAnswer.{TextAnswer}
-use Rattle.rules.specs.declared.TextAnswer.TheVariants.{
-  Accepted,
+use Rattle.rules.specs.declared.TextRefusal.TheVariants.{
   BadLine,
   TooMany,
   BadForm,
@@ -38,7 +36,7 @@ use Rattle.rules.specs.Pages.{
   many_fields,
   many_text,
 }
-use Rattle.rules.specs.Answers.{of_text}
+use Rattle.rules.specs.Answers.{of_text, TextAnswer}
 
 -- ── claims of a text ──
 
@@ -63,7 +61,7 @@ abbrev pub leaves_it : List ℕ → TextAnswer → Claim
 leaves_it text r = reads text (nines 600) r (nines 600)
 
 abbrev pub writes_table : List ℕ → Description → Claim
-writes_table text d = reads text (nines 600) (Accepted (length (stored d))) (overlaid (stored d) (nines 600))
+writes_table text d = reads text (nines 600) (Ok (length (stored d))) (overlaid (stored d) (nines 600))
 
 -- the page of every freedom with another constraint of its last field, or of its third
 abbrev pub free_last : Tree ℕ → Description
@@ -166,49 +164,49 @@ two_rests = page_text
 abbrev pub wrong_outputs : List Claim
 wrong_outputs =
     -- every text refused; an output refused that the table just fills
-    reads tag_text (nines 46) (BadLine 1) (nines 46)
-    ∷ reads tag_text (nines 46) NoRoom (nines 46)
+    reads tag_text (nines 46) (Err (BadLine 1)) (nines 46)
+    ∷ reads tag_text (nines 46) (Err NoRoom) (nines 46)
     -- the Tag table for every text
-    ∷ reads blade_text (nines 300) (Accepted 46) (overlaid tag_table (nines 300))
-    ∷ reads [] (nines 46) (Accepted 46) tag_table
+    ∷ reads blade_text (nines 300) (Ok 46) (overlaid tag_table (nines 300))
+    ∷ reads [] (nines 46) (Ok 46) tag_table
     -- accepted, and nothing written
-    ∷ reads tag_text (nines 46) (Accepted 46) (nines 46)
+    ∷ reads tag_text (nines 46) (Ok 46) (nines 46)
     -- accepted with another length
-    ∷ reads tag_text (nines 46) (Accepted 45) tag_table
-    ∷ reads tag_text (nines 46) (Accepted 0) tag_table
+    ∷ reads tag_text (nines 46) (Ok 45) tag_table
+    ∷ reads tag_text (nines 46) (Ok 0) tag_table
     -- the output's length for the table's
-    ∷ reads tag_text (nines 50) (Accepted 50) (overlaid tag_table (nines 50))
+    ∷ reads tag_text (nines 50) (Ok 50) (overlaid tag_table (nines 50))
     -- bytes beyond the table changed
-    ∷ reads tag_text (nines 50) (Accepted 46) (tag_table ++ replicate 4 0)
+    ∷ reads tag_text (nines 50) (Ok 46) (tag_table ++ replicate 4 0)
     -- the output changed on a refusal
-    ∷ reads tag_text (nines 45) NoRoom (take 45 tag_table)
-    ∷ reads [] (nines 46) (BadLine 1) (replicate 46 0)
+    ∷ reads tag_text (nines 45) (Err NoRoom) (take 45 tag_table)
+    ∷ reads [] (nines 46) (Err (BadLine 1)) (replicate 46 0)
     -- accepted though the output is too short
-    ∷ reads tag_text (nines 45) (Accepted 46) (nines 45)
-    ∷ reads tag_text (nines 45) (Accepted 45) (take 45 tag_table)
+    ∷ reads tag_text (nines 45) (Ok 46) (nines 45)
+    ∷ reads tag_text (nines 45) (Ok 45) (take 45 tag_table)
     ∷ []
 
 -- of numbers and places
 abbrev pub wrong_refusals : List Claim
 wrong_refusals =
     -- a later number although a lower one holds: 3 for 1, 3 for 2, 7 for 4, 8 for 7, 7 for 5
-    leaves_it (replicate (1 + text_most) 10) (BadLine 1)
-    ∷ leaves_it (tag_lines 1 ++ (0x7F ∷ [])) (BadLine 1)
-    ∷ leaves_it (tag_lines (1 + fields_most)) (Mismatch 12)
-    ∷ leaves_it (tag_lines fields_most) (Repeated 12)
+    leaves_it (replicate (1 + text_most) 10) (Err (BadLine 1))
+    ∷ leaves_it (tag_lines 1 ++ (0x7F ∷ [])) (Err (BadLine 1))
+    ∷ leaves_it (tag_lines (1 + fields_most)) (Err (Mismatch 12))
+    ∷ leaves_it (tag_lines fields_most) (Err (Repeated 12))
     -- 4 for 65 field lines, or for 72 cells [02, R-10]
-    ∷ leaves_it (tag_lines 65) TooMany
-    ∷ leaves_it (crowded 9) TooMany
-    ∷ leaves_it (tag_lines 1 ++ bytes "\n") (Mismatch 12)
+    ∷ leaves_it (tag_lines 65) (Err TooMany)
+    ∷ leaves_it (crowded 9) (Err TooMany)
+    ∷ leaves_it (tag_lines 1 ++ bytes "\n") (Err (Mismatch 12))
     -- 11 before the text's own faults
-    ∷ reads [] [] NoRoom []
+    ∷ reads [] [] (Err NoRoom) []
     -- a wrong place
-    ∷ leaves_it [] (BadLine 0)
-    ∷ leaves_it tag_unended (BadLine 10)
-    ∷ leaves_it tag_unended (BadLine 1)
-    ∷ leaves_it (tag_lines 1 ++ bytes "\n") (BadForm 11)
+    ∷ leaves_it [] (Err (BadLine 0))
+    ∷ leaves_it tag_unended (Err (BadLine 10))
+    ∷ leaves_it tag_unended (Err (BadLine 1))
+    ∷ leaves_it (tag_lines 1 ++ bytes "\n") (Err (BadForm 11))
     -- no refusal at all
-    ∷ leaves_it [] (Accepted 0)
+    ∷ leaves_it [] (Ok 0)
     ∷ []
 
 -- of whole pages
@@ -236,13 +234,13 @@ wrong_pairs =
     -- the widths of cells passed over
     ∷ writes_table narrow (pair (four "A") (unnamed "B" (fixed 3) none none))
     -- the line before the one that disagrees with its cell, or the one behind it
-    ∷ leaves_it narrow (Mismatch 11)
-    ∷ leaves_it narrow (Mismatch 13)
+    ∷ leaves_it narrow (Err (Mismatch 11))
+    ∷ leaves_it narrow (Err (Mismatch 13))
     -- the first line that is wrong in any way: 9 at 11 for 7 at 12
-    ∷ leaves_it narrow_behind (BadName 11)
+    ∷ leaves_it narrow_behind (Err (BadName 11))
     -- a repeated short name accepted, or refused at the first of the two
     ∷ writes_table shared (pair (named "A" "s" (fixed 4) none none) (named "B" "s" (fixed 4) none none))
-    ∷ leaves_it shared (Repeated 11)
+    ∷ leaves_it shared (Err (Repeated 11))
     -- a later field read; a condition that reads its own field; a number taken for yes or no
     ∷ writes_table forward
     (pair (named "A" "a" (fixed 4) (some (two Eq (read 1) (num 1))) none) (named "B" "b" (fixed 4) none none))
@@ -250,28 +248,28 @@ wrong_pairs =
     ∷ writes_table numeric (pair (named "A" "a" (fixed 4) (some (read 0)) none) (four "B"))
     -- a border that is too short accepted, or refused at the line before it
     ∷ writes_table short_border (pair (four "A") (four "B"))
-    ∷ leaves_it short_border (BadLine 6)
+    ∷ leaves_it short_border (Err (BadLine 6))
     -- the first line that is wrong in any way: 7 at 11 for 5 at 12
-    ∷ leaves_it crossed_open (Mismatch 11)
+    ∷ leaves_it crossed_open (Err (Mismatch 11))
     -- a tree that is too deep accepted
     ∷ writes_table deep
     (pair (named "A" "a" (fixed 4) (some (not_times 11 (two Eq (read 0) (num 1)))) none) (four "B"))
     -- a second field of what is left accepted, or the first of the two refused
     ∷ writes_table two_rests (pair (unnamed "A" rest none none) (unnamed "B" rest none none))
-    ∷ leaves_it two_rests (BadRest 13)
+    ∷ leaves_it two_rests (Err (BadRest 13))
     ∷ []
 
 -- of a text of 65 fields [02, R-10]
 abbrev pub wrong_many : List Claim
 wrong_many =
     -- 4, or 7 at the 65th line; 64 of the fields written; 11 for an output that the table just fills; nothing written
-    reads (many_text 65) (nines 1243) TooMany (nines 1243)
-    ∷ reads (many_text 65) (nines 1243) (Mismatch 206) (nines 1243)
-    ∷ reads (many_text 65) (nines 1243) (Accepted 1224) (overlaid (stored (page (many_fields 0 64))) (nines 1243))
-    ∷ reads (many_text 65) (nines 1243) NoRoom (nines 1243)
-    ∷ reads (many_text 65) (nines 1243) (Accepted 1243) (nines 1243)
+    reads (many_text 65) (nines 1243) (Err TooMany) (nines 1243)
+    ∷ reads (many_text 65) (nines 1243) (Err (Mismatch 206)) (nines 1243)
+    ∷ reads (many_text 65) (nines 1243) (Ok 1224) (overlaid (stored (page (many_fields 0 64))) (nines 1243))
+    ∷ reads (many_text 65) (nines 1243) (Err NoRoom) (nines 1243)
+    ∷ reads (many_text 65) (nines 1243) (Ok 1243) (nines 1243)
     -- 129 accepted
-    ∷ reads (many_text 129) (nines 2500) (Accepted (length (stored (page (many_fields 0 129)))))
+    ∷ reads (many_text 129) (nines 2500) (Ok (length (stored (page (many_fields 0 129)))))
     (overlaid (stored (page (many_fields 0 129))) (nines 2500))
     ∷ []
 

@@ -1,10 +1,10 @@
 -- A part of the bytes that hold what is kept, lent and back: the other parts are as they were.
-use mathlib.Core.Path.{◌≡◌, refl, ap, sym, ◌∙◌, subst}
-use mathlib.Core.List.{List, [], ◌∷◌, ◌++◌, append-nil}
-use Prim.Native.Nat.{ℕ, zero, suc, ◌+◌, ◌-◌, ◌≤◌}
+use mathlib.Core.Path.{◌≡◌, refl, ap, sym, ◌∙◌}
+use mathlib.Core.List.{List, [], ◌∷◌, ◌++◌}
+use Prim.Native.Nat.{ℕ, zero, suc, ◌+◌, ◌≤◌}
 use native.Mathlib.Omega.{arith}
-use lib.ListN.{length, take, drop, length-drop, drop_of_length-le}
-use lib.Seq.{take-take, length-take-le, take_at, drop_at, drop-drop, take_all}
+use lib.ListN.{length, take, drop, length-drop}
+use lib.Seq.{take-take, length-take-le, take_at, drop_at, drop-drop}
 use borrow.Rule.Slice.PartMut.{put_mid, take_put, same_len_mid}
 use Rattle.rules.specs.Limits.{fields_most, label_most, short_most}
 use Rattle.text_laws.specs.Fold as fold
@@ -83,10 +83,6 @@ areas_after a b c n l = record {
 area_long : (held : List ℕ) (a n : ℕ) → a + n ≤ length held → length (take n (drop a held)) ≡ n
 area_long held a n le = length-take-le n (drop a held) (let m = length-drop a held in omega (arith, m))
 
-pub held_there : (held before : List ℕ) → length held ≡ length before → held_room ≤ length before
-    → held_room ≤ length held
-held_there held before e room = omega (arith, e, room)
-
 module _ (held : List ℕ) (room : held_room ≤ length held) where
   pub cells_long : length (cell_bytes held) ≡ slots_most
   cells_long = area_long held 0 slots_most (omega arith)
@@ -97,23 +93,10 @@ module _ (held : List ℕ) (room : held_room ≤ length held) where
   pub labels_long : length (label_bytes held) ≡ labels_room
   labels_long = area_long held labels_at labels_room (omega arith)
 
-  pub table_long : length (table_bytes held) ≡ length held - table_at
-  table_long = length-drop table_at held
-
-  -- the table, lent as a part
-  pub table_part : take (length held - table_at) (drop table_at held) ≡ table_bytes held
-  table_part = take_all (length held - table_at) (drop table_at held) (let n = table_long in omega (arith, n))
-
-  pub table_room : records_most ≤ length (table_bytes held)
-  table_room = let n = table_long in omega (arith, n)
+  pub table_long : length (table_bytes held) ≡ records_most
+  table_long = area_long held table_at records_most (omega arith)
 
 module _ (held part : List ℕ) (room : held_room ≤ length held) where
-  pub cells_back : length part ≡ slots_most → length (put_mid 0 slots_most held part) ≡ length held
-  cells_back long = same_len_mid 0 slots_most held part (long ∙ sym (cells_long held room))
-
-  pub names_back : length part ≡ names_room → length (put_mid names_at names_room held part) ≡ length held
-  names_back long = same_len_mid names_at names_room held part (long ∙ sym (names_long held room))
-
   pub labels_back : length part ≡ labels_room → length (put_mid labels_at labels_room held part) ≡ length held
   labels_back long = same_len_mid labels_at labels_room held part (long ∙ sym (labels_long held room))
 
@@ -123,7 +106,7 @@ module _ (held part : List ℕ) (room : held_room ≤ length held) where
     cells_are = mid_here 0 slots_most held part (omega arith) long;
     names_are = ap (take names_room) (mid_behind 0 slots_most held part (omega arith) long 0);
     labels_are = ap (take labels_room) (mid_behind 0 slots_most held part (omega arith) long names_room);
-    table_is = mid_behind 0 slots_most held part (omega arith) long (names_room + labels_room);
+    table_is = ap (take records_most) (mid_behind 0 slots_most held part (omega arith) long (names_room + labels_room));
   }
 
   pub names_put : length part ≡ names_room
@@ -132,7 +115,7 @@ module _ (held part : List ℕ) (room : held_room ≤ length held) where
     cells_are = mid_before names_at names_room held part (omega arith) 0 slots_most (omega arith);
     names_are = mid_here names_at names_room held part (omega arith) long;
     labels_are = ap (take labels_room) (mid_behind names_at names_room held part (omega arith) long 0);
-    table_is = mid_behind names_at names_room held part (omega arith) long labels_room;
+    table_is = ap (take records_most) (mid_behind names_at names_room held part (omega arith) long labels_room);
   }
 
   pub labels_put : length part ≡ labels_room
@@ -141,34 +124,17 @@ module _ (held part : List ℕ) (room : held_room ≤ length held) where
     cells_are = mid_before labels_at labels_room held part (omega arith) 0 slots_most (omega arith);
     names_are = mid_before labels_at labels_room held part (omega arith) names_at names_room (omega arith);
     labels_are = mid_here labels_at labels_room held part (omega arith) long;
-    table_is = mid_behind labels_at labels_room held part (omega arith) long 0;
+    table_is = ap (take records_most) (mid_behind labels_at labels_room held part (omega arith) long 0);
   }
 
-  pub table_put : length part ≡ length held - table_at
-      → AreasAre (put_mid table_at (length held - table_at) held part) (cell_bytes held) (name_bytes held)
-      (label_bytes held)
-      part
+  pub table_put : length part ≡ records_most
+      → AreasAre (put_mid table_at records_most held part) (cell_bytes held) (name_bytes held) (label_bytes held) part
   table_put long = record {
-    cells_are = mid_before table_at (length held - table_at) held part (omega arith) 0 slots_most (omega arith);
-    names_are = mid_before table_at (length held - table_at) held part (omega arith) names_at names_room (omega arith);
-    labels_are = mid_before table_at (length held - table_at) held part (omega arith) labels_at labels_room
-        (omega arith);
-    table_is = mid_from table_at (length held - table_at) held part (omega arith)
-        ∙ ap (λ (z : List ℕ). part ++ z) none ∙ append-nil part;
+    cells_are = mid_before table_at records_most held part (omega arith) 0 slots_most (omega arith);
+    names_are = mid_before table_at records_most held part (omega arith) names_at names_room (omega arith);
+    labels_are = mid_before table_at records_most held part (omega arith) labels_at labels_room (omega arith);
+    table_is = mid_here table_at records_most held part (omega arith) long;
   }
-    where
-      none : drop (length held - table_at) (drop table_at held) ≡ []
-      none = drop_of_length-le (drop table_at held) {i = length held - table_at}
-          (let n = length-drop table_at held in omega (arith, n))
-
--- with the table lent as a part
-pub part_holds : (f : fold.Found) (r : Reading) (held counts : List ℕ) → held_room ≤ length held → HoldsIn f r held
-    counts
-    → Holds f r (cell_bytes held) (area (take (length held - table_at) (drop table_at held)) counts)
-    (labels_in (label_bytes held)) (names_in (name_bytes held))
-part_holds f r held counts room h =
-    subst (λ (t : List ℕ). Holds f r (cell_bytes held) (area t counts) (labels_in (label_bytes held))
-    (names_in (name_bytes held))) (sym (table_part held room)) h
 
 -- ── room ──
 

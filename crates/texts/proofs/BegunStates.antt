@@ -16,8 +16,9 @@ use Rattle.texts.specs.Fills.{filled, zeros}
 use Rattle.texts.specs.HeldAreas.{names_at, held_room}
 use Rattle.texts.specs.HeldNames.{names_room}
 use Rattle.texts.specs.NameStarts.{buckets, no_start}
-use Rattle.texts.specs.StateNumbers.{used_at, line_at, row_at, counts_at, held_at, state_room, stage_at, reading_in}
-use Rattle.texts.specs.StateNumbers.{Fits, twos_in}
+use Rattle.texts.specs.StateNumbers.{used_at, line_at, row_at, counts_at}
+use Rattle.texts.specs.StateNumbers.{held_at, state_room, stage_at, note_at, reading_in}
+use Rattle.texts.specs.StateNumbers.{NoteIn, Fits, twos_in}
 use Rattle.texts.specs.RowPlaces.{row_room}
 use Rattle.texts.specs.PieceStates.{fresh_state, line_bytes, Clean, Left, KeptIn}
 use Rattle.texts.specs.PieceStates.{row_bytes, count_bytes, held_bytes}
@@ -28,15 +29,19 @@ use Rattle.texts.proofs.KeptStates.{kept_in}
 use Rattle.texts.proofs.LeftStates.{left_front}
 use Rattle.texts.proofs.LineCounts.{numbers_none}
 use Rattle.texts.proofs.LineWalk.{room_begun, kept_begun}
-use Rattle.texts.proofs.StateBytes.{reading_take}
+use Rattle.texts.proofs.StateBytes.{reading_take, noted_take}
 use Rattle.texts.proofs.StateChanges.{Changed, changed_wider, changed_then, part_long, lent_changed}
 use Rattle.texts.proofs.StateChanges.{two_word, two_before, reading_before, part_before, row_before}
-use Rattle.texts.proofs.StateChanges.{counts_before}
+use Rattle.texts.proofs.StateChanges.{counts_before, noted_before}
 
 -- zeros are the numbers of a reading before the first line
 zero_reading : reading_in (replicate 24 0) ≡ begun_with
-unfolding two_at stage_at
+unfolding two_at stage_at note_at
 zero_reading = refl
+
+zero_noted : NoteIn (replicate 24 0)
+unfolding two_at stage_at note_at
+zero_noted = record { told = refl; placed = omega arith }
 
 zero_two : (s : List ℕ) (i : ℕ) → take 2 (drop i s) ≡ replicate 2 0 → two_at s i ≡ 0
 unfolding le2
@@ -78,6 +83,10 @@ module _ (s z names : List ℕ) (room : state_room ≤ length s) (zeros : z ≡ 
       reading_before start_last (omega arith) ∙ reading_take z (replicate 24 0) (zero_part 0 24 (omega arith))
       ∙ zero_reading
 
+  start_noted : NoteIn started
+  start_noted =
+      noted_before start_last (omega arith) (noted_take z (replicate 24 0) (zero_part 0 24 (omega arith)) zero_noted)
+
   start_two : (i : ℕ) → i + 2 ≤ 4 → two_at started i ≡ 0
   start_two i h = two_before start_last i (omega arith) ∙ zero_two z i (zero_part i 2 (omega arith))
 
@@ -113,6 +122,7 @@ module _ (s z names : List ℕ) (room : state_room ≤ length s) (zeros : z ≡ 
     size = λ h. start_two 0 (omega arith);
     holds = λ h. record {
       fits = subst (λ (x : Reading). Fits 0 x) (sym start_reading) (room_begun, omega arith);
+      noted = start_noted;
       used = (let z = start_two used_at (omega arith) in omega (arith, z));
       free = refl;
       short = omega arith;

@@ -5,20 +5,19 @@ use Prim.Native.Nat.{ℕ, ◌+◌, ◌-◌, ◌≤◌, max}
 use native.Mathlib.Omega.{arith}
 use lib.ListN.{length, take, drop, length-drop}
 use lib.Seq.{take-take, take-add, drop-drop, drop_at, length-take-le}
-use Rattle.rules.specs.Operators.{code, takes}
+use Rattle.rules.specs.Operators.{code}
 use Rattle.rules.specs.Trees.{Tree, two, depth, stored_tree, stored_length}
 use Rattle.texts.specs.HeldNames.{Names}
 use Rattle.texts.specs.StoredTrees.{type_of, look_up, held, StoredIs}
-use Rattle.texts.specs.StoredPlaces.{ExprStored, AtomStored, WithinStored}
+use Rattle.texts.specs.StoredPlaces.{ExprStored, AtomStored, TreeWithin}
 use Rattle.texts.specs.Chains.{tightest_level, Pushes, ChainStored}
 use Rattle.texts.specs.declared.stored_trees.StoredTree.{StoredTree}
 use Rattle.texts.specs.declared.chains.Chain.{Chain}
 use Rattle.texts.proofs.ExprSteps.{two_length}
 use Rattle.texts.proofs.StoredBytes.{Joined}
-use Rattle.texts.proofs.StoredSteps.{got_within}
+use Rattle.std.specs.Prelude.{Some}
 use Rattle.texts.proofs.ChainReads.{expr_fails, expr_goes}
-use Rattle.texts.proofs.ChainSteps.{Within}
-use Rattle.texts.proofs.ChainLaws.{type_some, joined_tree, one_more}
+use Rattle.texts.proofs.ChainLaws.{joined_tree, one_more}
 
 -- lists that begin alike go on alike behind their first bytes
 behind_like : (m i : ℕ) (l r : List ℕ) → m ≤ length l → m ≤ length r → take (m + i) l ≡ take (m + i) r
@@ -73,12 +72,8 @@ module _ (names : Names) (n : ℕ) (s : List ℕ) (k : ℕ) (c : Chain) (out par
 
 module _ (names : Names) (n : ℕ) (s : List ℕ) (at k b : ℕ) (ge : tightest_level ≤ k) (c : Chain) (out part mid : List ℕ)
     (C : ChainStored names n s at k b c out) (j : Joined c.len out part mid) (a : StoredTree)
-    (A : AtomStored names n s c.next b (held a part)) (w : WithinStored s (c.next + 1) c.next 0 a)
-    (some : a.len ≡ 0 → ⊥)
+    (A : AtomStored names n s c.next b (Some (held a part))) (p : TreeWithin s (c.next + 1) c.next 0 a)
     (after : List ℕ) (d : Chain) (x : Pushes s k c a mid after d) where
-  p : Within s c a
-  p = got_within s (c.next + 1) c.next 0 a some w
-
   pub chain_goes : ChainStored names n s at k b d after
   chain_goes = subst (λ (e : Chain). ChainStored names n s at k b e after) (sym x.waits.is_pushed) (record {
     low = omega (arith, C.low, p.0, x.low);
@@ -86,17 +81,16 @@ module _ (names : Names) (n : ℕ) (s : List ℕ) (at k b : ℕ) (ge : tightest_
     grown = omega (arith, C.grown, p.2, x.low);
     flat = deep_le C.flat (omega (arith, C.few, p.3));
     few = omega (arith, C.few);
-    some = type_some (takes x.op);
-    fails = λ y z e l E.
-        C.fails z z l l (expr_fails names n s k b ge c.next (held a part) A some (omega (arith, p.0)) p.1
-        x.op x.end x.is_taken x.low x.high y E e z l);
-    goes = λ y bytes long front some' lo hi E.
-        subst (λ (t : StoredTree). ExprStored names n s at k b (held t bytes))
-        (sym (one_more c C.some x.op a y x.end))
+    fails = λ E.
+        C.fails (expr_fails names n s k b ge c.next (held a part) A (omega (arith, p.0)) p.1
+        x.op x.end x.is_taken x.low x.high E);
+    goes = λ y bytes long front lo hi E.
+        subst (λ (t : StoredTree). ExprStored names n s at k b (Some (held t bytes)))
+        (sym (one_more c x.op a y x.end))
         (C.goes (joined_tree x.op a y) bytes (long ∙ (x.waits.long ∙ j.long)) (kept y bytes front)
-        (λ e. absurd (omega (arith, e))) (omega (arith, lo, p.0, x.low)) hi
-        (expr_goes names n s k b ge c.next (held a part) A some (omega (arith, p.0)) p.1 x.op x.end
-        x.is_taken x.low x.high (held y (drop (c.len + (1 + a.len)) bytes)) E some' lo hi
+        (omega (arith, lo, p.0, x.low)) hi
+        (expr_goes names n s k b ge c.next (held a part) A (omega (arith, p.0)) p.1 x.op x.end
+        x.is_taken x.low x.high (held y (drop (c.len + (1 + a.len)) bytes)) E lo hi
         (held (joined_tree x.op a y) (drop c.len bytes)) refl
         (made names n s k c out part mid j a after d x y bytes long front)));
   })

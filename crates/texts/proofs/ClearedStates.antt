@@ -20,6 +20,7 @@ use Rattle.texts.proofs.NameAreas.{drop_take}
 use Rattle.texts.proofs.RowShown.{strips_more}
 use Rattle.texts.proofs.StateChanges.{Changed, changed_wider, changed_then, two_changed, two_put}
 use Rattle.texts.proofs.StateChanges.{part_before, rest_behind, two_before, reading_before, reading_behind}
+use Rattle.texts.proofs.StateChanges.{noted_before, noted_behind}
 
 -- what stands behind the lines of a row does not matter
 pub row_front : {o : Option Row} {w n : ℕ} (a b : List ℕ) → w ≤ 32 → take (65 * n) b ≡ take (65 * n) a
@@ -94,6 +95,8 @@ module _ (n : ℕ) (s t u v : List ℕ) {next : ℕ} (few : n ≤ 4) (room : sta
     back = all_changed.back;
     reading = reading_before third (omega arith) ∙ reading_before second (omega arith)
         ∙ reading_behind first (omega arith);
+    noted = λ k. noted_before third (omega arith) (noted_before second (omega arith)
+        (noted_behind first (omega arith) k));
     used = none_used;
     rows = rows_kept;
     clean = λ e. record {

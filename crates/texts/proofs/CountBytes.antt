@@ -1,7 +1,7 @@
 -- Numbers of two bytes each in a state: how often each field is read.
 use mathlib.Core.Path.{◌≡◌, refl, ap, sym, ◌∙◌}
 use mathlib.Core.List.{List, [], ◌∷◌, ◌++◌}
-use Prim.Native.Nat.{ℕ, zero, suc, ◌+◌, ◌*◌, ◌/◌, ◌%◌, ◌<◌}
+use Prim.Native.Nat.{ℕ, zero, suc, ◌+◌, ◌*◌, ◌<◌}
 use native.Mathlib.Numerals.{add-one}
 use native.Mathlib.Omega.{arith}
 use lib.ListN.{length, take, drop, get_or, set, length-set, replicate}
@@ -84,39 +84,35 @@ pub all_saved : (s counts : List ℕ) (i : ℕ) → i ≡ fields_most → twos_i
 all_saved s counts i e h =
     ap (λ (n : ℕ). twos_in n s) (sym e) ∙ h ∙ ap (λ (n : ℕ). take n counts) e
 
--- one more number is saved
-module _ (s counts : List ℕ) (i n : ℕ) (room : 2 * i + 1 < length s) where
+-- one more number is saved, by its bytes
+module _ (s counts : List ℕ) (i x y : ℕ) (room : 2 * i + 1 < length s) where
   wrote : List ℕ
-  wrote = set (set s (2 * i) (n % 256)) (2 * i + 1) (n / 256)
+  wrote = set (set s (2 * i) x) (2 * i + 1) y
 
-  two_wrote : n < 65536 → two_at wrote (2 * i) ≡ n
+  two_wrote : two_at wrote (2 * i) ≡ x + 256 * y
   unfolding two_at wrote
-  two_wrote h =
-      let long : 2 * i + 1 < length (set s (2 * i) (n % 256)) = simp length-set room in
+  two_wrote =
+      let long : 2 * i + 1 < length (set s (2 * i) x) = simp length-set room in
       let less : 2 * i < length s = omega arith in
-      let first : get_or wrote (2 * i) 0 ≡ n % 256 =
-      get_or-set_other (set s (2 * i) (n % 256)) (2 * i + 1) (2 * i) (n / 256) 0 (λ e. omega arith)
-      ∙ get_or-set_same s (2 * i) (n % 256) 0 less in
-      let second : get_or wrote (2 * i + 1) 0 ≡ n / 256 =
-      get_or-set_same (set s (2 * i) (n % 256)) (2 * i + 1) (n / 256) 0 long in
-      rw (first, second) (omega arith)
+      let first : get_or wrote (2 * i) 0 ≡ x =
+      get_or-set_other (set s (2 * i) x) (2 * i + 1) (2 * i) y 0 (λ e. omega arith)
+      ∙ get_or-set_same s (2 * i) x 0 less in
+      let second : get_or wrote (2 * i + 1) 0 ≡ y = get_or-set_same (set s (2 * i) x) (2 * i + 1) y 0 long in
+      rw (first, second) refl
 
-  pub twos_saved : n < 65536 → i < length counts → n ≡ get_or counts i 0 → twos_in i s ≡ take i counts
-      → twos_in (i + 1) (set (set s (2 * i) (n % 256)) (2 * i + 1) (n / 256)) ≡ take (i + 1) counts
+  pub twos_saved : i < length counts → x + 256 * y ≡ get_or counts i 0 → twos_in i s ≡ take i counts
+      → twos_in (i + 1) (set (set s (2 * i) x) (2 * i + 1) y) ≡ take (i + 1) counts
   unfolding wrote
-  twos_saved h less e so_far =
+  twos_saved less e so_far =
       let front : take (2 * i) wrote ≡ take (2 * i) s =
-      take-set-le (2 * i) (set s (2 * i) (n % 256)) (2 * i + 1) (n / 256) (omega arith)
-      ∙ take-set-le (2 * i) s (2 * i) (n % 256) (omega arith) in
+      take-set-le (2 * i) (set s (2 * i) x) (2 * i + 1) y (omega arith)
+      ∙ take-set-le (2 * i) s (2 * i) x (omega arith) in
       twos_more i wrote ∙ ap (λ (t : List ℕ). t ++ (two_at wrote (2 * i) ∷ [])) (twos_front i wrote s front ∙ so_far)
-      ∙ ap (λ (m : ℕ). take i counts ++ (m ∷ [])) (two_wrote h ∙ e)
+      ∙ ap (λ (m : ℕ). take i counts ++ (m ∷ [])) (two_wrote ∙ e)
       ∙ sym (take-suc counts i 0 less) ∙ ap (λ (m : ℕ). take m counts) (sym (add-one i))
 
-  pub twos_beyond : (k : ℕ) → 2 * i + 1 < k
-      → drop k (set (set s (2 * i) (n % 256)) (2 * i + 1) (n / 256)) ≡ drop k s
-  twos_beyond k h =
-      drop-set-lt k (set s (2 * i) (n % 256)) (2 * i + 1) (n / 256) h
-      ∙ drop-set-lt k s (2 * i) (n % 256) (omega arith)
+  pub twos_beyond : (k : ℕ) → 2 * i + 1 < k → drop k (set (set s (2 * i) x) (2 * i + 1) y) ≡ drop k s
+  twos_beyond k h = drop-set-lt k (set s (2 * i) x) (2 * i + 1) y h ∙ drop-set-lt k s (2 * i) x (omega arith)
 
 -- where no field is read
 pub twos_zeros : (n : ℕ) → twos_in n (replicate (2 * n) 0) ≡ replicate n 0

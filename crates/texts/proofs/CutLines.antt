@@ -1,4 +1,5 @@
 -- A line that is too long, and a byte that is not allowed: what is kept behind them.
+use Rattle.std.specs.Prelude.{Option as Held}
 use mathlib.Core.Path.{◌≡◌, refl, ap, sym, ◌∙◌}
 use mathlib.Core.Bool.{Bool, true, false, cond}
 use mathlib.Core.List.{List, [], ◌∷◌}
@@ -10,13 +11,13 @@ use Rattle.text_laws.specs.Fold as fold
 use Rattle.text_laws.proofs.Answering.{lowest_behind}
 use Rattle.text_laws.proofs.Fed.{lost_stage}
 use Rattle.texts.specs.HeldNames.{Names}
-use Rattle.texts.specs.Noted.{note_of}
+use Rattle.texts.specs.Noted.{place_of, note_of}
 use Rattle.texts.specs.Changes.{changed}
-use Rattle.texts.specs.States.{is_told, Room, Taken, Area, Holds, last_note, CutStep}
+use Rattle.texts.specs.States.{Room, Taken, Area, Holds, last_note, CutStep}
 use Rattle.texts.specs.declared.notes.Note.{Note}
 use Rattle.texts.specs.declared.states.Stage.TheVariants as at
 use Rattle.texts.specs.declared.states.Reading.{Reading}
-use Rattle.texts.proofs.EndSteps.{last_is_lem, last_told}
+use Rattle.texts.proofs.EndSteps.{last_is_lem}
 use Rattle.texts.proofs.StateSteps.{room_changed, records_kept, kept_same}
 
 -- what the fold makes of it is told by the refusal of a text that ends in it
@@ -34,7 +35,7 @@ cut_lowest f = go (fold.is_lost f.stage) refl
 module _ (f : fold.Found) (r : Reading) {cells : List ℕ} {table : Area} {labels : List (List ℕ)} {names : Names}
     (h : Holds f r cells table labels names) where
   -- a refusal behind which no line matters
-  pub holds_lost : (o : Answer) (a : Note) → note_of a ≡ some o
+  pub holds_lost : (o : Answer) (a : Held Note) → note_of a ≡ some o
       → Holds (fold.losing o f) (changed r r.lines at.Lost a) cells table labels names
   holds_lost o a low = record {
     counts = record {
@@ -58,7 +59,7 @@ module _ (f : fold.Found) (r : Reading) {cells : List ℕ} {table : Area} {label
   }
 
   -- one that is there already
-  holds_still : f.stage ≡ fold.lost → (a : Note) → note_of a ≡ f.judged.lowest
+  holds_still : f.stage ≡ fold.lost → (a : Held Note) → note_of a ≡ f.judged.lowest
       → Holds f (changed r r.lines at.Lost a) cells table labels names
   holds_still e a low = record {
     counts = record {
@@ -78,7 +79,7 @@ module _ (f : fold.Found) (r : Reading) {cells : List ℕ} {table : Area} {label
     named = h.named;
   }
 
-  cut_held : (a : Note) → note_of a ≡ (fold.cut f).judged.lowest
+  cut_held : (a : Held Note) → note_of a ≡ (fold.cut f).judged.lowest
       → Holds (fold.cut f) (changed r r.lines at.Lost a) cells table labels names
   cut_held a = go (fold.is_lost f.stage) refl
     where
@@ -94,11 +95,10 @@ cut_same f = go (fold.is_lost f.stage)
     go true = (refl, refl)
     go false = (refl, refl)
 
-module _ (r : Reading) (row : List ℕ) (a : Note) (is : note_of a ≡ last_note r.stage r false row) where
-  pub cut_taken : Room r → a.place ≤ r.lines + 1 → Taken r (changed r r.lines at.Lost a)
+module _ (r : Reading) (row : List ℕ) (a : Held Note) (is : note_of a ≡ last_note r.stage r false row) where
+  pub cut_taken : Room r → place_of a ≤ r.lines + 1 → Taken r (changed r r.lines at.Lost a)
   cut_taken room p =
-      let told = ap is_told is ∙ last_told r.stage r false row room in
-      (room_changed r r.lines at.Lost a told p room, omega arith)
+      (room_changed r r.lines at.Lost a p room, omega arith)
 
   pub cut_step : CutStep r (changed r r.lines at.Lost a) row
   cut_step f held counts steady kept h =

@@ -2,51 +2,37 @@
 use mathlib.Core.Path.{◌≡◌, refl, ap, sym, ◌∙◌, subst}
 use mathlib.Core.Bool.{Bool, true, false}
 use mathlib.Core.List.{List}
-use Prim.Native.Nat.{ℕ, ◌+◌, ◌-◌, ◌≤◌, ◌<◌}
+use Prim.Native.Nat.{ℕ, ◌+◌, ◌≤◌, ◌<◌}
 use native.Mathlib.Omega.{arith}
 use native.Mathlib.Decide.{dec_lt}
 use lib.Dec.{eqb}
-use lib.ListN.{length, take, drop, length-drop}
-use lib.Seq.{length-take-le, drop-drop}
+use lib.ListN.{length, drop, length-drop}
+use lib.Seq.{length-take-le}
 use borrow.Author.Tests.{eq-eqb, eqb-true}
 use Rattle.base.proofs.Lists.{not_both}
 use Rattle.base.specs.Lists.{is_empty}
-use Rattle.rules.specs.Answers.{accepted, refused, of_text}
+use Rattle.std.specs.Prelude.{Ok, Err}
+use Rattle.rules.specs.Answers.{accepted, refused, of_text, TextAnswer}
 use Rattle.rules.specs.Limits.{text_most, line_most, fields_most}
 use Rattle.rules.specs.Pieces.{EndsText}
 use Rattle.rules.specs.Promises.{ReadsText, leaves}
-use Rattle.rules.specs.declared.TextAnswer.{TextAnswer}
+use Rattle.rules.specs.declared.TextRefusal.{TextRefusal}
 use Rattle.laws.specs.Places.{two_at}
 use Rattle.text_laws.specs.Fold as fold
 use Rattle.text_laws.proofs.Answering.{kept_answers}
 use Rattle.text_laws.proofs.FedAlike.{finish_alike}
 use Rattle.text_laws.proofs.FedRuns.{kept_size}
-use Rattle.texts.specs.HeldAreas.{table_at, cell_bytes, name_bytes, label_bytes, table_bytes}
+use Rattle.texts.specs.HeldAreas.{cell_bytes, name_bytes, label_bytes, table_bytes}
 use Rattle.texts.specs.HeldNames.{labels_in, names_in}
 use Rattle.texts.specs.States.{area, EndStep}
-use Rattle.texts.specs.StateNumbers.{used_at, line_at, held_at, state_room, reading_in, Loaded, twos_in}
+use Rattle.texts.specs.StateNumbers.{used_at, line_at, state_room, reading_in, Loaded, twos_in}
 use Rattle.texts.specs.PieceStates.{held_line, row_bytes, count_bytes, held_bytes, StateHolds, Left}
 use Rattle.texts.specs.declared.states.Reading.{Reading}
 use Rattle.texts.proofs.LeftStates.{left_room, left_whole}
 use Rattle.texts.proofs.LineWalk.{reads_long}
-use Rattle.texts.proofs.NameAreas.{drop_take}
 use Rattle.texts.proofs.StateSteps.{empty_nil, filled_nil}
 
--- where the table is lent from
-abbrev pub table_from : ℕ
-table_from = held_at + table_at
-
-abbrev table_lent : List ℕ → List ℕ
-table_lent s = take (state_room - table_from) (drop table_from s)
-
 module _ (s : List ℕ) (room : state_room ≤ length s) where
-  table_lent_lem : table_lent s ≡ table_bytes (held_bytes s)
-  table_lent_lem =
-      sym (
-      drop_take table_at (state_room - table_from) (drop held_at s)
-      ∙ ap (take (state_room - table_from)) (drop-drop table_at held_at s)
-      )
-
   -- the line is empty exactly where none of its bytes is used
   line_empty : two_at s used_at ≤ line_most → is_empty (held_line s) ≡ eqb (two_at s used_at) 0
   line_empty le = go (eqb (two_at s used_at) 0) refl
@@ -65,16 +51,14 @@ module _ (s : List ℕ) (room : state_room ≤ length s) where
   -- what is kept at the end, by a state that holds it
   module _ (r : Reading) (out after : List ℕ) (a : TextAnswer)
       (step : EndStep r (eqb (two_at s used_at) 0) (row_bytes s)
-      (area (table_lent s) (twos_in fields_most (count_bytes s))) out after a) where
+      (area (table_bytes (held_bytes s)) (twos_in fields_most (count_bytes s))) out after a) where
     holds_finish : (k : fold.Kept) → StateHolds k s → r ≡ reading_in s → leaves (of_text a) after ≡ fold.finish k out
     holds_finish k h e =
         let q : fold.Kept = record { size = k.size; line = held_line s; found = k.found } in
         let at_end : EndStep (reading_in s) (eqb (two_at s used_at) 0) (row_bytes s)
         (area (table_bytes (held_bytes s)) (twos_in fields_most (count_bytes s))) out after a =
-        subst (λ (t : List ℕ). EndStep (reading_in s) (eqb (two_at s used_at) 0) (row_bytes s)
-        (area t (twos_in fields_most (count_bytes s))) out after a) table_lent_lem
-        (subst (λ (x : Reading). EndStep x (eqb (two_at s used_at) 0) (row_bytes s)
-        (area (table_lent s) (twos_in fields_most (count_bytes s))) out after a) e step) in
+        subst (λ (x : Reading). EndStep x (eqb (two_at s used_at) 0) (row_bytes s)
+        (area (table_bytes (held_bytes s)) (twos_in fields_most (count_bytes s))) out after a) e step in
         at_end q (cell_bytes (held_bytes s)) (labels_in (label_bytes (held_bytes s)))
         (names_in (name_bytes (held_bytes s)))
         (line_empty h.used) h.kept.steady h.kept.rows h.kept.holds
@@ -99,48 +83,50 @@ module _ (s : List ℕ) (room : state_room ≤ length s) where
 refused_leaves : (a : TextAnswer) (after out : List ℕ) → ((of_text a).number ≡ 0 → ⊥) → after ≡ out
     → leaves (of_text a) after ≡ leaves (refused (of_text a).number (of_text a).place) out
 unfolding of_text
-refused_leaves (TextAnswer.Accepted n) after out told e = absurd (told refl)
-refused_leaves TextAnswer.TooLong after out told e = ap (leaves (refused 1 0)) e
-refused_leaves TextAnswer.BadByte after out told e = ap (leaves (refused 2 0)) e
-refused_leaves (TextAnswer.BadLine p) after out told e = ap (leaves (refused 3 p)) e
-refused_leaves TextAnswer.TooMany after out told e = ap (leaves (refused 4 0)) e
-refused_leaves (TextAnswer.BadForm p) after out told e = ap (leaves (refused 5 p)) e
-refused_leaves (TextAnswer.OverLimit p) after out told e = ap (leaves (refused 6 p)) e
-refused_leaves (TextAnswer.Mismatch p) after out told e = ap (leaves (refused 7 p)) e
-refused_leaves (TextAnswer.Repeated p) after out told e = ap (leaves (refused 8 p)) e
-refused_leaves (TextAnswer.BadName p) after out told e = ap (leaves (refused 9 p)) e
-refused_leaves (TextAnswer.BadRest p) after out told e = ap (leaves (refused 10 p)) e
-refused_leaves TextAnswer.NoRoom after out told e = ap (leaves (refused 11 0)) e
+refused_leaves (Ok n) after out told e = absurd (told refl)
+refused_leaves (Err TextRefusal.TooLong) after out told e = ap (leaves (refused 1 0)) e
+refused_leaves (Err TextRefusal.BadByte) after out told e = ap (leaves (refused 2 0)) e
+refused_leaves (Err (TextRefusal.BadLine p)) after out told e = ap (leaves (refused 3 p)) e
+refused_leaves (Err TextRefusal.TooMany) after out told e = ap (leaves (refused 4 0)) e
+refused_leaves (Err (TextRefusal.BadForm p)) after out told e = ap (leaves (refused 5 p)) e
+refused_leaves (Err (TextRefusal.OverLimit p)) after out told e = ap (leaves (refused 6 p)) e
+refused_leaves (Err (TextRefusal.Mismatch p)) after out told e = ap (leaves (refused 7 p)) e
+refused_leaves (Err (TextRefusal.Repeated p)) after out told e = ap (leaves (refused 8 p)) e
+refused_leaves (Err (TextRefusal.BadName p)) after out told e = ap (leaves (refused 9 p)) e
+refused_leaves (Err (TextRefusal.BadRest p)) after out told e = ap (leaves (refused 10 p)) e
+refused_leaves (Err TextRefusal.NoRoom) after out told e = ap (leaves (refused 11 0)) e
 
 accepted_is : (a : TextAnswer) → (of_text a).number ≡ 0 → of_text a ≡ accepted (of_text a).amount
 unfolding of_text
-accepted_is (TextAnswer.Accepted n) e = refl
-accepted_is TextAnswer.TooLong e = absurd (omega (arith, e))
-accepted_is TextAnswer.BadByte e = absurd (omega (arith, e))
-accepted_is (TextAnswer.BadLine p) e = absurd (omega (arith, e))
-accepted_is TextAnswer.TooMany e = absurd (omega (arith, e))
-accepted_is (TextAnswer.BadForm p) e = absurd (omega (arith, e))
-accepted_is (TextAnswer.OverLimit p) e = absurd (omega (arith, e))
-accepted_is (TextAnswer.Mismatch p) e = absurd (omega (arith, e))
-accepted_is (TextAnswer.Repeated p) e = absurd (omega (arith, e))
-accepted_is (TextAnswer.BadName p) e = absurd (omega (arith, e))
-accepted_is (TextAnswer.BadRest p) e = absurd (omega (arith, e))
-accepted_is TextAnswer.NoRoom e = absurd (omega (arith, e))
+accepted_is (Ok n) e = refl
+accepted_is (Err TextRefusal.TooLong) e = absurd (omega (arith, e))
+accepted_is (Err TextRefusal.BadByte) e = absurd (omega (arith, e))
+accepted_is (Err (TextRefusal.BadLine p)) e = absurd (omega (arith, e))
+accepted_is (Err TextRefusal.TooMany) e = absurd (omega (arith, e))
+accepted_is (Err (TextRefusal.BadForm p)) e = absurd (omega (arith, e))
+accepted_is (Err (TextRefusal.OverLimit p)) e = absurd (omega (arith, e))
+accepted_is (Err (TextRefusal.Mismatch p)) e = absurd (omega (arith, e))
+accepted_is (Err (TextRefusal.Repeated p)) e = absurd (omega (arith, e))
+accepted_is (Err (TextRefusal.BadName p)) e = absurd (omega (arith, e))
+accepted_is (Err (TextRefusal.BadRest p)) e = absurd (omega (arith, e))
+accepted_is (Err TextRefusal.NoRoom) e = absurd (omega (arith, e))
 
 -- the end of a state that is long enough, of a text that is not too long; how many bytes of the line are used, and the
 -- counts, as the code reads them
 pub state_ends : (s : List ℕ) (a : TextAnswer) {used size : ℕ} {counts out after : List ℕ} {r : Reading}
     → state_room ≤ length s → size ≤ text_most → size ≡ two_at s 0 → Loaded size s r → used ≡ two_at s used_at
     → counts ≡ twos_in fields_most (count_bytes s)
-    → EndStep r (eqb used 0) (row_bytes s) (area (table_lent s) counts) out after a
+    → EndStep r (eqb used 0) (row_bytes s) (area (table_bytes (held_bytes s)) counts) out after a
     → (((of_text a).number ≡ 0 → ⊥) → after ≡ out) → (of_text a).amount ≤ length out → length after ≡ length out
     → drop (of_text a).amount after ≡ drop (of_text a).amount out → EndsText Left s out (leaves (of_text a) after)
 state_ends s a {used} {size} {counts} {out} {after} {r} room le e loaded u c step kept within long beyond =
     let at : EndStep r (eqb (two_at s used_at) 0) (row_bytes s)
-    (area (table_lent s) (twos_in fields_most (count_bytes s))) out after a =
-    subst (λ (n : ℕ). EndStep r (eqb n 0) (row_bytes s) (area (table_lent s) (twos_in fields_most (count_bytes s))) out
+    (area (table_bytes (held_bytes s)) (twos_in fields_most (count_bytes s))) out after a =
+    subst (λ (n : ℕ). EndStep r (eqb n 0) (row_bytes s)
+    (area (table_bytes (held_bytes s)) (twos_in fields_most (count_bytes s))) out
     after a) u
-    (subst (λ (l : List ℕ). EndStep r (eqb used 0) (row_bytes s) (area (table_lent s) l) out after a) c step) in
+    (subst (λ (l : List ℕ). EndStep r (eqb used 0) (row_bytes s)
+    (area (table_bytes (held_bytes s)) l) out after a) c step) in
     record {
       reads = λ text left. state_reads s room r out after a at size le e loaded text (left_whole s left);
       refusal = λ told. refused_leaves a after out told (kept told);
@@ -150,7 +136,8 @@ state_ends s a {used} {size} {counts} {out} {after} {r} room le e loaded u c ste
 
 -- a state that is too short
 pub short_ends : (s out : List ℕ) → length s < state_room
-    → EndsText Left s out (leaves (of_text TextAnswer.NoRoom) out) × ((of_text TextAnswer.NoRoom).place ≤ text_most + 1)
+    → EndsText Left s out (leaves (of_text (Err TextRefusal.NoRoom)) out)
+    × ((of_text (Err TextRefusal.NoRoom)).place ≤ text_most + 1)
 unfolding of_text
 short_ends s out lt = (
   record {
@@ -164,8 +151,8 @@ short_ends s out lt = (
 
 -- the state of a text that is too long
 pub long_ends : (s out : List ℕ) → state_room ≤ length s → text_most < two_at s 0
-    → EndsText Left s out (leaves (of_text TextAnswer.TooLong) out)
-    × ((of_text TextAnswer.TooLong).place ≤ text_most + 1)
+    → EndsText Left s out (leaves (of_text (Err TextRefusal.TooLong)) out)
+    × ((of_text (Err TextRefusal.TooLong)).place ≤ text_most + 1)
 unfolding of_text
 long_ends s out room over = (
   record {
@@ -178,6 +165,6 @@ long_ends s out room over = (
 )
   where
     go : (text : List ℕ) → Left text s → Dec (text_most < length text)
-        → ReadsText text out (leaves (of_text TextAnswer.TooLong) out)
+        → ReadsText text out (leaves (of_text (Err TextRefusal.TooLong)) out)
     go text left (yes h) = reads_long text out h
     go text left (no h) = absurd (let n = left.size (omega (arith, h)) in omega (arith, n, over, h))

@@ -1,17 +1,19 @@
 -- The end of a text: the lowest refusal, and the table.
+use Rattle.std.specs.Prelude.{Some, None}
+use Rattle.texts.specs.declared.notes.Note.TheVariants.{BadLine, Mismatch}
 use mathlib.Core.Path.{◌≡◌, refl, ap, ap₂, sym, subst, ◌∙◌}
-use mathlib.Core.Bool.{Bool, true, false, cond, ◌||◌, not}
+use mathlib.Core.Bool.{Bool, true, false, cond, not}
 use mathlib.Core.List.{List, [], ◌++◌, append_assoc, append-nil}
 use mathlib.Core.Option.{Option, none, some}
-use Prim.Native.Nat.{ℕ, suc, ◌+◌, ◌*◌, ◌-◌, ◌≤◌, ◌<◌}
+use Prim.Native.Nat.{ℕ, suc, ◌+◌, ◌-◌, ◌≤◌, ◌<◌}
 use native.Mathlib.Omega.{arith}
-use lib.Dec.{ltb, eqb}
+use lib.Dec.{ltb}
 use lib.ListN.{length, take, drop, length-append, length-drop, take-append-drop}
 use lib.Seq.{take-append_seam, drop-append_seam, length-take-le}
 use native.Mathlib.Nat.{sub-zero}
-use borrow.Author.Tests.{lt-ltb, le-ltb, eq-eqb, ne_eqb, eqb-true}
-use Rattle.base.specs.Lists.{is_empty, joined, between, if_any, is_none}
-use Rattle.base.proofs.Lists.{and_left, and_right, between_true, not_both}
+use borrow.Author.Tests.{lt-ltb, le-ltb}
+use Rattle.base.specs.Lists.{is_empty, joined, if_any, is_none}
+use Rattle.base.proofs.Lists.{not_both}
 use Rattle.writing.specs.Writes.{Writes}
 use Rattle.writing.proofs.Writing.{writes_join}
 use Rattle.rules.specs.Answers.{Answer, accepted, refused}
@@ -29,18 +31,14 @@ use Rattle.text_laws.specs.Steady.{row_goes, Steady}
 use Rattle.text_laws.proofs.Loose.{lowest_clear}
 use Rattle.text_laws.proofs.Steadiness.{none_is}
 use Rattle.texts.specs.HeldNames.{Names}
-use Rattle.texts.specs.Noted.{note_of}
+use Rattle.texts.specs.Noted.{place_of, note_of}
 use Rattle.texts.specs.RowPlaces.{RowKept}
-use Rattle.texts.specs.Slots.{are_labels}
-use Rattle.texts.specs.Changes.{note}
-use Rattle.texts.specs.States.{is_told, Room, Counts, Holds, stage_of, early_note, row_note, remain_note, last_note}
+use Rattle.texts.specs.States.{Room, Counts, Holds, stage_of, early_note, row_note, remain_note, last_note}
 use Rattle.texts.specs.States.{TableStep, Area, area, plain_field, Numbers}
-use Rattle.texts.specs.declared.notes.Note.{Note}
 use Rattle.texts.specs.declared.states.Stage.{Stage}
 use Rattle.texts.specs.declared.states.Stage.TheVariants as at
 use Rattle.texts.specs.declared.states.Reading.{Reading}
 use Rattle.writing.specs.Puts.{placed, put}
-use Rattle.texts.proofs.LineForms.{told_lower}
 use Rattle.texts.proofs.RowShown.{row_labels_like}
 use Rattle.texts.proofs.StateSteps.{blamed_outside}
 use Rattle.texts.proofs.RecordLaws.{two_writes, two_end}
@@ -55,35 +53,32 @@ module _ (f : fold.Found) (r : Reading) (c : Counts f r) where
   next_line = let q = c.lines in omega (arith, q)
 
   early_is : f.row ≡ none → note_of (early_note r) ≡ fold.early f
-  unfolding note_of
   early_is e = ap (λ (p : ℕ). some (refused 3 p)) (next_line ∙ sym (blamed_outside f.row f.lines e))
 
   -- in a row
   row_is : (row : List ℕ) (o : Option Row) → not (is_none o) ≡ true
       → if_any (is_drawn_row row_lines_most f.width) o ≡ true → RowKept o r.width r.row row
       → note_of (row_note r row) ≡ some (refused 3 (fold.blamed o f.lines))
-  unfolding note_of
   row_is row none g d k = absurd (not_both false g refl)
   row_is row (some x) g d k =
-      ap (λ (b : Bool). note_of (cond b (early_note r) (note 3 r.lines)))
+      ap (λ (b : Bool). note_of (cond b (early_note r) (Some (BadLine r.lines))))
       (row_labels_like row r.row r.width x
       (subst (λ (w : ℕ). is_drawn_row row_lines_most w x ≡ true) (sym c.width) d) k.lines)
       ∙ go (is_labelled x)
     where
-      go : (b : Bool) → note_of (cond b (early_note r) (note 3 r.lines))
+      go : (b : Bool) → note_of (cond b (early_note r) (Some (BadLine r.lines)))
           ≡ some (refused 3 (cond b (suc f.lines) f.lines))
       go true = ap (λ (p : ℕ). some (refused 3 p)) next_line
       go false = ap (λ (p : ℕ). some (refused 3 p)) c.lines
 
   remain_is : note_of (remain_note r) ≡ fold.uncelled f
-  unfolding note_of
   remain_is =
       go (ltb r.fields r.cells)
       ∙ ap (λ (p : ℕ). cond (ltb r.fields r.cells) (some (refused 7 p)) none) next_line
       ∙ ap₂ {C = Option Answer} (λ (a b : ℕ). cond (ltb a b) (some (refused 7 (suc f.lines))) none) c.fields
       c.cells
     where
-      go : (b : Bool) → note_of (cond b (note 7 (r.lines + 1)) (note 0 0))
+      go : (b : Bool) → note_of (cond b (Some (Mismatch (r.lines + 1))) None)
           ≡ cond b (some (refused 7 (r.lines + 1))) none
       go true = refl
       go false = refl
@@ -118,90 +113,34 @@ module _ (f : fold.Found) (r : Reading) (c : Counts f r) where
         ∙ ap (λ (s : fold.Stage). fold.lowest_at s l f) c.stage
 
 -- no place is behind the next line
-pub remain_placed : (r : Reading) → (remain_note r).place ≤ r.lines + 1
+pub remain_placed : (r : Reading) → place_of (remain_note r) ≤ r.lines + 1
 remain_placed r = go (ltb r.fields r.cells)
   where
-    go : (b : Bool) → (cond b (note 7 (r.lines + 1)) (note 0 0)).place ≤ r.lines + 1
+    go : (b : Bool) → place_of (cond b (Some (Mismatch (r.lines + 1))) None) ≤ r.lines + 1
     go true = omega arith
     go false = omega arith
 
-pub row_placed : (r : Reading) (b : Bool) → (cond b (early_note r) (note 3 r.lines)).place ≤ r.lines + 1
+pub row_placed : (r : Reading) (b : Bool) → place_of (cond b (early_note r) (Some (BadLine r.lines))) ≤ r.lines + 1
 row_placed r true = omega arith
 row_placed r false = omega arith
 
--- it can be told
-pub last_told : (s : Stage) (r : Reading) (whole : Bool) (row : List ℕ) → Room r
-    → is_told (last_note s r whole row) ≡ true
-unfolding last_note note_of
-last_told at.Opening r w row h = refl
-last_told at.Blank r w row h = refl
-last_told at.TensRuler r w row h = refl
-last_told at.UnitsRuler r w row h = refl
-last_told at.TopBorder r w row h = refl
-last_told at.FirstRow r w row h = refl
-last_told at.InRow r w row h = go (are_labels row r.row (2 * r.width + 1))
-  where
-    go : (b : Bool) → is_told (note_of (cond b (early_note r) (note 3 r.lines))) ≡ true
-    go true = refl
-    go false = refl
-last_told at.RowOrBlank r w row h = refl
-last_told at.WhereLine r w row h = refl
-last_told at.LastBlank r w row h = refl
-last_told at.FirstField r w row h = refl
-last_told at.FieldLine r w row h = go w
-  where
-    left : (b : Bool) → is_told (note_of (cond b (note 7 (r.lines + 1)) (note 0 0))) ≡ true
-    left true = refl
-    left false = refl
-
-    go : (b : Bool)
-        → is_told (cond b (lower (note_of r.note) (note_of (remain_note r))) (note_of (early_note r))) ≡ true
-    go true = told_lower (note_of r.note) (note_of (remain_note r)) h.told (left (ltb r.fields r.cells))
-    go false = refl
-last_told at.Lost r w row h = h.told
-
-pub note_refused : (a : Note) → (a.number ≡ 0 → ⊥) → note_of a ≡ some (refused a.number a.place)
-unfolding note_of
-note_refused a e = rw (ne_eqb a.number 0 e) refl
-
-pub note_none : (a : Note) → a.number ≡ 0 → note_of a ≡ none
-unfolding note_of
-note_none a e = rw (eq-eqb a.number 0 e) refl
-
--- ── a refusal ──
-
-told_is : (a : Note) → is_told (note_of a) ≡ true → eqb a.number 0 ≡ false
-    → is_told (some (refused a.number a.place)) ≡ true
-unfolding note_of
-told_is a t e = rw e at t
-
--- 2 and 4 have no place
-placeless : (m p : ℕ) → (eqb m 2 || eqb m 4) ≡ true → (not (eqb m 2 || eqb m 4) || eqb p 0) ≡ true → p ≡ 0
-placeless m p e k = eqb-true p 0 (rw e at k)
-
-told_place : (a : Note) → is_told (note_of a) ≡ true → eqb a.number 0 ≡ false
-    → (not (eqb a.number 2 || eqb a.number 4) || eqb a.place 0) ≡ true
-told_place a t e = and_right (between 2 a.number 10) _ (told_is a t e)
-
-pub told_two : (a : Note) → is_told (note_of a) ≡ true → eqb a.number 0 ≡ false → a.number ≡ 2 → a.place ≡ 0
-told_two a t e n = placeless a.number a.place (rw n refl) (told_place a t e)
-
-pub told_four : (a : Note) → is_told (note_of a) ≡ true → eqb a.number 0 ≡ false → a.number ≡ 4 → a.place ≡ 0
-told_four a t e n = placeless a.number a.place (rw n refl) (told_place a t e)
-
--- and the number is one of 2 to 10
-low_half : (n : ℕ) → 2 ≤ n → (n ≡ 2 → ⊥) → (n ≡ 3 → ⊥) → (n ≡ 4 → ⊥) → (n ≡ 5 → ⊥) → (n ≡ 6 → ⊥) → 7 ≤ n
-low_half n le a b c d e = omega arith
-
-pub none_other : (n : ℕ) → (2 ≤ n) × (n ≤ 10) → (n ≡ 2 → ⊥) → (n ≡ 3 → ⊥) → (n ≡ 4 → ⊥) → (n ≡ 5 → ⊥) → (n ≡ 6 → ⊥)
-    → (n ≡ 7 → ⊥) → (n ≡ 8 → ⊥) → (n ≡ 9 → ⊥) → (n ≡ 10 → ⊥) → ⊥
-none_other n h z a b c d e f g i = high n (low_half n h.0 z a b c d) h.1 e f g i
-  where
-    high : (m : ℕ) → 7 ≤ m → m ≤ 10 → (m ≡ 7 → ⊥) → (m ≡ 8 → ⊥) → (m ≡ 9 → ⊥) → (m ≡ 10 → ⊥) → ⊥
-    high m lo hi e f g i = omega arith
-
-pub told_one : (a : Note) → is_told (note_of a) ≡ true → eqb a.number 0 ≡ false → (2 ≤ a.number) × (a.number ≤ 10)
-told_one a t e = between_true 2 a.number 10 (and_left (between 2 a.number 10) _ (told_is a t e))
+-- outside of rows and field lines
+pub last_early : (s : Stage) (r : Reading) (whole : Bool) (row : List ℕ) → (s ≡ at.InRow → ⊥)
+    → (s ≡ at.FieldLine → ⊥) → (s ≡ at.Lost → ⊥) → note_of (early_note r) ≡ last_note s r whole row
+unfolding last_note
+last_early at.Opening r w row a b c = refl
+last_early at.Blank r w row a b c = refl
+last_early at.TensRuler r w row a b c = refl
+last_early at.UnitsRuler r w row a b c = refl
+last_early at.TopBorder r w row a b c = refl
+last_early at.FirstRow r w row a b c = refl
+last_early at.InRow r w row a b c = absurd (a refl)
+last_early at.RowOrBlank r w row a b c = refl
+last_early at.WhereLine r w row a b c = refl
+last_early at.LastBlank r w row a b c = refl
+last_early at.FirstField r w row a b c = refl
+last_early at.FieldLine r w row a b c = absurd (b refl)
+last_early at.Lost r w row a b c = absurd (c refl)
 
 pub end_refused : (k : fold.Kept) (out : List ℕ) (a : Answer) → fold.lowest_of k ≡ some a
     → leaves a out ≡ fold.finish k out

@@ -13,7 +13,7 @@ use borrow.Author.Tests.{le-leb, lt-leb, ne_eqb}
 use Rattle.base.specs.Lists.{all, is_empty}
 use Rattle.base.proofs.Lists.{and_left, and_right, between_true}
 use Rattle.rules.specs.Limits.{number_most}
-use Rattle.rules.specs.Names.{is_digit, is_word_byte}
+use Rattle.rules.specs.Names.{is_digit}
 use Rattle.text_laws.specs.Reader.{word, behind, scan, word_value, is_numeral, is_number_word}
 use Rattle.text_laws.proofs.ReaderWords.{word_behind}
 
@@ -22,19 +22,6 @@ unfolding is_digit
 digit_range c t = between_true 48 c 57 t
 
 -- ── a word ──
-
-module _ (s : List ℕ) (at : ℕ) where
-  pub behind_end : length s ≤ at → at ≤ length s → drop at s ≡ behind (drop at s)
-  unfolding behind
-  behind_end le le' = let e : at ≡ length s = omega arith in rw (e, drop-length) refl
-
-  pub behind_stop : at < length s → is_word_byte (get_or s at 0) ≡ false → drop at s ≡ behind (drop at s)
-  unfolding behind
-  behind_stop lt e = rw (drop-cons s at 0 lt, e, behind) refl
-
-  pub behind_step : at < length s → is_word_byte (get_or s at 0) ≡ true → behind (drop at s) ≡ behind (drop (at + 1) s)
-  unfolding behind
-  behind_step lt e = rw (drop-cons s at 0 lt, e, behind, add-one at) refl
 
 -- the word is what stands between the two places
 pub word_part : (s : List ℕ) (at end : ℕ) → at ≤ end → end ≤ length s → drop end s ≡ behind (drop at s)

@@ -3,7 +3,7 @@ use mathlib.Core.Path.{◌≡◌, refl, ap, sym, ◌∙◌}
 use mathlib.Core.Bool.{Bool, true, false, not}
 use mathlib.Core.List.{List, ◌∷◌, ◌++◌}
 use mathlib.Core.Option.{Option, none, some}
-use Prim.Native.Nat.{ℕ, suc, ◌+◌, ◌-◌, ◌≤◌, ◌<◌}
+use Prim.Native.Nat.{ℕ, zero, suc, ◌+◌, ◌-◌, ◌≤◌, ◌<◌}
 use native.Mathlib.Omega.{arith}
 use native.Mathlib.Numerals.{add-one}
 use lib.ListN.{length, take, drop, get_or, length-drop, length-append}
@@ -15,10 +15,12 @@ use Rattle.rules.specs.Names.{is_label, is_short}
 use Rattle.text_laws.specs.Reader.{after, word, behind}
 use Rattle.text_laws.specs.LineReader.{miss, hit, passed, literal, begins, label_ends, label_text, label_behind}
 use Rattle.text_laws.specs.LineReader.{read_label, read_closed_name, read_short}
-use Rattle.texts.specs.FieldPlaces.{SameLabel, WithinLabel, NameIs, SameShort, WithinShort}
-use Rattle.texts.specs.declared.labels.Label.TheVariants as label
-use Rattle.texts.specs.declared.labels.Short.{Short}
-use Rattle.texts.specs.declared.labels.Short.TheVariants as short
+use Rattle.texts.specs.FieldPlaces.{SameLabel, WithinLabel, SameShort, WithinShort}
+use Rattle.std.specs.Prelude.{Option as CodeOption, None, Some}
+use Rattle.std.specs.Option.{MatchOption}
+use Rattle.std.proofs.Common.{unwrap_or}
+use Rattle.texts.specs.PartPlaces.{span_of}
+use Rattle.writing.specs.declared.spans.Span.{Span}
 use Rattle.text_laws.proofs.Combine.{begins_split, literal_finds}
 use Rattle.text_laws.proofs.LineNames.{label_split}
 use Rattle.texts.proofs.ExprLeaves.{word_part, longer}
@@ -81,6 +83,41 @@ module _ (s : List ℕ) (at : ℕ) where
       let g = goes (get_or s at 0) (drop (suc at) s) (ap label_ends (sym d) ∙ e) in
       ap label_behind d ∙ g ∙ ap (λ (n : ℕ). label_behind (drop n s)) (sym (add-one at))
 
+-- no label ends at any of so many places
+label_skip : (s : List ℕ) (at n : ℕ) → at + n ≤ length s
+    → ((k : ℕ) → at ≤ k → k < at + n → label_ends (drop k s) ≡ false)
+    → label_behind (drop at s) ≡ label_behind (drop (at + n) s)
+label_skip s at zero le h = let e : at + 0 ≡ at = omega arith in rw e refl
+label_skip s at (suc n) le h =
+    let e : at + 1 + n ≡ at + suc n = omega arith in
+    label_step s at (omega arith) (h at (omega arith) (omega arith))
+    ∙ label_skip s (at + 1) n (omega arith) (λ k a b. h k (omega arith) (omega arith))
+    ∙ ap (λ (i : ℕ). label_behind (drop i s)) e
+
+-- the first place where one ends, as a search finds it
+pub label_found : (s : List ℕ) (at : ℕ) → at ≤ length s → (r : CodeOption ℕ)
+    → MatchOption r ((k : ℕ) → at ≤ k → k < length s → label_ends (drop k s) ≡ false)
+    (λ i. (at ≤ i) × (i < length s) × (label_ends (drop i s) ≡ true)
+    × ((k : ℕ) → at ≤ k → k < i → label_ends (drop k s) ≡ false))
+    → (at ≤ unwrap_or r (length s)) × (unwrap_or r (length s) ≤ length s)
+    × (drop (unwrap_or r (length s)) s ≡ label_behind (drop at s))
+label_found s at le None h =
+    let e : at + (length s - at) ≡ length s = omega arith in (
+      le,
+      omega arith,
+      label_end s (length s) (omega arith) (omega arith)
+          ∙ sym (label_skip s at (length s - at) (omega arith) (λ k a b. h k a (omega arith))
+          ∙ ap (λ (i : ℕ). label_behind (drop i s)) e),
+    )
+label_found s at le (Some i) h =
+    let e : at + (i - at) ≡ i = omega (arith, h.0) in (
+      h.0,
+      omega (arith, h.1),
+      label_stop s i h.1 h.2
+          ∙ sym (label_skip s at (i - at) (omega (arith, h.0, h.1)) (λ k a b. h.3 k a (omega (arith, h.0)))
+          ∙ ap (λ (j : ℕ). label_behind (drop j s)) e),
+    )
+
 module _ (s : List ℕ) (at end : ℕ) (lo : at ≤ end) (hi : end ≤ length s)
     (e : drop end s ≡ label_behind (drop at s)) where
   label_part : take (end - at) (drop at s) ≡ label_text (drop at s)
@@ -93,14 +130,14 @@ module _ (s : List ℕ) (at end : ℕ) (lo : at ≤ end) (hi : end ≤ length s)
       ap (λ (l : List ℕ). take (end - at) l) (label_split z) ∙ take_at (label_text z) (label_behind z) (end - at) k
 
   pub label_yes : is_label (take (end - at) (drop at s)) ≡ true
-      → WithinLabel s at (label.At end) × SameLabel s at (read_label (drop at s)) (label.At end)
+      → WithinLabel s at (Some end) × SameLabel s at (read_label (drop at s)) (Some end)
   unfolding read_label SameLabel WithinLabel
   label_yes y =
       let q : is_label (label_text (drop at s)) ≡ true = ap is_label (sym label_part) ∙ y in
       ((lo, hi), rw q (end, refl, label_part, e))
 
   pub label_no : is_label (take (end - at) (drop at s)) ≡ false
-      → WithinLabel s at label.Nothing × SameLabel s at (read_label (drop at s)) label.Nothing
+      → WithinLabel s at None × SameLabel s at (read_label (drop at s)) None
   unfolding read_label SameLabel WithinLabel
   label_no y =
       let q : is_label (label_text (drop at s)) ≡ false = ap is_label (sym label_part) ∙ y in
@@ -125,30 +162,30 @@ module _ (s : List ℕ) (at end : ℕ) (lo : at ≤ end) (hi : end ≤ length s)
   short_word : (b : Bool) → is_short (take (end - at) (drop at s)) ≡ b → is_short (word (drop at s)) ≡ b
   short_word b y = ap is_short (sym (word_part s at end lo hi e)) ∙ y
 
-  abbrev pub NameAt : Short → Type 0
+  abbrev pub NameAt : CodeOption (Span × ℕ) → Type 0
   NameAt r = WithinShort s at r × SameShort s (read_closed_name (drop at s)) r
 
   pub name_yes : is_short (take (end - at) (drop at s)) ≡ true → begins (bytes ")") (drop end s) ≡ true
-      → NameAt (short.At at end (end + 1))
-  unfolding SameShort WithinShort NameIs is_short
+      → NameAt (Some (span_of at (end - at), end + 1))
+  unfolding SameShort WithinShort is_short
   name_yes y b =
       let u : at + 1 ≤ end = longer s at end lo hi e is_short refl y in
       let l = literal_at (bytes ")") s end hi b in
       let h : end + 1 ≤ length s = l.0 in
       let r : read_closed_name (drop at s) ≡ hit (some (word (drop at s))) (drop (end + 1) s) =
       name_is (drop at s) (drop (end + 1) s) (short_word true y) (ap (literal (bytes ")")) (sym e) ∙ l.1) in (
-        (omega arith, lo, omega arith, h),
-        rw r (at, end, end + 1, refl, (omega arith, word_part s at end lo hi e), refl),
+        (omega arith, omega arith, h),
+        rw r (span_of at (end - at), end + 1, refl, word_part s at end lo hi e, refl),
       )
 
   pub name_unclosed : is_short (take (end - at) (drop at s)) ≡ true → begins (bytes ")") (drop end s) ≡ false
-      → NameAt short.Nothing
+      → NameAt None
   unfolding SameShort WithinShort
   name_unclosed y b =
       let l = ap (literal (bytes ")")) (sym e) ∙ literal_none (bytes ")") (drop end s) b in
       (tt, rw (name_open (drop at s) (short_word true y) l) refl)
 
-  pub name_no : is_short (take (end - at) (drop at s)) ≡ false → NameAt short.Nothing
+  pub name_no : is_short (take (end - at) (drop at s)) ≡ false → NameAt None
   unfolding SameShort WithinShort
   name_no y = (tt, rw (name_other (drop at s) (short_word false y)) refl)
 
@@ -161,26 +198,26 @@ short_none : (z : List ℕ) → begins (bytes " (") z ≡ false → read_short z
 unfolding read_short
 short_none z n = rw n refl
 
-within_less : (s : List ℕ) (at : ℕ) (r : Short) → WithinShort s (at + 2) r → WithinShort s at r
+within_less : (s : List ℕ) (at : ℕ) (r : CodeOption (Span × ℕ)) → WithinShort s (at + 2) r → WithinShort s at r
 unfolding WithinShort
-within_less s at short.Nothing h = tt
-within_less s at (short.At a b n) h = (omega arith, h.1, h.2, h.3)
+within_less s at None h = tt
+within_less s at (Some (p, n)) h = (omega arith, h.1, h.2)
 
 module _ (s : List ℕ) (at : ℕ) (le : at ≤ length s) where
-  abbrev pub ShortAt : Short → Type 0
+  abbrev pub ShortAt : CodeOption (Span × ℕ) → Type 0
   ShortAt r = WithinShort s at r × SameShort s (read_short (drop at s)) r
 
   pub short_room : begins (bytes " (") (drop at s) ≡ true → at + 2 ≤ length s
   short_room y = (literal_at (bytes " (") s at le y).0
 
-  pub short_named : (r : Short) → begins (bytes " (") (drop at s) ≡ true → WithinShort s (at + 2) r
+  pub short_named : (r : CodeOption (Span × ℕ)) → begins (bytes " (") (drop at s) ≡ true → WithinShort s (at + 2) r
       → SameShort s (read_closed_name (drop (at + 2) s)) r → ShortAt r
   short_named r y w h =
       let e = short_there (drop at s) (drop (at + 2) s) y (literal_at (bytes " (") s at le y).1 in
       (within_less s at r w, rw e h)
 
-  pub short_bare : begins (bytes " (") (drop at s) ≡ false → ShortAt (short.At at at at)
-  unfolding SameShort WithinShort NameIs
+  pub short_bare : begins (bytes " (") (drop at s) ≡ false → ShortAt (Some (span_of at 0, at))
+  unfolding SameShort WithinShort
   short_bare n =
       let e = short_none (drop at s) n in
-      ((omega arith, omega arith, omega arith, le), rw e (at, at, at, refl, refl, refl))
+      ((omega arith, omega arith, le), rw e (span_of at 0, at, refl, refl, refl))

@@ -1,9 +1,9 @@
 -- The parts of a whole field line, as the code finds them, against the reader of the line.
-use mathlib.Core.Path.{◌≡◌, refl}
+use mathlib.Core.Path.{◌≡◌, refl, sym, ◌∙◌}
 use mathlib.Core.Bool.{Bool, true, false, ◌&&◌}
 use mathlib.Core.List.{List, [], ◌∷◌, ◌++◌}
-use mathlib.Core.Option.{Option, none, some}
-use Prim.Native.Nat.{ℕ, ◌-◌, ◌≤◌}
+use mathlib.Core.Option.{Option, none}
+use Prim.Native.Nat.{ℕ, ◌+◌, ◌≤◌}
 use native.Mathlib.Omega.{arith}
 use native.Mathlib.Nat.{sub-zero}
 use lib.ListN.{length, take, drop}
@@ -12,13 +12,12 @@ use Rattle.base.specs.Lists.{all}
 use Rattle.rules.specs.Fields.{Width}
 use Rattle.text_laws.specs.LineReader.{Got, miss, hit, literal, read_label, read_short, read_width}
 use Rattle.text_laws.specs.LineReader.{read_field, form_of, read_form}
-use Rattle.texts.specs.FieldPlaces.{SameLabel, WithinLabel, NameIs, SameShort, WithinShort}
-use Rattle.texts.specs.PartPlaces.{span_of, ShortIs}
+use Rattle.texts.proofs.OptionLaws.{some_pair}
+use Rattle.texts.specs.FieldPlaces.{SameLabel, WithinLabel, SameShort, WithinShort}
+use Rattle.texts.specs.PartPlaces.{ShortIs}
 use Rattle.texts.specs.PartPlaces.{Ending, read_ends, read_behind}
-use Rattle.texts.specs.declared.labels.Label.{Label}
-use Rattle.texts.specs.declared.labels.Label.TheVariants as label
-use Rattle.texts.specs.declared.labels.Short.{Short}
-use Rattle.texts.specs.declared.labels.Short.TheVariants as short
+use Rattle.std.specs.Prelude.{Option as CodeOption, None, Some}
+use Rattle.writing.specs.declared.spans.Span.{Span}
 
 -- ── sizes ──
 
@@ -72,12 +71,12 @@ pub record LabelAs (s : List ℕ) (n : ℕ) : Type 0 where
   pub is_read : read_label s ≡ hit text (drop n s)
   pub is_text : take n s ≡ text
 
-pub label_miss : (s : List ℕ) (r : Label) (g : Got (List ℕ)) → SameLabel s 0 g r → r ≡ label.Nothing → g ≡ miss
+pub label_miss : (s : List ℕ) (r : CodeOption ℕ) (g : Got (List ℕ)) → SameLabel s 0 g r → r ≡ None → g ≡ miss
 unfolding SameLabel
 label_miss s r miss h e = refl
 label_miss s r (hit w q) h e = let e' = h.1 in cc
 
-label_hit : (s : List ℕ) (r : Label) (g : Got (List ℕ)) (n : ℕ) → SameLabel s 0 g r → r ≡ label.At n
+label_hit : (s : List ℕ) (r : CodeOption ℕ) (g : Got (List ℕ)) (n : ℕ) → SameLabel s 0 g r → r ≡ Some n
     → (w : List ℕ) × (g ≡ hit w (drop n s)) × (take n s ≡ w)
 unfolding SameLabel
 label_hit s r miss n h e = let y : ◌≡◌ {A = ℕ} 0 1 = cc in absurd (omega arith)
@@ -87,50 +86,46 @@ label_hit s r (hit w q) n h e =
     let f = h.3 in
     (w, cc, rw (p, sub-zero n) at h.2)
 
-pub label_within : (s : List ℕ) (at : ℕ) {r : Label} {n : ℕ} → r ≡ label.At n → WithinLabel s at r
+pub label_within : (s : List ℕ) (at : ℕ) {r : CodeOption ℕ} {n : ℕ} → r ≡ Some n → WithinLabel s at r
     → (at ≤ n) × (n ≤ length s)
 unfolding WithinLabel
 label_within s at e w = rw e at w
 
 -- the short name that the code found
-pub record ShortAs (s : List ℕ) (at a b n : ℕ) : Type 0 where
+pub record ShortAs (s : List ℕ) (at : ℕ) (p : Span) (n : ℕ) : Type 0 where
   pub text : Option (List ℕ)
   pub is_read : read_short (drop at s) ≡ hit text (drop n s)
-  pub is_text : ShortIs s text (span_of a (b - a))
+  pub is_text : ShortIs s text p
 
-name_short : (s : List ℕ) (a b : ℕ) (h : Option (List ℕ)) → NameIs s a b h → ShortIs s h (span_of a (b - a))
-unfolding NameIs
-name_short s a b none e = omega arith
-name_short s a b (some w) e = e.1
-
-pub short_miss : (s : List ℕ) (r : Short) (g : Got (Option (List ℕ))) → SameShort s g r → r ≡ short.Nothing → g ≡ miss
+pub short_miss : (s : List ℕ) (r : CodeOption (Span × ℕ)) (g : Got (Option (List ℕ))) → SameShort s g r
+    → r ≡ None → g ≡ miss
 unfolding SameShort
 short_miss s r miss h e = refl
-short_miss s r (hit w q) h e = let e' = h.3 in cc
+short_miss s r (hit w q) h e = let e' = h.2 in cc
 
-short_hit : (s : List ℕ) (r : Short) (g : Got (Option (List ℕ))) (a b n : ℕ) → SameShort s g r → r ≡ short.At a b n
-    → (w : Option (List ℕ)) × (g ≡ hit w (drop n s)) × NameIs s a b w
+short_hit : (s : List ℕ) (r : CodeOption (Span × ℕ)) (g : Got (Option (List ℕ))) (p : Span) (n : ℕ) → SameShort s g r
+    → r ≡ Some (p, n) → (w : Option (List ℕ)) × (g ≡ hit w (drop n s)) × ShortIs s w p
 unfolding SameShort
-short_hit s r miss a b n h e = let y : ◌≡◌ {A = ℕ} 0 1 = cc in absurd (omega arith)
-short_hit s r (hit w q) a b n h e =
-    let e' = h.3 in
-    let p : h.0 ≡ a = cc in
-    let o : h.1 ≡ b = cc in
-    let f = h.5 in
-    (w, cc, rw (p, o) at h.4)
+short_hit s r miss p n h e = let y : ◌≡◌ {A = ℕ} 0 1 = cc in absurd (omega arith)
+short_hit s r (hit w q) p n h e =
+    let k = some_pair p h.0 n h.1 (sym e ∙ h.2) in
+    let m = k.1 in
+    let f = h.4 in
+    (w, cc, rw (sym k.0) at h.3)
 
-pub short_within : (s : List ℕ) (at : ℕ) {r : Short} {a b n : ℕ} → r ≡ short.At a b n → WithinShort s at r
-    → (at ≤ a) × (a ≤ b) × (b ≤ n) × (n ≤ length s)
+pub short_within : (s : List ℕ) (at : ℕ) {r : CodeOption (Span × ℕ)} {p : Span} {n : ℕ} → r ≡ Some (p, n)
+    → WithinShort s at r
+    → (at ≤ p.at) × (p.at + p.len ≤ n) × (n ≤ length s)
 unfolding WithinShort
 short_within s at e w = rw e at w
 
 module _ (s : List ℕ) where
-  pub label_as : {r : Label} {n : ℕ} → SameLabel s 0 (read_label s) r → r ≡ label.At n → LabelAs s n
+  pub label_as : {r : CodeOption ℕ} {n : ℕ} → SameLabel s 0 (read_label s) r → r ≡ Some n → LabelAs s n
   label_as h e =
       let x = label_hit s _ (read_label s) _ h e in record { text = x.0; is_read = x.1; is_text = x.2 }
 
-  pub short_as : (at : ℕ) {r : Short} {a b n : ℕ} → SameShort s (read_short (drop at s)) r → r ≡ short.At a b n
-      → ShortAs s at a b n
+  pub short_as : (at : ℕ) {r : CodeOption (Span × ℕ)} {p : Span} {n : ℕ} → SameShort s (read_short (drop at s)) r
+      → r ≡ Some (p, n) → ShortAs s at p n
   short_as at h e =
-      let x = short_hit s _ (read_short (drop at s)) _ _ _ h e in
-      record { text = x.0; is_read = x.1; is_text = name_short s _ _ x.0 x.2 }
+      let x = short_hit s _ (read_short (drop at s)) _ _ h e in
+      record { text = x.0; is_read = x.1; is_text = x.2 }

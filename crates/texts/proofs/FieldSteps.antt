@@ -1,12 +1,13 @@
 -- What the code keeps behind a field line.
+use Rattle.std.specs.Prelude.{Option as Held, Some, None}
+use Rattle.texts.specs.declared.notes.Note.TheVariants.{BadByte, BadLine, TooMany, Mismatch}
 use mathlib.Core.Path.{◌≡◌, refl, ap, ap₂, sym, ◌∙◌, subst}
-use mathlib.Core.Bool.{Bool, true, false, cond, ◌||◌}
+use mathlib.Core.Bool.{Bool, true, false, ◌||◌}
 use mathlib.Core.List.{List, [], ◌∷◌, ◌++◌, append_assoc}
 use mathlib.Core.Option.{Option, none, some, none-ne-some}
 use Prim.Native.Nat.{ℕ, suc, ◌+◌}
 use native.Mathlib.Omega.{arith}
-use lib.Dec.{ltb, leb, eqb}
-use borrow.Author.Tests.{eqb-true}
+use lib.Dec.{leb}
 use lib.ListN.{length, take, length-append, length-map, get_elem?}
 use Rattle.base.specs.Lists.{any, joined, if_any}
 use Rattle.writing.specs.Writes.{Writes}
@@ -30,10 +31,11 @@ use Rattle.texts.specs.Noted.{note_of}
 use Rattle.texts.specs.HeldNames as held
 use Rattle.texts.specs.Slots.{stored_slot}
 use Rattle.texts.specs.Resolved.{indexed}
-use Rattle.texts.specs.Changes.{note, changed, with_line}
-use Rattle.texts.specs.States.{line_refused, line_kept, is_full_as, NamedWith}
+use Rattle.texts.specs.Changes.{changed, with_line}
+use Rattle.texts.specs.States.{line_refused, line_kept, is_many_as, is_full_as, NamedWith}
 use Rattle.texts.specs.States.{Area, plain_field, is_short_record, Counts, Named, Holds}
 use Rattle.texts.specs.declared.notes.Note.{Note}
+use Rattle.texts.specs.declared.notes.Note.TheVariants as by
 use Rattle.texts.specs.declared.states.Stage.TheVariants as at
 use Rattle.texts.specs.declared.states.Reading.{Reading}
 use Rattle.texts.proofs.StateSteps.{records_kept, next_line}
@@ -45,22 +47,17 @@ use Rattle.texts.proofs.LineCounts.{field_tallied, numbers_more}
 
 -- ── full ──
 
-pub note_many : (a : Note) → eqb a.number 4 ≡ is_many (note_of a)
-unfolding note_of
-note_many a = go (eqb a.number 0) refl
-  where
-    go : (b : Bool) → eqb a.number 0 ≡ b
-        → eqb a.number 4 ≡ is_many (cond b none (some (refused a.number a.place)))
-    go true e = let z : a.number ≡ 0 = eqb-true a.number 0 e in rw z refl
-    go false e = refl
-
-pub note_open : (a : Note) → cond (eqb a.number 0) true (ltb 6 a.number) ≡ is_open (note_of a)
-unfolding note_of
-note_open a = go (eqb a.number 0)
-  where
-    go : (b : Bool) → cond b true (ltb 6 a.number) ≡ is_open (cond b none (some (refused a.number a.place)))
-    go true = refl
-    go false = refl
+note_many : (a : Held Note) → is_many_as a ≡ is_many (note_of a)
+note_many None = refl
+note_many (Some by.BadByte) = refl
+note_many (Some (by.BadLine p)) = refl
+note_many (Some by.TooMany) = refl
+note_many (Some (by.BadForm p)) = refl
+note_many (Some (by.OverLimit p)) = refl
+note_many (Some (by.Mismatch p)) = refl
+note_many (Some (by.Repeated p)) = refl
+note_many (Some (by.BadName p)) = refl
+note_many (Some (by.BadRest p)) = refl
 
 pub full_same : (f : fold.Found) (r : Reading) → Counts f r → is_full_as r ≡ is_full f.judged
 full_same f r h =
@@ -81,7 +78,7 @@ field_found f j = record {
 
 module _ (f : fold.Found) (r : Reading) {cells : List ℕ} {table : Area} {labels : List (List ℕ)} {names : Names}
     (h : Holds f r cells table labels names) where
-  holds_judged : (j : Judged) (n : ℕ) (a : Note) → n ≡ j.count → j.fields ≡ f.judged.fields
+  holds_judged : (j : Judged) (n : ℕ) (a : Held Note) → n ≡ j.count → j.fields ≡ f.judged.fields
       → (j.lowest ≡ none → f.judged.lowest ≡ none) → note_of a ≡ j.lowest
       → Holds (field_found f j) (changed (with_line r r.cell n r.fields r.end r.rested) (r.lines + 1)
       at.FieldLine a) cells table labels names
@@ -113,17 +110,17 @@ module _ (f : fold.Found) (r : Reading) {cells : List ℕ} {table : Area} {label
 
   -- 4
   pub holds_full : (l : List ℕ) → is_full f.judged ≡ true
-      → Holds (fold.brief_field f l) (changed r (r.lines + 1) at.FieldLine (note 4 0)) cells table labels names
-  unfolding judge note_of
+      → Holds (fold.brief_field f l) (changed r (r.lines + 1) at.FieldLine (Some TooMany)) cells table labels names
+  unfolding judge
   holds_full l e =
-      rw e (holds_judged (many f.judged) r.count (note 4 0) h.counts.count refl
+      rw e (holds_judged (many f.judged) r.count (Some TooMany) h.counts.count refl
       (λ z. absurd (none-ne-some (refused 4 0) (sym z))) refl)
 
   one_more : r.count + 1 ≡ suc f.judged.count
   one_more = let e = h.counts.count in omega (arith, e)
 
   -- 5
-  pub holds_formless : (l : List ℕ) (a : Note) → is_full f.judged ≡ false → read_form l ≡ none
+  pub holds_formless : (l : List ℕ) (a : Held Note) → is_full f.judged ≡ false → read_form l ≡ none
       → note_of a ≡ lower (note_of r.note) (some (refused 5 (r.lines + 1)))
       → Holds (fold.brief_field f l) (line_refused r a) cells table labels names
   unfolding judge with_form
@@ -138,7 +135,7 @@ module _ (f : fold.Found) (r : Reading) {cells : List ℕ} {table : Area} {label
       lower f.judged.lowest (broken 6 (suc f.lines) (rules f.cells) (faces f.judged.fields) x)
 
   -- 6, and what is closed behind an earlier refusal
-  pub holds_closed : (l : List ℕ) (x : Form) (a : Note) → is_full f.judged ≡ false → read_form l ≡ some x
+  pub holds_closed : (l : List ℕ) (x : Form) (a : Held Note) → is_full f.judged ≡ false → read_form l ≡ some x
       → note_of a ≡ note_of_form x → is_open (note_of a) ≡ false
       → Holds (fold.brief_field f l) (line_refused r a) cells table labels names
   unfolding judge with_form
@@ -226,7 +223,7 @@ pub record Kept (f : fold.Found) (r : Reading) (x : Form) (to end : ℕ) (is_res
 module _ (f : fold.Found) (r : Reading) {cells : List ℕ} {table after : Area} {labels labels' : List (List ℕ)}
     {names names' : Names} (h : Holds f r cells table labels names) (x : Form) {end cell : ℕ} {rested : Bool}
     (k : Kept f r x cell end rested table after labels' names') where
-  counts_grown : (j : Judged) (y : Field ℕ) (a : Note) → j.count ≡ suc f.judged.count
+  counts_grown : (j : Judged) (y : Field ℕ) (a : Held Note) → j.count ≡ suc f.judged.count
       → j.fields ≡ f.judged.fields ++ (y ∷ []) → face y ≡ face x → note_of a ≡ j.lowest
       → Counts (field_found f j) (line_kept r cell end rested a)
   counts_grown j y a c e same low =
@@ -247,7 +244,7 @@ module _ (f : fold.Found) (r : Reading) {cells : List ℕ} {table after : Area} 
         lowest = low;
       }
 
-  holds_grown : (j : Judged) (y : Field ℕ) (a : Note) → j.count ≡ suc f.judged.count
+  holds_grown : (j : Judged) (y : Field ℕ) (a : Held Note) → j.count ≡ suc f.judged.count
       → j.fields ≡ f.judged.fields ++ (y ∷ []) → face y ≡ face x
       → StandIn j (h.records.fields ++ (indexed names' (length h.records.fields) x ∷ [])) → note_of a ≡ j.lowest
       → Holds (field_found f j) (line_kept r cell end rested a) cells after labels' names'
@@ -294,7 +291,7 @@ module _ (f : fold.Found) (r : Reading) {cells : List ℕ} {table after : Area} 
     (steady : Steady f) (short : ShortNames x)
     (formed : (i : ℕ) (y : Form) → get_elem? (faces f.judged.fields ++ (x ∷ [])) i ≡ some y
     → if_any is_short y.short ≡ true) where
-  pub holds_open : (l : List ℕ) (a : Note) → is_full f.judged ≡ false → read_form l ≡ some x
+  pub holds_open : (l : List ℕ) (a : Held Note) → is_full f.judged ≡ false → read_form l ≡ some x
       → note_of a ≡ lower f.judged.lowest
       (broken 6 (suc f.lines) (rules f.cells) (faces f.judged.fields) x)
       → is_open (note_of a) ≡ true

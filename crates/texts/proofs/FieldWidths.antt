@@ -1,27 +1,24 @@
 -- Widths at a place of a text, against the reader over what is left of it.
-use mathlib.Core.Path.{◌≡◌, refl}
+use mathlib.Core.Path.{◌≡◌, refl, sym, ◌∙◌}
 use mathlib.Core.Bool.{Bool, true, false, cond, ◌&&◌, ◌||◌}
-use mathlib.Core.Logic.{◌⊎◌, inl, inr}
 use mathlib.Core.List.{List}
 use mathlib.Core.Option.{none, some}
-use Prim.Native.Nat.{ℕ, ◌+◌, ◌*◌, ◌≤◌, max}
+use Prim.Native.Nat.{ℕ, ◌+◌, ◌≤◌, max}
 use native.Mathlib.Omega.{arith}
 use lib.Dec.{eqb}
 use lib.ListN.{length, drop}
-use borrow.Author.Tests.{eqb-true}
 use Rattle.base.specs.Bytes.{bytes}
 use Rattle.base.specs.Lists.{same}
-use Rattle.base.proofs.Lists.{or_cases}
 use Rattle.rules.specs.Trees.{Tree, num, read, two, negation, depth, stored_tree, stored_length, le4}
 use Rattle.rules.specs.Fields.{rest}
 use Rattle.rules.specs.Within.{is_width}
 use Rattle.text_laws.specs.Reader.{word, behind}
 use Rattle.text_laws.specs.LineReader.{Got, miss, hit, bind, keep, literal, begins, read_tree, unit_of, read_unit}
 use Rattle.text_laws.specs.LineReader.{width_of, read_measure, read_width}
+use Rattle.texts.proofs.OptionLaws.{some_pair}
 use Rattle.texts.specs.FieldPlaces.{SameBits, WithinBits}
 use Rattle.texts.specs.PartPlaces.{spaced_unit, is_unit}
-use Rattle.texts.specs.declared.units.Bits.{Bits}
-use Rattle.texts.specs.declared.units.Bits.TheVariants as bits
+use Rattle.std.specs.Prelude.{Option, None, Some}
 use Rattle.text_laws.proofs.Combine.{Holds, holds_given, holds_bind}
 use Rattle.texts.proofs.FieldNames.{literal_at, literal_none}
 
@@ -47,39 +44,40 @@ holds_units z =
     always miss = tt
     always (hit a r) = tt
 
-module _ (s : List ℕ) (at : ℕ) (r : Bits) (h : SameBits s (spaced_unit (drop at s)) r) where
-  pub bits_none : r ≡ bits.Nothing → spaced_unit (drop at s) ≡ miss
+module _ (s : List ℕ) (at : ℕ) (r : Option (ℕ × ℕ)) (h : SameBits s (spaced_unit (drop at s)) r) where
+  pub bits_none : r ≡ None → spaced_unit (drop at s) ≡ miss
   unfolding SameBits
   bits_none = go (spaced_unit (drop at s)) h
     where
-      go : (g : Got ℕ) → SameBits s g r → r ≡ bits.Nothing → g ≡ miss
+      go : (g : Got ℕ) → SameBits s g r → r ≡ None → g ≡ miss
       go miss h e = refl
       go (hit u q) h e = let e' = h.1 in cc
 
-  pub bits_some : {u n : ℕ} → r ≡ bits.At u n → spaced_unit (drop at s) ≡ hit u (drop n s)
+  pub bits_some : {u n : ℕ} → r ≡ Some (u, n) → spaced_unit (drop at s) ≡ hit u (drop n s)
   unfolding SameBits
   bits_some {u} {n} = go u n (spaced_unit (drop at s)) h
     where
-      go : (u n : ℕ) (g : Got ℕ) → SameBits s g r → r ≡ bits.At u n → g ≡ hit u (drop n s)
+      go : (u n : ℕ) (g : Got ℕ) → SameBits s g r → r ≡ Some (u, n) → g ≡ hit u (drop n s)
       go u n miss h e = let z : ◌≡◌ {A = ℕ} 0 1 = cc in absurd (omega arith)
-      go u n (hit v q) h e = let e' = h.1 in let f = h.2 in cc
+      go u n (hit v q) h e =
+          let p = some_pair u v n h.0 (sym e ∙ h.1) in let e' = p.0 in let m = p.1 in let f = h.2 in cc
 
-  pub bits_unit : {u n : ℕ} → r ≡ bits.At u n → is_unit u ≡ true
+  pub bits_unit : {u n : ℕ} → r ≡ Some (u, n) → is_unit u ≡ true
   bits_unit e = go _ _ (spaced_unit (drop at s)) (holds_units (drop at s)) (bits_some e)
     where
       go : (u : ℕ) (q : List ℕ) (g : Got ℕ) → Holds (λ u q. is_unit u ≡ true) g → g ≡ hit u q → is_unit u ≡ true
       go u q miss h e = let z : ◌≡◌ {A = ℕ} 0 1 = cc in absurd (omega arith)
       go u q (hit v p) h e = let k : v ≡ u = cc in rw (← k) h
 
-pub bits_within : (s : List ℕ) (at : ℕ) {r : Bits} {u n : ℕ} → r ≡ bits.At u n → WithinBits s at r
+pub bits_within : (s : List ℕ) (at : ℕ) {r : Option (ℕ × ℕ)} {u n : ℕ} → r ≡ Some (u, n) → WithinBits s at r
     → (at ≤ n) × (n ≤ length s)
 unfolding WithinBits
 bits_within s at e w = rw e at w
 
-bits_up : (s : List ℕ) (at : ℕ) (r : Bits) → WithinBits s (at + 1) r → WithinBits s at r
+bits_up : (s : List ℕ) (at : ℕ) (r : Option (ℕ × ℕ)) → WithinBits s (at + 1) r → WithinBits s at r
 unfolding WithinBits
-bits_up s at bits.Nothing w = tt
-bits_up s at (bits.At u n) w = (omega arith, w.1)
+bits_up s at None w = tt
+bits_up s at (Some (u, n)) w = (omega arith, w.1)
 
 spaced_there : (z q : List ℕ) → literal (bytes " ") z ≡ hit tt q → spaced_unit z ≡ read_unit q
 unfolding spaced_unit
@@ -93,26 +91,16 @@ module _ (s : List ℕ) (at : ℕ) (le : at ≤ length s) where
   pub spaced_room : begins (bytes " ") (drop at s) ≡ true → at + 1 ≤ length s
   spaced_room y = (literal_at (bytes " ") s at le y).0
 
-  pub spaced_yes : (r : Bits) → begins (bytes " ") (drop at s) ≡ true → WithinBits s (at + 1) r
+  pub spaced_yes : (r : Option (ℕ × ℕ)) → begins (bytes " ") (drop at s) ≡ true → WithinBits s (at + 1) r
       → SameBits s (read_unit (drop (at + 1) s)) r → WithinBits s at r × SameBits s (spaced_unit (drop at s)) r
   spaced_yes r y w h =
       let l = (literal_at (bytes " ") s at le y).1 in
       (bits_up s at r w, rw (spaced_there (drop at s) (drop (at + 1) s) l) h)
 
   pub spaced_no : begins (bytes " ") (drop at s) ≡ false
-      → WithinBits s at bits.Nothing × SameBits s (spaced_unit (drop at s)) bits.Nothing
+      → WithinBits s at None × SameBits s (spaced_unit (drop at s)) None
   unfolding WithinBits SameBits
   spaced_no n = (tt, rw (spaced_none (drop at s) (literal_none (bytes " ") (drop at s) n)) refl)
-
-pub times_eight : (u m : ℕ) → u ≡ 8 → 8 * m ≡ u * m
-times_eight u m e = rw e refl
-
-pub times_one : (u m : ℕ) → is_unit u ≡ true → (u ≡ 8 → ⊥) → m ≡ u * m
-times_one u m y n = go (or_cases (eqb u 1) (eqb u 8) y)
-  where
-    go : (eqb u 1 ≡ true) ⊎ (eqb u 8 ≡ true) → m ≡ u * m
-    go (inl h) = let e : u ≡ 1 = eqb-true u 1 h in rw e (omega arith)
-    go (inr h) = absurd (n (eqb-true u 8 h))
 
 -- ── single numbers ──
 

@@ -1,12 +1,11 @@
 -- Phrases, units, labels and short names at a place of a text, against the reader over what is left of it.
 use mathlib.Core.Path.{◌≡◌, refl, ap, sym, ◌∙◌}
-use mathlib.Core.Bool.{Bool, true, false, cond, not, ◌||◌}
+use mathlib.Core.Bool.{Bool, true, false, cond, not, ◌&&◌, ◌||◌}
 use mathlib.Core.List.{List, [], ◌∷◌}
 use mathlib.Core.Option.{none, some}
 use Prim.Native.Nat.{ℕ, ◌+◌, ◌-◌, ◌≤◌, ◌<◌}
-use native.Mathlib.Omega.{arith}
 use native.Mathlib.Numerals.{add-one}
-use native.Mathlib.Nat.{le_of_suc-le-suc}
+use Rattle.std.specs.Cmp.Lexicographic.{pointwise}
 use lib.Dec.{eqb, leb}
 use lib.ListN.{length, take, drop, get_or}
 use lib.Seq.{drop-cons, drop-length}
@@ -16,37 +15,21 @@ use Rattle.base.specs.Lists.{all, same, is_none}
 use Rattle.rules.specs.Names.{is_printable}
 use Rattle.text_laws.specs.Reader.{after, word, behind}
 use Rattle.text_laws.specs.LineReader.{begins, is_remark, unit_of, read_unit}
-use Rattle.texts.specs.FieldPlaces.{unless0, SameBits, WithinBits}
-use Rattle.texts.specs.declared.units.Bits.TheVariants as bits
+use Rattle.texts.specs.FieldPlaces.{SameBits, WithinBits}
+use Rattle.std.specs.Prelude.{None, Some}
 use Rattle.texts.proofs.ExprLeaves.{word_part}
 
 -- ── phrases ──
 
--- one byte of a phrase
-module _ (w s : List ℕ) (i j : ℕ) (lw : i < length w) (ls : j < length s) where
-  pub begins_step : get_or w i 0 ≡ get_or s j 0 → begins (drop i w) (drop j s) ≡ begins (drop (i + 1) w)
-      (drop (j + 1) s)
-  unfolding begins after
-  begins_step e =
-      rw (add-one i, add-one j, drop-cons w i 0 lw, drop-cons s j 0 ls, eq-eqb (get_or w i 0) (get_or s j 0) e) refl
-
-  pub begins_stop : (get_or w i 0 ≡ get_or s j 0 → ⊥) → begins (drop i w) (drop j s) ≡ false
-  unfolding begins after
-  begins_stop e = rw (drop-cons w i 0 lw, drop-cons s j 0 ls, ne_eqb (get_or w i 0) (get_or s j 0) e) refl
-
--- a phrase of no bytes
-pub begins_end : (w s : List ℕ) (i : ℕ) → length w ≤ i → i ≤ length w → begins (drop i w) s ≡ true
+-- as the library tells what a text starts with
+pub begins_front : (w s : List ℕ) → pointwise eqb w (take (length w) s) ≡ begins w s
 unfolding begins after
-begins_end w s i le le' = let e : i ≡ length w = omega arith in rw (e, drop-length) refl
-
--- a phrase that is longer than what is left
-pub begins_long : (w s : List ℕ) → length s < length w → begins w s ≡ false
-unfolding begins after
-begins_long [] s lt = absurd (omega arith)
-begins_long (c ∷ w) [] lt = refl
-begins_long (c ∷ w) (d ∷ s) lt = go (eqb c d) (begins_long w s (le_of_suc-le-suc lt))
+begins_front [] s = refl
+begins_front (c ∷ w) [] = refl
+begins_front (c ∷ w) (d ∷ s) = go (eqb c d) (begins_front w s)
   where
-    go : (b : Bool) → not (is_none (after w s)) ≡ false → not (is_none (cond b (after w s) none)) ≡ false
+    go : (b : Bool) → pointwise eqb w (take (length w) s) ≡ not (is_none (after w s))
+        → (b && pointwise eqb w (take (length w) s)) ≡ not (is_none (cond b (after w s) none))
     go true e = e
     go false e = refl
 
@@ -65,6 +48,8 @@ module _ (s : List ℕ) (at : ℕ) where
   unfolding is_remark
   remark_space lt e = rw (add-one at, drop-cons s at 0 lt, eq-eqb (get_or s at 0) 32 e) refl
 
+-- ── printable bytes ──
+
 pub printable_low : (b : ℕ) → b < 32 → is_printable b ≡ false
 unfolding is_printable
 printable_low b lt = rw (lt-leb 32 b lt) refl
@@ -82,17 +67,16 @@ unfolding unit_of
 unit_case w a b c d p q r t = rw (p, q, r, t) refl
 
 module _ (s : List ℕ) (at end : ℕ) (lo : at ≤ end) (hi : end ≤ length s) (e : drop end s ≡ behind (drop at s)) where
-  pub unit_none : (u : ℕ) → unit_of (take (end - at) (drop at s)) ≡ unless0 u → u ≡ 0
-      → WithinBits s at bits.Nothing × SameBits s (read_unit (drop at s)) bits.Nothing
-  unfolding read_unit SameBits WithinBits unless0
-  unit_none u o z =
-      let q : unit_of (word (drop at s)) ≡ none = ap unit_of (sym (word_part s at end lo hi e)) ∙ o ∙ rw z refl in
+  pub unit_none : unit_of (take (end - at) (drop at s)) ≡ none
+      → WithinBits s at None × SameBits s (read_unit (drop at s)) None
+  unfolding read_unit SameBits WithinBits
+  unit_none o =
+      let q : unit_of (word (drop at s)) ≡ none = ap unit_of (sym (word_part s at end lo hi e)) ∙ o in
       (tt, rw q refl)
 
-  pub unit_some : (u : ℕ) → unit_of (take (end - at) (drop at s)) ≡ unless0 u → (u ≡ 0 → ⊥)
-      → WithinBits s at (bits.At u end) × SameBits s (read_unit (drop at s)) (bits.At u end)
-  unfolding read_unit SameBits WithinBits unless0
-  unit_some u o z =
-      let q : unit_of (word (drop at s)) ≡ some u =
-      ap unit_of (sym (word_part s at end lo hi e)) ∙ o ∙ rw (ne_eqb u 0 z) refl in
+  pub unit_some : (u : ℕ) → unit_of (take (end - at) (drop at s)) ≡ some u
+      → WithinBits s at (Some (u, end)) × SameBits s (read_unit (drop at s)) (Some (u, end))
+  unfolding read_unit SameBits WithinBits
+  unit_some u o =
+      let q : unit_of (word (drop at s)) ≡ some u = ap unit_of (sym (word_part s at end lo hi e)) ∙ o in
       ((lo, hi), rw q (end, refl, e))

@@ -1,45 +1,27 @@
 -- Bytes set to one value.
 use mathlib.Core.Path.{◌≡◌, ap, ap₂, sym, ◌∙◌}
-use mathlib.Core.List.{List, [], ◌∷◌, ◌++◌, append_assoc, append-nil}
-use Prim.Native.Nat.{ℕ, ◌+◌, ◌-◌, ◌≤◌, ◌<◌}
-use native.Mathlib.Numerals.{add-one}
+use mathlib.Core.List.{List, ◌++◌, append_assoc}
+use Prim.Native.Nat.{ℕ, ◌+◌, ◌-◌, ◌≤◌}
 use native.Mathlib.Nat.{sub-zero}
 use native.Mathlib.Omega.{arith}
-use lib.ListN.{length, take, drop, set, replicate, length-replicate, replicate-append-replicate, length-append}
-use lib.ListN.{take-append-drop, length-drop}
-use lib.Seq.{take-suc-set, drop-set-lt, take_at, drop_at, drop-drop, length-take-le}
+use lib.ListN.{length, take, drop, replicate, length-replicate, replicate-append-replicate, length-append}
+use lib.ListN.{length-drop}
+use lib.Seq.{take_at, drop_at, drop-drop, length-take-le}
 use borrow.Rule.Slice.PartMut.{put_mid}
 use Rattle.texts.specs.Fills.{filled, zeros, zeros_around}
-use Rattle.texts.proofs.NameAreas.{back_less}
 use Rattle.texts.proofs.StateChanges.{Changed}
 
--- one byte more
-pub filled_more : (s before : List ℕ) (from i b : ℕ) → from ≤ i → i < length s
-    → take i s ≡ take from before ++ replicate (i - from) b
-    → take (i + 1) (set s i b) ≡ take from before ++ replicate (i + 1 - from) b
-filled_more s before from i b le h so_far =
-    let n : i - from + 1 ≡ i + 1 - from = omega arith in
-    ap (λ (m : ℕ). take m (set s i b)) (add-one i) ∙ take-suc-set s i b h ∙ ap (λ (t : List ℕ). t ++ (b ∷ [])) so_far
-    ∙ append_assoc (take from before) (replicate (i - from) b) (b ∷ [])
-    ∙ ap (λ (t : List ℕ). take from before ++ t) (replicate-append-replicate (i - from) 1 b)
-    ∙ ap (λ (m : ℕ). take from before ++ replicate m b) n
-
-pub beyond_more : (s before : List ℕ) (i b : ℕ) → drop i s ≡ drop i before
-    → drop (i + 1) (set s i b) ≡ drop (i + 1) before
-beyond_more s before i b e = drop-set-lt (i + 1) s i b (omega arith) ∙ back_less s before i (i + 1) e (omega arith)
-
-pub filled_none : (s : List ℕ) (from b : ℕ) → take from s ≡ take from s ++ replicate (from - from) b
-filled_none s from b =
-    let n : from - from ≡ 0 = omega arith in
-    sym (append-nil (take from s)) ∙ ap (λ (m : ℕ). take from s ++ replicate m b) (sym n)
-
-pub filled_all : (s before : List ℕ) (from i to b : ℕ) → i ≡ to
-    → take i s ≡ take from before ++ replicate (i - from) b → drop i s ≡ drop i before → s ≡ filled from to b before
+-- a part set by the library
+pub filled_put : (from to b : ℕ) (s part : List ℕ) → from ≤ to → to ≤ length s
+    → part ≡ replicate (length (take (to - from) (drop from s))) b → put_mid from (to - from) s part ≡ filled from
+    to b s
 unfolding filled
-filled_all s before from i to b e front back =
-    sym (take-append-drop i s) ∙ ap₂ {C = List ℕ} (λ (x y : List ℕ). x ++ y) front back
-    ∙ append_assoc (take from before) (replicate (i - from) b) (drop i before)
-    ∙ ap (λ (m : ℕ). take from before ++ (replicate (m - from) b ++ drop m before)) e
+filled_put from to b s part le room e =
+    let n = length-take-le (to - from) (drop from s) (omega (arith, length-drop from s)) in
+    let k : from + (to - from) ≡ to = omega arith in
+    ap (λ (l : List ℕ). take from s ++ (l ++ drop (to - from) (drop from s))) (e ∙ ap (λ (m : ℕ). replicate m b) n)
+    ∙ ap (λ (l : List ℕ). take from s ++ (replicate (to - from) b ++ l))
+    (drop-drop (to - from) from s ∙ ap (λ (m : ℕ). drop m s) k)
 
 -- what stays, and what is set
 module _ (from to b : ℕ) (s : List ℕ) (le : from ≤ to) (room : to ≤ length s) where

@@ -13,14 +13,14 @@ use Rattle.base.proofs.Lists.{and_left, and_right, same_true, fails, not_both}
 use Rattle.rules.specs.declared.Op.{Op}
 use Rattle.rules.specs.Operators.{operator, operators, symbol}
 use Rattle.text_laws.specs.Reader.{Found, missing, found, found_or, after, first_of, insert, longest_first, order}
-use Rattle.operators.specs.declared.symbols.Symbol.{Symbol}
+use Rattle.std.specs.Prelude.{Option, Some, None}
 use Rattle.operators.specs.Symbols.{symbol_in, symbol_of}
 use Rattle.operators.proofs.SymbolLaws.{of_length, symbol_of_length}
 
 -- the operator, and the text behind its symbol
-abbrev pub found_by : Symbol → List ℕ → Found
-found_by Symbol.Nothing s = missing
-found_by (Symbol.Is o n) s = found o (drop n s)
+abbrev pub found_by : Option (Op × ℕ) → List ℕ → Found
+found_by None s = missing
+found_by (Some (o, n)) s = found o (drop n s)
 
 -- ── one symbol ──
 
@@ -48,7 +48,7 @@ after_same (c ∷ v) (d ∷ s) = rw (eqb_sym c d) (go (eqb d c) (after_same v s)
 abbrev AreOf : ℕ → List Op → Bool
 AreOf n os = all (λ o. eqb (length (symbol o)) n) os
 
-first_of_length : (os rest : List Op) (n : ℕ) (s : List ℕ) (m : Symbol) → AreOf n os ≡ true
+first_of_length : (os rest : List Op) (n : ℕ) (s : List ℕ) (m : Option (Op × ℕ)) → AreOf n os ≡ true
     → length (take n s) ≡ n → first_of rest s ≡ found_by m s → first_of (os ++ rest) s ≡ found_by
     (symbol_in os (take n s)
     m) s
@@ -62,7 +62,7 @@ first_of_length (o ∷ os) rest n s m a l e =
   where
     go : (b : Bool)
         → found_or o (found_by (symbol_in os (take n s) m) s) (cond b (some (drop n s)) none)
-        ≡ found_by (cond b (Symbol.Is o n) (symbol_in os (take n s) m)) s
+        ≡ found_by (cond b (Some (o, n)) (symbol_in os (take n s) m)) s
     go true = refl
     go false = refl
 
@@ -99,7 +99,7 @@ shorts_one : AreOf 1 shorts ≡ true
 unfolding all of_length operators operator
 shorts_one = refl
 
-by_length : (a b : ℕ) → symbol_of a b ≡ symbol_in longs (a ∷ b ∷ []) (symbol_in shorts (a ∷ []) Symbol.Nothing)
+by_length : (a b : ℕ) → symbol_of a b ≡ symbol_in longs (a ∷ b ∷ []) (symbol_in shorts (a ∷ []) None)
 unfolding symbol_of
 by_length a b =
     rw (symbol_of_length operators (a ∷ b ∷ []), symbol_of_length operators (a ∷ []))
@@ -109,14 +109,14 @@ and_none true = refl
 and_none false = refl
 
 -- no symbol has the byte 0
-zero_behind : (a : ℕ) (m : Symbol) → symbol_in longs (a ∷ 0 ∷ []) m ≡ m
+zero_behind : (a : ℕ) (m : Option (Op × ℕ)) → symbol_in longs (a ∷ 0 ∷ []) m ≡ m
 unfolding symbol_in of_length operators operator same
 zero_behind a m = simp and_none
 
 first_short : (c : ℕ) (s : List ℕ)
-    → first_of (shorts ++ []) (c ∷ s) ≡ found_by (symbol_in shorts (c ∷ []) Symbol.Nothing) (c ∷ s)
+    → first_of (shorts ++ []) (c ∷ s) ≡ found_by (symbol_in shorts (c ∷ []) None) (c ∷ s)
 unfolding first_of
-first_short c s = first_of_length shorts [] 1 (c ∷ s) Symbol.Nothing shorts_one refl refl
+first_short c s = first_of_length shorts [] 1 (c ∷ s) None shorts_one refl refl
 
 -- the operator in front of a text
 pub first_symbol : (c : ℕ) (s : List ℕ) → first_of order (c ∷ s) ≡ found_by (symbol_of c (get_or s 0 0)) (c ∷ s)
@@ -125,7 +125,7 @@ first_symbol c [] =
     (first_short c [])
 first_symbol c (d ∷ s) =
     rw (in_order, by_length)
-    (first_of_length longs (shorts ++ []) 2 (c ∷ d ∷ s) (symbol_in shorts (c ∷ []) Symbol.Nothing) longs_two refl
+    (first_of_length longs (shorts ++ []) 2 (c ∷ d ∷ s) (symbol_in shorts (c ∷ []) None) longs_two refl
     (first_short c (d ∷ s)))
 
 pub first_none : first_of order [] ≡ missing
@@ -135,29 +135,29 @@ first_none = refl
 -- ── how long a symbol is ──
 
 -- an operator that is found has a symbol of 1 to n bytes
-abbrev pub Sized : ℕ → Symbol → Type 0
-Sized n Symbol.Nothing = Unit {0}
-Sized n (Symbol.Is o k) = (1 ≤ k) × (k ≤ n)
+abbrev pub Sized : ℕ → Option (Op × ℕ) → Type 0
+Sized n None = Unit {0}
+Sized n (Some (o, k)) = (1 ≤ k) × (k ≤ n)
 
-sized_in : (os : List Op) (w : List ℕ) (m : Symbol) (n : ℕ) → (1 ≤ length w) × (length w ≤ n) → Sized n m
+sized_in : (os : List Op) (w : List ℕ) (m : Option (Op × ℕ)) (n : ℕ) → (1 ≤ length w) × (length w ≤ n) → Sized n m
     → Sized n (symbol_in os w m)
 unfolding symbol_in
 sized_in [] w m n p q = q
 sized_in (o ∷ os) w m n p q = go (same w (symbol o)) (sized_in os w m n p q)
   where
-    go : (b : Bool) → Sized n (symbol_in os w m) → Sized n (cond b (Symbol.Is o (length w)) (symbol_in os w m))
+    go : (b : Bool) → Sized n (symbol_in os w m) → Sized n (cond b (Some (o, length w)) (symbol_in os w m))
     go true ih = p
     go false ih = ih
 
-short_sized : (c n : ℕ) → 1 ≤ n → Sized n (symbol_in shorts (c ∷ []) Symbol.Nothing)
-short_sized c n le = sized_in shorts (c ∷ []) Symbol.Nothing n (omega arith, le) tt
+short_sized : (c n : ℕ) → 1 ≤ n → Sized n (symbol_in shorts (c ∷ []) None)
+short_sized c n le = sized_in shorts (c ∷ []) None n (omega arith, le) tt
 
 -- a symbol in front of a text lies in it
 pub symbol_sized : (c : ℕ) (s : List ℕ) → Sized (length (c ∷ s)) (symbol_of c (get_or s 0 0))
 symbol_sized c [] = rw (by_length, zero_behind) (short_sized c 1 (omega arith))
 symbol_sized c (d ∷ s) =
     rw by_length
-    (sized_in longs (c ∷ d ∷ []) (symbol_in shorts (c ∷ []) Symbol.Nothing) (length (c ∷ d ∷ s)) (
+    (sized_in longs (c ∷ d ∷ []) (symbol_in shorts (c ∷ []) None) (length (c ∷ d ∷ s)) (
       omega arith,
       omega
           arith,

@@ -1,15 +1,16 @@
 -- A line that has a form: its label is put, then its record.
-use mathlib.Core.Path.{◌≡◌, refl, sym, ◌∙◌, subst}
+use mathlib.Core.Path.{◌≡◌, refl, ◌∙◌, subst}
 use mathlib.Core.List.{List}
-use Prim.Native.Nat.{ℕ, ◌-◌, ◌≤◌}
+use Prim.Native.Nat.{ℕ, ◌≤◌}
 use native.Mathlib.Omega.{arith}
-use lib.ListN.{length, take, drop}
-use borrow.Rule.Slice.PartMut.{put_mid, same_len_mid}
+use lib.ListN.{length}
+use borrow.Rule.Slice.PartMut.{put_mid}
 use Rattle.writing.specs.Writes.{Writes}
 use Rattle.texts.specs.HeldNames.{labels_room, LabelPut}
-use Rattle.texts.specs.HeldAreas.{labels_at, table_at, held_room, cell_bytes, name_bytes, label_bytes, table_bytes}
+use Rattle.texts.specs.HeldAreas.{records_most, labels_at, table_at, held_room, cell_bytes, name_bytes}
+use Rattle.texts.specs.HeldAreas.{label_bytes, table_bytes}
 use Rattle.texts.proofs.AreaLaws.{AreasAre, areas_after, labels_long, labels_back, labels_put, table_put}
-use Rattle.texts.proofs.AreaLaws.{table_part, table_long}
+use Rattle.texts.proofs.AreaLaws.{table_long}
 
 module _ (held : List ℕ) (room : held_room ≤ length held) {n : ℕ} {label part : List ℕ}
     (put : LabelPut (label_bytes held) n label part) where
@@ -29,30 +30,15 @@ module _ (held : List ℕ) (room : held_room ≤ length held) {n : ℕ} {label p
   pub label_areas : AreasAre labelled (cell_bytes held) (name_bytes held) part (table_bytes held)
   label_areas = labels_put held part room long
 
-  pub label_table : take (length labelled - table_at) (drop table_at labelled) ≡ table_bytes held
-  label_table = table_part labelled label_room ∙ label_areas.table_is
-
-  module _ {at next : ℕ} {w table : List ℕ}
-      (writes : Writes (take (length labelled - table_at) (drop table_at labelled)) at w table next) where
+  module _ {at next : ℕ} {w table : List ℕ} (writes : Writes (table_bytes labelled) at w table next) where
     -- and behind the record
     abbrev pub recorded : List ℕ
-    recorded = put_mid table_at (length labelled - table_at) labelled table
-
-    pub record_back : length recorded ≡ length held
-    record_back = same_len_mid table_at (length labelled - table_at) labelled table writes.kept ∙ label_back
-
-    pub record_room : held_room ≤ length recorded
-    record_room = let n = record_back in omega (arith, n, room)
-
-    table_same : length table ≡ length labelled - table_at
-    table_same =
-        let e : length (take (length labelled - table_at) (drop table_at labelled)) ≡ length labelled - table_at =
-        subst (λ (l : List ℕ). length l ≡ length labelled - table_at) (sym (table_part labelled label_room))
-        (table_long labelled label_room) in
-        writes.kept ∙ e
+    recorded = put_mid table_at records_most labelled table
 
     pub record_areas : AreasAre recorded (cell_bytes held) (name_bytes held) part table
-    record_areas = areas_after label_areas (table_put labelled table label_room table_same) refl refl refl
+    record_areas =
+        areas_after label_areas
+        (table_put labelled table label_room (writes.kept ∙ table_long labelled label_room)) refl refl refl
 
     pub record_writes : Writes (table_bytes held) at w table next
-    record_writes = subst (λ (l : List ℕ). Writes l at w table next) label_table writes
+    record_writes = subst (λ (l : List ℕ). Writes l at w table next) label_areas.table_is writes

@@ -5,8 +5,8 @@ use mathlib.Core.List.{List, [], ◌∷◌, ◌++◌}
 use mathlib.Core.Option.{none, some, some-injective}
 use Prim.Native.Nat.{ℕ, zero, suc, ◌+◌}
 use native.Mathlib.Omega.{arith}
-use lib.Dec.{eqb}
 use lib.ListN.{length, get_elem?, length-map}
+use Rattle.std.specs.Prelude.{is_none as code_none}
 use Rattle.base.specs.Lists.{all, any, if_any, is_none}
 use Rattle.base.proofs.Lists.{and_left, and_right}
 use Rattle.rules.specs.Answers.{refused}
@@ -19,10 +19,10 @@ use Rattle.text_laws.specs.Judging.{face, faces, shows_cell}
 use Rattle.text_laws.specs.Fold as fold
 use Rattle.text_laws.specs.Steady.{is_kept, Steady}
 use Rattle.text_laws.proofs.FormExact.{form_sound}
+use Rattle.texts.specs.Kinds as kind
 use Rattle.texts.specs.HeldNames.{Names}
 use Rattle.texts.specs.HeldNames.{any_clash}
 use Rattle.texts.specs.HeldParts.{LineBytes, PartsHeld}
-use Rattle.texts.specs.StoredTrees.{held}
 use Rattle.texts.specs.Resolved.{types_kept}
 use Rattle.texts.specs.States.{later_note, NamedWith, Counts}
 use Rattle.texts.specs.declared.line_parts.Parts.{Parts}
@@ -31,7 +31,7 @@ use Rattle.texts.proofs.HeldArrays.{snoc_each, element_last, named_front}
 use Rattle.laws.proofs.ReadsFields.{formed_names}
 use Rattle.texts.proofs.HeldClashes.{NamesFormed, clash_any}
 use Rattle.texts.proofs.HeldNames.{types_here}
-use Rattle.texts.proofs.LineRules.{fixed_kind_lem, none_length}
+use Rattle.texts.proofs.LineRules.{fixed_kind_lem, none_held}
 use Rattle.texts.proofs.LineTypes.{ShortNames, spelled_short}
 
 -- ── names that have their form ──
@@ -85,12 +85,12 @@ module _ (f : fold.Found) (steady : Steady f) (line : List ℕ) (x : Form) (is_f
 
   -- 10
   pub rest_is : (names : Names) (n : ℕ) (v : LineBytes) (p : Parts) → PartsHeld names n line x v p
-      → (any is_rest (faces f.judged.fields) && not (eqb p.kind 12 && eqb p.condition.len 0))
+      → (any is_rest (faces f.judged.fields) && not (kind.is_fixed p.width && code_none p.condition))
       ≡ not (keeps_rest (faces f.judged.fields) x)
   rest_is names n v p is =
       rw (
-        fixed_kind_lem names n x.width p.kind p.bits (held p.width v.width) is.width,
-        none_length names n x.condition (held p.condition v.condition) is.condition,
+        fixed_kind_lem names n x.width p.width v.width is.width,
+        none_held names n x.condition p.condition v.condition is.condition,
       )
       (go (any is_rest (faces f.judged.fields)) (is_fixed x && is_none x.condition))
     where

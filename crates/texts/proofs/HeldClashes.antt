@@ -1,6 +1,6 @@
 -- A field's names held against those of earlier fields: the search, and what it says of the fields.
-use mathlib.Core.Path.{◌≡◌, refl, ap, sym, ◌∙◌}
-use mathlib.Core.Bool.{Bool, true, false}
+use mathlib.Core.Path.{◌≡◌, ap, sym, ◌∙◌}
+use mathlib.Core.Bool.{true, false}
 use mathlib.Core.List.{List, []}
 use mathlib.Core.Option.{some}
 use Prim.Native.Nat.{ℕ, ◌+◌, ◌-◌, ◌≤◌, ◌<◌}
@@ -9,12 +9,12 @@ use native.Mathlib.Nat.{sub-zero}
 use lib.ListN.{length, get_or, get_elem?}
 use lib.Seq.{take-length}
 use borrow.Author.Tests.{lt-ltb, le-ltb}
-use Rattle.base.specs.Lists.{any, same, if_any}
+use Rattle.base.specs.Lists.{any, if_any}
 use Rattle.rules.specs.Limits.{label_most}
 use Rattle.rules.specs.Names.{is_label, is_short}
 use Rattle.rules.specs.Fields.{Form}
 use Rattle.rules.specs.Within.{clash}
-use Rattle.names.specs.Repeats.{first_from, pad_to, names_meet}
+use Rattle.names.specs.Repeats.{first_from, pad_to}
 use Rattle.names.proofs.PadLaws.{label_same}
 use Rattle.names.proofs.ClashLaws.{clash_held_lem}
 use Rattle.texts.specs.HeldNames.{Names, HeldAs, clash_held, any_clash}
@@ -40,16 +40,6 @@ module _ (labels shorts words : List (List ℕ)) (n i : ℕ) where
   clash_here lt so h =
       let e = search_found (clash_held labels shorts words n) n i lt so.1 h in
       sym (lt-ltb (first_from (clash_held labels shorts words n) 0 n) n (omega (arith, e)))
-
-  pub label_here : same (get_or labels n []) (get_or labels i []) ≡ true → clash_held labels shorts words n i ≡ true
-  unfolding clash_held
-  label_here h = rw h refl
-
-  pub meet_here : same (get_or labels n []) (get_or labels i []) ≡ false → (y : Bool)
-      → names_meet (get_or shorts n []) (get_or words n []) (get_or shorts i []) (get_or words i []) ≡ y
-      → clash_held labels shorts words n i ≡ y
-  unfolding clash_held
-  meet_here h y k = rw (h, k) refl
 
 pub clash_start : (labels shorts words : List (List ℕ)) (n : ℕ) → Left labels shorts words n 0
 clash_start labels shorts words n = (omega arith, rw sub-zero)

@@ -7,7 +7,7 @@ use native.Mathlib.Numerals.{add-one}
 use native.Mathlib.Omega.{arith}
 use lib.Dec.{eqb}
 use lib.ListN.{length, take, drop, get_or, set, length-append, length-drop}
-use lib.Seq.{take-suc, take-suc-set, get_or-drop, take-take, length-take-le, take_at, drop_at}
+use lib.Seq.{take-suc, take-suc-set, take-take, length-take-le, take_at, drop_at}
 use borrow.Rule.Slice.PartMut.{put_mid, take_put, drop_put, same_len_mid}
 use Rattle.base.specs.Lists.{all}
 use Rattle.base.proofs.Lists.{and_left, and_right, and_both, all_append}
@@ -70,15 +70,14 @@ plain_same (b ∷ l) h =
 
 -- one byte more
 pub front_more : (s line : List ℕ) (i b : ℕ) → line_at + i < length s → i < length line
-    → take i line ≡ plain_front i s → b ≡ plain_byte (get_or s (line_at + i) 0)
+    → take i line ≡ plain_front i s → b ≡ plain_byte (get_or (drop line_at s) i 0)
     → take (i + 1) (set line i b) ≡ plain_front (i + 1) s
 front_more s line i b lt room e is =
     let held : i < length (drop line_at s) = (let n = length-drop line_at s in omega (arith, n, lt)) in
     let more = take-suc (drop line_at s) i 0 held in
     ap (λ (n : ℕ). take n (set line i b)) (add-one i)
     ∙ take-suc-set line i b room
-    ∙ ap₂ {C = List ℕ} (λ (z : List ℕ) (x : ℕ). z ++ (x ∷ [])) e
-    (is ∙ ap plain_byte (sym (get_or-drop line_at s i 0)))
+    ∙ ap₂ {C = List ℕ} (λ (z : List ℕ) (x : ℕ). z ++ (x ∷ [])) e is
     ∙ sym (map_snoc plain_byte (take i (drop line_at s)) (get_or (drop line_at s) i 0))
     ∙ ap (map plain_byte) (sym more)
     ∙ ap (λ (n : ℕ). plain_front n s) (sym (add-one i))
@@ -140,7 +139,7 @@ ended_joined s used part r q s' {line} {after} {n} {held} {row} {row'} {counts} 
     (subst (λ (g : fold.Found). KeptAs g q held row' counts') (go (fold.is_lost f.stage) refl) kept)
   where
     kept : KeptAs (fold.lined f line) q held row' counts'
-    kept = let h = step.2 f k.steady k.rows k.holds in record {
+    kept = let h = step f k.steady k.rows k.holds in record {
       steady = steady_line f line k.steady;
       rows = h.1;
       holds = h.0;

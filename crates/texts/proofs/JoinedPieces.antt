@@ -16,7 +16,7 @@ use Rattle.texts.specs.StateNumbers.{used_at, line_at, state_room}
 use Rattle.texts.specs.PieceStates.{Left, StateHolds, SameAround}
 use Rattle.texts.proofs.LeftStates.{holds_same, left_front, left_room, left_whole}
 use Rattle.texts.proofs.StateChanges.{Changed, two_changed, two_put, two_behind, rest_behind, reading_behind}
-use Rattle.texts.proofs.StateChanges.{row_behind, counts_behind, held_behind}
+use Rattle.texts.proofs.StateChanges.{noted_behind, row_behind, counts_behind, held_behind}
 
 -- a state that is too short stays as it is
 pub short_piece : (s piece : List ℕ) → length s < state_room → TakesPiece Left s piece s
@@ -90,7 +90,8 @@ module _ (s piece : List ℕ) (room : state_room ≤ length s) (some : 0 < lengt
 -- bytes before the line do not matter to what a state holds
 holds_behind : {p : ℕ} {s t : List ℕ} {k : fold.Kept} → Changed p used_at s t → StateHolds k s → StateHolds k t
 holds_behind {s = s} {t = t} x h =
-    holds_same s t (reading_behind x (omega arith)) (two_behind x used_at (omega arith))
+    holds_same s t (reading_behind x (omega arith)) (noted_behind x (omega arith))
+    (two_behind x used_at (omega arith))
     (ap (take line_most) (rest_behind x line_at (omega arith))) (row_behind x (omega arith))
     (counts_behind x (omega arith)) (held_behind x (omega arith)) h
 

@@ -2,7 +2,7 @@
 use mathlib.Core.Path.{◌≡◌, refl, ap, sym, ◌∙◌, subst}
 use mathlib.Core.Bool.{Bool, true, false, cond}
 use mathlib.Core.List.{List, ◌++◌, foldl}
-use Prim.Native.Nat.{ℕ, ◌+◌, ◌*◌, ◌-◌, ◌≤◌, ◌<◌}
+use Prim.Native.Nat.{ℕ, ◌+◌, ◌*◌, ◌-◌, ◌≤◌, ◌<◌, min}
 use native.Mathlib.Nat.{min-le_left}
 use native.Mathlib.Omega.{arith}
 use lib.Dec.{ltb}
@@ -27,7 +27,7 @@ use Rattle.text_laws.proofs.Steadiness.{steady_cut}
 use Rattle.texts.specs.RowPlaces.{row_room}
 use Rattle.texts.specs.States.{Taken, CutStep}
 use Rattle.texts.specs.StateNumbers.{used_at, line_at, row_at, counts_at, held_at, state_room, reading_in, Fits, Loaded}
-use Rattle.texts.specs.StateNumbers.{Saved, twos_in}
+use Rattle.texts.specs.StateNumbers.{NoteIn, Saved, twos_in}
 use Rattle.texts.specs.WalkSteps.{KeptAs}
 use Rattle.texts.specs.PieceStates.{StateHolds, Clean, Cleared, SameAround, CutState, StoredState, KeptIn}
 use Rattle.texts.specs.PieceStates.{held_line, line_bytes, row_bytes, count_bytes, held_bytes}
@@ -39,6 +39,7 @@ use Rattle.texts.proofs.NameAreas.{written_word, drop_take}
 use Rattle.texts.proofs.StateChanges.{Changed, changed_wider, changed_then, writes_changed, two_changed}
 use Rattle.texts.proofs.StateChanges.{two_put, saved_changed, part_long, lent_is, lent_changed, rest_behind}
 use Rattle.texts.proofs.StateChanges.{reading_before, reading_behind, row_behind, row_before}
+use Rattle.texts.proofs.StateChanges.{noted_before, noted_behind}
 use Rattle.texts.proofs.StateChanges.{counts_behind, held_behind, same_around}
 
 -- what is kept, in bytes that are the same
@@ -67,10 +68,12 @@ module _ {size : ℕ} {s t u : List ℕ} {r q : Reading} (room : state_room ≤ 
   pub cut_states : Taken r q → CutStep r q (row_bytes s) → q.lines ≡ r.lines → CutState size s u
   cut_states taken step lines =
       let fits : Fits size q = (taken.0, (let n = load.fits.1 in omega (arith, n, lines))) in
-      let number : reading_in t ≡ q = save.numbers (fits.0, (let n = fits.1 in omega (arith, n, most))) in
+      let small : Fits text_most q = (fits.0, (let n = fits.1 in omega (arith, n, most))) in
+      let number : reading_in t ≡ q = save.numbers small in
       let is : reading_in u ≡ q = clear.reading ∙ number in
       record {
         fits = subst (λ (x : Reading). Fits size x) (sym is) fits;
+        noted = clear.noted (save.noted small);
         used = clear.used;
         clean = clear.clean (ap (λ (x : Reading). x.row) is);
         step = λ f fit kept. done is f (load.same fit) kept;
@@ -144,6 +147,8 @@ module _ (s t u part row counts : List ℕ) {next : ℕ} {v : List ℕ} {r : Rea
     same_around stored_all (omega arith) (omega arith),
     record {
       reading = stored_reading;
+      noted = λ f. clear.noted (noted_before stored_third (omega arith)
+          (noted_before stored_second (omega arith) (save.noted f)));
       used = clear.used;
       rows = clear.rows ∙ ap (take (65 * r.row)) (row_before stored_third (omega arith) ∙ row_there);
       clean = λ f. clear.clean (ap (λ (x : Reading). x.row) (stored_reading f));
@@ -208,16 +213,17 @@ line_long k s part room h e =
 -- it is known by its parts what is held behind a part
 part_holds : (k : fold.Kept) (part t : List ℕ) → k.size + length part ≤ text_most → all is_printable part ≡ true
     → is_line k.line ≡ true → length k.line ≤ line_most
-    → Fits (k.size + length part) (reading_in t) → two_at t used_at ≤ line_most
+    → Fits (k.size + length part) (reading_in t) → NoteIn t → two_at t used_at ≤ line_most
     → KeptIn (fold.unended k.found (k.line ++ part)) t
     → (fold.is_lost (fold.unended k.found (k.line ++ part)).stage ≡ false
     → held_line t ≡ take line_most (k.line ++ part)) → Clean t
     → StateHolds (foldl fold.fed k part) t
-part_holds k part t le plain free short fits used kept line clean =
+part_holds k part t le plain free short fits noted used kept line clean =
     let free' = fed_free part k free in
     subst (λ (q : fold.Kept). is_line q.line ≡ true → StateHolds q t) (sym (fed_run part k plain le short))
     (λ f. record {
       fits = fits;
+      noted = noted;
       used = used;
       free = f;
       short = (let n = length-take line_most (k.line ++ part) in
@@ -228,9 +234,9 @@ part_holds k part t le plain free short fits used kept line clean =
     }) free'
 
 -- the length as the code reads it
-pub least_used : (s : List ℕ) {n used : ℕ} → n ≡ two_at s used_at → (n ≤ line_most → used ≡ n)
+pub least_used : (s : List ℕ) {n used : ℕ} → n ≡ two_at s used_at → used ≡ min n line_most
     → two_at s used_at ≤ line_most → used ≡ two_at s used_at
-least_used s e is le = is (omega (arith, e, le)) ∙ e
+least_used s e is le = omega (arith, e, is, le)
 
 -- too long
 pub part_cut : (size used : ℕ) (s part t : List ℕ) → state_room ≤ length s → size ≤ text_most
@@ -251,7 +257,7 @@ part_cut size used s part t room most plain is over c k le h =
     let m = h.fits.1 in omega (arith, a, b, d, m)
     ) in
     part_holds k part t (omega (arith, le, most)) plain h.free h.short
-    (c.fits.0, omega (arith, lines)) (let z = c.used in omega (arith, z))
+    (c.fits.0, omega (arith, lines)) c.noted (let z = c.used in omega (arith, z))
     (subst (λ (x : fold.Found). KeptIn x t) (sym same) kept)
     (λ e. absurd (not_both (fold.is_lost (fold.cut f).stage) (cut_is f).0
     (subst (λ (x : fold.Found). fold.is_lost x.stage ≡ false) same e))) c.clean
@@ -343,6 +349,7 @@ module _ (used : ℕ) (s part t : List ℕ) {next end : ℕ} {u : List ℕ} (roo
       subst (λ (x : Reading). Fits (k.size + length part) x) (sym part_reading)
       (h.fits.0, (let m = h.fits.1 in omega (arith, m))) in
       part_holds k part u (omega (arith, le, most)) plain h.free h.short fits
+      (noted_behind part_second (omega arith) (noted_before part_first (omega arith) h.noted))
       (let z = part_used in omega (arith, z, fit))
       (subst (λ (x : fold.Found). KeptIn x u) (sym same) kept)
       (λ e. line n (subst (λ (x : fold.Found). fold.is_lost x.stage ≡ false) same e)) (part_clean n h.clean)

@@ -13,19 +13,21 @@ use Rattle.texts.specs.Fills.{zeros}
 use Rattle.texts.specs.HeldAreas.{held_room}
 use Rattle.texts.specs.RowPlaces.{row_room}
 use Rattle.texts.specs.StateNumbers.{used_at, line_at, row_at, counts_at, held_at, state_room, reading_in, Fits}
-use Rattle.texts.specs.StateNumbers.{twos_in}
+use Rattle.texts.specs.StateNumbers.{NoteIn, twos_in}
 use Rattle.texts.specs.PieceStates.{StateHolds, Left, line_bytes, row_bytes, count_bytes, held_bytes}
 use Rattle.texts.specs.declared.states.Reading.{Reading}
 use Rattle.texts.proofs.KeptStates.{kept_in}
 use Rattle.texts.proofs.NameAreas.{front_less, front_part}
-use Rattle.texts.proofs.StateBytes.{reading_take}
+use Rattle.texts.proofs.StateBytes.{reading_take, noted_take}
 
 -- the same numbers and parts hold the same
-pub holds_same : (s t : List ℕ) {k : fold.Kept} → reading_in t ≡ reading_in s → two_at t used_at ≡ two_at s used_at
+pub holds_same : (s t : List ℕ) {k : fold.Kept} → reading_in t ≡ reading_in s → (NoteIn s → NoteIn t)
+    → two_at t used_at ≡ two_at s used_at
     → take line_most (drop line_at t) ≡ take line_most (drop line_at s) → row_bytes t ≡ row_bytes s
     → count_bytes t ≡ count_bytes s → held_bytes t ≡ held_bytes s → StateHolds k s → StateHolds k t
-holds_same s t {k} reading used line row counts held h = record {
+holds_same s t {k} reading noted used line row counts held h = record {
   fits = subst (λ (r : Reading). Fits k.size r) (sym reading) h.fits;
+  noted = noted h.noted;
   used = (let n = h.used in omega (arith, used, n));
   free = h.free;
   short = h.short;
@@ -57,6 +59,7 @@ module _ (s t : List ℕ) (e : take state_room t ≡ take state_room s) where
         room = room;
         size = λ le. size ∙ l.size le;
         holds = λ le. holds_same s t (reading_take t s (front_less t s state_room 24 e (omega arith)))
+            (noted_take t s (front_less t s state_room 24 e (omega arith)))
             (two_moved used_at (omega arith)) (front_part t s state_room line_at line_most e (omega arith))
             (front_part t s state_room row_at row_room e (omega arith))
             (front_part t s state_room counts_at (2 * fields_most) e (omega arith))

@@ -1,3 +1,4 @@
+-- OptionLaws               what stands in equal options is equal
 -- OperatorRows             the columns of an operator's row, and a byte of no operator
 -- FirstSymbol              the first operator in front of a text, by its first two bytes
 -- ExprSigns, ExprLeaves    operators and words at a place of a text, as the code reads them
@@ -8,12 +9,12 @@
 -- ChainLaws, ChainReads, ChainSteps, ChainGoes   operators that group to the right and wait for their right operand
 -- FieldWords, FieldNames   phrases, units, labels and short names at a place of a text
 -- FieldClauses             constraint and condition at a place of a text
+-- FirstPlaces              the first byte that passes a test, as the library finds it
 -- FrameLeaves              pieces, rulers and the opening line, as the code reads them
 -- TrimLaws                 blanks taken off both ends of a text
 -- RowLeaves                long rows, as the code reads them
 -- DrawnLines               the lines of a drawn row, and one more line of it
 -- TreeTypes                the types of a line's expressions, by the stored forms that the code makes
--- NoteLaws                 the lower of two notes
 -- HeldClashes              a field's names held against those of earlier fields
 -- LineSearches             searches over the field lines that the code holds
 -- NameLengths              the lengths of held names
@@ -90,10 +91,10 @@ pub mod FieldWords
 pub mod FieldNames
 pub mod FieldClauses
 pub mod FrameLeaves
+pub mod FirstPlaces
 pub mod TrimLaws
 pub mod RowLeaves
 pub mod TreeTypes
-pub mod NoteLaws
 pub mod LineSearches
 pub mod NameAreas
 pub mod StartLaws
@@ -128,6 +129,7 @@ pub mod RecordSizes
 pub mod RecordLaws
 pub mod PartSlots
 pub mod PartRules
+pub mod OptionLaws
 pub mod PartBytes
 pub mod LineCounts
 pub mod TableLaws

@@ -1,19 +1,18 @@
 -- A line that changes a part of the bytes that hold what is kept.
-use mathlib.Core.Path.{◌≡◌, refl, sym, ◌∙◌, subst}
+use mathlib.Core.Path.{◌≡◌, refl, ◌∙◌, subst}
 use mathlib.Core.List.{List}
-use Prim.Native.Nat.{ℕ, ◌-◌, ◌≤◌}
-use native.Mathlib.Omega.{arith}
-use lib.ListN.{length, take, drop}
-use borrow.Rule.Slice.PartMut.{put_mid, same_len_mid}
+use Prim.Native.Nat.{ℕ, ◌≤◌}
+use lib.ListN.{length}
+use borrow.Rule.Slice.PartMut.{put_mid}
 use Rattle.text_laws.specs.Fold as fold
 use Rattle.texts.specs.HeldNames.{names_in, names_room, Kept}
-use Rattle.texts.specs.HeldAreas.{slots_most, names_at, table_at, held_room, cell_bytes, name_bytes, label_bytes}
-use Rattle.texts.specs.HeldAreas.{table_bytes}
+use Rattle.texts.specs.HeldAreas.{slots_most, records_most, names_at, table_at, held_room, cell_bytes, name_bytes}
+use Rattle.texts.specs.HeldAreas.{label_bytes, table_bytes}
 use Rattle.texts.specs.States.{area, HoldsIn, HeadStep, RowStep, LineStep}
 use Rattle.texts.specs.declared.states.Reading.{Reading}
 use Rattle.texts.specs.declared.states.Stage.TheVariants as at
-use Rattle.texts.proofs.AreaLaws.{AreasAre, areas_hold, cells_long, cells_back, cells_put, names_long}
-use Rattle.texts.proofs.AreaLaws.{names_back, names_put, table_part, table_long, table_put}
+use Rattle.texts.proofs.AreaLaws.{AreasAre, areas_hold, cells_long, cells_put, names_long}
+use Rattle.texts.proofs.AreaLaws.{names_put, table_long, table_put}
 use Rattle.texts.proofs.FieldSteps.{holds_kept}
 use Rattle.texts.proofs.StateSteps.{head_stage, more_stage, name_row}
 
@@ -28,12 +27,6 @@ module _ (held : List ℕ) (room : held_room ≤ length held) {n : ℕ} {part : 
   long : length part ≡ names_room
   long = same ∙ names_long held room
 
-  pub named_back : length named ≡ length held
-  named_back = names_back held part room long
-
-  pub named_room : held_room ≤ length named
-  named_room = let n = named_back in omega (arith, n, room)
-
   pub named_areas : AreasAre named (cell_bytes held) part (label_bytes held) (table_bytes held)
   named_areas = names_put held part room long
 
@@ -47,41 +40,23 @@ module _ (held : List ℕ) (room : held_room ≤ length held) {n : ℕ} {part : 
 
 module _ (held l : List ℕ) (r q : Reading) (room : held_room ≤ length held) where
   -- NAME is put at the table's start
-  pub opening_step : {table row counts : List ℕ} → r.stage ≡ at.Opening
-      → length table ≡ length (take (length held - table_at) (drop table_at held))
+  pub opening_step : {table row counts : List ℕ} → r.stage ≡ at.Opening → length table ≡ length (table_bytes held)
       → ((cells counts : List ℕ) → HeadStep (λ f. fold.with_name f (fold.opening_name l)) r q cells cells
-      (area (take (length held - table_at) (drop table_at held)) counts) (area table counts))
-      → LineStep l r q held (put_mid table_at (length held - table_at) held table) row row counts counts
+      (area (table_bytes held) counts) (area table counts))
+      → LineStep l r q held (put_mid table_at records_most held table) row row counts counts
   unfolding fold.lined_at
-  opening_step {table} {row} {counts} told same step = (
-    same_len_mid table_at (length held - table_at) held table same,
-    refl,
-    λ f k g h.
-        let part = table_part held room in
-        let head : HeadStep (λ f. fold.with_name f (fold.opening_name l)) r q (cell_bytes held) (cell_bytes held)
-        (area (table_bytes held) counts) (area table counts) =
-        subst (λ (z : List ℕ). HeadStep (λ f. fold.with_name f (fold.opening_name l)) r q (cell_bytes held)
-        (cell_bytes held) (area z counts) (area table counts)) part (step (cell_bytes held) counts) in
-        let w = head_stage r l at.Opening told (λ o. refl) refl head
-        (λ f o. name_row f (fold.opening_name l) ∙ o) f k g h in
-        (areas_hold (fold.lined f l) q counts (table_put held table room (same ∙ part_long)) w.0, w.1),
-  )
-    where
-      part_long : length (take (length held - table_at) (drop table_at held)) ≡ length held - table_at
-      part_long = subst (λ (z : List ℕ). length z ≡ length held - table_at) (sym (table_part held room))
-          (table_long held room)
+  opening_step {table} {row} {counts} told same step f k g h =
+      let w = head_stage r l at.Opening told (λ o. refl) refl (step (cell_bytes held) counts)
+      (λ f o. name_row f (fold.opening_name l) ∙ o) f k g h in
+      (areas_hold (fold.lined f l) q counts (table_put held table room (same ∙ table_long held room)) w.0, w.1)
 
   -- cells are put behind those that are there
   pub more_step : {cells row row' counts : List ℕ} → r.stage ≡ at.InRow → length cells ≡ length (cell_bytes held)
-      → length row' ≡ length row → RowStep l r q (cell_bytes held) cells row row'
+      → RowStep l r q (cell_bytes held) cells row row'
       → LineStep l r q held (put_mid 0 slots_most held cells) row row' counts counts
-  more_step {cells} {row} {row'} {counts} told same rows step = (
-    cells_back held cells room long,
-    rows,
-    λ f k g h.
-        let w = more_stage r l at.InRow told refl step f k g h in
-        (areas_hold (fold.lined f l) q counts (cells_put held cells room long) w.0, w.1),
-  )
+  more_step {cells} {row} {row'} {counts} told same step f k g h =
+      let w = more_stage r l at.InRow told refl step f k g h in
+      (areas_hold (fold.lined f l) q counts (cells_put held cells room long) w.0, w.1)
     where
       long : length cells ≡ slots_most
       long = same ∙ cells_long held room

@@ -6,6 +6,8 @@ use mathlib.Core.Option.{Option, none, some, map}
 use Prim.Native.Nat.{ℕ, ◌+◌, ◌≤◌}
 use native.Mathlib.Omega.{arith}
 use lib.ListN.{length, take, replicate, length-replicate}
+use Rattle.std.specs.Prelude.{Option as CodeOption}
+use Rattle.texts.specs.declared.stored_trees.StoredTree.{StoredTree}
 use Rattle.base.specs.Lists.{all, joined, list_of}
 use Rattle.base.proofs.Lists.{and_both, all_append}
 use Rattle.base.proofs.Joined.{joined_one}
@@ -21,11 +23,13 @@ use Rattle.references.proofs.TallyLaws.{tallied_length}
 use Rattle.references.proofs.Counted.{counted_none, counted_more}
 use Rattle.text_laws.specs.Resolving.{rename_tree, rename_width}
 use Rattle.texts.specs.HeldNames.{Names}
+use Rattle.texts.specs.Kinds.{tree_length}
 use Rattle.texts.specs.Resolved.{indexed}
-use Rattle.texts.specs.StoredTrees.{look_up, TreeBytes, held, StoredIs}
+use Rattle.texts.specs.StoredTrees.{look_up, form_length, TreeBytes, held, StoredIs}
 use Rattle.texts.specs.HeldParts.{MaybeHeld, WidthHeld, LineBytes, PartsHeld}
 use Rattle.texts.specs.HeldRecords.{line_tallied, Writable, BytesRoom}
 use Rattle.texts.specs.States.{is_short_record, Numbers}
+use Rattle.texts.specs.declared.kinds.Width.{Width as CodeWidth}
 use Rattle.texts.specs.declared.line_parts.Parts.{Parts}
 use Rattle.texts.proofs.PartBytes.{held_bytes}
 
@@ -35,9 +39,6 @@ none_read : references [] ≡ []
 unfolding references codes_from joined
 none_read = refl
 
-nothing_read : (t : TreeBytes) → t.len ≡ 0 → references (take t.len t.bytes) ≡ []
-nothing_read t e = rw e none_read
-
 tree_read : (names : Names) (n : ℕ) (v : Tree (List ℕ)) (t : TreeBytes) → StoredIs names n v t
     → t.len ≤ length t.bytes
     → references (take t.len t.bytes) ≡ joined tree_reads (rename_tree (look_up names n) v ∷ [])
@@ -45,20 +46,22 @@ tree_read names n v t h le =
     ap references (held_bytes names n v t h le) ∙ references_stored (rename_tree (look_up names n) v)
     ∙ sym (joined_one tree_reads (rename_tree (look_up names n) v))
 
-maybe_read : (names : Names) (n : ℕ) (o : Option (Tree (List ℕ))) (t : TreeBytes) → MaybeHeld names n o t
-    → t.len ≤ length t.bytes
-    → references (take t.len t.bytes) ≡ joined tree_reads (list_of (map (rename_tree (look_up names n)) o))
+maybe_read : (names : Names) (n : ℕ) (o : Option (Tree (List ℕ))) (r : CodeOption StoredTree) (b : List ℕ)
+    → MaybeHeld names n o r b → form_length r ≤ length b
+    → references (take (form_length r) b) ≡ joined tree_reads (list_of (map (rename_tree (look_up names n)) o))
 unfolding joined
-maybe_read names n none t h le = nothing_read t h
-maybe_read names n (some v) t h le = tree_read names n v t h le
+maybe_read names n none r b h le = rw h none_read
+maybe_read names n (some v) r b h le =
+    rw h.1 (tree_read names n v (held h.0 b) h.2 (omega (arith, ap form_length h.1, le)))
 
-width_read : (names : Names) (n : ℕ) (v : Width (List ℕ)) (kind bits : ℕ) (t : TreeBytes)
-    → WidthHeld names n v kind bits t → t.len ≤ length t.bytes
-    → references (take t.len t.bytes) ≡ joined tree_reads (width_trees (rename_width (look_up names n) v))
+width_read : (names : Names) (n : ℕ) (v : Width (List ℕ)) (w : CodeWidth) (b : List ℕ)
+    → WidthHeld names n v w b → tree_length w ≤ length b
+    → references (take (tree_length w) b) ≡ joined tree_reads (width_trees (rename_width (look_up names n) v))
 unfolding joined
-width_read names n (fixed m) kind bits t h le = nothing_read t h.2
-width_read names n (measured u v) kind bits t h le = tree_read names n v t h.2 le
-width_read names n rest kind bits t h le = nothing_read t h.2
+width_read names n (fixed m) w b h le = rw h none_read
+width_read names n (measured u v) w b h le =
+    rw h.1 (tree_read names n v (held h.0 b) h.2 (omega (arith, ap tree_length h.1, le)))
+width_read names n rest w b h le = rw h none_read
 
 -- ── what is counted ──
 
@@ -73,11 +76,11 @@ pub line_tallied_lem : (names : Names) (n : ℕ) (line : List ℕ) (x : Form) (v
     → line_tallied n v p counts ≡ field_tallied n (indexed names n x) counts
 line_tallied_lem names n line x v p h w room counts =
     rw (
-      width_read names n x.width p.kind p.bits (held p.width v.width) h.width
+      width_read names n x.width p.width v.width h.width
           (omega (arith, w.width, room.width)),
-      maybe_read names (n + 1) x.constraint (held p.constraint v.constraint) h.constraint
+      maybe_read names (n + 1) x.constraint p.constraint v.constraint h.constraint
           (omega (arith, w.constraint, room.constraint)),
-      maybe_read names n x.condition (held p.condition v.condition) h.condition
+      maybe_read names n x.condition p.condition v.condition h.condition
           (omega (arith, w.condition, room.condition)),
     )
     refl

@@ -1,21 +1,26 @@
 -- Facts of one field line: its form by its parts, its names as they are held, room for it.
+use Rattle.std.specs.Prelude.{Option as CodeOption, None, Some}
+use Rattle.texts.specs.declared.stored_trees.StoredTree.{StoredTree}
+use Rattle.texts.specs.HeldRecords.{is_small_maybe}
+use Rattle.texts.specs.StoredTrees.{form_length}
+use Rattle.std.specs.Prelude.{Option as Held}
 use mathlib.Core.Path.{◌≡◌, refl, ap, sym, ◌∙◌, subst}
 use mathlib.Core.Bool.{Bool, true, false, cond, ◌&&◌, ◌||◌}
 use mathlib.Core.List.{List, []}
 use mathlib.Core.Option.{Option, none, some}
 use Prim.Native.Nat.{ℕ, suc, ◌+◌, ◌≤◌, ◌<◌}
 use native.Mathlib.Omega.{arith}
-use lib.Dec.{ltb, leb, eqb}
+use lib.Dec.{ltb, leb}
 use lib.ListN.{length, take, get_or, set, length-set, length-map}
 use lib.Seq.{length-take-le}
-use borrow.Author.Tests.{leb-true, leb-false, eqb-true, ne_eqb}
+use borrow.Author.Tests.{leb-true, leb-false}
 use Rattle.base.specs.Lists.{all, any, if_any, head_is}
-use Rattle.base.proofs.Lists.{and_left, and_right, true_between, or_false_right}
+use Rattle.base.proofs.Lists.{and_left, and_right, or_false_right}
 use Rattle.rules.specs.Limits.{fields_most, label_most, short_most, depth_most, stored_most}
 use Rattle.rules.specs.Answers.{Answer, refused}
 use Rattle.rules.specs.Names.{is_short, is_letter, is_word_byte}
 use Rattle.rules.specs.Trees.{is_small}
-use Rattle.rules.specs.Fields.{Width, fixed, measured, rest, Form, is_rest, trees}
+use Rattle.rules.specs.Fields.{Form, is_rest, trees}
 use Rattle.rules.specs.Stored.{stored_name}
 use Rattle.names.specs.Repeats.{pad_to}
 use Rattle.text_laws.specs.LineReader.{read_form}
@@ -23,17 +28,19 @@ use Rattle.text_laws.specs.Lowest.{lower, broken}
 use Rattle.text_laws.specs.Judging.{face, faces, rules, is_open}
 use Rattle.text_laws.specs.Fold as fold
 use Rattle.text_laws.proofs.FormExact.{form_sound}
+use Rattle.texts.specs.declared.kinds.Width.{Width as CodeWidth}
+use Rattle.texts.specs.declared.kinds.Width.TheVariants.{Fixed, Measured, Rest}
+use Rattle.texts.specs.Kinds as kind
+use Rattle.texts.specs.Kinds.{tree_of, tree_length}
 use Rattle.texts.specs.HeldNames.{Names, Started, HeldAs, Kept}
 use Rattle.texts.specs.NameStarts.{start_in}
-use Rattle.texts.specs.HeldParts.{WidthHeld, LineBytes, PartsHeld, PartsFor}
+use Rattle.texts.specs.HeldParts.{LineBytes, PartsHeld}
 use Rattle.texts.specs.HeldRecords.{is_small_as, field_size, Writable}
-use Rattle.texts.specs.Noted.{note_of}
-use Rattle.texts.specs.Changes.{note}
-use Rattle.texts.specs.States.{Named, NamedWith, later_note, is_told, is_full_as, line_refused, line_kept}
+use Rattle.texts.specs.Noted.{place_of, note_of}
+use Rattle.texts.specs.States.{Named, NamedWith, later_note, is_many_as, is_full_as, line_refused, line_kept}
 use Rattle.texts.specs.HeldAreas.{record_most}
 use Rattle.texts.specs.States.{Room, Counts}
 use Rattle.texts.specs.declared.notes.Note.{Note}
-use Rattle.texts.specs.StoredTrees.{TreeBytes, held}
 use Rattle.texts.specs.declared.line_parts.Parts.{Parts}
 use Rattle.texts.specs.declared.states.Reading.{Reading}
 use Rattle.laws.proofs.ReadsFields.{formed_names}
@@ -44,24 +51,6 @@ use Rattle.texts.proofs.PartRules.{sizes_are}
 use Rattle.texts.proofs.PartBytes.{size_sum, width_bound, short_length}
 use Rattle.texts.proofs.RowSteps.{label_most_lem}
 
--- ── the form of a line, by its parts ──
-
-module _ (names : Names) (n : ℕ) (s : List ℕ) where
-  kind_some : (v : Width (List ℕ)) (k b : ℕ) (t : TreeBytes) → WidthHeld names n v k b t → k ≡ 0 → ⊥
-  kind_some (fixed m) k b t h e = absurd (omega (arith, h.0, e))
-  kind_some (measured u v) k b t h e = absurd (omega (arith, h.0, e))
-  kind_some rest k b t h e = absurd (omega (arith, h.0, e))
-
-  pub form_none : (o : Option Form) (v : LineBytes) (p : Parts) → PartsFor names n s o v p → p.kind ≡ 0 → o ≡ none
-  form_none none v p h e = refl
-  form_none (some x) v p h e =
-      absurd (kind_some x.width p.kind p.bits (held p.width v.width) h.width e)
-
-  pub form_some : (o : Option Form) (v : LineBytes) (p : Parts) → PartsFor names n s o v p → (p.kind ≡ 0 → ⊥)
-      → (x : Form) × (o ≡ some x) × PartsHeld names n s x v p
-  form_some none v p h e = absurd (e h)
-  form_some (some x) v p h e = (x, refl, h)
-
 -- ── its record ──
 
 short_most_lem : (o : Option (List ℕ)) → if_any is_short o ≡ true → length (stored_name o) ≤ short_most
@@ -71,31 +60,36 @@ short_most_lem (some w) h =
     leb-true (length w) short_most
     (and_left (leb (length w) short_most) _ (and_right (all is_word_byte w) _ (and_right (head_is is_letter w) _ h)))
 
-small_most : (d z : ℕ) → is_small_as d z ≡ true → z ≤ stored_most
-small_most d z h = go (eqb z 0) refl h
-  where
-    go : (b : Bool) → eqb z 0 ≡ b → (b || (leb d depth_most && leb z stored_most)) ≡ true → z ≤ stored_most
-    go true e h = let q = eqb-true z 0 e in omega (arith, q)
-    go false e h = leb-true z stored_most (and_right (leb d depth_most) (leb z stored_most) h)
+small_most : (t : StoredTree) → is_small_as t ≡ true → t.len ≤ stored_most
+small_most t h = leb-true t.len stored_most (and_right (leb t.depth depth_most) (leb t.len stored_most) h)
+
+maybe_most : (r : CodeOption StoredTree) → is_small_maybe r ≡ true → form_length r ≤ stored_most
+maybe_most None h = omega arith
+maybe_most (Some t) h = small_most t h
+
+width_most : (w : CodeWidth) → is_small_maybe (tree_of w) ≡ true → tree_length w ≤ stored_most
+width_most (Fixed m) h = omega arith
+width_most (Measured u t) h = small_most t h
+width_most Rest h = omega arith
 
 module _ (names : Names) (n : ℕ) (s : List ℕ) (x : Form) (v : LineBytes) (p : Parts)
     (is : PartsHeld names n s x v p) (small : all is_small (trees x) ≡ true) where
-  trees_small : (is_small_as p.width.depth p.width.len && (is_small_as p.constraint.depth p.constraint.len
-      && is_small_as p.condition.depth p.condition.len)) ≡ true
+  trees_small : (is_small_maybe (tree_of p.width) && (is_small_maybe p.constraint
+      && is_small_maybe p.condition)) ≡ true
   trees_small = sizes_are p _ refl names n s x v is ∙ small
 
   pub parts_writable : Writable (length s) p
   parts_writable =
-      let a = is_small_as p.width.depth p.width.len in
-      let b = is_small_as p.constraint.depth p.constraint.len in
-      let c = is_small_as p.condition.depth p.condition.len in
+      let a = is_small_maybe (tree_of p.width) in
+      let b = is_small_maybe p.constraint in
+      let c = is_small_maybe p.condition in
       let bc = and_right a (b && c) trees_small in
       record {
         label = is.label_fits;
         short = is.short_fits;
-        width = small_most p.width.depth p.width.len (and_left a (b && c) trees_small);
-        constraint = small_most p.constraint.depth p.constraint.len (and_left b c bc);
-        condition = small_most p.condition.depth p.condition.len (and_right b c bc);
+        width = width_most p.width (and_left a (b && c) trees_small);
+        constraint = maybe_most p.constraint (and_left b c bc);
+        condition = maybe_most p.condition (and_right b c bc);
       }
 
   pub field_most : NamesFormed x → field_size p ≤ record_most
@@ -104,7 +98,7 @@ module _ (names : Names) (n : ℕ) (s : List ℕ) (x : Form) (v : LineBytes) (p 
       omega (
         arith,
         size_sum p,
-        width_bound p w.width,
+        width_bound p.width w.width,
         w.constraint,
         w.condition,
         length-take-le p.label s is.label_fits,
@@ -206,9 +200,9 @@ module _ (f : fold.Found) (r : Reading) (x : Form) (c : Counts f r) where
   -- the rest field is this one, or was listed before
   pub rests_here : {names : Names} {n : ℕ} {s : List ℕ} {v : LineBytes} (p : Parts)
       → PartsHeld names n s x v p
-      → (r.rested || eqb p.kind 14) ≡ (any is_rest (faces f.judged.fields) || is_rest x)
+      → (r.rested || kind.is_rest p.width) ≡ (any is_rest (faces f.judged.fields) || is_rest x)
   rests_here {names} {n} {s} {v} p is =
-      rw (c.rested, rest_kind_lem names n x.width p.kind p.bits (held p.width v.width) is.width) refl
+      rw (c.rested, rest_kind_lem names n x.width p.width v.width is.width) refl
 
 pub line_formed : (l : List ℕ) (x : Form) → read_form l ≡ some x → NamesFormed x
 line_formed l x e = formed_names x (form_sound l x e).formed
@@ -222,42 +216,14 @@ shut_six (some a) p = go (ltb 6 a.number) refl
     go true e = refl
     go false e = e
 
--- ── refusals ──
-
-pub note_some : (n p : ℕ) → (n ≡ 0 → ⊥) → note_of (note n p) ≡ some (refused n p)
-unfolding note_of
-note_some n p e = rw (ne_eqb n 0 e) refl
-
-pub told_lower : (a b : Option Answer) → is_told a ≡ true → is_told b ≡ true → is_told (lower a b) ≡ true
-told_lower none b p q = q
-told_lower (some a) none p q = p
-told_lower (some a) (some b) p q = go (ltb b.number a.number)
-  where
-    go : (t : Bool) → is_told (cond t (some b) (some a)) ≡ true
-    go true = q
-    go false = p
-
-pub told_after : (a b : Option Answer) (n : Note) → note_of n ≡ lower a b → is_told a ≡ true → is_told b ≡ true
-    → is_told (note_of n) ≡ true
-told_after a b n e p q = ap is_told e ∙ told_lower a b p q
-
-pub told_some : (n p : ℕ) → 5 ≤ n → n ≤ 10 → is_told (some (refused n p)) ≡ true
-told_some n p lo hi =
-    rw (
-      true_between 2 n 10 (omega arith) hi,
-      ne_eqb n 2 (λ e. absurd (omega (arith, lo, e))),
-      ne_eqb n 4 (λ e. absurd (omega (arith, lo, e))),
-    )
-    refl
-
 -- ── room ──
 
 pub full_room : (r : Reading) → is_full_as r ≡ false → r.count < fields_most
-full_room r e = leb-false fields_most r.count (or_false_right (eqb r.note.number 4) (leb fields_most r.count) e)
+full_room r e = leb-false fields_most r.count (or_false_right (is_many_as r.note) (leb fields_most r.count) e)
 
-pub room_refused : (r : Reading) (a : Note) → Room r → r.count < fields_most → is_told (note_of a) ≡ true
-    → a.place ≤ r.lines + 1 → Room (line_refused r a)
-room_refused r a h lt t p = record {
+pub room_refused : (r : Reading) (a : Held Note) → Room r → r.count < fields_most
+    → place_of a ≤ r.lines + 1 → Room (line_refused r a)
+room_refused r a h lt p = record {
   width = h.width;
   name = h.name;
   row = h.row;
@@ -268,14 +234,13 @@ room_refused r a h lt t p = record {
   count = omega (arith, lt);
   fields = (let q = h.fields in omega (arith, q));
   end = h.end;
-  told = t;
   placed = omega (arith, p);
 }
 
-pub room_kept : (r : Reading) (cell end : ℕ) (rested : Bool) (a : Note) → Room r → r.count < fields_most
-    → cell ≤ r.slots → r.end ≤ end → end ≤ r.end + record_most → is_told (note_of a) ≡ true
-    → a.place ≤ r.lines + 1 → Room (line_kept r cell end rested a)
-room_kept r cell end rested a h lt le up most t p = record {
+pub room_kept : (r : Reading) (cell end : ℕ) (rested : Bool) (a : Held Note) → Room r → r.count < fields_most
+    → cell ≤ r.slots → r.end ≤ end → end ≤ r.end + record_most → place_of a ≤ r.lines + 1
+    → Room (line_kept r cell end rested a)
+room_kept r cell end rested a h lt le up most p = record {
   width = h.width;
   name = h.name;
   row = h.row;
@@ -286,6 +251,5 @@ room_kept r cell end rested a h lt le up most t p = record {
   count = omega (arith, lt);
   fields = (let q = h.fields in omega (arith, q));
   end = (let q = h.end in omega (arith, q, most));
-  told = t;
   placed = omega (arith, p);
 }

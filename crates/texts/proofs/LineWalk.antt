@@ -1,4 +1,6 @@
 -- The lines of a text, one by one: what is left decides.
+use Rattle.std.specs.Prelude.{Some}
+use Rattle.texts.specs.declared.notes.Note.TheVariants.{BadByte}
 use mathlib.Core.Path.{◌≡◌, refl, ap, sym, ◌∙◌, subst}
 use mathlib.Core.Bool.{Bool, true, false, cond}
 use mathlib.Core.List.{List, [], ◌∷◌, ◌++◌, foldl, foldl-append}
@@ -10,9 +12,10 @@ use lib.Seq.{length-take-le, take_all, drop-cons, drop-drop, get_or-drop}
 use borrow.Author.Tests.{eq-eqb, eqb-true}
 use Rattle.base.proofs.Lists.{not_both}
 use Rattle.base.specs.Lists.{all, is_empty, joined, any}
+use Rattle.std.specs.Prelude.{Err}
 use Rattle.rules.specs.Names.{line_feed, is_printable}
 use Rattle.rules.specs.Limits.{text_most, line_most}
-use Rattle.rules.specs.declared.TextAnswer.{TextAnswer}
+use Rattle.rules.specs.declared.TextRefusal.{TextRefusal}
 use Rattle.rules.specs.Answers.{of_text, refused}
 use Rattle.rules.specs.Refusals.{long}
 use Rattle.rules.specs.Promises.{Outcome, ReadsText, refuses, leaves}
@@ -22,8 +25,7 @@ use Rattle.text_laws.proofs.FedRuns.{fed_run, fed_line, fed_bad}
 use Rattle.text_laws.proofs.FedAlike.{alike_refl, alike_trans, alike_lost, finish_alike}
 use Rattle.text_laws.proofs.Steadiness.{steady_start, steady_line, steady_losing}
 use Rattle.texts.specs.LineEnds.{printable_length}
-use Rattle.texts.specs.Noted.{note_of}
-use Rattle.texts.specs.Changes.{begun_with, changed, note}
+use Rattle.texts.specs.Changes.{begun_with, changed}
 use Rattle.texts.specs.HeldAreas.{held_room}
 use Rattle.texts.specs.States.{Room, NoneCounted, LineStep}
 use Rattle.texts.specs.WalkSteps.{KeptAs, LinesLeft, Walking, WalkedTo}
@@ -36,7 +38,6 @@ use Rattle.texts.proofs.LineEnds.{front_plain, first_other, bad_byte}
 use Rattle.texts.proofs.StateSteps.{room_changed, empty_nil, filled_nil, kept_outside, kept_same}
 
 pub room_begun : Room begun_with
-unfolding note_of
 room_begun = record {
   width = omega arith;
   name = omega arith;
@@ -48,7 +49,6 @@ room_begun = record {
   count = omega arith;
   fields = omega arith;
   end = omega arith;
-  told = refl;
   placed = omega arith;
 }
 
@@ -62,7 +62,7 @@ drop_all (x ∷ l) = drop_all l
 -- before the first line
 pub kept_begun : (held row counts : List ℕ) → held_room ≤ length held → NoneCounted counts
     → KeptAs fold.start begun_with held row counts
-unfolding joined any note_of
+unfolding joined any
 kept_begun held row counts room none_yet = record {
   steady = steady_start;
   rows = kept_outside refl refl;
@@ -180,7 +180,7 @@ module _ (k : fold.Kept) (t : List ℕ) (from at i : ℕ) (r : Reading) {held ro
     pub walking_next : get_or t i 0 ≡ line_feed → (q : Reading) {held' row' counts' : List ℕ}
         → LineStep line r q held held' row row' counts counts' → Walking k t from (i + 1) q held' row' counts'
     walking_next feed q step =
-        let h = step.2 w.kept.found w.is.steady w.is.rows w.is.holds in
+        let h = step w.kept.found w.is.steady w.is.rows w.is.holds in
         let n = run_long t at i first lt in
         let le = w.size in
         let z : suc i ≡ i + 1 = omega arith in
@@ -233,10 +233,9 @@ module _ (k : fold.Kept) (t : List ℕ) (from at i : ℕ) (r : Reading) {held ro
         ∙ losing_same (w.kept.line ++ line)
 
     pub walking_bad : (get_or t i 0 ≡ line_feed → ⊥)
-        → Walking k t from (length t) (changed r r.lines stages.Lost (note 2 0)) held row counts
-    unfolding note_of
+        → Walking k t from (length t) (changed r r.lines stages.Lost (Some BadByte)) held row counts
     walking_bad other =
-        let x = holds_lost w.kept.found r w.is.holds (refused 2 0) (note 2 0) refl in
+        let x = holds_lost w.kept.found r w.is.holds (refused 2 0) (Some BadByte) refl in
         let le = w.size in
         let none : drop (length t) t ≡ [] = drop_all t in
         record {
@@ -254,7 +253,7 @@ module _ (k : fold.Kept) (t : List ℕ) (from at i : ℕ) (r : Reading) {held ro
         }
 
     pub bad_to : (get_or t i 0 ≡ line_feed → ⊥)
-        → WalkedTo k t from (record { reading = changed r r.lines stages.Lost (note 2 0); at = length t }) held row
+        → WalkedTo k t from (record { reading = changed r r.lines stages.Lost (Some BadByte); at = length t }) held row
         counts
     unfolding all
     bad_to other = record {
@@ -263,10 +262,9 @@ module _ (k : fold.Kept) (t : List ℕ) (from at i : ℕ) (r : Reading) {held ro
     }
 
 pub bad_left : (n : ℕ) (first : Reading) (m : ℕ) (r : Reading) → LinesLeft n first m r
-    → LinesLeft n first 0 (changed r r.lines stages.Lost (note 2 0))
-unfolding note_of
+    → LinesLeft n first 0 (changed r r.lines stages.Lost (Some BadByte))
 bad_left n first m r h = (
-  room_changed r r.lines stages.Lost (note 2 0) refl (omega arith) h.0,
+  room_changed r r.lines stages.Lost (Some BadByte) (omega arith) h.0,
   (let k = h.1 in omega (arith, k)),
 )
 
@@ -314,6 +312,7 @@ empty_end t at le = go (eqb at (length t)) refl
         filled_nil (drop at t) (λ z. let n = length-drop at t in
         not_both (eqb at (length t)) (eq-eqb at (length t) (omega (arith, n, z, le))) e)
 
-pub reads_long : (t out : List ℕ) → text_most < length t → ReadsText t out (leaves (of_text TextAnswer.TooLong) out)
+pub reads_long : (t out : List ℕ) → text_most < length t
+    → ReadsText t out (leaves (of_text (Err TextRefusal.TooLong)) out)
 unfolding of_text
 reads_long t out h = refuses (long h)

@@ -23,6 +23,7 @@ use lib.Seq.{
   ext_get_or,
 }
 use borrow.Author.Tests.{eqb-true, eqb-false, ltb-true, ltb-false}
+use mir.Val.{bool_byte}
 use Rattle.rules.specs.Limits.{fields_most, label_most, short_most}
 use Rattle.names.specs.Repeats.{pad_to, held_word, same_name, names_meet, at_most}
 use Rattle.writing.specs.Puts.{placed, put}
@@ -267,15 +268,20 @@ module _ (n : ℕ) (own word a b c : List ℕ) {next end : ℕ} (mark : ℕ) (fe
       (back_less c b end marks_at word_written.beyond (omega (arith, few, long.1, word_written.end))
       ∙ short_back marks_at (omega arith))
 
+  byte_cond : (b : Bool) → bool_byte b ≡ cond b 1 0
+  byte_cond true = refl
+  byte_cond false = refl
+
   -- and both names among the starts
-  pub own_put : (d e s : List ℕ) (label : ℕ) (short : Span) (kind : ℕ) → own ≡ pad_to short_most (span_in s short)
-      → word ≡ held_word (take label s) → mark ≡ cond (eqb kind 12) 1 0
+  pub own_put : (d e s : List ℕ) (label : ℕ) (short : Span) (fixed : Bool) → own ≡ pad_to short_most (span_in s short)
+      → word ≡ held_word (take label s) → mark ≡ bool_byte fixed
       → StartPut (set c (marks_at + n) mark) own n d → StartPut d word n e
-      → OwnPut (names_in a) n s label short kind (names_in e)
-  own_put d e s label short kind is_own is_is_word is_mark p q = record {
+      → OwnPut (names_in a) n s label short fixed (names_in e)
+  own_put d e s label short fixed is_own is_is_word is_mark p q = record {
     shorts = shorts ∙ ap (λ (v : List ℕ). set (names_in a).shorts n v) is_own;
     words = words ∙ ap (λ (v : List ℕ). set (names_in a).words n v) is_is_word;
-    marks = back marks_at (omega arith) ∙ marked_marks ∙ ap (λ (v : ℕ). set (names_in a).marks n v) is_mark;
+    marks = back marks_at (omega arith) ∙ marked_marks ∙ ap (λ (v : ℕ). set (names_in a).marks n v)
+        (is_mark ∙ byte_cond fixed);
     own = (own_started, word_started);
     starts = lowered;
   }

@@ -2,13 +2,10 @@
 use mathlib.Core.Path.{◌≡◌, refl, ap, sym, ◌∙◌}
 use mathlib.Core.Bool.{Bool, true, false, cond, ◌&&◌}
 use mathlib.Core.List.{List, [], ◌∷◌}
-use Prim.Native.Nat.{ℕ, zero, suc, ◌+◌, ◌-◌, ◌≤◌, ◌<◌}
+use Prim.Native.Nat.{ℕ, zero, suc, ◌-◌, ◌≤◌}
 use native.Mathlib.Omega.{arith}
-use native.Mathlib.Numerals.{add-one}
 use lib.Dec.{leb, eqb}
-use lib.ListN.{length, take, drop, get_or}
-use lib.Seq.{drop-cons, drop-length}
-use borrow.Author.Tests.{ne_eqb, eq-eqb}
+use lib.ListN.{length, take, drop}
 use Rattle.rules.specs.declared.Op.{Op}
 use Rattle.rules.specs.Limits.{open_most}
 use Rattle.rules.specs.Names.{is_short}
@@ -169,18 +166,3 @@ number_at s at from end e lo hi b r h m q t =
     word_part s from end lo hi b ∙ ap word e in
     let x = single_number (drop at s) m q t in
     h (ap is_number_word w ∙ x.0) ∙ ap word_value w ∙ sym x.1
-
--- ── past each `(` ──
-
-module _ (s : List ℕ) (at : ℕ) where
-  pub open_end : length s ≤ at → at ≤ length s → drop at s ≡ past_open (drop at s)
-  unfolding past_open
-  open_end le le' = let e : at ≡ length s = omega arith in rw (e, drop-length) refl
-
-  pub open_stop : at < length s → (get_or s at 0 ≡ 40 → ⊥) → drop at s ≡ past_open (drop at s)
-  unfolding past_open
-  open_stop lt e = rw (drop-cons s at 0 lt, ne_eqb (get_or s at 0) 40 e, past_open) refl
-
-  pub open_step : at < length s → get_or s at 0 ≡ 40 → past_open (drop at s) ≡ past_open (drop (at + 1) s)
-  unfolding past_open
-  open_step lt e = rw (drop-cons s at 0 lt, eq-eqb (get_or s at 0) 40 e, past_open, add-one at) refl

@@ -12,12 +12,11 @@ use Rattle.base.specs.Lists.{all, any}
 use Rattle.base.proofs.Lists.{or_false_left, or_false_right}
 use Rattle.base.proofs.Breaks.{and_true}
 use Rattle.rules.specs.declared.Op.{Op}
-use Rattle.rules.specs.Operators.{operator, operators, symbol, level, left_level, right_level, code, takes, gives}
+use Rattle.rules.specs.Operators.{operator, operators, symbol, level, left_level, right_level, code}
 use Rattle.rules.specs.Names.{is_operator}
 use Rattle.text_laws.specs.Reader.{missing, after, first_of, insert, longest_first, order}
 use Rattle.operators.specs.declared.rows.Row.{Row}
 use Rattle.operators.specs.Rows.{row_of}
-use Rattle.texts.specs.StoredTrees.{type_code}
 
 -- ── columns ──
 
@@ -37,14 +36,6 @@ module _ (r : Row) (o : Op) (is : r ≡ row_of o) where
   pub row_code : r.code ≡ code o
   unfolding row_of
   row_code = ap (λ (x : Row). x.code) is
-
-  pub row_takes : type_code r.takes ≡ type_code (takes o)
-  unfolding row_of
-  row_takes = ap (λ (x : Row). type_code x.takes) is
-
-  pub row_gives : type_code r.gives ≡ type_code (gives o)
-  unfolding row_of
-  row_gives = ap (λ (x : Row). type_code x.gives) is
 
 -- ── a byte that is of no operator ──
 

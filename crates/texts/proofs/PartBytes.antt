@@ -1,6 +1,6 @@
 -- The bytes that the code writes of a field line are its record.
 use mathlib.Core.Path.{◌≡◌, refl, ap, ap₂, sym, ◌∙◌}
-use mathlib.Core.Bool.{Bool, true, false, cond}
+use mathlib.Core.Bool.{true}
 use mathlib.Core.List.{List, [], ◌++◌, append_assoc}
 use mathlib.Core.Option.{Option, none, some, map}
 use Prim.Native.Nat.{ℕ, ◌+◌, ◌-◌, ◌≤◌}
@@ -8,10 +8,10 @@ use native.Mathlib.Omega.{arith}
 use native.Mathlib.Nat.{sub-zero}
 use lib.ListN.{length, take, length-append}
 use lib.Seq.{length-take-le}
-use lib.Dec.{eqb}
-use borrow.Author.Tests.{ne_eqb, lt-ltb}
+use borrow.Author.Tests.{lt-ltb}
+use Rattle.std.specs.Prelude.{Option as CodeOption}
 use Rattle.writing.specs.Writes.{Writes}
-use Rattle.writing.proofs.Writing.{writes_none, writes_join}
+use Rattle.writing.proofs.Writing.{writes_join}
 use Rattle.rules.specs.Limits.{text_most, stored_most}
 use Rattle.rules.specs.Trees.{Tree, le2, stored_tree}
 use Rattle.rules.specs.Fields.{Width, fixed, measured, rest, Form}
@@ -19,14 +19,18 @@ use Rattle.rules.specs.Stored.{stored_field_in, counted, kind_number, stored_wid
 use Rattle.rules.specs.Stored.{field_body}
 use Rattle.text_laws.specs.Resolving.{rename_tree, rename_width}
 use Rattle.writing.specs.Puts.{placed, put}
+use Rattle.texts.specs.declared.stored_trees.StoredTree.{StoredTree}
 use Rattle.texts.specs.HeldNames.{Names}
+use Rattle.texts.specs.Kinds.{kind_code, tree_length}
 use Rattle.texts.specs.Resolved.{indexed}
-use Rattle.texts.specs.StoredTrees.{look_up, TreeBytes, held, StoredIs}
+use Rattle.texts.specs.StoredTrees.{look_up, form_length, TreeBytes, held, StoredIs}
 use Rattle.texts.specs.HeldParts.{MaybeHeld, WidthHeld, LineBytes, PartsHeld}
 use Rattle.texts.specs.HeldRecords.{tree_bytes, width_bytes, width_size, name_bytes}
 use Rattle.texts.specs.HeldRecords.{body_bytes, field_size, field_bytes, Writable, BytesRoom}
 use Rattle.texts.specs.HeldAreas.{record_most}
 use Rattle.texts.specs.States.{plain_field, is_short_record}
+use Rattle.texts.specs.declared.kinds.Width.{Width as CodeWidth}
+use Rattle.texts.specs.declared.kinds.Width.TheVariants.{Fixed, Measured, Rest}
 use Rattle.texts.specs.declared.line_parts.Parts.{Parts}
 use Rattle.texts.proofs.TreeTypes.{part_of, part_span, part_length}
 use Rattle.texts.proofs.PartSteps.{short_text_lem}
@@ -41,31 +45,33 @@ pub held_bytes : (names : Names) (n : ℕ) (v : Tree (List ℕ)) (t : TreeBytes)
 held_bytes names n v t h le =
     h.bytes (omega (arith, h.len, le)) ∙ sym (stored_renamed (look_up names n) v)
 
-maybe_bytes : (names : Names) (n : ℕ) (o : Option (Tree (List ℕ))) (t : TreeBytes) → MaybeHeld names n o t
-    → t.len ≤ length t.bytes
-    → tree_bytes t.len t.bytes ≡ counted (stored_maybe (map (rename_tree (look_up names n)) o))
-maybe_bytes names n none t h le = rw h refl
-maybe_bytes names n (some v) t h le = ap counted (held_bytes names n v t h le)
+maybe_bytes : (names : Names) (n : ℕ) (o : Option (Tree (List ℕ))) (r : CodeOption StoredTree) (b : List ℕ)
+    → MaybeHeld names n o r b → form_length r ≤ length b
+    → tree_bytes (form_length r) b ≡ counted (stored_maybe (map (rename_tree (look_up names n)) o))
+maybe_bytes names n none r b h le = rw h refl
+maybe_bytes names n (some v) r b h le =
+    rw h.1 (ap counted (held_bytes names n v (held h.0 b) h.2 (omega (arith, ap form_length h.1, le))))
 
-width_bytes_lem : (names : Names) (n : ℕ) (v : Width (List ℕ)) (p : Parts) (b : List ℕ)
-    → WidthHeld names n v p.kind p.bits (held p.width b) → p.width.len ≤ length b
-    → width_bytes b p ≡ stored_width (rename_width (look_up names n) v)
-unfolding width_bytes
-width_bytes_lem names n (fixed m) p b h le = rw (h.0, h.1) refl
-width_bytes_lem names n (measured u v) p b h le =
-    rw (h.0, h.1) (ap (λ (l : List ℕ). le2 u ++ counted l) (held_bytes names n v (held p.width b) h.2 le))
-width_bytes_lem names n rest p b h le = rw h.0 refl
+width_bytes_lem : (names : Names) (n : ℕ) (v : Width (List ℕ)) (w : CodeWidth) (b : List ℕ)
+    → WidthHeld names n v w b → tree_length w ≤ length b
+    → width_bytes b w ≡ stored_width (rename_width (look_up names n) v)
+width_bytes_lem names n (fixed m) w b h le = rw h refl
+width_bytes_lem names n (measured u v) w b h le =
+    rw h.1 (ap (λ (l : List ℕ). le2 u ++ counted l)
+    (held_bytes names n v (held h.0 b) h.2 (omega (arith, ap tree_length h.1, le))))
+width_bytes_lem names n rest w b h le = rw h refl
 
-width_kind : (names : Names) (n : ℕ) (v : Width (List ℕ)) (kind bits : ℕ) (t : TreeBytes)
-    → WidthHeld names n v kind bits t → kind ≡ kind_number (rename_width (look_up names n) v)
-width_kind names n (fixed m) kind bits t h = h.0
-width_kind names n (measured u v) kind bits t h = h.0
-width_kind names n rest kind bits t h = h.0
+width_kind : (names : Names) (n : ℕ) (v : Width (List ℕ)) (w : CodeWidth) (b : List ℕ)
+    → WidthHeld names n v w b → kind_code w ≡ kind_number (rename_width (look_up names n) v)
+width_kind names n (fixed m) w b h = rw h refl
+width_kind names n (measured u v) w b h = rw h.1 refl
+width_kind names n rest w b h = rw h refl
 
 -- ── what is written, part by part ──
 
 pub size_sum : (p : Parts)
-    → field_size p ≡ 14 + p.label + p.short.len + width_size p + p.constraint.len + p.condition.len
+    → field_size p ≡ 14 + p.label + p.short.len + width_size p.width + form_length p.constraint + form_length
+    p.condition
 unfolding field_size
 size_sum p = refl
 
@@ -78,26 +84,10 @@ writable_text p w le = record {
   condition = w.condition;
 }
 
-pub size_fixed : (p : Parts) → p.kind ≡ 12 → width_size p ≡ 2
-unfolding width_size
-size_fixed p e = rw e refl
-
-pub size_measured : (p : Parts) → p.kind ≡ 13 → width_size p ≡ 4 + p.width.len
-unfolding width_size
-size_measured p e = rw e refl
-
-pub size_rest : (p : Parts) → (p.kind ≡ 12 → ⊥) → (p.kind ≡ 13 → ⊥) → width_size p ≡ 0
-unfolding width_size
-size_rest p e f = rw (ne_eqb p.kind 12 e, ne_eqb p.kind 13 f) refl
-
-pub width_bound : (p : Parts) → p.width.len ≤ stored_most → width_size p ≤ 4 + stored_most
-unfolding width_size
-width_bound p le = go (eqb p.kind 12) (eqb p.kind 13)
-  where
-    go : (a b : Bool) → cond a 2 (cond b (4 + p.width.len) 0) ≤ 4 + stored_most
-    go true b = omega arith
-    go false true = omega (arith, le)
-    go false false = omega arith
+pub width_bound : (w : CodeWidth) → tree_length w ≤ stored_most → width_size w ≤ 4 + stored_most
+width_bound (Fixed m) le = omega arith
+width_bound (Measured u t) le = omega (arith, le)
+width_bound Rest le = omega arith
 
 pub tree_put : (len : ℕ) (b : List ℕ) {before after : List ℕ} {at next : ℕ} → len ≤ length b
     → at + (2 + len) ≤ length before → placed next after ≡ put before at (counted (take (len - 0) b))
@@ -108,43 +98,25 @@ tree_put len b {before} {after} {at} {next} le room e =
     let w = counted_writes (take len b) (omega (arith, l, room)) q in
     (omega (arith, w.end, counted_length (take len b), l), w)
 
-module _ (p : Parts) (b : List ℕ) where
-  bytes_fixed : p.kind ≡ 12 → le2 p.bits ≡ width_bytes b p
-  unfolding width_bytes
-  bytes_fixed e = rw e refl
+module _ (w : CodeWidth) (b before : List ℕ) (at : ℕ) (room : at + width_size w ≤ length before) where
+  pub width_fixed : (m : ℕ) {after : List ℕ} {next : ℕ} → w ≡ Fixed m → placed next after ≡ put before at (le2 m)
+      → (next ≡ at + width_size w) × Writes before at (width_bytes b w) after next
+  width_fixed m k e =
+      let v = two_writes m (omega (arith, ap width_size k, room)) e in
+      rw k (two_end m v, v)
 
-  bytes_measured : p.kind ≡ 13 → le2 p.bits ++ tree_bytes p.width.len b ≡ width_bytes b p
-  unfolding width_bytes
-  bytes_measured e = rw e refl
+  module _ (u : ℕ) (t : StoredTree) (k : w ≡ Measured u t) {mid : List ℕ} {next : ℕ}
+      (e : placed next mid ≡ put before at (le2 u)) where
+    unit_put : Writes before at (le2 u) mid next
+    unit_put = two_writes u (omega (arith, ap width_size k, room)) e
 
-  bytes_rest : (p.kind ≡ 12 → ⊥) → (p.kind ≡ 13 → ⊥) → [] ≡ width_bytes b p
-  unfolding width_bytes
-  bytes_rest e f = rw (ne_eqb p.kind 12 e, ne_eqb p.kind 13 f) refl
+    pub width_two : next + (2 + t.len) ≤ length mid
+    width_two = omega (arith, ap width_size k, two_end u unit_put, unit_put.kept, room)
 
-module _ (p : Parts) (b : List ℕ) {before : List ℕ} {at : ℕ} where
-  pub width_fixed : {after : List ℕ} {next : ℕ} → p.kind ≡ 12 → at + width_size p ≤ length before
-      → placed next after ≡ put before at (le2 p.bits)
-      → (next ≡ at + width_size p) × Writes before at (width_bytes b p) after next
-  width_fixed k room e =
-      let w = two_writes p.bits (omega (arith, size_fixed p k, room)) e in
-      (omega (arith, size_fixed p k, two_end p.bits w), rw (← bytes_fixed p b k) w)
-
-  pub width_two : {mid : List ℕ} {next : ℕ} → p.kind ≡ 13 → at + width_size p ≤ length before
-      → placed next mid ≡ put before at (le2 p.bits)
-      → Writes before at (le2 p.bits) mid next × (next + (2 + p.width.len) ≤ length mid)
-  width_two k room e =
-      let w = two_writes p.bits (omega (arith, size_measured p k, room)) e in
-      (w, omega (arith, size_measured p k, two_end p.bits w, w.kept, room))
-
-  pub width_measured : {mid after : List ℕ} {next end : ℕ} → p.kind ≡ 13 → Writes before at (le2 p.bits) mid next
-      → end ≡ next + (2 + p.width.len) → Writes mid next (tree_bytes p.width.len b) after end
-      → (end ≡ at + width_size p) × Writes before at (width_bytes b p) after end
-  width_measured k w e u =
-      (omega (arith, size_measured p k, two_end p.bits w, e), rw (← bytes_measured p b k) (writes_join w u))
-
-  pub width_rest : (p.kind ≡ 12 → ⊥) → (p.kind ≡ 13 → ⊥)
-      → (at ≡ at + width_size p) × Writes before at (width_bytes b p) before at
-  width_rest e f = (omega (arith, size_rest p e f), rw (← bytes_rest p b e f) (writes_none before at))
+    pub width_measured : {after : List ℕ} {end : ℕ} → end ≡ next + (2 + t.len)
+        → Writes mid next (tree_bytes t.len b) after end
+        → (end ≡ at + width_size w) × Writes before at (width_bytes b w) after end
+    width_measured q v = rw k (omega (arith, two_end u unit_put, q), writes_join unit_put v)
 
 pub names_put : (line : List ℕ) (p : Parts) {before mid after : List ℕ} {at next end : ℕ}
     → Writable (length line) p → at + (4 + p.label + p.short.len) ≤ length before
@@ -165,37 +137,37 @@ names_put line p {before} {mid} {after} {at} {next} {end} h room e f =
 
 -- ── the record of the form ──
 
-tree_length : (names : Names) (n : ℕ) (v : Tree (List ℕ)) (t : TreeBytes) → StoredIs names n v t
+some_length : (names : Names) (n : ℕ) (v : Tree (List ℕ)) (t : TreeBytes) → StoredIs names n v t
     → length (stored_tree (λ i. i) (rename_tree (look_up names n) v)) ≡ t.len
-tree_length names n v t h =
+some_length names n v t h =
     ap length (stored_renamed (look_up names n) v) ∙ stored_length_lem (look_up names n) v ∙ sym h.len
 
-maybe_length : (names : Names) (n : ℕ) (o : Option (Tree (List ℕ))) (t : TreeBytes) → MaybeHeld names n o t
-    → length (counted (stored_maybe (map (rename_tree (look_up names n)) o))) ≡ 2 + t.len
-maybe_length names n none t h = omega (arith, h, counted_length [])
-maybe_length names n (some v) t h =
+maybe_length : (names : Names) (n : ℕ) (o : Option (Tree (List ℕ))) (r : CodeOption StoredTree) (b : List ℕ)
+    → MaybeHeld names n o r b
+    → length (counted (stored_maybe (map (rename_tree (look_up names n)) o))) ≡ 2 + form_length r
+maybe_length names n none r b h = omega (arith, ap form_length h, counted_length [])
+maybe_length names n (some v) r b h =
     omega (
       arith,
+      ap form_length h.1,
       counted_length (stored_tree (λ i. i) (rename_tree (look_up names n) v)),
-      tree_length names n v t h,
+      some_length names n v (held h.0 b) h.2,
     )
 
-width_length : (names : Names) (n : ℕ) (v : Width (List ℕ)) (p : Parts) (b : List ℕ)
-    → WidthHeld names n v p.kind p.bits (held p.width b)
-    → length (stored_width (rename_width (look_up names n) v)) ≡ width_size p
-width_length names n (fixed m) p b h = two_length m ∙ sym (size_fixed p h.0)
-width_length names n (measured u v) p b h =
+width_length : (names : Names) (n : ℕ) (v : Width (List ℕ)) (w : CodeWidth) (b : List ℕ)
+    → WidthHeld names n v w b → length (stored_width (rename_width (look_up names n) v)) ≡ width_size w
+width_length names n (fixed m) w b h = rw h (two_length m)
+width_length names n (measured u v) w b h =
     let t = stored_tree (λ i. i) (rename_tree (look_up names n) v) in
     omega (
       arith,
-      size_measured p h.0,
+      ap width_size h.1,
       length-append (le2 u) (counted t),
       two_length u,
       counted_length t,
-      tree_length names n v (held p.width b) h.2,
+      some_length names n v (held h.0 b) h.2,
     )
-width_length names n rest p b h =
-    sym (size_rest p (λ e. absurd (omega (arith, e, h.0))) (λ e. absurd (omega (arith, e, h.0))))
+width_length names n rest w b h = rw h refl
 
 pub short_length : (names : Names) (n : ℕ) (line : List ℕ) (x : Form) (v : LineBytes) (p : Parts)
     → PartsHeld names n line x v p → p.short.at + p.short.len ≤ length line
@@ -214,10 +186,10 @@ module _ (names : Names) (n : ℕ) (line : List ℕ) (x : Form) (v : LineBytes) 
       rw (
         h.label,
         short_text_lem line x.short p.short h.short,
-        width_bytes_lem names n x.width p v.width h.width (omega (arith, w.width, room.width)),
-        maybe_bytes names (n + 1) x.constraint (held p.constraint v.constraint) h.constraint
+        width_bytes_lem names n x.width p.width v.width h.width (omega (arith, w.width, room.width)),
+        maybe_bytes names (n + 1) x.constraint p.constraint v.constraint h.constraint
             (omega (arith, w.constraint, room.constraint)),
-        maybe_bytes names n x.condition (held p.condition v.condition) h.condition
+        maybe_bytes names n x.condition p.condition v.condition h.condition
             (omega (arith, w.condition, room.condition)),
       )
       refl
@@ -250,15 +222,15 @@ module _ (names : Names) (n : ℕ) (line : List ℕ) (x : Form) (v : LineBytes) 
         length-take-le p.label line w.label,
         counted_length (stored_name x.short),
         short_length names n line x v p h w.short,
-        width_length names n x.width p v.width h.width,
-        maybe_length names (n + 1) x.constraint (held p.constraint v.constraint) h.constraint,
-        maybe_length names n x.condition (held p.condition v.condition) h.condition,
+        width_length names n x.width p.width v.width h.width,
+        maybe_length names (n + 1) x.constraint p.constraint v.constraint h.constraint,
+        maybe_length names n x.condition p.condition v.condition h.condition,
       )
 
   pub record_bytes : field_bytes line v p ≡ plain_field (indexed names n x)
   unfolding stored_field_in
   record_bytes =
-      let kind = width_kind names n x.width p.kind p.bits (held p.width v.width) h.width in
+      let kind = width_kind names n x.width p.width v.width h.width in
       let body = field_body (indexed names n x) in
       let size : field_size p ≡ 4 + length (le2 0 ++ body) =
       omega (arith, size_is, length-append (le2 0) body, two_length 0) in

@@ -1,13 +1,11 @@
 -- A kept cell held against the parts of a field line.
 use mathlib.Core.Path.{◌≡◌, refl, ap, sym, ◌∙◌}
-use mathlib.Core.Bool.{Bool, true, false, cond, ◌&&◌, ◌||◌, not}
+use mathlib.Core.Bool.{Bool, true, false, ◌&&◌, ◌||◌}
 use mathlib.Core.List.{List, ◌++◌}
 use Prim.Native.Nat.{ℕ, ◌+◌, ◌-◌}
 use native.Mathlib.Omega.{arith}
-use native.Mathlib.Nat.{sub-zero}
 use lib.Dec.{eqb}
 use lib.ListN.{length, take, drop, get_or}
-use borrow.Author.Tests.{eq-eqb, ne_eqb}
 use Rattle.base.specs.Lists.{any, same}
 use Rattle.rules.specs.Names.{is_label}
 use Rattle.rules.specs.Fields.{Width, fixed, measured, rest, Form, field_names}
@@ -18,35 +16,16 @@ use Rattle.texts.specs.PartPlaces.{span_in}
 use Rattle.texts.specs.Slots.{stored_slot}
 use Rattle.texts.specs.HeldParts.{WidthHeld, LineBytes, PartsHeld}
 use Rattle.texts.specs.HeldRecords.{is_named_by, is_placed_by, PartShows}
-use Rattle.texts.specs.StoredTrees.{TreeBytes, held}
+use Rattle.texts.specs.declared.kinds.Width.{Width as CodeWidth}
 use Rattle.texts.specs.declared.line_parts.Parts.{Parts}
-use Rattle.texts.proofs.CellNames.{part, short_is}
+use Rattle.texts.proofs.CellNames.{short_is}
 use Rattle.texts.proofs.SlotLaws.{slot_length, slot_long, slot_bits, slot_text}
 
-module _ (name s : List ℕ) (p : Parts) where
-  pub name_label : same name (take (p.label - 0) s) ≡ true → true ≡ is_named_by name s p
-  name_label h = rw (ap (λ (n : ℕ). same name (take n s)) (sym (sub-zero p.label)) ∙ h) refl
-
-  pub name_short : (r : Bool) → same name (take (p.label - 0) s) ≡ false
-      → r ≡ same name (take (p.short.at + p.short.len - p.short.at) (drop p.short.at s))
-      → r ≡ is_named_by name s p
-  name_short r h e =
-      e ∙ ap (same name) (part p.short.at p.short.len s)
-      ∙ sym (rw (ap (λ (n : ℕ). same name (take n s)) (sym (sub-zero p.label)) ∙ h) refl)
-
-module _ (long : Bool) (bits : ℕ) (p : Parts) where
-  pub place_long : (p.kind ≡ 12 → ⊥) → long ≡ is_placed_by long bits p
-  place_long n = rw (ne_eqb p.kind 12 n) refl
-
-  pub place_fixed : p.kind ≡ 12 → (not long && eqb bits p.bits) ≡ is_placed_by long bits p
-  place_fixed e = rw (eq-eqb p.kind 12 e) refl
-
-width_is : (names : Names) (n : ℕ) (c : Slot) (v : Width (List ℕ)) (kind b : ℕ) (t : TreeBytes)
-    → WidthHeld names n v kind b t
-    → cond (eqb kind 12) (not c.long && eqb c.bits b) c.long ≡ is_place_for c v
-width_is names n c (fixed m) kind b t h = rw (h.0, h.1) refl
-width_is names n c (measured u m) kind b t h = rw h.0 refl
-width_is names n c rest kind b t h = rw h.0 refl
+width_is : (names : Names) (n : ℕ) (c : Slot) (v : Width (List ℕ)) (w : CodeWidth) (b : List ℕ)
+    → WidthHeld names n v w b → is_placed_by c.long c.bits w ≡ is_place_for c v
+width_is names n c (fixed m) w b h = rw h refl
+width_is names n c (measured u m) w b h = rw h.1 refl
+width_is names n c rest w b h = rw h refl
 
 module _ (cells line : List ℕ) (at end : ℕ) (p : Parts)
     (ends : (c : Slot) (behind : List ℕ) → drop at cells ≡ stored_slot c ++ behind → end ≡ at + length (stored_slot c))
@@ -70,11 +49,11 @@ module _ (cells line : List ℕ) (at end : ℕ) (p : Parts)
         ap (λ (b : Bool). b && is_place_for c x.width) (sym q)
 
     pub part_yes : (y r : Bool) → y ≡ named → y ≡ true
-        → r ≡ is_placed_by (eqb (get_or cells at 0) 1) (get_or cells (at + 1) 0) p → PartShows cells at line p r
+        → r ≡ is_placed_by (eqb (get_or cells at 0) 1) (get_or cells (at + 1) 0) p.width → PartShows cells at line p r
     part_yes y r e z f c behind names n x v d h o =
         let q : any (same c.text) (field_names x) ≡ true = sym (same_named c behind names n x v d h o) ∙ sym e ∙ z in
         f
-        ∙ ap (λ (b : Bool). is_placed_by b (get_or cells (at + 1) 0) p) (slot_long cells at c behind d)
-        ∙ ap (λ (k : ℕ). is_placed_by c.long k p) (slot_bits cells at c behind d)
-        ∙ width_is names n c x.width p.kind p.bits (held p.width v.width) o.width
+        ∙ ap (λ (b : Bool). is_placed_by b (get_or cells (at + 1) 0) p.width) (slot_long cells at c behind d)
+        ∙ ap (λ (k : ℕ). is_placed_by c.long k p.width) (slot_bits cells at c behind d)
+        ∙ width_is names n c x.width p.width v.width o.width
         ∙ ap (λ (b : Bool). b && is_place_for c x.width) (sym q)

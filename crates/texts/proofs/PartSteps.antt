@@ -3,9 +3,9 @@ use mathlib.Core.Path.{◌≡◌, refl, ap, ◌∙◌}
 use mathlib.Core.Bool.{Bool, true, false, cond}
 use mathlib.Core.List.{List, []}
 use mathlib.Core.Option.{Option, none, some}
-use Prim.Native.Nat.{ℕ, ◌+◌, ◌-◌, ◌≤◌, ◌<◌}
+use Prim.Native.Nat.{ℕ, ◌+◌, ◌≤◌, ◌<◌}
 use native.Mathlib.Omega.{arith}
-use lib.Dec.{eqb, ltb}
+use lib.Dec.{ltb}
 use lib.ListN.{length, take, drop, get_or, length-set}
 use lib.Seq.{get_or-set_same, get_or-set_other}
 use Rattle.base.specs.Bytes.{bytes}
@@ -15,12 +15,14 @@ use Rattle.rules.specs.Fields.{Width, fixed, measured, rest, Form, is_fixed}
 use Rattle.rules.specs.Stored.{stored_name}
 use Rattle.names.specs.Repeats.{pad_to, held_word}
 use Rattle.names.proofs.RepeatLaws.{search_same}
-use Rattle.text_laws.specs.LineReader.{begins, read_label, read_short, read_width, form_of, read_form}
+use Rattle.text_laws.specs.LineReader.{miss, begins, read_label, read_short, read_width, form_of, read_form}
+use Rattle.texts.specs.declared.kinds.Width.{Width as CodeWidth}
+use Rattle.texts.specs.Kinds as kind
 use Rattle.texts.specs.HeldNames.{Names, NamesRoom, HeldAs, Kept, OwnPut}
 use Rattle.texts.specs.FieldPlaces.{SameLabel, SameShort}
-use Rattle.texts.specs.PartPlaces.{span_of, span_in, ShortIs}
-use Rattle.texts.specs.PartPlaces.{read_behind}
-use Rattle.texts.specs.HeldParts.{whole_parts, WidthHeld, MeasureAs, MeasureFor, EndsFor, LineBytes, PartsFor}
+use Rattle.texts.specs.PartPlaces.{span_in, ShortIs}
+use Rattle.texts.specs.PartPlaces.{Ending, read_ends}
+use Rattle.texts.specs.HeldParts.{whole_parts, WidthHeld, MeasureAs, EndsAs, LineBytes, PartsFor}
 use Rattle.texts.specs.HeldParts.{BehindFor}
 use Rattle.texts.specs.NameStarts.{start_in}
 use Rattle.texts.proofs.StartLaws.{most_least}
@@ -29,10 +31,7 @@ use Rattle.writing.specs.declared.spans.Span.{Span}
 use Rattle.texts.specs.declared.clause_trees.Ends.{Ends}
 use Rattle.texts.specs.declared.width_trees.Measure.{Measure}
 use Rattle.texts.specs.declared.line_parts.Parts.{Parts}
-use Rattle.texts.specs.declared.labels.Label.{Label}
-use Rattle.texts.specs.declared.labels.Label.TheVariants as label
-use Rattle.texts.specs.declared.labels.Short.{Short}
-use Rattle.texts.specs.declared.labels.Short.TheVariants as short
+use Rattle.std.specs.Prelude.{Option as CodeOption, None, Some}
 use Rattle.texts.proofs.LineRules.{fixed_kind_lem}
 use Rattle.texts.proofs.FieldNames.{literal_at, literal_none}
 use Rattle.texts.proofs.FieldParts.{
@@ -56,8 +55,8 @@ short_text_lem s none p h = rw h refl
 short_text_lem s (some w) p h = h
 
 -- those that are put at the index n
-module _ (a : Names) (n : ℕ) (s : List ℕ) (label : ℕ) (name : Span) (kind : ℕ) (b : Names)
-    (put : OwnPut a n s label name kind b) where
+module _ (a : Names) (n : ℕ) (s : List ℕ) (label : ℕ) (name : Span) (fixed : Bool) (b : Names)
+    (put : OwnPut a n s label name fixed b) where
   long : (length b.shorts ≡ length a.shorts) × (length b.words ≡ length a.words)
       × (length b.marks ≡ length a.marks)
   long = (
@@ -79,7 +78,7 @@ module _ (a : Names) (n : ℕ) (s : List ℕ) (label : ℕ) (name : Span) (kind 
   }
 
   own_held : (x : Form) → NamesRoom (n + 1) b → take label s ≡ x.label → ShortIs s x.short name
-      → eqb kind 12 ≡ is_fixed x → HeldAs b n x
+      → fixed ≡ is_fixed x → HeldAs b n x
   own_held x h p q e = record {
     short = ap (λ (l : List (List ℕ)). get_or l n []) put.shorts
         ∙ get_or-set_same a.shorts n _ [] (omega (arith, long.0, h.0))
@@ -125,82 +124,71 @@ module _ (a b : Names) (n : ℕ) (kept : Kept a n b) where
     bytes = λ le. h.bytes le ∙ ap (λ (f : List ℕ → ℕ). stored_tree f v) look_is;
   }
 
-  width_moved : (v : Width (List ℕ)) (kind bits : ℕ) (t : TreeBytes) → WidthHeld a n v kind bits t
-      → WidthHeld b n v kind bits t
-  width_moved (fixed m) kind bits t h = h
-  width_moved (measured u v) kind bits t h = (h.0, h.1, stored_moved v t h.2)
-  width_moved rest kind bits t h = h
+  width_moved : (v : Width (List ℕ)) (w : CodeWidth) (l : List ℕ) → WidthHeld a n v w l → WidthHeld b n v w l
+  width_moved (fixed m) w l h = h
+  width_moved (measured u v) w l h = (h.0, h.1, stored_moved v (held h.0 l) h.2)
+  width_moved rest w l h = h
 
 -- ── behind the names ──
 
 module _ (names : Names) (n : ℕ) (s : List ℕ) (label : ℕ) (name : Span) (at : ℕ) (b : LineBytes)
   where
-    refused : (r : Parts) → r.kind ≡ 0
-        → ((w : List ℕ) (h : Option (List ℕ)) → form_of (read_behind w h (drop at s)) ≡ none)
-        → BehindFor names n s label name at b r
+    pub behind_none : read_width (drop at s) ≡ miss → BehindFor names n s label name at b None
     unfolding BehindFor
-    refused r e k = λ w h i j. rw (k w h) e
+    behind_none x w h i j = behind_miss w h (drop at s) x
 
-    pub behind_none : (r : Parts) (a : Names) (m : Measure) → r.kind ≡ 0
-        → MeasureFor a n s (read_width (drop at s)) b.width m → m.kind ≡ 0 → BehindFor names n s label name at b r
-    behind_none r a m e x k = refused r e (λ w h. behind_miss w h (drop at s) (x.wrong k))
-
-    module _ (a : Names) (m : Measure) (x : MeasureAs a n s (read_width (drop at s)) b.width m) (e : Ends)
-        (y : EndsFor names n s m.next b.constraint b.condition e) where
-      pub behind_width : (r : Parts) → r.kind ≡ 0 → e.right ≡ false → BehindFor names n s label name at b r
-      behind_width r z k =
-          refused r z (λ w h. behind_is w h (drop at s) (drop m.next s) x.width x.is_read
-          ∙ y.wrong k (ending w h x.width))
-
-      pub behind_whole : e.right ≡ true → label ≤ length s → name.at + name.len ≤ length s
-          → OwnPut a n s label name m.kind names → BehindFor names n s label name at b (whole_parts label name m e)
+    module _ (a : Names) (m : Measure) (x : MeasureAs a n s (read_width (drop at s)) b.width m) where
+      pub behind_width : ((form : Ending) → form_of (read_ends form (drop m.next s)) ≡ none)
+          → BehindFor names n s label name at b None
       unfolding BehindFor
-      behind_whole k i j put = λ w h p q.
-          let z = y.there k in
-          let kept = own_kept a n s label name m.kind names put in
-          let f : form_of (read_behind w h (drop at s))
-          ≡ some (ending w h x.width z.constraint z.condition) =
-          behind_is w h (drop at s) (drop m.next s) x.width x.is_read ∙ z.is_read (ending w h x.width) in
-          rw f (record {
-            label_fits = i;
-            short_fits = j;
-            label = p;
-            short = q;
-            width = width_moved a names n kept x.width m.kind m.bits (held m.tree b.width) x.stored;
-            constraint = z.first;
-            condition = z.second;
-            own = λ room. own_held a n s label name m.kind names put
-                (ending w h x.width z.constraint z.condition) room p q
-                (fixed_kind_lem a n x.width m.kind m.bits (held m.tree b.width) x.stored);
-          })
+      behind_width y w h i j =
+          behind_is w h (drop at s) (drop m.next s) x.width x.is_read ∙ y (ending w h x.width)
+
+      pub behind_whole : (e : Ends) → EndsAs names n s m.next b.constraint b.condition e
+          → label ≤ length s → name.at + name.len ≤ length s
+          → OwnPut a n s label name (kind.is_fixed m.width) names
+          → BehindFor names n s label name at b (Some (whole_parts label name m e))
+      unfolding BehindFor
+      behind_whole e z i j put = λ w h p q.
+          let kept = own_kept a n s label name (kind.is_fixed m.width) names put in record {
+            form = ending w h x.width z.constraint z.condition;
+            is_read = behind_is w h (drop at s) (drop m.next s) x.width x.is_read ∙ z.is_read (ending w h x.width);
+            held_parts = record {
+              label_fits = i;
+              short_fits = j;
+              label = p;
+              short = q;
+              width = width_moved a names n kept x.width m.width b.width x.stored;
+              constraint = z.first;
+              condition = z.second;
+              own = λ room. own_held a n s label name (kind.is_fixed m.width) names put
+                  (ending w h x.width z.constraint z.condition) room p q
+                  (fixed_kind_lem a n x.width m.width b.width x.stored);
+            };
+          }
 
 -- ── the line ──
 
-module _ (names : Names) (n : ℕ) (s : List ℕ) (v : LineBytes) where
-  formless : (r : Parts) → r.kind ≡ 0 → read_form s ≡ none → PartsFor names n s (read_form s) v r
-  formless r e k = rw k e
-
-  pub parts_no_label : (r : Parts) {l : Label} → r.kind ≡ 0 → SameLabel s 0 (read_label s) l → l ≡ label.Nothing
-      → PartsFor names n s (read_form s) v r
-  parts_no_label r e h o = formless r e (line_no_label s (label_miss s _ (read_label s) h o))
+module _ (s : List ℕ) where
+  pub parts_no_label : {l : CodeOption ℕ} → SameLabel s 0 (read_label s) l → l ≡ None → read_form s ≡ none
+  parts_no_label h o = line_no_label s (label_miss s _ (read_label s) h o)
 
   module _ {k : ℕ} (x : LabelAs s k) where
-    pub parts_no_short : (r : Parts) {l : Short} → r.kind ≡ 0 → SameShort s (read_short (drop k s)) l
-        → l ≡ short.Nothing → PartsFor names n s (read_form s) v r
-    parts_no_short r e h o =
-        formless r e (line_no_short s (drop k s) x.text x.is_read (short_miss s _ (read_short (drop k s)) h o))
+    pub parts_no_short : {l : CodeOption (Span × ℕ)} → SameShort s (read_short (drop k s)) l → l ≡ None
+        → read_form s ≡ none
+    parts_no_short h o = line_no_short s (drop k s) x.text x.is_read (short_miss s _ (read_short (drop k s)) h o)
 
-    module _ {a b m : ℕ} (y : ShortAs s k a b m) (le : m ≤ length s) where
-      pub parts_no_colon : (r : Parts) → r.kind ≡ 0 → begins (bytes ": ") (drop m s) ≡ false
+    module _ {p : Span} {m : ℕ} (y : ShortAs s k p m) (le : m ≤ length s) where
+      pub parts_no_colon : begins (bytes ": ") (drop m s) ≡ false → read_form s ≡ none
+      parts_no_colon o =
+          line_no_colon s (drop k s) (drop m s) x.text y.text x.is_read y.is_read
+          (literal_none (bytes ": ") (drop m s) o)
+
+      pub parts_behind : (names : Names) (n : ℕ) (v : LineBytes) (r : CodeOption Parts)
+          → begins (bytes ": ") (drop m s) ≡ true → BehindFor names n s k p (m + 2) v r
           → PartsFor names n s (read_form s) v r
-      parts_no_colon r e o =
-          formless r e (line_no_colon s (drop k s) (drop m s) x.text y.text x.is_read y.is_read
-          (literal_none (bytes ": ") (drop m s) o))
-
-      pub parts_behind : (r : Parts) → begins (bytes ": ") (drop m s) ≡ true
-          → BehindFor names n s k (span_of a (b - a)) (m + 2) v r → PartsFor names n s (read_form s) v r
       unfolding BehindFor
-      parts_behind r o h =
+      parts_behind names n v r o h =
           rw (line_behind s (drop k s) (drop m s) (drop (m + 2) s) x.text y.text x.is_read y.is_read
           (literal_at (bytes ": ") s m le o).1)
           (h x.text y.text x.is_text y.is_text)

@@ -19,6 +19,7 @@ pub holds_alike : (a b : fold.Kept) (s : List ℕ) → fold.Alike a b → a.size
     → length a.line ≤ line_most → StateHolds b s → StateHolds a s
 holds_alike a b s same size free short h = record {
   fits = (h.fits.0, (let n = h.fits.1 in omega (arith, n, size)));
+  noted = h.noted;
   used = h.used;
   free = free;
   short = short;

@@ -1,4 +1,6 @@
 -- The lines of a piece behind a held line.
+use Rattle.std.specs.Prelude.{Some}
+use Rattle.texts.specs.declared.notes.Note.TheVariants.{BadByte}
 use mathlib.Core.Path.{◌≡◌, refl, ap, sym, ◌∙◌, subst}
 use mathlib.Core.Bool.{Bool, true, false, cond}
 use mathlib.Core.List.{List, [], ◌∷◌, ◌++◌, foldl, foldl-append}
@@ -15,8 +17,7 @@ use Rattle.text_laws.proofs.FedRuns.{fed_run, fed_line, fed_bad}
 use Rattle.text_laws.proofs.FedAlike.{alike_trans, alike_lost}
 use Rattle.text_laws.proofs.Steadiness.{steady_losing}
 use Rattle.texts.specs.LineEnds.{printable_length}
-use Rattle.texts.specs.Noted.{note_of}
-use Rattle.texts.specs.Changes.{changed, note}
+use Rattle.texts.specs.Changes.{changed}
 use Rattle.texts.specs.WalkSteps.{KeptAs, WalkedTo}
 use Rattle.texts.specs.declared.states.Stage.TheVariants as stages
 use Rattle.texts.specs.declared.states.Reading.{Reading}
@@ -107,11 +108,11 @@ module _ (k : fold.Kept) (t : List ℕ) (e : ℕ) (first : e ≡ 0 + printable_l
     bad_kept = record { size = k.size; line = []; found = fold.losing (refused 2 0) k.found }
 
     pub bad_first : (get_or t e 0 ≡ line_feed → ⊥)
-        → WalkedTo k t 0 (record { reading = changed r r.lines stages.Lost (note 2 0); at = length t }) held row
+        → WalkedTo k t 0 (record { reading = changed r r.lines stages.Lost (Some BadByte); at = length t }) held row
         counts
-    unfolding note_of all
+    unfolding all
     bad_first other =
-        let x = holds_lost k.found r is.holds (refused 2 0) (note 2 0) refl in
+        let x = holds_lost k.found r is.holds (refused 2 0) (Some BadByte) refl in
         let none = drop_all t in
         record {
           walking = record {

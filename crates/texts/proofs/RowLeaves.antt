@@ -43,6 +43,9 @@ line_part l a n h =
     (rw (take-append-drop n (drop a l))
     (all_back (λ b. not (eqb b 10)) (take a l) (drop a l) (rw (take-append-drop a l) h)))
 
+pub line_behind : {l : List ℕ} {b : ℕ} {m : List ℕ} → l ≡ b ∷ m → is_line l ≡ true → is_line m ≡ true
+line_behind {l} {b} {m} e h = all_back (λ b. not (eqb b 10)) (b ∷ []) m (rw e at h)
+
 -- with neither its bar nor an LF in it, a part fits its bits if its length does
 pub fitted_by_length : (e n : ℕ) (p : List ℕ) → is_free e p ≡ true → is_line p ≡ true
     → is_fitted e n p ≡ eqb (length p + 1) (2 * n)

@@ -1,4 +1,6 @@
 -- What the code keeps behind a row.
+use Rattle.std.specs.Prelude.{Some}
+use Rattle.texts.specs.declared.notes.Note.TheVariants.{TooMany}
 use mathlib.Core.Path.{◌≡◌, refl, ap, sym, ◌∙◌, subst}
 use mathlib.Core.Bool.{Bool, true, false}
 use mathlib.Core.List.{List, [], ◌∷◌, ◌++◌}
@@ -11,7 +13,7 @@ use borrow.Author.Tests.{leb-true, lt-ltb, le-ltb, ltb-false}
 use Rattle.base.specs.Lists.{all, is_empty, joined}
 use Rattle.writing.specs.Writes.{Writes}
 use Rattle.base.proofs.Joined.{joined_append}
-use Rattle.base.proofs.Lists.{and_left, and_right, not_both}
+use Rattle.base.proofs.Lists.{and_left, and_right}
 use Rattle.rules.specs.Limits.{fields_most, label_most, row_lines_most}
 use Rattle.rules.specs.Answers.{refused}
 use Rattle.rules.specs.Names.{is_label}
@@ -21,12 +23,10 @@ use Rattle.rules.specs.Frames.{Slot, slots_in}
 use Rattle.text_laws.specs.FrameReader.{rest}
 use Rattle.text_laws.specs.Fold as fold
 use Rattle.texts.specs.HeldNames.{Names}
-use Rattle.texts.specs.Noted.{note_of}
 use Rattle.texts.specs.RowPlaces.{slots_at}
 use Rattle.texts.specs.Slots.{stored_slot, RowedBy, are_labels, RowedAs}
-use Rattle.texts.specs.declared.slots.Rowed.{Rowed}
-use Rattle.texts.specs.declared.slots.Rowed.TheVariants as rowed
-use Rattle.texts.specs.Changes.{note, changed, with_head, with_lines, row_ended}
+use Rattle.std.specs.Prelude.{Option, None, Some, is_some}
+use Rattle.texts.specs.Changes.{changed, with_head, with_lines, row_ended}
 use Rattle.texts.specs.HeldAreas.{slot_most}
 use Rattle.texts.specs.States.{Room, Area, Holds}
 use Rattle.texts.specs.declared.states.Stage.TheVariants as at
@@ -55,27 +55,23 @@ slots_length (c ∷ cs) h =
 
 -- ── the code's answer ──
 
-abbrev next_of : Rowed → ℕ
-next_of rowed.Wrong = 0
-next_of (rowed.Put next n) = next
-
-abbrev count_of : Rowed → ℕ
-count_of rowed.Wrong = 0
-count_of (rowed.Put next n) = n
-
-abbrev is_put : Rowed → Bool
-is_put rowed.Wrong = false
-is_put (rowed.Put next n) = true
-
-module _ (row : List ℕ) (n size : ℕ) (before after : List ℕ) (at : ℕ) (q : Rowed)
+module _ (row : List ℕ) (n size : ℕ) (before after : List ℕ) (at : ℕ) (q : Option (ℕ × ℕ))
     (h : RowedAs row n size before at after q) where
+  -- something is answered where all cells are labels
+  pub row_told : is_some q ≡ are_labels row n size
+  row_told = go (are_labels row n size) h
+    where
+      go : (b : Bool) → RowedBy b before at (slots_at row n size 1) after q → is_some q ≡ b
+      go true p = ap is_some p.answer
+      go false p = ap is_some p.0
+
   -- a cell that is no label
-  pub row_wrong : q ≡ rowed.Wrong → (are_labels row n size ≡ false) × (take at after ≡ take at before)
+  pub row_wrong : q ≡ None → (are_labels row n size ≡ false) × (take at after ≡ take at before)
   row_wrong e = go (are_labels row n size) refl h
     where
       go : (b : Bool) → are_labels row n size ≡ b → RowedBy b before at (slots_at row n size 1) after q
           → (b ≡ false) × (take at after ≡ take at before)
-      go true k p = absurd (not_both true refl (ap is_put (sym p.answer ∙ e)))
+      go true k p = let a = p.answer in cc
       go false k p = (refl, p.1)
 
   pub record RowPut (next count : ℕ) : Type 0 where
@@ -83,19 +79,19 @@ module _ (row : List ℕ) (n size : ℕ) (before after : List ℕ) (at : ℕ) (q
     pub is_count : count ≡ length (slots_at row n size 1)
     pub writes : Writes before at (joined stored_slot (slots_at row n size 1)) after next
 
-  pub row_put : (next count : ℕ) → q ≡ rowed.Put next count → RowPut next count
+  pub row_put : (next count : ℕ) → q ≡ Some (next, count) → RowPut next count
   row_put next count e = go (are_labels row n size) refl h
     where
       go : (b : Bool) → are_labels row n size ≡ b → RowedBy b before at (slots_at row n size 1) after q
           → RowPut next count
-      go false k p = absurd (not_both true refl (ap is_put (sym e ∙ p.0)))
+      go false k p = let a = p.0 in cc
       go true k p =
-          let i : p.next ≡ next = ap next_of (sym p.answer ∙ e) in
+          let i : (p.next, length (slots_at row n size 1)) ≡ (next, count) = let a = p.answer in cc in
           record {
             labels = k;
-            is_count = ap count_of (sym e ∙ p.answer);
-            writes = subst (λ (m : ℕ). Writes before at (joined stored_slot (slots_at row n size 1)) after m) i
-                p.writes;
+            is_count = sym (ap (λ (k : ℕ × ℕ). k.1) i);
+            writes = subst (λ (m : ℕ). Writes before at (joined stored_slot (slots_at row n size 1)) after m)
+                (ap (λ (k : ℕ × ℕ). k.0) i) p.writes;
           }
 
 pub labels_all : (row : List ℕ) (n size : ℕ) → are_labels row n size ≡ true
@@ -185,8 +181,7 @@ module _ (f : fold.Found) (r : Reading) {cells after : List ℕ} {table : Area} 
   -- 4
   pub holds_over : fields_most < length f.cells + length (slots_in row) → r.slots ≤ length cells
       → Holds (fold.with_cells f (f.cells ++ slots_in row))
-      (changed (with_lines r 0) (r.lines + 1) at.RowOrBlank (note 4 0)) after table labels names
-  unfolding note_of
+      (changed (with_lines r 0) (r.lines + 1) at.RowOrBlank (Some TooMany)) after table labels names
   holds_over over le =
       let n : length (f.cells ++ slots_in row) ≡ length f.cells + length (slots_in row) =
       length-append f.cells (slots_in row) in
@@ -221,7 +216,7 @@ module _ (f : fold.Found) (r : Reading) {cells after : List ℕ} {table : Area} 
 
 module _ (r : Reading) (next n : ℕ) where
   pub ended_over : fields_most - r.cells < n
-      → row_ended r next n ≡ changed (with_lines r 0) (r.lines + 1) at.RowOrBlank (note 4 0)
+      → row_ended r next n ≡ changed (with_lines r 0) (r.lines + 1) at.RowOrBlank (Some TooMany)
   ended_over lt = rw (lt-ltb (fields_most - r.cells) n lt) refl
 
   pub ended_few : n ≤ fields_most - r.cells
@@ -244,14 +239,13 @@ room_lines r n h le = record {
   count = h.count;
   fields = h.fields;
   end = h.end;
-  told = h.told;
   placed = h.placed;
 }
 
 pub room_line : (r : Reading) (n : ℕ) → Room r → n ≤ row_lines_most
     → Room (changed (with_lines r n) (r.lines + 1) at.InRow r.note)
 room_line r n h le =
-    room_changed (with_lines r n) (r.lines + 1) at.InRow r.note h.told (let q = h.placed in omega (arith, q))
+    room_changed (with_lines r n) (r.lines + 1) at.InRow r.note (let q = h.placed in omega (arith, q))
     (room_lines r n h le)
 
 -- behind the border of a row whose cells are kept
@@ -259,11 +253,10 @@ pub room_ended : (r : Reading) (next n : ℕ) (cs : List Slot) {before after : L
     → all (λ c. is_label c.text) cs ≡ true → n ≡ length cs
     → Writes before r.slots (joined stored_slot cs) after next
     → Room (row_ended r next n) × ((row_ended r next n).lines ≤ r.lines + 1)
-unfolding note_of
 room_ended r next n cs h labels count w = go (ltb (fields_most - r.cells) n) refl
   where
-    over : Room (changed (with_lines r 0) (r.lines + 1) at.RowOrBlank (note 4 0))
-    over = room_changed (with_lines r 0) (r.lines + 1) at.RowOrBlank (note 4 0) refl (omega arith)
+    over : Room (changed (with_lines r 0) (r.lines + 1) at.RowOrBlank (Some TooMany))
+    over = room_changed (with_lines r 0) (r.lines + 1) at.RowOrBlank (Some TooMany) (omega arith)
         (room_lines r 0 h (omega arith))
 
     go : (b : Bool) → ltb (fields_most - r.cells) n ≡ b

@@ -6,8 +6,7 @@ use mathlib.Core.Option.{none, some}
 use Prim.Native.Nat.{ℕ, ◌+◌, ◌*◌, ◌-◌, ◌/◌, ◌%◌, ◌≤◌, ◌<◌}
 use native.Mathlib.Omega.{arith}
 use lib.Dec.{eqb}
-use lib.ListN.{length, take, drop, get_or, length-drop}
-use lib.Seq.{drop-cons}
+use lib.ListN.{length, take, drop, length-drop}
 use borrow.Author.Tests.{eq-eqb, ne_eqb}
 use Rattle.base.specs.Lists.{all, is_empty, sum}
 use Rattle.base.proofs.Lists.{and_left}
@@ -16,7 +15,6 @@ use Rattle.rules.specs.Frames.{is_line}
 use Rattle.text_laws.specs.FrameReader.{pieces, rest, bits_of, keep_row, strips_of, read_long, row_of, read_row}
 use Rattle.text_laws.proofs.SplitLaws.{is_free, pieces_are_free}
 use Rattle.texts.specs.FramePlaces.{up_to, is_some, is_bits}
-use Rattle.texts.proofs.FrameLeaves.{take_rest}
 use Rattle.texts.proofs.RowLeaves.{line_part, fitted_by_length, row_kept, is_long}
 use Rattle.texts.proofs.SplitSteps.{piece_at, rest_at, piece_length, piece_none, pieces_end}
 
@@ -133,15 +131,12 @@ unfolding read_row strips_of row_of read_long
 row_empty w [] e = refl
 row_empty w (b ∷ l) e = absurd (omega arith)
 
-module _ (w : ℕ) (l : List ℕ) (lt : length l ≡ 0 → ⊥) where
-  read : is_some (read_row w l) ≡ is_some (read_row w (get_or l 0 0 ∷ drop 1 l))
-  read = ap (λ (m : List ℕ). is_some (read_row w m)) (drop-cons l 0 0 (omega (arith, lt)))
+module _ (w : ℕ) {l : List ℕ} {b : ℕ} {m : List ℕ} (e : l ≡ b ∷ m) where
+  pub row_bits : b ≡ 124 → is_bits w m ≡ is_some (read_row w l)
+  row_bits q = sym (ap (λ (k : List ℕ). is_some (read_row w k)) e ∙ begins_bar w b m q)
 
-  pub row_bits : get_or l 0 0 ≡ 124 → is_bits w (take (length l - 1) (drop 1 l)) ≡ is_some (read_row w l)
-  row_bits e = ap (is_bits w) (take_rest 1 l) ∙ sym (read ∙ begins_bar w (get_or l 0 0) (drop 1 l) e)
+  pub row_long : b ≡ 58 → is_long w m ≡ is_some (read_row w l)
+  row_long q = sym (ap (λ (k : List ℕ). is_some (read_row w k)) e ∙ begins_colon w b m q)
 
-  pub row_long : get_or l 0 0 ≡ 58 → is_long w (take (length l - 1) (drop 1 l)) ≡ is_some (read_row w l)
-  row_long e = ap (is_long w) (take_rest 1 l) ∙ sym (read ∙ begins_colon w (get_or l 0 0) (drop 1 l) e)
-
-  pub row_other : (get_or l 0 0 ≡ 124 → ⊥) → (get_or l 0 0 ≡ 58 → ⊥) → false ≡ is_some (read_row w l)
-  row_other n n' = sym (read ∙ begins_other w (get_or l 0 0) (drop 1 l) n n')
+  pub row_other : (b ≡ 124 → ⊥) → (b ≡ 58 → ⊥) → false ≡ is_some (read_row w l)
+  row_other n n' = sym (ap (λ (k : List ℕ). is_some (read_row w k)) e ∙ begins_other w b m n n')

@@ -44,3 +44,5 @@ short_word [] lt h d le = absurd (omega arith)
 short_word (c ∷ w) lt h d le =
     let letter : is_letter c ≡ true = sym (rw d (or-false (is_letter c))) ∙ (all_cons is_word_byte c w h).0 in
     rw (letter, h, le-leb (length (c ∷ w)) short_most le) refl
+
+pub ruleset short_rules = (short_none, short_digit, short_long, short_word)

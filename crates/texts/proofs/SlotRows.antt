@@ -11,17 +11,14 @@ use lib.Seq.{get_or-take, drop_at, take-take, take-append-le, length-take-le}
 use Rattle.base.specs.Lists.{all, is_empty, joined}
 use Rattle.base.proofs.Joined.{joined_append, joined_one}
 use Rattle.writing.specs.Writes.{Writes}
-use Rattle.writing.proofs.Writing.{writes_none, writes_join, writes_inside}
+use Rattle.writing.proofs.Writing.{writes_none, writes_join}
 use Rattle.rules.specs.Names.{is_label}
 use Rattle.rules.specs.Frames.{Slot}
-use Rattle.names.specs.Classes.{class_table}
-use Rattle.names.specs.LentNames.{is_label_in}
-use Rattle.names.proofs.LentLaws.{label_in_lem}
 use Rattle.text_laws.specs.FrameReader.{pieces, rest}
 use Rattle.texts.specs.FramePlaces.{up_to}
 use Rattle.texts.specs.RowPlaces.{slot_at, slots_from, slots_at}
 use Rattle.texts.specs.Slots.{stored_slot, RowedBy, are_labels, RowedAs}
-use Rattle.texts.specs.declared.slots.Rowed.TheVariants as rowed
+use Rattle.std.specs.Prelude.{None, Some}
 use Rattle.texts.proofs.CellSteps.{length_four}
 use Rattle.texts.proofs.SlotLaws.{slot_length, slot_text}
 use Rattle.texts.proofs.SplitSteps.{piece_at, piece_length, rest_at, piece_none}
@@ -88,21 +85,13 @@ module _ {row : List ℕ} {n size : ℕ} {cells : List ℕ} {next from to : ℕ}
     abbrev put : Slot
     put = slot_at (eqb (get_or row 0 0) 58) row n from (to - from)
 
-    -- where its text stands
-    pub text_place : (next + 3 ≤ end) × (end ≤ length after)
-    text_place = (
-      omega (arith, o.writes.end, slot_length put),
-      omega (arith, writes_inside o.writes o.room, o.writes.kept),
-    )
-
-    -- and whether that is a label
-    pub label_there : (classes : List ℕ) → classes ≡ class_table
-        → is_label_in classes (take (end - (next + 3)) (drop (next + 3) after)) ≡ is_label put.text
-    label_there classes known =
+    -- whether its text is a label
+    pub label_there : is_label (take (end - (next + 3)) (drop (next + 3) after)) ≡ is_label put.text
+    label_there =
         let k : end - (next + 3) ≡ length put.text = omega (arith, o.writes.end, slot_length put) in
         let t : take (end - (next + 3)) (drop (next + 3) after) ≡ put.text =
         rw k (slot_text after next put (drop end after) (writes_there o.room o.writes)) in
-        label_in_lem classes known (take (end - (next + 3)) (drop (next + 3) after)) ∙ ap is_label t
+        ap is_label t
 
 module _ (row : List ℕ) (n size from to : ℕ) (fits : size ≤ length row) where
   abbrev IsEnd : Type 0
@@ -178,25 +167,25 @@ module _ {before cells row : List ℕ} {at n size next from many : ℕ}
     (p : Putting before at row n size cells next from many) (room : at ≤ length before)
   where
     wrong : {w after : List ℕ} {end : ℕ} → Writes before at w after end → left_labels row n size from ≡ false
-        → RowedAs row n size before at after rowed.Wrong
+        → RowedAs row n size before at after None
     wrong {w} {after} {end} v e =
-        subst (λ (b : Bool). RowedBy b before at (slots_at row n size 1) after rowed.Wrong) (sym (p.tells ∙ e))
+        subst (λ (b : Bool). RowedBy b before at (slots_at row n size 1) after None) (sym (p.tells ∙ e))
         (refl, writes_keep room v, v.kept)
 
     pub putting_open : (to : ℕ) → size ≤ length row
         → to ≡ from + up_to (get_or row 0 0) (drop from (take size row)) → from < size → size ≤ to → to ≤ size
-        → RowedAs row n size before at cells rowed.Wrong
+        → RowedAs row n size before at cells None
     putting_open to fits e lt ge le = wrong p.writes (left_open row n size from to fits e lt ge le)
 
-    pub putting_end : size ≤ from → RowedAs row n size before at cells (rowed.Put next many)
+    pub putting_end : size ≤ from → RowedAs row n size before at cells (Some (next, many))
     putting_end le =
         let q = none_left row n size from le in
         let w : slots_at row n size 1 ≡ p.done =
         p.is_all ∙ ap (λ (cs : List Slot). p.done ++ cs) q.0 ∙ append-nil p.done in
-        subst (λ (b : Bool). RowedBy b before at (slots_at row n size 1) cells (rowed.Put next many))
+        subst (λ (b : Bool). RowedBy b before at (slots_at row n size 1) cells (Some (next, many)))
         (sym (p.tells ∙ q.1)) (record {
           next = next;
-          answer = ap (λ (k : ℕ). rowed.Put next k) (sym p.count ∙ ap length (sym w));
+          answer = ap (λ (k : ℕ). Some (next, k)) (sym p.count ∙ ap length (sym w));
           writes = rw w p.writes;
         })
 
@@ -209,7 +198,7 @@ module _ {before cells row : List ℕ} {at n size next from many : ℕ}
           rw (joined_append stored_slot p.done (one ∷ []), joined_one stored_slot one)
           (writes_join p.writes o.writes)
 
-      pub putting_wrong : is_label one.text ≡ false → RowedAs row n size before at after rowed.Wrong
+      pub putting_wrong : is_label one.text ≡ false → RowedAs row n size before at after None
       putting_wrong l =
           let b : Bool = is_empty (rest (get_or row 0 0) (drop (to + 1) (take size row))) in
           wrong more (left_step row n size from to o.fits o.is_end o.inside ∙ rw l (and-false b))

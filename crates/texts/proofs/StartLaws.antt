@@ -1,8 +1,10 @@
 -- Where a walk over the held names begins: it passes no field that bears the name.
+use Rattle.std.proofs.Common as std
+use Rattle.std.specs.Option.{MatchOption}
 use mathlib.Core.Path.{◌≡◌, refl, sym, ◌∙◌, ap, subst}
 use mathlib.Core.Bool.{Bool, true, false, cond}
 use mathlib.Core.List.{List, []}
-use Prim.Native.Nat.{ℕ, zero, suc, ◌+◌, ◌-◌, ◌≤◌, ◌<◌}
+use Prim.Native.Nat.{ℕ, zero, suc, ◌+◌, ◌-◌, ◌≤◌, ◌<◌, min}
 use native.Mathlib.Nat.{sub-zero}
 use native.Mathlib.Numerals.{add-one}
 use native.Mathlib.Omega.{arith}
@@ -15,7 +17,7 @@ use Rattle.base.proofs.Breaks.{or_true}
 use Rattle.rules.specs.Limits.{short_most}
 use Rattle.names.specs.Repeats.{first_from, pad_to, same_name, at_most}
 use Rattle.names.proofs.KeyLaws.{same_keys}
-use Rattle.names.proofs.RepeatLaws.{search_step, search_end}
+use Rattle.names.proofs.RepeatLaws.{search_end, none_passes}
 use Rattle.texts.specs.HeldNames.{Names, Started}
 use Rattle.texts.specs.StoredTrees.{reads_as, is_held, look_up}
 use Rattle.texts.specs.NameStarts.{buckets, bucket_of, start_in, StartsBy, Lowered, StartPut}
@@ -31,6 +33,13 @@ most_above most n le = go (ltb most n) refl
   where
     go : (b : Bool) → ltb most n ≡ b → cond b most n ≡ most
     go true e = refl
+    go false e = omega (arith, ltb-false most n e)
+
+pub least_is : (most n : ℕ) → min n most ≡ at_most most n
+least_is most n = go (ltb most n) refl
+  where
+    go : (b : Bool) → ltb most n ≡ b → min n most ≡ cond b most n
+    go true e = omega (arith, ltb-true most n e)
     go false e = omega (arith, ltb-false most n e)
 
 pub most_least : (most n : ℕ) → (at_most most n ≤ most) × (at_most most n ≤ n)
@@ -60,28 +69,43 @@ look_from_zero names k w none =
     sym (search_from (is_held names w) k (at_most k (start_in names.starts (pad_to short_most w))) le
     (λ i lt. none i (omega (arith, lt, le)) lt))
 
--- one step of the walk, from i on
-module _ (f : ℕ → Bool) (n i : ℕ) where
-  -- what is left of it decides
-  abbrev pub Rest : ℕ → Type 0
-  Rest r = r ≡ first_from f (at_most n i) (n - at_most n i)
+-- the first of m indexes from s that passes is i
+first_is : (f : ℕ → Bool) (i s m : ℕ) → s ≤ i → i < s + m → f i ≡ true
+    → ((k : ℕ) → s ≤ k → k < i → f k ≡ false) → first_from f s m ≡ i
+unfolding first_from
+first_is f i s zero le lt hit none = absurd (omega (arith, le, lt))
+first_is f i s (suc m) le lt hit none = go (ltb s i) refl (first_is f i (suc s) m)
+  where
+    go : (b : Bool) → ltb s i ≡ b
+        → (suc s ≤ i → i < suc s + m → f i ≡ true → ((k : ℕ) → suc s ≤ k → k < i → f k ≡ false)
+        → first_from f (suc s) m ≡ i)
+        → cond (f s) s (first_from f (suc s) m) ≡ i
+    go true e rest =
+        let less = ltb-true s i e in
+        rw (none s (omega arith) less) (rest (omega (arith, less)) (omega (arith, lt)) hit
+        (λ k p q. none k (omega (arith, p)) q))
+    go false e rest =
+        let same : s ≡ i = omega (arith, ltb-false s i e, le) in rw (ap f same ∙ hit) same
 
-  pub walk_found : (r : ℕ) → i < n → Rest r → f i ≡ true → i ≡ r
-  walk_found r lt so h =
-      let k = most_below n i (omega arith) in
-      sym (so ∙ ap (λ (j : ℕ). first_from f j (n - j)) k ∙ search_step f i n lt ∙ simp h)
-
-  pub walk_none : (r : ℕ) → n ≤ i → Rest r → n ≡ r
-  walk_none r le so =
-      let k = most_above n i le in
-      sym (so ∙ ap (λ (j : ℕ). first_from f j (n - j)) k ∙ search_end f n)
-
-pub walk_next : (f : ℕ → Bool) (n i r : ℕ) → i < n → Rest f n i r → f i ≡ false → Rest f n (i + 1) r
-walk_next f n i r lt so h =
-    let k = most_below n i (omega arith) in
-    let m = most_below n (i + 1) (omega arith) in
-    let e = so ∙ ap (λ (j : ℕ). first_from f j (n - j)) k ∙ search_step f i n lt in
-    rw h at e ∙ ap (λ (j : ℕ). first_from f j (n - j)) (sym m)
+-- what `find` answers over the indexes from s below n, with n where none passes
+pub find_is : (f : ℕ → Bool) (n s : ℕ) (r : std.Option ℕ)
+    → MatchOption r ((k : ℕ) → s ≤ k → k < n → f k ≡ false)
+    (λ i. (s ≤ i) × (i < n) × (f i ≡ true) × ((k : ℕ) → s ≤ k → k < i → f k ≡ false))
+    → (std.unwrap_or r n ≤ n) × (std.unwrap_or r n ≡ first_from f (at_most n s) (n - at_most n s))
+find_is f n s std.None none = (omega arith, go (ltb n s) refl)
+  where
+    go : (b : Bool) → ltb n s ≡ b → n ≡ first_from f (cond b n s) (n - cond b n s)
+    go true e = sym (search_end f n)
+    go false e =
+        let le = ltb-false n s e in
+        let none = none_passes f s (n - s) (λ k p q. none k p (omega (arith, q, le))) in
+        omega (arith, none, le)
+find_is f n s (std.Some i) h =
+    let k = most_below n s (omega (arith, h.0, h.1)) in (
+      omega (arith, h.1),
+      sym (ap (λ (j : ℕ). first_from f j (n - j)) k
+          ∙ first_is f i s (n - s) h.0 (omega (arith, h.0, h.1)) h.2 h.3),
+    )
 
 -- ── a field before a name's start does not bear the name ──
 

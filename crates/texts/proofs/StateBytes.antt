@@ -1,30 +1,33 @@
 -- The numbers of a reading as bytes of a state.
+use Rattle.std.specs.Prelude.{Option as Held, Some, None}
+use Rattle.std.proofs.Math.Option.{none, some}
+use Rattle.rules.specs.Answers.{refused}
+use Rattle.texts.specs.declared.notes.Note.TheVariants.{BadByte, BadLine, TooMany, Mismatch}
 use mathlib.Core.Path.{◌≡◌, refl, ap, sym, ◌∙◌}
-use mathlib.Core.Bool.{Bool, true, false}
+use mathlib.Core.Bool.{Bool, true, false, cond}
 use mathlib.Core.List.{List, [], ◌∷◌, ◌++◌}
-use Prim.Native.Nat.{ℕ, ◌+◌, ◌*◌, ◌/◌, ◌%◌, ◌≤◌, ◌<◌}
+use Prim.Native.Nat.{ℕ, ◌+◌, ◌*◌, ◌/◌, ◌%◌, ◌≤◌, ◌<◌, min, max}
 use native.Mathlib.Omega.{arith}
-use lib.Dec.{eqb, leb}
+use lib.Dec.{eqb}
+use Rattle.std.specs.Int.{from_bool}
 use lib.ListN.{length, take, drop, get_or}
 use lib.Seq.{get_or-take, get_or-drop, get_or-append-add, length-take-le, take-take, take-append-le}
-use borrow.Author.Tests.{ne_eqb, le-leb, eqb-true, eqb-false, leb-true, leb-false}
 use Rattle.rules.specs.Limits.{text_most, label_most, fields_most, row_lines_most}
 use Rattle.rules.specs.Values.{yes_no}
 use Rattle.laws.specs.Places.{two_at}
 use Rattle.writing.specs.Writes.{Writes}
 use Rattle.writing.specs.Puts.{placed, put}
 use Rattle.writing.proofs.PutLaws.{put_writes}
-use Rattle.texts.specs.Changes.{note}
 use Rattle.texts.specs.HeldAreas.{slot_most, record_most}
-use Rattle.texts.specs.Noted.{note_of}
-use Rattle.texts.specs.States.{is_told, Room}
+use Rattle.texts.specs.Noted.{place_of, note_of}
+use Rattle.texts.specs.States.{Room}
 use Rattle.texts.specs.StateNumbers.{numbers_at, line_at, stage_code, stage_at, reading_in, low, high, number_bytes}
-use Rattle.texts.specs.StateNumbers.{Fits, Loaded, LoadedNote, Saved}
+use Rattle.texts.specs.StateNumbers.{note_code, note_at, refusal_in, NoteIn, Fits, Loaded, Saved}
 use Rattle.texts.specs.declared.notes.Note.{Note}
+use Rattle.texts.specs.declared.notes.Note.TheVariants as by
 use Rattle.texts.specs.declared.states.Stage.{Stage}
 use Rattle.texts.specs.declared.states.Stage.TheVariants as at
 use Rattle.texts.specs.declared.states.Reading.{Reading}
-use Rattle.texts.proofs.EndSteps.{told_one, told_two, told_four}
 
 -- ── what a byte or two stand for ──
 
@@ -44,6 +47,10 @@ stage_back at.FirstField = refl
 stage_back at.FieldLine = refl
 stage_back at.Lost = refl
 
+pub yes_byte : (b : Bool) → from_bool b ≡ yes_no b
+yes_byte true = refl
+yes_byte false = refl
+
 one_back : (n : ℕ) → n < 256 → low n ≡ n
 one_back n h = omega arith
 
@@ -56,71 +63,56 @@ rested_back false = refl
 
 -- ── a refusal ──
 
-told_small : (a : Note) → is_told (note_of a) ≡ true → a.number ≤ 10
-told_small a t = go (eqb a.number 0) refl
-  where
-    go : (b : Bool) → eqb a.number 0 ≡ b → a.number ≤ 10
-    go true e = omega (arith, eqb-true a.number 0 e)
-    go false e = (told_one a t e).1
+-- by its number and its place it is read again, and told as it is
+note_back : (a : Held Note) → (note_at (note_code a) (place_of a) ≡ a)
+    × (cond (eqb (note_code a) 0) none (some (refused (note_code a) (place_of a))) ≡ note_of a)
+unfolding note_at note_code
+note_back None = (refl, refl)
+note_back (Some by.BadByte) = (refl, refl)
+note_back (Some (by.BadLine p)) = (refl, refl)
+note_back (Some by.TooMany) = (refl, refl)
+note_back (Some (by.BadForm p)) = (refl, refl)
+note_back (Some (by.OverLimit p)) = (refl, refl)
+note_back (Some (by.Mismatch p)) = (refl, refl)
+note_back (Some (by.Repeated p)) = (refl, refl)
+note_back (Some (by.BadName p)) = (refl, refl)
+note_back (Some (by.BadRest p)) = (refl, refl)
 
-told_plain : (n p : ℕ) → (n ≡ 1 → ⊥) → n ≤ 10 → (n ≡ 2 → ⊥) → (n ≡ 4 → ⊥) → is_told (note_of (note n p)) ≡ true
-unfolding note_of
-told_plain n p one le two four = go (eqb n 0) refl
-  where
-    go : (b : Bool) → eqb n 0 ≡ b → is_told (note_of (note n p)) ≡ true
-    go true e = rw e refl
-    go false e =
-        let some : n ≡ 0 → ⊥ = eqb-false n 0 e in
-        let least : 2 ≤ n = omega arith in
-        rw (e, le-leb 2 n least, le-leb n 10 le, ne_eqb n 2 two, ne_eqb n 4 four) refl
+-- of a refusal the place is within the least that is allowed
+cond_placed : (b : Bool) (x y : Held Note) (m : ℕ) → place_of x ≤ m → place_of y ≤ m → place_of (cond b x y) ≤ m
+cond_placed true x y m p q = p
+cond_placed false x y m p q = q
 
-module _ (lines number place : ℕ) where
-  -- what is loaded where the number is none of a refusal
-  none_loaded : (a : Note) → a.number ≡ 0 → a.place ≡ 0
-      → (is_told (note_of (note number place)) ≡ true → ⊥) → LoadedNote lines number place a
-  unfolding note_of
-  none_loaded a n p not_told = record {
-    told = rw n refl;
-    placed = omega arith;
-    same = λ t h. absurd (not_told t);
-  }
+note_placed : (n p m : ℕ) → p ≤ m → place_of (note_at n p) ≤ m
+unfolding note_at
+note_placed n p m le =
+    cond_placed (eqb n 2) _ _ m (omega arith)
+    (cond_placed (eqb n 3) _ _ m le
+    (cond_placed (eqb n 4) _ _ m (omega arith)
+    (cond_placed (eqb n 5) _ _ m le
+    (cond_placed (eqb n 6) _ _ m le
+    (cond_placed (eqb n 7) _ _ m le
+    (cond_placed (eqb n 8) _ _ m le
+    (cond_placed (eqb n 9) _ _ m le
+    (cond_placed (eqb n 10) _ _ m le (omega arith)))))))))
 
-  pub one_loaded : (a : Note) → a.number ≡ 0 → a.place ≡ 0 → number ≡ 1 → LoadedNote lines number place a
-  one_loaded a n p e =
-      let some : eqb number 0 ≡ false = ne_eqb number 0 (λ z. omega arith) in
-      none_loaded a n p (λ t. absurd (omega (arith, told_one (note number place) t some)))
+cond_same : (b : Bool) (x y : Held Note) {x' y' : Held Note} {m : ℕ} → place_of (cond b x y) ≤ m
+    → (place_of x ≤ m → x' ≡ x) → (place_of y ≤ m → y' ≡ y) → cond b x' y' ≡ cond b x y
+cond_same true x y h f g = f h
+cond_same false x y h f g = g h
 
-  pub more_loaded : (a : Note) → a.number ≡ 0 → a.place ≡ 0 → 10 < number → LoadedNote lines number place a
-  more_loaded a n p lt = none_loaded a n p (λ t. absurd (omega (arith, told_small (note number place) t)))
-
-  -- and where it is that of a refusal with no place
-  bare_loaded : (n : ℕ) → number ≡ n → is_told (note_of (note n 0)) ≡ true
-      → (is_told (note_of (note number place)) ≡ true → place ≡ 0) → LoadedNote lines number place (note n 0)
-  bare_loaded n e t bare = record {
-    told = t;
-    placed = omega arith;
-    same = λ u h. rw (e, bare u) refl;
-  }
-
-  pub two_loaded : number ≡ 2 → LoadedNote lines number place (note 2 0)
-  unfolding note_of
-  two_loaded e =
-      let some : eqb number 0 ≡ false = ne_eqb number 0 (λ z. omega arith) in
-      bare_loaded 2 e refl (λ t. told_two (note number place) t some e)
-
-  pub four_loaded : number ≡ 4 → LoadedNote lines number place (note 4 0)
-  unfolding note_of
-  four_loaded e =
-      let some : eqb number 0 ≡ false = ne_eqb number 0 (λ z. omega arith) in
-      bare_loaded 4 e refl (λ t. told_four (note number place) t some e)
-
-  pub other_loaded : (q : ℕ) → (number ≡ 1 → ⊥) → number ≤ 10 → (number ≡ 2 → ⊥) → (number ≡ 4 → ⊥)
-      → q ≤ lines + 1 → (place ≤ lines + 1 → q ≡ place) → LoadedNote lines number place (note number q)
-  other_loaded q one le two four most same = record {
-    told = told_plain number q one le two four;
-    placed = most;
-    same = λ t h. ap (λ (z : ℕ). note number z) (same h);
-  }
+note_same : (n p m : ℕ) → place_of (note_at n p) ≤ m → note_at n (min p m) ≡ note_at n p
+unfolding note_at
+note_same n p m h =
+    cond_same (eqb n 2) _ _ h (λ le. refl) (λ h.
+    cond_same (eqb n 3) _ _ h (λ le. ap (λ (z : ℕ). Some (by.BadLine z)) (omega (arith, le))) (λ h.
+    cond_same (eqb n 4) _ _ h (λ le. refl) (λ h.
+    cond_same (eqb n 5) _ _ h (λ le. ap (λ (z : ℕ). Some (by.BadForm z)) (omega (arith, le))) (λ h.
+    cond_same (eqb n 6) _ _ h (λ le. ap (λ (z : ℕ). Some (by.OverLimit z)) (omega (arith, le))) (λ h.
+    cond_same (eqb n 7) _ _ h (λ le. ap (λ (z : ℕ). Some (by.Mismatch z)) (omega (arith, le))) (λ h.
+    cond_same (eqb n 8) _ _ h (λ le. ap (λ (z : ℕ). Some (by.Repeated z)) (omega (arith, le))) (λ h.
+    cond_same (eqb n 9) _ _ h (λ le. ap (λ (z : ℕ). Some (by.BadName z)) (omega (arith, le))) (λ h.
+    cond_same (eqb n 10) _ _ h (λ le. ap (λ (z : ℕ). Some (by.BadRest z)) (omega (arith, le))) (λ h. refl)))))))))
 
 -- ── a reading in its bytes ──
 
@@ -162,12 +154,31 @@ reading_front a b e =
 pub reading_take : (a b : List ℕ) → take 24 a ≡ take 24 b → reading_in a ≡ reading_in b
 reading_take a b e = reading_front a b (ap (λ (t : List ℕ). drop 4 t) e)
 
+-- and so does what they say of its refusal
+pub noted_same : (a b : List ℕ) → ((i : ℕ) → i < 20 → get_or a (4 + i) 0 ≡ get_or b (4 + i) 0) → NoteIn b → NoteIn a
+unfolding two_at
+noted_same a b e n =
+    let r = reading_same a b e in
+    let lines = ap (λ (x : Reading). x.lines) r in
+    let place : two_at a 22 ≡ two_at b 22 = rw (e 18 (omega arith), e 19 (omega arith)) refl in
+    let same : refusal_in a ≡ refusal_in b =
+    rw (e 16 (omega arith), e 18 (omega arith), e 19 (omega arith)) refl in
+    let placed = n.placed in record {
+      told = same ∙ n.told ∙ ap (λ (x : Reading). note_of x.note) (sym r);
+      placed = omega (arith, place, lines, placed);
+    }
+
+pub noted_take : (a b : List ℕ) → take 24 a ≡ take 24 b → NoteIn b → NoteIn a
+noted_take a b e = noted_same a b (λ i h. sym (byte a i h) ∙ ap (λ (t : List ℕ). get_or t (4 + i) 0) e ∙ byte b i h)
+  where
+    byte : (s : List ℕ) (i : ℕ) → i < 20 → get_or (take 24 s) (4 + i) 0 ≡ get_or s (4 + i) 0
+    byte s i h = get_or-take 24 s (4 + i) 0 (omega arith)
+
 -- the bytes of a reading behind four bytes
 reading_back : (r : Reading) → Fits text_most r → reading_in (0 ∷ 0 ∷ 0 ∷ 0 ∷ number_bytes r) ≡ r
 unfolding two_at
 reading_back r f =
     let room : Room r = f.0 in
-    let number : r.note.number ≤ 10 = told_small r.note room.told in
     rw (
       two_back r.lines (omega arith),
       stage_back r.stage,
@@ -181,10 +192,24 @@ reading_back r f =
       one_back r.fields (omega arith),
       two_back r.end (omega arith),
       rested_back r.rested,
-      one_back r.note.number (omega arith),
-      two_back r.note.place (omega arith),
+      two_back (place_of r.note) (omega arith),
+      (note_back r.note).0,
     )
     refl
+
+noted_back : (r : Reading) → Fits text_most r → NoteIn (0 ∷ 0 ∷ 0 ∷ 0 ∷ number_bytes r)
+unfolding two_at
+noted_back r f =
+    let s : List ℕ = 0 ∷ 0 ∷ 0 ∷ 0 ∷ number_bytes r in
+    let room : Room r = f.0 in
+    let same = reading_back r f in
+    let place : two_at s 22 ≡ place_of r.note = two_back (place_of r.note) (omega arith) in
+    let lines = ap (λ (x : Reading). x.lines) same in
+    let placed = room.placed in record {
+      told = ap (λ (p : ℕ). cond (eqb (note_code r.note) 0) none (some (refused (note_code r.note) p))) place
+          ∙ (note_back r.note).1 ∙ ap (λ (x : Reading). note_of x.note) (sym same);
+      placed = omega (arith, place, lines, placed);
+    }
 
 -- what is put in the place of the numbers is read again
 numbers_saved : {before after : List ℕ} {next : ℕ} (r : Reading) → line_at ≤ length before
@@ -199,6 +224,7 @@ numbers_saved {before} {after} {next} r room w =
           ∙ take-append-le 4 (take 4 before) (number_bytes r) (omega arith)
           ∙ take-take 4 4 before (omega arith);
       numbers = λ f. reading_same after (0 ∷ 0 ∷ 0 ∷ 0 ∷ number_bytes r) (λ i h. byte text four i h) ∙ reading_back r f;
+      noted = λ f. noted_same after (0 ∷ 0 ∷ 0 ∷ 0 ∷ number_bytes r) (λ i h. byte text four i h) (noted_back r f);
       beyond = rw end at w.beyond;
     }
   where
@@ -228,72 +254,59 @@ saved_same {before} {after} {r} s =
 
 -- ── what is loaded ──
 
--- the lesser and the greater of two numbers, as the code finds them
-abbrev Least : ℕ → ℕ → ℕ → Type 0
-Least a b r = (r ≤ a) × (r ≤ b) × (a ≤ b → r ≡ a)
+pub least_of : {x y r : ℕ} (b : ℕ) → x ≡ y → r ≡ min x b → r ≡ min y b
+least_of b e l = l ∙ ap (λ (z : ℕ). min z b) e
 
-abbrev Most : ℕ → ℕ → ℕ → Type 0
-Most a b r = (a ≤ r) × (b ≤ r) × (b ≤ a → r ≡ a) × (a ≤ b → r ≡ b)
-
-pub least_of : {x y b r : ℕ} → x ≡ y → Least x b r → Least y b r
-least_of {x} {y} {b} {r} e l = rw e at l
-
-pub note_of_lem : {lines x y p q : ℕ} {a : Note} → x ≡ y → p ≡ q → LoadedNote lines x p a → LoadedNote lines y q a
-note_of_lem e f l = rw (e, f) at l
+pub note_least : {x y r : ℕ} {a : Held Note} (n m : ℕ) → x ≡ y → r ≡ min x m → a ≡ note_at n r
+    → a ≡ note_at n (min y m)
+note_least n m e l is = is ∙ ap (note_at n) (l ∙ ap (λ (z : ℕ). min z m) e)
 
 -- the numbers of a reading, each as it is loaded
-module _ (s : List ℕ) {size : ℕ} {r : Reading} (end : ℕ)
-    (li : Least (two_at s 4) size r.lines)
+module _ (s : List ℕ) (size : ℕ) {r : Reading} (end : ℕ)
+    (li : r.lines ≡ min (two_at s 4) size)
     (st : r.stage ≡ stage_at (get_or s 6 0))
-    (wi : Least (get_or s 7 0) 32 r.width)
-    (na : Least (get_or s 8 0) label_most r.name)
-    (ro : Least (get_or s 9 0) row_lines_most r.row)
-    (ce : Least (get_or s 10 0) fields_most r.cells)
-    (co : Least (get_or s 11 0) fields_most r.count)
-    (fi : Least (get_or s 12 0) r.count r.fields)
+    (wi : r.width ≡ min (get_or s 7 0) 32)
+    (na : r.name ≡ min (get_or s 8 0) label_most)
+    (ro : r.row ≡ min (get_or s 9 0) row_lines_most)
+    (ce : r.cells ≡ min (get_or s 10 0) fields_most)
+    (co : r.count ≡ min (get_or s 11 0) fields_most)
+    (fi : r.fields ≡ min (get_or s 12 0) r.count)
     (re : r.rested ≡ eqb (get_or s 13 0) 1)
-    (sl : Least (two_at s 14) (slot_most * r.cells) r.slots)
-    (cl : Least (two_at s 16) r.slots r.cell)
-    (en : Least (two_at s 18) (label_most + record_most * r.fields) end)
-    (mo : Most end r.name r.end)
-    (nt : LoadedNote r.lines (get_or s 20 0) (two_at s 22) r.note) where
-  end_loaded : r.end ≤ label_most + record_most * r.fields
-  end_loaded = go (leb r.name end) refl
-    where
-      go : (b : Bool) → leb r.name end ≡ b → r.end ≤ label_most + record_most * r.fields
-      go true e = omega (arith, mo.2 (leb-true r.name end e), en.1)
-      go false e = omega (arith, mo.3 (omega (arith, leb-false r.name end e)), na.1)
-
+    (sl : r.slots ≡ min (two_at s 14) (slot_most * r.cells))
+    (cl : r.cell ≡ min (two_at s 16) r.slots)
+    (en : end ≡ min (two_at s 18) (label_most + record_most * r.fields))
+    (mo : r.end ≡ max end r.name)
+    (nt : r.note ≡ note_at (get_or s 20 0) (min (two_at s 22) (r.lines + 1))) where
   room_loaded : Room r
   room_loaded = record {
-    width = wi.1;
-    name = na.1;
-    row = ro.1;
-    front = mo.1;
-    cells = ce.1;
-    slots = sl.1;
-    cell = cl.1;
-    count = co.1;
-    fields = fi.1;
-    end = end_loaded;
-    told = nt.told;
-    placed = nt.placed;
+    width = omega arith;
+    name = omega arith;
+    row = omega arith;
+    front = omega arith;
+    cells = omega arith;
+    slots = omega arith;
+    cell = omega arith;
+    count = omega arith;
+    fields = omega arith;
+    end = omega arith;
+    placed = rw nt (note_placed (get_or s 20 0) (min (two_at s 22) (r.lines + 1)) (r.lines + 1) (omega arith));
   }
 
   same_loaded : Room (reading_in s) → two_at s 4 ≤ size → r ≡ reading_in s
   same_loaded f less =
-      let lines : r.lines ≡ two_at s 4 = li.2 less in
-      let width : r.width ≡ get_or s 7 0 = wi.2 f.width in
-      let name : r.name ≡ get_or s 8 0 = na.2 f.name in
-      let row : r.row ≡ get_or s 9 0 = ro.2 f.row in
-      let cells : r.cells ≡ get_or s 10 0 = ce.2 f.cells in
-      let count : r.count ≡ get_or s 11 0 = co.2 f.count in
-      let fields : r.fields ≡ get_or s 12 0 = fi.2 (omega (arith, f.fields, count)) in
-      let slots : r.slots ≡ two_at s 14 = sl.2 (omega (arith, f.slots, cells)) in
-      let cell : r.cell ≡ two_at s 16 = cl.2 (omega (arith, f.cell, slots)) in
-      let before : end ≡ two_at s 18 = en.2 (omega (arith, f.end, fields)) in
-      let last : r.end ≡ two_at s 18 = mo.2 (omega (arith, f.front, before, name)) ∙ before in
-      let told : r.note ≡ note (get_or s 20 0) (two_at s 22) = nt.same f.told (omega (arith, f.placed, lines)) in
+      let lines : r.lines ≡ two_at s 4 = omega arith in
+      let width : r.width ≡ get_or s 7 0 = omega (arith, f.width) in
+      let name : r.name ≡ get_or s 8 0 = omega (arith, f.name) in
+      let row : r.row ≡ get_or s 9 0 = omega (arith, f.row) in
+      let cells : r.cells ≡ get_or s 10 0 = omega (arith, f.cells) in
+      let count : r.count ≡ get_or s 11 0 = omega (arith, f.count) in
+      let fields : r.fields ≡ get_or s 12 0 = omega (arith, f.fields, count) in
+      let slots : r.slots ≡ two_at s 14 = omega (arith, f.slots, cells) in
+      let cell : r.cell ≡ two_at s 16 = omega (arith, f.cell, slots) in
+      let before : end ≡ two_at s 18 = omega (arith, f.end, fields) in
+      let last : r.end ≡ two_at s 18 = omega (arith, f.front, before, name) in
+      let told : r.note ≡ note_at (get_or s 20 0) (two_at s 22) =
+      nt ∙ note_same (get_or s 20 0) (two_at s 22) (r.lines + 1) (omega (arith, f.placed, lines)) in
       λ i. record {
         lines = lines i;
         stage = st i;
@@ -311,4 +324,4 @@ module _ (s : List ℕ) {size : ℕ} {r : Reading} (end : ℕ)
       }
 
   pub numbers_loaded : Loaded size s r
-  numbers_loaded = record { fits = (room_loaded, li.1); same = λ f. same_loaded f.0 f.1 }
+  numbers_loaded = record { fits = (room_loaded, omega arith); same = λ f. same_loaded f.0 f.1 }

@@ -13,11 +13,11 @@ use Rattle.writing.specs.Writes.{Writes}
 use Rattle.writing.specs.Puts.{placed, put}
 use Rattle.writing.proofs.PutLaws.{put_writes}
 use Rattle.texts.specs.HeldAreas.{held_room}
-use Rattle.texts.specs.StateNumbers.{used_at, row_at, counts_at, held_at, state_room, reading_in, Saved}
+use Rattle.texts.specs.StateNumbers.{used_at, row_at, counts_at, held_at, state_room, reading_in, NoteIn, Saved}
 use Rattle.texts.specs.PieceStates.{SameAround, row_bytes, count_bytes, held_bytes}
 use Rattle.texts.specs.declared.states.Reading.{Reading}
 use Rattle.texts.proofs.NameAreas.{front_less, front_part, back_less, written_front, written_word}
-use Rattle.texts.proofs.StateBytes.{reading_same, reading_take}
+use Rattle.texts.proofs.StateBytes.{reading_same, reading_take, noted_same, noted_take}
 
 -- in front of p and from q on they are the same
 pub record Changed (p q : ℕ) (before after : List ℕ) : Type 0 where
@@ -131,6 +131,12 @@ module _ {p q : ℕ} {a b : List ℕ} (c : Changed p q a b) where
 
   pub reading_behind : q ≤ 4 → reading_in b ≡ reading_in a
   reading_behind le = reading_same b a (λ i h. byte_behind (4 + i) (omega arith))
+
+  pub noted_before : 24 ≤ p → NoteIn a → NoteIn b
+  noted_before le = noted_take b a (front_less b a p 24 c.front le)
+
+  pub noted_behind : q ≤ 4 → NoteIn a → NoteIn b
+  noted_behind le = noted_same b a (λ i h. byte_behind (4 + i) (omega arith))
 
   -- the parts of a state
   pub row_behind : q ≤ row_at → row_bytes b ≡ row_bytes a

@@ -1,4 +1,6 @@
 -- What the code keeps behind a right line of which it keeps nothing, and behind a wrong line.
+use Rattle.std.specs.Prelude.{Option as Held, Some}
+use Rattle.texts.specs.declared.notes.Note.TheVariants.{BadLine}
 use mathlib.Core.Path.{◌≡◌, refl, ap, sym, subst, ◌∙◌}
 use mathlib.Core.Bool.{Bool, true, false, cond}
 use mathlib.Core.List.{List, [], ◌∷◌}
@@ -14,10 +16,10 @@ use Rattle.rules.specs.Rows.{Row}
 use Rattle.rules.specs.Limits.{line_most}
 use Rattle.text_laws.specs.Fold as fold
 use Rattle.texts.specs.HeldNames.{Names}
-use Rattle.texts.specs.Noted.{note_of}
+use Rattle.texts.specs.Noted.{place_of}
 use Rattle.texts.specs.RowPlaces.{strips_at, lines_in, RowKept}
-use Rattle.texts.specs.Changes.{note, awaits_field, changed, made_wrong, made_wrong_row, expected}
-use Rattle.texts.specs.States.{is_told, Room, Taken, stage_of}
+use Rattle.texts.specs.Changes.{awaits_field, changed, made_wrong, made_wrong_row, expected}
+use Rattle.texts.specs.States.{Room, Taken, stage_of}
 use Rattle.texts.specs.States.{Counts, Area, Records, Holds, FieldStep, HeadStep, HeadRow, RowStep, LineStep}
 use Rattle.text_laws.specs.Steady.{StandIn, is_head, row_goes, Steady}
 use Rattle.text_laws.proofs.Steadiness.{no_row, some_row}
@@ -43,9 +45,9 @@ same_nil (x ∷ l) = ne_eqb (length (x ∷ l)) 0 (λ e. absurd (omega (arith, e)
 
 -- ── safe ──
 
-pub room_changed : (r : Reading) (n : ℕ) (s : Stage) (a : Note) → is_told (note_of a) ≡ true → a.place ≤ n + 1
+pub room_changed : (r : Reading) (n : ℕ) (s : Stage) (a : Held Note) → place_of a ≤ n + 1
     → Room r → Room (changed r n s a)
-room_changed r n s a t p h = record {
+room_changed r n s a p h = record {
   width = h.width;
   name = h.name;
   row = h.row;
@@ -56,24 +58,21 @@ room_changed r n s a t p h = record {
   count = h.count;
   fields = h.fields;
   end = h.end;
-  told = t;
   placed = p;
 }
 
 pub taken_wrong : (r : Reading) → Room r → Taken r (made_wrong r)
-unfolding note_of
-taken_wrong r h = (room_changed r r.lines at.Lost (note 3 (r.lines + 1)) refl (omega arith) h, omega arith)
+taken_wrong r h = (room_changed r r.lines at.Lost (Some (BadLine (r.lines + 1))) (omega arith) h, omega arith)
 
 pub taken_wrong_row : (r : Reading) → Room r → Taken r (made_wrong_row r)
-unfolding note_of
-taken_wrong_row r h = (room_changed r r.lines at.Lost (note 3 r.lines) refl (omega arith) h, omega arith)
+taken_wrong_row r h = (room_changed r r.lines at.Lost (Some (BadLine r.lines)) (omega arith) h, omega arith)
 
-pub taken_onward : (r : Reading) (s : Stage) (a : Note) → is_told (note_of a) ≡ true → a.place ≤ r.lines + 1 → Room r
+pub taken_onward : (r : Reading) (s : Stage) (a : Held Note) → place_of a ≤ r.lines + 1 → Room r
     → Taken r (changed r (r.lines + 1) s a)
-taken_onward r s a t p h = (room_changed r (r.lines + 1) s a t (omega (arith, p)) h, omega arith)
+taken_onward r s a p h = (room_changed r (r.lines + 1) s a (omega (arith, p)) h, omega arith)
 
 pub taken_expect : (right : Bool) (r : Reading) (s : Stage) → Room r → Taken r (expected right r s)
-taken_expect true r s h = taken_onward r s r.note h.told h.placed h
+taken_expect true r s h = taken_onward r s r.note h.placed h
 taken_expect false r s h = taken_wrong r h
 
 -- ── what is held ──
@@ -122,8 +121,7 @@ module _ (f : fold.Found) (r : Reading) {cells : List ℕ} {table : Area} {label
 
   -- a refusal by 3
   holds_losing : (p k : ℕ) → k ≡ p
-      → Holds (fold.losing (refused 3 p) f) (changed r r.lines at.Lost (note 3 k)) cells table labels names
-  unfolding note_of
+      → Holds (fold.losing (refused 3 p) f) (changed r r.lines at.Lost (Some (BadLine k))) cells table labels names
   holds_losing p k e = record {
     counts = record {
       lines = h.counts.lines;
@@ -239,13 +237,10 @@ module _ (r : Reading) (l : List ℕ) (s : Stage) (told : r.stage ≡ s) where
   pub field_stage : ((f : fold.Found) → fold.lined_at (stage_of s) f l ≡ fold.with_field f l) → {q : Reading}
       (held held' : List ℕ) {row counts counts' : List ℕ} → length l ≤ line_most
       → FieldStep l r q held held' counts counts' → LineStep l r q held held' row row counts counts'
-  field_stage is held held' brief step = (
-    step.0,
-    refl,
-    at_stage (λ f k e g h.
-        let w = step.1 f k h in
-        rw (is f, le-leb (length l) line_most brief) (w, kept_same h.counts w.counts refl refl g)),
-  )
+  field_stage is held held' brief step =
+      at_stage (λ f k e g h.
+      let w = step f k h in
+      rw (is f, le-leb (length l) line_most brief) (w, kept_same h.counts w.counts refl refl g))
 
   -- a line in a row
   pub more_stage : s ≡ at.InRow → {q : Reading} {cells cells' row row' : List ℕ} {table : Area}
@@ -302,15 +297,11 @@ module _ (r : Reading) (l : List ℕ) (s : Stage) (told : r.stage ≡ s) where
         × ((counts : List ℕ) → LineStep l r (expected right r next) held held row row counts counts)
     expect_head want next right held room e is = (
       taken_expect right r next room,
-      λ counts. (
-        refl,
-        refl,
-        at_stage (λ f k t g h.
-            let o = no_row (stage_of s) k t outside in
-            let w = holds_expect f r h o (want f.width) l next right
-            (e ∙ ap (λ (w : ℕ). same l (want w)) h.counts.width) in
-            rw (is f) (w, kept_outside (expect_row f (want f.width) (stage_of next) ∙ o) w.counts.row)),
-      ),
+      λ counts. at_stage (λ f k t g h.
+          let o = no_row (stage_of s) k t outside in
+          let w = holds_expect f r h o (want f.width) l next right
+          (e ∙ ap (λ (w : ℕ). same l (want w)) h.counts.width) in
+          rw (is f) (w, kept_outside (expect_row f (want f.width) (stage_of next) ∙ o) w.counts.row)),
     )
       where
         expect_row : (f : fold.Found) (w : List ℕ) (n : fold.Stage) → (fold.expect w n f l).row ≡ f.row

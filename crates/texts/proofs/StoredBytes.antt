@@ -1,20 +1,11 @@
 -- Bytes put into the stored form of an expression.
 use mathlib.Core.Path.{◌≡◌, refl, ◌∙◌}
-use mathlib.Core.Bool.{cond, ◌&&◌}
 use mathlib.Core.List.{List, [], ◌∷◌, ◌++◌, append-nil}
-use Prim.Native.Nat.{ℕ, ◌+◌, ◌-◌, ◌≤◌, ◌<◌}
+use Prim.Native.Nat.{ℕ, ◌-◌, ◌≤◌, ◌<◌, min}
 use native.Mathlib.Omega.{arith}
-use native.Mathlib.Numerals.{add-one}
-use lib.Dec.{eqb}
-use lib.ListN.{length, take, drop, get_or, set, length-drop, drop_of_length-le}
+use lib.ListN.{length, take, drop, set, length-drop, drop_of_length-le}
 use borrow.Rule.Slice.PartMut.{put_mid, same_len_mid}
-use lib.Seq.{take_at, drop_at, length-take-le, take-suc, take-suc-set}
-use borrow.Author.Tests.{eq-eqb, ne_eqb}
-
--- one byte more is that of the other list
-pub shift_more : (out src : List ℕ) (i v : ℕ) → i < length out → i < length src → take i out ≡ take i src
-    → v ≡ get_or src i 0 → take (i + 1) (set out i v) ≡ take (i + 1) src
-shift_more out src i v lo hi e q = rw (add-one i, take-suc-set out i v lo, take-suc src i 0 hi, e, q) refl
+use lib.Seq.{take_at, drop_at, length-take-le}
 
 -- behind the first x of the bytes `before` others were put
 pub record Joined (x : ℕ) (before right after : List ℕ) : Type 0 where
@@ -42,6 +33,12 @@ joined_part x from before right le is k = record {
   back = λ h. (let e = is h in rw (← e) (part_back from before right le));
 }
 
+pub joined_min : (x from : ℕ) (before right : List ℕ) → from ≡ min x (length before)
+    → length right ≡ length (take (length before - from) (drop from before))
+    → Joined x before right (put_mid from (length before - from) before right)
+joined_min x from before right e k =
+    joined_part x from before right (omega (arith, e)) (λ h. omega (arith, e, h)) k
+
 -- the first bytes were written over, one by one
 pub set_two : (l : List ℕ) (a b : ℕ) → 1 < length l → take 2 (set (set l 0 a) 1 b) ≡ a ∷ b ∷ []
 set_two [] a b lt = absurd (omega arith)
@@ -58,12 +55,3 @@ set_five (x ∷ y ∷ z ∷ v ∷ []) a b c d e lt = absurd (omega arith)
 set_five (x ∷ y ∷ z ∷ v ∷ w ∷ l) a b c d e lt = refl
 
 -- ── the type of a whole ──
-
-pub both_same : (a b t g : ℕ) → a ≡ t → b ≡ t → g ≡ cond (eqb a t && eqb b t) g 0
-both_same a b t g p q = rw (eq-eqb a t p, eq-eqb b t q) refl
-
-pub first_other : (a b t g : ℕ) → (a ≡ t → ⊥) → 0 ≡ cond (eqb a t && eqb b t) g 0
-first_other a b t g p = rw (ne_eqb a t p) refl
-
-pub second_other : (a b t g : ℕ) → a ≡ t → (b ≡ t → ⊥) → 0 ≡ cond (eqb a t && eqb b t) g 0
-second_other a b t g p q = rw (eq-eqb a t p, ne_eqb b t q) refl

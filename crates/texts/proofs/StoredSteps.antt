@@ -9,14 +9,16 @@ use lib.Dec.{ltb}
 use lib.ListN.{length, take, drop, get_or, length-drop}
 use lib.Seq.{drop-cons, drop-length, take-add}
 use borrow.Author.Tests.{ne_eqb}
+use Rattle.std.specs.Prelude.{Option as CodeOption, None, Some}
+use Rattle.rules.specs.declared.ValueType.TheVariants.{Number}
 use Rattle.rules.specs.declared.Op.{Op}
 use Rattle.rules.specs.Operators.{code, number_code, field_code}
 use Rattle.rules.specs.Names.{is_short}
 use Rattle.rules.specs.Trees.{Tree, num, read, two, negation, depth, stored_tree, stored_length, le4}
-use Rattle.text_laws.specs.Reader.{Out, fail, got, word, behind, word_value, is_numeral, is_number_word, leaf}
+use Rattle.text_laws.specs.Reader.{got, word, behind, word_value, is_numeral, is_number_word, leaf}
 use Rattle.text_laws.specs.Reader.{close}
 use Rattle.texts.specs.HeldNames.{Names}
-use Rattle.texts.specs.StoredTrees.{look_up, type_of, TreeBytes, held, StoredIs, SameStored}
+use Rattle.texts.specs.StoredTrees.{look_up, type_of, TreeBytes, held, maybe_held, StoredIs, SameStored}
 use Rattle.texts.specs.StoredPlaces.{Made, NotMade, TwoMade, WithinStored, LeafStored}
 use Rattle.texts.specs.ExprPlaces.{wrap_of}
 use Rattle.texts.specs.StoredPlaces.{ClosedStored}
@@ -36,13 +38,14 @@ some_length (negation a) = omega arith
 
 module _ (names : Names) (n : ℕ) where
   pub is_name : (w : List ℕ) (at : ℕ) (r : TreeBytes)
-      → Made at (cond (ltb (look_up names n w) n) 1 0) 1 2 (field_code ∷ look_up names n w ∷ []) r
+      → Made at (cond (ltb (look_up names n w) n) (Some Number) None) 1 2 (field_code ∷ look_up names n w ∷ []) r
       → StoredIs names n (read w) r
   unfolding stored_tree type_of depth
   is_name w at r m =
       record { len = m.len; gives = m.gives; deep = m.deep; bytes = λ h. rw m.len (m.bytes (omega arith)) }
 
-  pub is_number : (v at : ℕ) (r : TreeBytes) → Made at 1 1 5 (number_code ∷ le4 v) r → StoredIs names n (num v) r
+  pub is_number : (v at : ℕ) (r : TreeBytes) → Made at (Some Number) 1 5 (number_code ∷ le4 v) r → StoredIs names n
+      (num v) r
   unfolding stored_tree type_of le4 depth
   is_number v at r m =
       record { len = m.len; gives = m.gives; deep = m.deep; bytes = λ h. rw m.len (m.bytes (omega arith)) }
@@ -98,64 +101,19 @@ module _ (names : Names) (n : ℕ) where
     bytes = λ h. rw (l, b) (x.bytes (rw b at h));
   }
 
-  -- ── the code's answer tells the reader's ──
+  -- ── the code's answer is the reader's ──
 
-  pub stored_fail : (s : List ℕ) (o : Out) (r : TreeBytes) → r.len ≡ 0 → SameStored names n s o r → o ≡ fail
-  unfolding SameStored
-  stored_fail s fail r e w = refl
-  stored_fail s (got t q) r e w =
-      let l : r.len ≡ stored_length t = w.0.len in
-      let g = some_length t in
-      absurd (omega arith)
-
-  pub record Held (s : List ℕ) (o : Out) (r : TreeBytes) : Type 0 where
-    pub tree : Tree (List ℕ)
-    pub is : o ≡ got tree (drop r.next s)
-    pub stored : StoredIs names n tree r
-
-  pub stored_got : (s : List ℕ) (o : Out) (r : TreeBytes) → (r.len ≡ 0 → ⊥) → SameStored names n s o r → Held s o r
-  unfolding SameStored
-  stored_got s fail r e w = absurd (e w)
-  stored_got s (got t q) r e w = record { tree = t; is = ap (λ (l : List ℕ). got t l) (sym w.1); stored = w.0 }
-
-  pub same_none : (s : List ℕ) (r : TreeBytes) → r.len ≡ 0 → SameStored names n s fail r
-  unfolding SameStored
-  same_none s r e = e
-
-  pub same_here : (s : List ℕ) (t : Tree (List ℕ)) (q : List ℕ) (r : TreeBytes) → StoredIs names n t r → drop
-      r.next s ≡ q
-      → SameStored names n s (got t q) r
-  unfolding SameStored
-  same_here s t q r x e = (x, e)
+  pub same_here : (s : List ℕ) (t : Tree (List ℕ)) (q : List ℕ) (r : TreeBytes) → StoredIs names n t r
+      → drop r.next s ≡ q → SameStored names n s (got t q) (Some r)
+  same_here s t q r x e = record { tree = t; is_read = ap (got t) (sym e); stored = x }
 
 -- ── places ──
 
-pub none_within : (s : List ℕ) (lo at z : ℕ) (r : StoredTree) → r.len ≡ 0 → WithinStored s lo at z r
-none_within s lo at z r e = record {
-  low = λ h. absurd (omega (arith, e));
-  high = λ h. absurd (omega (arith, e));
-  grown = λ h. absurd (omega (arith, e));
-  flat = λ h. absurd (omega (arith, e));
-}
-
-pub here_within : (s : List ℕ) (lo at z : ℕ) (r : StoredTree) → lo ≤ r.next → r.next ≤ length s
-    → r.len + 5 * at ≤ z + 5 * r.next → r.depth ≤ r.len → WithinStored s lo at z r
-here_within s lo at z r a b c d = record { low = λ h. a; high = λ h. b; grown = λ h. c; flat = λ h. d }
-
 -- from a later place on
-pub up_within : (s : List ℕ) (lo at z lo' at' z' : ℕ) (r : StoredTree) → lo' ≤ lo → z + 5 * at' ≤ z' + 5 * at
-    → WithinStored s lo at z r → WithinStored s lo' at' z' r
-up_within s lo at z lo' at' z' r a b w = record {
-  low = λ h. (let p = w.low h in omega arith);
-  high = w.high;
-  grown = λ h. (let p = w.grown h in omega arith);
-  flat = w.flat;
-}
-
--- where there is an expression
-pub got_within : (s : List ℕ) (lo at z : ℕ) (r : StoredTree) → (r.len ≡ 0 → ⊥) → WithinStored s lo at z r
-    → (lo ≤ r.next) × (r.next ≤ length s) × (r.len + 5 * at ≤ z + 5 * r.next) × (r.depth ≤ r.len)
-got_within s lo at z r e w = let h : 0 < r.len = omega (arith, e) in (w.low h, w.high h, w.grown h, w.flat h)
+pub up_within : (s : List ℕ) (lo at z lo' at' z' : ℕ) (r : CodeOption StoredTree) → lo' ≤ lo
+    → z + 5 * at' ≤ z' + 5 * at → WithinStored s lo at z r → WithinStored s lo' at' z' r
+up_within s lo at z lo' at' z' None a b w = tt
+up_within s lo at z lo' at' z' (Some t) a b w = (omega (arith, a, w.0), w.1, omega (arith, b, w.2), w.3)
 
 -- ── a leaf ──
 
@@ -164,20 +122,19 @@ module _ (names : Names) (n : ℕ) (s : List ℕ) (at end : ℕ) (lo : at ≤ en
   part_is : take (end - at) (drop at s) ≡ word (drop at s)
   part_is = word_part s at end lo hi e
 
-  abbrev pub LeafMade : StoredTree → List ℕ → Type 0
-  LeafMade r bytes = WithinStored s (at + 1) at 0 r × LeafStored names n s at (held r bytes)
+  abbrev pub LeafMade : CodeOption StoredTree → List ℕ → Type 0
+  LeafMade r bytes = WithinStored s (at + 1) at 0 r × LeafStored names n s at (maybe_held r bytes)
 
   pub leaf_name : (i : ℕ) (r : StoredTree) (bytes : List ℕ) → is_short (take (end - at) (drop at s)) ≡ true
       → i ≡ look_up names n (take (end - at) (drop at s))
-      → Made end (cond (ltb i n) 1 0) 1 2 (field_code ∷ i ∷ []) (held r bytes) → LeafMade r bytes
+      → Made end (cond (ltb i n) (Some Number) None) 1 2 (field_code ∷ i ∷ []) (held r bytes) → LeafMade (Some r) bytes
   unfolding leaf is_short
   leaf_name i r bytes y q m =
       let u : at + 1 ≤ end = longer s at end lo hi e is_short refl y in
       let x : StoredIs names n (read (word (drop at s))) (held r bytes) =
       is_name names n (word (drop at s)) end (held r bytes) (rw part_is at (rw q at m)) in
       let d : drop r.next s ≡ behind (drop at s) = rw m.next e in (
-        here_within s (at + 1) at 0 r (rw m.next u) (rw m.next hi) (rw (m.next, m.len) (omega arith))
-            (rw (m.deep, m.len) (omega arith)),
+        (rw m.next u, rw m.next hi, rw (m.next, m.len) (omega arith), rw (m.deep, m.len) (omega arith)),
         rw (rw part_is at y, leaf) (same_here names n s (read (word (drop at s))) (behind (drop at s)) (held r bytes)
             x d),
       )
@@ -185,7 +142,7 @@ module _ (names : Names) (n : ℕ) (s : List ℕ) (at end : ℕ) (lo : at ≤ en
   pub leaf_number : (v : ℕ) (r : StoredTree) (bytes : List ℕ) → is_short (take (end - at) (drop at s)) ≡ false
       → is_number_word (take (end - at) (drop at s)) ≡ true
       → (is_number_word (take (end - at) (drop at s)) ≡ true → v ≡ word_value (take (end - at) (drop at s)))
-      → Made end 1 1 5 (number_code ∷ le4 v) (held r bytes) → LeafMade r bytes
+      → Made end (Some Number) 1 5 (number_code ∷ le4 v) (held r bytes) → LeafMade (Some r) bytes
   unfolding leaf is_number_word is_numeral
   leaf_number v r bytes k y q m =
       let u : at + 1 ≤ end = longer s at end lo hi e is_number_word refl y in
@@ -193,66 +150,57 @@ module _ (names : Names) (n : ℕ) (s : List ℕ) (at end : ℕ) (lo : at ≤ en
       is_number names n (word_value (word (drop at s))) end (held r bytes)
       (rw part_is at (rw (q y) at m)) in
       let d : drop r.next s ≡ behind (drop at s) = rw m.next e in (
-        here_within s (at + 1) at 0 r (rw m.next u) (rw m.next hi) (rw (m.next, m.len) (omega arith))
-            (rw (m.deep, m.len) (omega arith)),
+        (rw m.next u, rw m.next hi, rw (m.next, m.len) (omega arith), rw (m.deep, m.len) (omega arith)),
         rw (rw part_is at k, leaf, rw part_is at y)
             (same_here names n s (num (word_value (word (drop at s)))) (behind (drop at s)) (held r bytes) x d),
       )
 
-  pub leaf_none : (r : StoredTree) (bytes : List ℕ) → is_short (take (end - at) (drop at s)) ≡ false
-      → is_number_word (take (end - at) (drop at s)) ≡ false → r.len ≡ 0 → LeafMade r bytes
+  pub leaf_none : (bytes : List ℕ) → is_short (take (end - at) (drop at s)) ≡ false
+      → is_number_word (take (end - at) (drop at s)) ≡ false → LeafMade None bytes
   unfolding leaf is_number_word
-  leaf_none r bytes k y z = (
-    none_within s (at + 1) at 0 r z,
-    rw (rw part_is at k, leaf, rw part_is at y) (same_none names n s (held r
-        bytes) z),
-  )
+  leaf_none bytes k y = (tt, rw (rw part_is at k, leaf, rw part_is at y) refl)
 
 -- ── the closing parenthesis ──
 
-module _ (s : List ℕ) (p r : StoredTree) (neg : Bool) (before after : List ℕ) where
-  abbrev pub ClosedMade : Type 0
-  ClosedMade =
-      WithinStored s (p.next + 1) p.next p.len r × ClosedStored s neg (held p before) (held r after)
+module _ (s : List ℕ) (p : StoredTree) (neg : Bool) (before after : List ℕ) where
+  abbrev pub ClosedMade : CodeOption StoredTree → Type 0
+  ClosedMade r =
+      WithinStored s (p.next + 1) p.next p.len r × ClosedStored s neg (held p before) (maybe_held r after)
 
-  pub close_end : p.next ≡ length s → r.len ≡ 0 → ClosedMade
+  pub close_end : p.next ≡ length s → ClosedMade None
   unfolding close
-  close_end q e = (
-    none_within s (p.next + 1) p.next p.len r e,
-    λ names n t x. rw (q, drop-length) (same_none names n s (held r after) e),
-  )
+  close_end q = (tt, λ names n t x. rw (q, drop-length) refl)
 
-  pub close_no : p.next < length s → (get_or s p.next 0 ≡ 41 → ⊥) → r.len ≡ 0 → ClosedMade
+  pub close_no : p.next < length s → (get_or s p.next 0 ≡ 41 → ⊥) → ClosedMade None
   unfolding close
-  close_no lt q e = (
-    none_within s (p.next + 1) p.next p.len r e,
-    λ names n t x. rw (drop-cons s p.next 0 lt, ne_eqb (get_or s p.next 0) 41 q, close)
-        (same_none names n s (held r after) e),
-  )
+  close_no lt q = (tt, λ names n t x. rw (drop-cons s p.next 0 lt, ne_eqb (get_or s p.next 0) 41 q, close) refl)
 
   -- what stands behind the parenthesis
-  close_yes : (names : Names) (n : ℕ) (t : Tree (List ℕ)) → p.next < length s → get_or s p.next 0 ≡ 41
+  close_yes : (r : StoredTree) (names : Names) (n : ℕ) (t : Tree (List ℕ)) → p.next < length s → get_or s p.next 0 ≡ 41
       → r.next ≡ p.next + 1 → StoredIs names n (wrap_of neg t) (held r after)
-      → SameStored names n s (close (wrap_of neg) (got t (drop p.next s))) (held r after)
+      → SameStored names n s (close (wrap_of neg) (got t (drop p.next s))) (Some (held r after))
   unfolding close
-  close_yes names n t lt q e x =
+  close_yes r names n t lt q e x =
       rw (drop-cons s p.next 0 lt, q)
       (same_here names n s (wrap_of neg t) (drop (suc p.next) s) (held r after) x (rw (e, add-one p.next) refl))
 
-  pub close_not : p.next < length s → get_or s p.next 0 ≡ 41 → neg ≡ true → p.depth ≤ p.len
-      → length after ≡ length before → NotMade p before (p.next + 1) (held r after) → ClosedMade
-  close_not lt q y d k m = (
-    here_within s (p.next + 1) p.next p.len r (rw m.next (omega arith)) (rw m.next (omega arith))
-        (rw (m.next, m.len) (omega arith)) (rw (m.deep, m.len) (omega arith)),
-    λ names n t x. close_yes names n t lt q m.next
+  pub close_not : (r : StoredTree) → p.next < length s → get_or s p.next 0 ≡ 41 → neg ≡ true → p.depth ≤ p.len
+      → length after ≡ length before → NotMade p before (p.next + 1) (held r after) → ClosedMade (Some r)
+  close_not r lt q y d k m = (
+    (
+      rw m.next (omega arith),
+      rw m.next (omega arith),
+      rw (m.next, m.len) (omega arith),
+      rw (m.deep, m.len) (omega arith),
+    ),
+    λ names n t x. close_yes r names n t lt q m.next
         (rw y (is_not names n p before (p.next + 1) (held r after) t k m x)),
   )
 
-  pub close_same : p.next < length s → get_or s p.next 0 ≡ 41 → neg ≡ false → r.next ≡ p.next + 1
+  pub close_same : (r : StoredTree) → p.next < length s → get_or s p.next 0 ≡ 41 → neg ≡ false → r.next ≡ p.next + 1
       → r.gives ≡ p.gives → r.depth ≡ p.depth → r.len ≡ p.len → after ≡ before → p.depth ≤ p.len
-      → ClosedMade
-  close_same lt q y e k d l b f = (
-    here_within s (p.next + 1) p.next p.len r (rw e (omega arith)) (rw e (omega arith))
-        (rw (e, l) (omega arith)) (rw (d, l) f),
-    λ names n t x. close_yes names n t lt q e (rw y (is_moved names n p r t before after k d l b x)),
+      → ClosedMade (Some r)
+  close_same r lt q y e k d l b f = (
+    (rw e (omega arith), rw e (omega arith), rw (e, l) (omega arith), rw (d, l) f),
+    λ names n t x. close_yes r names n t lt q e (rw y (is_moved names n p r t before after k d l b x)),
   )

@@ -80,6 +80,7 @@ module _ (s piece : List ℕ) (size : ℕ) (w : Walked) {used : ℕ} {r : Readin
         let is = walked.walking.is in
         record {
           fits = subst (λ (x : Reading). Fits (size + w.at) x) (sym stored_reading) (left.0, behind_lines);
+          noted = stored.noted walked_fits;
           used = (let z = stored.used in omega (arith, z));
           free = refl;
           short = omega arith;

@@ -1,5 +1,5 @@
 -- Operators that may stand at a level, as the code finds them, against the steps of the reader.
-use mathlib.Core.Path.{◌≡◌, refl}
+use mathlib.Core.Path.{◌≡◌, refl, ap, sym}
 use mathlib.Core.Bool.{Bool, true, false, cond, ◌&&◌, ◌||◌}
 use mathlib.Core.Logic.{◌⊎◌, inl, inr}
 use mathlib.Core.List.{List}
@@ -17,12 +17,10 @@ use Rattle.text_laws.specs.Reader.{Out, Found, missing, found, first_of, order, 
 use Rattle.text_laws.proofs.OperatorTable.{each}
 use Rattle.operators.specs.declared.rows.Row.{Row}
 use Rattle.operators.specs.Rows.{row_of}
-use Rattle.texts.specs.ExprPlaces.{SameSign, WithinSign, taken_in, SameTaken, WithinTaken}
+use Rattle.texts.specs.ExprPlaces.{SameSign, WithinSign, taken_by as taken_of, taken_in, SameTaken, WithinTaken}
 use Rattle.texts.specs.Chains.{tightest_level}
-use Rattle.texts.specs.declared.signs.Sign.{Sign}
-use Rattle.texts.specs.declared.signs.Sign.TheVariants as sign
+use Rattle.std.specs.Prelude.{Option, None, Some}
 use Rattle.texts.specs.declared.signs.Taken.{Taken}
-use Rattle.texts.specs.declared.signs.Taken.TheVariants as taken
 use Rattle.texts.proofs.OperatorRows.{row_level, row_left, row_right}
 use Rattle.texts.proofs.ExprSigns.{sign_none, sign_some, sign_within}
 use Rattle.texts.proofs.ExprSteps.{row_stops}
@@ -30,33 +28,33 @@ use Rattle.texts.proofs.ExprSteps.{row_stops}
 -- ── what the code finds ──
 
 -- the sign g behind a space or none, at `from`
-module _ (s : List ℕ) (at from k h : ℕ) (g : Sign) (skips : drop from s ≡ skip (drop at s))
+module _ (s : List ℕ) (at from k h : ℕ) (g : Option (Op × ℕ)) (skips : drop from s ≡ skip (drop at s))
     (w : SameSign s (first_of order (drop from s)) g) where
-  abbrev pub TakenHere : Taken → Type 0
+  abbrev pub TakenHere : Option Taken → Type 0
   TakenHere r = WithinTaken s at r × SameTaken s (taken_in k h (operator_at (drop at s))) r
 
-  pub taken_none : g ≡ sign.Nothing → TakenHere taken.Nothing
+  pub taken_none : g ≡ None → TakenHere None
   unfolding taken_in SameTaken WithinTaken operator_at skip_behind
   taken_none e =
       let q : first_of order (skip (drop at s)) ≡ missing =
       rw skips at (sign_none s (first_of order (drop from s)) g e w) in
       (tt, rw q refl)
 
-  operator_is : (o : Op) (n : ℕ) → g ≡ sign.At o n → operator_at (drop at s) ≡ found o (skip (drop n s))
+  operator_is : (o : Op) (n : ℕ) → g ≡ Some (o, n) → operator_at (drop at s) ≡ found o (skip (drop n s))
   unfolding operator_at skip_behind
   operator_is o n i =
       let q : first_of order (skip (drop at s)) ≡ found o (drop n s) =
       rw skips at (sign_some s (first_of order (drop from s)) g o n i w) in
       rw q refl
 
-  pub taken_stop : (o : Op) (n : ℕ) → g ≡ sign.At o n → (row : Row) → row ≡ row_of o
-      → (row.level < k) ⊎ (h < row.left) → TakenHere taken.Nothing
+  pub taken_stop : (o : Op) (n : ℕ) → g ≡ Some (o, n) → (row : Row) → row ≡ row_of o
+      → (row.level < k) ⊎ (h < row.left) → TakenHere None
   unfolding taken_in SameTaken WithinTaken
   taken_stop o n i row is out = (tt, rw (operator_is o n i, row_stops k h o row is out) refl)
 
-  pub taken_by : (o : Op) (n : ℕ) → g ≡ sign.At o n → (row : Row) → row ≡ row_of o → k ≤ row.level → row.left ≤ h
+  pub taken_by : (o : Op) (n : ℕ) → g ≡ Some (o, n) → (row : Row) → row ≡ row_of o → k ≤ row.level → row.left ≤ h
       → at ≤ from → WithinSign s from g → (m : ℕ) → n ≤ m → m ≤ length s → drop m s ≡ skip (drop n s)
-      → TakenHere (taken.By o m row.level row.right)
+      → TakenHere (Some (record { op = o; end = m; level = row.level; right = row.right }))
   unfolding taken_in SameTaken WithinTaken
   taken_by o n i row is kl lh lo u m nm hi d =
       let l : k ≤ level o = omega (arith, row_level row o is) in
@@ -69,28 +67,31 @@ module _ (s : List ℕ) (at from k h : ℕ) (g : Sign) (skips : drop from s ≡ 
 
 -- ── what it tells ──
 
-pub is_missing_lem : (s : List ℕ) (a : Found) (r : Taken) → r ≡ taken.Nothing → SameTaken s a r → a ≡ missing
+pub is_missing_lem : (s : List ℕ) (a : Found) (r : Option Taken) → r ≡ None → SameTaken s a r → a ≡ missing
 unfolding SameTaken
 is_missing_lem s missing r e w = refl
 is_missing_lem s (found o q) r e w = let e' = w.1 in cc
 
-pub record Told (s : List ℕ) (at : ℕ) (a : Found) (o : Op) (n l q : ℕ) : Type 0 where
-  pub found : a ≡ found o (drop n s)
-  pub low : at < n
-  pub high : n ≤ length s
-  pub level : l ≡ level o
-  pub right : q ≡ right_level o
+pub record Told (s : List ℕ) (at : ℕ) (a : Found) (t : Taken) : Type 0 where
+  pub found : a ≡ found t.op (drop t.end s)
+  pub low : at < t.end
+  pub high : t.end ≤ length s
+  pub level : t.level ≡ level t.op
+  pub right : t.right ≡ right_level t.op
 
-pub is_found : (s : List ℕ) (at : ℕ) (a : Found) (r : Taken) (o : Op) (n l q : ℕ) → r ≡ taken.By o n l q
-    → WithinTaken s at r → SameTaken s a r → Told s at a o n l q
+pub is_found : (s : List ℕ) (at : ℕ) (a : Found) (r : Option Taken) (t : Taken) → r ≡ Some t
+    → WithinTaken s at r → SameTaken s a r → Told s at a t
 unfolding WithinTaken SameTaken
-is_found s at a r o n l q p i w =
-    let u : (at < n) × (n ≤ length s) = rw p at i in
+is_found s at a r t p i w =
+    let u : (at < t.end) × (t.end ≤ length s) = rw p at i in
     let f = by a w in record { found = f.0; low = u.0; high = u.1; level = f.1; right = f.2 }
   where
-    by : (a : Found) → SameTaken s a r → (a ≡ found o (drop n s)) × (l ≡ level o) × (q ≡ right_level o)
+    by : (a : Found) → SameTaken s a r
+        → (a ≡ found t.op (drop t.end s)) × (t.level ≡ level t.op) × (t.right ≡ right_level t.op)
     by missing w = let z : ◌≡◌ {A = ℕ} 0 1 = cc in absurd (omega arith)
-    by (found o' r') w = let e' = w.1 in let d = w.2 in (cc, cc, cc)
+    by (found o' r') w =
+        let e' : t ≡ taken_of o' w.0 = cc in
+        rw e' (ap (found o') (sym w.2), refl, refl)
 
 -- ── the reader's step ──
 

@@ -4,53 +4,41 @@ use mathlib.Core.Bool.{Bool, true, false, cond, ◌&&◌}
 use mathlib.Core.List.{List}
 use Prim.Native.Nat.{ℕ, ◌+◌, ◌-◌, ◌≤◌}
 use native.Mathlib.Omega.{arith}
-use lib.Dec.{eqb}
 use lib.ListN.{length, take, drop, length-drop}
 use lib.Seq.{length-take-le}
+use Rattle.std.specs.Prelude.{None, Some}
 use Rattle.rules.specs.declared.ValueType.{ValueType}
 use Rattle.rules.specs.declared.ValueType.TheVariants.{Number, YesNo}
 use Rattle.rules.specs.Operators.{takes, gives}
 use Rattle.rules.specs.Trees.{Tree, num, read, two, negation, same_type, has_type}
 use Rattle.texts.specs.PartPlaces.{span_in}
-use Rattle.texts.specs.StoredTrees.{type_code, type_of}
+use Rattle.texts.specs.StoredTrees.{is_type, type_of}
 use Rattle.texts.proofs.LineSearches.{part_text}
 use Rattle.writing.specs.declared.spans.Span.{Span}
 
--- ── the type of a tree as a number ──
+-- ── the type of a tree ──
 
 module _ {N : Type 0} (may : N → Bool) where
-  code_same : (k j : ValueType) → same_type k j ≡ eqb (type_code j) (type_code k)
-  unfolding type_code
-  code_same Number Number = refl
-  code_same Number YesNo = refl
-  code_same YesNo Number = refl
-  code_same YesNo YesNo = refl
-
-  code_some : (k : ValueType) → eqb 0 (type_code k) ≡ false
-  unfolding type_code
-  code_some Number = refl
-  code_some YesNo = refl
-
-  by_test : (k j : ValueType) (x : Bool) → same_type k j && x ≡ eqb (cond x (type_code j) 0) (type_code k)
-  by_test k j true = rw (code_same k j) (and_true' (eqb (type_code j) (type_code k)))
+  by_test : (k j : ValueType) (x : Bool) → same_type k j && x ≡ is_type k (cond x (Some j) None)
+  by_test k j true = and_true' (same_type k j)
     where
       and_true' : (b : Bool) → b && true ≡ b
       and_true' true = refl
       and_true' false = refl
-  by_test k j false = rw (code_some k) (and_false' (same_type k j))
+  by_test k j false = and_false' (same_type k j)
     where
       and_false' : (b : Bool) → b && false ≡ false
       and_false' true = refl
       and_false' false = refl
 
-  pub type_code_lem : (k : ValueType) (t : Tree N) → has_type may k t ≡ eqb (type_of may t) (type_code k)
-  unfolding has_type type_of type_code
-  type_code_lem k (num n) = code_same k Number
-  type_code_lem k (read a) = by_test k Number (may a)
-  type_code_lem k (two o a b) =
-      rw (type_code_lem (takes o) a, type_code_lem (takes o) b)
-      (by_test k (gives o) (eqb (type_of may a) (type_code (takes o)) && eqb (type_of may b) (type_code (takes o))))
-  type_code_lem k (negation a) = rw (type_code_lem YesNo a) (by_test k YesNo (eqb (type_of may a) 2))
+  pub type_of_lem : (k : ValueType) (t : Tree N) → has_type may k t ≡ is_type k (type_of may t)
+  unfolding has_type type_of
+  type_of_lem k (num n) = refl
+  type_of_lem k (read a) = by_test k Number (may a)
+  type_of_lem k (two o a b) =
+      rw (type_of_lem (takes o) a, type_of_lem (takes o) b)
+      (by_test k (gives o) (is_type (takes o) (type_of may a) && is_type (takes o) (type_of may b)))
+  type_of_lem k (negation a) = rw (type_of_lem YesNo a) (by_test k YesNo (is_type YesNo (type_of may a)))
 
 -- ── a line as a part of the text ──
 

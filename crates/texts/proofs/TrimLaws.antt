@@ -2,31 +2,14 @@
 use mathlib.Core.Path.{◌≡◌, refl, ap, sym, ◌∙◌}
 use mathlib.Core.Bool.{true, false}
 use mathlib.Core.List.{List, [], ◌∷◌, ◌++◌}
-use Prim.Native.Nat.{ℕ, zero, suc, ◌+◌, ◌-◌, ◌≤◌, ◌<◌}
+use Prim.Native.Nat.{ℕ, zero, suc, ◌-◌, ◌≤◌, ◌<◌}
 use native.Mathlib.Omega.{arith}
-use native.Mathlib.Numerals.{add-one}
 use native.Mathlib.Nat.{le_of_suc-le-suc}
-use lib.ListN.{length, take, drop, get_or}
-use lib.Seq.{drop-cons, drop-length}
+use lib.ListN.{length, take, get_or}
 use borrow.Author.Tests.{eqb-true}
 use Rattle.rules.specs.Names.{is_space}
-use Rattle.rules.specs.Rows.{left_trim, keep_end, right_trim}
+use Rattle.rules.specs.Rows.{keep_end, right_trim}
 use Rattle.text_laws.proofs.RowCells.{right_pad}
-
--- ── spaces in front ──
-
-module _ (s : List ℕ) (at : ℕ) where
-  pub left_end : length s ≤ at → at ≤ length s → drop at s ≡ left_trim (drop at s)
-  unfolding left_trim
-  left_end le le' = let e : at ≡ length s = omega arith in rw (e, drop-length) refl
-
-  pub left_stop : at < length s → is_space (get_or s at 0) ≡ false → drop at s ≡ left_trim (drop at s)
-  unfolding left_trim
-  left_stop lt e = rw (drop-cons s at 0 lt, e) refl
-
-  pub left_step : at < length s → is_space (get_or s at 0) ≡ true → left_trim (drop at s) ≡ left_trim (drop (at + 1) s)
-  unfolding left_trim
-  left_step lt e = rw (drop-cons s at 0 lt, e, add-one at) refl
 
 -- ── spaces at the end ──
 

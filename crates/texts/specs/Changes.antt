@@ -1,13 +1,11 @@
 -- What a line changes in the numbers that the code keeps: mirrors the code, no public promise rests on it.
-use Rattle.std.specs.Prelude.{Bool, true, false, cond, ℕ, ◌+◌, ◌-◌, ltb}
+use Rattle.std.specs.Prelude.{Option, Some, None, Bool, true, false, cond, ℕ, ◌+◌, ◌-◌, ltb}
 use Rattle.rules.specs.Limits.{fields_most}
 use Rattle.texts.specs.declared.notes.Note.{Note}
+use Rattle.texts.specs.declared.notes.Note.TheVariants.{BadLine, TooMany}
 use Rattle.texts.specs.declared.states.Stage.{Stage}
 use Rattle.texts.specs.declared.states.Stage.TheVariants as at
 use Rattle.texts.specs.declared.states.Reading.{Reading}
-
-abbrev pub note : ℕ → ℕ → Note
-note number place = record { number = number; place = place }
 
 -- a field line must come next
 abbrev pub awaits_field : Stage → Bool
@@ -39,11 +37,11 @@ begun_with = record {
   fields = 0;
   end = 0;
   rested = false;
-  note = note 0 0;
+  note = None;
 }
 
 -- with other lines, another line that must come, another refusal
-abbrev pub changed : Reading → ℕ → Stage → Note → Reading
+abbrev pub changed : Reading → ℕ → Stage → Option Note → Reading
 changed r lines s n = record {
   lines = lines;
   stage = s;
@@ -116,17 +114,17 @@ with_lines r n = record {
 
 -- behind a wrong line
 abbrev pub made_wrong : Reading → Reading
-made_wrong r = changed r r.lines at.Lost (note 3 (r.lines + 1))
+made_wrong r = changed r r.lines at.Lost (Some (BadLine (r.lines + 1)))
 
 -- behind a row with a cell whose text is no label
 abbrev pub made_wrong_row : Reading → Reading
-made_wrong_row r = changed r r.lines at.Lost (note 3 r.lines)
+made_wrong_row r = changed r r.lines at.Lost (Some (BadLine r.lines))
 
 -- behind the border of a row with so many cells, which are kept up to a place: 4 where they are too many
 abbrev pub row_ended : Reading → ℕ → ℕ → Reading
 row_ended r next n =
     cond (ltb (fields_most - r.cells) n)
-    (changed (with_lines r 0) (r.lines + 1) at.RowOrBlank (note 4 0))
+    (changed (with_lines r 0) (r.lines + 1) at.RowOrBlank (Some TooMany))
     (changed (with_head (with_lines r 0) r.width r.name r.end (r.cells + n) next) (r.lines + 1) at.RowOrBlank
     r.note)
 

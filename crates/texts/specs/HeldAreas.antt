@@ -41,4 +41,4 @@ abbrev pub label_bytes : List ℕ → List ℕ
 label_bytes held = take labels_room (drop labels_at held)
 
 abbrev pub table_bytes : List ℕ → List ℕ
-table_bytes held = drop table_at held
+table_bytes held = take records_most (drop table_at held)

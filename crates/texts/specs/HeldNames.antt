@@ -3,7 +3,6 @@ use Rattle.std.specs.Prelude.{◌≡◌, Bool, true, cond, ◌&&◌, ◌||◌, n
 use Rattle.std.specs.Prelude.{◌<◌, eqb, ltb, length, take, drop, get_or, set}
 use Rattle.base.specs.Lists.{same}
 use Rattle.rules.specs.Limits.{fields_most, label_most, short_most}
-use Rattle.names.specs.Classes.{class_table}
 use Rattle.rules.specs.Fields.{Form, is_fixed}
 use Rattle.rules.specs.Stored.{stored_name}
 use Rattle.names.specs.Repeats.{first_from, pad_to, held_word, names_meet}
@@ -88,19 +87,14 @@ pub record Kept (before : Names) (n : ℕ) (after : Names) : Type 0 where
   pub marks : (i : ℕ) → i < n → get_or after.marks i 0 ≡ get_or before.marks i 0
   pub starts : Lowered before.starts n after.starts
 
--- those of the line s are put at the index n: its label, its short name, and the mark by its kind
-pub record OwnPut (before : Names) (n : ℕ) (s : List ℕ) (label : ℕ) (short : Span) (kind : ℕ) (after : Names) : Type 0
-  where
-    pub shorts : after.shorts ≡ set before.shorts n (pad_to short_most (span_in s short))
-    pub words : after.words ≡ set before.words n (held_word (take label s))
-    pub marks : after.marks ≡ set before.marks n (cond (eqb kind 12) 1 0)
-    pub own : Started after n
-    pub starts : Lowered before.starts n after.starts
-
--- what names are read and looked up by
-pub record Ready (classes names : List ℕ) : Type 0 where
-  pub table : classes ≡ class_table
-  pub room : names_room ≤ length names
+-- those of the line s are put at the index n: its label, its short name, and the mark, whether it is fixed
+pub record OwnPut (before : Names) (n : ℕ) (s : List ℕ) (label : ℕ) (short : Span) (fixed : Bool) (after : Names)
+    : Type 0 where
+  pub shorts : after.shorts ≡ set before.shorts n (pad_to short_most (span_in s short))
+  pub words : after.words ≡ set before.words n (held_word (take label s))
+  pub marks : after.marks ≡ set before.marks n (cond fixed 1 0)
+  pub own : Started after n
+  pub starts : Lowered before.starts n after.starts
 
 -- a label is put at the index n
 pub record LabelPut (before : List ℕ) (n : ℕ) (label after : List ℕ) : Type 0 where

@@ -11,6 +11,7 @@
 -- RowPlaces  the lines of a row as the code keeps them, and its cells at their columns
 -- Slots  the cells of rows as the code keeps them
 -- StoredTrees  expressions in their stored form, with their types, as the code makes them
+-- Kinds  the width of a field line
 -- HeldParts  the parts of a field line, each expression in its stored form
 -- HeldRecords  the record of a field line by the parts that the code holds
 -- Resolved  a field line whose names are looked up among the held ones
@@ -34,6 +35,7 @@ pub mod Noted
 pub mod RowPlaces
 pub mod Slots
 pub mod StoredTrees
+pub mod Kinds
 pub mod HeldParts
 pub mod HeldRecords
 pub mod Resolved

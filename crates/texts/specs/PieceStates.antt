@@ -11,7 +11,7 @@ use Rattle.texts.specs.Fills.{zeros, zeros_around}
 use Rattle.texts.specs.NameStarts.{buckets, no_start}
 use Rattle.texts.specs.HeldAreas.{names_at, held_room}
 use Rattle.texts.specs.StateNumbers.{used_at, line_at, row_at, counts_at, held_at, state_room, reading_in, Fits}
-use Rattle.texts.specs.StateNumbers.{twos_in}
+use Rattle.texts.specs.StateNumbers.{NoteIn, twos_in}
 use Rattle.texts.specs.WalkSteps.{KeptAs, WalkedTo}
 use Rattle.texts.specs.declared.walks.Walked.{Walked}
 use Rattle.texts.specs.declared.states.Reading.{Reading}
@@ -40,6 +40,7 @@ pub record Clean (s : List ℕ) : Type 0 where
 -- the state's bytes hold k; where 1, 2 or 3 was found, any line
 pub record StateHolds (k : fold.Kept) (s : List ℕ) : Type 0 where
   pub fits : Fits k.size (reading_in s)
+  pub noted : NoteIn s
   pub used : two_at s used_at ≤ line_most
   pub free : is_line k.line ≡ true
   pub short : length k.line ≤ line_most
@@ -92,6 +93,7 @@ pub record Cleared (n : ℕ) (before after : List ℕ) : Type 0 where
   pub front : take used_at after ≡ take used_at before
   pub back : drop counts_at after ≡ drop counts_at before
   pub reading : reading_in after ≡ reading_in before
+  pub noted : NoteIn before → NoteIn after
   pub used : two_at after used_at ≡ 0
   pub rows : take (65 * n) (row_bytes after) ≡ take (65 * n) (row_bytes before)
   pub clean : (reading_in after).row ≡ n → Clean after
@@ -99,6 +101,7 @@ pub record Cleared (n : ℕ) (before after : List ℕ) : Type 0 where
 -- the state of an unfinished line that got too long
 pub record CutState (size : ℕ) (before after : List ℕ) : Type 0 where
   pub fits : Fits size (reading_in after)
+  pub noted : NoteIn after
   pub used : two_at after used_at ≡ 0
   pub clean : Clean after
   pub step : (f : fold.Found) → Fits size (reading_in before) → KeptIn f before → KeptIn (fold.cut f) after
@@ -106,6 +109,7 @@ pub record CutState (size : ℕ) (before after : List ℕ) : Type 0 where
 -- a reading, the lines of a row and counts are stored in a state, and no line
 pub record StoredState (before : List ℕ) (r : Reading) (row counts after : List ℕ) : Type 0 where
   pub reading : Fits text_most r → reading_in after ≡ r
+  pub noted : Fits text_most r → NoteIn after
   pub used : two_at after used_at ≡ 0
   pub rows : take (65 * r.row) (row_bytes after) ≡ take (65 * r.row) row
   pub clean : Fits text_most r → Clean after

@@ -1,16 +1,18 @@
 -- The numbers of what is kept of a text, as bytes of a state: mirrors the code, no public promise rests on it.
 -- [02, R-9]
-use Rattle.std.specs.Prelude.{◌≡◌, true, cond, List, [], ◌∷◌, ℕ, zero, suc, ◌+◌, ◌*◌, ◌/◌, ◌%◌, ◌≤◌, eqb, length}
-use Rattle.std.specs.Prelude.{take, drop, get_or}
+use Rattle.std.specs.Prelude.{◌≡◌, cond, List, [], ◌∷◌, ℕ, zero, suc, ◌+◌, ◌*◌, ◌/◌, ◌%◌, ◌≤◌, eqb, length}
+use Rattle.std.specs.Prelude.{Option, Some, None, take, drop, get_or}
+use Rattle.std.proofs.Math.Option as rule
+use Rattle.rules.specs.Answers.{Answer, refused}
 use Rattle.rules.specs.Limits.{text_most, line_most, fields_most}
 use Rattle.rules.specs.Values.{yes_no}
 use Rattle.laws.specs.Places.{two_at}
-use Rattle.texts.specs.Changes.{note}
-use Rattle.texts.specs.Noted.{note_of}
+use Rattle.texts.specs.Noted.{number_of, place_of, note_of}
 use Rattle.texts.specs.RowPlaces.{row_room}
 use Rattle.texts.specs.HeldAreas.{held_room}
-use Rattle.texts.specs.States.{is_told, Room}
+use Rattle.texts.specs.States.{Room}
 use Rattle.texts.specs.declared.notes.Note.{Note}
+use Rattle.texts.specs.declared.notes.Note.TheVariants as by
 use Rattle.texts.specs.declared.states.Stage.{Stage}
 use Rattle.texts.specs.declared.states.Stage.TheVariants as at
 use Rattle.texts.specs.declared.states.Reading.{Reading}
@@ -73,6 +75,24 @@ stage_at n =
     (cond (eqb n 10) at.FirstField
     (cond (eqb n 11) at.FieldLine at.Lost)))))))))))
 
+-- the number of a refusal, 0 where there is none
+unfoldable pub note_code : Option Note → ℕ
+note_code None = 0
+note_code (Some a) = number_of a
+
+-- the refusal of a number and a place; the number of none stands for none
+unfoldable pub note_at : ℕ → ℕ → Option Note
+note_at n p =
+    cond (eqb n 2) (Some by.BadByte)
+    (cond (eqb n 3) (Some (by.BadLine p))
+    (cond (eqb n 4) (Some by.TooMany)
+    (cond (eqb n 5) (Some (by.BadForm p))
+    (cond (eqb n 6) (Some (by.OverLimit p))
+    (cond (eqb n 7) (Some (by.Mismatch p))
+    (cond (eqb n 8) (Some (by.Repeated p))
+    (cond (eqb n 9) (Some (by.BadName p))
+    (cond (eqb n 10) (Some (by.BadRest p)) None))))))))
+
 -- the reading whose numbers stand in a state
 abbrev pub reading_in : List ℕ → Reading
 reading_in s = record {
@@ -88,8 +108,17 @@ reading_in s = record {
   fields = get_or s 12 0;
   end = two_at s 18;
   rested = eqb (get_or s 13 0) 1;
-  note = note (get_or s 20 0) (two_at s 22);
+  note = note_at (get_or s 20 0) (two_at s 22);
 }
+
+-- the refusal of the number and the place that stand in a state, whatever they are; the number 0 stands for none
+abbrev pub refusal_in : List ℕ → rule.Option Answer
+refusal_in s = cond (eqb (get_or s 20 0) 0) rule.none (rule.some (refused (get_or s 20 0) (two_at s 22)))
+
+-- it is that of the reading, and its place is at most behind the lines
+pub record NoteIn (s : List ℕ) : Type 0 where
+  pub told : refusal_in s ≡ note_of (reading_in s).note
+  pub placed : two_at s 22 ≤ (reading_in s).lines + 1
 
 -- the bytes of a reading's numbers, from the place numbers_at on
 abbrev pub low : ℕ → ℕ
@@ -116,10 +145,10 @@ number_bytes r =
     ∷ high r.cell
     ∷ low r.end
     ∷ high r.end
-    ∷ low r.note.number
+    ∷ note_code r.note
     ∷ 0
-    ∷ low r.note.place
-    ∷ high r.note.place
+    ∷ low (place_of r.note)
+    ∷ high (place_of r.note)
     ∷ []
 
 -- the numbers of r are such that a text of so many bytes can leave them
@@ -131,17 +160,12 @@ pub record Loaded (size : ℕ) (s : List ℕ) (r : Reading) : Type 0 where
   pub fits : Fits size r
   pub same : Fits size (reading_in s) → r ≡ reading_in s
 
--- the same for a refusal behind so many lines
-pub record LoadedNote (lines number place : ℕ) (a : Note) : Type 0 where
-  pub told : is_told (note_of a) ≡ true
-  pub placed : a.place ≤ lines + 1
-  pub same : is_told (note_of (note number place)) ≡ true → place ≤ lines + 1 → a ≡ note number place
-
 -- a reading is saved in a state
 pub record Saved (before : List ℕ) (r : Reading) (after : List ℕ) : Type 0 where
   pub long : length after ≡ length before
   pub front : take numbers_at after ≡ take numbers_at before
   pub numbers : Fits text_most r → reading_in after ≡ r
+  pub noted : Fits text_most r → NoteIn after
   pub beyond : drop line_at after ≡ drop line_at before
 
 -- ── counts ──

@@ -1,12 +1,11 @@
 -- What the code keeps of a text between two lines: mirrors the code, no public promise rests on it.
-use Rattle.std.specs.Prelude.{◌≡◌, Bool, true, false, cond, ◌&&◌, ◌||◌, not, List, [], ◌∷◌, ◌++◌, ℕ, suc, ◌+◌, ◌-◌}
-use Rattle.std.specs.Prelude.{◌*◌, ◌≤◌, eqb, ltb, leb, length, take, drop, get_or}
+use Rattle.std.specs.Prelude.{◌≡◌, Bool, true, false, cond, ◌||◌, List, [], ◌∷◌, ◌++◌, ℕ, suc, ◌+◌, ◌-◌}
+use Rattle.std.specs.Prelude.{Option as Held, Some, None, ◌*◌, ◌≤◌, ltb, leb, length, take, drop, get_or}
 use Rattle.std.proofs.Math.Option.{Option, none, some}
 use Rattle.std.proofs.Math.ListN.{get_elem?}
-use Rattle.base.specs.Lists.{all, any, joined, between, is_empty}
+use Rattle.base.specs.Lists.{all, any, joined, is_empty}
 use Rattle.writing.specs.Writes.{Writes}
-use Rattle.rules.specs.declared.TextAnswer.{TextAnswer}
-use Rattle.rules.specs.Answers.{Answer, of_text}
+use Rattle.rules.specs.Answers.{Answer, of_text, TextAnswer}
 use Rattle.rules.specs.Limits.{text_most, fields_most, label_most, row_lines_most}
 use Rattle.rules.specs.Fields.{Field, Form, is_rest, trees}
 use Rattle.rules.specs.Trees.{le2, is_small}
@@ -16,7 +15,7 @@ use Rattle.names.specs.Repeats.{pad_to}
 use Rattle.references.specs.Numbers.{numbered}
 use Rattle.references.specs.Counted.{Counted}
 use Rattle.rules.specs.Rows.{Row}
-use Rattle.rules.specs.Frames.{Slot, is_line}
+use Rattle.rules.specs.Frames.{Slot}
 use Rattle.rules.specs.Within.{keeps_names, keeps_types, keeps_rest, name_readable}
 use Rattle.text_laws.specs.Lowest.{lower, broken}
 use Rattle.text_laws.specs.Judging.{faces, shows_cell, is_full}
@@ -25,25 +24,20 @@ use Rattle.text_laws.specs.Steady.{StandIn, is_head, Steady}
 use Rattle.text_laws.specs.LineReader.{read_form}
 use Rattle.texts.specs.HeldNames.{Names, names_in, labels_in, NamesRoom, HeldAs}
 use Rattle.texts.specs.HeldParts.{LineBytes, PartsHeld}
-use Rattle.texts.specs.HeldRecords.{field_size, Writable, BytesRoom}
-use Rattle.texts.specs.Noted.{note_of}
-use Rattle.texts.specs.RowPlaces.{row_room, lines_in, RowKept}
+use Rattle.texts.specs.HeldRecords.{field_size, Writable}
+use Rattle.texts.specs.Noted.{place_of, note_of}
+use Rattle.texts.specs.RowPlaces.{lines_in, RowKept}
 use Rattle.texts.specs.Slots.{stored_slot, are_labels}
-use Rattle.texts.specs.HeldAreas.{slot_most, record_most, held_room, cell_bytes, name_bytes, label_bytes, table_bytes}
-use Rattle.texts.specs.Changes.{note, changed, with_line}
+use Rattle.texts.specs.HeldAreas.{slot_most, record_most, cell_bytes, name_bytes, label_bytes, table_bytes}
+use Rattle.texts.specs.Changes.{changed, with_line}
 use Rattle.texts.specs.declared.notes.Note.{Note}
+use Rattle.texts.specs.declared.notes.Note.TheVariants.{BadLine, TooMany, Mismatch}
 use Rattle.texts.specs.declared.line_parts.Parts.{Parts}
 use Rattle.texts.specs.declared.states.Stage.{Stage}
 use Rattle.texts.specs.declared.states.Stage.TheVariants as at
 use Rattle.texts.specs.declared.states.Reading.{Reading}
 
 -- ── safe ──
-
--- a refusal by 2 to 10; 2 and 4 have no place
-abbrev pub is_told : Option Answer → Bool
-is_told none = true
-is_told (some a) =
-    between 2 a.number 10 && (not (eqb a.number 2 || eqb a.number 4) || eqb a.place 0)
 
 -- the numbers are such that one more line can be taken
 pub record Room (r : Reading) : Type 0 where
@@ -57,8 +51,7 @@ pub record Room (r : Reading) : Type 0 where
   pub count : r.count ≤ fields_most
   pub fields : r.fields ≤ r.count
   pub end : r.end ≤ label_most + record_most * r.fields
-  pub told : is_told (note_of r.note) ≡ true
-  pub placed : r.note.place ≤ r.lines + 1
+  pub placed : place_of r.note ≤ r.lines + 1
 
 -- the same behind a line that was taken
 abbrev pub Taken : Reading → Reading → Type 0
@@ -171,17 +164,21 @@ RowStep line r q cells cells' row row' =
 
 -- ── a field line ──
 
+abbrev pub is_many_as : Held Note → Bool
+is_many_as (Some TooMany) = true
+is_many_as a = false
+
 -- nothing but a 3 could matter now, or a field line too many has come
 abbrev pub is_full_as : Reading → Bool
-is_full_as r = eqb r.note.number 4 || leb fields_most r.count
+is_full_as r = is_many_as r.note || leb fields_most r.count
 
 -- behind a field line, of which no field is kept
-abbrev pub line_refused : Reading → Note → Reading
+abbrev pub line_refused : Reading → Held Note → Reading
 line_refused r a = changed (with_line r r.cell (r.count + 1) r.fields r.end r.rested) (r.lines + 1)
     at.FieldLine a
 
 -- a field is kept, whose record ends at a place and whose cell ends at one
-abbrev pub line_kept : Reading → ℕ → ℕ → Bool → Note → Reading
+abbrev pub line_kept : Reading → ℕ → ℕ → Bool → Held Note → Reading
 line_kept r cell end rested a = changed (with_line r cell (r.count + 1) (r.fields + 1) end rested) (r.lines + 1)
     at.FieldLine a
 
@@ -205,33 +202,26 @@ NextCell r cells n =
     → n ≡ length (joined stored_slot (take (suc (length f.judged.fields)) f.cells)))
 
 -- there is room for a field line
-abbrev pub LineRoom : Reading → List ℕ → List ℕ → Type 0
-LineRoom r line held =
-    Room r × (r.lines ≤ text_most) × (length line ≤ text_most) × (held_room ≤ length held)
-
--- for a line and for the lines of a row
-abbrev pub RowRoom : List ℕ → List ℕ → Type 0
-RowRoom line row = (is_line line ≡ true) × (row_room ≤ length row)
+abbrev pub LineRoom : Reading → List ℕ → Type 0
+LineRoom r line = Room r × (r.lines ≤ text_most) × (length line ≤ text_most)
 
 -- parts that can be written behind the records
-abbrev pub PartsRoom : List ℕ → LineBytes → Parts → Type 0
-PartsRoom line b p = Writable (length line) p × (field_size p ≤ record_most) × BytesRoom b
+abbrev pub PartsRoom : List ℕ → Parts → Type 0
+PartsRoom line p = Writable (length line) p × (field_size p ≤ record_most)
 
 -- behind a field line
 abbrev pub FieldStep : List ℕ → Reading → Reading → List ℕ → List ℕ → List ℕ → List ℕ → Type 0
 FieldStep line r q held held' counts counts' =
-    (length held' ≡ length held)
-    × ((f : fold.Found) → Steady f → HoldsIn f r held counts → HoldsIn (fold.brief_field f line) q held' counts')
+    (f : fold.Found) → Steady f → HoldsIn f r held counts → HoldsIn (fold.brief_field f line) q held' counts'
 
 -- the same for a line of small expressions with the parts p, whose own names are held, where not too many lines have
 -- come
 abbrev pub FormStep : List ℕ → LineBytes → Parts → Reading → Reading → List ℕ → List ℕ → List ℕ → List ℕ → Type 0
 FormStep line b p r q held held' counts counts' =
-    (length held' ≡ length held)
-    × ((f : fold.Found) (x : Form) → Steady f → is_full f.judged ≡ false → HoldsIn f r held counts
+    (f : fold.Found) (x : Form) → Steady f → is_full f.judged ≡ false → HoldsIn f r held counts
     → read_form line ≡ some x → all is_small (trees x) ≡ true
     → PartsHeld (names_in (name_bytes held)) r.fields line x b p
-    → HoldsIn (fold.brief_field f line) q held' counts')
+    → HoldsIn (fold.brief_field f line) q held' counts'
 
 -- a line that is too long
 abbrev pub CutStep : Reading → Reading → List ℕ → Type 0
@@ -241,16 +231,16 @@ CutStep r q row = (f : fold.Found) (held counts : List ℕ) → Steady f → Row
 
 -- ── the end ──
 
-abbrev pub early_note : Reading → Note
-early_note r = note 3 (r.lines + 1)
+abbrev pub early_note : Reading → Held Note
+early_note r = Some (BadLine (r.lines + 1))
 
 -- in a row: at its last line where a cell is no label
-abbrev pub row_note : Reading → List ℕ → Note
-row_note r row = cond (are_labels row r.row (2 * r.width + 1)) (early_note r) (note 3 r.lines)
+abbrev pub row_note : Reading → List ℕ → Held Note
+row_note r row = cond (are_labels row r.row (2 * r.width + 1)) (early_note r) (Some (BadLine r.lines))
 
 -- 7 where cells remain
-abbrev pub remain_note : Reading → Note
-remain_note r = cond (ltb r.fields r.cells) (note 7 (r.lines + 1)) (note 0 0)
+abbrev pub remain_note : Reading → Held Note
+remain_note r = cond (ltb r.fields r.cells) (Some (Mismatch (r.lines + 1))) None
 
 -- the lowest refusal at the end, by the line that must come next
 unfoldable pub last_note : Stage → Reading → Bool → List ℕ → Option Answer
@@ -286,10 +276,9 @@ EndStep r whole row table out out' a =
 -- behind a line
 abbrev pub LineStep : List ℕ → Reading → Reading → List ℕ → List ℕ → List ℕ → List ℕ → List ℕ → List ℕ → Type 0
 LineStep line r q held held' row row' counts counts' =
-    (length held' ≡ length held) × (length row' ≡ length row)
-    × ((f : fold.Found) → Steady f → RowKept f.row r.width r.row row
+    (f : fold.Found) → Steady f → RowKept f.row r.width r.row row
     → HoldsIn f r held counts
-    → HoldsIn (fold.lined f line) q held' counts' × RowKept (fold.lined f line).row q.width q.row row')
+    → HoldsIn (fold.lined f line) q held' counts' × RowKept (fold.lined f line).row q.width q.row row'
 
 -- the counts for all fields, where there is none yet
 abbrev pub NoneCounted : List ℕ → Type 0

@@ -1,11 +1,13 @@
 -- An expression in its stored form, with its type, as the code makes it: mirrors the code, no public promise rests on
 -- it.
-use Rattle.std.specs.Prelude.{◌≡◌, Bool, cond, ◌&&◌, ◌||◌, List, [], ℕ, ◌-◌, ◌≤◌, eqb, ltb, length, take, drop, get_or}
+use Rattle.std.specs.Prelude.{Option, None, Some}
+use Rattle.std.specs.Prelude.{◌≡◌, Bool, false, cond, ◌&&◌, ◌||◌, List, [], ℕ}
+use Rattle.std.specs.Prelude.{◌-◌, ◌≤◌, eqb, ltb, length, take, drop, get_or}
 use Rattle.rules.specs.declared.ValueType.{ValueType}
 use Rattle.rules.specs.declared.ValueType.TheVariants.{Number, YesNo}
 use Rattle.rules.specs.Limits.{short_most}
 use Rattle.rules.specs.Operators.{takes, gives}
-use Rattle.rules.specs.Trees.{Tree, num, read, two, negation, depth, stored_tree, stored_length}
+use Rattle.rules.specs.Trees.{Tree, num, read, two, negation, same_type, depth, stored_tree, stored_length}
 use Rattle.text_laws.specs.Reader.{Out, fail, got}
 use Rattle.names.specs.Repeats.{first_from, pad_to, same_name, at_most}
 use Rattle.text_laws.specs.LineReader.{Got, miss, hit}
@@ -36,31 +38,40 @@ may_read names n w = ltb (look_up names n w) n
 
 -- ── types ──
 
--- 1 for a number, 2 for yes or no; 0 where operands have wrong types or a name may not be read
-unfoldable pub type_code : ValueType → ℕ
-type_code Number = 1
-type_code YesNo = 2
+-- the type of an expression, if it has one, is k
+abbrev pub is_type : ValueType → Option ValueType → Bool
+is_type k None = false
+is_type k (Some j) = same_type k j
 
-unfoldable pub type_of : {N : Type 0} → (N → Bool) → Tree N → ℕ
-type_of may (num n) = 1
-type_of may (read a) = cond (may a) 1 0
+-- none where operands have wrong types or a name may not be read
+unfoldable pub type_of : {N : Type 0} → (N → Bool) → Tree N → Option ValueType
+type_of may (num n) = Some Number
+type_of may (read a) = cond (may a) (Some Number) None
 type_of may (two o a b) =
-    cond (eqb (type_of may a) (type_code (takes o)) && eqb (type_of may b) (type_code (takes o)))
-    (type_code (gives o)) 0
-type_of may (negation a) = cond (eqb (type_of may a) 2) 2 0
+    cond (is_type (takes o) (type_of may a) && is_type (takes o) (type_of may b)) (Some (gives o)) None
+type_of may (negation a) = cond (is_type YesNo (type_of may a)) (Some YesNo) None
 
 -- ── stored expressions ──
 
 -- an expression with the bytes of the output that its stored form is put into
 pub record TreeBytes : Type 0 where
   pub next : ℕ
-  pub gives : ℕ
+  pub gives : Option ValueType
   pub depth : ℕ
   pub len : ℕ
   pub bytes : List ℕ
 
 abbrev pub held : StoredTree → List ℕ → TreeBytes
 held r bytes = record { next = r.next; gives = r.gives; depth = r.depth; len = r.len; bytes = bytes }
+
+abbrev pub maybe_held : Option StoredTree → List ℕ → Option TreeBytes
+maybe_held None bytes = None
+maybe_held (Some r) bytes = Some (held r bytes)
+
+-- the length of the stored form, 0 where there is none
+abbrev pub form_length : Option StoredTree → ℕ
+form_length None = 0
+form_length (Some r) = r.len
 
 -- r holds the tree t, whose names are those of the first n fields; its bytes, if there is room for them
 pub record StoredIs (names : Names) (n : ℕ) (t : Tree (List ℕ)) (r : TreeBytes) : Type 0 where
@@ -69,12 +80,22 @@ pub record StoredIs (names : Names) (n : ℕ) (t : Tree (List ℕ)) (r : TreeByt
   pub deep : r.depth ≡ depth t
   pub bytes : stored_length t ≤ length r.bytes → take r.len r.bytes ≡ stored_tree (look_up names n) t
 
--- the code's answer r is that of the reader in the text s; the length 0 stands for none
-unfoldable pub SameStored : Names → ℕ → List ℕ → Out → TreeBytes → Type 0
-SameStored names n s fail r = r.len ≡ 0
-SameStored names n s (got t q) r = StoredIs names n t r × (drop r.next s ≡ q)
+-- the code's answer r is that of the reader in the text s
+pub record TreeGot (names : Names) (n : ℕ) (s : List ℕ) (o : Out) (r : TreeBytes) : Type 0 where
+  pub tree : Tree (List ℕ)
+  pub is_read : o ≡ got tree (drop r.next s)
+  pub stored : StoredIs names n tree r
+
+abbrev pub SameStored : Names → ℕ → List ℕ → Out → Option TreeBytes → Type 0
+SameStored names n s o None = o ≡ fail
+SameStored names n s o (Some r) = TreeGot names n s o r
 
 -- the same for a whole expression
-unfoldable pub StoredFor : Names → ℕ → List ℕ → Got (Tree (List ℕ)) → TreeBytes → Type 0
-StoredFor names n s miss r = r.len ≡ 0
-StoredFor names n s (hit t q) r = StoredIs names n t r × (drop r.next s ≡ q)
+pub record TreeAs (names : Names) (n : ℕ) (s : List ℕ) (g : Got (Tree (List ℕ))) (r : TreeBytes) : Type 0 where
+  pub tree : Tree (List ℕ)
+  pub is_read : g ≡ hit tree (drop r.next s)
+  pub stored : StoredIs names n tree r
+
+abbrev pub StoredFor : Names → ℕ → List ℕ → Got (Tree (List ℕ)) → Option TreeBytes → Type 0
+StoredFor names n s g None = g ≡ miss
+StoredFor names n s g (Some r) = TreeAs names n s g r

@@ -2,45 +2,40 @@
 ghost use Rattle.std.specs.Prelude.{◌≤◌, length};
 ghost use Rattle.texts.specs.ExprPlaces.{SameOpen, SameAtom};
 
-// Nothing that may stand there, a word, or an opening parenthesis: the place behind it, and whether `!` stands before.
+// A word, or an opening parenthesis: the place behind it, and whether `!` stands before.
 #[derive(Clone, Copy)]
 pub(crate) enum Atom {
-    Nothing,
     Word,
-    In(usize, bool),
+    Open(usize, bool),
 }
 
-// The opening parenthesis at `at`, where `b` may be opened.
-fn open_at(s: &[u8], at: usize, b: u8, neg: bool) -> Atom
+// The place behind the opening parenthesis at `at`, where `b` may be opened.
+fn open_at(s: &[u8], at: usize, b: u8) -> Option<usize>
     requires { at ≤ length s.now }
-    ensures { SameOpen s.now at b neg result }
+    ensures { SameOpen s.now at b result }
 {
-    if at == s.len() {
-        return Atom::Nothing;
+    if at < s.len() && b != 0 && s[at] == b'(' {
+        return Some(at + 1);
     }
-    if b == 0 {
-        return Atom::Nothing;
-    }
-    if s[at] != b'(' {
-        return Atom::Nothing;
-    }
-    Atom::In(at + 1, neg)
+    None
 }
 
 // `!(`, `(` or a word.
-pub(crate) fn atom_at(s: &[u8], at: usize, b: u8) -> Atom
+pub(crate) fn atom_at(s: &[u8], at: usize, b: u8) -> Option<Atom>
     requires { at ≤ length s.now }
     ensures { SameAtom s.now at b result }
 {
     if at == s.len() {
-        return Atom::Nothing;
+        return None;
     }
     let c = s[at];
     if c == b'!' {
-        return open_at(s, at + 1, b, true);
+        let from = open_at(s, at + 1, b)?;
+        return Some(Atom::Open(from, true));
     }
     if c == b'(' {
-        return open_at(s, at, b, false);
+        let from = open_at(s, at, b)?;
+        return Some(Atom::Open(from, false));
     }
-    Atom::Word
+    Some(Atom::Word)
 }

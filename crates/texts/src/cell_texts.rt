@@ -3,10 +3,10 @@
 ghost use Rattle.std.specs.Prelude.{◌≡◌, ◌+◌, ◌*◌, ◌-◌, ◌≤◌, length};
 ghost use Rattle.writing.specs.Writes.{Writes};
 ghost use Rattle.rules.specs.Rows.{cell_text};
-ghost use Rattle.names.specs.Classes.{class_table};
-ghost use Rattle.texts.specs.RowPlaces.{added_line, cell_at, row_room};
+ghost use Rattle.texts.specs.RowPlaces.{added_line, cell_at};
 
 use crate::rows::{spaces_end, trimmed};
+use names::classes::Classes;
 use rules::ROW_LINES_MOST;
 use writing::puts::put;
 
@@ -17,8 +17,8 @@ pub(crate) const LINE_ROOM: usize = 65;
 pub(crate) const ROW_ROOM: usize = ROW_LINES_MOST * LINE_ROOM;
 
 // One more line of a text, behind a space unless it is bare.
-fn add_line(classes: &[u8; 256], cells: &mut [u8], at: usize, chars: &[u8], bare: bool) -> usize
-    requires { (at + (1 + length chars.now) ≤ length cells.old) × (classes.now ≡ class_table) }
+fn add_line(classes: &Classes, cells: &mut [u8], at: usize, chars: &[u8], bare: bool) -> usize
+    requires { at + (1 + length chars.now) ≤ length cells.old }
     ensures { Writes cells.old at (added_line bare chars.now) cells.new result }
 {
     let from = spaces_end(classes, chars);
@@ -34,28 +34,26 @@ fn add_line(classes: &[u8; 256], cells: &mut [u8], at: usize, chars: &[u8], bare
 }
 
 // The text of the cell from column `a` to column `b` of `n` kept lines, put at a place.
+// By the line's number: an invariant of the loop speaks of the lines before it.
 pub(crate) fn put_text(
-    classes: &[u8; 256],
+    classes: &Classes,
     cells: &mut [u8],
     at: usize,
-    row: &[u8],
+    row: &[u8; ROW_ROOM],
     n: usize,
     a: usize,
     b: usize,
 ) -> usize
-    requires { (n ≤ 4) × (a ≤ b) × (b ≤ 65) × (row_room ≤ length row.now)
-        × (at + 4 * (1 + (b - a)) ≤ length cells.old) × (classes.now ≡ class_table) }
+    requires { (n ≤ 4) × (a ≤ b) × (b ≤ 65) × (at + 4 * (1 + (b - a)) ≤ length cells.old) }
     ensures { Writes cells.old at (cell_text (cell_at row.now n a (b - a)))
         cells.new result }
 {
     let down = (b - a + 1) / 2 == 1;
     let mut end = at;
-    let mut j = 0;
-    while j < n {
+    for j in 0..n {
         let from = LINE_ROOM * j;
-        let bare = if down { true } else { end == at };
+        let bare = down || end == at;
         end = add_line(classes, cells, end, &row[from + a..from + b], bare);
-        j += 1;
     }
     end
 }

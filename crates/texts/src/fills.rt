@@ -3,13 +3,10 @@ ghost use Rattle.std.specs.Prelude.{◌≡◌, ◌≤◌, length};
 ghost use Rattle.texts.specs.Fills.{filled};
 
 // Those from a place to another.
+// A function, and not `fill` where it is used: its clause says what stays of the whole buffer.
 pub(crate) fn fill(s: &mut [u8], from: usize, to: usize, b: u8)
     requires { (from ≤ to) × (to ≤ length s.old) }
     ensures { s.new ≡ filled from to b s.old }
 {
-    let mut i = from;
-    while i < to {
-        s[i] = b;
-        i += 1;
-    }
+    s[from..to].fill(b);
 }

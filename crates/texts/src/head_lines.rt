@@ -1,20 +1,21 @@
 // The lines of a text's head of which something is kept: NAME, W, the lines of rows and their cells.
-ghost use Rattle.std.specs.Prelude.{List, ◌≡◌, ℕ, ◌≤◌, length};
+ghost use Rattle.std.specs.Prelude.{true, List, ◌≡◌, ℕ, ◌≤◌, length};
 ghost use Rattle.rules.specs.Limits.{text_most, label_most};
+ghost use Rattle.rules.specs.Frames.{is_line};
 ghost use Rattle.text_laws.specs.FrameReader.{read_tens, read_row};
 ghost use Rattle.text_laws.specs.Fold.{row_or_blank, opening_name, with_name, with_width, with_row, lined_at};
 ghost use Rattle.texts.specs.HeldAreas.{slots_most};
-ghost use Rattle.texts.specs.States.{Room, RowRoom, Taken, Area, area, HeadStep, HeadRow, RowStep};
+ghost use Rattle.texts.specs.States.{Room, Taken, Area, area, HeadStep, HeadRow, RowStep};
 ghost use Rattle.texts.specs.Changes.{row_ended};
 
-use crate::cell_texts::LINE_ROOM;
-use crate::openings::{article, is_named};
+use crate::cell_texts::{LINE_ROOM, ROW_ROOM};
+use crate::openings::opening_name;
 use crate::rows::is_row;
 use crate::rulers::{is_border, ruler_width};
-use crate::slots::{Rowed, put_row};
+use crate::slots::put_row;
 use crate::states::{Reading, Stage, expect, onward, too_many, wrong, wrong_row};
 use bars::further_lines::goes_on;
-use names::classes::class_table;
+use names::classes::Classes;
 use rules::FIELDS_MOST;
 use writing::puts::put;
 
@@ -25,19 +26,13 @@ pub(crate) fn take_opening(mut r: Reading, line: &[u8], table: &mut [u8]) -> Rea
     ensures step { (cells counts : List ℕ) → HeadStep (λ f. with_name f (opening_name line.now))
         r result cells cells (area table.old counts) (area table.new counts) }
 {
-    let from = article(line);
-    if from == 0 {
+    let Some(name) = opening_name(line) else {
         return wrong(r);
-    }
-    if is_named(&line[from..]) {
-        let to = line.len() - 25;
-        let n = put(table, 0, &line[from..to]);
-        r.name = n;
-        r.end = n;
-        let note = r.note;
-        return onward(r, Stage::Blank, note);
-    }
-    wrong(r)
+    };
+    let n = put(table, 0, name);
+    r.name = n;
+    r.end = n;
+    onward(r, Stage::Blank, r.note)
 }
 
 // The ruler of tens.
@@ -47,29 +42,25 @@ pub(crate) fn take_ruler(mut r: Reading, line: &[u8]) -> Reading
     ensures step { (cells : List ℕ) (table : Area) → HeadStep (λ f. with_width f (read_tens
         line.now)) r result cells cells table table }
 {
-    let w = ruler_width(line);
-    if w == 0 {
+    let Some(w) = ruler_width(line) else {
         return wrong(r);
-    }
+    };
     r.width = w;
-    let note = r.note;
-    onward(r, Stage::UnitsRuler, note)
+    onward(r, Stage::UnitsRuler, r.note)
 }
 
 // The first line of a row.
-pub(crate) fn take_row(mut r: Reading, line: &[u8], row: &mut [u8]) -> Reading
-    requires { Room r × (r.lines ≤ text_most) × RowRoom line.now row.old }
+pub(crate) fn take_row(mut r: Reading, line: &[u8], row: &mut [u8; ROW_ROOM]) -> Reading
+    requires { Room r × (r.lines ≤ text_most) × (is_line line.now ≡ true) }
     ensures room { Taken r result }
     ensures step { (cells : List ℕ) (table : Area) → HeadStep (λ f. with_row f (read_row f.width
         line.now)) r result cells cells table table }
     ensures row { HeadRow (λ f. with_row f (read_row f.width line.now)) r result row.new }
 {
-    let w = r.width;
-    if is_row(line, w) {
+    if is_row(line, r.width) {
         put(row, 0, line);
         r.row = 1;
-        let note = r.note;
-        return onward(r, Stage::InRow, note);
+        return onward(r, Stage::InRow, r.note);
     }
     wrong(r)
 }
@@ -86,13 +77,17 @@ fn end_row(mut r: Reading, next: usize, n: usize) -> Reading
     }
     r.cells += n;
     r.slots = next;
-    let note = r.note;
-    onward(r, Stage::RowOrBlank, note)
+    onward(r, Stage::RowOrBlank, r.note)
 }
 
 // A further line of a row, or its border if the text of each cell is a label.
-pub(crate) fn take_more(mut r: Reading, line: &[u8], cells: &mut [u8], row: &mut [u8]) -> Reading
-    requires { Room r × (r.lines ≤ text_most) × (slots_most ≤ length cells.old) × RowRoom line.now row.old }
+pub(crate) fn take_more(
+    mut r: Reading,
+    line: &[u8],
+    cells: &mut [u8],
+    row: &mut [u8; ROW_ROOM],
+) -> Reading
+    requires { Room r × (r.lines ≤ text_most) × (slots_most ≤ length cells.old) × (is_line line.now ≡ true) }
     ensures room { Taken r result }
     ensures step { RowStep line.now r result cells.old cells.new row.old
         row.new }
@@ -103,13 +98,11 @@ pub(crate) fn take_more(mut r: Reading, line: &[u8], cells: &mut [u8], row: &mut
     if goes_on(n, &row[0..size], line) {
         put(row, LINE_ROOM * n, line);
         r.row = n + 1;
-        let note = r.note;
-        return onward(r, Stage::InRow, note);
+        return onward(r, Stage::InRow, r.note);
     }
     let from = r.slots;
-    let classes = class_table();
-    let ended = put_row(&classes, cells, from, row, n, size);
-    let Rowed::Put(next, count) = ended else {
+    let classes = Classes::new();
+    let Some((next, count)) = put_row(&classes, cells, from, row, n, size) else {
         return wrong_row(r);
     };
     if is_border(line, w) {
@@ -119,14 +112,14 @@ pub(crate) fn take_more(mut r: Reading, line: &[u8], cells: &mut [u8], row: &mut
 }
 
 // The first line of a row, or the blank line behind the last border.
-pub(crate) fn take_row_or_blank(r: Reading, line: &[u8], row: &mut [u8]) -> Reading
-    requires { Room r × (r.lines ≤ text_most) × RowRoom line.now row.old }
+pub(crate) fn take_row_or_blank(r: Reading, line: &[u8], row: &mut [u8; ROW_ROOM]) -> Reading
+    requires { Room r × (r.lines ≤ text_most) × (is_line line.now ≡ true) }
     ensures room { Taken r result }
     ensures step { (cells : List ℕ) (table : Area) → HeadStep (λ f. lined_at row_or_blank f line.now)
         r result cells cells table table }
     ensures row { HeadRow (λ f. lined_at row_or_blank f line.now) r result row.new }
 {
-    if line.len() == 0 {
+    if line.is_empty() {
         return expect(r, true, Stage::WhereLine);
     }
     take_row(r, line, row)

@@ -1,17 +1,16 @@
 // Names of fields, held by value, and the first field that may be read by a name. They stand in one buffer: the starts
-// of names, short names, labels that may be read, and marks, 1 where a field is fixed.
+// of names, short names, labels that may be read, and marks, 1 where a field is fixed. Bytes and not an array of
+// structs: they are part of a state that the caller lends.
 ghost use Rattle.std.specs.Prelude.{cond, true, ◌≡◌, ◌+◌, ◌≤◌, ◌<◌, eqb, length, take, drop};
 ghost use Rattle.rules.specs.Limits.{fields_most, short_most};
 ghost use Rattle.rules.specs.Names.{is_short};
-ghost use Rattle.names.specs.Classes.{class_table};
 ghost use Rattle.names.specs.Repeats.{held_word, same_name};
-ghost use Rattle.texts.specs.HeldNames.{has_length, HeldLength, names_room, names_in, Ready, OwnPut};
+ghost use Rattle.texts.specs.HeldNames.{has_length, HeldLength, names_room, names_in, OwnPut};
 ghost use Rattle.texts.specs.PartPlaces.{NamesFit};
 ghost use Rattle.texts.specs.StoredTrees.{reads_as, look_up};
 
-use crate::kinds::FIXED;
 use crate::name_starts::{put_start, walk_start};
-use names::labels::is_short_in;
+use names::classes::Classes;
 use names::repeats::held_name;
 use names::words::same_words;
 use rules::{FIELDS_MOST, SHORT_MOST};
@@ -27,37 +26,31 @@ const MARKS_AT: usize = WORDS_AT + SHORT_MOST * FIELDS_MOST;
 // Room for all of them.
 pub(crate) const NAMES_ROOM: usize = MARKS_AT + FIELDS_MOST;
 
-// A label that may be read; none where it has not the form of a short name.
-fn held_word(classes: &[u8; 256], w: &[u8]) -> [u8; SHORT_MOST]
-    requires { classes.now ≡ class_table }
+// A label that may be read; zeros where it has not the form of a short name.
+// Zeros and no None: document 01 names arrays of 8-byte arrays.
+#[tactic(auto, unfolding(names::specs::Repeats::held_word))]
+fn held_word(classes: &Classes, w: &[u8]) -> [u8; SHORT_MOST]
     ensures { result ≡ held_word w.now }
 {
-    if is_short_in(classes, w) {
+    if classes.is_short(w) {
         return held_name(w);
     }
     held_name(b"")
 }
 
-// 1 for a fixed field.
-fn mark_of(kind: usize) -> u8
-    ensures { result ≡ cond (eqb kind 12) 1 0 }
-{
-    if kind == FIXED { 1 } else { 0 }
-}
-
 // The names of a line and whether its field is fixed, held as those of index n.
 pub(crate) fn hold_own(
-    classes: &[u8; 256],
+    classes: &Classes,
     s: &[u8],
     label: usize,
     short: Span,
-    kind: usize,
+    fixed: bool,
     n: usize,
     names: &mut [u8],
 )
     requires { NamesFit (length s.now) label short × (n < fields_most)
-        × Ready classes.now names.old }
-    ensures { OwnPut (names_in names.old) n s.now label short kind
+        × (names_room ≤ length names.old) }
+    ensures { OwnPut (names_in names.old) n s.now label short fixed
         (names_in names.new) }
 {
     let from = short.at;
@@ -66,7 +59,7 @@ pub(crate) fn hold_own(
     let word = held_word(classes, &s[0..label]);
     put(names, SHORTS_AT + SHORT_MOST * n, &own);
     put(names, WORDS_AT + SHORT_MOST * n, &word);
-    names[MARKS_AT + n] = mark_of(kind);
+    names[MARKS_AT + n] = u8::from(fixed);
     put_start(names, own, n);
     put_start(names, word, n);
 }
@@ -86,13 +79,7 @@ fn has_length(names: &[u8], at: usize, len: usize) -> bool
     ensures { result ≡ has_length (take short_most (drop at names.now)) len }
 {
     let end = at + len;
-    if names[end - 1] == 0 {
-        return false;
-    }
-    if len == SHORT_MOST {
-        return true;
-    }
-    names[end] == 0
+    names[end - 1] != 0 && (len == SHORT_MOST || names[end] == 0)
 }
 
 // It is the held one of so many bytes. Lengths are compared first, then bytes up to the first that differs.
@@ -100,11 +87,7 @@ fn is_name(held: [u8; SHORT_MOST], len: usize, names: &[u8], at: usize) -> bool
     requires { (at + short_most ≤ length names.now) × HeldLength held len }
     ensures { result ≡ same_name held (take short_most (drop at names.now)) }
 {
-    if has_length(names, at, len) {
-        let end = at + SHORT_MOST;
-        return same_words(&held, &names[at..end]);
-    }
-    false
+    has_length(names, at, len) && same_words(&held, &names[at..at + SHORT_MOST])
 }
 
 // The field of an index is fixed, and its short name or its label is the held name of so many bytes.
@@ -112,16 +95,13 @@ fn is_held(held: [u8; SHORT_MOST], len: usize, names: &[u8], i: usize) -> bool
     requires { (i < fields_most) × (names_room ≤ length names.now) × HeldLength held len }
     ensures { result ≡ reads_as (names_in names.now) held i }
 {
-    if names[MARKS_AT + i] != 1 {
-        return false;
-    }
-    if is_name(held, len, names, SHORTS_AT + SHORT_MOST * i) {
-        return true;
-    }
-    is_name(held, len, names, WORDS_AT + SHORT_MOST * i)
+    names[MARKS_AT + i] == 1
+        && (is_name(held, len, names, SHORTS_AT + SHORT_MOST * i)
+            || is_name(held, len, names, WORDS_AT + SHORT_MOST * i))
 }
 
 // The index of the first of n fields that may be read by the name, else n.
+// n and no None: the stored form holds n for an unknown name.
 pub(crate) fn look_up(names: &[u8], n: usize, w: &[u8]) -> usize
     requires { (n ≤ fields_most) × (names_room ≤ length names.now) × (is_short w.now ≡ true) }
     ensures place { result ≤ n }
@@ -129,12 +109,8 @@ pub(crate) fn look_up(names: &[u8], n: usize, w: &[u8]) -> usize
 {
     let held = held_name(w);
     let len = w.len();
-    let mut i = walk_start(names, held);
-    while i < n {
-        if is_held(held, len, names, i) {
-            return i;
-        }
-        i += 1;
-    }
-    n
+    let start = walk_start(names, held);
+    (start..n)
+        .find(|&i| is_held(held, len, names, i))
+        .unwrap_or(n)
 }

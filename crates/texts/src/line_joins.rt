@@ -3,16 +3,17 @@ ghost use Rattle.std.specs.Prelude.{◌≡◌, true, cond, ◌+◌, ◌≤◌, e
 ghost use Rattle.rules.specs.Limits.{text_most, line_most};
 ghost use Rattle.rules.specs.Names.{line_feed};
 ghost use Rattle.rules.specs.Frames.{is_line};
-ghost use Rattle.texts.specs.RowPlaces.{row_room};
 ghost use Rattle.texts.specs.StateNumbers.{state_room};
 ghost use Rattle.texts.specs.PieceStates.{SameAround, JoinedLine, EndedStep};
-ghost use Rattle.texts.specs.States.{Room, Taken};
+ghost use Rattle.texts.specs.HeldAreas.{held_room};
+ghost use Rattle.texts.specs.States.{Room, Taken, LineRoom, LineStep};
 
+use crate::cell_texts::ROW_ROOM;
 use crate::line_steps::take_line;
 use crate::state_areas::{HELD_AT, LINE_AT, STATE_BYTES};
 use crate::states::Reading;
 use crate::text_ends::cut_line;
-use rules::LINE_MOST;
+use rules::{FIELDS_MOST, LINE_MOST};
 use writing::puts::put;
 
 // A byte of a held line: no line feed is one.
@@ -23,38 +24,36 @@ fn plain(b: u8) -> u8
 }
 
 // The held bytes and the part, one behind the other.
+// By index: under `zip` no invariant of a loop can name the bytes that are written.
 fn join_line(s: &[u8], used: usize, part: &[u8], line: &mut [u8]) -> usize
     requires { (state_room ≤ length s.now) × (used + length part.now ≤ line_most)
         × (line_most ≤ length line.old) × (is_line part.now ≡ true) }
     ensures { JoinedLine s.now used part.now line.new result }
 {
-    let mut i = 0;
-    while i < used {
-        line[i] = plain(s[LINE_AT + i]);
-        i += 1;
+    for (i, &b) in s[LINE_AT..LINE_AT + used].iter().enumerate() {
+        line[i] = plain(b);
     }
     put(line, used, part)
 }
 
-// The joined line is ended, with room to put it together.
+// The joined line is ended, with what is held in a part of a state. The part is made an array only here: in the caller
+// no clause would tell what the state ends as.
 fn end_joined(
     r: Reading,
-    s: &mut [u8],
-    used: usize,
-    part: &[u8],
-    line: &mut [u8],
-    row: &mut [u8],
-    counts: &mut [u16],
+    line: &[u8],
+    area: &mut [u8],
+    row: &mut [u8; ROW_ROOM],
+    counts: &mut [u16; FIELDS_MOST],
 ) -> Reading
-    requires { Room r × (r.lines ≤ text_most) × (state_room ≤ length s.old) × (used + length part.now ≤ line_most)
-        × (line_most ≤ length line.old) × (is_line part.now ≡ true) × (row_room ≤ length row.old) }
+    requires { LineRoom r line.now × (is_line line.now ≡ true) × (length area.old ≡ held_room) }
     ensures room { Taken r result }
-    ensures around { SameAround s.old s.new }
-    ensures step { EndedStep s.old used part.now r result s.new
+    ensures step { LineStep line.now r result area.old area.new
         row.old row.new counts.old counts.new }
 {
-    let n = join_line(s, used, part, line);
-    take_line(r, &line[0..n], &mut s[HELD_AT..STATE_BYTES], row, counts)
+    let Some(held) = area.as_mut_array() else {
+        unreachable!();
+    };
+    take_line(r, line, held, row, counts)
 }
 
 // The held line with the part behind it, ended; 3 where it is too long.
@@ -63,11 +62,11 @@ pub(crate) fn end_held(
     s: &mut [u8],
     used: usize,
     part: &[u8],
-    row: &mut [u8],
-    counts: &mut [u16],
+    row: &mut [u8; ROW_ROOM],
+    counts: &mut [u16; FIELDS_MOST],
 ) -> Reading
     requires { Room r × (r.lines ≤ text_most) × (state_room ≤ length s.old) × (used ≤ line_most)
-        × (is_line part.now ≡ true) × (row_room ≤ length row.old) }
+        × (is_line part.now ≡ true) }
     ensures room { Taken r result }
     ensures around { SameAround s.old s.new }
     ensures step { EndedStep s.old used part.now r result s.new
@@ -77,5 +76,6 @@ pub(crate) fn end_held(
         return cut_line(r, row);
     }
     let mut line = [0u8; LINE_MOST];
-    end_joined(r, s, used, part, &mut line, row, counts)
+    let n = join_line(s, used, part, &mut line);
+    end_joined(r, &line[0..n], &mut s[HELD_AT..STATE_BYTES], row, counts)
 }

@@ -2,18 +2,17 @@
 // where none was put in. A walk for a name begins there.
 ghost use Rattle.std.specs.Prelude.{◌≡◌, ◌≤◌, ◌<◌, length};
 ghost use Rattle.rules.specs.Limits.{fields_most};
-ghost use Rattle.names.specs.Repeats.{at_most};
 ghost use Rattle.texts.specs.Fills.{filled};
 ghost use Rattle.texts.specs.NameStarts.{buckets, no_start, bucket_of, start_in, StartPut};
 
 use crate::fills::fill;
-use crate::shown_slots::wide;
 use names::repeats::key_of;
 use rules::SHORT_MOST;
 
 // Names fall into so many buckets, by the numbers that their bytes make.
 const BUCKETS: usize = 1013;
 
+// A byte and no Option: it stands in a state that the caller stores.
 const NO_START: u8 = 255;
 
 // No name is put in yet.
@@ -37,16 +36,7 @@ pub(crate) fn walk_start(starts: &[u8], name: [u8; SHORT_MOST]) -> usize
     ensures { result ≡ start_in starts.now name }
 {
     let bucket = bucket_of(name);
-    wide(starts[bucket])
-}
-
-// The lower of a start and an index.
-fn lower_start(start: u8, i: usize) -> u8
-    requires { i < fields_most }
-    ensures { result ≡ at_most i start }
-{
-    let own = i as u8;
-    if own < start { own } else { start }
+    usize::from(starts[bucket])
 }
 
 // A held name of index i put in.
@@ -58,5 +48,5 @@ pub(crate) fn put_start(starts: &mut [u8], name: [u8; SHORT_MOST], i: usize)
         return;
     }
     let bucket = bucket_of(name);
-    starts[bucket] = lower_start(starts[bucket], i);
+    starts[bucket] = starts[bucket].min(i as u8);
 }

@@ -1,30 +1,31 @@
-// The value of a number word.
-ghost use Rattle.std.specs.Prelude.{true, ◌≡◌, ◌≤◌};
+// The number that a word is.
+ghost use Rattle.std.specs.Prelude.{◌≡◌, ◌≤◌, cond, None, Some, IfSome};
 ghost use Rattle.rules.specs.Limits.{number_most};
-ghost use Rattle.names.specs.Classes.{class_table};
 ghost use Rattle.text_laws.specs.Reader.{is_number_word, word_value};
 
-use names::classes::is_digit_in;
+use names::classes::Classes;
 use rules::NUMBER_MOST;
 
-// The value of a word of digits that is a number; of another word, some number.
-pub(crate) fn word_value(classes: &[u8; 256], w: &[u8]) -> usize
-    requires { classes.now ≡ class_table }
-    ensures most { result ≤ number_most }
-    ensures same { is_number_word w.now ≡ true → result ≡ word_value w.now }
+// Digits without a leading 0, at most NUMBER_MOST.
+pub(crate) fn number_of(classes: &Classes, w: &[u8]) -> Option<usize>
+    ensures most { IfSome result (λ v. v ≤ number_most) }
+    ensures same { result ≡ cond (is_number_word w.now) (Some (word_value w.now)) None }
 {
-    let mut v: usize = 0;
-    let mut i = 0;
-    while i < w.len() {
-        let c = w[i];
-        if !is_digit_in(classes, c) {
-            return 0;
-        }
-        v = v * 10 + (c as usize - 48);
-        if v > NUMBER_MOST {
-            return 0;
-        }
-        i += 1;
+    if w.is_empty() {
+        return None;
     }
-    v
+    if w[0] == b'0' && w.len() != 1 {
+        return None;
+    }
+    let mut v: usize = 0;
+    for &c in w {
+        if !classes.is_digit(c) {
+            return None;
+        }
+        v = v * 10 + usize::from(c - b'0');
+        if v > NUMBER_MOST {
+            return None;
+        }
+    }
+    Some(v)
 }

@@ -3,9 +3,9 @@ ghost use Rattle.std.specs.Prelude.{◌≡◌, ◌+◌, ◌≤◌, length};
 ghost use Rattle.texts.specs.PartPlaces.{NamesFit};
 ghost use Rattle.texts.specs.HeldRecords.{is_named_by, is_placed_by, PartShows};
 
-use crate::kinds::FIXED;
+use crate::kinds::Width;
 use crate::line_parts::Parts;
-use crate::shown_slots::{slot_end, wide};
+use crate::shown_slots::slot_end;
 use names::words::same_words;
 
 // The name is the label or the short name of a line.
@@ -13,26 +13,19 @@ fn is_name_in(name: &[u8], line: &[u8], p: Parts) -> bool
     requires { NamesFit (length line.now) p.label p.short }
     ensures { result ≡ is_named_by name.now line.now p }
 {
-    let label = p.label;
-    if same_words(name, &line[0..label]) {
-        return true;
-    }
     let at = p.short.at;
     let end = at + p.short.len;
-    same_words(name, &line[at..end])
+    same_words(name, &line[0..p.label]) || same_words(name, &line[at..end])
 }
 
 // A fixed field has a bit cell of its width, any other a long row.
-fn is_place_in(long: bool, bits: usize, p: Parts) -> bool
-    ensures { result ≡ is_placed_by long bits p }
+fn is_place_in(long: bool, bits: usize, w: Width) -> bool
+    ensures { result ≡ is_placed_by long bits w }
 {
-    if p.kind != FIXED {
-        return long;
+    match w {
+        Width::Fixed(m) => !long && bits == m,
+        _ => long,
     }
-    if long {
-        return false;
-    }
-    bits == p.bits
 }
 
 // The cell that is kept at a place is one for the field of a line.
@@ -41,8 +34,6 @@ pub(crate) fn part_shows(cells: &[u8], at: usize, line: &[u8], p: Parts) -> bool
     ensures { PartShows cells.now at line.now p result }
 {
     let end = slot_end(cells, at);
-    if is_name_in(&cells[at + 3..end], line, p) {
-        return is_place_in(cells[at] == 1, wide(cells[at + 1]), p);
-    }
-    false
+    is_name_in(&cells[at + 3..end], line, p)
+        && is_place_in(cells[at] == 1, usize::from(cells[at + 1]), p.width)
 }

@@ -4,62 +4,44 @@ ghost use Rattle.base.specs.Lists.{all};
 ghost use Rattle.rules.specs.Trees.{is_small};
 ghost use Rattle.rules.specs.Fields.{trees};
 ghost use Rattle.texts.specs.Resolved.{types_kept};
-ghost use Rattle.texts.specs.HeldRecords.{is_small_as, is_type_as, TestsForm};
+ghost use Rattle.texts.specs.HeldRecords.{is_small_as, is_small_maybe};
+ghost use Rattle.texts.specs.HeldRecords.{is_type_maybe, TestsForm};
 
 use crate::line_parts::Parts;
-use rules::{DEPTH_MOST, STORED_MOST};
+use crate::stored_nodes::is_type;
+use crate::stored_trees::StoredTree;
+use rules::{DEPTH_MOST, STORED_MOST, ValueType};
 
-// An expression of depth `d` and stored length `z`, or none.
-fn is_small(d: usize, z: usize) -> bool
-    ensures { result ≡ is_small_as d z }
+fn is_small(t: StoredTree) -> bool
+    ensures { result ≡ is_small_as t }
 {
-    if z == 0 {
-        return true;
-    }
-    if d <= DEPTH_MOST {
-        return z <= STORED_MOST;
-    }
-    false
+    t.depth <= DEPTH_MOST && t.len <= STORED_MOST
+}
+
+fn is_small_maybe(t: Option<StoredTree>) -> bool
+    ensures { result ≡ is_small_maybe t }
+{
+    t.is_none_or(is_small)
 }
 
 // Each expression is small enough.
 pub(crate) fn sizes_kept(p: Parts) -> bool
     ensures { TestsForm p (λ names n x. all is_small (trees x)) result }
 {
-    let width = p.width;
-    if is_small(width.depth, width.len) {
-        let constraint = p.constraint;
-        if is_small(constraint.depth, constraint.len) {
-            let condition = p.condition;
-            return is_small(condition.depth, condition.len);
-        }
-        return false;
-    }
-    false
+    is_small_maybe(p.width.tree()) && is_small_maybe(p.constraint) && is_small_maybe(p.condition)
 }
 
-// An expression of stored length `z`, or none, gives what is wanted.
-fn is_type(z: usize, gives: usize, wanted: usize) -> bool
-    ensures { result ≡ is_type_as z gives wanted }
+fn is_type_maybe(t: Option<StoredTree>, wanted: ValueType) -> bool
+    ensures { result ≡ is_type_maybe t wanted }
 {
-    if z == 0 {
-        return true;
-    }
-    gives == wanted
+    t.is_none_or(|t| is_type(t.gives, wanted))
 }
 
 // Each expression has its type and reads what it may.
 pub(crate) fn types_kept(p: Parts) -> bool
     ensures { TestsForm p types_kept result }
 {
-    let width = p.width;
-    if is_type(width.len, width.gives, 1) {
-        let constraint = p.constraint;
-        if is_type(constraint.len, constraint.gives, 2) {
-            let condition = p.condition;
-            return is_type(condition.len, condition.gives, 2);
-        }
-        return false;
-    }
-    false
+    is_type_maybe(p.width.tree(), ValueType::Number)
+        && is_type_maybe(p.constraint, ValueType::YesNo)
+        && is_type_maybe(p.condition, ValueType::YesNo)
 }

@@ -9,10 +9,10 @@ ghost use Rattle.rules.specs.Promises.{leaves};
 ghost use Rattle.rules.specs.Pieces.{StartsText, TakesPiece, EndsText};
 ghost use Rattle.text_laws.specs.Fold as fold;
 ghost use Rattle.laws.specs.Places.{two_at};
+ghost use Rattle.texts.specs.HeldAreas.{held_room};
 ghost use Rattle.texts.specs.LineEnds.{printable_length};
-ghost use Rattle.texts.specs.RowPlaces.{row_room};
 ghost use Rattle.texts.specs.StateNumbers.{state_room};
-ghost use Rattle.texts.specs.WalkSteps.{LinesFit, LinesLeft};
+ghost use Rattle.texts.specs.WalkSteps.{LinesFit, LinesLeft, WalkStep};
 ghost use Rattle.texts.specs.PieceStates.{
   fresh_state,
   Left,
@@ -26,17 +26,17 @@ ghost use Rattle.texts.specs.PieceStates.{
 
 use crate::cell_texts::{LINE_ROOM, ROW_ROOM};
 use crate::fills::fill;
-use crate::held_areas::{LABELS_AT, NAMES_AT, TABLE_AT};
+use crate::held_areas::{LABELS_AT, NAMES_AT};
 use crate::line_joins::end_held;
 use crate::name_starts::clear_starts;
 use crate::state_areas::{COUNTS_AT, HELD_AT, LINE_AT, ROW_AT, STATE_BYTES, USED_AT};
 use crate::state_counts::{load_counts, save_counts};
-use crate::state_numbers::{least, load, save, two_at};
+use crate::state_numbers::{load, save, two_at};
 use crate::states::Reading;
 use crate::text_bytes::line_end;
 use crate::text_ends::{cut_line, end_text};
 use crate::walks::{Walked, bad_byte, walk_lines};
-use rules::{FIELDS_MOST, LINE_MOST, TEXT_MOST, TextAnswer};
+use rules::{FIELDS_MOST, LINE_MOST, TEXT_MOST, TextAnswer, TextRefusal};
 use writing::puts::{put, put_two};
 
 // No line is held, and nothing stands in the row's part behind n lines.
@@ -56,7 +56,7 @@ fn cut_state(s: &mut [u8], size: usize)
     ensures cut { CutState size s.old s.new }
 {
     let r = load(s, size);
-    let q = cut_line(r, &s[ROW_AT..COUNTS_AT]);
+    let q = cut_line(r, s[ROW_AT..COUNTS_AT].as_array().unwrap());
     save(s, q);
     clear_parts(s, q.row);
 }
@@ -69,13 +69,37 @@ fn add_part(s: &mut [u8], size: usize, part: &[u8])
         → k.size + length part.now ≤ size → StateHolds k s.old
         → StateHolds (foldl fold.fed k part.now) s.new }
 {
-    let used = least(two_at(s, USED_AT), LINE_MOST);
+    let used = two_at(s, USED_AT).min(LINE_MOST);
     if LINE_MOST - used < part.len() {
         cut_state(s, size);
         return;
     }
     put(s, LINE_AT + used, part);
     put_two(s, USED_AT, used + part.len());
+}
+
+// The lines of a piece from a place on, with what is held in a part of a state. The part is made an array only here: in
+// the caller no clause would tell what the state ends as.
+fn walk_rest(
+    r: Reading,
+    piece: &[u8],
+    from: usize,
+    area: &mut [u8],
+    row: &mut [u8; ROW_ROOM],
+    counts: &mut [u16; FIELDS_MOST],
+) -> Walked
+    requires { (from ≤ length piece.now) × (length piece.now ≤ text_most)
+        × LinesFit (length piece.now - from) r × (length area.old ≡ held_room) }
+    ensures place { result.at ≤ length piece.now }
+    ensures room { LinesLeft (length piece.now - from) r
+        (length piece.now - result.at) result.reading }
+    ensures step { WalkStep piece.now from r result area.old area.new
+        row.old row.new counts.old counts.new }
+{
+    let Some(held) = area.as_mut_array() else {
+        unreachable!();
+    };
+    walk_lines(r, piece, from, held, row, counts)
 }
 
 // The lines of a piece behind the held line; its first byte that is not printable has the place `e`.
@@ -85,12 +109,11 @@ fn walk_piece(
     used: usize,
     piece: &[u8],
     e: usize,
-    row: &mut [u8],
-    counts: &mut [u16],
+    row: &mut [u8; ROW_ROOM],
+    counts: &mut [u16; FIELDS_MOST],
 ) -> Walked
     requires { LinesFit (length piece.now) r × (length piece.now ≤ text_most) × (e < length piece.now)
-        × (e ≡ 0 + printable_length (drop 0 piece.now)) × (used ≤ line_most) × (state_room ≤ length s.old)
-        × (row_room ≤ length row.old) }
+        × (e ≡ 0 + printable_length (drop 0 piece.now)) × (used ≤ line_most) × (state_room ≤ length s.old) }
     ensures place { result.at ≤ length piece.now }
     ensures room { LinesLeft (length piece.now) r
         (length piece.now - result.at) result.reading }
@@ -105,13 +128,12 @@ fn walk_piece(
         };
     }
     let q = end_held(r, s, used, &piece[0..e], row, counts);
-    walk_lines(q, piece, e + 1, &mut s[HELD_AT..STATE_BYTES], row, counts)
+    walk_rest(q, piece, e + 1, &mut s[HELD_AT..STATE_BYTES], row, counts)
 }
 
 // What is kept of whole lines into a state.
-fn store(s: &mut [u8], r: Reading, row: &[u8], counts: &[u16])
-    requires { (state_room ≤ length s.old) × (length row.now ≡ row_room) × (fields_most ≤ length counts.now)
-        × (r.row ≤ row_lines_most) }
+fn store(s: &mut [u8], r: Reading, row: &[u8; ROW_ROOM], counts: &[u16; FIELDS_MOST])
+    requires { (state_room ≤ length s.old) × (r.row ≤ row_lines_most) }
     ensures around { SameAround s.old s.new }
     ensures stored { StoredState s.old r row.now counts.now
         s.new }
@@ -123,17 +145,23 @@ fn store(s: &mut [u8], r: Reading, row: &[u8], counts: &[u16])
 }
 
 // A piece with a line feed, or with a byte that is not allowed, at `e`; before it the text had so many bytes.
-fn take_lines(s: &mut [u8], size: usize, piece: &[u8], e: usize, row: &mut [u8], counts: &mut [u16])
+fn take_lines(
+    s: &mut [u8],
+    size: usize,
+    piece: &[u8],
+    e: usize,
+    row: &mut [u8; ROW_ROOM],
+    counts: &mut [u16; FIELDS_MOST],
+)
     requires { (state_room ≤ length s.old) × (size + length piece.now ≤ text_most) × (e < length piece.now)
-        × (e ≡ 0 + printable_length (drop 0 piece.now)) × (length row.old ≡ row_room)
-        × (length counts.old ≡ fields_most) }
+        × (e ≡ 0 + printable_length (drop 0 piece.now)) }
     ensures around { SameAround s.old s.new }
     ensures step { (k : fold.Kept) → k.size ≡ size → StateHolds k s.old
         → StateHolds (foldl fold.fed k piece.now) s.new }
 {
     put(row, 0, &s[ROW_AT..COUNTS_AT]);
     load_counts(&s[COUNTS_AT..HELD_AT], counts);
-    let used = least(two_at(s, USED_AT), LINE_MOST);
+    let used = two_at(s, USED_AT).min(LINE_MOST);
     let r = load(s, size);
     let w = walk_piece(r, s, used, piece, e, row, counts);
     let q = w.reading;
@@ -160,6 +188,7 @@ fn take_short(s: &mut [u8], size: usize, piece: &[u8])
 }
 
 // A state that is long enough, and a piece of some bytes.
+// A text that got too long is told by its length, TEXT_MOST + 1: two bytes of the state.
 fn take_piece(s: &mut [u8], piece: &[u8])
     requires { (state_room ≤ length s.old) × (0 < length piece.now) }
     ensures { TakesPiece Left s.old piece.now s.new }
@@ -202,28 +231,26 @@ pub fn text_piece(state: &mut [u8], piece: &[u8])
     if state.len() < STATE_BYTES {
         return;
     }
-    if piece.len() == 0 {
+    if piece.is_empty() {
         return;
     }
     take_piece(state, piece);
 }
 
 // The end of a text that is not too long, with room for counts.
-fn end_state(s: &[u8], size: usize, counts: &mut [u16], out: &mut [u8]) -> TextAnswer
-    requires { (state_room ≤ length s.now) × (size ≤ text_most) × (size ≡ two_at s.now 0)
-        × (length counts.old ≡ fields_most) }
+fn end_state(s: &[u8], size: usize, counts: &mut [u16; FIELDS_MOST], out: &mut [u8]) -> TextAnswer
+    requires { (state_room ≤ length s.now) × (size ≤ text_most) × (size ≡ two_at s.now 0) }
     ensures end { EndsText Left s.now out.old (leaves (of_text result) out.new) }
     ensures place { (of_text result).place ≤ text_most + 1 }
 {
     load_counts(&s[COUNTS_AT..HELD_AT], counts);
     let r = load(s, size);
     let whole = two_at(s, USED_AT) == 0;
-    let table = HELD_AT + TABLE_AT;
     end_text(
         r,
         whole,
-        &s[ROW_AT..COUNTS_AT],
-        &s[table..STATE_BYTES],
+        s[ROW_AT..COUNTS_AT].as_array().unwrap(),
+        s[HELD_AT..STATE_BYTES].as_array().unwrap(),
         counts,
         out,
     )
@@ -237,11 +264,11 @@ pub fn text_end(state: &[u8], out: &mut [u8]) -> TextAnswer
     ensures place { (of_text result).place ≤ text_most + 1 }
 {
     if state.len() < STATE_BYTES {
-        return TextAnswer::NoRoom;
+        return Err(TextRefusal::NoRoom);
     }
     let size = two_at(state, 0);
     if TEXT_MOST < size {
-        return TextAnswer::TooLong;
+        return Err(TextRefusal::TooLong);
     }
     let mut counts = [0u16; FIELDS_MOST];
     end_state(state, size, &mut counts, out)

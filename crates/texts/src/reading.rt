@@ -3,34 +3,31 @@ ghost use Rattle.std.specs.Prelude.{◌≤◌, length};
 ghost use Rattle.rules.specs.Answers.{of_text};
 ghost use Rattle.rules.specs.Limits.{text_most};
 ghost use Rattle.rules.specs.Promises.{ReadsText, leaves};
-ghost use Rattle.texts.specs.HeldAreas.{held_room};
-ghost use Rattle.texts.specs.RowPlaces.{row_room};
 ghost use Rattle.texts.specs.States.{NoneCounted};
 
 use crate::cell_texts::ROW_ROOM;
-use crate::held_areas::{HELD_ROOM, LABELS_AT, NAMES_AT, TABLE_AT};
+use crate::held_areas::{HELD_ROOM, LABELS_AT, NAMES_AT};
 use crate::name_starts::clear_starts;
 use crate::states::begin;
 use crate::text_ends::end_text;
 use crate::walks::walk_lines;
-use rules::{FIELDS_MOST, TEXT_MOST, TextAnswer};
+use rules::{FIELDS_MOST, TEXT_MOST, TextAnswer, TextRefusal};
 
 // The lines of a text, and its end, with room for what is kept of it.
 fn read_held(
     text: &[u8],
     out: &mut [u8],
-    held: &mut [u8],
-    row: &mut [u8],
-    counts: &mut [u16],
+    held: &mut [u8; HELD_ROOM],
+    row: &mut [u8; ROW_ROOM],
+    counts: &mut [u16; FIELDS_MOST],
 ) -> TextAnswer
-    requires { (length text.now ≤ text_most) × (held_room ≤ length held.old)
-        × (row_room ≤ length row.old) × NoneCounted counts.old }
+    requires { (length text.now ≤ text_most) × NoneCounted counts.old }
     ensures { ReadsText text.now out.old (leaves (of_text result) out.new) }
 {
     clear_starts(&mut held[NAMES_AT..LABELS_AT]);
     let w = walk_lines(begin(), text, 0, held, row, counts);
     let r = w.reading;
-    end_text(r, w.at == text.len(), row, &held[TABLE_AT..], counts, out)
+    end_text(r, w.at == text.len(), row, held, counts, out)
 }
 
 // A text that is not too long.
@@ -49,7 +46,7 @@ pub fn read_text(text: &[u8], out: &mut [u8]) -> TextAnswer
     ensures { ReadsText text.now out.old (leaves (of_text result) out.new) }
 {
     if TEXT_MOST < text.len() {
-        return TextAnswer::TooLong;
+        return Err(TextRefusal::TooLong);
     }
     read_short(text, out)
 }

@@ -1,14 +1,7 @@
 // Where a kept cell ends.
-ghost use Rattle.std.specs.Prelude.{List, ◌++◌, ◌≡◌, ℕ, ◌+◌, ◌≤◌, ◌<◌, length, drop};
+ghost use Rattle.std.specs.Prelude.{List, ◌++◌, ◌≡◌, ℕ, ◌+◌, ◌≤◌, length, drop};
 ghost use Rattle.rules.specs.Frames.{Slot};
 ghost use Rattle.texts.specs.Slots.{stored_slot};
-
-// A byte as a wider number.
-pub(crate) fn wide(b: u8) -> usize
-    ensures { (result ≡ b) × (result < 256) }
-{
-    b as usize
-}
 
 // The place behind the cell that is kept at a place.
 pub(crate) fn slot_end(cells: &[u8], at: usize) -> usize
@@ -18,7 +11,7 @@ pub(crate) fn slot_end(cells: &[u8], at: usize) -> usize
         → result ≡ at + length (stored_slot c) }
 {
     let from = at + 3;
-    let len = wide(cells[at + 2]);
+    let len = usize::from(cells[at + 2]);
     if cells.len() - from < len {
         return from;
     }

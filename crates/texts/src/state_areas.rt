@@ -1,5 +1,5 @@
 // Where the parts of a state stand: numbers, the unfinished line, the lines of the open row, how often each field is
-// read, and what else is held.
+// read, and what else is held. A state is bytes that the caller lends, so its parts stand at places and in no struct.
 use crate::cell_texts::ROW_ROOM;
 use crate::held_areas::HELD_ROOM;
 use rules::{FIELDS_MOST, LINE_MOST};

@@ -7,28 +7,26 @@ use crate::state_numbers::two_at;
 use rules::FIELDS_MOST;
 
 // The counts of a state's bytes.
-pub(crate) fn load_counts(s: &[u8], counts: &mut [u16])
-    requires { (2 * fields_most ≤ length s.now) × (length counts.old ≡ fields_most) }
+// By index: under `zip` no invariant of a loop can name the counts that are written.
+pub(crate) fn load_counts(s: &[u8], counts: &mut [u16; FIELDS_MOST])
+    requires { 2 * fields_most ≤ length s.now }
     ensures { counts.new ≡ twos_in fields_most s.now }
 {
-    let mut i = 0;
-    while i < FIELDS_MOST {
-        counts[i] = two_at(s, 2 * i) as u16;
-        i += 1;
+    for (i, count) in counts.iter_mut().enumerate() {
+        *count = two_at(s, 2 * i) as u16;
     }
 }
 
 // Counts into a state's bytes.
-pub(crate) fn save_counts(counts: &[u16], s: &mut [u8])
-    requires { (2 * fields_most ≤ length s.old) × (fields_most ≤ length counts.now) }
+// By index: under `zip` no invariant of a loop can name the bytes that are written.
+pub(crate) fn save_counts(counts: &[u16; FIELDS_MOST], s: &mut [u8])
+    requires { 2 * fields_most ≤ length s.old }
     ensures twos { twos_in fields_most s.new ≡ take fields_most counts.now }
     ensures beyond { drop (2 * fields_most) s.new ≡ drop (2 * fields_most) s.old }
 {
-    let mut i = 0;
-    while i < FIELDS_MOST {
-        let n = counts[i];
-        s[2 * i] = (n % 256) as u8;
-        s[2 * i + 1] = (n / 256) as u8;
-        i += 1;
+    for (i, &n) in counts.iter().enumerate() {
+        let [low, high] = n.to_le_bytes();
+        s[2 * i] = low;
+        s[2 * i + 1] = high;
     }
 }

@@ -2,21 +2,23 @@
 // to what can be.
 ghost use Rattle.std.specs.Prelude.{◌≡◌, ◌+◌, ◌≤◌, length};
 ghost use Rattle.rules.specs.Limits.{text_most};
+ghost use Rattle.rules.specs.Trees.{le2};
 ghost use Rattle.laws.specs.Places.{two_at};
 ghost use Rattle.texts.specs.StateNumbers.{
   line_at,
   stage_code,
   stage_at,
+  note_code,
+  note_at,
   number_bytes,
   Fits,
   Loaded,
-  LoadedNote,
   Saved,
 };
+ghost use Rattle.texts.specs.Noted.{place_of};
 
-use crate::notes::Note;
-use crate::shown_slots::wide;
-use crate::slots::yes_no;
+use crate::held_areas::SLOT_MOST;
+use crate::notes::{Note, number_of, place_of};
 use crate::states::{Reading, Stage};
 use rules::{FIELDS_MOST, LABEL_MOST, RECORD_MOST, ROW_LINES_MOST};
 use writing::puts::put;
@@ -24,113 +26,78 @@ use writing::puts::put;
 // Where the numbers of the reading stand.
 const NUMBERS_AT: usize = 4;
 
-// The longest row, and the most bytes of a stored cell.
+// The longest row.
 const WIDTH_MOST: usize = 32;
 
-const SLOT_MOST: usize = 43;
-
-// A number in two bytes, the least first.
+// A number in two bytes, the least first. Not the one of packets, which has another promise behind the end.
 pub(crate) fn two_at(s: &[u8], at: usize) -> usize
     requires { at + 2 ≤ length s.now }
     ensures { (result ≡ two_at s.now at) × (result ≤ 65535) }
 {
-    wide(s[at]) + 256 * wide(s[at + 1])
+    usize::from(u16::from_le_bytes([s[at], s[at + 1]]))
 }
 
-pub(crate) fn least(a: usize, b: usize) -> usize
-    ensures { (result ≤ a) × (result ≤ b) × (a ≤ b → result ≡ a) }
-{
-    if b < a {
-        return b;
-    }
-    a
-}
+// The stage of a code; one that is none stands for the last.
+// A match, as no cast goes from a number to a variant.
+impl From<u8> for Stage {
+    ghost from_gives = { λ code stage. stage ≡ stage_at code };
 
-fn most(a: usize, b: usize) -> usize
-    ensures { (a ≤ result) × (b ≤ result) × (b ≤ a → result ≡ a) × (a ≤ b → result ≡ b) }
-{
-    if a < b {
-        return b;
-    }
-    a
-}
-
-fn stage_at(code: u8) -> Stage
-    ensures { result ≡ stage_at code }
-{
-    match code {
-        0 => Stage::Opening,
-        1 => Stage::Blank,
-        2 => Stage::TensRuler,
-        3 => Stage::UnitsRuler,
-        4 => Stage::TopBorder,
-        5 => Stage::FirstRow,
-        6 => Stage::InRow,
-        7 => Stage::RowOrBlank,
-        8 => Stage::WhereLine,
-        9 => Stage::LastBlank,
-        10 => Stage::FirstField,
-        11 => Stage::FieldLine,
-        _ => Stage::Lost,
+    #[tactic(auto, unfolding(crate::specs::StateNumbers::stage_at))]
+    fn from(code: u8) -> Stage {
+        match code {
+            0 => Stage::Opening,
+            1 => Stage::Blank,
+            2 => Stage::TensRuler,
+            3 => Stage::UnitsRuler,
+            4 => Stage::TopBorder,
+            5 => Stage::FirstRow,
+            6 => Stage::InRow,
+            7 => Stage::RowOrBlank,
+            8 => Stage::WhereLine,
+            9 => Stage::LastBlank,
+            10 => Stage::FirstField,
+            11 => Stage::FieldLine,
+            _ => Stage::Lost,
+        }
     }
 }
 
-fn stage_code(stage: Stage) -> u8
-    ensures { result ≡ stage_code stage }
-{
-    match stage {
-        Stage::Opening => { 0 }
-        Stage::Blank => { 1 }
-        Stage::TensRuler => { 2 }
-        Stage::UnitsRuler => { 3 }
-        Stage::TopBorder => { 4 }
-        Stage::FirstRow => { 5 }
-        Stage::InRow => { 6 }
-        Stage::RowOrBlank => { 7 }
-        Stage::WhereLine => { 8 }
-        Stage::LastBlank => { 9 }
-        Stage::FirstField => { 10 }
-        Stage::FieldLine => { 11 }
-        Stage::Lost => { 12 }
+impl From<Stage> for u8 {
+    ghost from_gives = { λ stage code. code ≡ stage_code stage };
+
+    #[tactic(auto, unfolding(crate::specs::StateNumbers::stage_code))]
+    fn from(stage: Stage) -> u8 {
+        stage as u8
     }
 }
 
-fn no_note() -> Note
-    ensures { (result.number ≡ 0) × (result.place ≡ 0) }
+// The refusal of a number and a place; none where the number is that of none.
+// Numbers, as a state keeps a refusal as bytes; a function, as Option and pair are no types of this crate.
+#[tactic(auto, unfolding(crate::specs::StateNumbers::note_at))]
+fn load_note(number: u8, place: usize) -> Option<Note>
+    ensures { result ≡ note_at number place }
 {
-    Note {
-        number: 0,
-        place: 0,
+    match number {
+        2 => Some(Note::BadByte),
+        3 => Some(Note::BadLine(place)),
+        4 => Some(Note::TooMany),
+        5 => Some(Note::BadForm(place)),
+        6 => Some(Note::OverLimit(place)),
+        7 => Some(Note::Mismatch(place)),
+        8 => Some(Note::Repeated(place)),
+        9 => Some(Note::BadName(place)),
+        10 => Some(Note::BadRest(place)),
+        _ => None,
     }
 }
 
-// A refusal behind so many lines; none where it cannot be one. 2 and 4 have no place.
-fn load_note(number: usize, place: usize, lines: usize) -> Note
-    requires { lines ≤ text_most }
-    ensures { LoadedNote lines number place result }
+// The number and the place of a refusal, 0 and 0 where there is none.
+// Numbers, as a state keeps a refusal as bytes.
+#[tactic(auto, unfolding(crate::specs::StateNumbers::note_code))]
+fn note_numbers(a: Option<Note>) -> (u8, usize)
+    ensures { (result.0 ≡ note_code a) × (result.1 ≡ place_of a) }
 {
-    if number == 1 {
-        return no_note();
-    }
-    if 10 < number {
-        return no_note();
-    }
-    if number == 2 {
-        return Note {
-            number: 2,
-            place: 0,
-        };
-    }
-    if number == 4 {
-        return Note {
-            number: 4,
-            place: 0,
-        };
-    }
-    Note {
-        number: number,
-        place: least(place, lines + 1),
-    }
+    a.map_or((0, 0), |n| (number_of(n), place_of(n)))
 }
 
 // The reading of a state of a text of so many bytes.
@@ -138,60 +105,70 @@ pub(crate) fn load(s: &[u8], size: usize) -> Reading
     requires { (line_at ≤ length s.now) × (size ≤ text_most) }
     ensures { Loaded size s.now result }
 {
-    let lines = least(two_at(s, 4), size);
-    let name = least(wide(s[8]), LABEL_MOST);
-    let cells = least(wide(s[10]), FIELDS_MOST);
-    let slots = least(two_at(s, 14), SLOT_MOST * cells);
-    let count = least(wide(s[11]), FIELDS_MOST);
-    let fields = least(wide(s[12]), count);
-    let end = least(two_at(s, 18), LABEL_MOST + RECORD_MOST * fields);
-    let note = load_note(wide(s[20]), two_at(s, 22), lines);
+    let lines = two_at(s, 4).min(size);
+    let name = usize::from(s[8]).min(LABEL_MOST);
+    let cells = usize::from(s[10]).min(FIELDS_MOST);
+    let slots = two_at(s, 14).min(SLOT_MOST * cells);
+    let count = usize::from(s[11]).min(FIELDS_MOST);
+    let fields = usize::from(s[12]).min(count);
+    let end = two_at(s, 18).min(LABEL_MOST + RECORD_MOST * fields);
     Reading {
-        lines: lines,
-        stage: stage_at(s[6]),
-        width: least(wide(s[7]), WIDTH_MOST),
-        name: name,
-        row: least(wide(s[9]), ROW_LINES_MOST),
-        cells: cells,
-        slots: slots,
-        cell: least(two_at(s, 16), slots),
-        count: count,
-        fields: fields,
-        end: most(end, name),
+        lines,
+        stage: Stage::from(s[6]),
+        width: usize::from(s[7]).min(WIDTH_MOST),
+        name,
+        row: usize::from(s[9]).min(ROW_LINES_MOST),
+        cells,
+        slots,
+        cell: two_at(s, 16).min(slots),
+        count,
+        fields,
+        end: end.max(name),
         rested: s[13] == 1,
-        note: note,
+        note: load_note(s[20], two_at(s, 22).min(lines + 1)),
     }
 }
 
+// A number below 65,536 in two bytes, the least first; of a larger one its remainder.
+#[tactic(auto, unfolding(rules::specs::Trees::le2))]
+fn two_of(n: usize) -> [u8; 2]
+    ensures { result ≡ le2 n }
+{
+    ((n % 65536) as u16).to_le_bytes()
+}
+
 // The bytes of a reading's numbers.
+// By remainders: no bound on a reading is asked for here.
 fn number_bytes(r: Reading) -> [u8; 20]
     ensures { result ≡ number_bytes r }
 {
-    let stage = r.stage;
-    let note = r.note;
-    let code = stage_code(stage);
-    let rested = yes_no(r.rested);
+    let (number, refused_at) = note_numbers(r.note);
+    let lines = two_of(r.lines);
+    let slots = two_of(r.slots);
+    let cell = two_of(r.cell);
+    let end = two_of(r.end);
+    let place = two_of(refused_at);
     [
-        (r.lines % 256) as u8,
-        (r.lines / 256 % 256) as u8,
-        code,
+        lines[0],
+        lines[1],
+        u8::from(r.stage),
         (r.width % 256) as u8,
         (r.name % 256) as u8,
         (r.row % 256) as u8,
         (r.cells % 256) as u8,
         (r.count % 256) as u8,
         (r.fields % 256) as u8,
-        rested,
-        (r.slots % 256) as u8,
-        (r.slots / 256 % 256) as u8,
-        (r.cell % 256) as u8,
-        (r.cell / 256 % 256) as u8,
-        (r.end % 256) as u8,
-        (r.end / 256 % 256) as u8,
-        (note.number % 256) as u8,
+        u8::from(r.rested),
+        slots[0],
+        slots[1],
+        cell[0],
+        cell[1],
+        end[0],
+        end[1],
+        number,
         0,
-        (note.place % 256) as u8,
-        (note.place / 256 % 256) as u8,
+        place[0],
+        place[1],
     ]
 }
 

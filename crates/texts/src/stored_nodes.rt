@@ -1,32 +1,23 @@
 // Stored expressions made of numbers, of names and of smaller ones.
-ghost use Rattle.std.specs.Prelude.{◌≡◌, cond, [], ◌∷◌, ◌+◌, ◌*◌, ◌≤◌, ◌<◌, max, ltb, length, take};
+ghost use Rattle.std.specs.Prelude.{None, Some, ◌≡◌, cond, [], ◌∷◌, ◌+◌, ◌*◌, ◌≤◌, ◌<◌, ltb, length, take};
+ghost use Rattle.rules.specs.declared.ValueType.TheVariants.{Number};
 ghost use Rattle.rules.specs.Limits.{text_most, fields_most};
 ghost use Rattle.rules.specs.Operators.{number_code, field_code};
 ghost use Rattle.rules.specs.Trees.{le4};
-ghost use Rattle.texts.specs.StoredTrees.{type_code, held};
+ghost use Rattle.texts.specs.StoredTrees.{is_type, form_length, held};
 ghost use Rattle.texts.specs.StoredPlaces.{Made, two_type, not_type, NotMade, TwoMade};
 
 use crate::stored_trees::StoredTree;
+use operators::codes::{FIELD_CODE, NUMBER_CODE};
 use operators::rows::operator;
 use rules::{Op, ValueType};
 
-// Where there is no expression.
-pub(crate) fn no_tree() -> StoredTree
-    ensures { result.len ≡ 0 }
+// The length of the stored form of an expression, 0 where there is none.
+// 0 and no None: the record stores it so.
+pub(crate) fn form_length(t: Option<StoredTree>) -> usize
+    ensures { result ≡ form_length t }
 {
-    StoredTree {
-        next: 0,
-        gives: 0,
-        depth: 0,
-        len: 0,
-    }
-}
-
-// The place, or the end where it lies behind that.
-pub(crate) fn place_in(at: usize, end: usize) -> usize
-    ensures { (result ≤ end) × (at ≤ end → result ≡ at) }
-{
-    if at < end { at } else { end }
+    t.map_or(0, |t| t.len)
 }
 
 // Puts a byte before the first n, if there is room.
@@ -34,77 +25,49 @@ pub(crate) fn put_first(out: &mut [u8], n: usize, c: u8)
     ensures { n < length out.old → take (n + 1) out.new
         ≡ c ∷ take n out.old }
 {
-    if out.len() <= n {
-        return;
-    }
-    let mut held = c;
-    let mut i = 0;
-    while i <= n {
-        let b = out[i];
-        out[i] = held;
-        held = b;
-        i += 1;
+    if n < out.len() {
+        out.copy_within(0..n, 1);
+        out[0] = c;
     }
 }
 
-// A type as a number: 1 for a number, 2 for yes or no.
-pub(crate) fn type_code(t: ValueType) -> usize
-    ensures { result ≡ type_code t }
+// The type of an expression, if it has one, is the one that is wanted.
+pub(crate) fn is_type(given: Option<ValueType>, wanted: ValueType) -> bool
+    ensures { result ≡ is_type wanted given }
 {
-    match t {
-        ValueType::Number => 1,
-        ValueType::YesNo => 2,
-    }
+    given == Some(wanted)
 }
 
-// The type of the whole; 0 where an operand has not the type that the operator takes.
-fn two_type(o: Op, a: usize, b: usize) -> usize
+// The type of the whole; none where an operand has not the type that the operator takes.
+#[tactic(auto, unfolding(operators::specs::Rows::row_of))]
+fn two_type(o: Op, a: Option<ValueType>, b: Option<ValueType>) -> Option<ValueType>
     ensures { result ≡ two_type o a b }
 {
     let row = operator(o);
-    let takes = row.takes;
-    let t = type_code(takes);
-    if a == t {
-        if b == t {
-            let gives = row.gives;
-            return type_code(gives);
-        }
-    }
-    0
+    (is_type(a, row.takes) && is_type(b, row.takes)).then_some(row.gives)
 }
 
-pub(crate) fn larger(a: usize, b: usize) -> usize
-    ensures { result ≡ max a b }
-{
-    if a < b { b } else { a }
-}
-
-fn not_type(a: usize) -> usize
+fn not_type(a: Option<ValueType>) -> Option<ValueType>
     ensures { result ≡ not_type a }
 {
-    if a == 2 { 2 } else { 0 }
-}
-
-fn name_type(index: usize, n: usize) -> usize
-    ensures { result ≡ cond (ltb index n) 1 0 }
-{
-    if index < n { 1 } else { 0 }
+    is_type(a, ValueType::YesNo).then_some(ValueType::YesNo)
 }
 
 // The number before the place `next`, if there is room.
 pub(crate) fn number_node(value: usize, next: usize, out: &mut [u8]) -> StoredTree
-    ensures { Made next 1 1 5 (number_code ∷ le4 value) (held result out.new) }
+    ensures { Made next (Some Number) 1 5 (number_code ∷ le4 value) (held result out.new) }
 {
     if 5 <= out.len() {
-        out[0] = 1;
+        out[0] = NUMBER_CODE;
+        // By the remainders of le4, not by to_le_bytes: no bound says here that a number fits into four bytes.
         out[1] = (value % 256) as u8;
         out[2] = (value / 256 % 256) as u8;
         out[3] = (value / 256 / 256 % 256) as u8;
         out[4] = (value / 256 / 256 / 256 % 256) as u8;
     }
     StoredTree {
-        next: next,
-        gives: 1,
+        next,
+        gives: Some(ValueType::Number),
         depth: 1,
         len: 5,
     }
@@ -113,16 +76,16 @@ pub(crate) fn number_node(value: usize, next: usize, out: &mut [u8]) -> StoredTr
 // The field of an index among n, before the place `next`.
 pub(crate) fn field_node(index: usize, n: usize, next: usize, out: &mut [u8]) -> StoredTree
     requires { index ≤ fields_most }
-    ensures { Made next (cond (ltb index n) 1 0) 1 2 (field_code ∷ index ∷ []) (held result out.new) }
+    ensures { Made next (cond (ltb index n) (Some Number) None) 1 2 (field_code ∷ index ∷ []) (held result out.new) }
 {
-    let gives = name_type(index, n);
+    let gives = (index < n).then_some(ValueType::Number);
     if 2 <= out.len() {
-        out[0] = 2;
+        out[0] = FIELD_CODE;
         out[1] = index as u8;
     }
     StoredTree {
-        next: next,
-        gives: gives,
+        next,
+        gives,
         depth: 1,
         len: 2,
     }
@@ -138,9 +101,9 @@ pub(crate) fn not_node(p: StoredTree, next: usize, out: &mut [u8]) -> StoredTree
     let n = p.len;
     put_first(out, n, 0x32);
     StoredTree {
-        next: next,
-        gives: gives,
-        depth: depth,
+        next,
+        gives,
+        depth,
         len: 1 + n,
     }
 }
@@ -151,14 +114,14 @@ pub(crate) fn two_node(o: Op, a: StoredTree, b: StoredTree, out: &mut [u8]) -> S
     ensures { TwoMade o a b out.old (held result out.new) }
 {
     let gives = two_type(o, a.gives, b.gives);
-    let depth = 1 + larger(a.depth, b.depth);
+    let depth = 1 + a.depth.max(b.depth);
     let n = a.len + b.len;
     let row = operator(o);
     put_first(out, n, row.code);
     StoredTree {
         next: b.next,
-        gives: gives,
-        depth: depth,
+        gives,
+        depth,
         len: 1 + n,
     }
 }

@@ -2,9 +2,9 @@
 ghost use Rattle.std.specs.Prelude.{◌≡◌, ◌+◌, ◌*◌, ◌≤◌, length, drop};
 ghost use Rattle.rules.specs.Limits.{text_most, fields_most};
 ghost use Rattle.text_laws.specs.LineReader.{read_tree};
-ghost use Rattle.texts.specs.HeldNames.{names_in, Ready};
+ghost use Rattle.texts.specs.HeldNames.{names_in, names_room};
 ghost use Rattle.texts.specs.Chains.{RestMade};
-ghost use Rattle.texts.specs.StoredTrees.{StoredFor, held};
+ghost use Rattle.texts.specs.StoredTrees.{StoredFor, held, maybe_held};
 ghost use Rattle.texts.specs.StoredPlaces.{
   WithinStored,
   LeafStored,
@@ -14,103 +14,92 @@ ghost use Rattle.texts.specs.StoredPlaces.{
 };
 
 use crate::atoms::{Atom, atom_at};
-use crate::chains::{Chain, Link, ended, next_link, no_chain};
+use crate::chains::{Chain, Link, next_link, no_chain};
 use crate::held_names::look_up;
-use crate::leaves::{is_number, is_short_word, word_end};
-use crate::numbers::word_value;
-use crate::signs::{Taken, taken_at};
-use crate::stored_nodes::{field_node, no_tree, not_node, number_node, place_in, two_node};
+use crate::leaves::{is_short_word, word_end};
+use crate::numbers::number_of;
+use crate::signs::taken_at;
+use crate::stored_nodes::{field_node, not_node, number_node, two_node};
+use names::classes::Classes;
 use operators::rows::{ATOM_LEVEL, TIGHTEST_LEVEL};
-use rules::{FIELDS_MOST, OPEN_MOST, SHORT_MOST};
+use rules::{OPEN_MOST, ValueType};
 
-// The place behind an expression, its type (1 number, 2 yes or no, 0 wrong), its depth and the length of its stored
-// form, which stands in an output where that has room for it; no length where there is no expression.
+// The place behind an expression, its type (none where it is wrong), its depth and the length of its stored
+// form, which stands in an output where that has room for it.
 #[derive(Clone, Copy)]
 pub(crate) struct StoredTree {
     pub next: usize,
-    pub gives: usize,
+    pub gives: Option<ValueType>,
     pub depth: usize,
     pub len: usize,
 }
 
 // The name or number at `at`.
 fn tree_leaf(
-    classes: &[u8; 256],
+    classes: &Classes,
     s: &[u8],
     at: usize,
     names: &[u8],
     n: usize,
     out: &mut [u8],
-) -> StoredTree
+) -> Option<StoredTree>
     requires { (at ≤ length s.now) × (n ≤ fields_most)
-        × Ready classes.now names.now }
+        × (names_room ≤ length names.now) }
     ensures place { WithinStored s.now (at + 1) at 0 result }
     ensures same { LeafStored (names_in names.now)
-        n s.now at (held result out.new) }
+        n s.now at (maybe_held result out.new) }
 {
     let end = word_end(classes, s, at);
     if is_short_word(classes, &s[at..end]) {
         let i = look_up(names, n, &s[at..end]);
-        return field_node(i, n, end, out);
+        return Some(field_node(i, n, end, out));
     }
-    if is_number(classes, &s[at..end]) {
-        let v = word_value(classes, &s[at..end]);
-        return number_node(v, end, out);
-    }
-    no_tree()
+    let v = number_of(classes, &s[at..end])?;
+    Some(number_node(v, end, out))
 }
 
 // The closing parenthesis behind an expression; the whole is the expression, or its negation.
-fn tree_closed(s: &[u8], p: StoredTree, neg: bool, out: &mut [u8]) -> StoredTree
+fn tree_closed(s: &[u8], p: StoredTree, neg: bool, out: &mut [u8]) -> Option<StoredTree>
     requires { (p.next ≤ length s.now) × (length s.now ≤ text_most) × (p.len ≤ 5 * p.next)
         × (p.depth ≤ p.len) }
     ensures place { WithinStored s.now (p.next + 1) p.next p.len result }
-    ensures same { ClosedStored s.now neg (held p out.old) (held result out.new) }
+    ensures same { ClosedStored s.now neg (held p out.old) (maybe_held result out.new) }
 {
     let at = p.next;
     if at == s.len() {
-        return no_tree();
+        return None;
     }
     if s[at] == b')' {
         if neg {
-            return not_node(p, at + 1, out);
+            return Some(not_node(p, at + 1, out));
         }
-        return StoredTree {
-            next: at + 1,
-            gives: p.gives,
-            depth: p.depth,
-            len: p.len,
-        };
+        return Some(StoredTree { next: at + 1, ..p });
     }
-    no_tree()
+    None
 }
 
 // `!(`, `(` or a word.
 #[cycle(tree_atom_tree_expr_tree_rest)]
 fn tree_atom(
-    classes: &[u8; 256],
+    classes: &Classes,
     s: &[u8],
     at: usize,
     b: u8,
     names: &[u8],
     n: usize,
     out: &mut [u8],
-) -> StoredTree
+) -> Option<StoredTree>
     requires { (at ≤ length s.now) × (length s.now ≤ text_most) × (n ≤ fields_most)
-        × Ready classes.now names.now }
+        × (names_room ≤ length names.now) }
     ensures place { WithinStored s.now (at + 1) at 0 result }
     ensures same { AtomStored (names_in names.now)
-        n s.now at b (held result out.new) }
+        n s.now at b (maybe_held result out.new) }
 {
-    let start = atom_at(s, at, b);
+    let start = atom_at(s, at, b)?;
     match start {
-        Atom::Nothing => no_tree(),
         Atom::Word => tree_leaf(classes, s, at, names, n, out),
-        Atom::In(from, neg) => {
-            let e = tree_expr(classes, s, from, 0, b - 1, names, n, out);
-            if e.len == 0 {
-                return e;
-            }
+        Atom::Open(from, neg) => {
+            let e = tree_expr(classes, s, from, 0, b - 1, names, n, out)?;
             tree_closed(s, e, neg, out)
         }
     }
@@ -120,7 +109,7 @@ fn tree_atom(
 // tightest level, where operators group to the right, they wait until the last operand is read.
 #[cycle(tree_atom_tree_expr_tree_rest)]
 fn tree_expr(
-    classes: &[u8; 256],
+    classes: &Classes,
     s: &[u8],
     at: usize,
     k: u8,
@@ -128,25 +117,23 @@ fn tree_expr(
     names: &[u8],
     n: usize,
     out: &mut [u8],
-) -> StoredTree
+) -> Option<StoredTree>
     requires { (at ≤ length s.now) × (length s.now ≤ text_most) × (n ≤ fields_most)
-        × Ready classes.now names.now }
+        × (names_room ≤ length names.now) }
     ensures place { WithinStored s.now (at + 1) at 0 result }
     ensures same { ExprStored (names_in names.now)
-        n s.now at k b (held result out.new) }
+        n s.now at k b (maybe_held result out.new) }
 {
     let mut c = no_chain(at);
+    // A plain loop: each operand begins where the one before it ended, and the whole ends it.
     loop {
-        let from = place_in(c.len, out.len());
-        let a = tree_atom(classes, s, c.next, b, names, n, &mut out[from..]);
-        if a.len == 0 {
-            return a;
+        let from = c.len.min(out.len());
+        let a = tree_atom(classes, s, c.next, b, names, n, &mut out[from..])?;
+        let q = tree_rest(classes, s, a.next, k, b, c, a, names, n, out)?;
+        match q {
+            Link::Whole(t) => return Some(t),
+            Link::Waits(d) => c = d,
         }
-        let q = tree_rest(classes, s, a.next, k, b, c, a, names, n, out);
-        if !q.on {
-            return q.tree;
-        }
-        c = q.chain;
     }
 }
 
@@ -154,7 +141,7 @@ fn tree_expr(
 // the tightest level the first operator, which waits with those of the chain.
 #[cycle(tree_atom_tree_expr_tree_rest)]
 fn tree_rest(
-    classes: &[u8; 256],
+    classes: &Classes,
     s: &[u8],
     at: usize,
     k: u8,
@@ -164,47 +151,45 @@ fn tree_rest(
     names: &[u8],
     n: usize,
     out: &mut [u8],
-) -> Link
+) -> Option<Link>
     requires { (at ≤ length s.now) × (length s.now ≤ text_most) × (n ≤ fields_most) × (left.next ≡ at)
         × (left.len ≤ 5 * at) × (left.depth ≤ left.len) × (c.len ≤ 5 * text_most) × (c.ops ≤ c.len)
-        × Ready classes.now names.now }
+        × (names_room ≤ length names.now) }
     ensures { RestMade (names_in names.now)
         n s.now at k b c left out.old out.new result }
 {
     let mut p = left;
     let mut level = ATOM_LEVEL;
+    // A plain loop: each operator stands where the operand before it ended, and the loop ends in two ways.
     loop {
         let g = taken_at(classes, s, p.next, k, level);
         if TIGHTEST_LEVEL <= k {
-            return next_link(g, c, p, out);
+            return Some(next_link(g, c, p, out));
         }
-        let Taken::By(o, end, l, right) = g else {
-            return ended(c, p);
+        let Some(t) = g else {
+            return Some(Link::Whole(p));
         };
-        let from = place_in(p.len, out.len());
-        let y = tree_expr(classes, s, end, right, b, names, n, &mut out[from..]);
-        if y.len == 0 {
-            return ended(c, y);
-        }
-        p = two_node(o, p, y, out);
-        level = l;
+        let from = p.len.min(out.len());
+        let y = tree_expr(classes, s, t.end, t.right, b, names, n, &mut out[from..])?;
+        p = two_node(t.op, p, y, out);
+        level = t.level;
     }
 }
 
 // The expression at a place, whose names are those of the first n fields.
 pub(crate) fn stored_tree(
-    classes: &[u8; 256],
+    classes: &Classes,
     s: &[u8],
     at: usize,
     names: &[u8],
     n: usize,
     out: &mut [u8],
-) -> StoredTree
+) -> Option<StoredTree>
     requires { (at ≤ length s.now) × (length s.now ≤ text_most) × (n ≤ fields_most)
-        × Ready classes.now names.now }
+        × (names_room ≤ length names.now) }
     ensures place { WithinStored s.now (at + 1) at 0 result }
     ensures same { StoredFor (names_in names.now)
-        n s.now (read_tree (drop at s.now)) (held result out.new) }
+        n s.now (read_tree (drop at s.now)) (maybe_held result out.new) }
 {
     tree_expr(classes, s, at, 0, OPEN_MOST, names, n, out)
 }

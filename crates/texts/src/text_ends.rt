@@ -1,110 +1,71 @@
 // The end of a text: the lowest refusal of all, or the table.
-ghost use Rattle.std.specs.Prelude.{true, false, cond, ◌++◌, ◌≡◌, ◌+◌, ◌≤◌, ◌<◌, eqb, length, drop};
-ghost use Rattle.rules.specs.Answers.{of_text, refused};
+ghost use Rattle.std.specs.Prelude.{cond, ◌++◌, ◌≡◌, ◌+◌, ◌≤◌, ◌<◌, length, drop};
+ghost use Rattle.rules.specs.Answers.{of_text};
 ghost use Rattle.writing.specs.Writes.{Writes};
 ghost use Rattle.rules.specs.Limits.{text_most};
 ghost use Rattle.rules.specs.Trees.{le2};
 ghost use Rattle.rules.specs.Stored.{counted, record_of};
 ghost use Rattle.references.specs.Numbers.{numbered};
 ghost use Rattle.text_laws.specs.Lowest.{lower};
-ghost use Rattle.texts.specs.Noted.{note_of};
-ghost use Rattle.texts.specs.RowPlaces.{row_room};
+ghost use Rattle.texts.specs.Noted.{place_of, note_of};
 ghost use Rattle.texts.specs.Slots.{are_labels};
-ghost use Rattle.texts.specs.HeldAreas.{records_most};
-ghost use Rattle.texts.specs.States.{Room, Taken, CutStep, is_told, early_note, row_note, remain_note, last_note};
+ghost use Rattle.texts.specs.HeldAreas.{records_most, table_bytes};
+ghost use Rattle.texts.specs.States.{Room, Taken, CutStep, early_note, row_note, remain_note, last_note};
 ghost use Rattle.texts.specs.States.{TableStep, area, EndStep};
 
+use crate::cell_texts::ROW_ROOM;
+use crate::held_areas::{HELD_ROOM, TABLE_AT};
 use crate::notes::{Note, lower};
-use crate::slots::{ROW_MOST, Rowed, put_row};
+use crate::slots::{ROW_MOST, put_row};
 use crate::states::{Reading, Stage, staged};
-use names::classes::class_table;
+use names::classes::Classes;
 use references::numbers::put_numbers;
-use rules::TextAnswer;
+use rules::{FIELDS_MOST, TextAnswer, TextRefusal};
 use writing::puts::{put, put_counted, put_two};
 
-// A refusal as an answer.
-fn answer_of(a: Note) -> TextAnswer
-    requires { (is_told (note_of a) ≡ true) × (eqb a.number 0 ≡ false) }
-    ensures { of_text result ≡ refused a.number a.place }
-{
-    let p = a.place;
-    let n = a.number;
-    match n {
-        2 => TextAnswer::BadByte,
-        3 => TextAnswer::BadLine(p),
-        4 => TextAnswer::TooMany,
-        5 => TextAnswer::BadForm(p),
-        6 => TextAnswer::OverLimit(p),
-        7 => TextAnswer::Mismatch(p),
-        8 => TextAnswer::Repeated(p),
-        9 => TextAnswer::BadName(p),
-        10 => TextAnswer::BadRest(p),
-        _ => TextAnswer::NoRoom,
-    }
-}
-
 // 3 behind the last line.
-fn early(r: Reading) -> Note
+fn early(r: Reading) -> Option<Note>
     requires { r.lines ≤ text_most }
     ensures { result ≡ early_note r }
 {
-    Note {
-        number: 3,
-        place: r.lines + 1,
-    }
+    Some(Note::BadLine(r.lines + 1))
 }
 
 // The text of each cell of `n` kept lines of `size` bytes is a label.
-fn is_labelled(row: &[u8], n: usize, size: usize) -> bool
-    requires { (n ≤ 4) × (0 < size) × (size ≤ 65) × (row_room ≤ length row.now) }
+fn is_labelled(row: &[u8; ROW_ROOM], n: usize, size: usize) -> bool
+    requires { (n ≤ 4) × (0 < size) × (size ≤ 65) }
     ensures { result ≡ are_labels row.now n size }
 {
     let mut cells = [0u8; ROW_MOST];
-    let classes = class_table();
-    let ended = put_row(&classes, &mut cells, 0, row, n, size);
-    let Rowed::Put(_, _) = ended else {
-        return false;
-    };
-    true
+    let classes = Classes::new();
+    put_row(&classes, &mut cells, 0, row, n, size).is_some()
 }
 
 // 3 where a text ends in a row.
-fn row_note(r: Reading, row: &[u8]) -> Note
-    requires { Room r × (r.lines ≤ text_most) × (row_room ≤ length row.now) }
+fn row_note(r: Reading, row: &[u8; ROW_ROOM]) -> Option<Note>
+    requires { Room r × (r.lines ≤ text_most) }
     ensures { result ≡ row_note r row.now }
 {
     if is_labelled(row, r.row, 2 * r.width + 1) {
         return early(r);
     }
-    Note {
-        number: 3,
-        place: r.lines,
-    }
+    Some(Note::BadLine(r.lines))
 }
 
 // 7 where cells remain.
-fn remaining(r: Reading) -> Note
+fn remaining(r: Reading) -> Option<Note>
     requires { r.lines ≤ text_most }
     ensures { result ≡ remain_note r }
 {
-    if r.fields < r.cells {
-        return Note {
-            number: 7,
-            place: r.lines + 1,
-        };
-    }
-    Note {
-        number: 0,
-        place: 0,
-    }
+    (r.fields < r.cells).then_some(Note::Mismatch(r.lines + 1))
 }
 
 // The lowest refusal of a text that ends behind field lines.
-fn fields_note(r: Reading, whole: bool) -> Note
-    requires { (r.lines ≤ text_most) × (r.note.place ≤ r.lines + 1) }
+fn fields_note(r: Reading, whole: bool) -> Option<Note>
+    requires { (r.lines ≤ text_most) × (place_of r.note ≤ r.lines + 1) }
     ensures lowest { note_of result ≡ cond whole (lower (note_of r.note) (note_of (remain_note r)))
         (note_of (early_note r)) }
-    ensures place { result.place ≤ r.lines + 1 }
+    ensures place { place_of result ≤ r.lines + 1 }
 {
     if whole {
         return lower(r.note, remaining(r));
@@ -113,32 +74,22 @@ fn fields_note(r: Reading, whole: bool) -> Note
 }
 
 // The lowest refusal of a text; `whole` says that its last line is.
-fn last_note(r: Reading, whole: bool, row: &[u8]) -> Note
-    requires { Room r × (r.lines ≤ text_most) × (row_room ≤ length row.now) }
+fn last_note(r: Reading, whole: bool, row: &[u8; ROW_ROOM]) -> Option<Note>
+    requires { Room r × (r.lines ≤ text_most) }
     ensures lowest { note_of result ≡ last_note r.stage r whole row.now }
-    ensures place { result.place ≤ r.lines + 1 }
+    ensures place { place_of result ≤ r.lines + 1 }
 {
-    let stage = r.stage;
-    match stage {
-        Stage::Opening => { early(r) }
-        Stage::Blank => { early(r) }
-        Stage::TensRuler => { early(r) }
-        Stage::UnitsRuler => { early(r) }
-        Stage::TopBorder => { early(r) }
-        Stage::FirstRow => { early(r) }
-        Stage::InRow => { row_note(r, row) }
-        Stage::RowOrBlank => { early(r) }
-        Stage::WhereLine => { early(r) }
-        Stage::LastBlank => { early(r) }
-        Stage::FirstField => { early(r) }
-        Stage::FieldLine => { fields_note(r, whole) }
-        Stage::Lost => { r.note }
+    match r.stage {
+        Stage::InRow => row_note(r, row),
+        Stage::FieldLine => fields_note(r, whole),
+        Stage::Lost => r.note,
+        _ => early(r),
     }
 }
 
 // A line that is too long: 3, unless 2 or 3 was found before.
-pub(crate) fn cut_line(r: Reading, row: &[u8]) -> Reading
-    requires { Room r × (r.lines ≤ text_most) × (row_room ≤ length row.now) }
+pub(crate) fn cut_line(r: Reading, row: &[u8; ROW_ROOM]) -> Reading
+    requires { Room r × (r.lines ≤ text_most) }
     ensures room { Taken r result }
     ensures step { CutStep r result row.now }
     ensures lines { result.lines ≡ r.lines }
@@ -148,6 +99,7 @@ pub(crate) fn cut_line(r: Reading, row: &[u8]) -> Reading
 }
 
 // The first record.
+// Its kind is a number of the stored form; packets reads them for itself.
 fn put_head(out: &mut [u8], w: usize, n: usize, name: &[u8]) -> usize
     requires { (10 + length name.now ≤ length out.old) × (length name.now ≤ text_most) }
     ensures { Writes out.old 0 (record_of 1 (le2 w ++ (le2 n ++ counted name.now)))
@@ -161,7 +113,13 @@ fn put_head(out: &mut [u8], w: usize, n: usize, name: &[u8]) -> usize
 }
 
 // The records of fields, each with its number.
-fn put_records(out: &mut [u8], at: usize, records: &[u8], n: usize, counts: &[u16]) -> usize
+fn put_records(
+    out: &mut [u8],
+    at: usize,
+    records: &[u8],
+    n: usize,
+    counts: &[u16; FIELDS_MOST],
+) -> usize
     requires { at + length records.now ≤ length out.old }
     ensures end { result ≡ at + length records.now }
     ensures bytes { Writes out.old at (numbered n counts.now records.now)
@@ -173,7 +131,8 @@ fn put_records(out: &mut [u8], at: usize, records: &[u8], n: usize, counts: &[u1
 }
 
 // The table into an output that has room for it.
-fn put_table(r: Reading, table: &[u8], counts: &[u16], out: &mut [u8]) -> usize
+// The kind of its last record, 5, is a number of the stored form; packets reads them for itself.
+fn put_table(r: Reading, table: &[u8], counts: &[u16; FIELDS_MOST], out: &mut [u8]) -> usize
     requires { Room r × (records_most ≤ length table.now) × (14 + r.end ≤ length out.old) }
     ensures bytes { TableStep r (area table.now counts.now) out.old
         out.new result }
@@ -191,28 +150,26 @@ fn put_table(r: Reading, table: &[u8], counts: &[u16], out: &mut [u8]) -> usize
 pub(crate) fn end_text(
     r: Reading,
     whole: bool,
-    row: &[u8],
-    table: &[u8],
-    counts: &[u16],
+    row: &[u8; ROW_ROOM],
+    held: &[u8; HELD_ROOM],
+    counts: &[u16; FIELDS_MOST],
     out: &mut [u8],
 ) -> TextAnswer
-    requires { Room r × (r.lines ≤ text_most) × (records_most ≤ length table.now)
-        × (row_room ≤ length row.now) }
-    ensures step { EndStep r whole row.now (area table.now counts.now)
+    requires { Room r × (r.lines ≤ text_most) }
+    ensures step { EndStep r whole row.now (area (table_bytes held.now) counts.now)
         out.old out.new result }
     ensures refusal { ((of_text result).number ≡ 0 → ⊥) → out.new ≡ out.old }
     ensures place { (of_text result).place ≤ r.lines + 1 }
     ensures within { (of_text result).amount ≤ length out.old }
     ensures beyond { drop (of_text result).amount out.new ≡ drop (of_text result).amount out.old }
 {
-    let last = last_note(r, whole, row);
-    if last.number != 0 {
-        return answer_of(last);
+    if let Some(last) = last_note(r, whole, row) {
+        return Err(last.into());
     }
     let size = 14 + r.end;
     if out.len() < size {
-        return TextAnswer::NoRoom;
+        return Err(TextRefusal::NoRoom);
     }
-    put_table(r, table, counts, out);
-    TextAnswer::Accepted(size)
+    put_table(r, &held[TABLE_AT..], counts, out);
+    Ok(size)
 }

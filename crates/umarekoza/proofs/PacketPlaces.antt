@@ -1,4 +1,4 @@
--- The numbers and places of a packet's answers fit 32 bits: a place is at most the number of fields.
+-- The places of a packet's answers fit 32 bits: a place is at most the number of fields.
 use mathlib.Core.Path.{◌≡◌, refl, ap}
 use mathlib.Core.Bool.{Bool, true, false, cond, ◌&&◌, not}
 use mathlib.Core.List.{List, [], ◌∷◌, ◌++◌}
@@ -8,12 +8,10 @@ use lib.Dec.{ltb, eqb}
 use lib.ListN.{length, length-append}
 use Rattle.base.specs.Lists.{sum}
 use Rattle.base.proofs.Lists.{between_true}
-use Rattle.rules.specs.declared.Fault.{Fault}
-use Rattle.rules.specs.declared.PacketAnswer.{PacketAnswer}
 use Rattle.rules.specs.Fields.{Field, Description, fixed_bits}
 use Rattle.rules.specs.Limits.{fields_most}
 use Rattle.rules.specs.Stored.{Good}
-use Rattle.rules.specs.Answers.{Answer, refused, fault_number, of_packet}
+use Rattle.rules.specs.Answers.{Answer, refused}
 use Rattle.rules.specs.Reading.{
   Entry,
   Step,
@@ -51,23 +49,6 @@ use Rattle.rules.specs.Promises.{
   ReadsPartly,
 }
 use Rattle.laws.proofs.Decidable.{good_decidable}
-
-fault_low : (f : Fault) → fault_number f ≤ 29
-unfolding fault_number
-fault_low Fault.BitsMissing = omega arith
-fault_low Fault.ConstraintFalse = omega arith
-fault_low Fault.AbsentRead = omega arith
-fault_low Fault.OutOfRange = omega arith
-fault_low Fault.ZeroDivisor = omega arith
-
-pub number_low : (r : PacketAnswer) → (of_packet r).number ≤ 29
-unfolding of_packet
-number_low (PacketAnswer.Accepted n) = omega arith
-number_low PacketAnswer.NotGood = omega arith
-number_low PacketAnswer.TooLong = omega arith
-number_low PacketAnswer.ShortRun = omega arith
-number_low (PacketAnswer.Refused f i) = fault_low f
-number_low PacketAnswer.LeftOver = omega arith
 
 module _ (packet : List ℕ) where
   ended_low : (entries : List Entry) (n : ℕ) (b : Bool)

@@ -26,9 +26,7 @@ ghost use Rattle.rules.specs.Pieces.{StartsText, TakesPiece, EndsText};
 ghost use Rattle.texts.specs.PieceStates.{fresh_state, Left};
 ghost use Rattle.umarekoza.specs.Exports.{reply_answer, span_part, partial_answer};
 
-use crate::replies::{
-    conversion_reply, edit_reply, field_reply, listing_reply, packet_reply, table_reply, text_reply,
-};
+use crate::replies::reply;
 use packets::conversions::convert_table;
 use packets::edits::{cut_fields, put_fields};
 use packets::listing::list_packet;
@@ -43,6 +41,7 @@ use texts::reading::read_text;
 // Number 0 is acceptance, with place 0 and the length that is answered; else the number and place of the refusal, with
 // length 0. They are document 01's; 29, for a zero divisor, 30, for a name, index or run that no field has or records
 // of no bytes, 31, for a field that is still read, and 34, for fields that do not go together, are 02's.
+// The layout is C's: a number stands for what a Result tells.
 #[repr(C)]
 #[derive(Clone, Copy)]
 pub struct Reply {
@@ -51,7 +50,7 @@ pub struct Reply {
     pub length: u64,
 }
 
-// A reply, and the number of fields that were read before a refusal.
+// A reply, and the number of fields that were read before a refusal. The layout is C's: no part is a Reply.
 #[repr(C)]
 #[derive(Clone, Copy)]
 pub struct Partial {
@@ -61,7 +60,7 @@ pub struct Partial {
     pub count: u64,
 }
 
-// Where a part of a lent buffer lies.
+// Where a part of a lent buffer lies. The layout is C's: an empty part stands for none.
 #[repr(C)]
 #[derive(Clone, Copy)]
 pub struct Span {
@@ -74,7 +73,7 @@ pub struct Span {
 pub extern "C" fn umarekoza_write_table(text: &[u8], out: &mut [u8]) -> Reply
     ensures { ReadsText text.now out.old (leaves (reply_answer result) out.new) }
 {
-    text_reply(read_text(text, out))
+    reply(read_text(text, out))
 }
 
 // A text in pieces begins: a state that is long enough is that of the empty text, whatever it held.
@@ -99,7 +98,7 @@ pub extern "C" fn umarekoza_text_end(state: &[u8], out: &mut [u8]) -> Reply
     ensures { EndsText Left state.now out.old
         (leaves (reply_answer result) out.new) }
 {
-    text_reply(text_end(state, out))
+    reply(text_end(state, out))
 }
 
 // A table is checked: the length is the table's.
@@ -107,7 +106,7 @@ pub extern "C" fn umarekoza_text_end(state: &[u8], out: &mut [u8]) -> Reply
 pub extern "C" fn umarekoza_check_table(table: &[u8]) -> Reply
     ensures { ChecksTable table.now (reply_answer result) }
 {
-    table_reply(check_table(table))
+    reply(check_table(table))
 }
 
 // A packet is read by a table, into a run of four numbers a field: the length is the bit total.
@@ -116,7 +115,7 @@ pub extern "C" fn umarekoza_read_packet(table: &[u8], packet: &[u8], run: &mut [
     ensures { ReadsPacket table.now packet.now run.old
         (leaves (reply_answer result) run.new) }
 {
-    packet_reply(read_packet(table, packet, run))
+    reply(read_packet(table, packet, run))
 }
 
 // Where the bytes of the field of an index lie in the packet.
@@ -124,11 +123,7 @@ pub extern "C" fn umarekoza_read_packet(table: &[u8], packet: &[u8], run: &mut [
 pub extern "C" fn umarekoza_field_bytes(table: &[u8], packet: &[u8], index: usize) -> Span
     ensures { PlacesPart table.now packet.now index (span_part result) }
 {
-    let part = field_place(table, packet, index);
-    Span {
-        offset: part.start as u64,
-        length: part.size as u64,
-    }
+    Span::from(field_place(table, packet, index))
 }
 
 // A packet's listing by a table, into an output: the length is the listing's.
@@ -137,7 +132,7 @@ pub extern "C" fn umarekoza_list_packet(table: &[u8], packet: &[u8], out: &mut [
     ensures { ListsPacket table.now packet.now out.old
         (leaves (reply_answer result) out.new) }
 {
-    listing_reply(list_packet(table, packet, out))
+    reply(list_packet(table, packet, out))
 }
 
 // The field that has the name as its label or short name: the length is its index.
@@ -145,7 +140,7 @@ pub extern "C" fn umarekoza_list_packet(table: &[u8], packet: &[u8], out: &mut [
 pub extern "C" fn umarekoza_find_field(table: &[u8], name: &[u8]) -> Reply
     ensures { FindsField table.now name.now (reply_answer result) }
 {
-    field_reply(field_index(table, name))
+    reply(field_index(table, name))
 }
 
 // Where the label of the field of an index lies in the table.
@@ -153,11 +148,7 @@ pub extern "C" fn umarekoza_find_field(table: &[u8], name: &[u8]) -> Reply
 pub extern "C" fn umarekoza_field_label(table: &[u8], index: usize) -> Span
     ensures { PlacesLabel table.now index (span_part result) }
 {
-    let part = label_place(table, index);
-    Span {
-        offset: part.start as u64,
-        length: part.size as u64,
-    }
+    Span::from(label_place(table, index))
 }
 
 // Where the short name of the field of an index lies in the table.
@@ -165,11 +156,7 @@ pub extern "C" fn umarekoza_field_label(table: &[u8], index: usize) -> Span
 pub extern "C" fn umarekoza_field_short(table: &[u8], index: usize) -> Span
     ensures { PlacesShort table.now index (span_part result) }
 {
-    let part = short_place(table, index);
-    Span {
-        offset: part.start as u64,
-        length: part.size as u64,
-    }
+    Span::from(short_place(table, index))
 }
 
 // The fields of a table: the length is their number.
@@ -177,7 +164,7 @@ pub extern "C" fn umarekoza_field_short(table: &[u8], index: usize) -> Span
 pub extern "C" fn umarekoza_count_fields(table: &[u8]) -> Reply
     ensures { CountsFields table.now (reply_answer result) }
 {
-    table_reply(count_fields(table))
+    reply(count_fields(table))
 }
 
 // The field of an index: the length is its record's kind.
@@ -185,7 +172,7 @@ pub extern "C" fn umarekoza_count_fields(table: &[u8]) -> Reply
 pub extern "C" fn umarekoza_field_kind(table: &[u8], index: usize) -> Reply
     ensures { TellsKind table.now index (reply_answer result) }
 {
-    field_reply(field_kind(table, index))
+    reply(field_kind(table, index))
 }
 
 // The field of an index: the length is the number of references to it in other fields' expressions.
@@ -193,7 +180,7 @@ pub extern "C" fn umarekoza_field_kind(table: &[u8], index: usize) -> Reply
 pub extern "C" fn umarekoza_count_readers(table: &[u8], index: usize) -> Reply
     ensures { CountsReaders table.now index (reply_answer result) }
 {
-    field_reply(count_readers(table, index))
+    reply(count_readers(table, index))
 }
 
 // An old table, whose records keep no number, becomes the table of the same description at the output's start: the
@@ -203,7 +190,7 @@ pub extern "C" fn umarekoza_convert_table(table: &[u8], out: &mut [u8]) -> Reply
     ensures { ConvertsTable table.now out.old (leaves (reply_answer result)
         out.new) }
 {
-    conversion_reply(convert_table(table, out))
+    reply(convert_table(table, out))
 }
 
 // A run of a table's fields is cut out, by the indexes of its first and its last field: the table without it at the
@@ -218,7 +205,7 @@ pub extern "C" fn umarekoza_cut_fields(
     ensures { CutsFields table.now first last out.old (leaves (reply_answer result)
         out.new) }
 {
-    edit_reply(cut_fields(table, first, last, out))
+    reply(cut_fields(table, first, last, out))
 }
 
 // The fields of records are put in before the field of an index, or at the end: the table with them at the output's
@@ -233,7 +220,7 @@ pub extern "C" fn umarekoza_put_fields(
     ensures { PutsFields table.now index records.now out.old
         (leaves (reply_answer result) out.new) }
 {
-    edit_reply(put_fields(table, index, records, out))
+    reply(put_fields(table, index, records, out))
 }
 
 // A packet is read by a table as far as it goes: four numbers for each field before the first refused one.
@@ -243,8 +230,7 @@ pub extern "C" fn umarekoza_read_partly(table: &[u8], packet: &[u8], run: &mut [
         (leaves_partly (partial_answer result) run.new result.count) }
 {
     let read = read_partly(table, packet, run);
-    let answer = read.answer;
-    let reply = packet_reply(answer);
+    let reply = reply(read.answer);
     Partial {
         number: reply.number,
         place: reply.place,

@@ -1,18 +1,15 @@
 -- What is put where there is room, and where there is none.
 use mathlib.Core.Path.{◌≡◌, sym, ◌∙◌, ap}
-use mathlib.Core.Bool.{true, false}
 use mathlib.Core.List.{List, ◌++◌}
 use Prim.Native.Nat.{ℕ, ◌+◌, ◌≤◌, ◌<◌}
 use native.Mathlib.Omega.{arith}
-use borrow.Author.Tests.{le-leb, lt-leb, le-ltb, lt-ltb}
+use borrow.Author.Tests.{le-leb, lt-leb}
 use lib.ListN.{length, take, drop, length-append, take-append-drop}
 use lib.Seq.{take-length, take-paste, drop-paste, length-paste}
 use Rattle.writing.specs.Writes.{Writes}
 use Rattle.writing.proofs.Writing.{writes_join}
 use Rattle.rules.specs.Trees.{le2}
 use Rattle.rules.specs.Stored.{counted}
-use Rattle.rules.specs.Promises.{leaves, delivered}
-use Rattle.writing.specs.Delivery.{delivery_answer}
 use Rattle.writing.specs.Puts.{Placed, placed, nowhere, put}
 
 -- where w does not fit
@@ -66,19 +63,3 @@ put_join before at w u {mid} {after} {next} {end} h p q =
 pub counted_length : (w : List ℕ) → length (counted w) ≡ 2 + length w
 unfolding le2
 counted_length w = omega (arith, length-append (le2 (length w)) w)
-
--- ── a text at the start of an output ──
-
-pub deliver_none : (before w : List ℕ) → length before < length w
-    → leaves (delivery_answer false w) before ≡ delivered w before
-unfolding delivered
-deliver_none before w h = rw (lt-ltb (length before) (length w) h)
-
-pub deliver_some : (before w : List ℕ) {after : List ℕ} {next : ℕ} → length w ≤ length before
-    → placed next after ≡ put before 0 w → leaves (delivery_answer true w) after ≡ delivered w before
-unfolding delivered
-deliver_some before w {after} {next} h e =
-    let z : 0 + length w ≡ length w = omega arith in
-    let a : after ≡ w ++ drop (length w) before =
-    ap (λ (x : Placed). x.buffer) (e ∙ sym (put_some before 0 w (omega arith))) ∙ rw z in
-    rw (le-ltb (length before) (length w) h, a)

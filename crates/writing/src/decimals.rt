@@ -8,7 +8,7 @@ use crate::puts::put;
 // As many digits as `decimal` of base/specs/Bytes.antt writes.
 const DIGITS_MOST: usize = 10;
 
-// The digits of a number stand from `start` to the end.
+// The digits of a number stand from `start` to the end: fixed memory, as there is no heap.
 #[derive(Clone, Copy)]
 struct Digits {
     text: [u8; DIGITS_MOST],
@@ -19,17 +19,15 @@ fn digits_of(number: usize) -> Digits
     ensures { (drop result.start result.text ≡ decimal number) × (result.start ≤ 10) × (length result.text ≡ 10) }
 {
     let mut text = [0u8; DIGITS_MOST];
-    let mut start = DIGITS_MOST;
     let mut left = number;
-    while 0 < start {
-        start -= 1;
-        text[start] = 48 + (left % 10) as u8;
+    for start in (0..DIGITS_MOST).rev() {
+        text[start] = b'0' + (left % 10) as u8;
         if left < 10 {
             return Digits { text, start };
         }
         left /= 10;
     }
-    Digits { text, start }
+    Digits { text, start: 0 }
 }
 
 // A number of at most ten digits in decimal, without leading zeros; of a larger one its last ten digits.

@@ -3,9 +3,8 @@ ghost use Rattle.std.specs.Prelude.{◌≡◌};
 ghost use Rattle.rules.specs.Promises.{leaves, delivered};
 ghost use Rattle.writing.specs.Delivery.{delivery_answer};
 
-use crate::puts::put;
-
-// A text into the output: whether there is room for it.
+// A text into the output: whether there is room for it. A bool: each caller has a refusal of its own for no room.
+#[tactic(auto, unfolding(rules::specs::Promises::delivered))]
 pub fn deliver(out: &mut [u8], text: &[u8]) -> bool
     ensures { leaves (delivery_answer result text.now) out.new ≡ delivered text.now
         out.old }
@@ -13,6 +12,6 @@ pub fn deliver(out: &mut [u8], text: &[u8]) -> bool
     if out.len() < text.len() {
         return false;
     }
-    let end = put(out, 0, text);
+    out[..text.len()].copy_from_slice(text);
     true
 }

@@ -5,35 +5,32 @@ ghost use Rattle.rules.specs.Trees.{le2};
 ghost use Rattle.rules.specs.Stored.{counted};
 ghost use Rattle.writing.specs.Puts.{placed, put};
 
-// Beyond the end of every buffer.
+// Beyond the end of every buffer; a number and no `None`, so that words follow one another without a test between.
 pub const NOWHERE: usize = 18446744073709551615;
 
+#[tactic(auto, unfolding(crate::specs::Puts::put))]
 pub fn put(out: &mut [u8], at: usize, word: &[u8]) -> usize
     ensures { placed result out.new ≡ put out.old at word.now }
 {
-    if out.len() < at {
+    if out.len() < at || out.len() - at < word.len() {
         return NOWHERE;
     }
-    if out.len() - at < word.len() {
-        return NOWHERE;
-    }
-    let mut i = 0;
-    while i < word.len() {
-        out[at + i] = word[i];
-        i += 1;
-    }
-    at + i
+    let end = at + word.len();
+    out[at..end].copy_from_slice(word);
+    end
 }
 
 // A number below 65,536 in two bytes, the least first; of a larger one its remainder.
+#[tactic(auto, unfolding(rules::specs::Trees::le2))]
 pub fn put_two(out: &mut [u8], at: usize, number: usize) -> usize
     ensures { placed result out.new ≡ put out.old at (le2 number) }
 {
-    let word = [(number % 256) as u8, (number / 256 % 256) as u8];
+    let word = ((number % 65536) as u16).to_le_bytes();
     put(out, at, &word)
 }
 
 // The length of a word, as `put_two` has it, and the word.
+#[tactic(auto, unfolding(crate::specs::Puts::put, rules::specs::Trees::le2))]
 pub fn put_counted(out: &mut [u8], at: usize, word: &[u8]) -> usize
     ensures { placed result out.new ≡ put out.old at (counted word.now) }
 {

@@ -1,15 +1,15 @@
 use native.Mathlib.Omega.{arith}
 use Rattle.rules.specs.Answers.{of_packet}
+use Rattle.umarekoza.proofs.Tellings.{packet_amounts, replied, place_fits}
 use Rattle.umarekoza.proofs.PacketPlaces.{place_low}
 use Rattle.umarekoza.proofs.umarekoza_read_packet.Goals as goal
 
-pub packet_reply-requires : goal.packet_reply-requires
-packet_reply-requires c =
-    let a = c.args in
-    let read_packet = c.read_packet in
-    let low = place_low a.table.now _ a.run.now (of_packet read_packet.result)
-    read_packet.new.run read_packet.ensures in
-    omega (arith, low)
+pub reply-requires : goal.reply-requires
+reply-requires c = place_fits of_packet _ (omega (
+  arith,
+  place_low c.args.table.now _ c.args.run.now (of_packet c.read_packet.result)
+      c.read_packet.new.run c.read_packet.ensures,
+))
 
 pub returns : goal.returns
-returns c = rw c.packet_reply.ensures c.read_packet.ensures
+returns c = rw (replied of_packet packet_amounts _ _ c.reply.ensures) c.read_packet.ensures

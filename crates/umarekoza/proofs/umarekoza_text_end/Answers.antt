@@ -1,8 +1,10 @@
 use native.Mathlib.Omega.{arith}
+use Rattle.rules.specs.Answers.{of_text}
+use Rattle.umarekoza.proofs.Tellings.{text_amounts, replied, place_fits}
 use Rattle.umarekoza.proofs.umarekoza_text_end.Goals as goal
 
-pub text_reply-requires : goal.text_reply-requires
-text_reply-requires c = let place = c.text_end.ensures.place in omega (arith, place)
+pub reply-requires : goal.reply-requires
+reply-requires c = place_fits of_text _ (omega (arith, c.text_end.ensures.place))
 
 pub returns : goal.returns
-returns c = rw c.text_reply.ensures c.text_end.ensures.end
+returns c = rw (replied of_text text_amounts _ _ c.reply.ensures) c.text_end.ensures.end

@@ -1,13 +1,12 @@
 use Rattle.rules.specs.Answers.{of_text}
+use Rattle.umarekoza.proofs.Tellings.{text_amounts, replied, place_fits}
 use Rattle.umarekoza.proofs.TextPlaces.{text_place_low}
 use Rattle.umarekoza.proofs.umarekoza_write_table.Goals as goal
 
-pub text_reply-requires : goal.text_reply-requires
-text_reply-requires c =
-    let a = c.args in
-    let read_text = c.read_text in
-    text_place_low a.text.now a.out.now (of_text read_text.result) read_text.new.out
-    read_text.ensures
+pub reply-requires : goal.reply-requires
+reply-requires c = place_fits of_text _ (text_place_low c.args.text.now c.args.out.now (of_text c.read_text.result)
+    c.read_text.new.out
+    c.read_text.ensures)
 
 pub returns : goal.returns
-returns c = rw c.text_reply.ensures c.read_text.ensures
+returns c = rw (replied of_text text_amounts _ _ c.reply.ensures) c.read_text.ensures

@@ -16,7 +16,7 @@ later-init c = (
 pub loop-i-init : goal.loop-i-init
 loop-i-init c =
     let o = c.later in
-    rw c.start_of_both-i.ensures
+    rw c.start_of_both-start.ensures
     (both_from c.args.shorts.now c.args.words.now o.j o.seen o.invariant.2)
 
 pub loop-i-preserved : goal.loop-i-preserved
@@ -38,7 +38,7 @@ later-preserved c =
     o.invariant.0 in (
       on,
       search rules,
-      rw (c.name_key-short.ensures.key, c.name_key-word.ensures.key)
+      rw (c.name_key.ensures.key, c.name_key-in-later.ensures.key)
           (both_on shorts words o.j o.seen o.invariant.1 o.invariant.2),
     )
 

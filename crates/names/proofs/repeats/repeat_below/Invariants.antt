@@ -9,9 +9,6 @@ use Rattle.names.proofs.repeats.repeat_below.Given as goal
 abbrev pub invariant-loop-i : goal.invariant-loop-i
 invariant-loop-i l = Inner (names_alike l.shorts l.words) l.j l.i
 
-abbrev pub decreases-loop-i : goal.decreases-loop-i
-decreases-loop-i l = l.j - l.i
-
 abbrev pub invariant-later : goal.invariant-later
 invariant-later l =
     Later (names_alike l.shorts l.words) l.n l.j × (length l.seen ≡ remainders) × BothSeen l.shorts l.words l.j l.seen

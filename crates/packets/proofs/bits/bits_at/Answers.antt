@@ -1,13 +1,6 @@
 use native.Mathlib.Omega.{arith}
-use Rattle.packets.proofs.BitLaws.{bits_below, bits_taken}
+use Rattle.packets.proofs.BitLaws.{bits_taken}
 use Rattle.packets.proofs.bits.bits_at.Goals as goal
-
-pub overflow_cast-result : goal.overflow_cast-result
-overflow_cast-result c =
-    let a = c.args in
-    let bytes_at = c.bytes_at-v in
-    let e = bits_taken a.packet.now a.place a.n bytes_at.result (omega arith) bytes_at.ensures in
-    rw e (omega (arith, bits_below a.packet.now a.place a.n 32 (omega arith)))
 
 pub returns : goal.returns
 returns c =

@@ -7,12 +7,12 @@ returns-in_default c =
 
 pub slice_bounds-finish-end : goal.slice_bounds-finish-end
 slice_bounds-finish-end c =
-    (widened_part c.args.table.now c.widen.new.out _ c.widen.ensures c.in-Bytes.is).1
+    (widened_part c.args.table.now c.widen.new.out _ c.widen.ensures c.in-Some.is).1
 
 pub finish-requires : goal.finish-requires
 finish-requires c =
     let p = c.requires in
-    let part = widened_part c.args.table.now c.widen.new.out _ c.widen.ensures c.in-Bytes.is in
+    let part = widened_part c.args.table.now c.widen.new.out _ c.widen.ensures c.in-Some.is in
     (p.0, p.1, p.2, part.0)
 
 pub returns : goal.returns

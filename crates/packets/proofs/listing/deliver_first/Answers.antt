@@ -1,11 +1,7 @@
 use Rattle.rules.specs.Answers.{of_listing}
 use native.Mathlib.Omega.{arith}
 use lib.Seq.{length-take-le}
-use mathlib.Core.Path.{sym}
 use Rattle.packets.proofs.listing.deliver_first.Goals as goal
-
-pub slice_bounds-deliver-end : goal.slice_bounds-deliver-end
-slice_bounds-deliver-end c = sym (length-take-le _ _ (omega arith))
 
 pub returns-then-deliver : goal.returns-then-deliver
 unfolding of_listing

@@ -1,9 +1,6 @@
-use Prim.Native.Nat.{◌-◌}
-use Rattle.packets.proofs.LinesWritten.{Lines}
+use Rattle.writing.specs.Fits.{Fits}
+use Rattle.packets.proofs.LinesWritten.{texts}
 use Rattle.packets.proofs.listing.put_lines.Given as goal
 
 abbrev pub invariant-loop-i : goal.invariant-loop-i
-invariant-loop-i l = Lines l.initial.out l.at l.table l.place l.run l.n l.out l.next l.begin l.i
-
-abbrev pub decreases-loop-i : goal.decreases-loop-i
-decreases-loop-i l = l.n - l.i
+invariant-loop-i l = Fits l.initial.out 0 (texts l.table l.run l.yielded) l.out l.next

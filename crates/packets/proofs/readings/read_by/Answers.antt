@@ -1,41 +1,33 @@
-use mathlib.Core.Path.{sym, ◌∙◌}
+use mathlib.Core.Path.{refl}
 use native.Mathlib.Omega.{arith}
+use Rattle.std.specs.Prelude.{Ok}
+use Rattle.std.proofs.lemmas.Result.{err_from_is_err_and}
 use Rattle.packets.proofs.WalkReads.{walks_read}
 use Rattle.packets.proofs.PacketPromises.{packet_accepted, packet_refused}
 use Rattle.packets.proofs.readings.read_by.Goals as goal
 
+pub returns-in_err-total : goal.returns-in_err-total
+returns-in_err-total c =
+    let a = c.args in
+    let p = c.requires in
+    let w = c.walk_fields in
+    let reads = walks_read a.table.now a.packet.now _ p.1 p.2 w.ensures in
+    let e = err_from_is_err_and c.from_residual.result c.from_residual.ensures.1 in λ good.
+    rw (e.1, e.2) (packet_refused a.table.now a.packet.now a.run.now _ w.new.run good p.2 p.0
+    (rw c.in_err-total.was at reads) refl)
+
 pub copy_numbers-requires : goal.copy_numbers-requires
 copy_numbers-requires c =
     let p = c.requires in
-    let n = c.two_at-n.ensures.0 in (
-      omega (arith, n, p.0),
-      omega (
-        arith,
-        n,
-        p.1,
-        c.walk_fields-answer.auto.run,
-      ),
-    )
-
-pub returns-then-is_accepted : goal.returns-then-is_accepted
-returns-then-is_accepted c =
-    let a = c.args in
-    let p = c.requires in
-    let table = a.table.now in
-    let packet = a.packet.now in
-    let w = c.walk_fields-answer in
-    let reads = walks_read table packet _ p.1 p.2 w.ensures in
-    let accepted = sym c.is_accepted.ensures ∙ c.if-is_accepted.true in λ good.
-    rw (c.copy_numbers.ensures, c.two_at-n.ensures.0)
-    (packet_accepted table packet a.run.now w.result w.new.run good p.2 p.0 reads accepted)
+    let n = c.two_at.ensures.0 in
+    (omega (arith, n, p.0), omega (arith, n, p.1, c.walk_fields.auto.run))
 
 pub returns : goal.returns
 returns c =
     let a = c.args in
     let p = c.requires in
-    let table = a.table.now in
-    let packet = a.packet.now in
-    let w = c.walk_fields-answer in
-    let reads = walks_read table packet _ p.1 p.2 w.ensures in
-    let refused = sym c.is_accepted.ensures ∙ c.if-is_accepted.false in λ good.
-    packet_refused table packet a.run.now w.result w.new.run good p.2 p.0 reads refused
+    let w = c.walk_fields in
+    let reads = walks_read a.table.now a.packet.now _ p.1 p.2 w.ensures in λ good.
+    rw (c.copy_numbers.ensures, c.two_at.ensures.0)
+    (packet_accepted a.table.now a.packet.now a.run.now (Ok c.in_ok-total.total) w.new.run good p.2 p.0
+    (rw c.in_ok-total.was at reads) refl)

@@ -1,4 +1,5 @@
 use native.Mathlib.Omega.{arith}
+use Rattle.std.proofs.lemmas.Result.{err_from_is_err_and}
 use Rattle.packets.proofs.PacketPromises.{
   good_from,
   bad_from,
@@ -9,24 +10,21 @@ use Rattle.packets.proofs.PacketPromises.{
 }
 use Rattle.packets.proofs.readings.read_packet.Goals as goal
 
-pub returns-in_default : goal.returns-in_default
-returns-in_default c =
-    let a = c.args in
-    let checked = c.check_table-checked in
-    let bad = bad_from a.table.now checked.result checked.ensures c.in_default.is in
-    packet_not_good a.table.now a.packet.now a.run.now bad
+pub returns-in_err-check_table : goal.returns-in_err-check_table
+returns-in_err-check_table c =
+    let p = err_from_is_err_and c.from_residual.result c.from_residual.ensures.1 in
+    rw (p.1, p.2) (packet_not_good _ _ _ (bad_from _ _ _ c.check_table.ensures c.in_err-check_table.was))
 
 pub returns-then-packet-gt-PACKET_MOST : goal.returns-then-packet-gt-PACKET_MOST
 returns-then-packet-gt-PACKET_MOST c =
     let a = c.args in
-    let good = good_from a.table.now c.check_table-checked.result _ c.check_table-checked.ensures c.in-Good.is in
+    let good = good_from a.table.now _ _ c.check_table.ensures c.in_ok-check_table.was in
     packet_too_long a.table.now a.packet.now a.run.now good c.if-packet-gt-PACKET_MOST.true
 
 pub returns-then-run-n : goal.returns-then-run-n
 returns-then-run-n c =
     let a = c.args in
-    let good = good_from a.table.now c.check_table-checked.result _
-    c.check_table-checked.ensures c.in-Good.is in
+    let good = good_from a.table.now _ _ c.check_table.ensures c.in_ok-check_table.was in
     packet_short_run a.table.now a.packet.now a.run.now good (omega (
       arith,
       c.if-packet-gt-PACKET_MOST.false,
@@ -36,7 +34,7 @@ returns-then-run-n c =
 pub read_by-requires : goal.read_by-requires
 read_by-requires c =
     let a = c.args in
-    let good = good_from a.table.now c.check_table-checked.result _ c.check_table-checked.ensures c.in-Good.is in
+    let good = good_from a.table.now _ _ c.check_table.ensures c.in_ok-check_table.was in
     let few = good_few a.table.now good in
     let n = c.two_at-n.ensures.0 in (
       omega (arith, n, c.if-run-n.false),
@@ -48,13 +46,13 @@ read_by-requires c =
 pub returns-then-n-le-FEW_NUMBERS : goal.returns-then-n-le-FEW_NUMBERS
 returns-then-n-le-FEW_NUMBERS c =
     let a = c.args in
-    let good = good_from a.table.now c.check_table-checked.result _ c.check_table-checked.ensures c.in-Good.is in
+    let good = good_from a.table.now _ _ c.check_table.ensures c.in_ok-check_table.was in
     c.read_by.ensures good
 
 pub read_by-requires-2 : goal.read_by-requires-2
 read_by-requires-2 c =
     let a = c.args in
-    let good = good_from a.table.now c.check_table-checked.result _ c.check_table-checked.ensures c.in-Good.is in
+    let good = good_from a.table.now _ _ c.check_table.ensures c.in_ok-check_table.was in
     let few = good_few a.table.now good in
     let n = c.two_at-n.ensures.0 in (
       omega (arith, n, c.if-run-n.false),
@@ -69,5 +67,5 @@ read_by-requires-2 c =
 pub returns : goal.returns
 returns c =
     let a = c.args in
-    let good = good_from a.table.now c.check_table-checked.result _ c.check_table-checked.ensures c.in-Good.is in
+    let good = good_from a.table.now _ _ c.check_table.ensures c.in_ok-check_table.was in
     c.read_by-2.ensures good

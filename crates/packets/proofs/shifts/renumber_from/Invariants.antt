@@ -1,16 +1,9 @@
-use mathlib.Core.Path.{◌≡◌}
-use Prim.Native.Nat.{◌-◌, ◌≤◌}
-use lib.ListN.{length}
+use Rattle.std.proofs.Common.{◌≡◌, ◌-◌}
 use Rattle.references.specs.Renumbered.{new_index}
 use Rattle.packets.specs.Shifts.{shifted_from}
 use Rattle.packets.proofs.shifts.renumber_from.Given as goal
 
-abbrev pub invariant-loop-k : goal.invariant-loop-k
-invariant-loop-k l =
-    (l.k ≤ l.n)
-    × (length l.table ≡ length l.initial.table)
-    × (shifted_from (new_index l.shift) l.n l.place l.initial.table ≡ shifted_from (new_index l.shift) (l.n - l.k)
-    l.at l.table)
-
-abbrev pub decreases-loop-k : goal.decreases-loop-k
-decreases-loop-k l = l.n - l.k
+abbrev pub invariant-loop : goal.invariant-loop
+invariant-loop l =
+    shifted_from (new_index l.shift) l.n l.place l.initial.table
+    ≡ shifted_from (new_index l.shift) (l.n - l.counter) l.at l.table

@@ -3,10 +3,7 @@ use Prim.Native.Nat.{◌+◌, ◌-◌, ◌*◌, ◌≤◌}
 use Rattle.packets.specs.Steps.{later_bits}
 use Rattle.packets.proofs.steps.later_bits.Given as goal
 
-abbrev pub invariant-loop-i : goal.invariant-loop-i
-invariant-loop-i l =
-    (l.i ≤ l.n) × (l.sum ≤ 32 * l.i)
-    × (later_bits l.n l.table l.start ≡ l.sum + later_bits (l.n - l.i) l.table l.at)
-
-abbrev pub decreases-loop-i : goal.decreases-loop-i
-decreases-loop-i l = l.n - l.i
+abbrev pub invariant-loop : goal.invariant-loop
+invariant-loop l =
+    (l.sum ≤ 32 * l.counter)
+    × (later_bits l.n l.table l.start ≡ l.sum + later_bits (l.n - l.counter) l.table l.at)

@@ -9,9 +9,6 @@ use Rattle.packets.proofs.unique.first_label.Given as goal
 abbrev pub invariant-loop-i : goal.invariant-loop-i
 invariant-loop-i l = Inner (labels_alike l.s l.places) l.j l.i
 
-abbrev pub decreases-loop-i : goal.decreases-loop-i
-decreases-loop-i l = l.j - l.i
-
 abbrev pub invariant-later : goal.invariant-later
 invariant-later l =
     Later (labels_alike l.s l.places) l.n l.j × (length l.seen ≡ remainders) × Seen (λ k. get_or l.keys k 0) l.j l.seen

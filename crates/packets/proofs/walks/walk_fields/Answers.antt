@@ -11,7 +11,7 @@ use Rattle.packets.proofs.walks.walk_fields.Goals as goal
 pub loop-i-init : goal.loop-i-init
 unfolding walk_all
 loop-i-init c =
-    (omega arith, omega arith, refl, rw (← c.two_at-n.ensures.0, ← c.two_at-at.ensures.0, sub-zero))
+    (omega arith, refl, rw (← c.two_at-n.ensures.0, ← c.two_at-at.ensures.0, sub-zero))
 
 pub returns-in_default : goal.returns-in_default
 unfolding walk_answer
@@ -19,7 +19,7 @@ returns-in_default c =
     let a = c.args in
     let l = c.loop-i in
     let h =
-    l.invariant.3
+    l.invariant.2
     ∙ walk_stop a.table.now a.packet.now l.run c.two_at-n.result l.i l.place l.at
     c.record_at-p.result c.one_field-found.result c.one_field-found.new.run c.loop-i-test.true c.record_at-p.ensures
     c.one_field-found.ensures.0 _
@@ -37,14 +37,13 @@ loop-i-preserved c =
     walk_to a.table.now a.packet.now l.run c.two_at-n.result l.i l.place l.at
     c.record_at-p.result one.result one.new.run
     c.loop-i-test.true c.record_at-p.ensures one.ensures.0
-    _ _ one.ensures.1 c.in-Field.is in
+    _ _ one.ensures.1 c.in-Ok.is in
     let inside =
     step_inside a.table.now a.packet.now l.run l.i c.record_at-p.result later l.place one.result
-    _ _ l.invariant.1 one.ensures.0 c.in-Field.is in (
-      omega arith,
+    _ _ l.invariant.0 one.ensures.0 c.in-Ok.is in (
       inside,
-      rw one.ensures.1 (length_with l.run l.i st) ∙ l.invariant.2,
-      l.invariant.3 ∙ h,
+      rw one.ensures.1 (length_with l.run l.i st) ∙ l.invariant.1,
+      l.invariant.2 ∙ h,
     )
 
 pub returns-then-place-total : goal.returns-then-place-total
@@ -54,7 +53,7 @@ returns-then-place-total c =
     let l = c.loop-i in
     let e : l.i ≡ c.two_at-n.result = omega arith in
     let h =
-    rw e at l.invariant.3 ∙ walk_end a.table.now a.packet.now l.run c.two_at-n.result l.place l.at in
+    rw e at l.invariant.2 ∙ walk_end a.table.now a.packet.now l.run c.two_at-n.result l.place l.at in
     (rw (h, eq-eqb _ _ c.if-place-total.true), rw h refl)
 
 pub returns : goal.returns
@@ -64,5 +63,5 @@ returns c =
     let l = c.loop-i in
     let e : l.i ≡ c.two_at-n.result = omega arith in
     let h =
-    rw e at l.invariant.3 ∙ walk_end a.table.now a.packet.now l.run c.two_at-n.result l.place l.at in
+    rw e at l.invariant.2 ∙ walk_end a.table.now a.packet.now l.run c.two_at-n.result l.place l.at in
     (rw (h, ne_eqb _ _ c.if-place-total.false), rw h refl)

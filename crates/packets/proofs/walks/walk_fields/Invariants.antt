@@ -7,8 +7,5 @@ use Rattle.packets.proofs.walks.walk_fields.Given as goal
 
 abbrev pub invariant-loop-i : goal.invariant-loop-i
 invariant-loop-i l =
-    (l.i ≤ l.n) × (l.place ≤ bit_total l.packet) × (length l.run ≡ length l.initial.run)
+    (l.place ≤ bit_total l.packet) × (length l.run ≡ length l.initial.run)
     × (walk_all l.table l.packet l.initial.run ≡ walk_from l.table l.packet (l.n - l.i) l.i l.run l.place l.at)
-
-abbrev pub decreases-loop-i : goal.decreases-loop-i
-decreases-loop-i l = l.n - l.i

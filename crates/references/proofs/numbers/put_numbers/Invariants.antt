@@ -9,9 +9,5 @@ abbrev pub invariant-loop-k : goal.invariant-loop-k
 invariant-loop-k l =
     (l.at ≤ length l.records)
     × (length l.records ≡ length l.initial.records)
-    × (l.k ≤ l.n)
     × (numbered l.n l.counts l.initial.records ≡ take l.at l.records ++ numbered (l.n - l.k) (drop l.k l.counts)
     (drop l.at l.records))
-
-abbrev pub decreases-loop-k : goal.decreases-loop-k
-decreases-loop-k l = l.n - l.k

@@ -1,33 +1,17 @@
-use mathlib.Core.Path.{◌≡◌, refl, ◌∙◌, sym}
-use native.Mathlib.Omega.{arith}
-use lib.ListN.{length}
-use Rattle.references.proofs.ScanLaws.{has_here, has_next, has_end}
+use Rattle.std.proofs.Common.{◌∙◌, refl, rules, tests}
+use Rattle.std.proofs.lemmas.Iterator.Consumers.{YieldsList-from_first}
+use Rattle.std.proofs.lemmas.Iterator.Search.{any_from_yields_List}
+use Rattle.base.proofs.Library.{any-list_any}
+use Rattle.references.specs.Scans.{codes_from, is_wanted, has_code}
 use Rattle.references.proofs.scans.has_code.Goals as goal
 
-pub loop-at-init : goal.loop-at-init
-loop-at-init c = (omega arith, refl)
-
-pub returns-then-is_wanted : goal.returns-then-is_wanted
-returns-then-is_wanted c =
-    let l = c.loop-at in
-    let s = c.args.expression.now in
-    sym (l.invariant.1 ∙ has_here c.args.wanted s l.at (omega arith)
-    (sym c.is_wanted.ensures ∙ c.if-is_wanted.true))
-
-pub loop-at-preserved : goal.loop-at-preserved
-loop-at-preserved c =
-    let l = c.loop-at in
-    let s = c.args.expression.now in
-    let n = c.next_code-at in
-    let none = sym c.is_wanted.ensures ∙ c.if-is_wanted.false in (
-      n.ensures.2,
-      l.invariant.1 ∙ has_next c.args.wanted s l.at n.result n.ensures.0 ∙ rw
-          none refl,
-    )
-
 pub returns : goal.returns
+unfolding has_code
 returns c =
-    let l = c.loop-at in
-    let s = c.args.expression.now in
-    let e : l.at ≡ length s = omega arith in
-    sym (l.invariant.1 ∙ rw e (has_end c.args.wanted s))
+    let w = c.args.wanted in
+    let codes = codes_from 0 c.args.expression.now in
+    any_from_yields_List (is_wanted w) c.any.new.self _ c.any.result c.any.ensures.ran
+    (YieldsList-from_first (λ x. x.now) (λ s. codes_from 0 s.rest.now) {s = record { rest = c.args.expression }}
+    codes refl)
+    (λ x b q k. search (rules, tests))
+    ∙ any-list_any (is_wanted w) codes

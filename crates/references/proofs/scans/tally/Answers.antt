@@ -1,38 +1,29 @@
 use mathlib.Core.Path.{refl, sym, ◌∙◌}
-use native.Mathlib.Omega.{arith}
-use Rattle.references.proofs.TallyLaws.{tally_field, tally_other, tally_cut, tally_end}
+use mathlib.Core.List.{[], ◌∷◌}
+use Rattle.references.specs.Scans.{references}
+use Rattle.references.specs.Tallies.{tallied}
+use Rattle.references.proofs.TallyLaws.{tally_next, tally_end}
 use Rattle.references.proofs.scans.tally.Goals as goal
 
-pub loop-at-init : goal.loop-at-init
-loop-at-init c = (omega arith, refl, refl)
+pub loop-code-init : goal.loop-code-init
+unfolding references
+loop-code-init c = (refl, rw c.into_iter-code-iterator.ensures.into_iter_gives refl)
 
-pub returns-then-expression-at-lt2 : goal.returns-then-expression-at-lt2
-returns-then-expression-at-lt2 c =
-    let l = c.loop-at in
-    let a = c.args in
-    sym (l.invariant.2 ∙ tally_cut a.own l.counts a.expression.now l.at (omega arith) (omega arith))
+pub loop-code-preserved-in-Some-index_in : goal.loop-code-preserved-in-Some-index_in
+loop-code-preserved-in-Some-index_in c =
+    let l = c.loop-code in
+    let i = c.in-Some-index_in in
+    let more = tally_next c.args.own l.counts _ (i.index ∷ []) _ _ c.in-Some.ensures.steps i.ensures in
+    (c.count.auto.counts ∙ l.invariant.0, l.invariant.1 ∙ rw c.count.ensures more)
 
-pub loop-at-preserved-else-expression-at-lt2 : goal.loop-at-preserved-else-expression-at-lt2
-loop-at-preserved-else-expression-at-lt2 c =
-    let l = c.loop-at in
-    let a = c.args in
-    let q = c.count in
-    let n = c.next_code-next in
-    let more = tally_field a.own l.counts q.new.counts a.expression.now l.at n.result
-    (omega arith) c.if-expression-at-eq-FIELD_CODE.true n.ensures.0 q.ensures in
-    (n.ensures.2, q.auto.counts ∙ l.invariant.1, l.invariant.2 ∙ more)
-
-pub loop-at-preserved : goal.loop-at-preserved
-loop-at-preserved c =
-    let l = c.loop-at in
-    let a = c.args in
-    let n = c.next_code-next in
-    let more = tally_other a.own l.counts a.expression.now l.at n.result (omega arith)
-    c.if-expression-at-eq-FIELD_CODE.false n.ensures.0 in
-    (n.ensures.2, l.invariant.1, l.invariant.2 ∙ more)
+pub loop-code-preserved : goal.loop-code-preserved
+unfolding tallied
+loop-code-preserved c =
+    let l = c.loop-code in
+    let more = tally_next c.args.own l.counts _ [] _ _ c.in-Some.ensures.steps c.in_default.ensures in
+    (l.invariant.0, l.invariant.1 ∙ more)
 
 pub returns : goal.returns
 returns c =
-    let l = c.loop-at in
-    let a = c.args in
-    sym (l.invariant.2 ∙ tally_end a.own l.counts a.expression.now l.at (omega arith))
+    let l = c.loop-code in
+    sym (l.invariant.1 ∙ tally_end c.args.own l.counts _ c.in-None.ensures.steps.0)

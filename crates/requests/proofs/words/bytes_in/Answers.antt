@@ -1,51 +1,32 @@
+use mathlib.Core.Path.{◌≡◌}
 use native.Mathlib.Omega.{arith}
-use Rattle.io.proofs.Counting.{prefix_len_of_le}
-use Rattle.requests.proofs.HexLaws.{filling_none, filling_short, filling_first, filling_second, filling_on}
-use Rattle.requests.proofs.HexLaws.{filling_full}
+use lib.ListN.{length}
+use Rattle.requests.proofs.HexLaws.{filling_stop, filling_full, filling_on, hex_short, hex_first, hex_second}
 use Rattle.requests.proofs.words.bytes_in.Goals as goal
 
-pub loop-n-init : goal.loop-n-init
-loop-n-init c = filling_none _ _
+pub returns-in_default-clause-holds : goal.returns-in_default-clause-holds
+returns-in_default-clause-holds c =
+    filling_stop c.loop-n.invariant (hex_short c.loop-n.rest.now c.in_default.len_below)
 
-pub shape_of-out-then-line-i-lt2 : goal.shape_of-out-then-line-i-lt2
-shape_of-out-then-line-i-lt2 c = c.loop-n.invariant.size
+pub returns-in_default-2-clause-holds : goal.returns-in_default-2-clause-holds
+returns-in_default-2-clause-holds c =
+    let first = rw c.in_default-2.is-0 at c.digit.ensures in
+    filling_stop c.loop-n.invariant
+    (hex_second c.loop-n.rest.now c.in_default-2.field-0-0 c.in-len2-up.len_at_least first.0 first.1
+    (rw c.in_default-2.is-1 at c.digit-in-loop-n.ensures))
 
-pub returns-then-line-i-lt2 : goal.returns-then-line-i-lt2
-returns-then-line-i-lt2 c = record {
-  prefix_len = prefix_len_of_le _ _ c.loop-n.invariant.within;
-  holds = filling_short c.loop-n.invariant c.if-line-i-lt2.true;
-}
-
-pub shape_of-out-then-high-gt15 : goal.shape_of-out-then-high-gt15
-shape_of-out-then-high-gt15 c = c.loop-n.invariant.size
-
-pub returns-then-high-gt15 : goal.returns-then-high-gt15
-returns-then-high-gt15 c = record {
-  prefix_len = prefix_len_of_le _ _ c.loop-n.invariant.within;
-  holds = filling_first c.loop-n.invariant (omega arith) c.digit-high.ensures.0 c.digit-low.ensures.0
-      c.if-high-gt15.true;
-}
-
-pub shape_of-out-then-low-gt15 : goal.shape_of-out-then-low-gt15
-shape_of-out-then-low-gt15 c = c.loop-n.invariant.size
-
-pub returns-then-low-gt15 : goal.returns-then-low-gt15
-returns-then-low-gt15 c = record {
-  prefix_len = prefix_len_of_le _ _ c.loop-n.invariant.within;
-  holds = filling_second c.loop-n.invariant (omega arith) c.digit-high.ensures.0 c.digit-low.ensures.0 (omega arith)
-      c.if-low-gt15.true;
-}
+pub returns-in_default-2-2-clause-holds : goal.returns-in_default-2-2-clause-holds
+returns-in_default-2-2-clause-holds c =
+    filling_stop c.loop-n.invariant
+    (hex_first c.loop-n.rest.now c.in-len2-up.len_at_least (rw c.in_default-2.is-0 at c.digit.ensures))
 
 pub loop-n-preserved : goal.loop-n-preserved
 loop-n-preserved c =
-    filling_on c.loop-n.invariant (omega arith) c.digit-high.ensures.0 c.digit-low.ensures.0 (omega arith) (omega
-    arith) (omega arith)
+    let first = c.in-Some-Some.ensures in
+    let second = c.in-Some-Some.ensures' in
+    filling_on c.loop-n.invariant c.in-len2-up.len_at_least first.0 second.0 first.1 second.1 (omega arith)
 
-pub shape_of-out : goal.shape_of-out
-shape_of-out c = c.loop-n.invariant.size
-
-pub returns : goal.returns
-returns c = record {
-  prefix_len = prefix_len_of_le _ _ c.loop-n.invariant.within;
-  holds = filling_full c.loop-n.invariant (omega arith);
-}
+pub returns-clause-holds : goal.returns-clause-holds
+returns-clause-holds c =
+    let end : length c.loop-n.out ≡ c.loop-n.n = omega (arith, c.loop-n.invariant.size) in
+    rw end (filling_full c.loop-n.invariant (omega arith))

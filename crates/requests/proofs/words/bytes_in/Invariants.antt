@@ -1,10 +1,5 @@
-use Prim.Native.Nat.{◌-◌}
-use lib.ListN.{length}
 use Rattle.requests.proofs.HexLaws.{Filling}
 use Rattle.requests.proofs.words.bytes_in.Given as goal
 
 abbrev pub invariant-loop-n : goal.invariant-loop-n
-invariant-loop-n l = Filling l.line l.initial.out l.out l.n l.i
-
-abbrev pub decreases-loop-n : goal.decreases-loop-n
-decreases-loop-n l = length l.initial.out - l.n
+invariant-loop-n l = Filling l.line l.initial.out l.out l.n l.rest

@@ -1,20 +1,12 @@
-use Rattle.texts.proofs.CellSteps.{added_none, added_bare, added_behind}
+use Rattle.texts.proofs.CellSteps.{added_bare, added_behind}
 use Rattle.texts.proofs.cell_texts.add_line.Goals as goal
-
-pub returns-then-len-eq0 : goal.returns-then-len-eq0
-returns-then-len-eq0 c =
-    let a = c.args in
-    let f = c.spaces_end-from in
-    let t = c.trimmed-len in
-    added_none a.chars.now f.result t.result f.ensures.1 t.ensures.0 t.ensures.1
-    a.bare _ a.at c.if-len-eq0.true
 
 pub returns-then-bare : goal.returns-then-bare
 returns-then-bare c =
     let f = c.spaces_end-from in
     let t = c.trimmed-len in
     added_bare c.args.chars.now f.result t.result f.ensures.1 t.ensures.0
-    t.ensures.1 c.requires.0 c.if-len-eq0.false
+    t.ensures.1 c.requires c.if-len-eq0.false
     c.if-bare.true c.put.ensures
 
 pub returns : goal.returns
@@ -24,7 +16,7 @@ returns c =
     in
     added_behind c.args.chars.now f.result t.result f.ensures.1
     t.ensures.0
-    t.ensures.1 c.requires.0
+    t.ensures.1 c.requires
     c.if-len-eq0.false
     c.if-bare.false
     c.put-next.ensures c.put-2.ensures

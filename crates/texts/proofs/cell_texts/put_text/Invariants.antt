@@ -1,12 +1,8 @@
-use Prim.Native.Nat.{◌-◌, ◌≤◌}
+use Prim.Native.Nat.{◌-◌}
 use Rattle.writing.specs.Writes.{Writes}
 use Rattle.rules.specs.Rows.{cell_text}
 use Rattle.texts.specs.RowPlaces.{cell_at}
 use Rattle.texts.proofs.cell_texts.put_text.Given as goal
 
 abbrev pub invariant-loop-j : goal.invariant-loop-j
-invariant-loop-j l =
-    (l.j ≤ l.n) × Writes l.initial.cells l.at (cell_text (cell_at l.row l.j l.a (l.b - l.a))) l.cells l.end
-
-abbrev pub decreases-loop-j : goal.decreases-loop-j
-decreases-loop-j l = l.n - l.j
+invariant-loop-j l = Writes l.initial.cells l.at (cell_text (cell_at l.row l.j l.a (l.b - l.a))) l.cells l.end

@@ -1,17 +1,14 @@
+use native.Mathlib.Omega.{arith}
 use Rattle.texts.proofs.OperatorRows.{row_code}
-use Rattle.texts.proofs.ChainSteps.{link_ends, link_goes}
+use Rattle.texts.proofs.ChainSteps.{link_goes}
 use Rattle.texts.proofs.chains.next_link.Goals as goal
 
-pub returns-in-Nothing : goal.returns-in-Nothing
-returns-in-Nothing c =
-    let a = c.args in
-    link_ends a.g a.c a.a a.out.now _ c.in-Nothing.is c.chained-t.ensures
-
-pub returns-in-By : goal.returns-in-By
-returns-in-By c =
+pub returns-in-Some : goal.returns-in-Some
+returns-in-Some c =
     let a = c.args in
     let p = c.put_first in
-    link_goes a.g a.c a.a a.out.now c.in-By.o c.in-By.end c.in-By.field-2 c.in-By.field-3 c.in-By.is _
-    c.pushed-d.ensures c.place_in-from.result c.place_in-from.ensures.0
-    c.place_in-from.ensures.1 _ p.auto.out c.operator-row.result.code
-    (row_code _ c.in-By.o c.operator-row.ensures) p.ensures
+    link_goes a.g a.c a.a a.out.now c.in-Some.t c.in-Some.is _
+    c.pushed-d.ensures c.min-from.result
+    (omega (arith, c.min-from.ensures)) (λ h. omega (arith, h, c.min-from.ensures)) _ p.auto.out
+    c.operator-row.result.code
+    (row_code _ c.in-Some.t.op c.operator-row.ensures) p.ensures

@@ -1,10 +1,10 @@
 use mathlib.Core.Path.{◌≡◌, refl, ap, sym, ◌∙◌}
 use mathlib.Core.Bool.{Bool, true, false, ◌&&◌, not}
 use native.Mathlib.Omega.{arith}
-use lib.Dec.{eqb}
+use Rattle.std.specs.Prelude.{is_none}
 use Rattle.rules.specs.Within.{keeps_names, keeps_types, keeps_rest, name_readable}
 use Rattle.text_laws.specs.Judging.{faces, shows_cell}
-use Rattle.texts.specs.Noted.{note_of}
+use Rattle.texts.specs.Kinds as kind
 use Rattle.texts.proofs.AreaLaws.{cells_long, names_long, labels_long}
 use Rattle.texts.proofs.FormRules.{names_here, types_are, rest_is, later_is, not_flip}
 use borrow.Author.Rules.{rules}
@@ -13,22 +13,17 @@ use Rattle.texts.proofs.form_rules.later_rule.Goals as goal
 pub overflow_add-place : goal.overflow_add-place
 overflow_add-place c = let q = c.requires.1 in search (rules, q)
 
-pub slice_bounds-shows_cell-end : goal.slice_bounds-shows_cell-end
-slice_bounds-shows_cell-end c = let k = c.requires.4 in omega (arith, k)
-
 pub shows_cell-requires : goal.shows_cell-requires
 shows_cell-requires c = (
   c.requires.0,
   c.requires.3,
   (let n = cells_long c.args.held.now
-      c.requires.4 in omega (arith, n)),
+      (omega arith) in omega (arith, n)),
 )
 
 pub returns-then-not-shows_cell : goal.returns-then-not-shows_cell
-unfolding note_of
 returns-then-not-shows_cell c =
     let a = c.args in record {
-      told = refl;
       rule = (λ f x v k n s nw e p.
           let shown : shows_cell f.cells (faces f.judged.fields) x
           ≡ false = sym (c.shows_cell.ensures f x _ v k n s p)
@@ -37,26 +32,17 @@ returns-then-not-shows_cell c =
       place = omega arith;
     }
 
-pub slice_bounds-clashes-end : goal.slice_bounds-clashes-end
-slice_bounds-clashes-end c = let k = c.requires.4 in omega (arith, k)
-
-pub slice_bounds-clashes-end-2 : goal.slice_bounds-clashes-end-2
-slice_bounds-clashes-end-2 c =
-    let k = c.requires.4 in omega (arith, k)
-
 pub clashes-requires : goal.clashes-requires
 clashes-requires c =
     let held = c.args.held.now in (
       c.requires.2,
-      (let n = labels_long held c.requires.4 in omega (arith, n)),
-      (let n = names_long held c.requires.4 in omega (arith, n)),
+      (let n = labels_long held (omega arith) in omega (arith, n)),
+      (let n = names_long held (omega arith) in omega (arith, n)),
     )
 
 pub returns-then-clashes : goal.returns-then-clashes
-unfolding note_of
 returns-then-clashes c =
     let a = c.args in record {
-      told = refl;
       rule = (λ f x v k n s nw e p.
           let shown : shows_cell f.cells (faces f.judged.fields) x
           ≡ true = sym (c.shows_cell.ensures f x _ v k n s p)
@@ -69,10 +55,8 @@ returns-then-clashes c =
     }
 
 pub returns-then-not-types_kept : goal.returns-then-not-types_kept
-unfolding note_of
 returns-then-not-types_kept c =
     let a = c.args in record {
-      told = refl;
       rule = (λ f x v k n s nw e p.
           let shown : shows_cell f.cells (faces f.judged.fields) x
           ≡ true = sym (c.shows_cell.ensures f x _ v k n
@@ -90,10 +74,8 @@ returns-then-not-types_kept c =
     }
 
 pub returns-then-misplaced : goal.returns-then-misplaced
-unfolding note_of
 returns-then-misplaced c =
     let a = c.args in record {
-      told = refl;
       rule = (λ f x v k n s nw e p.
           let shown : shows_cell f.cells (faces f.judged.fields) x
           ≡ true = sym (c.shows_cell.ensures f x _ v k n s p) ∙ c.if-not-shows_cell.false in
@@ -108,17 +90,15 @@ returns-then-misplaced c =
           let rested : keeps_rest (faces f.judged.fields) x ≡ false =
           not_flip (keeps_rest (faces f.judged.fields) x) (sym (rest_is f k a.line.now x e _
           a.r.fields v a.p p)
-          ∙ ap (λ (b : Bool). b && not (eqb a.p.kind 12 && eqb a.p.condition.len 0)) (sym n.rested)
+          ∙ ap (λ (b : Bool). b && not (kind.is_fixed a.p.width && is_none a.p.condition)) (sym n.rested)
           ∙ sym c.misplaced.ensures ∙ c.if-misplaced.true) in
           sym (later_is f a.r x n true true true false shown unique typed rested));
       place = omega arith;
     }
 
 pub returns : goal.returns
-unfolding note_of
 returns c =
     let a = c.args in record {
-      told = refl;
       rule = (λ f x v k n s nw e p.
           let shown : shows_cell f.cells (faces f.judged.fields) x
           ≡ true = sym (c.shows_cell.ensures f x _ v k n s p) ∙ c.if-not-shows_cell.false in
@@ -133,7 +113,7 @@ returns c =
           let rested : keeps_rest (faces f.judged.fields) x ≡ true =
           not_flip (keeps_rest (faces f.judged.fields) x) (sym (rest_is f k a.line.now x e _
           a.r.fields v a.p p)
-          ∙ ap (λ (b : Bool). b && not (eqb a.p.kind 12 && eqb a.p.condition.len 0)) (sym n.rested)
+          ∙ ap (λ (b : Bool). b && not (kind.is_fixed a.p.width && is_none a.p.condition)) (sym n.rested)
           ∙ sym c.misplaced.ensures ∙ c.if-misplaced.false) in
           sym (later_is f a.r x n true true true true shown unique typed rested));
       place = omega arith;

@@ -18,7 +18,7 @@ pub overflow_add-size : goal.overflow_add-size
 overflow_add-size c = let q = c.requires.0.width in search (rules, q)
 
 pub slice_bounds-goes_on-end : goal.slice_bounds-goes_on-end
-slice_bounds-goes_on-end c = let q = c.requires.0.width in let k = c.requires.3.1 in omega (arith, q, k)
+slice_bounds-goes_on-end c = let q = c.requires.0.width in omega (arith, q)
 
 pub overflow_mul-n : goal.overflow_mul-n
 overflow_mul-n c =
@@ -38,25 +38,13 @@ returns-then-goes_on c =
     let l = c.args.line.now in
     let row = c.args.row.now in
     let safe = c.requires.0 in
-    let room = c.requires.3.1 in
     let goes = rw (sub-zero (2 * r.width + 1)) at (sym c.goes_on.ensures ∙ c.if-goes_on.true) in
-    let size = goes_size r.row (2 * r.width + 1) row l goes (omega (arith, safe.width, room)) in
-    let w = put_writes (omega (arith, safe.width, safe.row, room, size.1)) c.put.ensures in record {
+    let size = goes_size r.row (2 * r.width + 1) row l goes (omega (arith, safe.width)) in
+    let w = put_writes (omega (arith, safe.width, safe.row, size.1)) c.put.ensures in record {
       room = rw c.onward.ensures ((room_line r (r.row + 1) safe (omega (arith, size.0)), omega arith));
       step = rw c.onward.ensures (λ f x table labels names k b is kept h.
-          behind_line f x r l k is kept h room c.requires.3.0 goes safe size.1 w);
+          behind_line f x r l k is kept h (omega arith) c.requires.3 goes safe size.1 w);
     }
-
-pub put_row-ended-requires : goal.put_row-ended-requires
-put_row-ended-requires c =
-    let k = c.requires.0 in (
-      k.row,
-      omega arith,
-      omega (arith, k.width),
-      c.requires.3.1,
-      omega (arith, k.slots, k.cells, c.requires.2),
-      c.class_table-classes.ensures,
-    )
 
 pub returns-in_default : goal.returns-in_default
 returns-in_default c =
@@ -64,13 +52,13 @@ returns-in_default c =
     let l = c.args.line.now in
     let row = c.args.row.now in
     let safe = c.requires.0 in
-    let room = c.requires.3.1 in
     let stops = rw (sub-zero (2 * r.width + 1)) at (sym c.goes_on.ensures ∙ c.if-goes_on.false) in
-    let q = row_wrong row r.row (2 * r.width + 1) c.args.cells.now _ r.slots _ c.put_row-ended.ensures
+    let q = row_wrong row r.row (2 * r.width + 1) c.args.cells.now _ r.slots _ c.put_row.ensures
     c.in_default.is in record {
       room = rw c.wrong_row.ensures (taken_wrong_row r safe);
-      step = rw c.wrong_row.ensures (λ f x table labels names k b is kept h. behind_bad f x r l k is kept h room
-          c.requires.3.0 stops q.0 q.1);
+      step = rw c.wrong_row.ensures (λ f x table labels names k b is kept h. behind_bad f x r l k is kept h
+          (omega arith)
+          c.requires.3 stops q.0 q.1);
     }
 
 pub is_border-requires : goal.is_border-requires
@@ -87,14 +75,14 @@ returns-then-is_border c =
     let l = c.args.line.now in
     let row = c.args.row.now in
     let safe = c.requires.0 in
-    let room = c.requires.3.1 in
     let stops = rw (sub-zero (2 * r.width + 1)) at (sym c.goes_on.ensures ∙ c.if-goes_on.false) in
-    let p = row_put row r.row (2 * r.width + 1) c.args.cells.now _ r.slots _ c.put_row-ended.ensures _ _
-    c.in-Put.is in record {
+    let p = row_put row r.row (2 * r.width + 1) c.args.cells.now _ r.slots _ c.put_row.ensures _ _
+    c.in-Some.is in record {
       room = rw c.end_row.ensures (room_ended r _ _ (slots_at row r.row (2 * r.width + 1) 1) safe
           (labels_all row r.row (2 * r.width + 1) p.labels) p.is_count p.writes);
-      step = rw c.end_row.ensures (λ f x table labels names k b is kept h. behind_border f x r l k is kept h room
-          c.requires.3.0 stops p.labels
+      step = rw c.end_row.ensures (λ f x table labels names k b is kept h. behind_border f x r l k is kept h
+          (omega arith)
+          c.requires.3 stops p.labels
           p.writes safe c.requires.2 b (sym c.is_border.ensures ∙ c.if-is_border.true) _ p.is_count);
     }
 
@@ -108,12 +96,11 @@ returns c =
     let l = c.args.line.now in
     let row = c.args.row.now in
     let safe = c.requires.0 in
-    let room = c.requires.3.1 in
     let stops = rw (sub-zero (2 * r.width + 1)) at (sym c.goes_on.ensures ∙ c.if-goes_on.false) in
-    let p = row_put row r.row (2 * r.width + 1) c.args.cells.now _ r.slots _ c.put_row-ended.ensures _ _
-    c.in-Put.is in record {
+    let p = row_put row r.row (2 * r.width + 1) c.args.cells.now _ r.slots _ c.put_row.ensures _ _
+    c.in-Some.is in record {
       room = rw c.wrong.ensures (taken_wrong r safe);
-      step = rw c.wrong.ensures (λ f x table labels names k b is kept h. behind_wrong f x r l k is kept h room
-          c.requires.3.0 stops p.labels
+      step = rw c.wrong.ensures (λ f x table labels names k b is kept h. behind_wrong f x r l k is kept h (omega arith)
+          c.requires.3 stops p.labels
           p.writes safe c.requires.2 (sym c.is_border.ensures ∙ c.if-is_border.false));
     }

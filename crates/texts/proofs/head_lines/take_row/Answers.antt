@@ -14,7 +14,7 @@ use Rattle.texts.proofs.StateSteps.{taken_wrong, holds_wrong, blamed_outside, ke
 use Rattle.texts.proofs.head_lines.take_row.Goals as goal
 
 pub is_row-requires : goal.is_row-requires
-is_row-requires c = (c.requires.0.width, c.requires.2.0)
+is_row-requires c = (c.requires.0.width, c.requires.2)
 
 pub onward-requires : goal.onward-requires
 onward-requires c =
@@ -30,7 +30,6 @@ returns-then-is_row c =
       arith,
       n.2,
       c.requires.0.width,
-      c.requires.2.1,
     )) c.put.ensures in record {
       room = rw c.onward.ensures ((
         room_line r 1 c.requires.0

@@ -14,7 +14,6 @@ returns-then-has_length c =
     rw (ne_eqb _ _ c.requires.1.first) (c.same_words.ensures
     ∙ ap (same _) (part_text a.names.now a.at short_most))
 
-pub returns : goal.returns
-returns c =
-    let ends = sym c.has_length.ensures ∙ c.if-has_length.false in
-    sym (other_length _ _ _ c.requires.1 ends)
+pub returns-else-has_length : goal.returns-else-has_length
+returns-else-has_length c =
+    let no = c.if-has_length.false in no ∙ sym (other_length _ _ _ c.requires.1 (sym c.has_length.ensures ∙ no))

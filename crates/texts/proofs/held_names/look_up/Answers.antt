@@ -1,46 +1,28 @@
-use mathlib.Core.Path.{refl, sym, ◌∙◌}
-use native.Mathlib.Omega.{arith}
-use Rattle.texts.specs.HeldNames.{names_in}
-use Rattle.texts.specs.StoredTrees.{is_held, look_up}
+use Rattle.std.proofs.Common.{◌≡◌, true, false, length, refl, ◌∙◌, arith, rules}
+use Rattle.std.proofs.lemmas.Iterator.{first_from_Range, serves_from_Range}
+use borrow.Author.Tests.{tests}
+use Rattle.texts.specs.HeldNames.{names_in, HeldLength}
+use Rattle.texts.specs.StoredTrees.{reads_as, look_up}
 use Rattle.texts.proofs.NameLengths.{held_length}
-use Rattle.texts.proofs.StartLaws.{walk_found, walk_none, walk_next}
+use Rattle.texts.proofs.StartLaws.{find_is}
 use Rattle.texts.proofs.held_names.look_up.Goals as goal
 
-pub loop-i-init : goal.loop-i-init
-unfolding look_up
-loop-i-init c =
-    let is = c.held_name-held.ensures in
-    (is, rw (c.walk_start-i.ensures, is) refl)
-
-pub is_held-requires : goal.is_held-requires
-is_held-requires c =
-    let p = c.requires in
-    let long = held_length c.args.w.now p.2 in
-    (omega (arith, p.0), p.1, rw c.loop-i.invariant.0 long)
-
-pub returns-then-is_held : goal.returns-then-is_held
-returns-then-is_held c =
-    let a = c.args in
-    let l = c.loop-i in
-    let e = rw l.invariant.0 at (sym c.is_held.ensures ∙ c.if-is_held.true) in
-    let test = is_held (names_in a.names.now) a.w.now in record {
-      place = omega arith;
-      found = walk_found test a.n l.i _ (omega arith) l.invariant.1 e;
-    }
-
-pub loop-i-preserved : goal.loop-i-preserved
-loop-i-preserved c =
-    let a = c.args in
-    let l = c.loop-i in
-    let e = rw l.invariant.0 at (sym c.is_held.ensures ∙ c.if-is_held.false) in
-    let test = is_held (names_in a.names.now) a.w.now in
-    (l.invariant.0, walk_next test a.n l.i _ (omega arith) l.invariant.1 e)
+pub find-requires-clause-callable : goal.find-requires-clause-callable
+find-requires-clause-callable c =
+    let long : HeldLength c.held_name-held.result (length c.args.w.now) =
+    rw c.held_name-held.ensures (held_length c.args.w.now c.requires.2) in
+    serves_from_Range (λ x q k. search (rules, tests)) (λ x low high. search (rules, long))
 
 pub returns : goal.returns
+unfolding look_up
 returns c =
     let a = c.args in
-    let l = c.loop-i in
-    let test = is_held (names_in a.names.now) a.w.now in record {
-      place = omega arith;
-      found = walk_none test a.n l.i _ (omega arith) l.invariant.1;
+    let is = c.held_name-held.ensures in
+    let start = c.walk_start-start.ensures in
+    let test = reads_as (names_in a.names.now) c.held_name-held.result in
+    let found = find_is test a.n c.walk_start-start.result c.find.result
+    (first_from_Range _ _ _ _ (λ i. test i ≡ true) (λ i. test i ≡ false) c.find.ensures.ran
+    (λ x q k. search (rules, tests)) (λ x q k. (search rules, search (rules, tests)))) in record {
+      place = omega (arith, c.unwrap_or.ensures, found.0);
+      found = c.unwrap_or.ensures ∙ found.1 ∙ rw (start, is) refl;
     }

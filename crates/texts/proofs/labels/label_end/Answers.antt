@@ -1,34 +1,20 @@
-use mathlib.Core.Path.{◌≡◌, refl, sym, ◌∙◌}
-use native.Mathlib.Omega.{arith}
-use mathlib.Core.Bool.{true, false}
-use lib.ListN.{drop}
+use Rattle.std.proofs.Common.{◌≡◌, true, false, drop, arith, rules}
+use Rattle.std.proofs.lemmas.Iterator.{first_from_Range, serves_from_Range}
+use borrow.Author.Tests.{tests}
 use Rattle.text_laws.specs.LineReader.{label_ends}
-use Rattle.texts.proofs.FieldNames.{label_end, label_stop, label_step}
+use Rattle.texts.proofs.FieldNames.{label_found}
 use Rattle.texts.proofs.labels.label_end.Goals as goal
 
-pub loop-i-init : goal.loop-i-init
-loop-i-init c = (omega arith, omega arith, refl)
-
-pub returns-then-label_ends : goal.returns-then-label_ends
-returns-then-label_ends c =
-    let l = c.loop-i in
-    let s = c.args.s.now in
-    let y : label_ends (drop l.i s) ≡ true = sym c.label_ends.ensures ∙ c.if-label_ends.true in record {
-      place = omega arith;
-      rest = label_stop s l.i (omega arith) y ∙ sym l.invariant.2;
-    }
-
-pub loop-i-preserved : goal.loop-i-preserved
-loop-i-preserved c =
-    let l = c.loop-i in
-    let s = c.args.s.now in
-    let n : label_ends (drop l.i s) ≡ false = sym c.label_ends.ensures ∙ c.if-label_ends.false in
-    (omega arith, omega arith, l.invariant.2 ∙ label_step s l.i (omega arith) n)
+pub find-requires-clause-callable : goal.find-requires-clause-callable
+find-requires-clause-callable c =
+    serves_from_Range (λ x q k. search (rules, tests)) (λ x low high. omega (arith, high))
 
 pub returns : goal.returns
 returns c =
-    let l = c.loop-i in
-    let s = c.args.s.now in record {
-      place = omega arith;
-      rest = label_end s l.i (omega arith) (omega arith) ∙ sym l.invariant.2;
+    let s = c.args.s.now in
+    let found = label_found s c.args.at c.requires c.find.result
+    (first_from_Range _ _ _ _ (λ i. label_ends (drop i s) ≡ true) (λ i. label_ends (drop i s) ≡ false)
+    c.find.ensures.ran (λ x q k. search (rules, tests)) (λ x q k. (search rules, search (rules, tests)))) in record {
+      place = (omega (arith, c.unwrap_or.ensures, found.0), omega (arith, c.unwrap_or.ensures, found.1));
+      rest = rw c.unwrap_or.ensures found.2;
     }

@@ -6,10 +6,10 @@ use Rattle.texts.proofs.labels.label_ends.Goals as goal
 pub returns-then-starts_at : goal.returns-then-starts_at
 returns-then-starts_at c =
     let a = c.args in
-    sym (ends_open (drop a.at a.s.now) (sym c.starts_at.ensures ∙ c.if-starts_at.true))
+    c.if-starts_at.true ∙ sym (ends_open (drop a.at a.s.now) (sym c.starts_at.ensures ∙ c.if-starts_at.true))
 
-pub returns : goal.returns
-returns c =
+pub returns-else-starts_at : goal.returns-else-starts_at
+returns-else-starts_at c =
     let a = c.args in
     let n = ends_colon (drop a.at a.s.now) (sym c.starts_at.ensures ∙ c.if-starts_at.false) in
-    c.starts_at-2.ensures ∙ sym n
+    c.starts_at-else-starts_at.ensures ∙ sym n

@@ -7,7 +7,7 @@ pub name_at-requires : goal.name_at-requires
 name_at-requires c =
     let a = c.args in
     let y = sym c.starts_at.ensures ∙ c.if-starts_at.true in
-    (short_room a.s.now a.at (omega arith) y, c.requires.1)
+    short_room a.s.now a.at (omega arith) y
 
 pub returns-then-starts_at : goal.returns-then-starts_at
 returns-then-starts_at c =

@@ -1,15 +1,9 @@
-use native.Mathlib.Omega.{arith}
 use Rattle.texts.proofs.line_counts.keep_field.Goals as goal
 
 pub count_line-requires : goal.count_line-requires
 count_line-requires c =
-    let q = c.requires in
-    let w = q.0 in
-    let r = q.3 in (
-      omega (arith, w.width, r.width),
-      omega (arith, w.constraint, r.constraint),
-      omega (arith, w.condition, r.condition),
-    )
+    let w = c.requires.0 in
+    (w.width, w.constraint, w.condition)
 
 pub put_field-requires : goal.put_field-requires
 put_field-requires c = c.requires

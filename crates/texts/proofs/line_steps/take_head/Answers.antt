@@ -1,35 +1,22 @@
-use mathlib.Core.Path.{refl, ap}
-use mathlib.Core.List.{List, []}
-use Prim.Native.Nat.{ℕ}
-use lib.ListN.{length}
+use mathlib.Core.Path.{refl, ◌∙◌}
+use mathlib.Core.List.{[]}
 use native.Mathlib.Omega.{arith}
 use Rattle.base.specs.Bytes.{bytes}
 use Rattle.rules.specs.Frames.{units, border}
 use Rattle.text_laws.specs.FrameReader.{read_tens}
-use Rattle.texts.proofs.AreaLaws.{cells_long, table_part, table_room}
+use Rattle.texts.proofs.AreaLaws.{cells_long, table_long}
 use Rattle.texts.proofs.LineAreas.{opening_step, more_step}
 use Rattle.texts.proofs.StateSteps.{same_nil, no_field, at_stage, head_stage, row_stage}
 use Rattle.texts.proofs.StateSteps.{expect_head, width_row_lem}
 use Rattle.text_laws.specs.Fold as fold
 use Rattle.texts.specs.declared.states.Stage.TheVariants as at
-use borrow.Author.Rules.{rules}
 use Rattle.texts.proofs.line_steps.take_head.Goals as goal
-
-pub slice_bounds-take_opening-count : goal.slice_bounds-take_opening-count
-slice_bounds-take_opening-count c =
-    let k = c.requires.0.3 in omega (arith, k)
-
-pub slice_bounds-take_opening-start : goal.slice_bounds-take_opening-start
-slice_bounds-take_opening-start c =
-    let k = c.requires.0.3 in omega (arith, k)
 
 pub take_opening-requires : goal.take_opening-requires
 take_opening-requires c =
     let held = c.args.held.now in
-    let room = c.requires.0.3 in
-    let part = ap (λ (z : List ℕ). length z) (table_part held room) in
-    let n = table_room held room in
-    (c.requires.0.0, c.requires.0.1, omega (arith, part, n))
+    let n = table_long held (omega arith) in
+    (c.requires.0.0, c.requires.0.1, omega (arith, n))
 
 pub expect-requires : goal.expect-requires
 expect-requires c =
@@ -59,13 +46,9 @@ pub take_row-requires : goal.take_row-requires
 take_row-requires c =
     (c.requires.0.0, c.requires.0.1, c.requires.1)
 
-pub slice_bounds-take_more-end : goal.slice_bounds-take_more-end
-slice_bounds-take_more-end c =
-    let k = c.requires.0.3 in omega (arith, k)
-
 pub take_more-requires : goal.take_more-requires
 take_more-requires c =
-    let n = cells_long c.args.held.now c.requires.0.3 in (
+    let n = cells_long c.args.held.now (omega arith) in (
       c.requires.0.0,
       c.requires.0.1,
       omega (arith, n),
@@ -91,7 +74,7 @@ returns-in-Opening c =
     let q = c.take_opening.ensures in record {
       room = q.room;
       step = λ counts. opening_step c.args.held.now l r _
-          c.requires.0.3 c.in-Opening.is c.take_opening.auto.table
+          (omega arith) c.in-Opening.is c.take_opening.auto.table
           q.step;
     }
 
@@ -101,7 +84,7 @@ returns-in-Blank c =
     let l = c.args.line.now in
     let p = expect_head c.args.r l at.Blank c.in-Blank.is (λ o. refl)
     (λ w. []) at.TensRuler _ c.args.held.now
-    c.requires.0.0 (same_nil l) (λ f. refl) in record {
+    c.requires.0.0 (c.is_empty.ensures ∙ same_nil l) (λ f. refl) in record {
       room = rw c.expect.ensures (p.0);
       step = rw c.expect.ensures (p.1);
     }
@@ -115,7 +98,7 @@ returns-in-TensRuler c =
       step = λ counts.
           let held = head_stage c.args.r l at.TensRuler c.in-TensRuler.is
           (λ o. refl) refl (q.step _ _) (λ f o. width_row_lem f (read_tens l) o) in
-          (refl, refl, held);
+          held;
     }
 
 pub returns-in-UnitsRuler : goal.returns-in-UnitsRuler
@@ -151,7 +134,7 @@ returns-in-FirstRow c =
           c.args.line.now at.FirstRow
           c.in-FirstRow.is (λ o. refl) refl
           (q.step _ _) q.row in
-          (refl, search rules, held);
+          held;
     }
 
 pub returns-in-InRow : goal.returns-in-InRow
@@ -160,7 +143,7 @@ returns-in-InRow c =
     let k = c.take_more.auto in record {
       room = q.room;
       step = λ counts. more_step c.args.held.now c.args.line.now
-          c.args.r _ c.requires.0.3 c.in-InRow.is k.cells k.row q.step;
+          c.args.r _ (omega arith) c.in-InRow.is k.cells q.step;
     }
 
 pub returns-in-RowOrBlank : goal.returns-in-RowOrBlank
@@ -173,7 +156,7 @@ returns-in-RowOrBlank c =
           c.args.line.now at.RowOrBlank
           c.in-RowOrBlank.is (λ o. refl) refl
           (q.step _ _) q.row in
-          (refl, search rules, held);
+          held;
     }
 
 pub returns-in-WhereLine : goal.returns-in-WhereLine
@@ -194,7 +177,7 @@ returns-in-LastBlank c =
     let l = c.args.line.now in
     let p = expect_head c.args.r l at.LastBlank c.in-LastBlank.is (λ o. refl)
     (λ w. []) at.FirstField _ c.args.held.now
-    c.requires.0.0 (same_nil l) (λ f. refl) in record {
+    c.requires.0.0 (c.is_empty-in-LastBlank.ensures ∙ same_nil l) (λ f. refl) in record {
       room = rw c.expect-in-LastBlank.ensures (p.0);
       step = rw c.expect-in-LastBlank.ensures (p.1);
     }
@@ -215,5 +198,5 @@ returns-in-Lost c = record {
   room = (c.requires.0.0, omega arith);
   step = λ counts.
       let held = at_stage c.args.r c.args.line.now at.Lost c.in-Lost.is (λ f k e g h. (h, g)) in
-      (refl, refl, held);
+      held;
 }

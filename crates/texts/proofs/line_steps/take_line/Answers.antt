@@ -9,12 +9,8 @@ returns-then-line-gt-LINE_MOST c =
     let a = c.args in
     let q = c.cut_line.ensures in record {
       room = q.room;
-      step = (
-        refl,
-        refl,
-        λ f k g h. rw (long_line f a.line.now k.small c.if-line-gt-LINE_MOST.true)
-            (q.step f a.held.now a.counts.now k g h),
-      );
+      step = λ f k g h. rw (long_line f a.line.now k.small c.if-line-gt-LINE_MOST.true)
+          (q.step f a.held.now a.counts.now k g h);
     }
 
 pub returns-then-awaits_field : goal.returns-then-awaits_field

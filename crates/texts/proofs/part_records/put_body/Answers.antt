@@ -12,7 +12,7 @@ pub put_width-measured-requires : goal.put_width-measured-requires
 put_width-measured-requires c =
     let q = c.requires in
     let n = c.put_names-named.ensures in (
-      omega (arith, q.0.width, q.2.width),
+      omega (arith, q.0.width),
       omega (
         arith,
         size_sum c.args.p,
@@ -27,7 +27,7 @@ put_tree-next-requires c =
     let q = c.requires in
     let n = c.put_names-named.ensures in
     let w = c.put_width-measured.ensures in (
-      omega (arith, q.0.constraint, q.2.constraint),
+      omega (arith, q.0.constraint),
       omega (
         arith,
         size_sum c.args.p,
@@ -46,7 +46,7 @@ put_tree-requires c =
     let n = c.put_names-named.ensures in
     let w = c.put_width-measured.ensures in
     let t = c.put_tree-next.ensures in (
-      omega (arith, q.0.condition, q.2.condition),
+      omega (arith, q.0.condition),
       omega (arith, size_sum p, q.1, n.end, n.bytes.kept, w.end, w.bytes.kept, t.end, t.bytes.kept),
     )
 
@@ -58,5 +58,6 @@ returns c =
     let t = c.put_tree-next.ensures in
     let u = c.put_tree.ensures in record {
       end = omega (arith, size_sum p, n.end, w.end, t.end, u.end);
-      bytes = writes_join n.bytes (writes_join w.bytes (writes_join t.bytes u.bytes));
+      bytes = writes_join n.bytes (writes_join w.bytes (writes_join (rw c.form_length.ensures at t.bytes)
+          (rw c.form_length-2.ensures at u.bytes)));
     }

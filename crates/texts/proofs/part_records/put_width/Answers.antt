@@ -1,43 +1,34 @@
-use Rattle.texts.proofs.PartBytes.{width_fixed, width_two, width_measured, width_rest}
+use native.Mathlib.Omega.{arith}
+use mathlib.Core.Path.{ap}
+use Rattle.texts.specs.Kinds.{tree_length}
+use Rattle.texts.proofs.PartBytes.{width_fixed, width_two, width_measured}
 use Rattle.texts.proofs.part_records.put_width.Goals as goal
-
-pub returns-then-p-eq-FIXED : goal.returns-then-p-eq-FIXED
-returns-then-p-eq-FIXED c =
-    let a = c.args in
-    let both =
-    width_fixed a.p a.wide.now c.if-p-eq-FIXED.true
-    c.requires.1 c.put_two.ensures in record {
-      end = both.0;
-      bytes = both.1;
-    }
 
 pub put_tree-requires : goal.put_tree-requires
 put_tree-requires c =
     let a = c.args in
-    let q = c.requires in (
-      q.0,
-      (width_two a.p a.wide.now c.if-p-eq-MEASURED.true q.1
-          c.put_two-next.ensures).1,
+    let m = c.in-Measured in (
+      omega (arith, ap tree_length m.is, c.requires.0),
+      width_two a.w a.wide.now a.out.now a.at c.requires.1 m.bits m.t m.is c.put_two-next.ensures,
     )
 
-pub returns-then-p-eq-MEASURED : goal.returns-then-p-eq-MEASURED
-returns-then-p-eq-MEASURED c =
+pub returns-in-Fixed : goal.returns-in-Fixed
+returns-in-Fixed c =
     let a = c.args in
-    let k = c.if-p-eq-MEASURED.true in
-    let w = width_two a.p a.wide.now k c.requires.1
-    c.put_two-next.ensures in
-    let t = c.put_tree.ensures in
-    let both =
-    width_measured a.p a.wide.now k w.0 t.end t.bytes in record {
+    let both = width_fixed a.w a.wide.now a.out.now a.at c.requires.1 c.in-Fixed.bits c.in-Fixed.is
+    c.put_two.ensures in record {
       end = both.0;
       bytes = both.1;
     }
 
-pub returns : goal.returns
-returns c =
+pub returns-in-Measured : goal.returns-in-Measured
+returns-in-Measured c =
     let a = c.args in
-    let both =
-    width_rest a.p a.wide.now c.if-p-eq-FIXED.false c.if-p-eq-MEASURED.false in record {
+    let m = c.in-Measured in
+    let t = c.put_tree.ensures in
+    let both = width_measured a.w a.wide.now a.out.now a.at c.requires.1 m.bits m.t m.is c.put_two-next.ensures
+    t.end t.bytes in
+    record {
       end = both.0;
       bytes = both.1;
     }

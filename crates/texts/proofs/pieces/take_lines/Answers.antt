@@ -1,4 +1,3 @@
-use mathlib.Core.Path.{sym, ◌∙◌}
 use Prim.Native.Nat.{◌-◌}
 use native.Mathlib.Omega.{arith}
 use lib.ListN.{length, drop, length-drop}
@@ -16,29 +15,19 @@ pub walk_piece-w-requires : goal.walk_piece-w-requires
 walk_piece-w-requires c =
     let p = c.requires in
     let l = c.load-r.ensures.fits in
-    let lines = l.1 in
-    let row = c.put.auto.out in (
+    let lines = l.1 in (
       (l.0, omega (arith, lines, p.1)),
       omega (arith, p.1),
       p.2,
       p.3,
-      c.least-used.ensures.1,
+      omega (arith, c.min-used.ensures),
       p.0,
-      omega (arith, row, p.4),
     )
 
 pub store-requires : goal.store-requires
 store-requires c =
     let p = c.requires in
-    let row = c.walk_piece-w.auto.row ∙
-    c.put.auto.out in
-    let counts = c.walk_piece-w.auto.counts ∙
-    c.load_counts.auto.counts in (
-      room_around c.walk_piece-w.ensures.around p.0,
-      row ∙ p.4,
-      omega (arith, counts, p.5),
-      c.walk_piece-w.ensures.room.0.row,
-    )
+    (room_around c.walk_piece-w.ensures.around p.0, c.walk_piece-w.ensures.room.0.row)
 
 pub overflow_add-size : goal.overflow_add-size
 overflow_add-size c =
@@ -50,14 +39,6 @@ add_part-requires c =
     c.store.ensures.around in
     (room_around around c.requires.0, c.requires.1)
 
-pub shape_of-row : goal.shape_of-row
-shape_of-row c =
-    c.walk_piece-w.auto.row ∙ c.put.auto.out
-
-pub shape_of-counts : goal.shape_of-counts
-shape_of-counts c =
-    c.walk_piece-w.auto.counts ∙ c.load_counts.auto.counts
-
 pub returns : goal.returns
 returns c =
     let p = c.requires in
@@ -68,17 +49,14 @@ returns c =
     let stored = c.store.ensures in
     let add = c.add_part.ensures in
     let m = part_long row_at row_room s (omega (arith, p.0)) in
-    let row = c.walk_piece-w.auto.row ∙ c.put.auto.out in
-    let counts = c.walk_piece-w.auto.counts ∙
-    c.load_counts.auto.counts in
     let rest = take_all (length piece - w.at) (drop w.at piece)
     (let n = length-drop w.at piece in omega (arith, n)) in record {
       around = around_trans (around_trans walk.around stored.around) add.around;
       step = λ k eq h. lines_taken s piece c.args.size w p.1
           c.load-r.ensures
-          (least_used s c.two_at.ensures.0 c.least-used.ensures.2)
-          (put_whole c.args.row.now _ (p.4 ∙ sym m)
+          (least_used s c.two_at.ensures.0 c.min-used.ensures)
+          (put_whole c.args.row.now _ (omega (arith, m))
           c.put.ensures)
           c.load_counts.ensures walk.place walk.room walk.step
-          (row ∙ p.4) (counts ∙ p.5) stored.stored rest add.step k eq h;
+          (omega arith) (omega arith) stored.stored rest add.step k eq h;
     }

@@ -37,7 +37,6 @@ end_held-q-requires c = (
   c.requires.4,
   printable_line c.args.piece.now 0
       c.args.e c.requires.3,
-  c.requires.6,
 )
 
 pub overflow_add-e : goal.overflow_add-e
@@ -45,49 +44,39 @@ overflow_add-e c =
     let k = c.requires.2 in let n =
     c.requires.1 in omega (arith, k, n)
 
-pub slice_bounds-walk_lines-count : goal.slice_bounds-walk_lines-count
-slice_bounds-walk_lines-count c =
+pub slice_bounds-walk_rest-count : goal.slice_bounds-walk_rest-count
+slice_bounds-walk_rest-count c =
     let around = c.end_held-q.ensures.around in
     let room = room_around around c.requires.5 in
     omega (arith, room)
 
-pub slice_bounds-walk_lines-end : goal.slice_bounds-walk_lines-end
-slice_bounds-walk_lines-end c =
+pub slice_bounds-walk_rest-end : goal.slice_bounds-walk_rest-end
+slice_bounds-walk_rest-end c =
     let around = c.end_held-q.ensures.around in
     let room = room_around around c.requires.5 in
     omega (arith, room)
 
-pub walk_lines-requires : goal.walk_lines-requires
-walk_lines-requires c =
+pub walk_rest-requires : goal.walk_rest-requires
+walk_rest-requires c =
     let around = c.end_held-q.ensures.around in
     let room = room_around around c.requires.5 in
     let q = c.end_held-q.ensures.room in
     let fits = c.requires.0.1 in
-    let long = held_long c.end_held-q.new.s room in
-    let row = c.end_held-q.auto.row in (
+    let long = held_long c.end_held-q.new.s room in (
       (let k = c.requires.2 in omega (arith, k)),
       c.requires.1,
       (q.0, (let n = q.1 in let k = c.requires.2 in omega (arith, n, k, fits))),
-      omega (arith, long),
-      omega (arith, row, c.requires.6),
+      long,
     )
 
 pub shape_of-s : goal.shape_of-s
 shape_of-s c =
     let around = c.end_held-q.ensures.around in
     let room = room_around around c.requires.5 in
-    let k = c.walk_lines.auto.held in
+    let k = c.walk_rest.auto.area in
     let s = c.end_held-q.new.s in
-    let back = held_back s room c.walk_lines.new.held (k ∙ held_long s room) in
+    let back = held_back s room c.walk_rest.new.area (k ∙ held_long s room) in
     back ∙ around.long
-
-pub shape_of-row : goal.shape_of-row
-shape_of-row c =
-    c.walk_lines.auto.row ∙ c.end_held-q.auto.row
-
-pub shape_of-counts : goal.shape_of-counts
-shape_of-counts c =
-    c.walk_lines.auto.counts ∙ c.end_held-q.auto.counts
 
 pub returns : goal.returns
 returns c =
@@ -95,10 +84,10 @@ returns c =
     let room = room_around around c.requires.5 in
     let s = c.end_held-q.new.s in
     let t = c.args.piece.now in
-    let w = c.walk_lines.result in
-    let q = c.walk_lines.ensures in
-    let part = c.walk_lines.new.held in
-    let long = c.walk_lines.auto.held ∙ held_long s room in
+    let w = c.walk_rest.result in
+    let q = c.walk_rest.ensures in
+    let part = c.walk_rest.new.area in
+    let long = c.walk_rest.auto.area ∙ held_long s room in
     let left = q.room.1 in
     let taken = c.end_held-q.ensures.room.1 in
     let lt = c.requires.2 in record {
@@ -112,8 +101,8 @@ returns c =
           c.requires.3 c.requires.2 short size) refl
           (first_room k t c.args.e c.requires.3
           c.requires.2 short size is) first in
-          subst (λ (h : List ℕ). WalkedTo k t 0 w h c.walk_lines.new.row
-          c.walk_lines.new.counts) (sym (held_put s room part long))
+          subst (λ (h : List ℕ). WalkedTo k t 0 w h c.walk_rest.new.row
+          c.walk_rest.new.counts) (sym (held_put s room part long))
           (walked_first k t c.args.e c.requires.3
           c.requires.2 short size is c.if-piece-e-ne10.false w to);
     }

@@ -1,51 +1,19 @@
-use mathlib.Core.Path.{sym, ◌∙◌, ap}
-use native.Mathlib.Omega.{arith}
-use Prim.Native.Nat.{◌-◌, ◌<◌}
-use lib.ListN.{length, get_or}
-use Rattle.names.proofs.ClassRules.{space_in}
-use lib.Seq.{take_all}
-use Rattle.texts.proofs.TrimLaws.{right_end, right_stop, right_step}
-use Rattle.rules.specs.Rows.{right_trim}
+use Rattle.std.proofs.Common.{ℕ, ◌-◌, not, reverse, unwrap_or, length, take, sym, ap, ◌∙◌, arith, rules}
+use Rattle.std.proofs.lemmas.Iterator.Adapters.{YieldsList-from_rev_slice}
+use Rattle.std.proofs.lemmas.Iterator.Search.{position_from_yields_List}
+use Rattle.std.proofs.lemmas.List.{length-reverse}
+use borrow.Author.Tests.{tests}
+use Rattle.rules.specs.Names.{is_space}
+use Rattle.texts.proofs.FirstPlaces.{place_is, right_place}
 use Rattle.texts.proofs.rows.trimmed.Goals as goal
-
-pub loop-n-init : goal.loop-n-init
-loop-n-init c =
-    let s = c.args.s.now in
-    (omega arith, ap right_trim (sym (take_all (length s) s (omega arith))))
-
-pub returns-then-not-is_space_in : goal.returns-then-not-is_space_in
-returns-then-not-is_space_in c =
-    let s = c.args.s.now in
-    let n = c.loop-n.n in
-    let byte : get_or s (n - 1) 0 < 256 = omega (
-      arith,
-      c.shared_slice_known-1.given (n - 1),
-    ) in
-    let tells = sym (space_in c.args.classes.now
-    c.requires (get_or s (n - 1) 0) byte)
-    ∙ sym c.is_space_in.ensures in (
-      omega arith,
-      right_stop s n (omega arith) (omega arith) (tells ∙ c.if-not-is_space_in.true)
-          ∙ sym c.loop-n.invariant.1,
-    )
-
-pub loop-n-preserved : goal.loop-n-preserved
-loop-n-preserved c =
-    let s = c.args.s.now in
-    let n = c.loop-n.n in
-    let byte : get_or s (n - 1) 0 < 256 = omega (
-      arith,
-      c.shared_slice_known-1.given (n - 1),
-    ) in
-    let tells = sym (space_in c.args.classes.now
-    c.requires (get_or s (n - 1) 0) byte)
-    ∙ sym c.is_space_in.ensures in (
-      omega arith,
-      c.loop-n.invariant.1 ∙ right_step s n (omega arith) (omega arith)
-          (tells ∙ c.if-not-is_space_in.false),
-    )
 
 pub returns : goal.returns
 returns c =
     let s = c.args.s.now in
-    (omega arith, right_end s c.loop-n.n (omega arith) ∙ sym c.loop-n.invariant.1)
+    let q = position_from_yields_List (λ b. not (is_space b)) _ _ c.position.result
+    c.position.ensures.ran (YieldsList-from_rev_slice s cc) (λ x b q k. search (rules, tests)) in
+    let e = c.unwrap_or-spaces.ensures ∙ ap (unwrap_or c.position.result) (sym (length-reverse s))
+    ∙ place_is (λ b. not (is_space b)) (reverse s) c.position.result q in (
+      omega arith,
+      ap (λ (n : ℕ). take (length s - n) s) e ∙ right_place s,
+    )

@@ -1,7 +1,6 @@
-use mathlib.Core.Path.{sym, ◌∙◌}
+use mathlib.Core.Path.{◌≡◌, sym, ◌∙◌}
+use Rattle.std.specs.Prelude.{None}
 use native.Mathlib.Omega.{arith}
-use lib.ListN.{get_or}
-use Rattle.names.proofs.ClassRules.{operator_in}
 use Rattle.texts.proofs.ExprSigns.{sign_end, sign_other, sign_none_at, sign_length, sign_at_place}
 use Rattle.texts.proofs.signs.sign_at.Goals as goal
 
@@ -12,16 +11,13 @@ returns-then-at-s c = let both =
       same = both.1;
     }
 
-pub returns-then-not-is_operator_in : goal.returns-then-not-is_operator_in
-returns-then-not-is_operator_in c =
+pub returns-then-not-is_operator : goal.returns-then-not-is_operator
+returns-then-not-is_operator c =
     let s = c.args.s.now in
     let at = c.args.at in
-    let k = operator_in c.args.classes.now
-    c.requires.0 (get_or s at 0) (omega
-    (arith, c.shared_slice_known-1.given at)) in
     let both =
     sign_other s at (omega arith)
-    (sym k ∙ sym c.is_operator_in.ensures ∙ c.if-not-is_operator_in.true) in record {
+    (sym c.is_operator.ensures ∙ c.if-not-is_operator.true) in record {
       place = both.0;
       same = both.1;
     }
@@ -29,33 +25,26 @@ returns-then-not-is_operator_in c =
 pub overflow_add-result : goal.overflow_add-result
 overflow_add-result c =
     let k = sign_length c.args.s.now c.args.at (omega arith)
-    c.byte_of.result c.symbol_of-found.result
-    c.byte_of.ensures c.symbol_of-found.ensures c.in-Is.o
-    c.in-Is.n
-    c.in-Is.is in
+    c.byte_of.result c.symbol_of.result
+    c.byte_of.ensures c.symbol_of.ensures c.in_ok-o.o
+    c.in_ok-o.n c.in_ok-o.was in
     omega (arith, k.1)
 
-pub returns-in-Nothing : goal.returns-in-Nothing
-returns-in-Nothing c =
+pub returns-in_err-o : goal.returns-in_err-o
+returns-in_err-o c =
+    let gone : c.from_residual.result ≡ None = grind arith in
     let both =
-    sign_none_at c.args.s.now
-    c.args.at (omega arith)
-    c.byte_of.result c.symbol_of-found.result
-    c.byte_of.ensures c.symbol_of-found.ensures
-    c.in-Nothing.is in record {
-      place = both.0;
-      same = both.1;
+    sign_none_at c.args.s.now c.args.at (omega arith) c.byte_of.result c.symbol_of.result c.byte_of.ensures
+    c.symbol_of.ensures c.in_err-o.was in record {
+      place = rw gone both.0;
+      same = rw gone both.1;
     }
 
-pub returns-in-Is : goal.returns-in-Is
-returns-in-Is c =
+pub returns : goal.returns
+returns c =
     let both =
-    sign_at_place c.args.s.now
-    c.args.at (omega arith)
-    c.byte_of.result c.symbol_of-found.result
-    c.byte_of.ensures c.symbol_of-found.ensures c.in-Is.o
-    c.in-Is.n
-    c.in-Is.is in record {
+    sign_at_place c.args.s.now c.args.at (omega arith) c.byte_of.result c.symbol_of.result c.byte_of.ensures
+    c.symbol_of.ensures c.in_ok-o.o c.in_ok-o.n c.in_ok-o.was in record {
       place = both.0;
       same = both.1;
     }

@@ -1,6 +1,6 @@
 use mathlib.Core.Path.{sym, ◌∙◌}
 use native.Mathlib.Omega.{arith}
-use Rattle.texts.proofs.SlotRows.{end_is, one_put, text_place, label_there}
+use Rattle.texts.proofs.SlotRows.{end_is, one_put, label_there}
 use Rattle.texts.proofs.SlotRows.{putting_start, putting_open, putting_wrong, putting_next}
 use Rattle.texts.proofs.SlotRows.{putting_end}
 use Rattle.texts.proofs.slots.put_row.Goals as goal
@@ -19,61 +19,16 @@ returns-then-to-size c =
     putting_open c.loop-from.invariant.2 (omega arith) to (omega arith) e (omega arith)
     (omega arith) (omega arith)
 
-pub put_slot-end-requires : goal.put_slot-end-requires
-put_slot-end-requires c =
-    let v = c.loop-from.invariant.2 in (
-      omega arith,
-      omega arith,
-      omega arith,
-      omega arith,
-      omega arith,
-      omega (arith, v.near, v.writes.kept),
-      c.requires.5,
-    )
-
-pub slice_bounds-is_label_in-count : goal.slice_bounds-is_label_in-count
-slice_bounds-is_label_in-count c =
+pub returns-then-not-is_label : goal.returns-then-not-is_label
+returns-then-not-is_label c =
     let a = c.args in
     let l = c.loop-from in
     let v = l.invariant.2 in
     let one = one_put a.row.now a.n a.size l.from c.part_end-to.result (omega arith)
     (omega arith) c.part_end-to.ensures.first (omega arith)
-    (omega (arith, v.near, v.writes.kept)) c.put_slot-end.ensures in
-    let q = text_place one in
-    omega (arith, q.0, q.1)
-
-pub slice_bounds-is_label_in-start : goal.slice_bounds-is_label_in-start
-slice_bounds-is_label_in-start c =
-    let a = c.args in
-    let l = c.loop-from in
-    let v = l.invariant.2 in
-    let one = one_put a.row.now a.n a.size l.from c.part_end-to.result (omega arith)
-    (omega arith) c.part_end-to.ensures.first (omega arith)
-    (omega (arith, v.near, v.writes.kept)) c.put_slot-end.ensures in
-    let q = text_place one in
-    omega (arith, q.0, q.1)
-
-pub slice_bounds-is_label_in-end : goal.slice_bounds-is_label_in-end
-slice_bounds-is_label_in-end c =
-    let a = c.args in
-    let l = c.loop-from in
-    let v = l.invariant.2 in
-    let one = one_put a.row.now a.n a.size l.from c.part_end-to.result (omega arith)
-    (omega arith) c.part_end-to.ensures.first (omega arith)
-    (omega (arith, v.near, v.writes.kept)) c.put_slot-end.ensures in
-    let q = text_place one in
-    omega (arith, q.0, q.1)
-
-pub returns-then-not-is_label_in : goal.returns-then-not-is_label_in
-returns-then-not-is_label_in c =
-    let a = c.args in
-    let l = c.loop-from in
-    let v = l.invariant.2 in
-    let one = one_put a.row.now a.n a.size l.from c.part_end-to.result (omega arith)
-    (omega arith) c.part_end-to.ensures.first (omega arith)
-    (omega (arith, v.near, v.writes.kept)) c.put_slot-end.ensures in
-    let labelled = sym (label_there one a.classes.now c.requires.5) ∙ sym c.is_label_in.ensures in
-    putting_wrong v (omega arith) one (labelled ∙ c.if-not-is_label_in.true)
+    (omega (arith, v.near, v.writes.kept)) c.put_slot-end.ensures.writes in
+    let labelled = sym (label_there one) ∙ sym c.is_label.ensures in
+    putting_wrong v (omega arith) one (labelled ∙ c.if-not-is_label.true)
 
 pub loop-from-preserved : goal.loop-from-preserved
 loop-from-preserved c =
@@ -82,11 +37,11 @@ loop-from-preserved c =
     let v = l.invariant.2 in
     let one = one_put a.row.now a.n a.size l.from c.part_end-to.result (omega arith)
     (omega arith) c.part_end-to.ensures.first (omega arith)
-    (omega (arith, v.near, v.writes.kept)) c.put_slot-end.ensures in
-    let labelled = sym (label_there one a.classes.now c.requires.5) ∙ sym c.is_label_in.ensures in (
+    (omega (arith, v.near, v.writes.kept)) c.put_slot-end.ensures.writes in
+    let labelled = sym (label_there one) ∙ sym c.is_label.ensures in (
       omega arith,
       omega arith,
-      putting_next v (omega arith) one (labelled ∙ c.if-not-is_label_in.false) (omega arith),
+      putting_next v (omega arith) one (labelled ∙ c.if-not-is_label.false) (omega arith),
     )
 
 pub returns : goal.returns

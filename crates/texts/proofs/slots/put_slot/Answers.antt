@@ -9,10 +9,7 @@ overflow_cast-head-2 c =
     c.put_text-end.ensures in
     omega (arith, q)
 
-pub returns : goal.returns
-returns c =
+pub returns-clause-writes : goal.returns-clause-writes
+returns-clause-writes c =
     let a = c.args in
-    slot_put a.row.now a.n a.a a.b a.long (omega arith)
-    c.put_text-end.ensures
-    c.yes_no.ensures
-    c.put.ensures
+    slot_put a.row.now a.n a.a a.b a.long (omega arith) c.put_text-end.ensures c.from.ensures c.put.ensures

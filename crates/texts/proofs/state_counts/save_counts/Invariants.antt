@@ -1,5 +1,5 @@
 use mathlib.Core.Path.{◌≡◌}
-use Prim.Native.Nat.{◌*◌, ◌≤◌, ◌-◌}
+use Prim.Native.Nat.{◌*◌}
 use lib.ListN.{length, take, drop}
 use Rattle.rules.specs.Limits.{fields_most}
 use Rattle.texts.specs.StateNumbers.{twos_in}
@@ -7,8 +7,5 @@ use Rattle.texts.proofs.state_counts.save_counts.Given as goal
 
 abbrev pub invariant-loop-i : goal.invariant-loop-i
 invariant-loop-i l =
-    (l.i ≤ fields_most) × (length l.s ≡ length l.initial.s) × (twos_in l.i l.s ≡ take l.i l.counts)
+    (length l.s ≡ length l.initial.s) × (twos_in l.i l.s ≡ take l.i l.counts)
     × (drop (2 * fields_most) l.s ≡ drop (2 * fields_most) l.initial.s)
-
-abbrev pub decreases-loop-i : goal.decreases-loop-i
-decreases-loop-i l = fields_most - l.i

@@ -9,7 +9,7 @@ pub returns : goal.returns
 returns c = record {
   next = refl;
   gives = c.two_type-gives.ensures;
-  deep = ap (λ (d : ℕ). 1 + d) c.larger-depth.ensures;
+  deep = ap (λ (d : ℕ). 1 + d) c.max-depth.ensures;
   len = refl;
   bytes = λ h.
       let n = c.args.a.len + c.args.b.len in

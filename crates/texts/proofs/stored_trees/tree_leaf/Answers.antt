@@ -2,30 +2,22 @@ use mathlib.Core.Path.{◌≡◌, sym, ◌∙◌}
 use mathlib.Core.Bool.{true, false}
 use Prim.Native.Nat.{◌-◌}
 use lib.ListN.{take, drop}
+use native.Mathlib.Omega.{arith}
+use Rattle.std.specs.Prelude.{None}
 use Rattle.rules.specs.Names.{is_short}
-use Rattle.text_laws.specs.Reader.{is_number_word}
+use Rattle.texts.specs.HeldNames.{names_in}
 use Rattle.texts.proofs.ExprLeaves.{word_part}
+use Rattle.texts.proofs.NumberWords.{number_told, number_untold}
 use Rattle.texts.proofs.ShortWords.{all_word}
 use Rattle.texts.proofs.StoredSteps.{leaf_name, leaf_number, leaf_none}
 use Rattle.texts.proofs.stored_trees.tree_leaf.Goals as goal
-
-pub word_end-end-requires : goal.word_end-end-requires
-word_end-end-requires c = (c.requires.0, c.requires.2.table)
 
 pub is_short_word-requires : goal.is_short_word-requires
 is_short_word-requires c =
     let a = c.args in
     let w = c.word_end-end.ensures in
     let is = word_part a.s.now a.at c.word_end-end.result w.place.0 w.place.1 w.rest in
-    (rw is (all_word _), c.requires.2.table)
-
-pub look_up-i-requires : goal.look_up-i-requires
-look_up-i-requires c = (
-  c.requires.1,
-  c.requires.2.room,
-  sym c.is_short_word.ensures ∙
-      c.if-is_short_word.true,
-)
+    rw is (all_word _)
 
 pub returns-then-is_short_word : goal.returns-then-is_short_word
 returns-then-is_short_word c =
@@ -44,31 +36,6 @@ returns-then-is_short_word c =
       same = both.1;
     }
 
-pub is_number-requires : goal.is_number-requires
-is_number-requires c =
-    c.requires.2.table
-
-pub word_value-v-requires : goal.word_value-v-requires
-word_value-v-requires c =
-    c.requires.2.table
-
-pub returns-then-is_number : goal.returns-then-is_number
-returns-then-is_number c =
-    let a = c.args in
-    let s = a.s.now in
-    let end = c.word_end-end.result in
-    let w = c.word_end-end.ensures in
-    let word = take (end - a.at) (drop a.at s) in
-    let k : is_short word ≡ false =
-    sym c.is_short_word.ensures ∙ c.if-is_short_word.false in
-    let y : is_number_word word ≡ true = sym c.is_number.ensures ∙ c.if-is_number.true in
-    let both =
-    leaf_number _ a.n s a.at end w.place.0 w.place.1 w.rest _ _ _ k y
-    c.word_value-v.ensures.same c.number_node.ensures in record {
-      place = both.0;
-      same = both.1;
-    }
-
 pub returns : goal.returns
 returns c =
     let a = c.args in
@@ -76,12 +43,25 @@ returns c =
     let end = c.word_end-end.result in
     let w = c.word_end-end.ensures in
     let word = take (end - a.at) (drop a.at s) in
-    let k : is_short word ≡ false =
-    sym c.is_short_word.ensures ∙
-    c.if-is_short_word.false in
-    let y : is_number_word word ≡ false = sym c.is_number.ensures ∙ c.if-is_number.false in
+    let k : is_short word ≡ false = sym c.is_short_word.ensures ∙ c.if-is_short_word.false in
+    let t = number_told word c.in_ok-v.v (sym c.in_ok-v.was ∙ c.number_of.ensures.same) in
     let both =
-    leaf_none _ a.n s a.at end w.place.0 w.place.1 w.rest _ _ k y c.no_tree.ensures in record {
+    leaf_number _ a.n s a.at end w.place.0 w.place.1 w.rest _ _ _ k t.0 (λ _. t.1) c.number_node.ensures in record {
       place = both.0;
       same = both.1;
+    }
+
+pub returns-in_err-v : goal.returns-in_err-v
+returns-in_err-v c =
+    let a = c.args in
+    let s = a.s.now in
+    let end = c.word_end-end.result in
+    let w = c.word_end-end.ensures in
+    let word = take (end - a.at) (drop a.at s) in
+    let k : is_short word ≡ false = sym c.is_short_word.ensures ∙ c.if-is_short_word.false in
+    let n = number_untold word (sym c.in_err-v.was ∙ c.number_of.ensures.same) in
+    let gone : c.from_residual.result ≡ None = grind arith in
+    let both = leaf_none (names_in a.names.now) a.n s a.at end w.place.0 w.place.1 w.rest a.out.now k n in record {
+      place = rw gone both.0;
+      same = rw gone both.1;
     }

@@ -17,7 +17,6 @@ is_labelled-requires c = (
     arith,
     c.requires.0.width,
   ),
-  c.requires.2,
 )
 
 pub returns-then-is_labelled : goal.returns-then-is_labelled

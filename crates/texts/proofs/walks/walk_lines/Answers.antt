@@ -1,4 +1,4 @@
-use mathlib.Core.Path.{◌≡◌, refl}
+use mathlib.Core.Path.{◌≡◌}
 use Prim.Native.Nat.{◌-◌, ◌<◌}
 use native.Mathlib.Omega.{arith}
 use lib.ListN.{length, drop, length-drop}
@@ -12,9 +12,6 @@ pub loop-r-init : goal.loop-r-init
 loop-r-init c = (
   c.requires.0,
   (c.requires.2.0, omega arith),
-  refl,
-  refl,
-  refl,
   λ k e le h. walking_start k c.args.text.now
       c.args.from c.args.first e le h,
 )
@@ -27,7 +24,7 @@ returns-then-e-text c =
       place = v.invariant.0;
       room = v.invariant.1;
       step = λ k z le h. record {
-        walking = v.invariant.5 k z le h;
+        walking = v.invariant.2 k z le h;
         plain = rest_plain t v.at e.result e.ensures.first (omega (arith, c.if-e-text.true));
       };
     }
@@ -44,7 +41,7 @@ returns-then-text-e-ne10 c =
       place = search rules;
       room = rw (c.bad_byte.ensures, z) (fits);
       step = rw c.bad_byte.ensures (λ k b le h. bad_to k t c.args.from v.at e.result v.r
-          (v.invariant.5 k b le h) e.ensures.first lt
+          (v.invariant.2 k b le h) e.ensures.first lt
           c.if-text-e-ne10.true);
     }
 
@@ -60,9 +57,8 @@ take_line-r-requires c =
         v.invariant.1.0,
         omega (arith, v.invariant.1.1, p.2.1),
         omega (arith, n, e.ensures.place.1, p.1),
-        omega (arith, v.invariant.2, p.3),
       ),
-      (printable_line t v.at e.result e.ensures.first, omega (arith, v.invariant.3, p.4)),
+      printable_line t v.at e.result e.ensures.first,
     )
 
 pub overflow_add-at : goal.overflow_add-at
@@ -83,10 +79,7 @@ loop-r-preserved c =
     let fits = v.invariant.1.1 in (
       omega (arith, lt),
       (q.room.0, omega (arith, q.room.1, fits, e.ensures.place.0, lt)),
-      omega (arith, q.step.0, v.invariant.2),
-      omega (arith, q.step.1, v.invariant.3),
-      (let k = c.take_line-r.auto.counts in omega (arith, k, v.invariant.4)),
-      λ k b le h. walking_next k t c.args.from v.at e.result v.r (v.invariant.5 k b le h)
+      λ k b le h. walking_next k t c.args.from v.at e.result v.r (v.invariant.2 k b le h)
           e.ensures.first lt
           c.if-text-e-ne10.false c.take_line-r.result q.step,
     )

@@ -11,9 +11,6 @@ abbrev pub invariant-loop-r : goal.invariant-loop-r
 invariant-loop-r l =
     (l.at ≤ length l.text) ×
     LinesLeft (length l.text - l.from) l.initial.r (length l.text - l.at) l.r ×
-    (length l.held ≡ length l.initial.held) ×
-    (length l.row ≡ length l.initial.row) ×
-    (length l.counts ≡ length l.initial.counts) ×
     ((k : fold.Kept) → k.line ≡ [] → k.size + (length l.text - l.from) ≤ text_most
     → KeptAs k.found l.initial.r l.initial.held l.initial.row
     l.initial.counts

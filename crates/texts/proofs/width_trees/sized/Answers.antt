@@ -17,7 +17,7 @@ pub returns : goal.returns
 returns c =
     let both =
     sized_other c.args.s.now c.args.at c.args.t c.args.u c.args.next c.requires.0 c.requires.1
-    (sym c.is_single.ensures ∙ c.if-is_single.false) c.requires.2 in record {
+    (sym c.is_single.ensures ∙ c.if-is_single.false) c.requires.2 in rw c.from.ensures record {
       place = both.0;
       same = both.1;
     }

@@ -1,4 +1,4 @@
-use mathlib.Core.Path.{sym, ◌∙◌}
+use mathlib.Core.Path.{refl, sym, ◌∙◌}
 use Rattle.texts.proofs.WidthTrees.{width_rest, width_measure}
 use Rattle.texts.proofs.width_trees.width_at.Goals as goal
 
@@ -6,8 +6,8 @@ pub returns-then-starts_at : goal.returns-then-starts_at
 returns-then-starts_at c =
     let a = c.args in
     let both =
-    width_rest _ a.n a.s.now a.at c.requires.0
-    _ _ (sym c.starts_at.ensures ∙ c.if-starts_at.true) c.plain.ensures in record {
+    width_rest _ a.n a.s.now a.at c.requires.0 _
+    (sym c.starts_at.ensures ∙ c.if-starts_at.true) _ refl in record {
       place = both.0;
       same = both.1;
     }

@@ -1,29 +1,18 @@
-use mathlib.Core.Path.{refl, sym, ◌∙◌}
-use native.Mathlib.Omega.{arith}
-use Rattle.texts.proofs.NumberTrees.{open_end, open_stop, open_step}
+use Rattle.std.proofs.Common.{not, eqb, ◌-◌, length, take, drop, rules}
+use Rattle.std.proofs.lemmas.Iterator.{YieldsList-from_slice}
+use Rattle.std.proofs.lemmas.Iterator.Search.{position_from_yields_List}
+use borrow.Author.Tests.{tests}
+use Rattle.texts.proofs.FirstPlaces.{stops, open_place}
 use Rattle.texts.proofs.widths.past_open.Goals as goal
-
-pub loop-i-init : goal.loop-i-init
-loop-i-init c = (omega arith, omega arith, refl)
-
-pub returns-then-s-i-ne40 : goal.returns-then-s-i-ne40
-returns-then-s-i-ne40 c =
-    let s = c.args.s.now in
-    let l = c.loop-i in record {
-      place = omega arith;
-      rest = open_stop s l.i (omega arith) c.if-s-i-ne40.true ∙ sym l.invariant.2;
-    }
-
-pub loop-i-preserved : goal.loop-i-preserved
-loop-i-preserved c =
-    let s = c.args.s.now in
-    let l = c.loop-i in
-    (omega arith, omega arith, l.invariant.2 ∙ open_step s l.i (omega arith) c.if-s-i-ne40.false)
 
 pub returns : goal.returns
 returns c =
-    let s = c.args.s.now in
-    let l = c.loop-i in record {
-      place = omega arith;
-      rest = open_end s l.i (omega arith) (omega arith) ∙ sym l.invariant.2;
+    let a = c.args in
+    let s = a.s.now in
+    let q = position_from_yields_List (λ b. not (eqb b 40)) _ _ c.position.result c.position.ensures.ran
+    (YieldsList-from_slice (take (length s - a.at) (drop a.at s)) cc) (λ x b q k. search (rules, tests)) in
+    let z = stops (λ b. not (eqb b 40)) s a.at c.requires c.position.result q _ c.unwrap_or.ensures _
+    (open_place (drop a.at s)) in record {
+      place = (z.0, z.1);
+      rest = z.2;
     }

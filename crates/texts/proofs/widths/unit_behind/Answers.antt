@@ -7,7 +7,7 @@ pub unit_at-requires : goal.unit_at-requires
 unit_at-requires c =
     let a = c.args in
     let y = sym c.starts_at.ensures ∙ c.if-starts_at.true in
-    (spaced_room a.s.now a.at (omega arith) y, c.requires.1)
+    spaced_room a.s.now a.at (omega arith) y
 
 pub returns-then-starts_at : goal.returns-then-starts_at
 returns-then-starts_at c =

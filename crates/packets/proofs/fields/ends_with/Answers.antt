@@ -1,7 +1,0 @@
-use Rattle.packets.proofs.fields.ends_with.Goals as goal
-
-pub returns-then-ended : goal.returns-then-ended
-returns-then-ended c = rw c.if-ended.true
-
-pub returns : goal.returns
-returns c = rw c.if-ended.false

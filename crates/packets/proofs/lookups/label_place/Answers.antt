@@ -1,5 +1,0 @@
-use Rattle.packets.proofs.LookupPromises.{on_placed}
-use Rattle.packets.proofs.lookups.label_place.Goals as goal
-
-pub returns : goal.returns
-returns c = on_placed c.args.table.now _ c.find_label-label.result c.find_label-label.ensures
