@@ -57,6 +57,7 @@ fn settles(op: Op, x: u32) -> bool
     }
 }
 
+// By the limit and no `try_from`: the limit is the rules', not the type's.
 fn in_range(n: u64, next: Cursor) -> Result<(u32, Cursor), Fault>
     ensures { result ≡ placed (in_range n) next.at }
 {

@@ -60,6 +60,7 @@ fn text_room() -> [u8; 20480]
 }
 
 // `text SIZE TEXT`, into the first size bytes of an output, or into all if there are fewer.
+// Not one function with `convert`: a text and a table have buffers of other sizes.
 fn answer_text<W: Write>(w: &mut W, mut words: Words<'_>) -> io::Result<()> {
     let size = words.number();
     let mut buffer = text_room();
@@ -132,6 +133,7 @@ fn answer_listing<W: Write>(w: &mut W, mut words: Words<'_>) -> io::Result<()> {
 }
 
 // A line of fewer than five bytes is no request, and gets no answer.
+// A match and no table of functions: none is handed out as a value.
 pub(crate) fn answer_line<W: Write>(w: &mut W, line: &[u8]) -> io::Result<()> {
     if line.len() < 5 {
         return Ok(());

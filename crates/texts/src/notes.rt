@@ -5,6 +5,7 @@ ghost use Rattle.text_laws.specs.Lowest.{lower};
 ghost use Rattle.texts.specs.Noted.{told, number_of, place_of, note_of};
 
 use rules::TextRefusal;
+use rules::refusals::Refusal;
 
 // A refusal of a text, with the number of its line where it has one.
 // Not TextRefusal: too long and no room are never noted.
@@ -41,38 +42,20 @@ impl From<Note> for TextRefusal {
     }
 }
 
-// The number of a refusal.
-// A match: a variant that holds a place has no cast to its number.
+// The number of a refusal, as its answer has it.
+#[tactic(auto, unfolding(rules::specs::Answers::of_text))]
 pub(crate) fn number_of(a: Note) -> u8
     ensures { result ≡ number_of a }
 {
-    match a {
-        Note::BadByte => 2,
-        Note::BadLine(_) => 3,
-        Note::TooMany => 4,
-        Note::BadForm(_) => 5,
-        Note::OverLimit(_) => 6,
-        Note::Mismatch(_) => 7,
-        Note::Repeated(_) => 8,
-        Note::BadName(_) => 9,
-        Note::BadRest(_) => 10,
-    }
+    Refusal::from(TextRefusal::from(a)).number
 }
 
 // The number of its line; 0 where it has none.
+#[tactic(auto, unfolding(rules::specs::Answers::of_text))]
 pub(crate) fn place_of(a: Note) -> usize
     ensures { result ≡ place_of (Some a) }
 {
-    match a {
-        Note::BadByte | Note::TooMany => 0,
-        Note::BadLine(p)
-        | Note::BadForm(p)
-        | Note::OverLimit(p)
-        | Note::Mismatch(p)
-        | Note::Repeated(p)
-        | Note::BadName(p)
-        | Note::BadRest(p) => p,
-    }
+    Refusal::from(TextRefusal::from(a)).place
 }
 
 // The lower refusal; of one number the first, which stands left.
