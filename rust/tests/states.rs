@@ -232,3 +232,39 @@ fn a_piece_of_no_bytes_changes_no_state() {
         assert_eq!(after, before);
     }
 }
+
+/// No pieces leave a place beside no refusal. It stays as far as it can be one, until a field line is kept.
+#[test]
+fn a_place_beside_no_refusal() {
+    let at = digits("its place");
+    let number = digits("number of the lowest refusal so far");
+    let with = |text: &[u8], refusal: u8, place: u16| {
+        let mut state = left(text);
+        state[number[0]] = refusal;
+        at.iter().zip(place.to_le_bytes()).for_each(|(at, byte)| state[*at] = byte);
+        state
+    };
+    let after = |mut state: Vec<u8>, piece: &[u8]| {
+        text_piece(&mut state, piece);
+        value(&state, &at)
+    };
+    let title = blade_lines(1);
+    assert_eq!(after(with(b"", 0, 1), &title), 1);
+    assert_eq!(after(with(b"", 0, 2), &title), 1);
+    assert_eq!(after(with(b"", 0, u16::MAX), &title), 1);
+    assert_eq!(after(with(&title, 0, u16::MAX), b"\n 0"), 2);
+    assert_eq!(after(with(b"", 0, u16::MAX), &title[..9]), usize::from(u16::MAX));
+    let head =
+        BLADE.split_inclusive(|byte| *byte == b'\n').position(|line| line.starts_with(b"Version")).unwrap();
+    let (head, field) = (blade_lines(head), blade_lines(head + 1));
+    assert_eq!(after(with(&head[..head.len() - 1], 0, 3), b"\n"), 3);
+    assert_eq!(after(with(&head, 0, 3), &field[head.len()..]), 0);
+    // A number that is none has no place beside it.
+    for refusal in [1, 11, u8::MAX] {
+        assert_eq!(after(with(b"", refusal, 1), &title), 0);
+    }
+    // A line that gets too long, where no line counts any more.
+    let mut lost = with(b"", 0, 200);
+    lost[digits("the stage, which line is to come")[0]] = 12;
+    assert_eq!(after(lost, &[b'x'; LINE_MOST + 76]), 1);
+}

@@ -1,18 +1,29 @@
--- Names that their keys tell apart.
+-- A word's key, byte by byte; names that their keys tell apart.
 use mathlib.Core.Path.{◌≡◌, refl, ◌∙◌, ap}
 use mathlib.Core.Bool.{Bool, true, false, cond, ◌&&◌, not}
 use mathlib.Core.List.{List, []}
-use Prim.Native.Nat.{ℕ, ◌+◌, ◌%◌, ◌<◌}
+use Prim.Native.Nat.{ℕ, ◌+◌, ◌*◌, ◌%◌, ◌<◌}
+use native.Mathlib.Numerals.{add-one}
 use lib.Dec.{eqb}
-use lib.ListN.{length, get_or, set, length-set}
+use lib.ListN.{length, drop, get_or, set, length-set}
+use lib.Seq.{drop-cons, drop-length}
 use Rattle.base.specs.Lists.{same}
 use Rattle.base.proofs.Lists.{and_left, and_right, not_both, fails, same_true}
 use Rattle.base.proofs.Breaks.{or_true}
 use borrow.Author.Tests.{eqb-true, eq-eqb}
 use native.Mathlib.Omega.{arith}
 use Rattle.names.specs.Repeats.{remainders, name_number, same_name, names_meet, names_alike}
-use Rattle.names.specs.Keys.{is_new, start_of_both}
+use Rattle.names.specs.Keys.{key_part, key_from, is_new, start_of_both}
 use Rattle.names.proofs.PairLaws.{Inner, Seen, seen_on, seen_kept, inner_starts, inner_none}
+
+pub key_step : (w : List ℕ) (key i b : ℕ) → i < length w → b ≡ get_or w i 0
+    → key_from key (drop i w) ≡ key_from (key % key_part * 256 + b) (drop (i + 1) w)
+unfolding key_from
+key_step w key i b lt e = rw (drop-cons w i 0 lt, add-one i, e)
+
+pub key_end : (w : List ℕ) (key i : ℕ) → i ≡ length w → key_from key (drop i w) ≡ key
+unfolding key_from
+key_end w key i e = rw (e, drop-length w)
 
 -- words that any function of them tells apart differ
 pub keys_apart : (key : List ℕ → ℕ) (a b : List ℕ) → (key a ≡ key b → ⊥) → same a b ≡ false

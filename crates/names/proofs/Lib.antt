@@ -1,4 +1,4 @@
--- ClassRules, Spaces        what the tests of bytes and names need
+-- ClassRules, Spaces, Ends  what the tests of bytes and names need
 -- LentLaws                  labels and short names by the table of the classes
 -- RepeatLaws                searches for the first repeated thing
 -- PairLaws                  loops over pairs that look for it
@@ -9,6 +9,7 @@
 -- RuledOut                  no promise allows an answer of specs/Wrong
 pub mod ClassRules
 pub mod Spaces
+pub mod Ends
 pub mod LentLaws
 pub mod RepeatLaws
 pub mod PairLaws

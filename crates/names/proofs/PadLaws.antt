@@ -1,11 +1,13 @@
 -- Names held with zeros behind their ends are the same where the names are.
-use mathlib.Core.Path.{◌≡◌, refl, ap}
+use mathlib.Core.Path.{◌≡◌, refl, sym, ◌∙◌, ap}
 use mathlib.Core.Bool.{Bool, true, false, ◌&&◌, ◌||◌, not}
 use mathlib.Core.List.{List, [], ◌∷◌, ◌++◌}
-use Prim.Native.Nat.{ℕ, zero, suc, min, ◌≤◌, ◌<◌}
+use Prim.Native.Nat.{ℕ, zero, suc, min, ◌+◌, ◌≤◌, ◌<◌}
+use native.Mathlib.Numerals.{add-one}
 use native.Mathlib.Omega.{arith}
 use lib.Dec.{leb, eqb}
-use lib.ListN.{length, take, drop, get_or, replicate}
+use lib.ListN.{length, take, drop, get_or, set, replicate}
+use lib.Seq.{take_all, take-suc-set}
 use borrow.Author.Tests.{ne_eqb, eqb-true, leb-true}
 use Rattle.base.specs.Lists.{all, same, head_is, between}
 use Rattle.base.proofs.Lists.{not_both, same_self, between_true}
@@ -20,7 +22,24 @@ past_end [] i h = refl
 past_end (x ∷ w) zero h = absurd (omega arith)
 past_end (x ∷ w) (suc i) h = past_end w i (omega arith)
 
+pad_suc : (n : ℕ) (w : List ℕ) → pad_to (suc n) w ≡ pad_to n w ++ (get_or w n 0 ∷ [])
+unfolding pad_to
+pad_suc zero [] = refl
+pad_suc zero (x ∷ w) = refl
+pad_suc (suc n) [] = ap (λ (l : List ℕ). 0 ∷ l) (pad_suc n [])
+pad_suc (suc n) (x ∷ w) = ap (λ (l : List ℕ). x ∷ l) (pad_suc n w)
+
 -- ── filling an array ──
+
+pub pad_set : (name w : List ℕ) (i x : ℕ) → i < length name → take i name ≡ pad_to i w → x ≡ get_or w i 0
+    → take (i + 1) (set name i x) ≡ pad_to (i + 1) w
+pad_set name w i x lt e f = rw (add-one i, take-suc-set name i x lt, pad_suc i w, e, f)
+
+pub pad_whole : (most : ℕ) (name w : List ℕ) (i : ℕ) → i ≡ most → length name ≡ most → take i name ≡ pad_to i w
+    → name ≡ pad_to most w
+pad_whole most name w i e l h =
+    let t : take most name ≡ name = take_all most name (omega arith) in
+    sym t ∙ rw e at h
 
 pub pad_copied : (most : ℕ) (w : List ℕ) (n : ℕ) → n ≡ min (length w) most
     → take n w ++ drop n (replicate most 0) ≡ pad_to most w

@@ -1,5 +1,5 @@
 // The class of every byte value, in one constant table.
-ghost use Rattle.std.specs.Prelude.{◌≡◌};
+ghost use Rattle.std.specs.Prelude.{◌≡◌, ◌||◌, eqb};
 ghost use Rattle.rules.specs.Names.{is_letter, is_digit, is_operator, is_space, is_word_byte, is_label_byte};
 ghost use Rattle.names.specs.Classes.{
   letter_class,
@@ -78,11 +78,19 @@ pub fn is_word_in(classes: &[u8; 256], b: u8) -> bool
     is_letter_in(classes, b) || is_digit_in(classes, b)
 }
 
+// A space or hyphen. Out of line, so that letters and digits, which are most bytes of a label, have a test of their own.
+#[inline(never)]
+fn is_gap_in(classes: &[u8; 256], b: u8) -> bool
+    ensures { result ≡ (has_class space_class classes.now b || eqb b 45) }
+{
+    is_space_in(classes, b) || b == b'-'
+}
+
 // A letter, digit, space or hyphen: what may stand in a label.
 pub(crate) fn is_label_byte_in(classes: &[u8; 256], b: u8) -> bool
     ensures { result ≡ is_label_byte_in classes.now b }
 {
-    is_word_in(classes, b) || is_space_in(classes, b) || b == b'-'
+    is_word_in(classes, b) || is_gap_in(classes, b)
 }
 
 // The classes of all byte values, made once for a loop over bytes and lent to its tests.

@@ -2,7 +2,7 @@
 // label is an earlier short name.
 ghost use Rattle.std.specs.Prelude.{◌≡◌, ◌≤◌};
 ghost use Rattle.rules.specs.Limits.{fields_most, short_most};
-ghost use Rattle.names.specs.Keys.{IsHeld, is_new, start_of_both};
+ghost use Rattle.names.specs.Keys.{word_key, IsHeld, is_new, start_of_both};
 ghost use Rattle.names.specs.Repeats.{
   pad_to,
   name_number,
@@ -38,9 +38,10 @@ pub fn held_name(w: &[u8]) -> [u8; SHORT_MOST]
 }
 
 // The number that the bytes of a held name make: no other name has it.
-#[tactic(auto, using(crate::proofs::KeyNumbers::be_number))]
+#[tactic(auto, using(crate::proofs::KeyNumbers::be_number, crate::proofs::KeyNumbers::key_number))]
 fn name_key(name: &[u8; SHORT_MOST]) -> usize
     ensures key { result ≡ name_number name.now }
+    ensures word { result ≡ word_key name.now }
     ensures held { IsHeld name.now }
 {
     usize::from_be_bytes(*name)
@@ -63,7 +64,7 @@ pub fn start_of(seen: &[u8; REMAINDERS], key: usize, j: usize) -> usize
 }
 
 // Both are the same name, and not none.
-#[tactic(auto, using(crate::proofs::KeyNumbers::number_same), unfolding(crate::specs::Repeats::same_name))]
+#[tactic(auto, using(crate::proofs::KeyNumbers::key_same), unfolding(crate::specs::Repeats::same_name))]
 fn same_name(a: &[u8; SHORT_MOST], b: &[u8; SHORT_MOST]) -> bool
     ensures { result ≡ same_name a.now b.now }
 {

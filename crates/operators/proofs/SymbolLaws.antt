@@ -1,9 +1,10 @@
--- Operators by the length of their symbols.
+-- Operators by the length of their symbols, and bytes that are no symbol.
 use mathlib.Core.Path.{◌≡◌, refl, ap, sym}
 use mathlib.Core.Bool.{Bool, true, false, cond}
 use mathlib.Core.List.{List, [], ◌∷◌}
 use Rattle.std.specs.Prelude.{Option, Some}
-use Prim.Native.Nat.{ℕ}
+use Prim.Native.Nat.{ℕ, ◌+◌, ◌*◌}
+use native.Mathlib.Omega.{arith}
 use lib.Dec.{eqb}
 use lib.ListN.{length}
 use borrow.Author.Tests.{eq-eqb}
@@ -36,3 +37,12 @@ symbol_of_length (o ∷ os) w m = go (eqb (length (symbol o)) (length w)) refl (
         ≡ symbol_in (cond b (o ∷ of_length (length w) os) (of_length (length w) os)) w m
     go true e ih = rw (ih, symbol_in)
     go false e ih = rw (other e) ih
+
+-- two bytes that make another number are another pair
+pub pair_other : (a b x y : ℕ) → (256 * a + b ≡ 256 * x + y → ⊥) → same (a ∷ b ∷ []) (x ∷ y ∷ []) ≡ false
+pair_other a b x y ne =
+    fails (same (a ∷ b ∷ []) (x ∷ y ∷ [])) (λ t.
+    let e : a ∷ b ∷ [] ≡ x ∷ y ∷ [] = same_true (a ∷ b ∷ []) (x ∷ y ∷ []) t in
+    let p : a ≡ x = cc in
+    let q : b ≡ y = cc in
+    ne (omega arith))

@@ -4,7 +4,7 @@ use mathlib.Core.Bool.{true, cond}
 use mathlib.Core.List.{List, [], ◌∷◌, ◌++◌}
 use Prim.Native.Nat.{ℕ, zero, suc, ◌+◌, ◌-◌, ◌%◌, ◌<◌, ◌≤◌}
 use native.Mathlib.Omega.{arith}
-use native.Mathlib.Nat.{add-zero}
+use native.Mathlib.Nat.{add-zero, zero-add, sub-zero}
 use native.Mathlib.Numerals.{add-one}
 use lib.Dec.{eqb}
 use lib.ListN.{length, get_or, take}
@@ -21,7 +21,7 @@ use Rattle.writing.specs.declared.spans.Span.{Span}
 use Rattle.packets.specs.declared.records.Parts.{Parts}
 use Rattle.packets.specs.Parts.{parts_at}
 use Rattle.packets.specs.FieldTest.{bytes_in}
-use Rattle.packets.specs.CountsTest.{part_reads, record_tallied, reads_from, Tallied, kept_from}
+use Rattle.packets.specs.CountsTest.{part_reads, record_tallied, reads_from, Zeros, Tallied, kept_from}
 
 -- ── an expression ──
 
@@ -60,6 +60,15 @@ pub record Tallying (s : List ℕ) (count from i at : ℕ) (counts : List ℕ) :
   pub small : (j : ℕ) → j < length counts → get_or counts j 0 < 65536
   pub sum : (j : ℕ) → j < length counts
       → (get_or counts j 0 + reads_from s i (count - i) at j) % 65536 ≡ reads_from s 0 count from j % 65536
+
+pub tally_start : (s : List ℕ) (count from : ℕ) (counts : List ℕ) → Zeros counts → Tallying s count from 0 from counts
+tally_start s count from counts z = record {
+  small = λ j lt. let e = z j in omega (arith, e);
+  sum = λ j lt.
+      let e : get_or counts j 0 + reads_from s 0 (count - 0) from j ≡ reads_from s 0 count from j =
+      rw (z j, sub-zero count, zero-add) refl in
+      ap (λ (n : ℕ). n % 65536) e;
+}
 
 pub tally_again : (s : List ℕ) (count from i at : ℕ) (counts : List ℕ) → i < count
     → Tallying s count from i at counts

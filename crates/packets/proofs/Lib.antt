@@ -1,3 +1,4 @@
+-- Products                          a product of two 32-bit numbers
 -- TreeSteps, TreeTypes              one step of checking, skipping and evaluating a stored tree
 -- TreeSound, TreeComplete           what the check finds is stored, and what is stored is found
 -- TreeValues                        a stored tree's value
@@ -15,6 +16,7 @@
 -- LookupSteps, LookupStored, LookupPromises   records by index and fields by name
 -- HavingLaws, ShiftSteps, ShiftLaws   what is looked for in a table's expressions, and other indexes put into them
 -- PlainLaws, WidenLaws, WidenSteps, NumberedLaws, ConvertPromises   old tables converted
+pub mod Products
 pub mod TreeSteps
 pub mod TreeTypes
 pub mod TreeSound

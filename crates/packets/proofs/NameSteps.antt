@@ -3,6 +3,7 @@ use mathlib.Core.Path.{◌≡◌, refl, sym, ◌∙◌, ap}
 use mathlib.Core.Bool.{Bool, true, false}
 use mathlib.Core.List.{List, [], ◌∷◌, ◌++◌, append_assoc, append-nil}
 use Prim.Native.Nat.{ℕ, suc, ◌+◌, ◌-◌, ◌<◌}
+use native.Mathlib.Nat.{sub-zero}
 use native.Mathlib.Omega.{arith}
 use lib.Dec.{ltb}
 use lib.ListN.{length, take, set, get_or, replicate}
@@ -89,6 +90,15 @@ pub record Gathering (s : List ℕ) (n from i at : ℕ) (places keys : List ℕ)
     pub keyed : LabelKeys s (places_from s n from) i keys
     pub held : HeldNames s (places_from s n from) i shorts
     pub worded : HeldWords s (places_from s n from) i words
+
+pub gather_start : (s : List ℕ) (n from : ℕ) (places keys : List ℕ) (shorts words : List (List ℕ))
+    → Gathering s n from 0 from places keys shorts words
+gather_start s n from places keys shorts words = record {
+  left = rw sub-zero;
+  keyed = λ k lt. absurd (omega arith);
+  held = λ k lt. absurd (omega arith);
+  worded = λ k lt. absurd (omega arith);
+}
 
 module _ (s : List ℕ) (n from i at : ℕ) (places keys : List ℕ) (shorts words : List (List ℕ))
     (g : Gathering s n from i at places keys shorts words) where

@@ -40,7 +40,7 @@ bad_of : (table : List ℕ) (e : TableRefusal) → ChecksTable table (of_table (
 unfolding of_table
 bad_of table TableRefusal.NotGood h g = let q = ap (λ (a : Answer). a.number) (h (yes g)) in omega (arith, q)
 
-good_of : (table : List ℕ) (k : ℕ) → ChecksTable table (of_table (Ok k)) → Good table
+pub good_of : (table : List ℕ) (k : ℕ) → ChecksTable table (of_table (Ok k)) → Good table
 unfolding of_table
 good_of table k h = go (good_decidable table) refl
   where

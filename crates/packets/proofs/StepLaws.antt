@@ -5,10 +5,12 @@ use Prim.Native.Nat.{ℕ, suc, ◌+◌, ◌-◌, ◌<◌}
 use native.Mathlib.Omega.{arith}
 use native.Mathlib.Nat.{sub_self}
 use Rattle.rules.specs.declared.Fault.{Fault}
+use Rattle.rules.specs.Values.{Value, value, fault}
 use Rattle.rules.specs.Reading.{Step, step, stop}
-use Rattle.std.proofs.Common.{Err}
+use Rattle.std.proofs.Common.{Ok, Err}
 use Rattle.packets.specs.declared.steps.Numbers.{Numbers}
-use Rattle.packets.specs.Steps.{Found, field, numbers_in, entry_in, found_of, record_at, fixed_of, later_bits}
+use Rattle.packets.specs.Steps.{Got, got_of, Found, field, numbers_in, entry_in, found_of}
+use Rattle.packets.specs.Steps.{record_at, fixed_of, later_bits}
 
 pub later_step : (s : List ℕ) (n i sum at : ℕ) → i < n
     → sum + later_bits (n - i) s at ≡ (sum + fixed_of (record_at s at)) + later_bits (n - (i + 1)) s
@@ -21,6 +23,14 @@ unfolding later_bits
 later_end s n sum at = rw sub_self (omega arith)
 
 -- ── answers of the code taken back ──
+
+pub got_value : (r : Got) (v : Value) (n : ℕ) → r ≡ got_of v → r ≡ Ok n → v ≡ value n
+got_value r (value m) n e h = cc
+got_value r (fault f) n e h = cc
+
+pub got_stop : (r : Got) (v : Value) (f : Fault) → r ≡ got_of v → r ≡ Err f → v ≡ fault f
+got_stop r (value m) f e h = cc
+got_stop r (fault g) f e h = cc
 
 pair_parts : (d e : Numbers) (m n : ℕ) → field d m ≡ field e n → (d ≡ e) × (m ≡ n)
 pair_parts d e m n h =

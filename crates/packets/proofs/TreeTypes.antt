@@ -1,6 +1,7 @@
 -- What an operator's row says of types and of what settles it, and equal types.
 use mathlib.Core.Path.{◌≡◌, refl, sym, ◌∙◌}
 use mathlib.Core.Bool.{Bool, true}
+use Prim.Native.Nat.{ℕ}
 use denote.Enum.Bare.{sameb}
 use Rattle.rules.specs.contracts.ValueType.{the_type}
 use Rattle.rules.specs.declared.Op.{Op}
@@ -8,10 +9,17 @@ use Rattle.rules.specs.declared.ValueType.{ValueType}
 use Rattle.rules.specs.declared.ValueType.TheVariants.{Number, YesNo}
 use Rattle.rules.specs.Operators.{takes, gives}
 use Rattle.rules.specs.Trees.{same_type}
+use Rattle.rules.specs.declared.Decider.{Decider}
+use Rattle.rules.specs.Values.{decides_by, decides}
 use Rattle.operators.specs.declared.rows.Row.{Row}
 use Rattle.operators.specs.Rows.{row_of}
 
 -- ── operators ──
+
+pub settled_by : (o : Op) (x : ℕ) {r : Row} {d : Decider} → r ≡ row_of o → r.decider ≡ d
+    → decides_by d x ≡ decides o x
+unfolding decides row_of
+settled_by o x e f = rw (← f, e)
 
 pub types_of : (o : Op) {r : Row} → r ≡ row_of o → (r.takes ≡ takes o) × (r.gives ≡ gives o)
 unfolding row_of

@@ -52,6 +52,9 @@ use Rattle.packets.proofs.FieldOrder.{
 
 -- ── one step ──
 
+pub past_bad : (next : ℕ) → None ≡ Some next → ⊥
+past_bad next e = none-some next e
+
 module _ (w n : ℕ) (marks : List ℕ) (place : ℕ) (ended : Bool) (s : List ℕ) (at next : ℕ) where
   abbrev own : List ℕ
   own = marks ++ (mark_of s (parts_at s at) ∷ [])

@@ -117,6 +117,13 @@ module _ (table : List ℕ) (n i at : ℕ) (out : List ℕ) (to : ℕ) (h : Wide
       go a b none = refl
       go a b (some l) = ap some (sym (append_assoc a b l))
 
+-- the length of a record's part
+pub part_size : (table : List ℕ) (at n : ℕ) → n ≤ length table - at → at ≤ length table
+    → length (take (at + n - at) (drop at table)) ≡ n
+part_size table at n le in_table =
+    let z : at + n - at ≡ n = omega arith in
+    rw z (length-take-le n (drop at table) (omega (arith, length-drop at table, le)))
+
 pub widen_done : (table : List ℕ) (n i at : ℕ) (out after : List ℕ) (to end : ℕ) → Widening table n i at out to
     → n ≤ i → to ≤ length out → to + length (drop at table) ≤ length out → at ≤ length table
     → placed end after ≡ put out to (take (length table - at) (drop at table))

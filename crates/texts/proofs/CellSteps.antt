@@ -226,6 +226,15 @@ module _ (chars : List ℕ) (from len : ℕ) (l : drop from chars ≡ left_trim 
         ap length (sym (t ∙ ap right_trim (w ∙ l)))
         ∙ length-take-le len (take (length chars - from) (drop from chars)) h
 
+    pub added_none : (bare : Bool) (before : List ℕ) (at : ℕ) → len ≡ 0
+        → Writes before at (added_line bare chars) before at
+    added_none bare before at e = go (trimmed chars) (text_length ∙ e)
+      where
+        go : (s : List ℕ) → length s ≡ 0
+            → Writes before at (cond (is_empty s) [] (cond bare s (32 ∷ s))) before at
+        go [] q = writes_none before at
+        go (b ∷ s) q = absurd (omega (arith, q))
+
     line_some : (bare : Bool) → (len ≡ 0 → ⊥) → cond bare (trimmed chars) (32 ∷ trimmed chars) ≡ added_line bare chars
     line_some bare n = go (trimmed chars) text_length
       where

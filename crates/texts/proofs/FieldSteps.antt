@@ -47,7 +47,7 @@ use Rattle.texts.proofs.LineCounts.{field_tallied, numbers_more}
 
 -- ── full ──
 
-note_many : (a : Held Note) → is_many_as a ≡ is_many (note_of a)
+pub note_many : (a : Held Note) → is_many_as a ≡ is_many (note_of a)
 note_many None = refl
 note_many (Some by.BadByte) = refl
 note_many (Some (by.BadLine p)) = refl

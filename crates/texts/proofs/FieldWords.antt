@@ -5,6 +5,8 @@ use mathlib.Core.List.{List, [], ◌∷◌}
 use mathlib.Core.Option.{none, some}
 use Prim.Native.Nat.{ℕ, ◌+◌, ◌-◌, ◌≤◌, ◌<◌}
 use native.Mathlib.Numerals.{add-one}
+use native.Mathlib.Omega.{arith}
+use native.Mathlib.Nat.{le_of_suc-le-suc}
 use Rattle.std.specs.Cmp.Lexicographic.{pointwise}
 use lib.Dec.{eqb, leb}
 use lib.ListN.{length, take, drop, get_or}
@@ -20,6 +22,17 @@ use Rattle.std.specs.Prelude.{None, Some}
 use Rattle.texts.proofs.ExprLeaves.{word_part}
 
 -- ── phrases ──
+
+-- a phrase that is longer than what is left
+pub begins_long : (w s : List ℕ) → length s < length w → begins w s ≡ false
+unfolding begins after
+begins_long [] s lt = absurd (omega arith)
+begins_long (c ∷ w) [] lt = refl
+begins_long (c ∷ w) (d ∷ s) lt = go (eqb c d) (begins_long w s (le_of_suc-le-suc lt))
+  where
+    go : (b : Bool) → not (is_none (after w s)) ≡ false → not (is_none (cond b (after w s) none)) ≡ false
+    go true e = e
+    go false e = refl
 
 -- as the library tells what a text starts with
 pub begins_front : (w s : List ℕ) → pointwise eqb w (take (length w) s) ≡ begins w s

@@ -5,9 +5,10 @@ use mathlib.Core.List.{List, [], ◌∷◌}
 use mathlib.Core.Option.{none, some}
 use Prim.Native.Nat.{ℕ, zero, suc, ◌+◌, ◌-◌, ◌≤◌, ◌<◌}
 use native.Mathlib.Omega.{arith}
+use native.Mathlib.Numerals.{add-one}
 use lib.Dec.{eqb, leb}
 use lib.ListN.{length, take, drop, get_or, length-drop}
-use lib.Seq.{take_all}
+use lib.Seq.{drop-cons, drop-length, take_all}
 use borrow.Author.Tests.{leb-true, eq-eqb, ne_eqb}
 use Rattle.base.specs.Bytes.{bytes}
 use Rattle.base.specs.Lists.{is_empty, same, tabulate}
@@ -22,9 +23,22 @@ use Rattle.rules.specs.Names.{is_label}
 use Rattle.text_laws.specs.Fold.{opening_name}
 use Rattle.rules.specs.Frames.{tens_at, tens}
 use Rattle.text_laws.specs.FrameReader.{on_first, pieces, rest, closing, read_name, read_tens}
-use Rattle.texts.specs.FramePlaces.{up_to}
+use Rattle.texts.specs.FramePlaces.{up_to, is_some}
 
 -- ── the first byte e ──
+
+module _ (e : ℕ) (s : List ℕ) (at : ℕ) where
+  pub up_to_end : length s ≤ at → at ≤ length s → up_to e (drop at s) ≡ 0
+  unfolding up_to
+  up_to_end le le' = let q : at ≡ length s = omega arith in rw (q, drop-length) refl
+
+  pub up_to_stop : at < length s → get_or s at 0 ≡ e → up_to e (drop at s) ≡ 0
+  unfolding up_to
+  up_to_stop lt q = rw (drop-cons s at 0 lt, eq-eqb (get_or s at 0) e q) refl
+
+  pub up_to_step : at < length s → (get_or s at 0 ≡ e → ⊥) → up_to e (drop at s) ≡ suc (up_to e (drop (at + 1) s))
+  unfolding up_to
+  up_to_step lt n = rw (drop-cons s at 0 lt, ne_eqb (get_or s at 0) e n, add-one at) refl
 
 -- the text up to the first e is the first piece
 pub pieces_first : (e : ℕ) (s : List ℕ) → up_to e s < length s
@@ -150,6 +164,31 @@ module _ (l : List ℕ) where
       → opening_name l ≡ none
   unfolding opening_name
   opening_none h k = rw (h, k) refl
+
+some_cond : {A : Type 0} (x : Bool) (a : A) → x ≡ is_some (cond x (some a) none)
+some_cond true a = refl
+some_cond false a = refl
+
+module _ (s : List ℕ) where
+  pub name_short : length s < 25 → false ≡ is_some (read_name s)
+  unfolding read_name closing
+  name_short lt =
+      let n : ℕ = length s - length closing in
+      let q : same (drop n s) closing ≡ false =
+      same_length (drop n s) closing (λ e. absurd (omega (arith, e, length-drop n s))) in
+      rw q refl
+
+  pub name_long : (x : Bool) → 25 ≤ length s
+      → x ≡ same (take (length s - (length s - 25)) (drop (length s - 25) s)) closing
+      → (x && is_label (take (length s - 25) s)) ≡ is_some (read_name s)
+  unfolding read_name closing
+  name_long x le e =
+      let n : ℕ = length s - 25 in
+      let k : length s - n ≡ length (drop n s) = sym (length-drop n s) in
+      let t : take (length s - n) (drop n s) ≡ drop n s = take_all (length s - n) (drop n s) (omega arith) in
+      let q : same (drop (length s - length closing) s) closing ≡ x =
+      ap (λ (m : List ℕ). same m closing) (sym t) ∙ sym e in
+      rw q (some_cond (x && is_label (take n s)) (take n s))
 
 module _ (s : List ℕ) where
   pub name_open : same (drop (length s - 25) s) closing ≡ false → read_name s ≡ none

@@ -1,11 +1,16 @@
 -- What the code keeps behind the lines of the head that hold NAME, W and cells.
 use mathlib.Core.Path.{◌≡◌, refl, ap, sym, subst, ◌∙◌}
+use mathlib.Core.Bool.{Bool, true, false, cond}
 use mathlib.Core.List.{List, [], ◌∷◌, append-nil}
 use mathlib.Core.Option.{Option, none, some}
-use Prim.Native.Nat.{ℕ, ◌+◌, ◌*◌, ◌≤◌}
+use Prim.Native.Nat.{ℕ, ◌+◌, ◌*◌, ◌≤◌, ◌<◌}
 use native.Mathlib.Omega.{arith}
-use lib.ListN.{length, take}
-use Rattle.base.specs.Lists.{joined}
+use lib.ListN.{length, take, drop, length-drop}
+use lib.Seq.{take_all}
+use Rattle.base.specs.Bytes.{bytes}
+use Rattle.base.specs.Lists.{joined, same}
+use Rattle.base.proofs.Lists.{not_both}
+use Rattle.base.proofs.Scans.{same_length}
 use Rattle.writing.specs.Writes.{Writes}
 use Rattle.rules.specs.Limits.{fields_most, label_most}
 use Rattle.rules.specs.Rows.{Row}
@@ -13,6 +18,8 @@ use Rattle.text_laws.specs.Judging.{faces, Judged}
 use Rattle.text_laws.specs.Steady.{StandIn}
 use Rattle.rules.specs.Fields.{Field}
 use Rattle.text_laws.specs.Fold as fold
+use Rattle.text_laws.specs.FrameReader.{read_name}
+use Rattle.texts.specs.FramePlaces.{is_some}
 use Rattle.texts.specs.HeldNames.{Names}
 use Rattle.texts.specs.RowPlaces.{lines_in}
 use Rattle.texts.specs.Changes.{changed, with_head, with_lines}
@@ -20,9 +27,27 @@ use Rattle.texts.specs.HeldAreas.{slot_most}
 use Rattle.texts.specs.States.{Room, Area, area, Numbers, Holds}
 use Rattle.texts.specs.declared.states.Stage.TheVariants as at
 use Rattle.texts.specs.declared.states.Reading.{Reading}
+use Rattle.texts.proofs.FrameLeaves.{name_short}
 use Rattle.texts.proofs.StateSteps.{records_kept, next_line}
 
 -- ── the opening line ──
+
+none_of : {A : Type 0} (o : Option A) → false ≡ is_some o → o ≡ none
+none_of none e = refl
+none_of (some a) e = absurd (not_both true refl (sym e))
+
+-- a line that is too short names nothing
+pub opening_short : (l : List ℕ) → length l < 3 → fold.opening_name l ≡ none
+unfolding fold.opening_name
+opening_short l lt =
+    let t : take 3 l ≡ l = take_all 3 l (omega arith) in
+    let q : same (take 3 l) (bytes "An ") ≡ false =
+    rw t (same_length l (bytes "An ") (λ e. absurd (omega (arith, e)))) in
+    rw q (go (same (take 2 l) (bytes "A ")))
+  where
+    go : (y : Bool) → cond y (read_name (drop 2 l)) none ≡ none
+    go true = none_of (read_name (drop 2 l)) (name_short (drop 2 l) (omega (arith, lt, length-drop 2 l)))
+    go false = refl
 
 -- where no field was kept, none stands in
 none_stands : (j : Judged) (fs : List (Field ℕ)) → StandIn j fs → j.fields ≡ [] → fs ≡ []

@@ -1,5 +1,5 @@
 -- The first byte of a text that is not printable: the bytes in front of it are allowed, and none is a line feed.
-use mathlib.Core.Path.{◌≡◌, refl, ap, ◌∙◌}
+use mathlib.Core.Path.{◌≡◌, refl, ap, sym, ◌∙◌}
 use mathlib.Core.Bool.{Bool, true, false, cond, ◌&&◌}
 use mathlib.Core.List.{List, [], ◌∷◌, ◌++◌}
 use Prim.Native.Nat.{ℕ, zero, suc, ◌+◌, ◌-◌, ◌≤◌, ◌<◌}
@@ -7,13 +7,16 @@ use native.Mathlib.Omega.{arith}
 use native.Mathlib.Numerals.{add-one}
 use lib.Dec.{eqb, eqb-suc-suc, eqb-zero-suc}
 use lib.ListN.{length, take, drop, get_or, length-drop}
-use lib.Seq.{drop-drop, take-suc}
-use borrow.Author.Tests.{ne_eqb, le-leb, lt-leb}
+use lib.Seq.{drop-drop, get_or-drop, take-suc}
+use borrow.Author.Tests.{ne_eqb, eq-eqb, le-leb, lt-leb}
 use Rattle.base.specs.Lists.{all}
-use Rattle.base.proofs.Lists.{and_left, and_right, between_true, true_between}
+use Rattle.base.proofs.Lists.{and_left, and_right, between_true, true_between, or_right}
 use Rattle.rules.specs.Names.{is_printable, is_allowed, line_feed}
 use Rattle.rules.specs.Frames.{is_line}
+use Rattle.texts.specs.FramePlaces.{up_to}
 use Rattle.texts.specs.LineEnds.{printable_length}
+use Rattle.texts.proofs.ExprLeaves.{all_step, all_stop, all_end}
+use Rattle.texts.proofs.FrameLeaves.{up_to_end, up_to_stop}
 
 -- ── bytes ──
 
@@ -30,6 +33,10 @@ printable_between b le le' = true_between 32 b 126 le le'
 feed_other : (b : ℕ) → is_printable b ≡ true → eqb b line_feed ≡ false
 unfolding is_printable
 feed_other b e = let q = between_true 32 b 126 e in ne_eqb b line_feed (λ z. omega (arith, q.0, z))
+
+feed_allowed : (b : ℕ) → b ≡ line_feed → is_allowed b ≡ true
+unfolding is_allowed
+feed_allowed b e = or_right (is_printable b) (eqb b line_feed) (eq-eqb b line_feed e)
 
 pub bad_byte : (b : ℕ) → is_printable b ≡ false → (b ≡ line_feed → ⊥) → is_allowed b ≡ false
 unfolding is_allowed
@@ -99,6 +106,28 @@ printable_whole (b ∷ s) (suc at) le =
 
 -- ── what the bytes in front of it tell ──
 
+front_allowed : (s : List ℕ) → all is_allowed s ≡ all is_allowed (drop (printable_length s) s)
+unfolding all printable_length is_allowed
+front_allowed [] = refl
+front_allowed (b ∷ s) = go (is_printable b) refl (front_allowed s)
+  where
+    go : (x : Bool) → is_printable b ≡ x → all is_allowed s ≡ all is_allowed (drop (printable_length s) s)
+        → all is_allowed (b ∷ s) ≡ all is_allowed (drop (cond x (suc (printable_length s)) 0) (b ∷ s))
+    go true e h = rw e h
+    go false e h = refl
+
+front_feed : (s : List ℕ) → up_to line_feed s ≡ printable_length s + up_to line_feed (drop (printable_length s) s)
+unfolding up_to printable_length
+front_feed [] = refl
+front_feed (b ∷ s) = go (is_printable b) refl (front_feed s)
+  where
+    go : (x : Bool) → is_printable b ≡ x
+        → up_to line_feed s ≡ printable_length s + up_to line_feed (drop (printable_length s) s)
+        → up_to line_feed (b ∷ s) ≡ cond x (suc (printable_length s)) 0
+        + up_to line_feed (drop (cond x (suc (printable_length s)) 0) (b ∷ s))
+    go true e h = rw (feed_other b e) (omega (arith, h))
+    go false e h = omega arith
+
 pub first_other : (s : List ℕ) → printable_length s < length s → is_printable (get_or s (printable_length s) 0) ≡ false
 unfolding printable_length
 first_other [] lt = absurd (omega arith)
@@ -110,6 +139,46 @@ first_other (b ∷ s) lt = go (is_printable b) refl (first_other s) lt
         → is_printable (get_or (b ∷ s) (cond x (suc (printable_length s)) 0) 0) ≡ false
     go true e h lt = h (omega arith)
     go false e h lt = e
+
+-- ── the same from a place on ──
+
+module _ (s : List ℕ) (at i : ℕ) (first : i ≡ at + printable_length (drop at s)) where
+  part_allowed : all is_allowed (drop at s) ≡ all is_allowed (drop i s)
+  part_allowed =
+      front_allowed (drop at s) ∙ ap (all is_allowed) (drop-drop (printable_length (drop at s)) at s)
+      ∙ ap (λ (n : ℕ). all is_allowed (drop n s)) (sym first)
+
+  part_feed : at + up_to line_feed (drop at s) ≡ i + up_to line_feed (drop i s)
+  part_feed =
+      let e : drop (printable_length (drop at s)) (drop at s) ≡ drop i s =
+      drop-drop (printable_length (drop at s)) at s ∙ ap (λ (n : ℕ). drop n s) (sym first) in
+      let q : up_to line_feed (drop at s) ≡ printable_length (drop at s) + up_to line_feed (drop i s) =
+      rw e at (front_feed (drop at s)) in
+      omega (arith, q, first)
+
+  -- at the end, no byte is bad, and no line feed is left
+  pub allowed_end : length s ≤ i → i ≤ length s → all is_allowed (drop at s) ≡ true
+  allowed_end le le' = part_allowed ∙ all_end is_allowed s i le le'
+
+  pub feed_end : length s ≤ i → i ≤ length s → i ≡ at + up_to line_feed (drop at s)
+  feed_end le le' = omega (arith, part_feed, up_to_end line_feed s i le le')
+
+  -- at a line feed, what is behind it decides
+  pub allowed_feed : i < length s → get_or s i 0 ≡ line_feed → all is_allowed (drop at s) ≡ all is_allowed
+      (drop (i + 1) s)
+  allowed_feed lt e = part_allowed ∙ all_step is_allowed s i lt (feed_allowed (get_or s i 0) e)
+
+  pub feed_here : i < length s → get_or s i 0 ≡ line_feed → i ≡ at + up_to line_feed (drop at s)
+  feed_here lt e = omega (arith, part_feed, up_to_stop line_feed s i lt e)
+
+  -- another byte is bad
+  pub allowed_other : i < length s → (get_or s i 0 ≡ line_feed → ⊥) → all is_allowed (drop at s) ≡ false
+  allowed_other lt n =
+      let p = first_other (drop at s) (omega (arith, first, lt, length-drop at s)) in
+      let q : is_printable (get_or s i 0) ≡ false =
+      ap (λ (n : ℕ). is_printable (get_or s n 0)) first
+      ∙ ap is_printable (sym (get_or-drop at s (printable_length (drop at s)) 0)) ∙ p in
+      part_allowed ∙ all_stop is_allowed s i lt (bad_byte (get_or s i 0) q n)
 
 -- ── a line ──
 

@@ -11,7 +11,7 @@ use lib.Seq.{get_or-take, drop_at, take-take, take-append-le, length-take-le}
 use Rattle.base.specs.Lists.{all, is_empty, joined}
 use Rattle.base.proofs.Joined.{joined_append, joined_one}
 use Rattle.writing.specs.Writes.{Writes}
-use Rattle.writing.proofs.Writing.{writes_none, writes_join}
+use Rattle.writing.proofs.Writing.{writes_none, writes_join, writes_inside}
 use Rattle.rules.specs.Names.{is_label}
 use Rattle.rules.specs.Frames.{Slot}
 use Rattle.text_laws.specs.FrameReader.{pieces, rest}
@@ -85,7 +85,14 @@ module _ {row : List ℕ} {n size : ℕ} {cells : List ℕ} {next from to : ℕ}
     abbrev put : Slot
     put = slot_at (eqb (get_or row 0 0) 58) row n from (to - from)
 
-    -- whether its text is a label
+    -- where its text stands
+    pub text_place : (next + 3 ≤ end) × (end ≤ length after)
+    text_place = (
+      omega (arith, o.writes.end, slot_length put),
+      omega (arith, writes_inside o.writes o.room, o.writes.kept),
+    )
+
+    -- and whether that is a label
     pub label_there : is_label (take (end - (next + 3)) (drop (next + 3) after)) ≡ is_label put.text
     label_there =
         let k : end - (next + 3) ≡ length put.text = omega (arith, o.writes.end, slot_length put) in

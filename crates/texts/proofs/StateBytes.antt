@@ -22,7 +22,7 @@ use Rattle.texts.specs.HeldAreas.{slot_most, record_most}
 use Rattle.texts.specs.Noted.{place_of, note_of}
 use Rattle.texts.specs.States.{Room}
 use Rattle.texts.specs.StateNumbers.{numbers_at, line_at, stage_code, stage_at, reading_in, low, high, number_bytes}
-use Rattle.texts.specs.StateNumbers.{note_code, note_at, refusal_in, NoteIn, Fits, Loaded, Saved}
+use Rattle.texts.specs.StateNumbers.{note_code, place_or, note_at, refusal_in, NoteIn, Fits, Loaded, Saved}
 use Rattle.texts.specs.declared.notes.Note.{Note}
 use Rattle.texts.specs.declared.notes.Note.TheVariants as by
 use Rattle.texts.specs.declared.states.Stage.{Stage}
@@ -63,20 +63,26 @@ rested_back false = refl
 
 -- ── a refusal ──
 
--- by its number and its place it is read again, and told as it is
-note_back : (a : Held Note) → (note_at (note_code a) (place_of a) ≡ a)
-    × (cond (eqb (note_code a) 0) none (some (refused (note_code a) (place_of a))) ≡ note_of a)
-unfolding note_at note_code
-note_back None = (refl, refl)
-note_back (Some by.BadByte) = (refl, refl)
-note_back (Some (by.BadLine p)) = (refl, refl)
-note_back (Some by.TooMany) = (refl, refl)
-note_back (Some (by.BadForm p)) = (refl, refl)
-note_back (Some (by.OverLimit p)) = (refl, refl)
-note_back (Some (by.Mismatch p)) = (refl, refl)
-note_back (Some (by.Repeated p)) = (refl, refl)
-note_back (Some (by.BadName p)) = (refl, refl)
-note_back (Some (by.BadRest p)) = (refl, refl)
+-- by its number and its place it is read again, and told as it is, whatever place stands beside none
+note_back : (q : ℕ) (a : Held Note) → (note_at (note_code a) (place_or q a) ≡ a)
+    × (cond (eqb (note_code a) 0) none (some (refused (note_code a) (place_or q a))) ≡ note_of a)
+unfolding note_at note_code place_or
+note_back q None = (refl, refl)
+note_back q (Some by.BadByte) = (refl, refl)
+note_back q (Some (by.BadLine p)) = (refl, refl)
+note_back q (Some by.TooMany) = (refl, refl)
+note_back q (Some (by.BadForm p)) = (refl, refl)
+note_back q (Some (by.OverLimit p)) = (refl, refl)
+note_back q (Some (by.Mismatch p)) = (refl, refl)
+note_back q (Some (by.Repeated p)) = (refl, refl)
+note_back q (Some (by.BadName p)) = (refl, refl)
+note_back q (Some (by.BadRest p)) = (refl, refl)
+
+-- its place is within what it is within, and what the other place is within
+place_or_most : (q m : ℕ) (a : Held Note) → q ≤ m → place_of a ≤ m → place_or q a ≤ m
+unfolding place_or
+place_or_most q m None h k = h
+place_or_most q m (Some a) h k = k
 
 -- of a refusal the place is within the least that is allowed
 cond_placed : (b : Bool) (x y : Held Note) (m : ℕ) → place_of x ≤ m → place_of y ≤ m → place_of (cond b x y) ≤ m
@@ -175,10 +181,12 @@ noted_take a b e = noted_same a b (λ i h. sym (byte a i h) ∙ ap (λ (t : List
     byte s i h = get_or-take 24 s (4 + i) 0 (omega arith)
 
 -- the bytes of a reading behind four bytes
-reading_back : (r : Reading) → Fits text_most r → reading_in (0 ∷ 0 ∷ 0 ∷ 0 ∷ number_bytes r) ≡ r
+reading_back : (r : Reading) (q : ℕ) → Fits text_most r → q ≤ r.lines + 1
+    → reading_in (0 ∷ 0 ∷ 0 ∷ 0 ∷ number_bytes r q) ≡ r
 unfolding two_at
-reading_back r f =
+reading_back r q f le =
     let room : Room r = f.0 in
+    let most = place_or_most q (r.lines + 1) r.note le room.placed in
     rw (
       two_back r.lines (omega arith),
       stage_back r.stage,
@@ -192,56 +200,60 @@ reading_back r f =
       one_back r.fields (omega arith),
       two_back r.end (omega arith),
       rested_back r.rested,
-      two_back (place_of r.note) (omega arith),
-      (note_back r.note).0,
+      two_back (place_or q r.note) (omega (arith, most)),
+      (note_back q r.note).0,
     )
     refl
 
-noted_back : (r : Reading) → Fits text_most r → NoteIn (0 ∷ 0 ∷ 0 ∷ 0 ∷ number_bytes r)
+noted_back : (r : Reading) (q : ℕ) → Fits text_most r → q ≤ r.lines + 1
+    → NoteIn (0 ∷ 0 ∷ 0 ∷ 0 ∷ number_bytes r q)
 unfolding two_at
-noted_back r f =
-    let s : List ℕ = 0 ∷ 0 ∷ 0 ∷ 0 ∷ number_bytes r in
+noted_back r q f le =
+    let s : List ℕ = 0 ∷ 0 ∷ 0 ∷ 0 ∷ number_bytes r q in
     let room : Room r = f.0 in
-    let same = reading_back r f in
-    let place : two_at s 22 ≡ place_of r.note = two_back (place_of r.note) (omega arith) in
-    let lines = ap (λ (x : Reading). x.lines) same in
-    let placed = room.placed in record {
+    let same = reading_back r q f le in
+    let most = place_or_most q (r.lines + 1) r.note le room.placed in
+    let place : two_at s 22 ≡ place_or q r.note = two_back (place_or q r.note) (omega (arith, most)) in
+    let lines = ap (λ (x : Reading). x.lines) same in record {
       told = ap (λ (p : ℕ). cond (eqb (note_code r.note) 0) none (some (refused (note_code r.note) p))) place
-          ∙ (note_back r.note).1 ∙ ap (λ (x : Reading). note_of x.note) (sym same);
-      placed = omega (arith, place, lines, placed);
+          ∙ (note_back q r.note).1 ∙ ap (λ (x : Reading). note_of x.note) (sym same);
+      placed = omega (arith, place, lines, most);
     }
 
 -- what is put in the place of the numbers is read again
-numbers_saved : {before after : List ℕ} {next : ℕ} (r : Reading) → line_at ≤ length before
-    → Writes before numbers_at (number_bytes r) after next → Saved before r after
-numbers_saved {before} {after} {next} r room w =
+numbers_saved : {before after : List ℕ} {next : ℕ} (r : Reading) (q : ℕ) → q ≤ r.lines + 1
+    → line_at ≤ length before → Writes before numbers_at (number_bytes r q) after next → Saved before r after
+numbers_saved {before} {after} {next} r q le room w =
     let end : next ≡ 24 = w.end in
-    let text : take 24 after ≡ take 4 before ++ number_bytes r = rw end at w.text in
+    let text : take 24 after ≡ take 4 before ++ number_bytes r q = rw end at w.text in
     let four : length (take 4 before) ≡ 4 = length-take-le 4 before (omega arith) in
     record {
       long = w.kept;
       front = sym (take-take 4 24 after (omega arith)) ∙ ap (λ (t : List ℕ). take 4 t) text
-          ∙ take-append-le 4 (take 4 before) (number_bytes r) (omega arith)
+          ∙ take-append-le 4 (take 4 before) (number_bytes r q) (omega arith)
           ∙ take-take 4 4 before (omega arith);
-      numbers = λ f. reading_same after (0 ∷ 0 ∷ 0 ∷ 0 ∷ number_bytes r) (λ i h. byte text four i h) ∙ reading_back r f;
-      noted = λ f. noted_same after (0 ∷ 0 ∷ 0 ∷ 0 ∷ number_bytes r) (λ i h. byte text four i h) (noted_back r f);
+      numbers = λ f. reading_same after (0 ∷ 0 ∷ 0 ∷ 0 ∷ number_bytes r q) (λ i h. byte text four i h)
+          ∙ reading_back r q f le;
+      noted = λ f. noted_same after (0 ∷ 0 ∷ 0 ∷ 0 ∷ number_bytes r q) (λ i h. byte text four i h)
+          (noted_back r q f le);
       beyond = rw end at w.beyond;
     }
   where
-    byte : take 24 after ≡ take 4 before ++ number_bytes r → length (take 4 before) ≡ 4 → (i : ℕ) → i < 20
-        → get_or after (4 + i) 0 ≡ get_or (0 ∷ 0 ∷ 0 ∷ 0 ∷ number_bytes r) (4 + i) 0
+    byte : take 24 after ≡ take 4 before ++ number_bytes r q → length (take 4 before) ≡ 4 → (i : ℕ) → i < 20
+        → get_or after (4 + i) 0 ≡ get_or (0 ∷ 0 ∷ 0 ∷ 0 ∷ number_bytes r q) (4 + i) 0
     byte text four i h =
         sym (get_or-take 24 after (4 + i) 0 (omega arith)) ∙ ap (λ (t : List ℕ). get_or t (4 + i) 0) text
-        ∙ ap (λ (n : ℕ). get_or (take 4 before ++ number_bytes r) (n + i) 0) (sym four)
-        ∙ get_or-append-add (take 4 before) (number_bytes r) i 0
-        ∙ sym (get_or-append-add (0 ∷ 0 ∷ 0 ∷ 0 ∷ []) (number_bytes r) i 0)
+        ∙ ap (λ (n : ℕ). get_or (take 4 before ++ number_bytes r q) (n + i) 0) (sym four)
+        ∙ get_or-append-add (take 4 before) (number_bytes r q) i 0
+        ∙ sym (get_or-append-add (0 ∷ 0 ∷ 0 ∷ 0 ∷ []) (number_bytes r q) i 0)
 
-pub put_saved : {before after bytes : List ℕ} {next : ℕ} (r : Reading) → line_at ≤ length before
-    → bytes ≡ number_bytes r → placed next after ≡ put before numbers_at bytes → Saved before r after
-put_saved {before} {after} {bytes} {next} r room e p =
-    let q : placed next after ≡ put before numbers_at (number_bytes r) =
+pub put_saved : {before after bytes : List ℕ} {next : ℕ} (r : Reading) (q : ℕ) → q ≤ r.lines + 1
+    → line_at ≤ length before → bytes ≡ number_bytes r q → placed next after ≡ put before numbers_at bytes
+    → Saved before r after
+put_saved {before} {after} {bytes} {next} r q le room e p =
+    let is : placed next after ≡ put before numbers_at (number_bytes r q) =
     p ∙ ap (λ (w : List ℕ). put before numbers_at w) e in
-    numbers_saved r room (put_writes room q)
+    numbers_saved r q le room (put_writes room is)
 
 -- the numbers in front of those of the reading stay
 pub saved_same : {before after : List ℕ} {r : Reading} → Saved before r after

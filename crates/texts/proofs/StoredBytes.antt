@@ -1,11 +1,17 @@
 -- Bytes put into the stored form of an expression.
 use mathlib.Core.Path.{◌≡◌, refl, ◌∙◌}
 use mathlib.Core.List.{List, [], ◌∷◌, ◌++◌, append-nil}
-use Prim.Native.Nat.{ℕ, ◌-◌, ◌≤◌, ◌<◌, min}
+use Prim.Native.Nat.{ℕ, ◌+◌, ◌-◌, ◌≤◌, ◌<◌, min}
+use native.Mathlib.Numerals.{add-one}
 use native.Mathlib.Omega.{arith}
-use lib.ListN.{length, take, drop, set, length-drop, drop_of_length-le}
+use lib.ListN.{length, take, drop, set, get_or, length-drop, drop_of_length-le}
 use borrow.Rule.Slice.PartMut.{put_mid, same_len_mid}
-use lib.Seq.{take_at, drop_at, length-take-le}
+use lib.Seq.{take_at, drop_at, length-take-le, take-suc, take-suc-set}
+
+-- one byte more is that of the other list
+pub shift_more : (out src : List ℕ) (i v : ℕ) → i < length out → i < length src → take i out ≡ take i src
+    → v ≡ get_or src i 0 → take (i + 1) (set out i v) ≡ take (i + 1) src
+shift_more out src i v lo hi e q = rw (add-one i, take-suc-set out i v lo, take-suc src i 0 hi, e, q) refl
 
 -- behind the first x of the bytes `before` others were put
 pub record Joined (x : ℕ) (before right after : List ℕ) : Type 0 where

@@ -1,7 +1,7 @@
 -- The numbers of what is kept of a text, as bytes of a state: mirrors the code, no public promise rests on it.
 -- [02, R-9]
 use Rattle.std.specs.Prelude.{◌≡◌, cond, List, [], ◌∷◌, ℕ, zero, suc, ◌+◌, ◌*◌, ◌/◌, ◌%◌, ◌≤◌, eqb, length}
-use Rattle.std.specs.Prelude.{Option, Some, None, take, drop, get_or}
+use Rattle.std.specs.Prelude.{Option, Some, None, take, drop, get_or, min}
 use Rattle.std.proofs.Math.Option as rule
 use Rattle.rules.specs.Answers.{Answer, refused}
 use Rattle.rules.specs.Limits.{text_most, line_most, fields_most}
@@ -80,6 +80,11 @@ unfoldable pub note_code : Option Note → ℕ
 note_code None = 0
 note_code (Some a) = number_of a
 
+-- its place, or another where there is none
+unfoldable pub place_or : ℕ → Option Note → ℕ
+place_or p None = p
+place_or p (Some a) = place_of (Some a)
+
 -- the refusal of a number and a place; the number of none stands for none
 unfoldable pub note_at : ℕ → ℕ → Option Note
 note_at n p =
@@ -115,20 +120,24 @@ reading_in s = record {
 abbrev pub refusal_in : List ℕ → rule.Option Answer
 refusal_in s = cond (eqb (get_or s 20 0) 0) rule.none (rule.some (refused (get_or s 20 0) (two_at s 22)))
 
+-- the place that stands beside the number of none, as far as it is one behind so many lines
+unfoldable pub place_beside : List ℕ → ℕ → ℕ
+place_beside s lines = cond (eqb (get_or s 20 0) 0) (min (two_at s 22) (lines + 1)) 0
+
 -- it is that of the reading, and its place is at most behind the lines
 pub record NoteIn (s : List ℕ) : Type 0 where
   pub told : refusal_in s ≡ note_of (reading_in s).note
   pub placed : two_at s 22 ≤ (reading_in s).lines + 1
 
--- the bytes of a reading's numbers, from the place numbers_at on
+-- the bytes of a reading's numbers, from the place numbers_at on, with the place p where nothing is refused
 abbrev pub low : ℕ → ℕ
 low n = n % 256
 
 abbrev pub high : ℕ → ℕ
 high n = n / 256 % 256
 
-abbrev pub number_bytes : Reading → List ℕ
-number_bytes r =
+abbrev pub number_bytes : Reading → ℕ → List ℕ
+number_bytes r p =
     low r.lines
     ∷ high r.lines
     ∷ stage_code r.stage
@@ -147,8 +156,8 @@ number_bytes r =
     ∷ high r.end
     ∷ note_code r.note
     ∷ 0
-    ∷ low (place_of r.note)
-    ∷ high (place_of r.note)
+    ∷ low (place_or p r.note)
+    ∷ high (place_or p r.note)
     ∷ []
 
 -- the numbers of r are such that a text of so many bytes can leave them

@@ -111,7 +111,8 @@ fn take_form(
     onward(r, Stage::FieldLine, a)
 }
 
-// A field line.
+// A field line. Out of line: its rooms and copies cost other lines nothing.
+#[inline(never)]
 pub(crate) fn take_field(
     r: Reading,
     line: &[u8],

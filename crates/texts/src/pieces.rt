@@ -31,7 +31,7 @@ use crate::line_joins::end_held;
 use crate::name_starts::clear_starts;
 use crate::state_areas::{COUNTS_AT, HELD_AT, LINE_AT, ROW_AT, STATE_BYTES, USED_AT};
 use crate::state_counts::{load_counts, save_counts};
-use crate::state_numbers::{load, save, two_at};
+use crate::state_numbers::{load, place_beside, save, two_at};
 use crate::states::Reading;
 use crate::text_bytes::line_end;
 use crate::text_ends::{cut_line, end_text};
@@ -56,8 +56,9 @@ fn cut_state(s: &mut [u8], size: usize)
     ensures cut { CutState size s.old s.new }
 {
     let r = load(s, size);
+    let place = place_beside(s, r.lines);
     let q = cut_line(r, s[ROW_AT..COUNTS_AT].as_array().unwrap());
-    save(s, q);
+    save(s, q, place);
     clear_parts(s, q.row);
 }
 
@@ -131,14 +132,14 @@ fn walk_piece(
     walk_rest(q, piece, e + 1, &mut s[HELD_AT..STATE_BYTES], row, counts)
 }
 
-// What is kept of whole lines into a state.
-fn store(s: &mut [u8], r: Reading, row: &[u8; ROW_ROOM], counts: &[u16; FIELDS_MOST])
+// What is kept of whole lines into a state, with a place beside no refusal.
+fn store(s: &mut [u8], r: Reading, row: &[u8; ROW_ROOM], counts: &[u16; FIELDS_MOST], place: usize)
     requires { (state_room ≤ length s.old) × (r.row ≤ row_lines_most) }
     ensures around { SameAround s.old s.new }
     ensures stored { StoredState s.old r row.now counts.now
         s.new }
 {
-    save(s, r);
+    save(s, r, place);
     put(s, ROW_AT, row);
     save_counts(counts, &mut s[COUNTS_AT..HELD_AT]);
     clear_parts(s, r.row);
@@ -163,10 +164,17 @@ fn take_lines(
     load_counts(&s[COUNTS_AT..HELD_AT], counts);
     let used = two_at(s, USED_AT).min(LINE_MOST);
     let r = load(s, size);
+    let place = place_beside(s, r.lines);
     let w = walk_piece(r, s, used, piece, e, row, counts);
     let q = w.reading;
     let at = w.at;
-    store(s, q, row, counts);
+    store(
+        s,
+        q,
+        row,
+        counts,
+        if q.count == r.count { place } else { 0 },
+    );
     add_part(s, size + piece.len(), &piece[at..]);
 }
 

@@ -30,7 +30,8 @@ fn read_held(
     end_text(r, w.at == text.len(), row, held, counts, out)
 }
 
-// A text that is not too long.
+// A text that is not too long. Out of line: its room on the stack costs a text that is too long nothing.
+#[inline(never)]
 fn read_short(text: &[u8], out: &mut [u8]) -> TextAnswer
     requires { length text.now ≤ text_most }
     ensures { ReadsText text.now out.old (leaves (of_text result) out.new) }

@@ -9,13 +9,14 @@ ghost use Rattle.texts.specs.StateNumbers.{
   stage_code,
   stage_at,
   note_code,
+  place_or,
   note_at,
+  place_beside,
   number_bytes,
   Fits,
   Loaded,
   Saved,
 };
-ghost use Rattle.texts.specs.Noted.{place_of};
 
 use crate::held_areas::SLOT_MOST;
 use crate::notes::{Note, number_of, place_of};
@@ -91,13 +92,26 @@ fn load_note(number: u8, place: usize) -> Option<Note>
     }
 }
 
-// The number and the place of a refusal, 0 and 0 where there is none.
+// The number and the place of a refusal; 0 and another place where there is none.
 // Numbers, as a state keeps a refusal as bytes.
-#[tactic(auto, unfolding(crate::specs::StateNumbers::note_code))]
-fn note_numbers(a: Option<Note>) -> (u8, usize)
-    ensures { (result.0 ≡ note_code a) × (result.1 ≡ place_of a) }
+#[tactic(auto, unfolding(crate::specs::StateNumbers::note_code, crate::specs::StateNumbers::place_or))]
+fn note_numbers(a: Option<Note>, place: usize) -> (u8, usize)
+    ensures { (result.0 ≡ note_code a) × (result.1 ≡ place_or place a) }
 {
-    a.map_or((0, 0), |n| (number_of(n), place_of(n)))
+    a.map_or((0, place), |n| (number_of(n), place_of(n)))
+}
+
+// What stands as a place beside no refusal, as far as it can be one behind so many lines.
+#[tactic(auto, unfolding(crate::specs::StateNumbers::place_beside))]
+pub(crate) fn place_beside(s: &[u8], lines: usize) -> usize
+    requires { (line_at ≤ length s.now) × (lines ≤ text_most) }
+    ensures { result ≡ place_beside s.now lines }
+{
+    if s[20] == 0 {
+        two_at(s, 22).min(lines + 1)
+    } else {
+        0
+    }
 }
 
 // The reading of a state of a text of so many bytes.
@@ -137,12 +151,12 @@ fn two_of(n: usize) -> [u8; 2]
     ((n % 65536) as u16).to_le_bytes()
 }
 
-// The bytes of a reading's numbers.
+// The bytes of a reading's numbers, with a place where nothing is refused.
 // By remainders: no bound on a reading is asked for here.
-fn number_bytes(r: Reading) -> [u8; 20]
-    ensures { result ≡ number_bytes r }
+fn number_bytes(r: Reading, place: usize) -> [u8; 20]
+    ensures { result ≡ number_bytes r place }
 {
-    let (number, refused_at) = note_numbers(r.note);
+    let (number, refused_at) = note_numbers(r.note, place);
     let lines = two_of(r.lines);
     let slots = two_of(r.slots);
     let cell = two_of(r.cell);
@@ -172,11 +186,11 @@ fn number_bytes(r: Reading) -> [u8; 20]
     ]
 }
 
-// A reading into a state.
-pub(crate) fn save(s: &mut [u8], r: Reading)
+// A reading into a state; where nothing is refused, with a place beside that, as far as it can be one.
+pub(crate) fn save(s: &mut [u8], r: Reading, place: usize)
     requires { line_at ≤ length s.old }
     ensures { Saved s.old r s.new }
 {
-    let bytes = number_bytes(r);
+    let bytes = number_bytes(r, place.min(r.lines.saturating_add(1)));
     put(s, NUMBERS_AT, &bytes);
 }

@@ -25,9 +25,15 @@ pub(crate) fn put_first(out: &mut [u8], n: usize, c: u8)
     ensures { n < length out.old → take (n + 1) out.new
         ≡ c ∷ take n out.old }
 {
-    if n < out.len() {
-        out.copy_within(0..n, 1);
-        out[0] = c;
+    if out.len() <= n {
+        return;
+    }
+    // Each byte is carried to the next place: `copy_within` would move them by memmove, as `put` says.
+    let mut held = c;
+    for i in 0..n + 1 {
+        let b = out[i];
+        out[i] = held;
+        held = b;
     }
 }
 

@@ -1,4 +1,4 @@
--- The places of a packet's answers fit 32 bits: a place is at most the number of fields.
+-- The numbers and places of a packet's answers fit 32 bits: a place is at most the number of fields.
 use mathlib.Core.Path.{◌≡◌, refl, ap}
 use mathlib.Core.Bool.{Bool, true, false, cond, ◌&&◌, not}
 use mathlib.Core.List.{List, [], ◌∷◌, ◌++◌}
@@ -11,7 +11,10 @@ use Rattle.base.proofs.Lists.{between_true}
 use Rattle.rules.specs.Fields.{Field, Description, fixed_bits}
 use Rattle.rules.specs.Limits.{fields_most}
 use Rattle.rules.specs.Stored.{Good}
-use Rattle.rules.specs.Answers.{Answer, refused}
+use Rattle.std.specs.Prelude.{Ok, Err}
+use Rattle.rules.specs.declared.Fault.{Fault}
+use Rattle.rules.specs.declared.PacketRefusal.{PacketRefusal}
+use Rattle.rules.specs.Answers.{Answer, PacketAnswer, refused, fault_number, of_packet}
 use Rattle.rules.specs.Reading.{
   Entry,
   Step,
@@ -49,6 +52,30 @@ use Rattle.rules.specs.Promises.{
   ReadsPartly,
 }
 use Rattle.laws.proofs.Decidable.{good_decidable}
+use Rattle.umarekoza.specs.declared.Partial.{Partial}
+use Rattle.umarekoza.specs.Exports.{partial_answer}
+
+-- an answer told by its number, place and amount
+pub told_partly : (a : Answer) (k : ℕ) {n p l : ℕ} → n ≡ a.number → p ≡ a.place → l ≡ a.amount
+    → partial_answer (record { number = n; place = p; length = l; count = k }) ≡ a
+told_partly a k x y z = λ j. record { number = x j; place = y j; amount = z j }
+
+fault_low : (f : Fault) → fault_number f ≤ 29
+unfolding fault_number
+fault_low Fault.BitsMissing = omega arith
+fault_low Fault.ConstraintFalse = omega arith
+fault_low Fault.AbsentRead = omega arith
+fault_low Fault.OutOfRange = omega arith
+fault_low Fault.ZeroDivisor = omega arith
+
+pub number_low : (r : PacketAnswer) → (of_packet r).number ≤ 29
+unfolding of_packet
+number_low (Ok n) = omega arith
+number_low (Err PacketRefusal.NotGood) = omega arith
+number_low (Err PacketRefusal.TooLong) = omega arith
+number_low (Err PacketRefusal.ShortRun) = omega arith
+number_low (Err (PacketRefusal.Field f i)) = fault_low f
+number_low (Err PacketRefusal.LeftOver) = omega arith
 
 module _ (packet : List ℕ) where
   ended_low : (entries : List Entry) (n : ℕ) (b : Bool)

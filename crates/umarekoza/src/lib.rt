@@ -27,6 +27,7 @@ ghost use Rattle.texts.specs.PieceStates.{fresh_state, Left};
 ghost use Rattle.umarekoza.specs.Exports.{reply_answer, span_part, partial_answer};
 
 use crate::replies::reply;
+use packets::answers::{amount_of, number_of, place_of};
 use packets::conversions::convert_table;
 use packets::edits::{cut_fields, put_fields};
 use packets::listing::list_packet;
@@ -230,11 +231,11 @@ pub extern "C" fn umarekoza_read_partly(table: &[u8], packet: &[u8], run: &mut [
         (leaves_partly (partial_answer result) run.new result.count) }
 {
     let read = read_partly(table, packet, run);
-    let reply = reply(read.answer);
+    let answer = read.answer;
     Partial {
-        number: reply.number,
-        place: reply.place,
-        length: reply.length,
+        number: number_of(answer) as u32,
+        place: place_of(answer) as u32,
+        length: amount_of(answer) as u64,
         count: read.count as u64,
     }
 }

@@ -15,9 +15,11 @@ pub fn put(out: &mut [u8], at: usize, word: &[u8]) -> usize
     if out.len() < at || out.len() - at < word.len() {
         return NOWHERE;
     }
-    let end = at + word.len();
-    out[at..end].copy_from_slice(word);
-    end
+    // By index: `copy_from_slice` would move the bytes by memmove here, which a C program would have to bring.
+    for i in 0..word.len() {
+        out[at + i] = word[i];
+    }
+    at + word.len()
 }
 
 // A number below 65,536 in two bytes, the least first; of a larger one its remainder.
