@@ -78,8 +78,8 @@ pub fn is_word_in(classes: &[u8; 256], b: u8) -> bool
     is_letter_in(classes, b) || is_digit_in(classes, b)
 }
 
-// A space or hyphen. Out of line, so that letters and digits, which are most bytes of a label, have a test of their own.
-#[inline(never)]
+// A space or hyphen. A function of its own: in one chain with the other classes, all become one test of a set, which
+// takes half as many instructions again for a letter or digit.
 fn is_gap_in(classes: &[u8; 256], b: u8) -> bool
     ensures { result ≡ (has_class space_class classes.now b || eqb b 45) }
 {

@@ -9,6 +9,8 @@ use crate::classes::{Classes, is_label_byte_in, is_letter_in, is_space_in, is_wo
 use crate::words::is_reserved;
 use rules::{LABEL_MOST, SHORT_MOST};
 
+// Out of line: inlined where the fields of a table are checked, its loop takes more time for each byte.
+#[inline(never)]
 fn label_bytes(classes: &[u8; 256], w: &[u8]) -> bool
     ensures { result ≡ all (is_label_byte_in classes.now) w.now }
 {

@@ -52,7 +52,6 @@ use Rattle.rules.specs.Promises.{
   ReadsPartly,
 }
 use Rattle.laws.proofs.Decidable.{good_decidable}
-use Rattle.umarekoza.specs.declared.Partial.{Partial}
 use Rattle.umarekoza.specs.Exports.{partial_answer}
 
 -- an answer told by its number, place and amount

@@ -1,6 +1,6 @@
 use native.Mathlib.Omega.{arith}
 use Rattle.rules.specs.Answers.{of_packet}
-use Rattle.umarekoza.proofs.PacketPlaces.{number_low, partly_place_low, told_partly}
+use Rattle.umarekoza.proofs.PacketPlaces.{number_low, partly_place_low}
 use Rattle.umarekoza.proofs.umarekoza_read_partly.Goals as goal
 
 pub overflow_cast-result : goal.overflow_cast-result
@@ -12,9 +12,3 @@ overflow_cast-result-2 c =
     let low = partly_place_low c.args.table.now _ c.args.run.now (of_packet c.read_partly-read.result.answer)
     c.read_partly-read.new.run _ c.read_partly-read.ensures in
     record { fits = omega (arith, c.place_of.ensures, low) }
-
-pub returns : goal.returns
-returns c =
-    rw (told_partly (of_packet c.read_partly-read.result.answer) _ c.number_of.ensures c.place_of.ensures
-    c.amount_of.ensures)
-    c.read_partly-read.ensures
