@@ -225,7 +225,7 @@ pub extern "C" fn umarekoza_put_fields(
 }
 
 // A packet is read by a table as far as it goes: four numbers for each field before the first refused one.
-#[tactic(auto, using(crate::proofs::PacketPlaces::told_partly))]
+#[tactic(auto, using(crate::proofs::PacketPlaces::told_partly, crate::proofs::PacketPlaces::number_low))]
 #[unsafe(no_mangle)]
 pub extern "C" fn umarekoza_read_partly(table: &[u8], packet: &[u8], run: &mut [u32]) -> Partial
     ensures { ReadsPartly table.now packet.now run.old
